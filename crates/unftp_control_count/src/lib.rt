@@ -1,0 +1,107 @@
+//! A count that only contracts see: it takes no byte, and its methods do nothing at run time.
+#![tactic(auto)]
+
+ghost use Rattle.std.specs.Prelude.{◌≡◌, ℕ, ◌+◌, max};
+
+use std::marker::Model;
+
+/// A number without a greatest value that contracts know and no code can read. Only this crate can make one.
+#[derive(Drop)]
+pub struct Count {
+    seal: (),
+    ghost number: { ℕ },
+}
+
+impl Model for Count {
+    ghost use Rattle.std.specs.Prelude.{ℕ};
+    ghost use base.Fml.{ftrue};
+
+    ghost Value = { ℕ };
+
+    ghost view = { λ c. c.number };
+
+    ghost also_owns = { λ _. ftrue };
+}
+
+impl Count {
+    /// Counts from 0.
+    pub fn new() -> Count
+        ensures { result ≡ 0 }
+    {
+        Count { seal: () }
+    }
+
+    #[inline(always)]
+    fn after(&self, _amount: usize) -> Count
+        ensures { result ≡ self.now + _amount }
+    {
+        Count { seal: () }
+    }
+
+    #[inline(always)]
+    fn at_least(&self, _amount: usize) -> Count
+        ensures { result ≡ max self.now _amount }
+    {
+        Count { seal: () }
+    }
+
+    /// The same number again.
+    #[inline(always)]
+    pub fn same(&self) -> Count
+        ensures { result ≡ self.now }
+    {
+        self.after(0)
+    }
+
+    /// One more.
+    #[inline(always)]
+    pub fn raise(&mut self)
+        ensures { self.new ≡ self.old + 1 }
+    {
+        *self = self.after(1);
+    }
+
+    /// So many more.
+    #[inline(always)]
+    pub fn raise_by(&mut self, amount: usize)
+        ensures { self.new ≡ self.old + amount }
+    {
+        *self = self.after(amount);
+    }
+
+    /// The greater of the number and `amount`.
+    #[inline(always)]
+    pub fn raise_to(&mut self, amount: usize)
+        ensures { self.new ≡ max self.old amount }
+    {
+        *self = self.at_least(amount);
+    }
+
+    /// From 0 again.
+    #[inline(always)]
+    pub fn reset(&mut self)
+        ensures { self.new ≡ 0 }
+    {
+        *self = Count::new();
+    }
+}
+
+#[cfg(test)]
+mod tests {
+    use super::Count;
+    use std::mem::size_of;
+
+    const _: () = prove!(size_of::<Count>() == 0);
+
+    #[test]
+    fn counts_without_a_byte(rt: HostRuntime) {
+        let mut count = Count::new();
+        count.raise();
+        count.raise_by(2);
+        count.raise_to(9);
+        let again = count.same();
+        count.reset();
+        assert_eq!(rt; size_of::<Count>(), 0);
+        drop(again);
+    }
+}

@@ -1,0 +1,4 @@
+pub mod LineLaws
+pub mod VerbLaws
+pub mod ValueLaws
+pub mod PathLaws

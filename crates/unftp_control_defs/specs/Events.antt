@@ -1,0 +1,53 @@
+-- What a server is told of its input: a command or a refused line, line after line.
+use Rattle.std.specs.Prelude.{List, map, Option, Some, Ok, Err}
+use Rattle.unftp_control_defs.specs.Bytes.{Bytes}
+use Rattle.unftp_control_defs.specs.Lines.{lines_of}
+use Rattle.unftp_control_defs.specs.FtpCommand as line
+use Rattle.unftp_control_defs.specs.FtpCommand.{FtpCommand, Refusal, Answer}
+use Rattle.unftp_control_defs.specs.Outcome.{outcome}
+
+-- the kinds of the control channel's errors
+pub data FaultKind : Type 0 where
+  IoError : FaultKind
+  ParseError : FaultKind
+  InternalServerError : FaultKind
+  AuthenticationError : FaultKind
+  InternalMsgError : FaultKind
+  Utf8Error : FaultKind
+  UnknownCommand : Bytes → FaultKind
+  InvalidCommand : FaultKind
+  ControlChannelTimeout : FaultKind
+  IllegalState : FaultKind
+  OutOfMemory : FaultKind
+
+-- what such an error comes from: nothing else; the reading of a line, which refused it, or which had no memory; ill-formed UTF-8; the system
+pub data FaultSource : Type 0 where
+  NoSource : FaultSource
+  Parse : Option Refusal → FaultSource
+  Utf8 : FaultSource
+  Io : FaultSource
+
+pub record Fault : Type 0 where
+  pub kind : FaultKind
+  pub source : FaultSource
+
+-- the kind that a refused line is told as
+abbrev pub kind_of : Refusal → FaultKind
+kind_of line.InvalidUtf8 = Utf8Error
+kind_of line.InvalidCommand = InvalidCommand
+kind_of line.InvalidEol = InvalidCommand
+
+abbrev pub fault_of : Refusal → Fault
+fault_of refusal = record { kind = kind_of refusal; source = Parse (Some refusal) }
+
+pub data FtpEvent : Type 0 where
+  Command : FtpCommand → FtpEvent
+  Refused : Fault → FtpEvent
+
+abbrev pub event_of : Answer → FtpEvent
+event_of (Ok command) = Command command
+event_of (Err refusal) = Refused (fault_of refusal)
+
+-- one event for each line of the input, in order
+abbrev pub events : Bytes → List FtpEvent
+events input = map (λ line. event_of (outcome line)) (lines_of input)

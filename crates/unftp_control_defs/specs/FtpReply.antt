@@ -1,0 +1,32 @@
+-- A reply as its code and texts, and the bytes that say it (RFC 959, section 4.2).
+use Rattle.std.specs.Prelude.{ℕ, ◌==◌, if◌then◌else◌, List, [], ◌∷◌, ◌++◌, length, decimal}
+use Rattle.std.specs.Char.{is_ascii_digit}
+use Rattle.unftp_control_defs.specs.Bytes.{Bytes, SP, DASH, crlf}
+
+-- no reply; a code and one line of text; a code and lines
+pub data FtpReply : Type 0 where
+  Nothing : FtpReply
+  CodeAndMsg : ℕ → Bytes → FtpReply
+  MultiLine : ℕ → List Bytes → FtpReply
+
+-- A line that begins with a digit is padded, so that none is taken for the last one.
+abbrev pub padded : Bytes → Bytes
+padded [] = []
+padded (b ∷ line) = if is_ascii_digit b then SP ∷ b ∷ line else b ∷ line
+
+-- behind the code: one space and a text, which may be empty
+abbrev pub after_space : Bytes → Bytes
+after_space text = (SP ∷ text) ++ crlf
+
+-- the lines behind the code and a dash, each but the last padded; the last stands behind the code and a space
+abbrev pub several : ℕ → Bytes → List Bytes → Bytes
+several code line [] = decimal code ++ after_space line
+several code line (next ∷ lines) = padded line ++ crlf ++ several code next lines
+
+-- The code is written without padding; a lone code, for an empty text, has no space behind it.
+abbrev pub encoded : FtpReply → Bytes
+encoded Nothing = []
+encoded (CodeAndMsg code text) = decimal code ++ (if length text == 0 then crlf else after_space text)
+encoded (MultiLine code []) = decimal code ++ after_space []
+encoded (MultiLine code (line ∷ [])) = decimal code ++ after_space line
+encoded (MultiLine code (line ∷ next ∷ lines)) = decimal code ++ DASH ∷ several code line (next ∷ lines)

@@ -1,0 +1,12 @@
+-- To be read in this order.
+pub mod Bytes
+pub mod Lines
+pub mod Verbs
+pub mod Values
+pub mod Paths
+pub mod FtpCommand
+pub mod Rules
+pub mod Outcome
+pub mod FtpReply
+pub mod Events
+pub mod Run

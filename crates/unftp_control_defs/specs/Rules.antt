@@ -1,0 +1,127 @@
+-- What each verb makes of its parameter: RFC 959, section 4.1, with the verbs of RFC 775 (XCWD, XMKD, XPWD), 2228 (AUTH, CCC, PBSZ, PROT),
+-- 2389 (FEAT, OPTS), 2428 (EPSV), 3659 (MDTM, MLSD, MLST, REST, SIZE) and of the field (BYE, SITE MD5).
+use Rattle.std.specs.Prelude.{true, false, ◌==◌, ◌&&◌, nat_lt, ◌^◌, if◌then◌else◌, List, [], ◌∷◌, length, Option, Some, None, unwrap_or, option_map, Ok, Err, bytes_eq, codes, find}
+use Rattle.std.specs.Str.{is_utf8, all_ascii_digits}
+use Rattle.std.specs.Str.Lossy.{utf8_lossy}
+use Rattle.std.specs.Str.Parse.{without_leading_plus, digits_value}
+use Rattle.unftp_control_defs.specs.Bytes.{Bytes}
+use Rattle.unftp_control_defs.specs.Verbs.{upper}
+use Rattle.unftp_control_defs.specs.Paths.{path_of}
+use Rattle.unftp_control_defs.specs.FtpCommand.{FtpCommand, User, Pass, Acct, Syst, Stat, TypeCode, Stru, Mode, Help, Noop, Pasv, Epsv, Port, Retr, Stor, Appe, List as Listing, Nlst, Mlst, Mlsd, Feat, Pwd, Cwd, Cdup, Opts, Dele, Rmd, Quit, Mkd, Allo, Abor, Stou, Rnfr, Rnto, Auth, Ccc, Pbsz, Prot, Size, Rest, Mdtm, Md5, Site, Other, Answer, InvalidCommand, InvalidUtf8}
+use Rattle.unftp_control_defs.specs.declared.parameters.AuthParam.TheVariants.{Ssl, Tls}
+use Rattle.unftp_control_defs.specs.declared.parameters.ModeParam.TheVariants.{Stream, Block, Compressed}
+use Rattle.unftp_control_defs.specs.declared.parameters.Opt.TheVariants.{Utf8}
+use Rattle.unftp_control_defs.specs.declared.parameters.ProtParam.TheVariants.{Clear, Safe, Confidential, Private}
+use Rattle.unftp_control_defs.specs.declared.parameters.StruParam.TheVariants.{File, Record, Page}
+
+-- What a verb does with its parameter bytes: it ignores them, it takes their value, or it cuts them again.
+pub data Rule : Type 0 where
+  Ignores : FtpCommand → Rule
+  Takes : (Bytes → Answer) → Rule
+  Cuts : Rule
+
+-- any value, as it is
+abbrev pub raw : (Bytes → FtpCommand) → Bytes → Answer
+raw command v = Ok (command v)
+
+-- no value
+abbrev pub alone : FtpCommand → Bytes → Answer
+alone command v = if length v == 0 then Ok command else Err InvalidCommand
+
+-- any value as text, ill-formed UTF-8 replaced
+abbrev pub any_text : (Bytes → FtpCommand) → Bytes → Answer
+any_text command v = Ok (command (utf8_lossy v))
+
+-- the same of a value that is not empty
+abbrev pub some_text : (Bytes → FtpCommand) → Bytes → Answer
+some_text command v = if length v == 0 then Err InvalidCommand else Ok (command (utf8_lossy v))
+
+abbrev pub unless_empty : Bytes → Option Bytes
+unless_empty v = if length v == 0 then None else Some v
+
+-- a text, or none where the value is empty
+abbrev pub maybe_text : (Option Bytes → FtpCommand) → Bytes → Answer
+maybe_text command v = Ok (command (option_map utf8_lossy (unless_empty v)))
+
+-- what stands beside this name
+abbrev pub row_of : {A : Type 0} → Bytes → List (Bytes × A) → Option A
+row_of name rows = option_map (λ row. row.1) (find (λ row. bytes_eq name row.0) rows)
+
+-- one of these values
+abbrev pub chosen : List (Bytes × FtpCommand) → Bytes → Answer
+chosen [] v = Err InvalidCommand
+chosen (row ∷ rows) v = if bytes_eq row.0 v then Ok row.1 else chosen rows v
+
+-- the value of AUTH, at most three bytes of UTF-8, in either case (RFC 2228, section 3)
+abbrev pub auth : Bytes → Answer
+auth v = if nat_lt 3 (length v) then Err InvalidCommand
+    else (if is_utf8 v then chosen ((codes "TLS", Auth Tls) ∷ (codes "SSL", Auth Ssl) ∷ []) (upper v)
+    else Err InvalidUtf8)
+
+-- the offset of REST, a decimal number below 2 ^ 64 behind a plus or none (RFC 3659, section 5)
+abbrev pub offset : Bytes → Answer
+offset text = let digits = without_leading_plus text in
+    if nat_lt 0 (length digits) && all_ascii_digits digits && nat_lt (digits_value 10 digits) (2 ^ 64)
+    then Ok (Rest (digits_value 10 digits)) else Err InvalidCommand
+
+-- the path of LIST, or none where nothing is left behind the options
+abbrev pub listing : Bytes → Answer
+listing text = Ok (Listing None (unless_empty (path_of text)))
+
+abbrev pub verbs : List (Bytes × Rule)
+verbs =
+    (codes "USER", Takes (raw User))
+    ∷ (codes "PASS", Takes (raw Pass))
+    ∷ (codes "ACCT", Takes (raw Acct))
+    ∷ (codes "STAT", Takes (λ v. Ok (Stat (unless_empty v))))
+    ∷ (codes "SYST", Ignores Syst)
+    ∷ (codes "TYPE", Ignores TypeCode)
+    ∷ (codes "HELP", Ignores Help)
+    ∷ (codes "EPSV", Ignores Epsv)
+    ∷ (codes "ALLO", Ignores Allo)
+    ∷ (codes "STRU", Takes (chosen ((codes "F", Stru File) ∷ (codes "R", Stru Record) ∷ (codes "P", Stru Page) ∷ [])))
+    ∷ (codes "MODE", Takes (chosen ((codes "S", Mode Stream) ∷ (codes "B", Mode Block) ∷ (codes "C", Mode Compressed) ∷ [])))
+    ∷ (codes "PROT", Takes (chosen ((codes "C", Prot Clear) ∷ (codes "S", Prot Safe) ∷ (codes "E", Prot Confidential) ∷ (codes "P", Prot Private) ∷ [])))
+    ∷ (codes "NOOP", Takes (alone Noop))
+    ∷ (codes "PASV", Takes (alone Pasv))
+    ∷ (codes "FEAT", Takes (alone Feat))
+    ∷ (codes "CDUP", Takes (alone Cdup))
+    ∷ (codes "ABOR", Takes (alone Abor))
+    ∷ (codes "STOU", Takes (alone Stou))
+    ∷ (codes "CCC", Takes (alone Ccc))
+    ∷ (codes "PWD", Takes (alone Pwd))
+    ∷ (codes "XPWD", Takes (alone Pwd))
+    ∷ (codes "QUIT", Takes (alone Quit))
+    ∷ (codes "BYE", Takes (alone Quit))
+    ∷ (codes "PORT", Takes (some_text Port))
+    ∷ (codes "RETR", Takes (some_text Retr))
+    ∷ (codes "STOR", Takes (some_text Stor))
+    ∷ (codes "APPE", Takes (some_text Appe))
+    ∷ (codes "DELE", Takes (some_text Dele))
+    ∷ (codes "RMD", Takes (some_text Rmd))
+    ∷ (codes "CWD", Takes (some_text Cwd))
+    ∷ (codes "XCWD", Takes (some_text Cwd))
+    ∷ (codes "MKD", Takes (some_text Mkd))
+    ∷ (codes "XMKD", Takes (some_text Mkd))
+    ∷ (codes "RNFR", Takes (some_text Rnfr))
+    ∷ (codes "RNTO", Takes (some_text Rnto))
+    ∷ (codes "SIZE", Takes (some_text Size))
+    ∷ (codes "MDTM", Takes (some_text Mdtm))
+    ∷ (codes "NLST", Takes (maybe_text Nlst))
+    ∷ (codes "MLST", Takes (maybe_text Mlst))
+    ∷ (codes "MLSD", Takes (maybe_text Mlsd))
+    ∷ (codes "LIST", Takes (λ v. listing (utf8_lossy v)))
+    ∷ (codes "OPTS", Takes (chosen ((codes "UTF8 ON", Opts (Utf8 true)) ∷ (codes "utf8 on", Opts (Utf8 true)) ∷ (codes "UTF8 OFF", Opts (Utf8 false)) ∷ (codes "utf8 off", Opts (Utf8 false)) ∷ [])))
+    ∷ (codes "AUTH", Takes auth)
+    ∷ (codes "PBSZ", Takes (chosen ((codes "0", Pbsz) ∷ [])))
+    ∷ (codes "REST", Takes (λ v. offset (utf8_lossy v)))
+    ∷ (codes "SITE", Cuts)
+    ∷ []
+
+-- the rule of a raised verb; one with no row is taken as it comes, with its arguments
+abbrev pub rule_of : Bytes → Rule
+rule_of verb = unwrap_or (row_of verb verbs) (Takes (any_text (Other verb)))
+
+-- what a raised name of SITE makes of the value behind it
+abbrev pub by_name : Bytes → Bytes → Answer
+by_name name = if bytes_eq name (codes "MD5") then some_text Md5 else any_text (Site name)

@@ -1,0 +1,101 @@
+-- The value of a parameter: a CR is sent as CR NUL, and CR LF ends the line (RFC 854, "The NVT printer and keyboard").
+-- Two points are wider than the standard: an LF alone may end a value, and a bare CR is read where it comes first.
+use Rattle.std.specs.Prelude.{◌≡◌, ◌≢◌, ℕ, Bool, true, false, IsTrue, ◌==◌, ◌&&◌, if◌then◌else◌, List, [], ◌∷◌, ◌++◌, map, flat_map, ◌⊎◌, ⊤, Option, Some, None, option_map, bytes_eq}
+use Rattle.unftp_control_defs.specs.Bytes.{Bytes, NUL, LF, CR, crlf}
+
+-- a carriage return alone, or a byte that stands for itself
+pub data Piece : Type 0 where
+  Return : Piece
+  Byte : ℕ → Piece
+
+abbrev pub spelled : Piece → Bytes
+spelled Return = CR ∷ NUL ∷ []
+spelled (Byte b) = b ∷ []
+
+abbrev pub value : Piece → ℕ
+value Return = CR
+value (Byte b) = b
+
+-- A first unit is CR NUL, or a byte other than LF that is not a CR before a NUL. So a bare CR is kept here.
+abbrev pub FirstUnit : Bytes → Piece → Type 0
+FirstUnit parameter Return = ⊤
+FirstUnit parameter (Byte b) = (b ≢ LF) × ((rest : Bytes) → parameter ≢ CR ∷ NUL ∷ rest)
+
+-- A later unit is CR NUL, or a byte other than CR; an LF only if fresh, directly after the first unit or a CR NUL.
+abbrev pub LaterUnits : Bool → List Piece → Type 0
+LaterUnits fresh [] = ⊤
+LaterUnits fresh (Return ∷ units) = LaterUnits true units
+LaterUnits fresh (Byte b ∷ units) = (b ≢ CR) × (b ≡ LF → IsTrue fresh) × LaterUnits false units
+
+-- An end is CR LF, or an LF directly after a later unit of one byte.
+abbrev pub End : List Piece → Bytes → Type 0
+End later end = (end ≡ crlf) ⊎ ((before : List Piece) × (b : ℕ) × (later ≡ before ++ Byte b ∷ []) × (end ≡ LF ∷ []))
+
+-- The parameter is a first unit, later units, an end, and bytes that are ignored; the value is the units' values.
+pub record Division (parameter v : Bytes) : Type 0 where
+  pub first : Piece
+  pub later : List Piece
+  pub end : Bytes
+  pub ignored : Bytes
+  pub whole : parameter ≡ spelled first ++ (flat_map spelled later ++ (end ++ ignored))
+  pub is_first : FirstUnit parameter first
+  pub are_later : LaterUnits true later
+  pub is_end : End later end
+  pub joined : v ≡ value first ∷ map value later
+
+-- The parameter bytes have this value.
+pub data Reads (parameter v : Bytes) : Type 0 where
+  nothing : parameter ≡ [] → v ≡ [] → Reads parameter v
+  ended : (rest : Bytes) → parameter ≡ LF ∷ rest → v ≡ [] → Reads parameter v
+  ended_crlf : parameter ≡ crlf → v ≡ [] → Reads parameter v
+  one_byte : (b : ℕ) → b ≢ CR → b ≢ LF → parameter ≡ b ∷ LF ∷ [] → v ≡ b ∷ [] → Reads parameter v
+  divided : Division parameter v → Reads parameter v
+
+-- They have none.
+abbrev pub BadEnd : Bytes → Type 0
+BadEnd parameter = (v : Bytes) → Reads parameter v → ⊥
+
+-- The value, computed from the left.
+-- Where a byte stands behind the first unit: after that unit or a CR NUL; after a byte; after a CR.
+pub data Place : Type 0 where
+  Fresh : Place
+  Plain : Place
+  Returning : Place
+
+-- what a byte at a place does: it ends the value, gives bytes of it, or is refused
+pub data Effect : Type 0 where
+  Ends : Effect
+  Gives : Bytes → Effect
+  Refuses : Effect
+
+abbrev pub effect : Place → ℕ → Effect
+effect Fresh b = if b == CR then Gives [] else Gives (b ∷ [])
+effect Plain b = if b == CR then Gives [] else (if b == LF then Ends else Gives (b ∷ []))
+effect Returning b = if b == LF then Ends else (if b == NUL then Gives (CR ∷ []) else Refuses)
+
+abbrev pub place_after : Place → ℕ → Place
+place_after Fresh b = if b == CR then Returning else Plain
+place_after Plain b = if b == CR then Returning else Plain
+place_after Returning b = Fresh
+
+abbrev pub then_value : Effect → Option Bytes → Option Bytes
+then_value Ends more = Some []
+then_value (Gives v) more = option_map (λ w. v ++ w) more
+then_value Refuses more = None
+
+abbrev pub later_value : Place → Bytes → Option Bytes
+later_value place [] = None
+later_value place (b ∷ bytes) = then_value (effect place b) (later_value (place_after place b) bytes)
+
+-- from the first unit on
+abbrev pub first_value : ℕ → Bytes → Option Bytes
+first_value a [] = None
+first_value a (b ∷ bytes) = if (a == CR) && (b == NUL)
+    then option_map (λ v. CR ∷ v) (later_value Fresh bytes)
+    else option_map (λ v. a ∷ v) (later_value Fresh (b ∷ bytes))
+
+abbrev pub value_of : Bytes → Option Bytes
+value_of [] = Some []
+value_of (a ∷ bytes) = if a == LF then Some []
+    else (if bytes_eq bytes (LF ∷ []) then Some (if a == CR then [] else a ∷ [])
+    else first_value a bytes)

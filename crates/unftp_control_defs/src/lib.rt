@@ -1,0 +1,4 @@
+//! What the contracts of `unftp_control` mean: lines, commands, replies, events and runs, as definitions in `specs/`.
+#![tactic(auto)]
+
+pub mod parameters;
