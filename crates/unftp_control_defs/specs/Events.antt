@@ -31,14 +31,18 @@ pub record Fault : Type 0 where
   pub kind : FaultKind
   pub source : FaultSource
 
+-- want of memory, outside the reading of a line
+abbrev pub out_of_memory : Fault
+out_of_memory = record { kind = OutOfMemory; source = NoSource }
+
 -- the kind that a refused line is told as
 abbrev pub kind_of : Refusal → FaultKind
 kind_of line.InvalidUtf8 = Utf8Error
 kind_of line.InvalidCommand = InvalidCommand
 kind_of line.InvalidEol = InvalidCommand
 
-abbrev pub fault_of : Refusal → Fault
-fault_of refusal = record { kind = kind_of refusal; source = Parse (Some refusal) }
+abbrev pub fault_for : Refusal → Fault
+fault_for refusal = record { kind = kind_of refusal; source = Parse (Some refusal) }
 
 pub data FtpEvent : Type 0 where
   Command : FtpCommand → FtpEvent
@@ -46,7 +50,7 @@ pub data FtpEvent : Type 0 where
 
 abbrev pub event_of : Answer → FtpEvent
 event_of (Ok command) = Command command
-event_of (Err refusal) = Refused (fault_of refusal)
+event_of (Err refusal) = Refused (fault_for refusal)
 
 -- one event for each line of the input, in order
 abbrev pub events : Bytes → List FtpEvent

@@ -1,0 +1,30 @@
+-- What an error means.
+use Rattle.unftp_control_defs.specs.Events.{Fault, FaultKind, FaultSource, NoSource, Parse}
+use Rattle.unftp_control_defs.specs.Events as fault
+use Rattle.unftp_control_line_parser.specs.declared.error.ParseErrorKind.{ParseErrorKind}
+use Rattle.unftp_control_line_parser.specs.declared.error.ParseErrorKind.TheVariants as parse
+use Rattle.unftp_control_line_parser.specs.Told.{refusal_of}
+use Rattle.unftp_control_error.specs.declared.ControlChanErrorKind.{ControlChanErrorKind}
+use Rattle.unftp_control_error.specs.declared.ControlChanErrorKind.TheVariants as kind
+use Rattle.unftp_control_error.specs.declared.Source.{Source}
+use Rattle.unftp_control_error.specs.declared.Source.TheVariants as source
+use Rattle.unftp_control_error.specs.Parts.{Parts}
+
+abbrev pub kind_meant : ControlChanErrorKind → FaultKind
+kind_meant kind.Utf8Error = fault.Utf8Error
+kind_meant kind.InvalidCommand = fault.InvalidCommand
+kind_meant kind.OutOfMemory = fault.OutOfMemory
+
+abbrev pub source_meant : Source → FaultSource
+source_meant source.None = NoSource
+source_meant (source.Parse error) = Parse (refusal_of error)
+
+abbrev pub fault_of : Parts → Fault
+fault_of parts = record { kind = kind_meant parts.kind; source = source_meant parts.source }
+
+-- the kind that an error of the parser becomes
+abbrev pub converted : ParseErrorKind → ControlChanErrorKind
+converted parse.InvalidUtf8 = kind.Utf8Error
+converted parse.InvalidCommand = kind.InvalidCommand
+converted parse.InvalidEol = kind.InvalidCommand
+converted parse.OutOfMemory = kind.OutOfMemory
