@@ -1,0 +1,54 @@
+-- What one decoding does to a codec and its buffer, and what it tells.
+use Rattle.std.specs.Prelude.{◌≡◌, ◌≢◌, ℕ, ◌+◌, ◌-◌, ◌≤◌, ◌⊎◌, length, take, drop, Option, None, Some, Result, Ok, Err, MatchOption}
+use Rattle.unftp_control_defs.specs.Bytes.{Bytes}
+use Rattle.unftp_control_defs.specs.Events.{FtpEvent, Command, Refused, event_of, OutOfMemory}
+use Rattle.unftp_control_command.specs.declared.Command.{Command as RustCommand}
+use Rattle.unftp_control_command.specs.View.{command_of}
+use Rattle.unftp_control_error.specs.Parts.{Parts}
+use Rattle.unftp_control_error.specs.Fault.{fault_of}
+use Rattle.unftp_control_line_parser.specs.FirstPath.{outcome_so_far}
+use Rattle.unftp_control_codecs.specs.Codec.{Codec}
+use Rattle.unftp_control_codecs.specs.LineFeed.{line_feed_from}
+
+abbrev pub Decoded : Type 0
+Decoded = Result (Option RustCommand) Parts
+
+-- the event that is told, if any
+abbrev pub event_told : Decoded → Option FtpEvent
+event_told (Ok None) = None
+event_told (Ok (Some command)) = Some (Command (command_of command))
+event_told (Err error) = Some (Refused (fault_of error))
+
+-- memory was refused
+abbrev pub IsStarved : Decoded → Type 0
+IsStarved (Ok command) = ⊥
+IsStarved (Err error) = (fault_of error).kind ≡ OutOfMemory
+
+-- There is no line feed: the buffer stays, and the next search begins at its end. Each byte from the place on was tested.
+pub record FindsNone (old new : Codec) (before after : Bytes) : Type 0 where
+  pub kept : after ≡ before
+  pub place : new.place ≡ length before
+  pub tests : new.tests ≡ old.tests + (length before - old.place)
+
+-- The line that ends at k leaves the front of the buffer.
+pub record CutsLine (k : ℕ) (old new : Codec) (before after : Bytes) : Type 0 where
+  pub cut : after ≡ drop (k + 1) before
+  pub place : new.place ≡ 0
+  pub tests : new.tests ≡ old.tests + (k + 1 - old.place)
+
+-- Memory was refused for that line: nothing but the tests changes.
+pub record KeepsLine (k : ℕ) (old new : Codec) (before after : Bytes) : Type 0 where
+  pub kept : after ≡ before
+  pub place : new.place ≡ old.place
+  pub tests : new.tests ≤ old.tests + (k + 1 - old.place)
+
+-- the line that ends at k is answered
+abbrev pub AnswersLine : ℕ → Codec → Codec → Bytes → Bytes → Decoded → Type 0
+AnswersLine k old new before after answer =
+    ((event_told answer ≡ Some (event_of (outcome_so_far (take (k + 1) before)))) × CutsLine k old new before after)
+    ⊎ (IsStarved answer × KeepsLine k old new before after)
+
+abbrev pub Decodes : Codec → Codec → Bytes → Bytes → Decoded → Type 0
+Decodes old new before after answer = MatchOption (line_feed_from before old.place)
+    ((event_told answer ≡ None) × FindsNone old new before after)
+    (λ k. AnswersLine k old new before after answer)

@@ -1,0 +1,3 @@
+pub mod Codec
+pub mod LineFeed
+pub mod Decoding

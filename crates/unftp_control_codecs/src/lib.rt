@@ -1,0 +1,130 @@
+//! Cuts lines from the front of a buffer, and appends replies to the end of one.
+#![tactic(auto)]
+
+ghost use Rattle.std.specs.Prelude.{◌≡◌, ◌+◌, ◌≤◌, ◌++◌, take, vec_len, IsOk, OnOk, OnErr, IfErr, if◌then◌else◌, length, ◌==◌, decimal};
+ghost use Rattle.unftp_control_defs.specs.Bytes.{crlf};
+ghost use Rattle.unftp_control_defs.specs.Events.{out_of_memory};
+ghost use Rattle.unftp_control_defs.specs.FtpReply.{Nothing, encoded, after_space};
+ghost use Rattle.unftp_control_error.specs.Fault.{fault_of};
+ghost use Rattle.unftp_control_reply.specs.View.{reply_of};
+ghost use Rattle.unftp_control_codecs.specs.Decoding.{Decodes, IsStarved};
+
+mod scan;
+
+use crate::scan::{Scan, Tests};
+use std::alloc::AllocError;
+use std::marker::Model;
+use unftp_control_command::Command;
+use unftp_control_error::ControlChanError;
+use unftp_control_line_parser::parse;
+use unftp_control_reply::Reply;
+
+/// Decodes the commands of a control connection, and encodes its replies.
+///
+/// It keeps the place in its buffer where the search for a line feed goes on, so that no byte is tested twice.
+#[derive(Drop)]
+pub struct FtpCodec {
+    place: usize,
+    tests: Tests,
+}
+
+impl Model for FtpCodec {
+    ghost use Rattle.unftp_control_codecs.specs.Codec.{Codec};
+
+    ghost Value = { Codec };
+
+    ghost view = { λ codec. record { place = codec.place; tests = codec.tests } };
+}
+
+impl FtpCodec {
+    /// A codec at place 0 that has tested nothing.
+    pub fn new() -> FtpCodec
+        ensures place { result.place ≡ 0 }
+        ensures tests { result.tests ≡ 0 }
+    {
+        FtpCodec {
+            place: 0,
+            tests: Tests::none(),
+        }
+    }
+
+    /// Where the next search for a line feed begins, in bytes from the front of the buffer.
+    pub fn place(&self) -> usize
+        ensures { result ≡ self.now.place }
+    {
+        self.place
+    }
+
+    /// Takes the first line from the front of `buf` and answers its command, or `None` where no line has come whole yet
+    /// (RFC 959, section 5.3). A line ends at its line feed.
+    ///
+    /// The place has to be within `buf`, as it is after each call, also where `buf` has grown at its end since. The bytes
+    /// before the place are not tested again.
+    ///
+    /// A line that is no command is refused, by the parser's error as source: it leaves `buf` as any other line does, and
+    /// what follows it stays.
+    pub fn decode(&mut self, buf: &mut Vec<u8>) -> Result<Option<Command>, ControlChanError>
+        requires { self.old.place ≤ vec_len buf.old }
+        ensures decodes { Decodes self.old self.new buf.old.items buf.new.items result }
+        ensures memory { ¬ IsStarved result }
+        ensures within { self.new.place ≤ vec_len buf.new }
+        ensures counted { self.new.tests + self.old.place + vec_len buf.new ≡ self.old.tests + self.new.place + vec_len buf.old }
+    {
+        let mut scan = Scan::over(buf.as_slice(), &mut self.tests);
+        let Some(end) = scan.find_line_feed(self.place) else {
+            self.place = buf.len();
+            return Ok(None);
+        };
+        let (line, _) = buf.as_slice().split_at(end + 1);
+        let answer = parse(line);
+        drop(buf.drain(..end + 1));
+        self.place = 0;
+        Ok(Some(answer?))
+    }
+
+    /// Appends the bytes of the reply to `buf` and changes no earlier byte (RFC 959, section 4.2); `Reply::None` has none.
+    ///
+    /// It is refused for want of memory alone, with the kind `OutOfMemory`: `buf` is then as it was, and the reply is gone.
+    pub fn encode(&mut self, reply: Reply, buf: &mut Vec<u8>) -> Result<(), ControlChanError>
+        ensures ok { OnOk result (buf.new.items ≡ buf.old.items ++ encoded (reply_of reply)) }
+        ensures err { OnErr result (buf.new.items ≡ buf.old.items) }
+        ensures memory { IfErr result (λ error. fault_of error ≡ out_of_memory) }
+        ensures no_memory { reply_of reply ≡ Nothing → IsOk result }
+        ensures codec { self.new ≡ self.old }
+    {
+        let length = buf.len();
+        if let Err(refused) = append_reply(&reply, buf) {
+            buf.truncate(length);
+            return Err(refused.into());
+        }
+        Ok(())
+    }
+}
+
+/// Appends the bytes of the reply; where memory is refused, perhaps a part of them.
+fn append_reply(reply: &Reply, buf: &mut Vec<u8>) -> Result<(), AllocError>
+    ensures ok { OnOk result (buf.new.items ≡ buf.old.items ++ encoded (reply_of reply.now)) }
+    ensures kept { take (vec_len buf.old) buf.new.items ≡ buf.old.items }
+    ensures no_memory { reply_of reply.now ≡ Nothing → IsOk result }
+{
+    match reply {
+        Reply::None => Ok(()),
+        Reply::CodeAndMsg { code, msg } => {
+            let mut digits = itoa::Buffer::new();
+            buf.extend_from_slice(digits.format(code.number()).as_bytes())?;
+            append_text(msg.as_str(), buf)
+        }
+    }
+}
+
+/// Appends what stands behind a code of one line: a space and the text, or nothing where it is empty, and CR LF.
+fn append_text(text: &str, buf: &mut Vec<u8>) -> Result<(), AllocError>
+    ensures ok { OnOk result (buf.new.items ≡ buf.old.items ++ (if length text.now == 0 then crlf else after_space text.now)) }
+    ensures kept { take (vec_len buf.old) buf.new.items ≡ buf.old.items }
+{
+    if !text.is_empty() {
+        buf.push(b' ')?;
+        buf.extend_from_slice(text.as_bytes())?;
+    }
+    buf.extend_from_slice(b"\r\n")
+}

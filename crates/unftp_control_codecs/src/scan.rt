@@ -1,0 +1,86 @@
+//! The one way by which the codec tests a byte for a line feed.
+ghost use Rattle.std.specs.Prelude.{◌≡◌, ◌+◌, ◌-◌, ◌<◌, ◌≤◌, length, slice_index, MatchOption};
+ghost use Rattle.unftp_control_codecs.specs.LineFeed.{line_feed_from};
+
+use std::marker::Model;
+use unftp_control_count::Count;
+
+/// How many looks were made. Contracts alone see it, as a number.
+#[derive(Drop)]
+pub(crate) struct Tests {
+    looks: Count,
+}
+
+impl Model for Tests {
+    ghost use Rattle.std.specs.Prelude.{ℕ};
+
+    ghost Value = { ℕ };
+
+    ghost view = { λ tests. tests.looks };
+}
+
+impl Tests {
+    /// No look so far.
+    pub(crate) fn none() -> Tests
+        ensures { result ≡ 0 }
+    {
+        Tests {
+            looks: Count::new(),
+        }
+    }
+
+    #[inline(always)]
+    fn add_look(&mut self)
+        ensures { self.new ≡ self.old + 1 }
+    {
+        self.looks.raise();
+    }
+}
+
+/// A slice that is looked at byte by byte: it is private, and each look at one of its bytes raises the count by one.
+#[derive(Drop)]
+pub(crate) struct Scan<'a, 'c> {
+    bytes: &'a [u8],
+    tests: &'c mut Tests,
+}
+
+impl<'a, 'c> Scan<'a, 'c> {
+    /// Looks at these bytes, and counts its looks here.
+    pub(crate) fn over(bytes: &'a [u8], tests: &'c mut Tests) -> Scan<'a, 'c>
+        ensures bytes { result.bytes.now ≡ bytes.now }
+        ensures tests { result.tests.now ≡ tests.old }
+        ensures same_reference { result.tests.ghost_name ≡ tests.entry.ghost_name }
+    {
+        Scan { bytes, tests }
+    }
+
+    #[inline(always)]
+    fn look(&mut self, at: usize) -> u8
+        requires { at < length self.old.bytes.now }
+        ensures byte { result ≡ slice_index self.old.bytes.now at }
+        ensures tests { self.new.tests.now ≡ self.old.tests.now + 1 }
+        ensures bytes { self.new.bytes.now ≡ self.old.bytes.now }
+        ensures same_reference { self.new.tests.ghost_name ≡ self.old.tests.ghost_name }
+    {
+        self.tests.add_look();
+        self.bytes[at]
+    }
+
+    /// The first line feed at or after `from`. Each byte from there to it, or to the end, is looked at once.
+    pub(crate) fn find_line_feed(&mut self, from: usize) -> Option<usize>
+        requires { from ≤ length self.old.bytes.now }
+        ensures found { result ≡ line_feed_from self.old.bytes.now from }
+        ensures tests { MatchOption result
+            (self.new.tests.now ≡ self.old.tests.now + (length self.old.bytes.now - from))
+            (λ k. self.new.tests.now ≡ self.old.tests.now + (k + 1 - from)) }
+        ensures bytes { self.new.bytes.now ≡ self.old.bytes.now }
+        ensures same_reference { self.new.tests.ghost_name ≡ self.old.tests.ghost_name }
+    {
+        for at in from..self.bytes.len() {
+            if self.look(at) == b'\n' {
+                return Some(at);
+            }
+        }
+        None
+    }
+}
