@@ -2,7 +2,7 @@
 #![tactic(auto)]
 
 ghost use Rattle.std.specs.Prelude.{◌≡◌, ◌↔◌, IsTrue};
-ghost use Rattle.unftp_control_command.specs.View.{command_of};
+ghost use Rattle.unftp_control_command.specs.CommandMeaning.{command_of};
 ghost use Rattle.unftp_control_command.specs.declared.Command.{Command as RustCommand};
 
 /// A command that a client sends on the control connection.

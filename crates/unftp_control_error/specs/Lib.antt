@@ -1,2 +1,2 @@
-pub mod Parts
-pub mod Fault
+pub mod ErrorParts
+pub mod ErrorMeaning

@@ -35,7 +35,7 @@ pub struct ControlChanError {
 }
 
 impl Model for ControlChanError {
-    ghost use Rattle.unftp_control_error.specs.Parts.{Parts};
+    ghost use Rattle.unftp_control_error.specs.ErrorParts.{Parts};
 
     ghost Value = { Parts };
 
@@ -72,7 +72,7 @@ impl ControlChanError {
 /// The kind that the parser's error becomes, with that error as its source.
 impl From<ParseError> for ControlChanError {
     ghost use Rattle.std.specs.Prelude.{◌≡◌};
-    ghost use Rattle.unftp_control_error.specs.Fault.{converted};
+    ghost use Rattle.unftp_control_error.specs.ErrorMeaning.{converted};
     ghost use Rattle.unftp_control_error.specs.declared.Source.TheVariants.{Parse};
 
     ghost from_gives = { λ parse error. (error.kind ≡ converted parse) × (error.source ≡ Parse parse) };
@@ -96,7 +96,7 @@ impl From<ParseError> for ControlChanError {
 impl From<AllocError> for ControlChanError {
     ghost use Rattle.std.specs.Prelude.{◌≡◌};
     ghost use Rattle.unftp_control_defs.specs.Events.{out_of_memory};
-    ghost use Rattle.unftp_control_error.specs.Fault.{fault_of};
+    ghost use Rattle.unftp_control_error.specs.ErrorMeaning.{fault_of};
 
     ghost from_gives = { λ _ error. fault_of error ≡ out_of_memory };
 

@@ -9,7 +9,7 @@ use Rattle.unftp_control_defs.specs.FtpCommand.{FtpCommand, Answer, InvalidComma
 use Rattle.unftp_control_defs.specs.Rules.{Takes, alone, rule_of}
 use Rattle.unftp_control_defs.specs.Outcome.{by_value}
 use Rattle.unftp_control_command.specs.declared.Command.{Command}
-use Rattle.unftp_control_command.specs.View.{command_of}
+use Rattle.unftp_control_command.specs.CommandMeaning.{command_of}
 use Rattle.unftp_control_line_parser.specs.FirstPath.{is_read, if_read, outcome_so_far}
 use Rattle.unftp_control_line_parser.specs.Named.{IsUnread}
 use Rattle.unftp_control_line_parser.specs.Told.{answer_of}

@@ -2,7 +2,7 @@
 use Rattle.std.specs.Prelude.{Option, Some, None, option_map, Result, Ok, Err}
 use Rattle.unftp_control_defs.specs.FtpCommand.{Refusal, InvalidCommand, InvalidUtf8, InvalidEol, Answer}
 use Rattle.unftp_control_command.specs.declared.Command.{Command}
-use Rattle.unftp_control_command.specs.View.{command_of}
+use Rattle.unftp_control_command.specs.CommandMeaning.{command_of}
 use Rattle.unftp_control_line_parser.specs.declared.error.ParseErrorKind.{ParseErrorKind}
 use Rattle.unftp_control_line_parser.specs.declared.error.ParseErrorKind.TheVariants as kind
 

@@ -8,7 +8,7 @@ use Rattle.unftp_control_error.specs.declared.ControlChanErrorKind.{ControlChanE
 use Rattle.unftp_control_error.specs.declared.ControlChanErrorKind.TheVariants as kind
 use Rattle.unftp_control_error.specs.declared.Source.{Source}
 use Rattle.unftp_control_error.specs.declared.Source.TheVariants as source
-use Rattle.unftp_control_error.specs.Parts.{Parts}
+use Rattle.unftp_control_error.specs.ErrorParts.{Parts}
 
 abbrev pub kind_meant : ControlChanErrorKind → FaultKind
 kind_meant kind.Utf8Error = fault.Utf8Error

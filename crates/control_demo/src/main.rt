@@ -1,0 +1,99 @@
+//! Answers the lines on standard input: `200 OK` to each NOOP, and `502 Not implemented` to any other.
+#![tactic(auto)]
+
+ghost use Rattle.std.specs.Prelude.{◌≡◌, ◌++◌, take, vec_len, OnOk, OnErr, IfErr};
+ghost use Rattle.unftp_control.specs.Events.{out_of_memory};
+ghost use Rattle.unftp_control.specs.ErrorMeaning.{fault_of};
+ghost use Rattle.control_demo.specs.Response.{responses_to};
+
+use std::alloc::Global;
+use std::io;
+use std::io::{Read, Write};
+use std::process::ExitCode;
+use unftp_control::codecs::FtpCodec;
+use unftp_control::command::Command;
+use unftp_control::error::ControlChanError;
+use unftp_control::reply::{Reply, ReplyCode};
+
+/// Appends to `out` the response to each line of the input, in order: `200 OK\r\n` where the line is NOOP, else
+/// `502 Not implemented\r\n`. Bytes after the last line feed are no line.
+///
+/// It is refused for want of memory alone, with the kind `OutOfMemory`, and `out` is then as it was.
+pub fn answer(alloc: Global, input: &[u8], out: &mut Vec<u8>) -> Result<(), ControlChanError>
+    ensures ok { OnOk result (out.new.items ≡ out.old.items ++ responses_to input.now) }
+    ensures err { OnErr result (out.new.items ≡ out.old.items) }
+    ensures memory { IfErr result (λ error. fault_of error ≡ out_of_memory) }
+{
+    let length = out.len();
+    let answered = append_responses(alloc, input, out);
+    if answered.is_err() {
+        out.truncate(length);
+    }
+    answered
+}
+
+/// Appends the response to each line; where memory is refused, to some of them.
+fn append_responses(
+    alloc: Global,
+    input: &[u8],
+    out: &mut Vec<u8>,
+) -> Result<(), ControlChanError>
+    ensures ok { OnOk result (out.new.items ≡ out.old.items ++ responses_to input.now) }
+    ensures kept { take (vec_len out.old) out.new.items ≡ out.old.items }
+    ensures memory { IfErr result (λ error. fault_of error ≡ out_of_memory) }
+{
+    let mut codec = FtpCodec::new();
+    let mut lines = Vec::from_slice(alloc, input)?;
+    loop {
+        let reply = match codec.decode(&mut lines) {
+            Ok(None) => return Ok(()),
+            Ok(Some(Command::Noop)) => Reply::new(alloc, ReplyCode::CommandOkay, "OK")?,
+            Ok(Some(_)) | Err(_) => {
+                Reply::new(alloc, ReplyCode::CommandNotImplemented, "Not implemented")?
+            }
+        };
+        codec.encode(reply, out)?;
+    }
+}
+
+/// Why the program ends early.
+#[derive(Debug, Drop, thiserror::Error)]
+enum Fault {
+    #[error("reading failed")]
+    Read(io::Error),
+    #[error("writing failed")]
+    Write(io::Error),
+    #[error("out of memory")]
+    OutOfMemory,
+}
+
+/// Reads the input to its end, and then writes the responses to its lines.
+fn respond<R: Read, W: Write>(
+    alloc: Global,
+    reader: &mut R,
+    writer: &mut W,
+) -> Result<(), Fault> {
+    let mut input = Vec::new(alloc);
+    if let Err(error) = reader.read_to_end(&mut input) {
+        return Err(match error.kind() {
+            io::ErrorKind::OutOfMemory => Fault::OutOfMemory,
+            _ => Fault::Read(error),
+        });
+    }
+    let mut out = Vec::new(alloc);
+    if answer(alloc, input.as_slice(), &mut out).is_err() {
+        return Err(Fault::OutOfMemory);
+    }
+    writer.write_all(out.as_slice()).map_err(Fault::Write)?;
+    writer.flush().map_err(Fault::Write)
+}
+
+fn main(rt: HostRuntime) -> ExitCode {
+    match respond(rt.alloc(), &mut rt.stdin(), &mut rt.stdout()) {
+        Ok(()) => ExitCode::SUCCESS,
+        Err(fault) => {
+            let _ = eprintln!(rt; "control_demo: {fault}");
+            ExitCode::FAILURE
+        }
+    }
+}

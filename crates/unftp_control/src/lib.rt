@@ -1,0 +1,15 @@
+//! The control protocol layer of an FTP server: bytes of a control connection come in, and typed commands or named refusals
+//! come out; replies go in, and their bytes come out (RFC 959).
+//!
+//! The modules are crates of their own, and this one hands them on.
+#![tactic(auto)]
+
+pub use unftp_control_codecs as codecs;
+pub use unftp_control_command as command;
+pub use unftp_control_error as error;
+pub use unftp_control_laws as laws;
+pub use unftp_control_line_parser as line_parser;
+pub use unftp_control_reply as reply;
+
+#[cfg(test)]
+mod tests;
