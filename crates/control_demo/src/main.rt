@@ -1,10 +1,13 @@
 //! Answers the lines on standard input: `200 OK` to each NOOP, and `502 Not implemented` to any other.
 #![tactic(auto)]
 
-ghost use Rattle.std.specs.Prelude.{◌≡◌, ◌++◌, take, vec_len, OnOk, OnErr, IfErr};
+ghost use Rattle.std.specs.Prelude.{◌≡◌, ◌++◌, [], take, vec_len, IfOk, IfErr, OnOk, OnErr, MatchBool, if◌then◌else◌};
 ghost use Rattle.unftp_control.specs.Events.{out_of_memory};
+ghost use Rattle.unftp_control.specs.FtpReply.{encoded};
+ghost use Rattle.unftp_control.specs.Lines.{lines_of};
 ghost use Rattle.unftp_control.specs.ErrorMeaning.{fault_of};
-ghost use Rattle.control_demo.specs.Response.{responses_to};
+ghost use Rattle.unftp_control.specs.ReplyMeaning.{reply_of};
+ghost use Rattle.control_demo.specs.Response.{done, not_implemented, responses_to, RespondsToFirst};
 
 use std::alloc::Global;
 use std::io;
@@ -33,26 +36,50 @@ pub fn answer(alloc: Global, input: &[u8], out: &mut Vec<u8>) -> Result<(), Cont
 }
 
 /// Appends the response to each line; where memory is refused, to some of them.
-fn append_responses(
-    alloc: Global,
-    input: &[u8],
-    out: &mut Vec<u8>,
-) -> Result<(), ControlChanError>
+fn append_responses(alloc: Global, input: &[u8], out: &mut Vec<u8>) -> Result<(), ControlChanError>
     ensures ok { OnOk result (out.new.items ≡ out.old.items ++ responses_to input.now) }
     ensures kept { take (vec_len out.old) out.new.items ≡ out.old.items }
     ensures memory { IfErr result (λ error. fault_of error ≡ out_of_memory) }
 {
     let mut codec = FtpCodec::new();
     let mut lines = Vec::from_slice(alloc, input)?;
-    loop {
-        let reply = match codec.decode(&mut lines) {
-            Ok(None) => return Ok(()),
-            Ok(Some(Command::Noop)) => Reply::new(alloc, ReplyCode::CommandOkay, "OK")?,
-            Ok(Some(_)) | Err(_) => {
-                Reply::new(alloc, ReplyCode::CommandNotImplemented, "Not implemented")?
-            }
-        };
-        codec.encode(reply, out)?;
+    while append_response(alloc, &mut codec, &mut lines, out)? {}
+    Ok(())
+}
+
+/// Takes the first line and appends the response to it, or answers `false` where there is none.
+fn append_response(
+    alloc: Global,
+    codec: &mut FtpCodec,
+    lines: &mut Vec<u8>,
+    out: &mut Vec<u8>,
+) -> Result<bool, ControlChanError>
+    requires { codec.old.place ≡ 0 }
+    ensures ok { IfOk result (λ is_line. MatchBool is_line
+        (RespondsToFirst lines.old.items lines.new.items out.old.items out.new.items × (codec.new.place ≡ 0))
+        ((lines_of lines.old.items ≡ []) × (out.new.items ≡ out.old.items))) }
+    ensures err { OnErr result (out.new.items ≡ out.old.items) }
+    ensures memory { IfErr result (λ error. fault_of error ≡ out_of_memory) }
+{
+    let is_noop = match codec.decode(lines) {
+        Ok(None) => return Ok(false),
+        Ok(Some(command)) => command == Command::Noop,
+        Err(_) => false,
+    };
+    let reply = response(alloc, is_noop)?;
+    codec.encode(reply, out)?;
+    Ok(true)
+}
+
+/// The response to NOOP, or to any other line.
+fn response(alloc: Global, is_noop: bool) -> Result<Reply, ControlChanError>
+    ensures ok { IfOk result (λ reply. encoded (reply_of reply) ≡ (if is_noop then done else not_implemented)) }
+    ensures memory { IfErr result (λ error. fault_of error ≡ out_of_memory) }
+{
+    if is_noop {
+        Reply::new(alloc, ReplyCode::CommandOkay, "OK")
+    } else {
+        Reply::new(alloc, ReplyCode::CommandNotImplemented, "Not implemented")
     }
 }
 
@@ -68,11 +95,7 @@ enum Fault {
 }
 
 /// Reads the input to its end, and then writes the responses to its lines.
-fn respond<R: Read, W: Write>(
-    alloc: Global,
-    reader: &mut R,
-    writer: &mut W,
-) -> Result<(), Fault> {
+fn respond<R: Read, W: Write>(alloc: Global, reader: &mut R, writer: &mut W) -> Result<(), Fault> {
     let mut input = Vec::new(alloc);
     if let Err(error) = reader.read_to_end(&mut input) {
         return Err(match error.kind() {

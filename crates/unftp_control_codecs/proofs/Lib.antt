@@ -1,1 +1,2 @@
 pub mod LineFeedLemmas
+pub mod LineCutLemmas
