@@ -1,13 +1,17 @@
 //! Answers the lines on standard input: `200 OK` to each NOOP, and `502 Not implemented` to any other.
 #![tactic(auto)]
 
-ghost use Rattle.std.specs.Prelude.{◌≡◌, ◌++◌, [], take, vec_len, IfOk, IfErr, OnOk, OnErr, MatchBool, if◌then◌else◌};
+ghost use Rattle.std.specs.Prelude.{◌≡◌, ◌++◌, [], take, vec_len, IfOk, IfErr, IfSome, OnOk, OnErr, MatchBool, if◌then◌else◌};
+ghost use Rattle.std.specs.Io.KnownBytes.{Appends};
 ghost use Rattle.unftp_control.specs.Events.{out_of_memory};
 ghost use Rattle.unftp_control.specs.FtpReply.{encoded};
 ghost use Rattle.unftp_control.specs.Lines.{lines_of};
 ghost use Rattle.unftp_control.specs.ErrorMeaning.{fault_of};
 ghost use Rattle.unftp_control.specs.ReplyMeaning.{reply_of};
 ghost use Rattle.control_demo.specs.Response.{done, not_implemented, responses_to, RespondsToFirst};
+
+#[cfg(test)]
+mod tests;
 
 use std::alloc::Global;
 use std::io;
@@ -95,7 +99,9 @@ enum Fault {
 }
 
 /// Reads the input to its end, and then writes the responses to its lines.
-fn respond<R: Read, W: Write>(alloc: Global, reader: &mut R, writer: &mut W) -> Result<(), Fault> {
+fn respond<R: Read, W: Write>(alloc: Global, reader: &mut R, writer: &mut W) -> Result<(), Fault>
+    ensures { OnOk result (IfSome (R.remaining reader.old) (λ input. Appends (W.contents writer.old) (W.contents writer.new) (responses_to input))) }
+{
     let mut input = Vec::new(alloc);
     if let Err(error) = reader.read_to_end(&mut input) {
         return Err(match error.kind() {

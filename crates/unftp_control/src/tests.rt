@@ -1,16 +1,19 @@
-//! Each public call on its happy path, and the answers that no clause says.
+//! Each public call on its happy path, and answers that no clause says.
+mod growths;
+
 use crate::codecs::FtpCodec;
 use crate::command::Command;
 use crate::error::{ControlChanError, ControlChanErrorKind, Source};
 use crate::line_parser::{ParseError, ParseErrorKind, parse};
 use crate::reply::{Reply, ReplyCode};
 use std::process::Abort;
+use std::str::from_utf8;
 use std::test::Fail;
 
-// The kind of the refusal.
-fn refused(rt: &impl Abort, line: &[u8], want: ParseErrorKind) {
+// The line is refused with this kind.
+fn assert_refused(rt: &impl Abort, line: &[u8], want: ParseErrorKind) {
     match parse(line) {
-        Ok(command) => panic!(rt; "{command:?}"),
+        Ok(command) => panic!(rt; "{command:?} at {line:?}"),
         Err(error) => assert_eq!(rt; error.kind(), &want, "at {line:?}"),
     }
 }
@@ -22,7 +25,7 @@ fn commands_that_stand_alone_are_read_in_either_case(rt: HostRuntime) -> Result<
         (b"nOOp\n".as_slice(), Command::Noop),
         (b"NOOP".as_slice(), Command::Noop),
         (b"NOOP \r\n".as_slice(), Command::Noop),
-        (b"NOOP\r".as_slice(), Command::Noop),
+        (b"NOOP \n\r".as_slice(), Command::Noop),
         (b"pasv\r\n".as_slice(), Command::Pasv),
         (b"Feat\r\n".as_slice(), Command::Feat),
         (b"PWD\r\n".as_slice(), Command::Pwd),
@@ -42,19 +45,157 @@ fn commands_that_stand_alone_are_read_in_either_case(rt: HostRuntime) -> Result<
 #[test]
 fn other_lines_are_refused(rt: HostRuntime) {
     for line in [
+        b"".as_slice(),
         b"\r\n".as_slice(),
         b"NOOP x\r\n".as_slice(),
+        b"NOOP  \r\n".as_slice(),
         b"NOO\r\n".as_slice(),
         b"NOOPS\r\n".as_slice(),
         b" NOOP\r\n".as_slice(),
         b"USER Dolores\r\n".as_slice(),
         b"XCUP\r\n".as_slice(),
     ] {
-        refused(&rt, line, ParseErrorKind::InvalidCommand);
+        assert_refused(&rt, line, ParseErrorKind::InvalidCommand);
     }
 }
 
 #[test]
 fn telnet_bytes_before_a_verb_are_not_utf8(rt: HostRuntime) {
-    refused(&rt, b"\xff\xf4\xff\xf2ABOR\r\n", ParseErrorKind::InvalidUtf8);
+    assert_refused(
+        &rt,
+        b"\xff\xf4\xff\xf2ABOR\r\n",
+        ParseErrorKind::InvalidUtf8,
+    );
+}
+
+#[test]
+fn parse_errors_have_the_kind_that_they_are_made_of(rt: HostRuntime) -> Result<(), Fail> {
+    let error = ParseError::from(ParseErrorKind::InvalidEol);
+    assert_eq!(rt; error.kind(), &ParseErrorKind::InvalidEol);
+    assert_eq!(rt;
+        error,
+        ParseError::from(ParseErrorKind::InvalidEol.clone()?)
+    );
+    match from_utf8(b"\xff") {
+        Ok(text) => panic!(rt; "{text}"),
+        Err(error) => {
+            assert_eq!(rt;
+                ParseError::from(error).kind(),
+                &ParseErrorKind::InvalidUtf8
+            );
+        }
+    }
+    Ok(())
+}
+
+#[test]
+fn converted_errors_keep_their_source(rt: HostRuntime) {
+    for (kind, source, want) in [
+        (
+            ParseErrorKind::InvalidCommand,
+            ParseErrorKind::InvalidCommand,
+            ControlChanErrorKind::InvalidCommand,
+        ),
+        (
+            ParseErrorKind::InvalidUtf8,
+            ParseErrorKind::InvalidUtf8,
+            ControlChanErrorKind::Utf8Error,
+        ),
+        (
+            ParseErrorKind::InvalidEol,
+            ParseErrorKind::InvalidEol,
+            ControlChanErrorKind::InvalidCommand,
+        ),
+        (
+            ParseErrorKind::OutOfMemory,
+            ParseErrorKind::OutOfMemory,
+            ControlChanErrorKind::OutOfMemory,
+        ),
+    ] {
+        let error = ControlChanError::from(ParseError::from(kind));
+        assert_eq!(rt; error.kind(), &want);
+        match error.source() {
+            Source::None => panic!(rt; "no source at {want:?}"),
+            Source::Parse(error) => assert_eq!(rt; error.kind(), &source),
+        }
+    }
+    let error = ControlChanError::new(ControlChanErrorKind::OutOfMemory);
+    assert!(rt; matches!(error.source(), Source::None));
+}
+
+#[test]
+fn a_line_is_decoded_once_it_is_whole(rt: HostRuntime) -> Result<(), Fail> {
+    let mut codec = FtpCodec::new();
+    let mut buf = Vec::from_slice(rt.alloc(), b"NOOP")?;
+    assert_eq!(rt; codec.decode(&mut buf)?, None);
+    assert_eq!(rt; codec.place(), 4);
+    assert_eq!(rt; buf.as_slice(), b"NOOP".as_slice());
+    buf.extend_from_slice(b"\r\nQUIT\n")?;
+    assert!(rt; codec.place() <= buf.len());
+    assert_eq!(rt; codec.decode(&mut buf)?, Some(Command::Noop));
+    assert_eq!(rt; codec.place(), 0);
+    assert_eq!(rt; buf.as_slice(), b"QUIT\n".as_slice());
+    assert_eq!(rt; codec.decode(&mut buf)?, Some(Command::Quit));
+    assert!(rt; buf.is_empty());
+    assert_eq!(rt; codec.decode(&mut buf)?, None);
+    assert_eq!(rt; codec.place(), 0);
+    Ok(())
+}
+
+#[test]
+fn a_refused_line_costs_itself_alone(rt: HostRuntime) -> Result<(), Fail> {
+    let mut codec = FtpCodec::new();
+    let mut buf = Vec::from_slice(rt.alloc(), b"SITE \xff\r\n\xff\r\nPWD\r\n")?;
+    for want in [
+        ControlChanErrorKind::InvalidCommand,
+        ControlChanErrorKind::Utf8Error,
+    ] {
+        assert!(rt; codec.place() <= buf.len());
+        match codec.decode(&mut buf) {
+            Ok(command) => panic!(rt; "{command:?} at {want:?}"),
+            Err(error) => assert_eq!(rt; error.kind(), &want),
+        }
+        assert_eq!(rt; codec.place(), 0);
+    }
+    assert!(rt; codec.place() <= buf.len());
+    assert_eq!(rt; codec.decode(&mut buf)?, Some(Command::Pwd));
+    assert!(rt; buf.is_empty());
+    Ok(())
+}
+
+#[test]
+fn replies_of_one_line_are_encoded(rt: HostRuntime) -> Result<(), Fail> {
+    let mut codec = FtpCodec::new();
+    let mut buf = Vec::from_slice(rt.alloc(), b"x")?;
+    codec.encode(Reply::None, &mut buf)?;
+    assert_eq!(rt; buf.as_slice(), b"x".as_slice());
+    for (code, text) in [
+        (ReplyCode::CommandOkay, "OK"),
+        (ReplyCode::CommandNotImplemented, "Not implemented"),
+        (ReplyCode::CommandOkay, ""),
+    ] {
+        codec.encode(Reply::new(rt.alloc(), code, text)?, &mut buf)?;
+    }
+    assert_eq!(rt;
+        buf.as_slice(),
+        b"x200 OK\r\n502 Not implemented\r\n200\r\n".as_slice()
+    );
+    assert_eq!(rt; codec.place(), 0);
+    Ok(())
+}
+
+#[test]
+fn replies_are_equal_where_code_and_text_are(rt: HostRuntime) -> Result<(), Fail> {
+    let done = Reply::new(rt.alloc(), ReplyCode::CommandOkay, "OK")?;
+    assert!(rt; done == Reply::new(rt.alloc(), ReplyCode::CommandOkay, "OK")?);
+    assert!(rt; done != Reply::new(rt.alloc(), ReplyCode::CommandOkay, "KO")?);
+    assert!(rt; done != Reply::new(rt.alloc(), ReplyCode::CommandNotImplemented, "OK")?);
+    assert!(rt; done != Reply::None);
+    Ok(())
+}
+
+#[test]
+fn codes_have_their_numbers(rt: HostRuntime) {
+    assert_eq!(rt; ReplyCode::CommandOkay.number(), 200);
+    assert_eq!(rt; ReplyCode::CommandNotImplemented.number(), 502);
 }

@@ -5,6 +5,8 @@ ghost use Rattle.unftp_control_codecs.specs.LineFeed.{line_feed_from};
 use std::marker::Model;
 use unftp_control_count::Count;
 
+const LINE_FEED: u8 = b'\n';
+
 /// How many looks were made. Contracts alone see it, as a number.
 #[derive(Drop)]
 pub(crate) struct Tests {
@@ -77,7 +79,7 @@ impl<'a, 'c> Scan<'a, 'c> {
         ensures same_reference { self.new.tests.ghost_name ≡ self.old.tests.ghost_name }
     {
         for at in from..self.bytes.len() {
-            if self.look(at) == b'\n' {
+            if self.look(at) == LINE_FEED {
                 return Some(at);
             }
         }

@@ -45,11 +45,7 @@ pub enum Reply {
 
 impl Reply {
     /// A reply of one line. It is refused for want of memory alone, with the kind `OutOfMemory`.
-    pub fn new(
-        alloc: Global,
-        code: ReplyCode,
-        message: &str,
-    ) -> Result<Reply, ControlChanError>
+    pub fn new(alloc: Global, code: ReplyCode, message: &str) -> Result<Reply, ControlChanError>
         ensures ok { IfOk result (λ reply. reply_of reply ≡ CodeAndMsg (number_of code) message.now) }
         ensures err { IfErr result (λ error. fault_of error ≡ out_of_memory) }
     {

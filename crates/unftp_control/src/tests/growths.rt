@@ -1,0 +1,91 @@
+//! Tests that hold whichever growth of memory is refused: `tools/growths` refuses each in turn. Where the set-up is refused
+//! there is nothing to judge; where the call is, all is as before, and the call with memory succeeds.
+use crate::codecs::FtpCodec;
+use crate::command::Command;
+use crate::error::{ControlChanError, ControlChanErrorKind};
+use crate::line_parser::{ParseErrorKind, parse};
+use crate::reply::{Reply, ReplyCode};
+use std::process::Abort;
+use std::test::Fail;
+
+// The error says that memory was refused.
+fn assert_starved(rt: &impl Abort, error: &ControlChanError) {
+    assert_eq!(rt; error.kind(), &ControlChanErrorKind::OutOfMemory);
+}
+
+#[test]
+fn refused_replies_are_made_anew(rt: HostRuntime) -> Result<(), Fail> {
+    let reply = match Reply::new(rt.alloc(), ReplyCode::CommandOkay, "OK") {
+        Ok(reply) => reply,
+        Err(error) => {
+            assert_starved(&rt, &error);
+            Reply::new(rt.alloc(), ReplyCode::CommandOkay, "OK")?
+        }
+    };
+    assert!(rt; reply != Reply::None);
+    Ok(())
+}
+
+#[test]
+fn a_refused_encoding_leaves_the_buffer(rt: HostRuntime) -> Result<(), Fail> {
+    let Ok(reply) = Reply::new(
+        rt.alloc(),
+        ReplyCode::CommandNotImplemented,
+        "Not implemented",
+    ) else {
+        return Ok(());
+    };
+    let Ok(again) = Reply::new(
+        rt.alloc(),
+        ReplyCode::CommandNotImplemented,
+        "Not implemented",
+    ) else {
+        return Ok(());
+    };
+    let Ok(mut buf) = Vec::from_slice(rt.alloc(), b"x") else {
+        return Ok(());
+    };
+    let mut codec = FtpCodec::new();
+    if let Err(error) = codec.encode(reply, &mut buf) {
+        assert_starved(&rt, &error);
+        assert_eq!(rt; buf.as_slice(), b"x".as_slice());
+        codec.encode(again, &mut buf)?;
+    }
+    assert_eq!(rt; buf.as_slice(), b"x502 Not implemented\r\n".as_slice());
+    Ok(())
+}
+
+#[test]
+fn lines_are_decoded_without_memory(rt: HostRuntime) -> Result<(), Fail> {
+    let Ok(mut buf) = Vec::from_slice(rt.alloc(), b"NOOP\r\n\xff\nUSER x\r\nPW") else {
+        return Ok(());
+    };
+    let mut codec = FtpCodec::new();
+    assert_eq!(rt; codec.decode(&mut buf)?, Some(Command::Noop));
+    for want in [
+        ControlChanErrorKind::Utf8Error,
+        ControlChanErrorKind::InvalidCommand,
+    ] {
+        assert!(rt; codec.place() <= buf.len());
+        match codec.decode(&mut buf) {
+            Ok(command) => panic!(rt; "{command:?}"),
+            Err(error) => assert_eq!(rt; error.kind(), &want),
+        }
+    }
+    assert!(rt; codec.place() <= buf.len());
+    assert_eq!(rt; codec.decode(&mut buf)?, None);
+    assert_eq!(rt; codec.place(), 2);
+    codec.encode(Reply::None, &mut buf)?;
+    assert_eq!(rt; buf.as_slice(), b"PW".as_slice());
+    Ok(())
+}
+
+#[test]
+fn lines_are_parsed_without_memory(rt: HostRuntime) -> Result<(), Fail> {
+    assert_eq!(rt; parse(b"QUIT\r\n")?, Command::Quit);
+    match parse(b"USER x\r\n") {
+        Ok(command) => panic!(rt; "{command:?}"),
+        Err(error) => assert_eq!(rt; error.kind(), &ParseErrorKind::InvalidCommand),
+    }
+    Ok(())
+}
