@@ -1,5 +1,5 @@
 -- The responses to what the codec tells.
-use Rattle.std.proofs.Common.{◌≡◌, ◌≢◌, ℕ, ◌+◌, ◌<◌, Bool, true, false, cond, ◌⊎◌, Option, Some, None, Ok, Err, refl, sym, ap, ◌∙◌, inl, inr, arith, length-drop}
+use Rattle.std.proofs.Common.{◌≡◌, ℕ, ◌+◌, ◌<◌, Bool, true, false, cond, ◌⊎◌, Option, Some, None, Ok, Err, refl, sym, ap, ◌∙◌, inl, inr, arith, length-drop}
 use Rattle.std.specs.Option.{MatchOption}
 use Rattle.std.proofs.lemmas.Option.{none-some, same_Some}
 use Rattle.std.specs.Str.{is_utf8}
@@ -11,7 +11,7 @@ use Rattle.unftp_control.specs.FtpCommand.{Answer, Noop, InvalidUtf8}
 use Rattle.unftp_control.specs.FtpReply.{encoded, CodeAndMsg}
 use Rattle.unftp_control.specs.Events.{FtpEvent, Command, event_of}
 use Rattle.unftp_control.specs.Outcome.{outcome}
-use Rattle.unftp_control.specs.FirstPath.{if_read, outcome_so_far}
+use Rattle.unftp_control.specs.SoFar.{if_read, outcome_so_far}
 use Rattle.unftp_control.specs.Codec.{Codec}
 use Rattle.unftp_control.specs.LineFeed.{line_feed_from}
 use Rattle.unftp_control.specs.Decoding.{Decoded, Decodes, FindsNone, AnswersLine, IsStarved, event_told}
@@ -23,7 +23,7 @@ use Rattle.unftp_control.specs.declared.command.Command.TheVariants as rust
 use Rattle.unftp_control_codecs.proofs.LineFeedLemmas.{line_feed_at}
 use Rattle.unftp_control_codecs.proofs.LineCutLemmas.{lines_of-line_feed_from, lines_of-no_line_feed}
 use Rattle.control_demo.specs.Response.{done, not_implemented, response_to, responses_to, RespondsToFirst, Answering}
-use Rattle.std.specs.Prelude.{codes, flat_map, take, drop, length, [], ◌∷◌, ◌++◌}
+use Rattle.std.specs.Prelude.{codes, flat_map, take, length, [], ◌∷◌, ◌++◌}
 use Rattle.std.proofs.Common.{append_assoc}
 use Rattle.std.proofs.lemmas.List.{append-nil}
 use Rattle.std.proofs.Math.Seq.{take-append_seam}

@@ -1,4 +1,6 @@
 //! Each public call on its happy path, and answers that no clause says.
+ghost use Rattle.std.specs.Prelude.{◌≤◌, vec_len};
+
 mod growths;
 
 use crate::codecs::FtpCodec;
@@ -6,9 +8,43 @@ use crate::command::Command;
 use crate::error::{ControlChanError, ControlChanErrorKind, Source};
 use crate::line_parser::{ParseError, ParseErrorKind, parse};
 use crate::reply::{Reply, ReplyCode};
+use std::alloc::Global;
 use std::process::Abort;
 use std::str::from_utf8;
 use std::test::Fail;
+
+/// Answers the first line of `buf`, if one has come whole.
+fn answer_line(
+    alloc: Global,
+    codec: &mut FtpCodec,
+    buf: &mut Vec<u8>,
+    out: &mut Vec<u8>,
+) -> Result<(), ControlChanError>
+    requires { codec.old.place ≤ vec_len buf.old }
+{
+    let (code, text) = match codec.decode(buf) {
+        Ok(None) => return Ok(()),
+        Ok(Some(Command::Noop)) => (ReplyCode::CommandOkay, "OK"),
+        Ok(Some(_)) | Err(_) => (ReplyCode::CommandNotImplemented, "Not implemented"),
+    };
+    codec.encode(Reply::new(alloc, code, text)?, out)
+}
+
+// The README's caller.
+#[test]
+fn a_caller_answers_line_by_line(rt: HostRuntime) -> Result<(), Fail> {
+    let mut codec = FtpCodec::new();
+    let mut buf = Vec::from_slice(rt.alloc(), b"NOOP
+PWD
+NO")?;
+    let mut out = Vec::new(rt.alloc());
+    for _ in 0..3 {
+        assert!(rt; codec.place() <= buf.len());
+        answer_line(rt.alloc(), &mut codec, &mut buf, &mut out)?;
+    }
+    assert_eq!(rt; out.as_slice(), b"200 OK\r\n502 Not implemented\r\n".as_slice());
+    Ok(())
+}
 
 // The line is refused with this kind.
 fn assert_refused(rt: &impl Abort, line: &[u8], want: ParseErrorKind) {

@@ -1,12 +1,12 @@
 -- What one decoding does to a codec and its buffer, and what it tells.
-use Rattle.std.specs.Prelude.{◌≡◌, ◌≢◌, ℕ, ◌+◌, ◌-◌, ◌≤◌, ◌⊎◌, length, take, drop, Option, None, Some, Result, Ok, Err, MatchOption}
+use Rattle.std.specs.Prelude.{◌≡◌, ℕ, ◌+◌, ◌-◌, ◌≤◌, ◌⊎◌, length, take, drop, Option, None, Some, Result, Ok, Err, MatchOption}
 use Rattle.unftp_control_defs.specs.Bytes.{Bytes}
 use Rattle.unftp_control_defs.specs.Events.{FtpEvent, Command, Refused, event_of, OutOfMemory}
 use Rattle.unftp_control_command.specs.declared.Command.{Command as RustCommand}
 use Rattle.unftp_control_command.specs.CommandMeaning.{command_of}
 use Rattle.unftp_control_error.specs.ErrorParts.{Parts}
 use Rattle.unftp_control_error.specs.ErrorMeaning.{fault_of}
-use Rattle.unftp_control_line_parser.specs.FirstPath.{outcome_so_far}
+use Rattle.unftp_control_line_parser.specs.SoFar.{outcome_so_far}
 use Rattle.unftp_control_codecs.specs.Codec.{Codec}
 use Rattle.unftp_control_codecs.specs.LineFeed.{line_feed_from}
 

@@ -14,7 +14,7 @@ pub enum Command {
     Pasv,
     /// FEAT: list the features beyond RFC 959 (RFC 2389, section 3).
     Feat,
-    /// PWD or XPWD: tell the working directory (RFC 959, section 4.1.3; RFC 775).
+    /// PWD or XPWD: tell the working directory (RFC 959, section 4.1.3; RFC 1123, section 4.1.3.1).
     Pwd,
     /// CDUP: go to the parent directory (RFC 959, section 4.1.1).
     Cdup,

@@ -1,5 +1,5 @@
--- What each verb makes of its parameter: RFC 959, section 4.1, with the verbs of RFC 775 (XCWD, XMKD, XPWD), 2228 (AUTH, CCC, PBSZ, PROT),
--- 2389 (FEAT, OPTS), 2428 (EPSV), 3659 (MDTM, MLSD, MLST, REST, SIZE) and of the field (BYE, SITE MD5).
+-- What each verb makes of its parameter: those of RFC 959, section 4.1, with the older forms of RFC 1123, section 4.1.3.1 (XCWD, XMKD, XPWD),
+-- and those of RFC 2228 (AUTH, CCC, PBSZ, PROT), 2389 (FEAT, OPTS), 2428 (EPSV), 3659 (MDTM, MLSD, MLST, SIZE) and of the field (BYE, SITE MD5).
 use Rattle.std.specs.Prelude.{true, false, ◌==◌, ◌&&◌, nat_lt, ◌^◌, if◌then◌else◌, List, [], ◌∷◌, length, Option, Some, None, unwrap_or, option_map, Ok, Err, bytes_eq, codes, find}
 use Rattle.std.specs.Str.{is_utf8, all_ascii_digits}
 use Rattle.std.specs.Str.Lossy.{utf8_lossy}

@@ -5,12 +5,11 @@ use Rattle.std.proofs.lemmas.Str.{is_utf8-from_IsUtf8, IsUtf8-from_is_utf8}
 use Rattle.unftp_control_defs.specs.Bytes.{Bytes}
 use Rattle.unftp_control_defs.specs.Verbs.{verb_of, parameter_of, upper}
 use Rattle.unftp_control_defs.specs.Values.{value_of}
-use Rattle.unftp_control_defs.specs.FtpCommand.{FtpCommand, Answer, InvalidCommand}
+use Rattle.unftp_control_defs.specs.FtpCommand.{FtpCommand, InvalidCommand}
 use Rattle.unftp_control_defs.specs.Rules.{Takes, alone, rule_of}
 use Rattle.unftp_control_defs.specs.Outcome.{by_value}
 use Rattle.unftp_control_command.specs.declared.Command.{Command}
-use Rattle.unftp_control_command.specs.CommandMeaning.{command_of}
-use Rattle.unftp_control_line_parser.specs.FirstPath.{is_read, if_read, outcome_so_far}
+use Rattle.unftp_control_line_parser.specs.SoFar.{is_read, if_read, outcome_so_far}
 use Rattle.unftp_control_line_parser.specs.Named.{IsUnread}
 use Rattle.unftp_control_line_parser.specs.Told.{answer_of}
 use Rattle.unftp_control_line_parser.specs.declared.error.ParseErrorKind.{ParseErrorKind}

@@ -1,5 +1,5 @@
 -- The verbs of the commands that are not read: no parameter makes their rules give one that is.
-use Rattle.std.proofs.Common.{◌≡◌, Bool, true, false, cond, List, [], ◌∷◌, ◌⊎◌, Option, Some, None, nat_lt, ◌==◌, ◌&&◌, ◌^◌, length, unwrap_or, option_map, Ok, Err, bytes_eq, codes, refl, sym, ◌∙◌, inl, inr}
+use Rattle.std.proofs.Common.{◌≡◌, Bool, true, false, cond, List, [], ◌∷◌, ◌⊎◌, Option, Some, None, nat_lt, ◌==◌, ◌&&◌, ◌^◌, length, unwrap_or, Ok, Err, bytes_eq, codes, refl, sym, ◌∙◌, inl, inr}
 use Rattle.std.proofs.lemmas.Bool.{cases_Bool, false≢true}
 use Rattle.std.specs.List.{AllByRecursion}
 use Rattle.std.specs.Str.{is_utf8, all_ascii_digits}
@@ -14,9 +14,9 @@ use Rattle.unftp_control_defs.specs.Bytes.{Bytes}
 use Rattle.unftp_control_defs.specs.Verbs.{verb_of, parameter_of, upper}
 use Rattle.unftp_control_defs.specs.Values.{value_of}
 use Rattle.unftp_control_defs.specs.FtpCommand.{FtpCommand, Answer, InvalidCommand, Stru, Mode, Prot, Opts, Pbsz, Port, Retr, Stor, Appe, Dele, Rmd, Cwd, Mkd, Rnfr, Rnto, Size, Rest, Mdtm, Auth, Md5, Site, Other}
-use Rattle.unftp_control_defs.specs.Rules.{Rule, Takes, Cuts, row_of, verbs, rule_of, chosen, any_text, some_text, auth, offset, by_name, alone}
-use Rattle.unftp_control_defs.specs.Outcome.{answer_by, by_value, site_answer}
-use Rattle.unftp_control_line_parser.specs.FirstPath.{is_read, if_read}
+use Rattle.unftp_control_defs.specs.Rules.{Rule, Takes, Cuts, row_of, verbs, rule_of, chosen, any_text, some_text, auth, offset, by_name}
+use Rattle.unftp_control_defs.specs.Outcome.{by_value}
+use Rattle.unftp_control_line_parser.specs.SoFar.{is_read, if_read}
 use Rattle.unftp_control_line_parser.specs.Named.{IsUnread}
 
 abbrev Unread : Answer → Type 0

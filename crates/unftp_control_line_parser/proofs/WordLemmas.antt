@@ -1,5 +1,5 @@
 -- Words in either case of their letters.
-use Rattle.std.proofs.Common.{◌≡◌, ℕ, Bool, true, false, IsTrue, bytes_eq, List, [], ◌∷◌, map, ◌⊎◌, ◌↔◌, refl, sym, ap, ◌∙◌, inl, inr, arith}
+use Rattle.std.proofs.Common.{◌≡◌, ℕ, Bool, true, false, IsTrue, bytes_eq, [], ◌∷◌, map, ◌↔◌, refl, sym, ap, ◌∙◌, arith}
 use Rattle.std.specs.Char.{to_ascii_lowercase, to_ascii_uppercase}
 use Rattle.std.proofs.lemmas.Bool.Decides.{nat_tests}
 use Rattle.std.proofs.lemmas.Str.Ascii.{lowercase-uppercase}
@@ -18,7 +18,8 @@ lower-upper : (text : Bytes) → map to_ascii_lowercase (upper text) ≡ map to_
 lower-upper [] = refl
 lower-upper (b ∷ text) = λ i. lowercase-uppercase b i ∷ lower-upper text i
 
-same_word : (b : Bool) (text word : Bytes) → upper word ≡ word → IsTrue b ↔ (map to_ascii_lowercase text ≡ map to_ascii_lowercase word) → b ≡ bytes_eq (upper text) word
+-- so two words are alike in lower case where they are in upper case
+pub same_word : (b : Bool) (text word : Bytes) → upper word ≡ word → IsTrue b ↔ (map to_ascii_lowercase text ≡ map to_ascii_lowercase word) → b ≡ bytes_eq (upper text) word
 same_word true text word raised same = sym ((bytes_decides (upper text) word).1 (sym (upper-lower text) ∙ ap upper (same.0 refl) ∙ upper-lower word ∙ raised))
 same_word false text word raised same = by_test (bytes_eq (upper text) word) refl
   where
@@ -27,6 +28,3 @@ same_word false text word raised same = by_test (bytes_eq (upper text) word) ref
     by_test true e =
         let equal : upper text ≡ word = (bytes_decides (upper text) word).0 e in
         same.1 (sym (lower-upper text) ∙ ap (map to_ascii_lowercase) equal)
-
-pub is_word_spec : (b : Bool) (text word : Bytes) → upper word ≡ word → IsTrue b ↔ (map to_ascii_lowercase text ≡ map to_ascii_lowercase word) → b ≡ bytes_eq (upper text) word
-is_word_spec b text word raised same = same_word b text word raised same

@@ -1,3 +1,3 @@
 pub mod Told
-pub mod FirstPath
+pub mod SoFar
 pub mod Named

@@ -6,7 +6,7 @@ use Rattle.unftp_control_defs.specs.Rules.{Rule, Takes, alone, rule_of}
 use Rattle.unftp_control_defs.specs.Outcome.{answer_by}
 use Rattle.unftp_control_command.specs.declared.Command.{Command}
 use Rattle.unftp_control_command.specs.CommandMeaning.{command_of}
-use Rattle.unftp_control_line_parser.specs.FirstPath.{is_read, if_read}
+use Rattle.unftp_control_line_parser.specs.SoFar.{is_read, if_read}
 
 -- no parameter makes the rule give a command that is read
 abbrev pub IsUnread : Rule → Type 0

@@ -3,7 +3,7 @@ ghost use Rattle.std.specs.Prelude.{◌≡◌, ◌↔◌, IsTrue, Some, [], byte
 ghost use Rattle.unftp_control_defs.specs.Verbs.{is_separator, verb_of, parameter_of, upper};
 ghost use Rattle.unftp_control_defs.specs.Values.{value_of};
 ghost use Rattle.unftp_control_line_parser.specs.Told.{answer_of};
-ghost use Rattle.unftp_control_line_parser.specs.FirstPath.{outcome_so_far};
+ghost use Rattle.unftp_control_line_parser.specs.SoFar.{outcome_so_far};
 ghost use Rattle.unftp_control_line_parser.specs.Named.{NamesCommand};
 
 use crate::error::{ParseErrorKind, Result};

@@ -1,4 +1,4 @@
-use Rattle.std.proofs.Common.{◌≡◌, ◌++◌, refl, sym, ap, ◌∙◌, cond, Some, Ok, Err, false}
+use Rattle.std.proofs.Common.{◌≡◌, ◌++◌, refl, sym, ap, ◌∙◌, cond, Some, Ok, Err}
 use Rattle.unftp_control.specs.Codec.{Codec}
 use Rattle.unftp_control.specs.CommandMeaning.{command_of}
 use Rattle.unftp_control.specs.Events.{Command, Refused}

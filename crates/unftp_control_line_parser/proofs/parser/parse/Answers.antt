@@ -4,7 +4,7 @@ use Rattle.std.proofs.lemmas.Result.{err_from_is_err_and}
 use Rattle.std.specs.Str.{IsUtf8}
 use Rattle.unftp_control_defs.specs.FtpCommand.{InvalidCommand}
 use Rattle.unftp_control_command.specs.CommandMeaning.{command_of}
-use Rattle.unftp_control_line_parser.specs.FirstPath.{outcome_so_far}
+use Rattle.unftp_control_line_parser.specs.SoFar.{outcome_so_far}
 use Rattle.unftp_control_line_parser.proofs.ParseLemmas.{ill_formed, stands_alone, has_a_value, other_verb}
 use Rattle.unftp_control_line_parser.proofs.parser.parse.Goals as goal
 use Rattle.unftp_control_line_parser.proofs.parser.parse.Goals.{in_default-via-in-Some+else-is_valueless, in_default-via-in_default}
