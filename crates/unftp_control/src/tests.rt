@@ -34,15 +34,16 @@ fn answer_line(
 #[test]
 fn a_caller_answers_line_by_line(rt: HostRuntime) -> Result<(), Fail> {
     let mut codec = FtpCodec::new();
-    let mut buf = Vec::from_slice(rt.alloc(), b"NOOP
-PWD
-NO")?;
+    let mut buf = Vec::from_slice(rt.alloc(), b"NOOP\r\nPWD\r\nNO")?;
     let mut out = Vec::new(rt.alloc());
     for _ in 0..3 {
         assert!(rt; codec.place() <= buf.len());
         answer_line(rt.alloc(), &mut codec, &mut buf, &mut out)?;
     }
-    assert_eq!(rt; out.as_slice(), b"200 OK\r\n502 Not implemented\r\n".as_slice());
+    assert_eq!(rt;
+        out.as_slice(),
+        b"200 OK\r\n502 Not implemented\r\n".as_slice()
+    );
     Ok(())
 }
 
