@@ -1,31 +1,343 @@
 //! The commands of the control connection.
 #![tactic(auto)]
 
-ghost use Rattle.std.specs.Prelude.{◌≡◌, ◌↔◌, IsTrue};
+ghost use Rattle.std.specs.Prelude.{◌≡◌, ◌↔◌, IsTrue, IfOk, option_map, string_bytes};
 ghost use Rattle.unftp_control_command.specs.CommandMeaning.{command_of};
 ghost use Rattle.unftp_control_command.specs.declared.Command.{Command as RustCommand};
 
-/// A command that a client sends on the control connection.
+pub use unftp_control_defs::parameters::{AuthParam, ModeParam, Opt, ProtParam, StruParam};
+
+use bytes::Bytes;
+use std::alloc::{AllocError, Global};
+use unftp_control_password::Password;
+
+/// A command that a client sends on the control connection. Its texts are the client's bytes with each ill-formed part of UTF-8
+/// replaced by U+FFFD.
 #[derive(Debug, Drop, PartialEq, Eq)]
 pub enum Command {
+    /// USER: who logs in (RFC 959, section 4.1.1).
+    User {
+        /// The name as the client sent it, in no given encoding; it may be empty.
+        username: Bytes,
+    },
+    /// PASS: the password (RFC 959, section 4.1.1).
+    Pass {
+        /// The password as the client sent it; it may be empty.
+        password: Password,
+    },
+    /// ACCT: the account (RFC 959, section 4.1.1).
+    Acct {
+        /// The account as the client sent it; it may be empty.
+        account: Bytes,
+    },
+    /// SYST: tell the operating system (RFC 959, section 4.1.3). Its parameter is not looked at.
+    Syst,
+    /// STAT: tell the status of the server, or of a path (RFC 959, section 4.1.3).
+    Stat {
+        /// The path as the client sent it; never an empty one.
+        path: Option<Bytes>,
+    },
+    /// TYPE: the representation of files (RFC 959, section 4.1.2). Its parameter is not looked at.
+    TypeCode,
+    /// STRU: the structure of files (RFC 959, section 4.1.2).
+    Stru {
+        /// The structure.
+        structure: StruParam,
+    },
+    /// MODE: the transfer mode (RFC 959, section 4.1.2).
+    Mode {
+        /// The mode.
+        mode: ModeParam,
+    },
+    /// HELP: tell of the server (RFC 959, section 4.1.3). Its parameter is not looked at.
+    Help,
     /// NOOP: do nothing (RFC 959, section 4.1.3).
     Noop,
     /// PASV: listen for the data connection (RFC 959, section 4.1.2).
     Pasv,
+    /// EPSV: the same over any protocol (RFC 2428, section 3). Its parameter is not looked at.
+    Epsv,
+    /// PORT: connect to the client for data (RFC 959, section 4.1.2).
+    Port {
+        /// The address and port as the client wrote them; not empty.
+        addr: String,
+    },
+    /// RETR: send a file (RFC 959, section 4.1.3).
+    Retr {
+        /// The file; not empty.
+        path: String,
+    },
+    /// STOR: store a file (RFC 959, section 4.1.3).
+    Stor {
+        /// The file; not empty.
+        path: String,
+    },
+    /// APPE: append to a file (RFC 959, section 4.1.3).
+    Appe {
+        /// The file; not empty.
+        path: String,
+    },
+    /// LIST: list a directory for people (RFC 959, section 4.1.3).
+    List {
+        /// Always none: option words are dropped.
+        options: Option<String>,
+        /// What to list; never an empty path.
+        path: Option<String>,
+    },
+    /// NLST: list the names in a directory (RFC 959, section 4.1.3).
+    Nlst {
+        /// What to list; never an empty path.
+        path: Option<String>,
+    },
+    /// MLST: tell the facts of a path (RFC 3659, section 7).
+    Mlst {
+        /// The path; never an empty one.
+        path: Option<String>,
+    },
+    /// MLSD: list a directory with facts (RFC 3659, section 7).
+    Mlsd {
+        /// The directory; never an empty path.
+        path: Option<String>,
+    },
     /// FEAT: list the features beyond RFC 959 (RFC 2389, section 3).
     Feat,
     /// PWD or XPWD: tell the working directory (RFC 959, section 4.1.3; RFC 1123, section 4.1.3.1).
     Pwd,
+    /// CWD or XCWD: change the working directory (RFC 959, section 4.1.1; RFC 1123, section 4.1.3.1).
+    Cwd {
+        /// The directory; not empty.
+        path: String,
+    },
     /// CDUP: go to the parent directory (RFC 959, section 4.1.1).
     Cdup,
+    /// OPTS: set an option (RFC 2389, section 4).
+    Opts {
+        /// The option.
+        option: Opt,
+    },
+    /// DELE: delete a file (RFC 959, section 4.1.3).
+    Dele {
+        /// The file; not empty.
+        path: String,
+    },
+    /// RMD: remove a directory (RFC 959, section 4.1.3).
+    Rmd {
+        /// The directory; not empty.
+        path: String,
+    },
     /// QUIT or BYE: end the session (RFC 959, section 4.1.1).
     Quit,
+    /// MKD or XMKD: make a directory (RFC 959, section 4.1.3; RFC 1123, section 4.1.3.1).
+    Mkd {
+        /// The directory; not empty.
+        path: String,
+    },
+    /// ALLO: reserve room (RFC 959, section 4.1.3). Its parameter is not looked at.
+    Allo {},
     /// ABOR: end the transfer that is under way (RFC 959, section 4.1.3).
     Abor,
     /// STOU: store under a name that the server chooses (RFC 959, section 4.1.3).
     Stou,
+    /// RNFR: which file is renamed (RFC 959, section 4.1.3).
+    Rnfr {
+        /// The file; not empty.
+        file: String,
+    },
+    /// RNTO: what it is renamed to (RFC 959, section 4.1.3).
+    Rnto {
+        /// The new name; not empty.
+        file: String,
+    },
+    /// AUTH: protect the control connection (RFC 2228, section 3; RFC 4217, section 4).
+    Auth {
+        /// The mechanism.
+        protocol: AuthParam,
+    },
     /// CCC: go on without protection of the control connection (RFC 2228, section 3).
     Ccc,
+    /// PBSZ: the size of protected buffers, always 0 (RFC 2228, section 3; RFC 4217, section 9).
+    Pbsz {},
+    /// PROT: the protection of the data connection (RFC 2228, section 3).
+    Prot {
+        /// The level.
+        param: ProtParam,
+    },
+    /// SIZE: tell the size of a file (RFC 3659, section 4).
+    Size {
+        /// The file; not empty.
+        file: String,
+    },
+    /// REST: where the next transfer begins (RFC 3659, section 5).
+    Rest {
+        /// The offset in bytes.
+        offset: u64,
+    },
+    /// MDTM: tell when a file was modified (RFC 3659, section 3).
+    Mdtm {
+        /// The file; not empty.
+        file: String,
+    },
+    /// SITE MD5: tell the MD5 sum of a file; of no RFC.
+    Md5 {
+        /// The file; not empty.
+        file: String,
+    },
+    /// SITE with any other name (RFC 959, section 4.1.3).
+    Site {
+        /// The name, its ASCII letters raised; it may be empty.
+        command: String,
+        /// What stands behind the name; it may be empty.
+        arguments: String,
+    },
+    /// A verb of no other variant.
+    Other {
+        /// The verb, its ASCII letters raised; it may be empty.
+        command_name: String,
+        /// What stands behind the verb; it may be empty.
+        arguments: String,
+    },
+}
+
+impl Command {
+    /// A command that means the same, or `AllocError` where memory is refused, which leaves this one as it is.
+    pub fn clone(&self, alloc: Global) -> Result<Command, AllocError>
+        ensures { IfOk result (λ command. command_of command ≡ command_of self.now) }
+    {
+        Ok(match self {
+            Command::User { username } => Command::User {
+                username: username.clone()?,
+            },
+            Command::Pass { password } => Command::Pass {
+                password: password.clone()?,
+            },
+            Command::Acct { account } => Command::Acct {
+                account: account.clone()?,
+            },
+            Command::Syst => Command::Syst,
+            Command::Stat { path } => Command::Stat {
+                path: bytes_again(path)?,
+            },
+            Command::TypeCode => Command::TypeCode,
+            Command::Stru { structure } => Command::Stru {
+                structure: structure.clone()?,
+            },
+            Command::Mode { mode } => Command::Mode {
+                mode: mode.clone()?,
+            },
+            Command::Help => Command::Help,
+            Command::Noop => Command::Noop,
+            Command::Pasv => Command::Pasv,
+            Command::Epsv => Command::Epsv,
+            Command::Port { addr } => Command::Port {
+                addr: text_again(alloc, addr)?,
+            },
+            Command::Retr { path } => Command::Retr {
+                path: text_again(alloc, path)?,
+            },
+            Command::Stor { path } => Command::Stor {
+                path: text_again(alloc, path)?,
+            },
+            Command::Appe { path } => Command::Appe {
+                path: text_again(alloc, path)?,
+            },
+            Command::List { options, path } => Command::List {
+                options: path_again(alloc, options)?,
+                path: path_again(alloc, path)?,
+            },
+            Command::Nlst { path } => Command::Nlst {
+                path: path_again(alloc, path)?,
+            },
+            Command::Mlst { path } => Command::Mlst {
+                path: path_again(alloc, path)?,
+            },
+            Command::Mlsd { path } => Command::Mlsd {
+                path: path_again(alloc, path)?,
+            },
+            Command::Feat => Command::Feat,
+            Command::Pwd => Command::Pwd,
+            Command::Cwd { path } => Command::Cwd {
+                path: text_again(alloc, path)?,
+            },
+            Command::Cdup => Command::Cdup,
+            Command::Opts { option } => Command::Opts {
+                option: option.clone()?,
+            },
+            Command::Dele { path } => Command::Dele {
+                path: text_again(alloc, path)?,
+            },
+            Command::Rmd { path } => Command::Rmd {
+                path: text_again(alloc, path)?,
+            },
+            Command::Quit => Command::Quit,
+            Command::Mkd { path } => Command::Mkd {
+                path: text_again(alloc, path)?,
+            },
+            Command::Allo {} => Command::Allo {},
+            Command::Abor => Command::Abor,
+            Command::Stou => Command::Stou,
+            Command::Rnfr { file } => Command::Rnfr {
+                file: text_again(alloc, file)?,
+            },
+            Command::Rnto { file } => Command::Rnto {
+                file: text_again(alloc, file)?,
+            },
+            Command::Auth { protocol } => Command::Auth {
+                protocol: protocol.clone()?,
+            },
+            Command::Ccc => Command::Ccc,
+            Command::Pbsz {} => Command::Pbsz {},
+            Command::Prot { param } => Command::Prot {
+                param: param.clone()?,
+            },
+            Command::Size { file } => Command::Size {
+                file: text_again(alloc, file)?,
+            },
+            Command::Rest { offset } => Command::Rest {
+                offset: *offset,
+            },
+            Command::Mdtm { file } => Command::Mdtm {
+                file: text_again(alloc, file)?,
+            },
+            Command::Md5 { file } => Command::Md5 {
+                file: text_again(alloc, file)?,
+            },
+            Command::Site { command, arguments } => Command::Site {
+                command: text_again(alloc, command)?,
+                arguments: text_again(alloc, arguments)?,
+            },
+            Command::Other { command_name, arguments } => Command::Other {
+                command_name: text_again(alloc, command_name)?,
+                arguments: text_again(alloc, arguments)?,
+            },
+        })
+    }
+}
+
+/// The same text.
+fn text_again(alloc: Global, text: &String) -> Result<String, AllocError>
+    ensures { IfOk result (λ again. string_bytes again ≡ string_bytes text.now) }
+{
+    String::from_str(alloc, text.as_str())
+}
+
+/// The same text, if there is one.
+fn path_again(alloc: Global, path: &Option<String>) -> Result<Option<String>, AllocError>
+    ensures { IfOk result (λ again. option_map string_bytes again ≡ option_map string_bytes path.now) }
+{
+    match path {
+        None => Ok(None),
+        Some(path) => Ok(Some(text_again(alloc, path)?)),
+    }
+}
+
+/// The same bytes, if there are any.
+fn bytes_again(bytes: &Option<Bytes>) -> Result<Option<Bytes>, AllocError>
+    ensures { IfOk result (λ again. again ≡ bytes.now) }
+{
+    match bytes {
+        None => Ok(None),
+        Some(bytes) => Ok(Some(bytes.clone()?)),
+    }
 }
 
 /// `==` of commands is equality of what they mean.

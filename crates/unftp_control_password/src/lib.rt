@@ -1,0 +1,99 @@
+//! A password that no printed form shows.
+#![tactic(auto)]
+
+ghost use Rattle.std.specs.Prelude.{◌≡◌, ◌↔◌, ℕ, List, IsTrue, IfOk};
+
+use bytes::Bytes;
+use std::alloc::AllocError;
+use std::convert::AsSlice;
+use std::fmt;
+use std::marker::Model;
+
+#[cfg(test)]
+mod tests;
+
+/// A password as the bytes that the client sent (RFC 959, section 4.1.1), in no given encoding. Contracts see these bytes; what
+/// is printed of it is the same for all passwords, and tells neither bytes nor length. It is not wiped when it is dropped, and
+/// `==` may take longer for passwords that are alike at their beginning.
+#[derive(Drop)]
+pub struct Password {
+    bytes: Bytes,
+}
+
+impl Model for Password {
+    ghost use Rattle.std.specs.Prelude.{ℕ, List};
+
+    ghost Value = { List ℕ };
+
+    ghost view = { λ password. password.bytes };
+}
+
+impl Password {
+    /// Holds these bytes, and takes no memory.
+    pub fn new(bytes: Bytes) -> Password
+        ensures { result ≡ bytes }
+    {
+        Password { bytes }
+    }
+
+    /// Its bytes.
+    pub fn as_ref(&self) -> &[u8]
+        ensures { result.now ≡ self.now }
+    {
+        self.bytes.as_slice()
+    }
+
+    /// An equal password, or `AllocError` where memory is refused, which leaves this one as it is.
+    pub fn clone(&self) -> Result<Password, AllocError>
+        ensures { IfOk result (λ password. password ≡ self.now) }
+    {
+        Ok(Password {
+            bytes: self.bytes.clone()?,
+        })
+    }
+}
+
+impl AsSlice<u8> for Password {
+    ghost items = { λ password. password };
+
+    fn as_slice(&self) -> &[u8] {
+        self.as_ref()
+    }
+}
+
+/// Equality of the bytes.
+impl PartialEq for Password {
+    ghost use Rattle.std.specs.Prelude.{nat_eq};
+    ghost use Rattle.std.specs.Cmp.{partial_equiv_from_equiv};
+    ghost use Rattle.std.specs.Cmp.Lexicographic.{nat_list_eq_equiv, pointwise};
+
+    ghost eq = { pointwise nat_eq };
+
+    ghost laws = { partial_equiv_from_equiv nat_list_eq_equiv };
+
+    fn eq(&self, other: &Self) -> bool {
+        self.as_ref() == other.as_ref()
+    }
+}
+
+impl Eq for Password {
+    ghost use Rattle.std.specs.Cmp.Lexicographic.{nat_list_eq_equiv};
+
+    ghost laws = { nat_list_eq_equiv };
+}
+
+/// The same text for all passwords.
+impl fmt::Debug for Password {
+    ghost use Rattle.std.specs.Prelude.{Some, codes};
+
+    ghost debug_output = { λ _. Some (codes "Password { bytes: ******* }") };
+
+    fn fmt<W: fmt::Write>(&self, f: &mut fmt::Formatter<W>) -> fmt::Result {
+        f.write_str("Password { bytes: ******* }")
+    }
+}
+
+/// `==` of passwords is equality of their bytes.
+pub fn same_passwords()
+    ensures { (a b : List ℕ) → IsTrue (⟦<Password as PartialEq>⟧.eq a b) ↔ (a ≡ b) }
+{}

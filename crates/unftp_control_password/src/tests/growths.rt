@@ -1,0 +1,21 @@
+//! Tests that hold whichever growth of memory is refused: `tools/growths` refuses each in turn.
+use super::Password;
+use bytes::Bytes;
+use std::test::Fail;
+
+#[test]
+fn a_refused_clone_leaves_the_password(rt: HostRuntime) -> Result<(), Fail> {
+    let Ok(bytes) = Bytes::copy_from_slice(rt.alloc(), b"supersecret") else {
+        return Ok(());
+    };
+    let password = Password::new(bytes);
+    let copy = match password.clone() {
+        Ok(copy) => copy,
+        Err(_) => {
+            assert_eq!(rt; password.as_ref(), b"supersecret".as_slice());
+            password.clone()?
+        }
+    };
+    assert!(rt; copy == password);
+    Ok(())
+}
