@@ -9,15 +9,19 @@ use Rattle.unftp_control.specs.Bytes.{Bytes}
 use Rattle.unftp_control.specs.Verbs.{verb_of}
 use Rattle.unftp_control.specs.FtpCommand.{Answer, Noop, InvalidUtf8}
 use Rattle.unftp_control.specs.FtpReply.{encoded, CodeAndMsg}
-use Rattle.unftp_control.specs.Events.{FtpEvent, Command, event_of}
+use Rattle.unftp_control.specs.Events.{FtpEvent, Command, event_of, OutOfMemory}
 use Rattle.unftp_control.specs.Outcome.{outcome}
-use Rattle.unftp_control.specs.SoFar.{if_read, outcome_so_far}
 use Rattle.unftp_control.specs.Codec.{Codec}
 use Rattle.unftp_control.specs.LineFeed.{line_feed_from}
 use Rattle.unftp_control.specs.Decoding.{Decoded, Decodes, FindsNone, AnswersLine, IsStarved, event_told}
 use Rattle.unftp_control.specs.CommandMeaning.{command_of}
 use denote.Enum.Bare.{sameb}
-use Rattle.unftp_control.specs.contracts.command.Command.{the_type}
+use Rattle.unftp_control_command.specs.contracts.CommandPartialEq.TheImpl.{ghosts}
+use Rattle.unftp_control.specs.contracts.error.ControlChanErrorKind.{the_type as kind_type}
+use Rattle.unftp_control.specs.declared.error.ControlChanErrorKind.{ControlChanErrorKind}
+use Rattle.unftp_control.specs.declared.error.ControlChanErrorKind.TheVariants as kind
+use Rattle.unftp_control.specs.ErrorMeaning.{kind_meant}
+use Rattle.std.proofs.lemmas.Bool.{true≢false}
 use Rattle.unftp_control.specs.declared.command.Command.{Command as RustCommand}
 use Rattle.unftp_control.specs.declared.command.Command.TheVariants as rust
 use Rattle.unftp_control_codecs.proofs.LineFeedLemmas.{line_feed_at}
@@ -41,7 +45,7 @@ encoded-not_implemented = refl
 record TellsFirst (codec : Codec) (before after : Bytes) (event : FtpEvent) : Type 0 where
   pub line : Bytes
   pub first : lines_of before ≡ line ∷ lines_of after
-  pub meaning : event ≡ event_of (outcome_so_far line)
+  pub meaning : event ≡ event_of (outcome line)
   pub shorter : length after < length before
   pub place : codec.place ≡ 0
 
@@ -60,25 +64,17 @@ response_for-event_of (Err refusal) = refl
 response_for-event_of (Ok Noop) = refl
 response_for-event_of (Ok _) = refl
 
-response_to-if_read : (answer : Answer) → response_to (if_read answer) ≡ response_to answer
-response_to-if_read (Err refusal) = refl
-response_to-if_read (Ok Noop) = refl
-response_to-if_read (Ok _) = refl
+response_to-event : (event : FtpEvent) (line : Bytes) → event ≡ event_of (outcome line) → response_for event ≡ response_to (outcome line)
+response_to-event event line told = ap response_for told ∙ response_for-event_of (outcome line)
 
--- a line that is not read yet is no NOOP
-response_to-so_far : (line : Bytes) → response_to (outcome_so_far line) ≡ response_to (outcome line)
-response_to-so_far line = by_test (cases_Bool (is_utf8 (verb_of line)))
-  where
-    by_test : (is_utf8 (verb_of line) ≡ true) ⊎ (is_utf8 (verb_of line) ≡ false) → response_to (outcome_so_far line) ≡ response_to (outcome line)
-    by_test (inl e) = ap (λ b. response_to (cond b (if_read (outcome line)) (Err InvalidUtf8))) e ∙ response_to-if_read (outcome line)
-    by_test (inr e) = rw e
-
-response_to-event : (event : FtpEvent) (line : Bytes) → event ≡ event_of (outcome_so_far line) → response_for event ≡ response_to (outcome line)
-response_to-event event line told = ap response_for told ∙ response_for-event_of (outcome_so_far line) ∙ response_to-so_far line
-
-pub response_for-command : (command : RustCommand) → response_for (Command (command_of command)) ≡ cond (sameb the_type command rust.Noop) done not_implemented
+pub response_for-command : (command : RustCommand) → response_for (Command (command_of command)) ≡ cond (ghosts.eq command rust.Noop) done not_implemented
 response_for-command rust.Noop = refl
 response_for-command _ = refl
+
+pub not_starved : (k : ControlChanErrorKind) (b : Bool) → b ≡ sameb kind_type k kind.OutOfMemory → b ≡ false → kind_meant k ≡ OutOfMemory → ⊥
+not_starved kind.OutOfMemory b same is_false starved = true≢false (sym same ∙ is_false)
+not_starved kind.Utf8Error b same is_false starved = cc
+not_starved kind.InvalidCommand b same is_false starved = cc
 
 -- What the codec at place 0 tells of its buffer.
 pub no_line_decoded : (old new : Codec) (before after : Bytes) → old.place ≡ 0 → Decodes old new before after (Ok None) → lines_of before ≡ []
@@ -100,7 +96,7 @@ line_decoded old new before after answer event at_front decodes told fed = by_pl
         record {
           line = take (k + 1) before;
           first = lines_of-line_feed_from before k at ∙ ap (λ rest. take (k + 1) before ∷ lines_of rest) (sym d.1.cut);
-          meaning = same_Some event (event_of (outcome_so_far (take (k + 1) before))) (sym told ∙ d.0);
+          meaning = same_Some event (event_of (outcome (take (k + 1) before))) (sym told ∙ d.0);
           shorter = omega (arith, (line_feed_at before 0 k at).1, ap length d.1.cut, length-drop (k + 1) before);
           place = d.1.place;
         }

@@ -3,7 +3,7 @@
 
 ghost use Rattle.std.specs.Prelude.{◌≡◌, ◌++◌, [], take, vec_len, IfOk, IfErr, IfSome, OnOk, OnErr, MatchBool, if◌then◌else◌};
 ghost use Rattle.std.specs.Io.KnownBytes.{Appends};
-ghost use Rattle.unftp_control.specs.Events.{out_of_memory};
+ghost use Rattle.unftp_control.specs.Events.{OutOfMemory};
 ghost use Rattle.unftp_control.specs.FtpReply.{encoded};
 ghost use Rattle.unftp_control.specs.Lines.{lines_of};
 ghost use Rattle.unftp_control.specs.ErrorMeaning.{fault_of};
@@ -19,7 +19,7 @@ use std::io::{Read, Write};
 use std::process::ExitCode;
 use unftp_control::codecs::FtpCodec;
 use unftp_control::command::Command;
-use unftp_control::error::ControlChanError;
+use unftp_control::error::{ControlChanError, ControlChanErrorKind};
 use unftp_control::reply::{Reply, ReplyCode};
 
 /// Appends to `out` the response to each line of the input, in order: `200 OK\r\n` where the line is NOOP, else
@@ -29,7 +29,7 @@ use unftp_control::reply::{Reply, ReplyCode};
 pub fn answer(alloc: Global, input: &[u8], out: &mut Vec<u8>) -> Result<(), ControlChanError>
     ensures ok { OnOk result (out.new.items ≡ out.old.items ++ responses_to input.now) }
     ensures err { OnErr result (out.new.items ≡ out.old.items) }
-    ensures memory { IfErr result (λ error. fault_of error ≡ out_of_memory) }
+    ensures memory { IfErr result (λ error. (fault_of error).kind ≡ OutOfMemory) }
 {
     let length = out.len();
     let answered = append_responses(alloc, input, out);
@@ -43,7 +43,7 @@ pub fn answer(alloc: Global, input: &[u8], out: &mut Vec<u8>) -> Result<(), Cont
 fn append_responses(alloc: Global, input: &[u8], out: &mut Vec<u8>) -> Result<(), ControlChanError>
     ensures ok { OnOk result (out.new.items ≡ out.old.items ++ responses_to input.now) }
     ensures kept { take (vec_len out.old) out.new.items ≡ out.old.items }
-    ensures memory { IfErr result (λ error. fault_of error ≡ out_of_memory) }
+    ensures memory { IfErr result (λ error. (fault_of error).kind ≡ OutOfMemory) }
 {
     let mut codec = FtpCodec::new();
     let mut lines = Vec::from_slice(alloc, input)?;
@@ -63,12 +63,21 @@ fn append_response(
         (RespondsToFirst lines.old.items lines.new.items out.old.items out.new.items × (codec.new.place ≡ 0))
         ((lines_of lines.old.items ≡ []) × (out.new.items ≡ out.old.items))) }
     ensures err { OnErr result (out.new.items ≡ out.old.items) }
-    ensures memory { IfErr result (λ error. fault_of error ≡ out_of_memory) }
+    ensures memory { IfErr result (λ error. (fault_of error).kind ≡ OutOfMemory) }
 {
-    let is_noop = match codec.decode(lines) {
+    let is_noop = match codec.decode(alloc, lines) {
         Ok(None) => return Ok(false),
-        Ok(Some(command)) => command == Command::Noop,
-        Err(_) => false,
+        Ok(Some(command)) => {
+            let is_noop = command == Command::Noop;
+            drop(command);
+            is_noop
+        }
+        Err(error) => {
+            if *error.kind() == ControlChanErrorKind::OutOfMemory {
+                return Err(error);
+            }
+            false
+        }
     };
     let reply = response(alloc, is_noop)?;
     codec.encode(reply, out)?;
@@ -78,7 +87,7 @@ fn append_response(
 /// The response to NOOP, or to any other line.
 fn response(alloc: Global, is_noop: bool) -> Result<Reply, ControlChanError>
     ensures ok { IfOk result (λ reply. encoded (reply_of reply) ≡ (if is_noop then done else not_implemented)) }
-    ensures memory { IfErr result (λ error. fault_of error ≡ out_of_memory) }
+    ensures memory { IfErr result (λ error. (fault_of error).kind ≡ OutOfMemory) }
 {
     if is_noop {
         Reply::new(alloc, ReplyCode::CommandOkay, "OK")

@@ -6,7 +6,7 @@ use Rattle.unftp_control_command.specs.declared.Command.{Command as RustCommand}
 use Rattle.unftp_control_command.specs.CommandMeaning.{command_of}
 use Rattle.unftp_control_error.specs.ErrorParts.{Parts}
 use Rattle.unftp_control_error.specs.ErrorMeaning.{fault_of}
-use Rattle.unftp_control_line_parser.specs.SoFar.{outcome_so_far}
+use Rattle.unftp_control_defs.specs.Outcome.{outcome}
 use Rattle.unftp_control_codecs.specs.Codec.{Codec}
 use Rattle.unftp_control_codecs.specs.LineFeed.{line_feed_from}
 
@@ -45,7 +45,7 @@ pub record KeepsLine (k : ℕ) (old new : Codec) (before after : Bytes) : Type 0
 -- the line that ends at k is answered
 abbrev pub AnswersLine : ℕ → Codec → Codec → Bytes → Bytes → Decoded → Type 0
 AnswersLine k old new before after answer =
-    ((event_told answer ≡ Some (event_of (outcome_so_far (take (k + 1) before)))) × CutsLine k old new before after)
+    ((event_told answer ≡ Some (event_of (outcome (take (k + 1) before)))) × CutsLine k old new before after)
     ⊎ (IsStarved answer × KeepsLine k old new before after)
 
 abbrev pub Decodes : Codec → Codec → Bytes → Bytes → Decoded → Type 0

@@ -1,7 +1,7 @@
 //! Cuts lines from the front of a buffer, and appends replies to the end of one.
 #![tactic(auto)]
 
-ghost use Rattle.std.specs.Prelude.{◌≡◌, ◌+◌, ◌≤◌, ◌++◌, take, vec_len, IsOk, OnOk, OnErr, IfErr, if◌then◌else◌, length, ◌==◌, decimal};
+ghost use Rattle.std.specs.Prelude.{◌≡◌, ◌↔◌, ◌+◌, ◌≤◌, IsTrue, ◌++◌, take, vec_len, IsOk, OnOk, OnErr, IfErr, if◌then◌else◌, length, ◌==◌, decimal};
 ghost use Rattle.unftp_control_defs.specs.Bytes.{crlf};
 ghost use Rattle.unftp_control_defs.specs.Events.{out_of_memory};
 ghost use Rattle.unftp_control_defs.specs.FtpReply.{Nothing, encoded, after_space};
@@ -12,11 +12,11 @@ ghost use Rattle.unftp_control_codecs.specs.Decoding.{Decodes, IsStarved};
 mod scan;
 
 use crate::scan::{Scan, Tests};
-use std::alloc::AllocError;
+use std::alloc::{AllocError, Global};
 use std::marker::Model;
 use unftp_control_command::Command;
 use unftp_control_error::ControlChanError;
-use unftp_control_line_parser::parse;
+use unftp_control_line_parser::{ParseError, ParseErrorKind, parse};
 use unftp_control_reply::Reply;
 
 /// Decodes the commands of a control connection, and encodes its replies.
@@ -62,13 +62,16 @@ impl FtpCodec {
     /// before the place are not tested again.
     ///
     /// A line that is no command is refused, by the parser's error as source: it leaves `buf` as any other line does, and
-    /// what follows it stays.
-    pub fn decode(&mut self, buf: &mut Vec<u8>) -> Result<Option<Command>, ControlChanError>
+    /// what follows it stays. Where memory is refused, with the kind `OutOfMemory`, `buf` and the place are as before.
+    pub fn decode(
+        &mut self,
+        alloc: Global,
+        buf: &mut Vec<u8>,
+    ) -> Result<Option<Command>, ControlChanError>
         requires { self.old.place ≤ vec_len buf.old }
         ensures decodes { Decodes self.old self.new buf.old.items buf.new.items result }
-        ensures memory { ¬ IsStarved result }
         ensures within { self.new.place ≤ vec_len buf.new }
-        ensures counted { self.new.tests + self.old.place + vec_len buf.new ≡ self.old.tests + self.new.place + vec_len buf.old }
+        ensures counted { ¬ IsStarved result → self.new.tests + self.old.place + vec_len buf.new ≡ self.old.tests + self.new.place + vec_len buf.old }
     {
         let mut scan = Scan::over(buf.as_slice(), &mut self.tests);
         let Some(end) = scan.find_line_feed(self.place) else {
@@ -76,9 +79,11 @@ impl FtpCodec {
             return Ok(None);
         };
         let (line, _) = buf.as_slice().split_at(end + 1);
-        let answer = parse(line);
-        drop(buf.drain(..end + 1));
-        self.place = 0;
+        let answer = parse(alloc, line);
+        if !is_starved(&answer) {
+            drop(buf.drain(..end + 1));
+            self.place = 0;
+        }
         Ok(Some(answer?))
     }
 
@@ -98,6 +103,16 @@ impl FtpCodec {
             return Err(refused.into());
         }
         Ok(())
+    }
+}
+
+/// Whether memory was refused.
+fn is_starved(answer: &Result<Command, ParseError>) -> bool
+    ensures { IsTrue result ↔ (answer.now ≡ Err ParseErrorKind.OutOfMemory) }
+{
+    match answer {
+        Ok(_) => false,
+        Err(error) => *error.kind() == ParseErrorKind::OutOfMemory,
     }
 }
 

@@ -1,3 +1,3 @@
 pub mod Told
-pub mod SoFar
 pub mod Named
+pub mod Values

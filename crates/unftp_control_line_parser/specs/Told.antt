@@ -1,5 +1,5 @@
 -- What an answer of the parser says of a line.
-use Rattle.std.specs.Prelude.{Option, Some, None, option_map, Result, Ok, Err}
+use Rattle.std.specs.Prelude.{◌≡◌, ⊤, Option, Some, None, Result, Ok, Err}
 use Rattle.unftp_control_defs.specs.FtpCommand.{Refusal, InvalidCommand, InvalidUtf8, InvalidEol, Answer}
 use Rattle.unftp_control_command.specs.declared.Command.{Command}
 use Rattle.unftp_control_command.specs.CommandMeaning.{command_of}
@@ -13,7 +13,14 @@ refusal_of kind.InvalidUtf8 = Some InvalidUtf8
 refusal_of kind.InvalidEol = Some InvalidEol
 refusal_of kind.OutOfMemory = None
 
--- what is told of the line; want of memory tells nothing of it
-abbrev pub answer_of : Result Command ParseErrorKind → Option Answer
-answer_of (Ok command) = Some (Ok (command_of command))
-answer_of (Err kind) = option_map (λ refusal. Err refusal) (refusal_of kind)
+-- the answer is that refusal; want of memory refuses no line
+abbrev pub Refuses : Answer → ParseErrorKind → Type 0
+Refuses answer kind.InvalidCommand = answer ≡ Err InvalidCommand
+Refuses answer kind.InvalidUtf8 = answer ≡ Err InvalidUtf8
+Refuses answer kind.InvalidEol = answer ≡ Err InvalidEol
+Refuses answer kind.OutOfMemory = ⊤
+
+-- A call tells what a line means, unless memory is refused.
+abbrev pub Tells : Answer → Result Command ParseErrorKind → Type 0
+Tells answer (Ok command) = answer ≡ Ok (command_of command)
+Tells answer (Err kind) = Refuses answer kind

@@ -3,6 +3,9 @@
 
 mod error;
 mod parser;
+mod rules;
+mod value;
+mod verb;
 
 pub use error::{ParseError, ParseErrorKind, Result};
 pub use parser::parse;

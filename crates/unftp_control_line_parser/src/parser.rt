@@ -1,95 +1,73 @@
 //! A line's verb and parameter, and the command that they are.
-ghost use Rattle.std.specs.Prelude.{◌≡◌, ◌↔◌, IsTrue, Some, [], bytes_eq, position};
-ghost use Rattle.unftp_control_defs.specs.Verbs.{is_separator, verb_of, parameter_of, upper};
-ghost use Rattle.unftp_control_defs.specs.Values.{value_of};
-ghost use Rattle.unftp_control_line_parser.specs.Told.{answer_of};
-ghost use Rattle.unftp_control_line_parser.specs.SoFar.{outcome_so_far};
-ghost use Rattle.unftp_control_line_parser.specs.Named.{NamesCommand};
+ghost use Rattle.std.specs.Prelude.{◌≡◌, ◌≤◌, length};
+ghost use Rattle.std.specs.List.{position_or_len};
+ghost use Rattle.unftp_control_defs.specs.Verbs.{is_separator, verb_of, parameter_of};
+ghost use Rattle.unftp_control_defs.specs.Outcome.{outcome};
+ghost use Rattle.unftp_control_line_parser.specs.Told.{Tells};
 
 use crate::error::{ParseErrorKind, Result};
-use std::str::from_utf8;
+use crate::rules::{as_text, by_verb, other};
+use crate::verb::verb_named;
+use std::alloc::Global;
+use std::result;
 use unftp_control_command::Command;
 
-/// Where the verb ends, if a byte ends it.
-fn first_separator(line: &[u8]) -> Option<usize>
-    ensures { result ≡ position is_separator line.now }
+/// Whether the byte ends a verb.
+fn is_separator(byte: u8) -> bool
+    ensures { result ≡ is_separator byte }
 {
-    line.iter()
-        .position(|byte| *byte == b' ' || *byte == b'\r' || *byte == b'\n')
+    byte == b' ' || byte == b'\r' || byte == b'\n'
+}
+
+/// The length of the verb.
+fn verb_len(line: &[u8]) -> usize
+    ensures place { result ≡ position_or_len is_separator line.now }
+    ensures within { result ≤ length line.now }
+{
+    for end in 0..line.len() {
+        if is_separator(line[end]) {
+            return end;
+        }
+    }
+    line.len()
 }
 
 /// The verb, and the parameter bytes behind the one byte that ends it.
-fn split(line: &[u8]) -> (&[u8], &[u8])
+pub fn split<'a>(line: &'a [u8]) -> (&'a [u8], &'a [u8])
     ensures verb { result.0.now ≡ verb_of line.now }
     ensures parameter { result.1.now ≡ parameter_of line.now }
 {
-    match first_separator(line) {
-        Some(end) => {
-            let (verb, _) = line.split_at(end);
-            let (_, parameter) = line.split_at(end + 1);
-            (verb, parameter)
-        }
-        None => line.split_at(line.len()),
+    let end = verb_len(line);
+    let (verb, rest) = line.split_at(end);
+    if rest.is_empty() {
+        return (verb, rest);
     }
+    let (_, parameter) = line.split_at(end + 1);
+    (verb, parameter)
 }
 
-/// Whether the text is the word, in either case of its letters.
-fn is_word(text: &str, word: &str) -> bool
-    requires { upper word.now ≡ word.now }
-    ensures { result ≡ bytes_eq (upper text.now) word.now }
-{
-    text.eq_ignore_ascii_case(word)
-}
-
-/// The command of a verb that stands alone.
-fn command_named(verb: &str) -> Option<Command>
-    ensures { NamesCommand (upper verb.now) result }
-{
-    if is_word(verb, "ABOR") {
-        Some(Command::Abor)
-    } else if is_word(verb, "BYE") {
-        Some(Command::Quit)
-    } else if is_word(verb, "CCC") {
-        Some(Command::Ccc)
-    } else if is_word(verb, "CDUP") {
-        Some(Command::Cdup)
-    } else if is_word(verb, "FEAT") {
-        Some(Command::Feat)
-    } else if is_word(verb, "NOOP") {
-        Some(Command::Noop)
-    } else if is_word(verb, "PASV") {
-        Some(Command::Pasv)
-    } else if is_word(verb, "PWD") {
-        Some(Command::Pwd)
-    } else if is_word(verb, "QUIT") {
-        Some(Command::Quit)
-    } else if is_word(verb, "STOU") {
-        Some(Command::Stou)
-    } else if is_word(verb, "XPWD") {
-        Some(Command::Pwd)
-    } else {
-        None
-    }
-}
-
-/// Whether the parameter bytes have the empty value.
-fn is_valueless(parameter: &[u8]) -> bool
-    ensures { IsTrue result ↔ (value_of parameter.now ≡ Some []) }
-{
-    matches!(parameter, [] | [b'\n', ..] | [b'\r', b'\n'])
-}
-
-/// The command that a line is. The line may have any bytes, with its line feed or without one; nothing is kept of it, and
-/// no memory is taken.
+/// The command that a line is (RFC 959, section 5.3). The line may have any bytes, with its line feed or without one; each text of
+/// the command is new memory, and nothing else is kept of the line.
 ///
-/// So far the commands that stand alone are read: a line that is one of them is answered by that command (RFC 959,
-/// section 5.3). Any other line is refused: with `InvalidUtf8` where its verb is not UTF-8, else with `InvalidCommand`.
-pub fn parse(line: &[u8]) -> Result<Command>
-    ensures { answer_of result ≡ Some (outcome_so_far line.now) }
+/// It is refused with `InvalidUtf8` where the verb, or the name of SITE, is not UTF-8; else with `InvalidEol` where the parameter
+/// has no end or a bare carriage return (RFC 854); else with `InvalidCommand` where the verb doesn't take the parameter, or with
+/// `InvalidUtf8` where AUTH's is not UTF-8; and with `OutOfMemory` where memory is refused.
+pub fn parse(alloc: Global, line: &[u8]) -> Result<Command>
+    ensures { Tells (outcome line.now) result }
+{
+    Ok(command_in(alloc, line)?)
+}
+
+/// The same, with the kind of the refusal.
+fn command_in(alloc: Global, line: &[u8]) -> result::Result<Command, ParseErrorKind>
+    ensures { Tells (outcome line.now) result }
 {
     let (verb, parameter) = split(line);
-    match command_named(from_utf8(verb)?) {
-        Some(command) if is_valueless(parameter) => Ok(command),
-        _ => Err(ParseErrorKind::InvalidCommand.into()),
+    match verb_named(verb) {
+        Some(verb) => by_verb(alloc, verb, parameter),
+        None => match as_text(verb) {
+            Some(name) => other(alloc, name, parameter),
+            None => Err(ParseErrorKind::InvalidUtf8),
+        },
     }
 }

@@ -1,0 +1,166 @@
+//! The value of a parameter.
+ghost use Rattle.std.specs.Prelude.{◌≡◌};
+ghost use Rattle.unftp_control_defs.specs.Values.{value_of, later_value, Fresh};
+ghost use Rattle.unftp_control_line_parser.specs.Values.{begins_escaped, IsPlainEnd, IsFreshEnd, TellsValue, TellsRun, TellsWhole, TellsJoined, value_bytes};
+
+use crate::error::ParseErrorKind;
+use memchr::memchr2;
+use std::alloc::Global;
+
+const NUL: u8 = 0;
+
+const LF: u8 = b'\n';
+
+const CR: u8 = b'\r';
+
+/// A value: bytes of the line where it has no CR NUL, else bytes of its own.
+#[derive(Drop)]
+pub enum Value<'a> {
+    Borrowed(&'a [u8]),
+    Owned(Vec<u8>),
+}
+
+impl<'a> Value<'a> {
+    pub fn as_slice(&self) -> &[u8]
+        ensures { result.now ≡ value_bytes self.now }
+    {
+        match self {
+            Value::Borrowed(bytes) => bytes,
+            Value::Owned(bytes) => bytes.as_slice(),
+        }
+    }
+}
+
+/// What bytes begin with, directly after the first unit or a CR NUL.
+#[derive(Drop)]
+enum Run<'a> {
+    /// All of the value.
+    Last(&'a [u8]),
+    /// A part of the value whose last byte is a CR that a NUL follows, and what stands behind the NUL.
+    Escaped(&'a [u8], &'a [u8]),
+    BadEnd,
+}
+
+/// How many bytes, behind a byte of the value, stand in front of the next CR or LF.
+fn plain_len(bytes: &[u8]) -> usize
+    ensures { IsPlainEnd bytes.now result }
+{
+    match memchr2(CR, LF, bytes) {
+        Some(end) => end,
+        None => bytes.len(),
+    }
+}
+
+/// The same directly after the first unit or a CR NUL, where an LF may stand first.
+fn fresh_len(bytes: &[u8]) -> usize
+    ensures { IsFreshEnd bytes.now result }
+{
+    if bytes.is_empty() || bytes[0] == CR {
+        return 0;
+    }
+    let (_, rest) = bytes.split_at(1);
+    1 + plain_len(rest)
+}
+
+/// The bytes up to the next end, CR NUL or bad end.
+fn front_run<'a>(bytes: &'a [u8]) -> Run<'a>
+    ensures { TellsRun bytes.now result }
+{
+    let end = fresh_len(bytes);
+    if end == bytes.len() {
+        return Run::BadEnd;
+    }
+    let (part, _) = bytes.split_at(end);
+    if bytes[end] == LF {
+        return Run::Last(part);
+    }
+    if end + 1 == bytes.len() {
+        return Run::BadEnd;
+    }
+    if bytes[end + 1] == LF {
+        return Run::Last(part);
+    }
+    if bytes[end + 1] != NUL {
+        return Run::BadEnd;
+    }
+    let (taken, _) = bytes.split_at(end + 1);
+    let (_, rest) = bytes.split_at(end + 2);
+    Run::Escaped(taken, rest)
+}
+
+/// The value that begins with these bytes and goes on, directly after a CR NUL, with the rest.
+fn joined(front: Vec<u8>, after: &[u8]) -> Result<Vec<u8>, ParseErrorKind>
+    ensures { TellsJoined front.items (later_value Fresh after.now) result }
+{
+    let mut joined = front;
+    let mut rest = after;
+    loop {
+        match front_run(rest) {
+            Run::Last(part) => {
+                return match joined.extend_from_slice(part) {
+                    Ok(()) => Ok(joined),
+                    Err(_) => Err(ParseErrorKind::OutOfMemory),
+                };
+            }
+            Run::Escaped(part, further) => {
+                if joined.extend_from_slice(part).is_err() {
+                    return Err(ParseErrorKind::OutOfMemory);
+                }
+                rest = further;
+            }
+            Run::BadEnd => return Err(ParseErrorKind::InvalidEol),
+        }
+    }
+}
+
+/// The value that begins with these bytes and goes on, directly after a CR NUL, with the rest.
+fn escaped<'a>(alloc: Global, front: &[u8], after: &[u8]) -> Result<Value<'a>, ParseErrorKind>
+    ensures { TellsWhole front.now (later_value Fresh after.now) result }
+{
+    match Vec::from_slice(alloc, front) {
+        Ok(front) => match joined(front, after) {
+            Ok(bytes) => Ok(Value::Owned(bytes)),
+            Err(kind) => Err(kind),
+        },
+        Err(_) => Err(ParseErrorKind::OutOfMemory),
+    }
+}
+
+/// Whether the parameter begins with CR NUL.
+fn begins_escaped(parameter: &[u8]) -> bool
+    ensures { result ≡ begins_escaped parameter.now }
+{
+    match parameter {
+        [first, second, ..] => *first == CR && *second == NUL,
+        _ => false,
+    }
+}
+
+/// The value of parameter bytes.
+pub fn parameter_value<'a>(alloc: Global, parameter: &'a [u8]) -> Result<Value<'a>, ParseErrorKind>
+    ensures { TellsValue (value_of parameter.now) result }
+{
+    let (none, _) = parameter.split_at(0);
+    if parameter.is_empty() || parameter[0] == LF {
+        return Ok(Value::Borrowed(none));
+    }
+    let (first, rest) = parameter.split_at(1);
+    if rest == b"\n".as_slice() {
+        return Ok(Value::Borrowed(if parameter[0] == CR { none } else { first }));
+    }
+    if begins_escaped(parameter) {
+        let (_, after) = parameter.split_at(2);
+        return escaped(alloc, first, after);
+    }
+    match front_run(rest) {
+        Run::Last(part) => {
+            let (value, _) = parameter.split_at(1 + part.len());
+            Ok(Value::Borrowed(value))
+        }
+        Run::Escaped(part, further) => {
+            let (front, _) = parameter.split_at(1 + part.len());
+            escaped(alloc, front, further)
+        }
+        Run::BadEnd => Err(ParseErrorKind::InvalidEol),
+    }
+}
