@@ -9,7 +9,6 @@ use crate::error::{ControlChanError, ControlChanErrorKind, Source};
 use crate::line_parser::{ParseError, ParseErrorKind, parse};
 use crate::reply::{Reply, ReplyCode};
 use std::alloc::Global;
-use std::process::Abort;
 use std::str::from_utf8;
 use std::test::Fail;
 
@@ -22,7 +21,7 @@ fn answer_line(
 ) -> Result<(), ControlChanError>
     requires { codec.old.place ≤ vec_len buf.old }
 {
-    let (code, text) = match codec.decode(buf) {
+    let (code, text) = match codec.decode(alloc, buf) {
         Ok(None) => return Ok(()),
         Ok(Some(Command::Noop)) => (ReplyCode::CommandOkay, "OK"),
         Ok(Some(_)) | Err(_) => (ReplyCode::CommandNotImplemented, "Not implemented"),
@@ -47,12 +46,154 @@ fn a_caller_answers_line_by_line(rt: HostRuntime) -> Result<(), Fail> {
     Ok(())
 }
 
-// The line is refused with this kind.
-fn assert_refused(rt: &impl Abort, line: &[u8], want: ParseErrorKind) {
-    match parse(line) {
-        Ok(command) => panic!(rt; "{command:?} at {line:?}"),
-        Err(error) => assert_eq!(rt; error.kind(), &want, "at {line:?}"),
+#[test]
+fn lines_are_answered_by_their_commands(rt: HostRuntime) -> Result<(), Fail> {
+    for (line, want) in [
+        // a value is read up to its end, and the verb in either case
+        (
+            b"USER Dolores\r\n".as_slice(),
+            "User { username: b\"Dolores\" }",
+        ),
+        (
+            b"uSeR Dolores\r\n".as_slice(),
+            "User { username: b\"Dolores\" }",
+        ),
+        (
+            b"USER Dolores\n".as_slice(),
+            "User { username: b\"Dolores\" }",
+        ),
+        (b"USER".as_slice(), "User { username: b\"\" }"),
+        (b"USER\r\n".as_slice(), "User { username: b\"\" }"),
+        (b"USER a\r\nzz".as_slice(), "User { username: b\"a\" }"),
+        (b"USER\rX\n".as_slice(), "User { username: b\"X\" }"),
+        // carriage returns and line feeds in a value
+        (b"USER \rX\n".as_slice(), "User { username: b\"\\rX\" }"),
+        (b"USER \r\0\r\n".as_slice(), "User { username: b\"\\r\" }"),
+        (b"USER \r\r\n".as_slice(), "User { username: b\"\\r\" }"),
+        (b"USER x\r\0\r\n".as_slice(), "User { username: b\"x\\r\" }"),
+        (b"USER a\n\n".as_slice(), "User { username: b\"a\\n\" }"),
+        (b"USER a\0\r\n".as_slice(), "User { username: b\"a\\0\" }"),
+        (
+            b"USER ab\r\0\r\0cd\r\n".as_slice(),
+            "User { username: b\"ab\\r\\rcd\" }",
+        ),
+        (
+            b"USER ab\r\0\0cd\n".as_slice(),
+            "User { username: b\"ab\\r\\0cd\" }",
+        ),
+        // texts
+        (b"RETR a\r\0\r\n".as_slice(), "Retr { path: \"a\\r\" }"),
+        (
+            b"RETR a\xffb\r\n".as_slice(),
+            "Retr { path: \"a\u{fffd}b\" }",
+        ),
+        (b"STAT\r\n".as_slice(), "Stat { path: None }"),
+        (b"STAT f\r\n".as_slice(), "Stat { path: Some(b\"f\") }"),
+        (b"MLSD\r\n".as_slice(), "Mlsd { path: None }"),
+        (b"NLST d\r\n".as_slice(), "Nlst { path: Some(\"d\") }"),
+        (b"XMKD d\r\n".as_slice(), "Mkd { path: \"d\" }"),
+        (b"XCWD d\r\n".as_slice(), "Cwd { path: \"d\" }"),
+        (
+            b"PORT 1,2,3,4,5,6\r\n".as_slice(),
+            "Port { addr: \"1,2,3,4,5,6\" }",
+        ),
+        // parameters that are not looked at
+        (b"SYST \rjunk\n".as_slice(), "Syst"),
+        (b"TYPE \xff\n".as_slice(), "TypeCode"),
+        (b"ALLO 1\r2".as_slice(), "Allo"),
+        // LIST
+        (
+            b"LIST -la -- -leading\r\n".as_slice(),
+            "List { options: None, path: Some(\"-leading\") }",
+        ),
+        (
+            b"LIST --  a\r\n".as_slice(),
+            "List { options: None, path: Some(\" a\") }",
+        ),
+        (
+            b"LIST -la  b\r\n".as_slice(),
+            "List { options: None, path: Some(\" b\") }",
+        ),
+        (
+            b"LIST --\r\n".as_slice(),
+            "List { options: None, path: None }",
+        ),
+        (
+            b"LIST -la\r\n".as_slice(),
+            "List { options: None, path: None }",
+        ),
+        (
+            b"LIST - x\r\n".as_slice(),
+            "List { options: None, path: Some(\"x\") }",
+        ),
+        (
+            b"LIST --- a\r\n".as_slice(),
+            "List { options: None, path: Some(\"a\") }",
+        ),
+        (
+            b"LIST -a -- --\r\n".as_slice(),
+            "List { options: None, path: Some(\"--\") }",
+        ),
+        // values of a few choices
+        (
+            b"REST 18446744073709551615\r\n".as_slice(),
+            "Rest { offset: 18446744073709551615 }",
+        ),
+        (b"REST +5\r\n".as_slice(), "Rest { offset: 5 }"),
+        (b"REST 007\r\n".as_slice(), "Rest { offset: 7 }"),
+        (b"AUTH tls\r\n".as_slice(), "Auth { protocol: Tls }"),
+        (b"AUTH ssl\r\n".as_slice(), "Auth { protocol: Ssl }"),
+        (
+            b"OPTS utf8 off\r\n".as_slice(),
+            "Opts { option: Utf8 { on: false } }",
+        ),
+        (b"PBSZ 0\r\n".as_slice(), "Pbsz"),
+        (b"PROT P\r\n".as_slice(), "Prot { param: Private }"),
+        // SITE, and verbs of no row
+        (
+            b"SITE\r\n".as_slice(),
+            "Site { command: \"\", arguments: \"\" }",
+        ),
+        (b"SITE md5 f\r\n".as_slice(), "Md5 { file: \"f\" }"),
+        (
+            b"SITE  X\r\n".as_slice(),
+            "Site { command: \"\", arguments: \"X\" }",
+        ),
+        (
+            b"SITE\rX\r\n".as_slice(),
+            "Site { command: \"X\", arguments: \"\" }",
+        ),
+        (
+            b"SITE chmod 644 f\r\n".as_slice(),
+            "Site { command: \"CHMOD\", arguments: \"644 f\" }",
+        ),
+        (
+            b"\r\n".as_slice(),
+            "Other { command_name: \"\", arguments: \"\" }",
+        ),
+        (
+            b" NOOP\r\n".as_slice(),
+            "Other { command_name: \"\", arguments: \"NOOP\" }",
+        ),
+        (
+            b"PA\xc3\x9f x\r\n".as_slice(),
+            "Other { command_name: \"PA\u{df}\", arguments: \"x\" }",
+        ),
+        (
+            b"xrmd a\r\n".as_slice(),
+            "Other { command_name: \"XRMD\", arguments: \"a\" }",
+        ),
+        (
+            b"PW\r\n".as_slice(),
+            "Other { command_name: \"PW\", arguments: \"\" }",
+        ),
+    ] {
+        let command = parse(rt.alloc(), line)?;
+        let text = format!(in rt.alloc(); "{command:?}")?;
+        assert_eq!(rt; text.as_str(), want, "at {line:?}");
+        assert!(rt; command.clone(rt.alloc())? == command);
     }
+    Ok(())
 }
 
 #[test]
@@ -63,46 +204,94 @@ fn commands_that_stand_alone_are_read_in_either_case(rt: HostRuntime) -> Result<
         (b"NOOP".as_slice(), Command::Noop),
         (b"NOOP \r\n".as_slice(), Command::Noop),
         (b"NOOP \n\r".as_slice(), Command::Noop),
-        (b"pasv\r\n".as_slice(), Command::Pasv),
-        (b"Feat\r\n".as_slice(), Command::Feat),
         (b"PWD\r\n".as_slice(), Command::Pwd),
         (b"xpwd\r\n".as_slice(), Command::Pwd),
-        (b"CDUP\r\n".as_slice(), Command::Cdup),
         (b"QUIT\n".as_slice(), Command::Quit),
         (b"bye\r\n".as_slice(), Command::Quit),
         (b"ABOR\r\n".as_slice(), Command::Abor),
-        (b"STOU\r\n".as_slice(), Command::Stou),
-        (b"CCC\r\n".as_slice(), Command::Ccc),
     ] {
-        assert_eq!(rt; parse(line)?, want, "at {line:?}");
+        assert_eq!(rt; parse(rt.alloc(), line)?, want, "at {line:?}");
     }
     Ok(())
 }
 
 #[test]
-fn other_lines_are_refused(rt: HostRuntime) {
-    for line in [
-        b"".as_slice(),
-        b"\r\n".as_slice(),
-        b"NOOP x\r\n".as_slice(),
-        b"NOOP  \r\n".as_slice(),
-        b"NOO\r\n".as_slice(),
-        b"NOOPS\r\n".as_slice(),
-        b" NOOP\r\n".as_slice(),
-        b"USER Dolores\r\n".as_slice(),
-        b"XCUP\r\n".as_slice(),
+fn lines_are_refused_for_one_reason(rt: HostRuntime) {
+    for (line, want) in [
+        (b"USER Dolores".as_slice(), ParseErrorKind::InvalidEol),
+        (b"USER a\rb\r\n".as_slice(), ParseErrorKind::InvalidEol),
+        (b"USER x\r\0\n".as_slice(), ParseErrorKind::InvalidEol),
+        (b"USER \r\0\n".as_slice(), ParseErrorKind::InvalidEol),
+        (b"USER \r\0".as_slice(), ParseErrorKind::InvalidEol),
+        (b"USER a\r\r\n".as_slice(), ParseErrorKind::InvalidEol),
+        (b"NOOP a".as_slice(), ParseErrorKind::InvalidEol),
+        (b"NOOP x\ry\r\n".as_slice(), ParseErrorKind::InvalidEol),
+        (b"NOOP x\r\n".as_slice(), ParseErrorKind::InvalidCommand),
+        (b"RETR \r\n".as_slice(), ParseErrorKind::InvalidCommand),
+        (
+            b"REST 18446744073709551616\r\n".as_slice(),
+            ParseErrorKind::InvalidCommand,
+        ),
+        (b"REST -0\r\n".as_slice(), ParseErrorKind::InvalidCommand),
+        (b"REST +\r\n".as_slice(), ParseErrorKind::InvalidCommand),
+        (b"REST 5 \r\n".as_slice(), ParseErrorKind::InvalidCommand),
+        (b"REST\r\n".as_slice(), ParseErrorKind::InvalidCommand),
+        (b"AUTH \xff\r\n".as_slice(), ParseErrorKind::InvalidUtf8),
+        (
+            b"AUTH \xff\xff\xff\xff\r\n".as_slice(),
+            ParseErrorKind::InvalidCommand,
+        ),
+        (
+            b"AUTH \xc3\x9fl\r\n".as_slice(),
+            ParseErrorKind::InvalidCommand,
+        ),
+        (b"AUTH\r\n".as_slice(), ParseErrorKind::InvalidCommand),
+        (b"SITE MD5\r\n".as_slice(), ParseErrorKind::InvalidCommand),
+        (b"SITE \xff\r\n".as_slice(), ParseErrorKind::InvalidUtf8),
+        (
+            b"\xff\xf4\xff\xf2ABOR\r\n".as_slice(),
+            ParseErrorKind::InvalidUtf8,
+        ),
+        (b"STRU f\r\n".as_slice(), ParseErrorKind::InvalidCommand),
+        (
+            b"OPTS UTF8 on\r\n".as_slice(),
+            ParseErrorKind::InvalidCommand,
+        ),
+        (
+            b"OPTS Utf8 ON\r\n".as_slice(),
+            ParseErrorKind::InvalidCommand,
+        ),
+        (b"PBSZ 00\r\n".as_slice(), ParseErrorKind::InvalidCommand),
+        (b"PROT CC\r\n".as_slice(), ParseErrorKind::InvalidCommand),
     ] {
-        assert_refused(&rt, line, ParseErrorKind::InvalidCommand);
+        match parse(rt.alloc(), line) {
+            Ok(command) => panic!(rt; "{command:?} at {line:?}"),
+            Err(error) => assert_eq!(rt; error.kind(), &want, "at {line:?}"),
+        }
     }
 }
 
 #[test]
-fn telnet_bytes_before_a_verb_are_not_utf8(rt: HostRuntime) {
-    assert_refused(
-        &rt,
-        b"\xff\xf4\xff\xf2ABOR\r\n",
-        ParseErrorKind::InvalidUtf8,
-    );
+fn passwords_are_not_shown(rt: HostRuntime) -> Result<(), Fail> {
+    for (line, bytes) in [
+        (
+            b"PASS supersecret\r\n".as_slice(),
+            b"supersecret".as_slice(),
+        ),
+        (b"PASS\r\n".as_slice(), b"".as_slice()),
+    ] {
+        let command = parse(rt.alloc(), line)?;
+        let text = format!(in rt.alloc(); "{command:?}")?;
+        assert_eq!(rt;
+            text.as_str(),
+            "Pass { password: Password { bytes: ******* } }"
+        );
+        let Command::Pass { password } = &command else {
+            panic!(rt; "no password");
+        };
+        assert_eq!(rt; password.as_ref(), bytes);
+    }
+    Ok(())
 }
 
 #[test]
@@ -164,17 +353,17 @@ fn converted_errors_keep_their_source(rt: HostRuntime) {
 fn a_line_is_decoded_once_it_is_whole(rt: HostRuntime) -> Result<(), Fail> {
     let mut codec = FtpCodec::new();
     let mut buf = Vec::from_slice(rt.alloc(), b"NOOP")?;
-    assert_eq!(rt; codec.decode(&mut buf)?, None);
+    assert_eq!(rt; codec.decode(rt.alloc(), &mut buf)?, None);
     assert_eq!(rt; codec.place(), 4);
     assert_eq!(rt; buf.as_slice(), b"NOOP".as_slice());
     buf.extend_from_slice(b"\r\nQUIT\n")?;
     assert!(rt; codec.place() <= buf.len());
-    assert_eq!(rt; codec.decode(&mut buf)?, Some(Command::Noop));
+    assert_eq!(rt; codec.decode(rt.alloc(), &mut buf)?, Some(Command::Noop));
     assert_eq!(rt; codec.place(), 0);
     assert_eq!(rt; buf.as_slice(), b"QUIT\n".as_slice());
-    assert_eq!(rt; codec.decode(&mut buf)?, Some(Command::Quit));
+    assert_eq!(rt; codec.decode(rt.alloc(), &mut buf)?, Some(Command::Quit));
     assert!(rt; buf.is_empty());
-    assert_eq!(rt; codec.decode(&mut buf)?, None);
+    assert_eq!(rt; codec.decode(rt.alloc(), &mut buf)?, None);
     assert_eq!(rt; codec.place(), 0);
     Ok(())
 }
@@ -182,20 +371,20 @@ fn a_line_is_decoded_once_it_is_whole(rt: HostRuntime) -> Result<(), Fail> {
 #[test]
 fn a_refused_line_costs_itself_alone(rt: HostRuntime) -> Result<(), Fail> {
     let mut codec = FtpCodec::new();
-    let mut buf = Vec::from_slice(rt.alloc(), b"SITE \xff\r\n\xff\r\nPWD\r\n")?;
+    let mut buf = Vec::from_slice(rt.alloc(), b"REST x\r\nSITE \xff\r\nPWD\r\n")?;
     for want in [
         ControlChanErrorKind::InvalidCommand,
         ControlChanErrorKind::Utf8Error,
     ] {
         assert!(rt; codec.place() <= buf.len());
-        match codec.decode(&mut buf) {
+        match codec.decode(rt.alloc(), &mut buf) {
             Ok(command) => panic!(rt; "{command:?} at {want:?}"),
             Err(error) => assert_eq!(rt; error.kind(), &want),
         }
         assert_eq!(rt; codec.place(), 0);
     }
     assert!(rt; codec.place() <= buf.len());
-    assert_eq!(rt; codec.decode(&mut buf)?, Some(Command::Pwd));
+    assert_eq!(rt; codec.decode(rt.alloc(), &mut buf)?, Some(Command::Pwd));
     assert!(rt; buf.is_empty());
     Ok(())
 }
