@@ -233,7 +233,7 @@ low_word [] h i = omega arith
 low_word (b ∷ word) h zero = low_upper b (h 0)
 low_word (b ∷ word) h (suc i) = low_word word (λ j. h (suc j)) i
 
-named_utf8 : (word : Bytes) (v : Verb) → upper word ≡ name_of v → is_utf8 word ≡ true
+pub named_utf8 : (word : Bytes) (v : Verb) → upper word ≡ name_of v → is_utf8 word ≡ true
 named_utf8 word v e = is_utf8-from_IsUtf8 word (IsUtf8-from_ascii word (low_word word (subst Low (sym e) (low_at (name_of v) (low_name v)))))
 
 -- what a call answers, from what it answers for the parts of the line

@@ -3,6 +3,7 @@ ghost use Rattle.std.specs.Prelude.{◌≡◌, ◌≤◌, length};
 ghost use Rattle.std.specs.List.{position_or_len};
 ghost use Rattle.unftp_control_defs.specs.Verbs.{is_separator, verb_of, parameter_of};
 ghost use Rattle.unftp_control_defs.specs.Outcome.{outcome};
+ghost use Rattle.unftp_control_line_parser.specs.Memory.{MayTakeMemory, OnStarved};
 ghost use Rattle.unftp_control_line_parser.specs.Told.{Tells};
 
 use crate::error::{ParseErrorKind, Result};
@@ -53,14 +54,17 @@ pub fn split<'a>(line: &'a [u8]) -> (&'a [u8], &'a [u8])
 /// has no end or a bare carriage return (RFC 854); else with `InvalidCommand` where the verb doesn't take the parameter, or with
 /// `InvalidUtf8` where AUTH's is not UTF-8; and with `OutOfMemory` where memory is refused.
 pub fn parse(alloc: Global, line: &[u8]) -> Result<Command>
-    ensures { Tells (outcome line.now) result }
+    ensures told { Tells (outcome line.now) result }
+    // memory is refused only where the line may take some
+    ensures memory { OnStarved result (MayTakeMemory line.now) }
 {
     Ok(command_in(alloc, line)?)
 }
 
 /// The same, with the kind of the refusal.
 fn command_in(alloc: Global, line: &[u8]) -> result::Result<Command, ParseErrorKind>
-    ensures { Tells (outcome line.now) result }
+    ensures told { Tells (outcome line.now) result }
+    ensures memory { OnStarved result (MayTakeMemory line.now) }
 {
     let (verb, parameter) = split(line);
     match verb_named(verb) {

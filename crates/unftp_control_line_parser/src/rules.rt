@@ -1,5 +1,5 @@
 //! What each verb makes of its parameter.
-ghost use Rattle.std.specs.Prelude.{◌≡◌, ◌≤◌, length, drop, codes, string_bytes, bytes_eq, IfOk, IfErr};
+ghost use Rattle.std.specs.Prelude.{◌≡◌, ◌≤◌, length, drop, codes, string_bytes, bytes_eq, IfOk, IfErr, false};
 ghost use Rattle.unftp_control_defs.specs.Verbs.{upper};
 ghost use Rattle.unftp_control_defs.specs.Values.{value_of};
 ghost use Rattle.unftp_control_defs.specs.FtpCommand.{Other};
@@ -7,6 +7,7 @@ ghost use Rattle.unftp_control_defs.specs.Rules.{alone, any_text, by_name, rule_
 ghost use Rattle.unftp_control_defs.specs.Outcome.{answer_by, by_value as valued, site_answer};
 ghost use Rattle.unftp_control_line_parser.specs.Named.{by_rule};
 ghost use Rattle.unftp_control_command.specs.CommandMeaning.{command_of};
+ghost use Rattle.unftp_control_line_parser.specs.Memory.{IsNotBare, OnStarved, stands_alone};
 ghost use Rattle.unftp_control_line_parser.specs.Told.{Tells};
 ghost use Rattle.unftp_control_line_parser.specs.Named.{rule_for};
 ghost use Rattle.unftp_control_line_parser.specs.Values.{TellsBytes, TellsText, TellsSome, TellsOptional, TellsOptionalBytes, TellsPath, TellsUpper, TellsUtf8, value_bytes};
@@ -18,6 +19,7 @@ use crate::error::ParseErrorKind;
 use crate::parser::split;
 use crate::value::{Value, parameter_value};
 use crate::verb::Verb;
+use bstr::ByteSlice;
 use bytes::Bytes;
 use std::alloc::{AllocError, Global};
 use std::str::from_utf8;
@@ -70,17 +72,12 @@ fn text(alloc: Global, value: Value<'_>) -> Result<String, ParseErrorKind>
     }
 }
 
-/// The bytes as a new text. Many bytes are tested by blocks.
+/// The bytes as a new text.
 fn borrowed_text(alloc: Global, bytes: &[u8]) -> Result<String, AllocError>
     ensures { IfOk result (λ text. string_bytes text ≡ utf8_lossy bytes.now) }
 {
-    if bytes.len() < 64 {
-        return String::from_utf8_lossy(alloc, bytes);
-    }
-    match simdutf8::compat::from_utf8(bytes) {
-        Ok(text) => String::from_str(alloc, text),
-        Err(_) => String::from_utf8_lossy(alloc, bytes),
-    }
+    let text = bytes.to_str_lossy(alloc)?;
+    text.into_owned(alloc)
 }
 
 /// The bytes as text, in their own memory where they are well-formed UTF-8.
@@ -89,7 +86,7 @@ fn owned_text(alloc: Global, bytes: Vec<u8>) -> Result<String, AllocError>
 {
     match String::from_utf8(bytes) {
         Ok(text) => Ok(text),
-        Err(error) => String::from_utf8_lossy(alloc, error.as_bytes()),
+        Err(error) => borrowed_text(alloc, error.as_bytes()),
     }
 }
 
@@ -118,7 +115,8 @@ fn optional_text(alloc: Global, value: Value<'_>) -> Result<Option<String>, Pars
 
 /// The command, where there is no value.
 fn alone(command: Command, value: &[u8]) -> Answer
-    ensures { Tells (alone (command_of command) value.now) result }
+    ensures told { Tells (alone (command_of command) value.now) result }
+    ensures memory { OnStarved result ⊥ }
 {
     if value.is_empty() {
         Ok(command)
@@ -348,7 +346,8 @@ pub fn other(alloc: Global, name: &str, parameter: &[u8]) -> Answer
 
 /// A verb that takes the value of its parameter.
 fn by_value(alloc: Global, verb: Verb, value: Value<'_>) -> Answer
-    ensures { Tells (by_rule (rule_for verb) (value_bytes value.entry)) result }
+    ensures told { Tells (by_rule (rule_for verb) (value_bytes value.entry)) result }
+    ensures memory { OnStarved result (stands_alone verb ≡ false) }
 {
     match verb {
         Verb::User => Ok(Command::User {
@@ -439,7 +438,8 @@ fn by_value(alloc: Global, verb: Verb, value: Value<'_>) -> Answer
 
 /// A verb with a rule of its own.
 pub fn by_verb(alloc: Global, verb: Verb, parameter: &[u8]) -> Answer
-    ensures { Tells (answer_by (rule_for verb) parameter.now) result }
+    ensures told { Tells (answer_by (rule_for verb) parameter.now) result }
+    ensures memory { OnStarved result (IsNotBare (answer_by (rule_for verb) parameter.now)) }
 {
     match verb {
         Verb::Syst => Ok(Command::Syst),

@@ -1,6 +1,7 @@
 //! The value of a parameter.
-ghost use Rattle.std.specs.Prelude.{◌≡◌};
+ghost use Rattle.std.specs.Prelude.{◌≡◌, ◌≢◌, Some, []};
 ghost use Rattle.unftp_control_defs.specs.Values.{value_of, later_value, Fresh};
+ghost use Rattle.unftp_control_line_parser.specs.Memory.{OnStarved};
 ghost use Rattle.unftp_control_line_parser.specs.Values.{begins_escaped, IsPlainEnd, IsFreshEnd, TellsValue, TellsRun, TellsWhole, TellsJoined, value_bytes};
 
 use crate::error::ParseErrorKind;
@@ -138,7 +139,8 @@ fn begins_escaped(parameter: &[u8]) -> bool
 
 /// The value of parameter bytes.
 pub fn parameter_value<'a>(alloc: Global, parameter: &'a [u8]) -> Result<Value<'a>, ParseErrorKind>
-    ensures { TellsValue (value_of parameter.now) result }
+    ensures told { TellsValue (value_of parameter.now) result }
+    ensures memory { OnStarved result (value_of parameter.now ≢ Some []) }
 {
     let (none, _) = parameter.split_at(0);
     if parameter.is_empty() || parameter[0] == LF {
