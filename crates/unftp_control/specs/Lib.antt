@@ -11,6 +11,7 @@ pub use Rattle.unftp_control_defs.specs.Events
 pub use Rattle.unftp_control_defs.specs.Run
 pub use Rattle.unftp_control_command.specs.CommandMeaning
 pub use Rattle.unftp_control_line_parser.specs.Told
+pub use Rattle.unftp_control_line_parser.specs.Memory
 pub use Rattle.unftp_control_error.specs.ErrorParts
 pub use Rattle.unftp_control_error.specs.ErrorMeaning
 pub use Rattle.unftp_control_reply.specs.ReplyMeaning

@@ -7,6 +7,7 @@ use Rattle.unftp_control_command.specs.CommandMeaning.{command_of}
 use Rattle.unftp_control_error.specs.ErrorParts.{Parts}
 use Rattle.unftp_control_error.specs.ErrorMeaning.{fault_of}
 use Rattle.unftp_control_defs.specs.Outcome.{outcome}
+use Rattle.unftp_control_line_parser.specs.Memory.{MayTakeMemory}
 use Rattle.unftp_control_codecs.specs.Codec.{Codec}
 use Rattle.unftp_control_codecs.specs.LineFeed.{line_feed_from}
 
@@ -36,7 +37,7 @@ pub record CutsLine (k : ℕ) (old new : Codec) (before after : Bytes) : Type 0 
   pub place : new.place ≡ 0
   pub tests : new.tests ≡ old.tests + (k + 1 - old.place)
 
--- Memory was refused for that line: nothing but the tests changes.
+-- Memory was refused for that line, which may take some: nothing but the tests changes.
 pub record KeepsLine (k : ℕ) (old new : Codec) (before after : Bytes) : Type 0 where
   pub kept : after ≡ before
   pub place : new.place ≡ old.place
@@ -46,7 +47,7 @@ pub record KeepsLine (k : ℕ) (old new : Codec) (before after : Bytes) : Type 0
 abbrev pub AnswersLine : ℕ → Codec → Codec → Bytes → Bytes → Decoded → Type 0
 AnswersLine k old new before after answer =
     ((event_told answer ≡ Some (event_of (outcome (take (k + 1) before)))) × CutsLine k old new before after)
-    ⊎ (IsStarved answer × KeepsLine k old new before after)
+    ⊎ (IsStarved answer × MayTakeMemory (take (k + 1) before) × KeepsLine k old new before after)
 
 abbrev pub Decodes : Codec → Codec → Bytes → Bytes → Decoded → Type 0
 Decodes old new before after answer = MatchOption (line_feed_from before old.place)
