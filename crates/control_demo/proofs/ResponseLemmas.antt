@@ -1,13 +1,10 @@
 -- The responses to what the codec tells.
-use Rattle.std.proofs.Common.{◌≡◌, ℕ, ◌+◌, ◌<◌, Bool, true, false, cond, ◌⊎◌, Option, Some, None, Ok, Err, refl, sym, ap, ◌∙◌, inl, inr, arith, length-drop}
+use Rattle.std.proofs.Common.{◌≡◌, ℕ, ◌+◌, ◌<◌, Bool, false, cond, Option, Some, None, Ok, Err, refl, sym, ap, ◌∙◌, inl, inr, arith, length-drop}
 use Rattle.std.specs.Option.{MatchOption}
 use Rattle.std.proofs.lemmas.Option.{none-some, same_Some}
-use Rattle.std.specs.Str.{is_utf8}
 use Rattle.std.specs.Fmt.{digits}
-use Rattle.std.proofs.lemmas.Bool.{cases_Bool}
 use Rattle.unftp_control.specs.Bytes.{Bytes}
-use Rattle.unftp_control.specs.Verbs.{verb_of}
-use Rattle.unftp_control.specs.FtpCommand.{Answer, Noop, InvalidUtf8}
+use Rattle.unftp_control.specs.FtpCommand.{Answer, Noop}
 use Rattle.unftp_control.specs.FtpReply.{encoded, CodeAndMsg}
 use Rattle.unftp_control.specs.Events.{FtpEvent, Command, event_of, OutOfMemory}
 use Rattle.unftp_control.specs.Outcome.{outcome}

@@ -2,6 +2,7 @@
 ghost use Rattle.std.specs.Prelude.{◌≤◌, vec_len};
 
 mod growths;
+mod original;
 
 use crate::codecs::FtpCodec;
 use crate::command::Command;

@@ -5,10 +5,9 @@ ghost use Rattle.std.specs.Prelude.{◌≡◌, ◌↔◌, IsTrue, IfOk, option_m
 ghost use Rattle.unftp_control_command.specs.CommandMeaning.{command_of};
 ghost use Rattle.unftp_control_command.specs.declared.Command.{Command as RustCommand};
 
-pub use unftp_control_defs::parameters::{AuthParam, ModeParam, Opt, ProtParam, StruParam};
-
 use bytes::Bytes;
 use std::alloc::{AllocError, Global};
+pub use unftp_control_defs::parameters::{AuthParam, ModeParam, Opt, ProtParam, StruParam};
 use unftp_control_password::Password;
 
 /// A command that a client sends on the control connection. Its texts are the client's bytes with each ill-formed part of UTF-8
@@ -292,9 +291,7 @@ impl Command {
             Command::Size { file } => Command::Size {
                 file: text_again(alloc, file)?,
             },
-            Command::Rest { offset } => Command::Rest {
-                offset: *offset,
-            },
+            Command::Rest { offset } => Command::Rest { offset: *offset },
             Command::Mdtm { file } => Command::Mdtm {
                 file: text_again(alloc, file)?,
             },
@@ -305,7 +302,10 @@ impl Command {
                 command: text_again(alloc, command)?,
                 arguments: text_again(alloc, arguments)?,
             },
-            Command::Other { command_name, arguments } => Command::Other {
+            Command::Other {
+                command_name,
+                arguments,
+            } => Command::Other {
                 command_name: text_again(alloc, command_name)?,
                 arguments: text_again(alloc, arguments)?,
             },

@@ -21,7 +21,11 @@ fn passwords_hold_their_bytes(rt: HostRuntime) -> Result<(), Fail> {
 
 #[test]
 fn all_passwords_print_alike(rt: HostRuntime) -> Result<(), Fail> {
-    for bytes in [b"supersecret".as_slice(), b"".as_slice(), b"\xff\r\n".as_slice()] {
+    for bytes in [
+        b"supersecret".as_slice(),
+        b"".as_slice(),
+        b"\xff\r\n".as_slice(),
+    ] {
         let password = Password::new(Bytes::copy_from_slice(rt.alloc(), bytes)?);
         let plain = format!(in rt.alloc(); "{password:?}")?;
         assert_eq!(rt; plain.as_str(), "Password { bytes: ******* }");
