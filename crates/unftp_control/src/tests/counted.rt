@@ -1,0 +1,56 @@
+//! How much memory a call takes: `tools/growths` counts the growths of each test, and compares the number with the first word
+//! of its name.
+use crate::codecs::FtpCodec;
+use crate::line_parser::parse;
+use crate::reply::Reply;
+use std::test::Fail;
+
+#[test]
+fn zero_for_lines_without_a_field(rt: HostRuntime) -> Result<(), Fail> {
+    for line in [
+        b"NOOP\r\n".as_slice(),
+        b"NOOP \r\n".as_slice(),
+        b"bye\n".as_slice(),
+        b"TYPE \xff\r\0\r\n".as_slice(),
+        b"REST 5\r\n".as_slice(),
+    ] {
+        drop(parse(rt.alloc(), line)?);
+    }
+    assert!(rt; parse(rt.alloc(), b"\xff\xf4ABOR\r\n").is_err());
+    assert!(rt; parse(rt.alloc(), b"RETR \r\n").is_err());
+    assert!(rt; parse(rt.alloc(), b"USER a\rb\r\n").is_err());
+    Ok(())
+}
+
+#[test]
+fn zero_for_no_line_and_no_reply(rt: HostRuntime) -> Result<(), Fail> {
+    let mut codec = FtpCodec::new();
+    let mut buf = Vec::new(rt.alloc());
+    assert!(rt; codec.decode(rt.alloc(), &mut buf)?.is_none());
+    codec.encode(Reply::None, &mut buf)?;
+    Ok(())
+}
+
+#[test]
+fn one_for_a_text(rt: HostRuntime) -> Result<(), Fail> {
+    drop(parse(rt.alloc(), b"RETR a.txt\r\n")?);
+    Ok(())
+}
+
+#[test]
+fn one_for_a_path_behind_options(rt: HostRuntime) -> Result<(), Fail> {
+    drop(parse(rt.alloc(), b"LIST -la a.txt\r\n")?);
+    Ok(())
+}
+
+#[test]
+fn two_for_bytes(rt: HostRuntime) -> Result<(), Fail> {
+    drop(parse(rt.alloc(), b"USER Dolores\r\n")?);
+    Ok(())
+}
+
+#[test]
+fn two_for_a_name_and_its_arguments(rt: HostRuntime) -> Result<(), Fail> {
+    drop(parse(rt.alloc(), b"SITE chmod 644 f\r\n")?);
+    Ok(())
+}
