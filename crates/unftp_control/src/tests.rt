@@ -11,6 +11,7 @@ use crate::error::{ControlChanError, ControlChanErrorKind, Source};
 use crate::line_parser::{ParseError, ParseErrorKind, parse};
 use crate::reply::{Reply, ReplyCode};
 use std::alloc::Global;
+use std::process::Abort;
 use std::str::from_utf8;
 use std::test::Fail;
 
@@ -48,10 +49,19 @@ fn a_caller_answers_line_by_line(rt: HostRuntime) -> Result<(), Fail> {
     Ok(())
 }
 
+// The line is a command with this Debug text, and a clone of it is equal.
+fn assert_answered(rt: &impl Abort, alloc: Global, line: &[u8], want: &str) -> Result<(), Fail> {
+    let command = parse(alloc, line)?;
+    let text = format!(in alloc; "{command:?}")?;
+    assert_eq!(rt; text.as_str(), want, "at {line:?}");
+    let copy = command.clone(alloc)?;
+    assert!(rt; copy == command);
+    Ok(())
+}
+
 #[test]
-fn lines_are_answered_by_their_commands(rt: HostRuntime) -> Result<(), Fail> {
+fn values_are_read_up_to_their_end(rt: HostRuntime) -> Result<(), Fail> {
     for (line, want) in [
-        // a value is read up to its end, and the verb in either case
         (
             b"USER Dolores\r\n".as_slice(),
             "User { username: b\"Dolores\" }",
@@ -68,7 +78,15 @@ fn lines_are_answered_by_their_commands(rt: HostRuntime) -> Result<(), Fail> {
         (b"USER\r\n".as_slice(), "User { username: b\"\" }"),
         (b"USER a\r\nzz".as_slice(), "User { username: b\"a\" }"),
         (b"USER\rX\n".as_slice(), "User { username: b\"X\" }"),
-        // carriage returns and line feeds in a value
+    ] {
+        assert_answered(&rt, rt.alloc(), line, want)?;
+    }
+    Ok(())
+}
+
+#[test]
+fn values_hold_carriage_returns_and_line_feeds(rt: HostRuntime) -> Result<(), Fail> {
+    for (line, want) in [
         (b"USER \rX\n".as_slice(), "User { username: b\"\\rX\" }"),
         (b"USER \r\0\r\n".as_slice(), "User { username: b\"\\r\" }"),
         (b"USER \r\r\n".as_slice(), "User { username: b\"\\r\" }"),
@@ -83,7 +101,15 @@ fn lines_are_answered_by_their_commands(rt: HostRuntime) -> Result<(), Fail> {
             b"USER ab\r\0\0cd\n".as_slice(),
             "User { username: b\"ab\\r\\0cd\" }",
         ),
-        // texts
+    ] {
+        assert_answered(&rt, rt.alloc(), line, want)?;
+    }
+    Ok(())
+}
+
+#[test]
+fn texts_are_read(rt: HostRuntime) -> Result<(), Fail> {
+    for (line, want) in [
         (b"RETR a\r\0\r\n".as_slice(), "Retr { path: \"a\\r\" }"),
         (
             b"RETR a\xffb\r\n".as_slice(),
@@ -99,11 +125,27 @@ fn lines_are_answered_by_their_commands(rt: HostRuntime) -> Result<(), Fail> {
             b"PORT 1,2,3,4,5,6\r\n".as_slice(),
             "Port { addr: \"1,2,3,4,5,6\" }",
         ),
-        // parameters that are not looked at
+    ] {
+        assert_answered(&rt, rt.alloc(), line, want)?;
+    }
+    Ok(())
+}
+
+#[test]
+fn parameters_are_passed_over(rt: HostRuntime) -> Result<(), Fail> {
+    for (line, want) in [
         (b"SYST \rjunk\n".as_slice(), "Syst"),
         (b"TYPE \xff\n".as_slice(), "TypeCode"),
         (b"ALLO 1\r2".as_slice(), "Allo"),
-        // LIST
+    ] {
+        assert_answered(&rt, rt.alloc(), line, want)?;
+    }
+    Ok(())
+}
+
+#[test]
+fn the_path_of_list_stands_behind_its_options(rt: HostRuntime) -> Result<(), Fail> {
+    for (line, want) in [
         (
             b"LIST -la -- -leading\r\n".as_slice(),
             "List { options: None, path: Some(\"-leading\") }",
@@ -136,7 +178,15 @@ fn lines_are_answered_by_their_commands(rt: HostRuntime) -> Result<(), Fail> {
             b"LIST -a -- --\r\n".as_slice(),
             "List { options: None, path: Some(\"--\") }",
         ),
-        // values of a few choices
+    ] {
+        assert_answered(&rt, rt.alloc(), line, want)?;
+    }
+    Ok(())
+}
+
+#[test]
+fn values_of_a_few_choices_are_read(rt: HostRuntime) -> Result<(), Fail> {
+    for (line, want) in [
         (
             b"REST 18446744073709551615\r\n".as_slice(),
             "Rest { offset: 18446744073709551615 }",
@@ -151,7 +201,15 @@ fn lines_are_answered_by_their_commands(rt: HostRuntime) -> Result<(), Fail> {
         ),
         (b"PBSZ 0\r\n".as_slice(), "Pbsz"),
         (b"PROT P\r\n".as_slice(), "Prot { param: Private }"),
-        // SITE, and verbs of no row
+    ] {
+        assert_answered(&rt, rt.alloc(), line, want)?;
+    }
+    Ok(())
+}
+
+#[test]
+fn names_of_site_and_other_verbs_are_raised(rt: HostRuntime) -> Result<(), Fail> {
+    for (line, want) in [
         (
             b"SITE\r\n".as_slice(),
             "Site { command: \"\", arguments: \"\" }",
@@ -190,10 +248,7 @@ fn lines_are_answered_by_their_commands(rt: HostRuntime) -> Result<(), Fail> {
             "Other { command_name: \"PW\", arguments: \"\" }",
         ),
     ] {
-        let command = parse(rt.alloc(), line)?;
-        let text = format!(in rt.alloc(); "{command:?}")?;
-        assert_eq!(rt; text.as_str(), want, "at {line:?}");
-        assert!(rt; command.clone(rt.alloc())? == command);
+        assert_answered(&rt, rt.alloc(), line, want)?;
     }
     Ok(())
 }
