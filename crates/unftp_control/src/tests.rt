@@ -24,10 +24,25 @@ fn answer_line(
 ) -> Result<(), ControlChanError>
     requires { codec.old.place ≤ vec_len buf.old }
 {
-    let (code, text) = match codec.decode(alloc, buf) {
+    let is_noop = match codec.decode(alloc, buf) {
         Ok(None) => return Ok(()),
-        Ok(Some(Command::Noop)) => (ReplyCode::CommandOkay, "OK"),
-        Ok(Some(_)) | Err(_) => (ReplyCode::CommandNotImplemented, "Not implemented"),
+        Ok(Some(command)) => {
+            let is_noop = command == Command::Noop;
+            drop(command);
+            is_noop
+        }
+        Err(error) => {
+            // the line is still there, and is decoded anew once there is memory
+            if *error.kind() == ControlChanErrorKind::OutOfMemory {
+                return Err(error);
+            }
+            false
+        }
+    };
+    let (code, text) = if is_noop {
+        (ReplyCode::CommandOkay, "OK")
+    } else {
+        (ReplyCode::CommandNotImplemented, "Not implemented")
     };
     codec.encode(Reply::new(alloc, code, text)?, out)
 }
