@@ -99,3 +99,7 @@ value_of [] = Some []
 value_of (a ∷ bytes) = if a == LF then Some []
     else (if bytes_eq bytes (LF ∷ []) then Some (if a == CR then [] else a ∷ [])
     else first_value a bytes)
+
+-- The other way: a text as a value is sent, each CR as CR NUL.
+abbrev pub escaped : Bytes → Bytes
+escaped text = flat_map (λ b. if b == CR then CR ∷ NUL ∷ [] else b ∷ []) text

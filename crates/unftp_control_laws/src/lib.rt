@@ -2,12 +2,14 @@
 //! relation that a reader believes.
 #![tactic(auto)]
 
-ghost use Rattle.std.specs.Prelude.{◌≡◌, ◌↔◌, List, Some, None};
-ghost use Rattle.unftp_control_defs.specs.Bytes.{Bytes};
+ghost use Rattle.std.specs.Prelude.{◌≡◌, ◌↔◌, List, ◌++◌, Some, None, Ok, codes};
+ghost use Rattle.unftp_control_defs.specs.Bytes.{Bytes, LF, crlf, Lacks};
+ghost use Rattle.unftp_control_defs.specs.FtpCommand.{User};
 ghost use Rattle.unftp_control_defs.specs.Lines.{Lines, lines_of, rest_of};
+ghost use Rattle.unftp_control_defs.specs.Outcome.{outcome};
 ghost use Rattle.unftp_control_defs.specs.Paths.{ListPath, path_of};
-ghost use Rattle.unftp_control_defs.specs.Values.{Reads, BadEnd, value_of};
-ghost use Rattle.unftp_control_defs.specs.Verbs.{Cut, verb_of, parameter_of};
+ghost use Rattle.unftp_control_defs.specs.Values.{Reads, BadEnd, value_of, escaped};
+ghost use Rattle.unftp_control_defs.specs.Verbs.{Cut, verb_of, parameter_of, upper};
 
 pub mod examples;
 
@@ -32,4 +34,24 @@ pub fn one_value()
 /// The text of LIST has one path, `path_of`.
 pub fn one_path()
     ensures { (text path : Bytes) → ListPath text path ↔ (path_of text ≡ path) }
+{}
+
+/// Lines that differ in the case of the ASCII letters of their verb alone have one outcome, and so have lines of SITE whose names
+/// differ so (RFC 959, section 5.3).
+pub fn case_folds()
+    ensures verb { (line other verb other_verb parameter : Bytes)
+        → Cut line verb parameter → Cut other other_verb parameter
+        → upper verb ≡ upper other_verb
+        → outcome line ≡ outcome other }
+    ensures name { (line other verb other_verb parameter other_parameter name other_name arguments : Bytes)
+        → Cut line verb parameter → Cut other other_verb other_parameter
+        → upper verb ≡ codes "SITE" → upper other_verb ≡ codes "SITE"
+        → Cut parameter name arguments → Cut other_parameter other_name arguments
+        → upper name ≡ upper other_name
+        → outcome line ≡ outcome other }
+{}
+
+/// A name without a line feed that is sent with each CR as CR NUL is the name that is read (RFC 854).
+pub fn escape_reads_back()
+    ensures { (name : Bytes) → Lacks LF name → outcome (codes "USER " ++ escaped name ++ crlf) ≡ Ok (User name) }
 {}

@@ -1,0 +1,67 @@
+//! Measures how long lines take to be decoded and parsed. Its one argument is the number of rounds: of each figure it prints the
+//! median, with the least and the greatest. Without an argument it does one round and prints nothing.
+#![tactic(auto)]
+
+mod measure;
+#[cfg(test)]
+mod tests;
+
+use measure::Measure;
+use std::env;
+use std::io;
+use std::process::ExitCode;
+
+/// The number of rounds that the arguments ask for.
+fn rounds_asked(rt: &HostRuntime) -> io::Result<Option<usize>> {
+    let mut arguments = env::args(rt)?.skip(1);
+    let Some(text) = arguments.next() else {
+        return Ok(None);
+    };
+    match text.as_str().parse::<usize>() {
+        Ok(rounds) => Ok(Some(rounds)),
+        Err(_) => Err(io::ErrorKind::InvalidInput.into()),
+    }
+}
+
+/// Prints what a measure gave in each of these rounds.
+fn report(rt: &HostRuntime, measure: Measure, rounds: usize) -> io::Result<()> {
+    let mut figures = Vec::new(rt.alloc());
+    for _ in 0..rounds {
+        figures.push(measure.nanoseconds(rt)?)?;
+    }
+    figures.sort_unstable();
+    if let (Some(least), Some(median), Some(greatest)) = (
+        figures.first(),
+        figures.get(figures.len() / 2),
+        figures.last(),
+    ) {
+        println!(rt; "{measure}: {median} ns ({least} to {greatest})")?;
+    }
+    Ok(())
+}
+
+fn measure_all(rt: &HostRuntime) -> io::Result<()> {
+    match rounds_asked(rt)? {
+        Some(rounds) => {
+            for measure in Measure::ALL {
+                report(rt, measure, rounds)?;
+            }
+        }
+        None => {
+            for measure in Measure::ALL {
+                measure.nanoseconds(rt)?;
+            }
+        }
+    }
+    Ok(())
+}
+
+fn main(rt: HostRuntime) -> ExitCode {
+    match measure_all(&rt) {
+        Ok(()) => ExitCode::SUCCESS,
+        Err(error) => {
+            let _ = eprintln!(rt; "control_bench: {error}");
+            ExitCode::FAILURE
+        }
+    }
+}

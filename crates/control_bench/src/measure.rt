@@ -1,0 +1,135 @@
+//! What is measured.
+use std::alloc::Global;
+use std::fmt;
+use std::fmt::{Display, Formatter, Write};
+use std::io;
+use std::time::Instant;
+use unftp_control::codecs::FtpCodec;
+use unftp_control::line_parser::parse;
+
+/// Lines of a session, about as long as those that clients send.
+pub const SESSION: &[&[u8]] = &[
+    b"USER anonymous\r\n",
+    b"PASS guest@example.org\r\n",
+    b"SYST\r\n",
+    b"FEAT\r\n",
+    b"OPTS UTF8 ON\r\n",
+    b"PWD\r\n",
+    b"TYPE I\r\n",
+    b"CWD /pub/linux/kernel/v6.x\r\n",
+    b"EPSV\r\n",
+    b"LIST -la\r\n",
+    b"PORT 192,168,150,90,195,149\r\n",
+    b"NLST *.tar.xz\r\n",
+    b"SIZE linux-6.1.55.tar.xz\r\n",
+    b"MDTM linux-6.1.55.tar.xz\r\n",
+    b"REST 1048576\r\n",
+    b"RETR linux-6.1.55.tar.xz\r\n",
+    b"SITE CHMOD 644 upload.txt\r\n",
+    b"XCRC linux-6.1.55.tar.xz\r\n",
+    b"NOOP\r\n",
+    b"QUIT\r\n",
+];
+
+/// How often the session is repeated, so that there are 1,000 lines.
+const REPEATS: usize = 50;
+
+/// The lines that one figure is of.
+const LINES: usize = 1000;
+
+/// What one figure is of.
+#[derive(Clone, Copy)]
+pub enum Measure {
+    Decode,
+    Parse,
+    LongParameter,
+}
+
+impl Display for Measure {
+    fn fmt<W: Write>(&self, f: &mut Formatter<W>) -> fmt::Result {
+        f.write_str(match self {
+            Measure::Decode => "a line of 1,000 in one buffer, decoded",
+            Measure::Parse => "the same lines, each parsed where it lies",
+            Measure::LongParameter => "a line with a parameter of 4,096 bytes, parsed",
+        })
+    }
+}
+
+impl Measure {
+    /// All of them.
+    pub const ALL: [Measure; 3] = [Measure::Decode, Measure::Parse, Measure::LongParameter];
+
+    /// How long one line takes, over one round.
+    pub fn nanoseconds(self, rt: &HostRuntime) -> io::Result<u128> {
+        match self {
+            Measure::Decode => decode_session(rt),
+            Measure::Parse => parse_session(rt),
+            Measure::LongParameter => parse_long_lines(rt),
+        }
+    }
+}
+
+/// The error of a round whose lines are not all commands, as where memory is refused.
+fn no_command() -> io::Error {
+    io::ErrorKind::InvalidData.into()
+}
+
+/// Nanoseconds a line since the start of a round.
+fn a_line(rt: &HostRuntime, start: Instant) -> io::Result<u128> {
+    Ok(start.elapsed(rt)?.as_nanos() / LINES as u128)
+}
+
+/// A buffer that holds all the lines.
+fn session_repeated(alloc: Global) -> io::Result<Vec<u8>> {
+    let session = SESSION.concat(alloc)?;
+    let mut buf = Vec::new(alloc);
+    for _ in 0..REPEATS {
+        buf.extend_from_slice(session.as_slice())?;
+    }
+    Ok(buf)
+}
+
+fn decode_session(rt: &HostRuntime) -> io::Result<u128> {
+    let mut buf = session_repeated(rt.alloc())?;
+    let mut codec = FtpCodec::new();
+    let start = Instant::now(rt)?;
+    for _ in 0..LINES {
+        match codec.decode(rt.alloc(), &mut buf) {
+            Ok(Some(command)) => drop(command),
+            Ok(None) => return Err(no_command()),
+            Err(_) => return Err(no_command()),
+        }
+    }
+    a_line(rt, start)
+}
+
+fn parse_session(rt: &HostRuntime) -> io::Result<u128> {
+    let start = Instant::now(rt)?;
+    for _ in 0..REPEATS {
+        for line in SESSION {
+            if parse(rt.alloc(), line).is_err() {
+                return Err(no_command());
+            }
+        }
+    }
+    a_line(rt, start)
+}
+
+fn parse_long_lines(rt: &HostRuntime) -> io::Result<u128> {
+    let line = long_line(rt.alloc())?;
+    let start = Instant::now(rt)?;
+    for _ in 0..LINES {
+        if parse(rt.alloc(), line.as_slice()).is_err() {
+            return Err(no_command());
+        }
+    }
+    a_line(rt, start)
+}
+
+/// A line with a parameter of 4,096 bytes.
+pub fn long_line(alloc: Global) -> io::Result<Vec<u8>> {
+    let mut line = Vec::from_slice(alloc, b"RETR ")?;
+    line.resize(line.len() + 4096, b'a')?;
+    line.extend_from_slice(b"\r\n")?;
+    Ok(line)
+}

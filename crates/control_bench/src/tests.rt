@@ -1,0 +1,2 @@
+//! How much memory the lines that are measured take.
+mod counted;

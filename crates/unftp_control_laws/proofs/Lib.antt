@@ -1,0 +1,3 @@
+mod CaseLaws
+mod FoldLaws
+mod EscapeLaws

@@ -1,0 +1,5 @@
+use Rattle.unftp_control_laws.proofs.FoldLaws.{outcome-verb_case, outcome-name_case}
+use Rattle.unftp_control_laws.proofs.case_folds.Goals as goal
+
+pub returns : goal.returns
+returns c = record { verb = outcome-verb_case; name = outcome-name_case }

@@ -1,0 +1,121 @@
+//! Answers the cases of a vector file (`vectors/README.md`): reads one a line from standard input, and writes its answer. Its one
+//! argument is the call that answers, `parse` or `decode`. What is no case is answered by `bad-case`.
+#![tactic(auto)]
+
+mod shown;
+
+use hex::FromHexError;
+use shown::Shown;
+use std::alloc::Global;
+use std::env;
+use std::io;
+use std::io::Write;
+use std::process::ExitCode;
+use unftp_control::codecs::FtpCodec;
+use unftp_control::error::{ControlChanErrorKind, Source};
+use unftp_control::line_parser::{ParseErrorKind, parse};
+
+/// The call that answers.
+#[derive(Clone, Copy)]
+enum Call {
+    Parse,
+    Decode,
+}
+
+impl Call {
+    fn named(name: &str) -> Option<Call> {
+        match name {
+            "parse" => Some(Call::Parse),
+            "decode" => Some(Call::Decode),
+            _ => None,
+        }
+    }
+}
+
+/// Writes what `parse` makes of a line.
+fn answer_parse<W: Write>(alloc: Global, line: &[u8], out: &mut W) -> io::Result<()> {
+    match parse(alloc, line) {
+        Ok(command) => write!(out, "ok {}", Shown(&command)),
+        Err(error) => match error.kind() {
+            ParseErrorKind::OutOfMemory => Err(io::ErrorKind::OutOfMemory.into()),
+            kind => write!(out, "err {kind:?}"),
+        },
+    }
+}
+
+/// Writes what a new codec makes of an input.
+fn answer_decode<W: Write>(alloc: Global, input: Vec<u8>, out: &mut W) -> io::Result<()> {
+    let mut codec = FtpCodec::new();
+    let mut buf = input;
+    // a line has at least one byte, so the last call finds none
+    for _ in 0..=buf.len() {
+        match codec.decode(alloc, &mut buf) {
+            Ok(None) => break,
+            Ok(Some(command)) => write!(out, "ok {} | ", Shown(&command))?,
+            Err(error) => match (error.kind(), error.source()) {
+                (ControlChanErrorKind::OutOfMemory, _) => {
+                    return Err(io::ErrorKind::OutOfMemory.into());
+                }
+                (kind, Source::Parse(source)) => {
+                    let source = source.kind();
+                    write!(out, "err {kind:?} {source:?} | ")?;
+                }
+                (kind, Source::None) => write!(out, "err {kind:?} | ")?,
+            },
+        }
+    }
+    write!(out, "left={}", buf.len())
+}
+
+/// Writes the answer to a case.
+fn answer<W: Write>(alloc: Global, call: Call, case: &str, out: &mut W) -> io::Result<()> {
+    match hex::decode(alloc, case) {
+        Ok(input) => match call {
+            Call::Parse => answer_parse(alloc, input.as_slice(), out),
+            Call::Decode => answer_decode(alloc, input, out),
+        },
+        Err(FromHexError::OutOfMemory) => Err(io::ErrorKind::OutOfMemory.into()),
+        Err(_) => write!(out, "bad-case"),
+    }
+}
+
+/// Answers each line of standard input.
+fn replay(rt: &HostRuntime, call: Call) -> io::Result<()> {
+    let alloc = rt.alloc();
+    let mut out = io::BufWriter::new(alloc, rt.stdout())?;
+    for case in rt.lines(alloc) {
+        answer(alloc, call, case?.as_str(), &mut out)?;
+        writeln!(out)?;
+    }
+    out.flush()
+}
+
+/// The call that the arguments name.
+fn call_asked(rt: &HostRuntime) -> io::Result<Option<Call>> {
+    let mut arguments = env::args(rt)?.skip(1);
+    let Some(name) = arguments.next() else {
+        return Ok(None);
+    };
+    if arguments.next().is_some() {
+        return Ok(None);
+    }
+    Ok(Call::named(name.as_str()))
+}
+
+fn main(rt: HostRuntime) -> ExitCode {
+    let replayed = match call_asked(&rt) {
+        Ok(Some(call)) => replay(&rt, call),
+        Ok(None) => {
+            let _ = eprintln!(rt; "usage: vector_replay parse|decode");
+            return ExitCode::from(2);
+        }
+        Err(error) => Err(error),
+    };
+    match replayed {
+        Ok(()) => ExitCode::SUCCESS,
+        Err(error) => {
+            let _ = eprintln!(rt; "vector_replay: {error}");
+            ExitCode::FAILURE
+        }
+    }
+}

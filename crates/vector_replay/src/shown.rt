@@ -1,0 +1,112 @@
+//! Commands as the vector files write them.
+use std::fmt;
+use std::fmt::{Display, Formatter, Write};
+use unftp_control::command::{Command, Opt};
+
+/// Bytes as lower-case hex.
+#[derive(Clone, Copy)]
+struct Hex<'a>(&'a [u8]);
+
+impl Display for Hex<'_> {
+    fn fmt<W: Write>(&self, f: &mut Formatter<W>) -> fmt::Result {
+        for byte in self.0 {
+            write!(f, "{byte:02x}")?;
+        }
+        Ok(())
+    }
+}
+
+/// Bytes that may be missing.
+#[derive(Clone, Copy)]
+struct OptionalHex<'a>(Option<&'a [u8]>);
+
+impl Display for OptionalHex<'_> {
+    fn fmt<W: Write>(&self, f: &mut Formatter<W>) -> fmt::Result {
+        match self.0 {
+            None => f.write_str("None"),
+            Some(bytes) => write!(f, "Some:{}", Hex(bytes)),
+        }
+    }
+}
+
+fn bytes_of(text: &Option<String>) -> Option<&[u8]> {
+    text.as_ref().map(|text| text.as_bytes())
+}
+
+/// The variant, the field and its bytes, where the command has one field of bytes or of text.
+fn one_field(command: &Command) -> Option<(&'static str, &'static str, &[u8])> {
+    Some(match command {
+        Command::User { username } => ("User", "username", username.as_slice()),
+        Command::Pass { password } => ("Pass", "password", password.as_ref()),
+        Command::Acct { account } => ("Acct", "account", account.as_slice()),
+        Command::Port { addr } => ("Port", "addr", addr.as_bytes()),
+        Command::Retr { path } => ("Retr", "path", path.as_bytes()),
+        Command::Stor { path } => ("Stor", "path", path.as_bytes()),
+        Command::Appe { path } => ("Appe", "path", path.as_bytes()),
+        Command::Cwd { path } => ("Cwd", "path", path.as_bytes()),
+        Command::Dele { path } => ("Dele", "path", path.as_bytes()),
+        Command::Rmd { path } => ("Rmd", "path", path.as_bytes()),
+        Command::Mkd { path } => ("Mkd", "path", path.as_bytes()),
+        Command::Rnfr { file } => ("Rnfr", "file", file.as_bytes()),
+        Command::Rnto { file } => ("Rnto", "file", file.as_bytes()),
+        Command::Size { file } => ("Size", "file", file.as_bytes()),
+        Command::Mdtm { file } => ("Mdtm", "file", file.as_bytes()),
+        Command::Md5 { file } => ("Md5", "file", file.as_bytes()),
+        _ => return None,
+    })
+}
+
+/// The variant and the bytes of its path, where the command has no field but a path that may be missing.
+fn one_path(command: &Command) -> Option<(&'static str, Option<&[u8]>)> {
+    Some(match command {
+        Command::Stat { path } => ("Stat", path.as_ref().map(|path| path.as_slice())),
+        Command::Nlst { path } => ("Nlst", bytes_of(path)),
+        Command::Mlst { path } => ("Mlst", bytes_of(path)),
+        Command::Mlsd { path } => ("Mlsd", bytes_of(path)),
+        _ => return None,
+    })
+}
+
+/// A command as its variant and its fields, texts in hex.
+#[derive(Clone, Copy)]
+pub struct Shown<'a>(pub &'a Command);
+
+impl Display for Shown<'_> {
+    fn fmt<W: Write>(&self, f: &mut Formatter<W>) -> fmt::Result {
+        if let Some((variant, field, bytes)) = one_field(self.0) {
+            return write!(f, "{variant} {field}={}", Hex(bytes));
+        }
+        if let Some((variant, path)) = one_path(self.0) {
+            return write!(f, "{variant} path={}", OptionalHex(path));
+        }
+        match self.0 {
+            Command::List { options, path } => {
+                let options = OptionalHex(bytes_of(options));
+                let path = OptionalHex(bytes_of(path));
+                write!(f, "List options={options} path={path}")
+            }
+            Command::Stru { structure } => write!(f, "Stru structure={structure:?}"),
+            Command::Mode { mode } => write!(f, "Mode mode={mode:?}"),
+            Command::Opts {
+                option: Opt::Utf8 { on },
+            } => write!(f, "Opts option=Utf8 on={on}"),
+            Command::Auth { protocol } => write!(f, "Auth protocol={protocol:?}"),
+            Command::Prot { param } => write!(f, "Prot param={param:?}"),
+            Command::Rest { offset } => write!(f, "Rest offset={offset}"),
+            Command::Site { command, arguments } => {
+                let command = Hex(command.as_bytes());
+                let arguments = Hex(arguments.as_bytes());
+                write!(f, "Site command={command} arguments={arguments}")
+            }
+            Command::Other {
+                command_name,
+                arguments,
+            } => {
+                let name = Hex(command_name.as_bytes());
+                let arguments = Hex(arguments.as_bytes());
+                write!(f, "Other command_name={name} arguments={arguments}")
+            }
+            command => write!(f, "{command:?}"),
+        }
+    }
+}
