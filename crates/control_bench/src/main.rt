@@ -7,9 +7,8 @@ mod measure;
 mod tests;
 
 use measure::Measure;
-use std::env;
-use std::io;
 use std::process::ExitCode;
+use std::{env, io};
 
 /// The number of rounds that the arguments ask for.
 fn rounds_asked(rt: &HostRuntime) -> io::Result<Option<usize>> {

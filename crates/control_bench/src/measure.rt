@@ -1,9 +1,8 @@
 //! What is measured.
 use std::alloc::Global;
-use std::fmt;
 use std::fmt::{Display, Formatter, Write};
-use std::io;
 use std::time::Instant;
+use std::{fmt, io};
 use unftp_control::codecs::FtpCodec;
 use unftp_control::line_parser::parse;
 
@@ -128,7 +127,8 @@ fn parse_long_lines(rt: &HostRuntime) -> io::Result<u128> {
 
 /// A line with a parameter of 4,096 bytes.
 pub fn long_line(alloc: Global) -> io::Result<Vec<u8>> {
-    let mut line = Vec::from_slice(alloc, b"RETR ")?;
+    let mut line = Vec::with_capacity(alloc, 8192)?;
+    line.extend_from_slice(b"RETR ")?;
     line.resize(line.len() + 4096, b'a')?;
     line.extend_from_slice(b"\r\n")?;
     Ok(line)

@@ -199,7 +199,10 @@ fn names_of_site_and_other_verbs_are_raised(rt: HostRuntime) -> Result<(), Fail>
         PA\xc3\x9f x\r\n => Other { command_name: "PAß", arguments: "x" }
         xrmd a\r\n => Other { command_name: "XRMD", arguments: "a" }
         XCUP\r\n => Other { command_name: "XCUP", arguments: "" }
+        A\r\n => Other { command_name: "A", arguments: "" }
         PW\r\n => Other { command_name: "PW", arguments: "" }
+        PWDX\r\n => Other { command_name: "PWDX", arguments: "" }
+        ZZZ\r\n => Other { command_name: "ZZZ", arguments: "" }
         \xff\xf4\xff\xf2ABOR\r\n => InvalidUtf8
         "#,
     )
