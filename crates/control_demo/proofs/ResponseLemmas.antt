@@ -1,24 +1,18 @@
 -- The responses to what the codec tells.
-use Rattle.std.proofs.Common.{◌≡◌, ℕ, ◌+◌, ◌<◌, Bool, false, cond, Option, Some, None, Ok, Err, refl, sym, ap, ◌∙◌, inl, inr, arith, length-drop}
+use Rattle.std.proofs.Common.{◌≡◌, ℕ, ◌+◌, ◌<◌, Bool, cond, Option, Some, None, Ok, Err, refl, sym, ap, ◌∙◌, inl, inr, arith, length-drop}
 use Rattle.std.specs.Option.{MatchOption}
 use Rattle.std.proofs.lemmas.Option.{none-some, same_Some}
 use Rattle.std.specs.Fmt.{digits}
 use Rattle.unftp_control.specs.Bytes.{Bytes}
 use Rattle.unftp_control.specs.FtpCommand.{Answer, Noop}
 use Rattle.unftp_control.specs.FtpReply.{encoded, CodeAndMsg}
-use Rattle.unftp_control.specs.Events.{FtpEvent, Command, event_of, OutOfMemory}
+use Rattle.unftp_control.specs.Events.{FtpEvent, Command, event_of}
 use Rattle.unftp_control.specs.Outcome.{outcome}
 use Rattle.unftp_control.specs.Codec.{Codec}
 use Rattle.unftp_control.specs.LineFeed.{line_feed_from}
 use Rattle.unftp_control.specs.Decoding.{Decoded, Decodes, FindsNone, AnswersLine, IsStarved, event_told}
 use Rattle.unftp_control.specs.CommandMeaning.{command_of}
-use denote.Enum.Bare.{sameb}
 use Rattle.unftp_control_command.specs.contracts.CommandPartialEq.TheImpl.{ghosts}
-use Rattle.unftp_control.specs.contracts.error.ControlChanErrorKind.{the_type as kind_type}
-use Rattle.unftp_control.specs.declared.error.ControlChanErrorKind.{ControlChanErrorKind}
-use Rattle.unftp_control.specs.declared.error.ControlChanErrorKind.TheVariants as kind
-use Rattle.unftp_control.specs.ErrorMeaning.{kind_meant}
-use Rattle.std.proofs.lemmas.Bool.{true≢false}
 use Rattle.unftp_control.specs.declared.command.Command.{Command as RustCommand}
 use Rattle.unftp_control.specs.declared.command.Command.TheVariants as rust
 use Rattle.unftp_control_codecs.proofs.LineFeedLemmas.{line_feed_at}
@@ -67,11 +61,6 @@ response_to-event event line told = ap response_for told ∙ response_for-event_
 pub response_for-command : (command : RustCommand) → response_for (Command (command_of command)) ≡ cond (ghosts.eq command rust.Noop) done not_implemented
 response_for-command rust.Noop = refl
 response_for-command _ = refl
-
-pub not_starved : (k : ControlChanErrorKind) (b : Bool) → b ≡ sameb kind_type k kind.OutOfMemory → b ≡ false → kind_meant k ≡ OutOfMemory → ⊥
-not_starved kind.OutOfMemory b same is_false starved = true≢false (sym same ∙ is_false)
-not_starved kind.Utf8Error b same is_false starved = cc
-not_starved kind.InvalidCommand b same is_false starved = cc
 
 -- What the codec at place 0 tells of its buffer.
 pub no_line_decoded : (old new : Codec) (before after : Bytes) → old.place ≡ 0 → Decodes old new before after (Ok None) → lines_of before ≡ []

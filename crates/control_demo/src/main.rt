@@ -1,7 +1,7 @@
 //! Answers the lines on standard input: `200 OK` to each NOOP, and `502 Not implemented` to any other.
 #![tactic(auto)]
 
-ghost use Rattle.std.specs.Prelude.{◌≡◌, ◌++◌, [], take, vec_len, IfOk, IfErr, IfSome, OnOk, OnErr, MatchBool, if◌then◌else◌};
+ghost use Rattle.std.specs.Prelude.{◌≡◌, ◌↔◌, ◌++◌, [], IsTrue, take, vec_len, IfOk, IfErr, IfSome, OnOk, OnErr, MatchBool, if◌then◌else◌};
 ghost use Rattle.std.specs.Io.KnownBytes.{Appends};
 ghost use Rattle.unftp_control.specs.Events.{OutOfMemory};
 ghost use Rattle.unftp_control.specs.FtpReply.{encoded};
@@ -73,15 +73,23 @@ fn append_response(
             is_noop
         }
         Err(error) => {
-            if *error.kind() == ControlChanErrorKind::OutOfMemory {
+            if is_starved(&error) {
                 return Err(error);
             }
+            drop(error);
             false
         }
     };
     let reply = response(alloc, is_noop)?;
     codec.encode(reply, out)?;
     Ok(true)
+}
+
+/// Whether memory was refused.
+fn is_starved(error: &ControlChanError) -> bool
+    ensures { IsTrue result ↔ ((fault_of error.now).kind ≡ OutOfMemory) }
+{
+    matches!(error.kind(), ControlChanErrorKind::OutOfMemory)
 }
 
 /// The response to NOOP, or to any other line.

@@ -1,5 +1,6 @@
 -- What contracts see of a command: its meaning, whatever memory holds its texts.
-use Rattle.std.specs.Prelude.{option_map, string_bytes}
+use Rattle.std.specs.Prelude.{option_map, Option, Some, None, string_bytes, codes}
+use Rattle.unftp_control_defs.specs.Bytes.{Bytes}
 use Rattle.unftp_control_defs.specs.FtpCommand as spec
 use Rattle.unftp_control_defs.specs.FtpCommand.{FtpCommand}
 use Rattle.unftp_control_command.specs.declared.Command.{Command}
@@ -50,3 +51,8 @@ command_of (rust.Mdtm v) = spec.Mdtm (string_bytes v)
 command_of (rust.Md5 v) = spec.Md5 (string_bytes v)
 command_of (rust.Site v0 v1) = spec.Site (string_bytes v0) (string_bytes v1)
 command_of (rust.Other v0 v1) = spec.Other (string_bytes v0) (string_bytes v1)
+
+-- What Display writes of a command of PASS, whatever its password. Of the other commands nothing is said.
+abbrev pub shown : Command → Option Bytes
+shown (rust.Pass password) = Some (codes "Pass { password: Password { bytes: ******* } }")
+shown command = None

@@ -7,6 +7,7 @@ ghost use Rattle.unftp_control_command.specs.declared.Command.{Command as RustCo
 
 use bytes::Bytes;
 use std::alloc::{AllocError, Global};
+use std::fmt;
 pub use unftp_control_defs::parameters::{AuthParam, ModeParam, Opt, ProtParam, StruParam};
 use unftp_control_password::Password;
 
@@ -310,6 +311,20 @@ impl Command {
                 arguments: text_again(alloc, arguments)?,
             },
         })
+    }
+}
+
+/// The same as Debug. Of PASS it is one text, which tells neither the password's bytes nor their length.
+impl fmt::Display for Command {
+    ghost use Rattle.unftp_control_command.specs.CommandMeaning.{shown};
+
+    ghost output = { shown };
+
+    fn fmt<W: fmt::Write>(&self, f: &mut fmt::Formatter<W>) -> fmt::Result {
+        match self {
+            Command::Pass { .. } => f.write_str("Pass { password: Password { bytes: ******* } }"),
+            command => fmt::Debug::fmt(command, f),
+        }
     }
 }
 

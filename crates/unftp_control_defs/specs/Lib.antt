@@ -9,4 +9,5 @@ pub mod Rules
 pub mod Outcome
 pub mod FtpReply
 pub mod Events
+pub mod Texts
 pub mod Run

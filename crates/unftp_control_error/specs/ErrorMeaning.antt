@@ -1,5 +1,6 @@
 -- What an error means.
-use Rattle.unftp_control_defs.specs.Events.{Fault, FaultKind, FaultSource, NoSource, Parse}
+use Rattle.std.specs.Prelude.{string_bytes}
+use Rattle.unftp_control_defs.specs.Events.{Fault, FaultKind, FaultSource, NoSource, Parse, Utf8, Io}
 use Rattle.unftp_control_defs.specs.Events as fault
 use Rattle.unftp_control_line_parser.specs.declared.error.ParseErrorKind.{ParseErrorKind}
 use Rattle.unftp_control_line_parser.specs.declared.error.ParseErrorKind.TheVariants as parse
@@ -11,13 +12,23 @@ use Rattle.unftp_control_error.specs.declared.Source.TheVariants as source
 use Rattle.unftp_control_error.specs.ErrorParts.{Parts}
 
 abbrev pub kind_meant : ControlChanErrorKind → FaultKind
+kind_meant kind.IoError = fault.IoError
+kind_meant kind.ParseError = fault.ParseError
+kind_meant kind.InternalServerError = fault.InternalServerError
+kind_meant kind.AuthenticationError = fault.AuthenticationError
+kind_meant kind.InternalMsgError = fault.InternalMsgError
 kind_meant kind.Utf8Error = fault.Utf8Error
+kind_meant (kind.UnknownCommand command) = fault.UnknownCommand (string_bytes command)
 kind_meant kind.InvalidCommand = fault.InvalidCommand
+kind_meant kind.ControlChannelTimeout = fault.ControlChannelTimeout
+kind_meant kind.IllegalState = fault.IllegalState
 kind_meant kind.OutOfMemory = fault.OutOfMemory
 
 abbrev pub source_meant : Source → FaultSource
 source_meant source.None = NoSource
 source_meant (source.Parse error) = Parse (refusal_of error)
+source_meant (source.Utf8 error) = Utf8
+source_meant (source.Io error) = Io
 
 abbrev pub fault_of : Parts → Fault
 fault_of parts = record { kind = kind_meant parts.kind; source = source_meant parts.source }

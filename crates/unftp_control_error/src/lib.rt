@@ -1,21 +1,79 @@
 //! The errors of the control channel.
 #![tactic(auto)]
 
-ghost use Rattle.std.specs.Prelude.{◌≡◌};
+ghost use Rattle.std.specs.Prelude.{◌≡◌, ◌↔◌, IsTrue};
+ghost use Rattle.unftp_control_error.specs.ErrorMeaning.{kind_meant};
+ghost use Rattle.unftp_control_error.specs.declared.ControlChanErrorKind.{ControlChanErrorKind as RustKind};
 
 use std::alloc::AllocError;
+use std::error::Error;
 use std::marker::Model;
+use std::str::Utf8Error;
+use std::{fmt, io};
 use unftp_control_line_parser::{ParseError, ParseErrorKind};
 
 /// What went wrong on the control channel.
+///
+/// This library itself tells `Utf8Error`, `InvalidCommand` and `OutOfMemory`, and makes an `IoError` of std's; the other kinds are
+/// there for the server that stands on it.
 #[derive(Debug, Drop, PartialEq, Eq)]
 pub enum ControlChanErrorKind {
+    /// Reading or writing failed.
+    IoError,
+    /// A line could not be read.
+    ParseError,
+    /// The server failed by itself.
+    InternalServerError,
+    /// The user could not be authenticated, for another reason than what the user sent.
+    AuthenticationError,
+    /// A message of the data channel could not be made a reply.
+    InternalMsgError,
     /// A verb, or a part of a parameter that has to be, is not UTF-8.
     Utf8Error,
+    /// A command is not known.
+    UnknownCommand {
+        /// The command as it was sent.
+        command: String,
+    },
     /// A line is no command that is read.
     InvalidCommand,
+    /// The client sent nothing for too long.
+    ControlChannelTimeout,
+    /// The control channel is in a state in which it must not be.
+    IllegalState,
     /// Memory was refused.
     OutOfMemory,
+}
+
+/// The text of the kind, the same under all flags of the formatter.
+impl fmt::Display for ControlChanErrorKind {
+    ghost use Rattle.std.specs.Prelude.{Some};
+    ghost use Rattle.unftp_control_defs.specs.Texts.{kind_text};
+    ghost use Rattle.unftp_control_error.specs.ErrorMeaning.{kind_meant};
+
+    ghost output = { λ kind. Some (kind_text (kind_meant kind)) };
+
+    fn fmt<W: fmt::Write>(&self, f: &mut fmt::Formatter<W>) -> fmt::Result {
+        f.write_str(match self {
+            ControlChanErrorKind::UnknownCommand { command } => {
+                return write!(f, "Unknown command: {command}");
+            }
+            ControlChanErrorKind::IoError => "Failed to perform IO",
+            ControlChanErrorKind::ParseError => "Failed to parse command",
+            ControlChanErrorKind::InternalServerError => "Internal Server Error",
+            ControlChanErrorKind::AuthenticationError => {
+                "Something went wrong when trying to authenticate"
+            }
+            ControlChanErrorKind::InternalMsgError => "Failed to map event from data channel",
+            ControlChanErrorKind::Utf8Error => "Non-UTF8 character in command",
+            ControlChanErrorKind::InvalidCommand => "Invalid command (invalid parameter)",
+            ControlChanErrorKind::ControlChannelTimeout => {
+                "Encountered read timeout on the control channel"
+            }
+            ControlChanErrorKind::IllegalState => "Control channel in illegal state",
+            ControlChanErrorKind::OutOfMemory => "Out of memory",
+        })
+    }
 }
 
 /// What an error comes from.
@@ -25,6 +83,10 @@ pub enum Source {
     None,
     /// From a line that the parser answered no command for.
     Parse(ParseError),
+    /// From bytes that are not UTF-8.
+    Utf8(Utf8Error),
+    /// From reading or writing.
+    Io(io::Error),
 }
 
 /// An error of the control channel: its kind, and what it comes from.
@@ -69,6 +131,65 @@ impl ControlChanError {
     }
 }
 
+/// The text of its kind behind `control channel error: `; its source is not told.
+impl fmt::Display for ControlChanError {
+    ghost use Rattle.std.specs.Prelude.{Some};
+    ghost use Rattle.unftp_control_defs.specs.Texts.{error_text};
+    ghost use Rattle.unftp_control_error.specs.ErrorMeaning.{kind_meant};
+
+    ghost output = { λ error. Some (error_text (kind_meant error.kind)) };
+
+    fn fmt<W: fmt::Write>(&self, f: &mut fmt::Formatter<W>) -> fmt::Result {
+        write!(f, "control channel error: {}", self.kind)
+    }
+}
+
+impl Error for ControlChanError {}
+
+/// An error of this kind that comes from nothing else.
+impl From<ControlChanErrorKind> for ControlChanError {
+    ghost use Rattle.std.specs.Prelude.{◌≡◌};
+    ghost use Rattle.unftp_control_error.specs.declared.Source.TheVariants.{None};
+
+    ghost from_gives = { λ kind error. (error.kind ≡ kind) × (error.source ≡ None) };
+
+    fn from(kind: ControlChanErrorKind) -> ControlChanError {
+        ControlChanError::new(kind)
+    }
+}
+
+/// The kind `IoError`, with that error as its source.
+impl From<io::Error> for ControlChanError {
+    ghost use Rattle.std.specs.Prelude.{◌≡◌};
+    ghost use Rattle.unftp_control_error.specs.declared.ControlChanErrorKind.TheVariants.{IoError};
+    ghost use Rattle.unftp_control_error.specs.declared.Source.TheVariants.{Io};
+
+    ghost from_gives = { λ io error. (error.kind ≡ IoError) × (error.source ≡ Io io) };
+
+    fn from(error: io::Error) -> ControlChanError {
+        ControlChanError {
+            kind: ControlChanErrorKind::IoError,
+            source: Source::Io(error),
+        }
+    }
+}
+
+/// The kind `Utf8Error`, with that error as its source.
+impl From<Utf8Error> for ControlChanError {
+    ghost use Rattle.std.specs.Prelude.{◌≡◌};
+    ghost use Rattle.unftp_control_error.specs.declared.ControlChanErrorKind.TheVariants.{Utf8Error};
+    ghost use Rattle.unftp_control_error.specs.declared.Source.TheVariants.{Utf8};
+
+    ghost from_gives = { λ utf8 error. (error.kind ≡ Utf8Error) × (error.source ≡ Utf8 utf8) };
+
+    fn from(error: Utf8Error) -> ControlChanError {
+        ControlChanError {
+            kind: ControlChanErrorKind::Utf8Error,
+            source: Source::Utf8(error),
+        }
+    }
+}
+
 /// The kind that the parser's error becomes, with that error as its source.
 impl From<ParseError> for ControlChanError {
     ghost use Rattle.std.specs.Prelude.{◌≡◌};
@@ -104,3 +225,8 @@ impl From<AllocError> for ControlChanError {
         ControlChanError::new(ControlChanErrorKind::OutOfMemory)
     }
 }
+
+/// `==` of kinds is equality of what they mean.
+pub fn same_kinds()
+    ensures { (a b : RustKind) → IsTrue (⟦<ControlChanErrorKind as PartialEq>⟧.eq a b) ↔ (kind_meant a ≡ kind_meant b) }
+{}

@@ -1,6 +1,8 @@
 //! Why a line is no command.
 ghost use Rattle.std.specs.Prelude.{◌≡◌};
 
+use std::error::Error;
+use std::fmt;
 use std::marker::Model;
 use std::result;
 use std::str::Utf8Error;
@@ -16,6 +18,23 @@ pub enum ParseErrorKind {
     InvalidEol,
     /// Memory was refused; nothing is said of the line.
     OutOfMemory,
+}
+
+impl fmt::Display for ParseErrorKind {
+    ghost use Rattle.std.specs.Prelude.{Some};
+    ghost use Rattle.unftp_control_defs.specs.Texts.{reading_text};
+    ghost use Rattle.unftp_control_line_parser.specs.Told.{refusal_of};
+
+    ghost output = { λ kind. Some (reading_text (refusal_of kind)) };
+
+    fn fmt<W: fmt::Write>(&self, f: &mut fmt::Formatter<W>) -> fmt::Result {
+        f.write_str(match self {
+            ParseErrorKind::InvalidCommand => "Invalid command",
+            ParseErrorKind::InvalidUtf8 => "Non-UTF8 character while parsing",
+            ParseErrorKind::InvalidEol => "Invalid end-of-line",
+            ParseErrorKind::OutOfMemory => "Out of memory",
+        })
+    }
 }
 
 /// The error of `parse`. Contracts see it as its kind.
@@ -63,6 +82,20 @@ impl From<Utf8Error> for ParseError {
         }
     }
 }
+
+impl fmt::Display for ParseError {
+    ghost use Rattle.std.specs.Prelude.{Some};
+    ghost use Rattle.unftp_control_defs.specs.Texts.{parse_error_text};
+    ghost use Rattle.unftp_control_line_parser.specs.Told.{refusal_of};
+
+    ghost output = { λ kind. Some (parse_error_text (refusal_of kind)) };
+
+    fn fmt<W: fmt::Write>(&self, f: &mut fmt::Formatter<W>) -> fmt::Result {
+        write!(f, "parse error: {}", self.kind)
+    }
+}
+
+impl Error for ParseError {}
 
 /// What `parse` answers.
 pub type Result<T> = result::Result<T, ParseError>;

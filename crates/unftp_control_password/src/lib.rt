@@ -4,7 +4,7 @@
 ghost use Rattle.std.specs.Prelude.{◌≡◌, ◌↔◌, ℕ, List, IsTrue, IfOk};
 
 use bytes::Bytes;
-use std::alloc::AllocError;
+use std::alloc::{AllocError, Global};
 use std::convert::AsSlice;
 use std::fmt;
 use std::marker::Model;
@@ -34,6 +34,13 @@ impl Password {
         ensures { result ≡ bytes }
     {
         Password { bytes }
+    }
+
+    /// Holds the bytes of the text; `AllocError` where memory is refused.
+    pub fn from_text(alloc: Global, text: &str) -> Result<Password, AllocError>
+        ensures { IfOk result (λ password. password ≡ text.now) }
+    {
+        Ok(Password::new(Bytes::copy_from_slice(alloc, text.as_bytes())?))
     }
 
     /// Its bytes.
@@ -80,6 +87,17 @@ impl Eq for Password {
     ghost use Rattle.std.specs.Cmp.Lexicographic.{nat_list_eq_equiv};
 
     ghost laws = { nat_list_eq_equiv };
+}
+
+/// The same text for all passwords.
+impl fmt::Display for Password {
+    ghost use Rattle.std.specs.Prelude.{Some, codes};
+
+    ghost output = { λ _. Some (codes "*******") };
+
+    fn fmt<W: fmt::Write>(&self, f: &mut fmt::Formatter<W>) -> fmt::Result {
+        f.write_str("*******")
+    }
 }
 
 /// The same text for all passwords.

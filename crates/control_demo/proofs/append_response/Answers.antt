@@ -1,15 +1,13 @@
+use Rattle.std.proofs.lemmas.Bool.{true≢false}
 use Rattle.std.proofs.Common.{◌≡◌, ◌++◌, refl, sym, ap, ◌∙◌, cond, Some, Ok, Err}
 use Rattle.unftp_control.specs.Codec.{Codec}
 use Rattle.unftp_control.specs.CommandMeaning.{command_of}
 use Rattle.unftp_control.specs.Events.{Command, Refused}
 use Rattle.unftp_control.specs.ErrorMeaning.{fault_of}
-use denote.Enum.Bare.{sameb}
-use Rattle.unftp_control.specs.contracts.error.ControlChanErrorKind.{the_type as kind_type}
-use Rattle.unftp_control.specs.declared.error.ControlChanErrorKind.TheVariants as kind
 use Rattle.control_demo.specs.Response.{done, not_implemented, RespondsToFirst}
-use Rattle.control_demo.proofs.ResponseLemmas.{no_line_decoded, responds, response_for-command, not_starved}
+use Rattle.control_demo.proofs.ResponseLemmas.{no_line_decoded, responds, response_for-command}
 use Rattle.control_demo.proofs.append_response.Goals as goal
-use Rattle.control_demo.proofs.append_response.Goals.{in-Ok-Some, in-Err+else-eq}
+use Rattle.control_demo.proofs.append_response.Goals.{in-Ok-Some, in-Err+else-is_starved}
 
 pub returns-in-Ok-None-clause-ok : goal.returns-in-Ok-None-clause-ok
 returns-in-Ok-None-clause-ok c =
@@ -27,10 +25,10 @@ returns-clause-ok c =
           (Ok (Some w.in-Ok-Some.command)) (Command (command_of w.in-Ok-Some.command)) c.match-decode.is_noop
           c.requires decoded refl (λ starved. starved)
           (response_for-command w.in-Ok-Some.command ∙ ap (λ b. cond b done not_implemented) (sym (w.is_noop-is ∙ w.eq-is_noop.ensures))) appended
-      | in-Err+else-eq w ↦
+      | in-Err+else-is_starved w ↦
           responds c.args.codec.now c.decode.new.self c.args.lines.now.items c.decode.new.buf.items c.args.out.now.items c.encode.new.buf.items
           (Err w.in-Err.error) (Refused (fault_of w.in-Err.error)) c.match-decode.is_noop
-          c.requires w.in-Err.ensures.decodes refl (not_starved w.in-Err.error.kind w.eq.result (w.eq.ensures ∙ ap (λ k. sameb kind_type k kind.OutOfMemory) w.kind.ensures) w.if-eq.false)
+          c.requires w.in-Err.ensures.decodes refl (λ starved. true≢false (sym (w.is_starved.ensures.1 starved) ∙ w.if-is_starved.false))
           (ap (λ b. cond b done not_implemented) (sym w.is_noop-is)) appended
     ] in
     (answered.0, ap (λ (codec : Codec). codec.place) same_place ∙ answered.1)

@@ -19,3 +19,13 @@ fn a_refused_clone_leaves_the_password(rt: HostRuntime) -> Result<(), Fail> {
     assert!(rt; copy == password);
     Ok(())
 }
+
+#[test]
+fn a_refused_text_is_tried_again(rt: HostRuntime) -> Result<(), Fail> {
+    let password = match Password::from_text(rt.alloc(), "supersecret") {
+        Ok(password) => password,
+        Err(_) => Password::from_text(rt.alloc(), "supersecret")?,
+    };
+    assert_eq!(rt; password.as_ref(), b"supersecret".as_slice());
+    Ok(())
+}
