@@ -2,17 +2,15 @@
 ghost use Rattle.std.specs.Prelude.{◌≤◌, vec_len};
 
 mod counted;
+mod errors;
 mod growths;
 mod lines;
 
 use crate::codecs::FtpCodec;
 use crate::command::Command;
-use crate::error::{ControlChanError, ControlChanErrorKind, Source};
-use crate::line_parser::{ParseError, ParseErrorKind, parse};
+use crate::error::{ControlChanError, ControlChanErrorKind};
 use crate::reply::{Reply, ReplyCode};
 use std::alloc::Global;
-use std::process::Abort;
-use std::str::from_utf8;
 use std::test::Fail;
 
 /// Answers the first line of `buf`, if one has come whole.
@@ -36,6 +34,7 @@ fn answer_line(
             if *error.kind() == ControlChanErrorKind::OutOfMemory {
                 return Err(error);
             }
+            drop(error);
             false
         }
     };
@@ -64,99 +63,48 @@ fn a_caller_answers_line_by_line(rt: HostRuntime) -> Result<(), Fail> {
     Ok(())
 }
 
-#[test]
-fn passwords_are_not_shown(rt: HostRuntime) -> Result<(), Fail> {
-    for (line, bytes) in [
-        (
-            b"PASS supersecret\r\n".as_slice(),
-            b"supersecret".as_slice(),
-        ),
-        (b"PASS\r\n".as_slice(), b"".as_slice()),
-    ] {
-        let command = parse(rt.alloc(), line)?;
-        let text = format!(in rt.alloc(); "{command:?}")?;
-        assert_eq!(rt;
-            text.as_str(),
-            "Pass { password: Password { bytes: ******* } }"
-        );
-        let Command::Pass { password } = &command else {
-            panic!(rt; "no password");
-        };
-        assert_eq!(rt; password.as_ref(), bytes);
-    }
-    Ok(())
-}
-
-#[test]
-fn parse_errors_have_the_kind_that_they_are_made_of(rt: HostRuntime) -> Result<(), Fail> {
-    let error = ParseError::from(ParseErrorKind::InvalidEol);
-    assert_eq!(rt; error.kind(), &ParseErrorKind::InvalidEol);
-    assert_eq!(rt;
-        error,
-        ParseError::from(ParseErrorKind::InvalidEol.clone()?)
-    );
-    match from_utf8(b"\xff") {
-        Ok(text) => panic!(rt; "{text}"),
+/// What the codec tells of the front of the buffer: the Debug text of its answer, or of the kind of its error.
+fn told(alloc: Global, codec: &mut FtpCodec, buf: &mut Vec<u8>) -> Result<String, Fail>
+    requires { codec.old.place ≤ vec_len buf.old }
+    ensures { codec.new.place ≤ vec_len buf.new }
+{
+    let text = match codec.decode(alloc, buf) {
+        Ok(command) => {
+            let text = format!(in alloc; "{command:?}");
+            drop(command);
+            text
+        }
         Err(error) => {
-            assert_eq!(rt;
-                ParseError::from(error).kind(),
-                &ParseErrorKind::InvalidUtf8
-            );
+            let kind = error.kind();
+            let text = format!(in alloc; "{kind:?}");
+            drop(error);
+            text
         }
-    }
-    Ok(())
-}
-
-#[test]
-fn converted_errors_keep_their_source(rt: HostRuntime) {
-    for (kind, source, want) in [
-        (
-            ParseErrorKind::InvalidCommand,
-            ParseErrorKind::InvalidCommand,
-            ControlChanErrorKind::InvalidCommand,
-        ),
-        (
-            ParseErrorKind::InvalidUtf8,
-            ParseErrorKind::InvalidUtf8,
-            ControlChanErrorKind::Utf8Error,
-        ),
-        (
-            ParseErrorKind::InvalidEol,
-            ParseErrorKind::InvalidEol,
-            ControlChanErrorKind::InvalidCommand,
-        ),
-        (
-            ParseErrorKind::OutOfMemory,
-            ParseErrorKind::OutOfMemory,
-            ControlChanErrorKind::OutOfMemory,
-        ),
-    ] {
-        let error = ControlChanError::from(ParseError::from(kind));
-        assert_eq!(rt; error.kind(), &want);
-        match error.source() {
-            Source::None => panic!(rt; "no source at {want:?}"),
-            Source::Parse(error) => assert_eq!(rt; error.kind(), &source),
-        }
-    }
-    let error = ControlChanError::new(ControlChanErrorKind::OutOfMemory);
-    assert!(rt; matches!(error.source(), Source::None));
+    };
+    Ok(text?)
 }
 
 #[test]
 fn a_line_is_decoded_once_it_is_whole(rt: HostRuntime) -> Result<(), Fail> {
     let mut codec = FtpCodec::new();
     let mut buf = Vec::from_slice(rt.alloc(), b"NOOP")?;
-    assert_eq!(rt; codec.decode(rt.alloc(), &mut buf)?, None);
+    assert_eq!(rt; told(rt.alloc(), &mut codec, &mut buf)?.as_str(), "None");
     assert_eq!(rt; codec.place(), 4);
     assert_eq!(rt; buf.as_slice(), b"NOOP".as_slice());
     buf.extend_from_slice(b"\r\nQUIT\n")?;
     assert!(rt; codec.place() <= buf.len());
-    assert_eq!(rt; codec.decode(rt.alloc(), &mut buf)?, Some(Command::Noop));
+    assert_eq!(rt;
+        told(rt.alloc(), &mut codec, &mut buf)?.as_str(),
+        "Some(Noop)"
+    );
     assert_eq!(rt; codec.place(), 0);
     assert_eq!(rt; buf.as_slice(), b"QUIT\n".as_slice());
-    assert_eq!(rt; codec.decode(rt.alloc(), &mut buf)?, Some(Command::Quit));
+    assert_eq!(rt;
+        told(rt.alloc(), &mut codec, &mut buf)?.as_str(),
+        "Some(Quit)"
+    );
     assert!(rt; buf.is_empty());
-    assert_eq!(rt; codec.decode(rt.alloc(), &mut buf)?, None);
+    assert_eq!(rt; told(rt.alloc(), &mut codec, &mut buf)?.as_str(), "None");
     assert_eq!(rt; codec.place(), 0);
     Ok(())
 }
@@ -165,20 +113,15 @@ fn a_line_is_decoded_once_it_is_whole(rt: HostRuntime) -> Result<(), Fail> {
 fn a_refused_line_costs_itself_alone(rt: HostRuntime) -> Result<(), Fail> {
     let mut codec = FtpCodec::new();
     let mut buf = Vec::from_slice(rt.alloc(), b"REST x\r\nSITE \xff\r\nPWD\r\n")?;
-    for want in [
-        ControlChanErrorKind::InvalidCommand,
-        ControlChanErrorKind::Utf8Error,
+    for (want, rest) in [
+        ("InvalidCommand", b"SITE \xff\r\nPWD\r\n".as_slice()),
+        ("Utf8Error", b"PWD\r\n".as_slice()),
+        ("Some(Pwd)", b"".as_slice()),
     ] {
-        assert!(rt; codec.place() <= buf.len());
-        match codec.decode(rt.alloc(), &mut buf) {
-            Ok(command) => panic!(rt; "{command:?} at {want:?}"),
-            Err(error) => assert_eq!(rt; error.kind(), &want),
-        }
+        assert_eq!(rt; told(rt.alloc(), &mut codec, &mut buf)?.as_str(), want);
+        assert_eq!(rt; buf.as_slice(), rest);
         assert_eq!(rt; codec.place(), 0);
     }
-    assert!(rt; codec.place() <= buf.len());
-    assert_eq!(rt; codec.decode(rt.alloc(), &mut buf)?, Some(Command::Pwd));
-    assert!(rt; buf.is_empty());
     Ok(())
 }
 

@@ -2,10 +2,9 @@
 ghost use Rattle.std.specs.Prelude.{◌≡◌};
 
 use std::error::Error;
-use std::fmt;
 use std::marker::Model;
-use std::result;
 use std::str::Utf8Error;
+use std::{fmt, result};
 
 /// Why `parse` answers no command.
 #[derive(Debug, Drop, PartialEq, Eq, Clone)]

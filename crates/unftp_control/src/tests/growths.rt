@@ -3,8 +3,8 @@
 use crate::codecs::FtpCodec;
 use crate::command::Command;
 use crate::error::{ControlChanError, ControlChanErrorKind};
-use crate::line_parser::{ParseErrorKind, parse};
 use crate::reply::{Reply, ReplyCode};
+use std::alloc::Global;
 use std::process::Abort;
 use std::test::Fail;
 
@@ -55,96 +55,80 @@ fn a_refused_encoding_leaves_the_buffer(rt: HostRuntime) -> Result<(), Fail> {
     Ok(())
 }
 
-#[test]
-fn lines_are_decoded_without_memory(rt: HostRuntime) -> Result<(), Fail> {
-    let Ok(mut buf) = Vec::from_slice(rt.alloc(), b"NOOP\r\n\xff\nNOOP x\r\nPW") else {
-        return Ok(());
+/// The command of the line in front of PWD. Where memory is refused for it, the line stays in the buffer, and is decoded anew;
+/// where it is refused for the buffer, there is none.
+fn first_command(rt: &impl Abort, alloc: Global, line: &[u8]) -> Result<Option<Command>, Fail> {
+    let Ok(mut buf) = Vec::from_slice(alloc, line) else {
+        return Ok(None);
     };
     let mut codec = FtpCodec::new();
-    assert_eq!(rt; codec.decode(rt.alloc(), &mut buf)?, Some(Command::Noop));
-    for want in [
-        ControlChanErrorKind::Utf8Error,
-        ControlChanErrorKind::InvalidCommand,
-    ] {
-        assert!(rt; codec.place() <= buf.len());
-        match codec.decode(rt.alloc(), &mut buf) {
-            Ok(command) => panic!(rt; "{command:?}"),
-            Err(error) => assert_eq!(rt; error.kind(), &want),
+    let command = match codec.decode(alloc, &mut buf) {
+        Ok(command) => command,
+        Err(error) => {
+            assert_starved(rt, &error);
+            drop(error);
+            assert_eq!(rt; codec.place(), 0);
+            assert_eq!(rt; buf.as_slice(), line);
+            assert!(rt; codec.place() <= buf.len());
+            codec.decode(alloc, &mut buf)?
         }
-    }
-    assert!(rt; codec.place() <= buf.len());
-    assert_eq!(rt; codec.decode(rt.alloc(), &mut buf)?, None);
-    assert_eq!(rt; codec.place(), 2);
-    codec.encode(Reply::None, &mut buf)?;
-    assert_eq!(rt; buf.as_slice(), b"PW".as_slice());
+    };
+    assert!(rt; buf.as_slice() == b"PWD\r\n".as_slice());
+    Ok(command)
+}
+
+/// A clone is equal, and where it is refused, the next one is.
+fn assert_cloned(rt: &impl Abort, alloc: Global, command: &Command) -> Result<(), Fail> {
+    let copy = match command.clone(alloc) {
+        Ok(copy) => copy,
+        Err(_) => command.clone(alloc)?,
+    };
+    let is_same = copy == *command;
+    drop(copy);
+    assert!(rt; is_same);
     Ok(())
 }
 
-#[test]
-fn lines_are_parsed_without_memory(rt: HostRuntime) -> Result<(), Fail> {
-    assert_eq!(rt; parse(rt.alloc(), b"QUIT\r\n")?, Command::Quit);
-    match parse(rt.alloc(), b"NOOP x\r\n") {
-        Ok(command) => panic!(rt; "{command:?}"),
-        Err(error) => assert_eq!(rt; error.kind(), &ParseErrorKind::InvalidCommand),
+/// The line is this command, where there is memory to tell it.
+fn assert_read(rt: &impl Abort, alloc: Global, line: &[u8], want: &str) -> Result<(), Fail> {
+    let Some(command) = first_command(rt, alloc, line)? else {
+        return Ok(());
+    };
+    let cloned = assert_cloned(rt, alloc, &command);
+    let shown = format!(in alloc; "{command:?}");
+    drop(command);
+    if let Ok(text) = shown {
+        assert_eq!(rt; text.as_str(), want);
     }
-    Ok(())
+    cloned
 }
 
 #[test]
 fn a_refused_line_stays_in_the_buffer(rt: HostRuntime) -> Result<(), Fail> {
     for (line, want) in [
+        ("USER abc\r\nPWD\r\n", "User { username: b\"abc\" }"),
+        ("USER a\r\0b\r\nPWD\r\n", "User { username: b\"a\\rb\" }"),
         (
-            b"USER abc\r\nPWD\r\n".as_slice(),
-            "User { username: b\"abc\" }",
-        ),
-        (
-            b"USER a\r\0b\r\nPWD\r\n".as_slice(),
-            "User { username: b\"a\\rb\" }",
-        ),
-        (
-            b"PASS abc\r\nPWD\r\n".as_slice(),
+            "PASS abc\r\nPWD\r\n",
             "Pass { password: Password { bytes: ******* } }",
         ),
+        ("RETR abc\r\nPWD\r\n", "Retr { path: \"abc\" }"),
         (
-            b"RETR a\xffb\r\nPWD\r\n".as_slice(),
-            "Retr { path: \"a\u{fffd}b\" }",
-        ),
-        (
-            b"LIST -la abc\r\nPWD\r\n".as_slice(),
+            "LIST -la abc\r\nPWD\r\n",
             "List { options: None, path: Some(\"abc\") }",
         ),
         (
-            b"site echo a b\r\nPWD\r\n".as_slice(),
+            "site echo a b\r\nPWD\r\n",
             "Site { command: \"ECHO\", arguments: \"a b\" }",
         ),
     ] {
-        let Ok(mut buf) = Vec::from_slice(rt.alloc(), line) else {
-            return Ok(());
-        };
-        let mut codec = FtpCodec::new();
-        let command = match codec.decode(rt.alloc(), &mut buf) {
-            Ok(command) => command,
-            Err(error) => {
-                assert_starved(&rt, &error);
-                assert_eq!(rt; codec.place(), 0);
-                assert_eq!(rt; buf.as_slice(), line);
-                assert!(rt; codec.place() <= buf.len());
-                codec.decode(rt.alloc(), &mut buf)?
-            }
-        };
-        assert_eq!(rt; buf.as_slice(), b"PWD\r\n".as_slice());
-        let Some(command) = command else {
-            panic!(rt; "no line");
-        };
-        let copy = match command.clone(rt.alloc()) {
-            Ok(copy) => copy,
-            Err(_) => command.clone(rt.alloc())?,
-        };
-        assert!(rt; copy == command);
-        let Ok(text) = format!(in rt.alloc(); "{command:?}") else {
-            return Ok(());
-        };
-        assert_eq!(rt; text.as_str(), want);
+        assert_read(&rt, rt.alloc(), line.as_bytes(), want)?;
     }
-    Ok(())
+    // ill-formed UTF-8 is replaced in memory of its own
+    assert_read(
+        &rt,
+        rt.alloc(),
+        b"RETR a\xffb\r\nPWD\r\n",
+        "Retr { path: \"a\u{fffd}b\" }",
+    )
 }

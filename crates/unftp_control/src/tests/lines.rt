@@ -1,16 +1,30 @@
 //! Lines, and what they are read as.
+use crate::command::Command;
 use crate::line_parser::parse;
 use bstr::ByteVec;
 use std::alloc::Global;
 use std::process::Abort;
 use std::test::Fail;
 
-/// What a line is read as: the Debug text of its command, of which a clone is equal, or of the kind of its refusal.
+/// The Debug text of a command, of which Display writes the same and a clone is equal.
+fn text_of(rt: &impl Abort, alloc: Global, command: &Command) -> Result<String, Fail> {
+    let copy = command.clone(alloc)?;
+    let is_same = copy == *command;
+    drop(copy);
+    assert!(rt; is_same);
+    let text = format!(in alloc; "{command:?}")?;
+    let display = format!(in alloc; "{command}")?;
+    assert_eq!(rt; display, text);
+    Ok(text)
+}
+
+/// What a line is read as: the text of its command, or of the kind of its refusal.
 fn answer(rt: &impl Abort, alloc: Global, line: &[u8]) -> Result<String, Fail> {
     match parse(alloc, line) {
         Ok(command) => {
-            assert!(rt; command.clone(alloc)? == command);
-            Ok(format!(in alloc; "{command:?}")?)
+            let text = text_of(rt, alloc, &command);
+            drop(command);
+            text
         }
         Err(error) => {
             let kind = error.kind();
@@ -108,6 +122,8 @@ fn texts_are_read(rt: HostRuntime) -> Result<(), Fail> {
         r#"
         RETR a\r\0\r\n => Retr { path: "a\r" }
         RETR a\xffb\r\n => Retr { path: "a�b" }
+        PASS supersecret\r\n => Pass { password: Password { bytes: ******* } }
+        PASS\r\n => Pass { password: Password { bytes: ******* } }
         STAT\r\n => Stat { path: None }
         STAT f\r\n => Stat { path: Some(b"f") }
         MLSD\r\n => Mlsd { path: None }
