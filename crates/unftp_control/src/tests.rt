@@ -118,6 +118,7 @@ fn a_refused_line_costs_itself_alone(rt: HostRuntime) -> Result<(), Fail> {
         ("Utf8Error", b"PWD\r\n".as_slice()),
         ("Some(Pwd)", b"".as_slice()),
     ] {
+        assert!(rt; codec.place() <= buf.len());
         assert_eq!(rt; told(rt.alloc(), &mut codec, &mut buf)?.as_str(), want);
         assert_eq!(rt; buf.as_slice(), rest);
         assert_eq!(rt; codec.place(), 0);

@@ -11,7 +11,7 @@ use std::io::Write;
 use std::process::ExitCode;
 use std::{env, io};
 use unftp_control::codecs::FtpCodec;
-use unftp_control::error::{ControlChanErrorKind, Source};
+use unftp_control::error::{ControlChanError, ControlChanErrorKind, Source};
 use unftp_control::line_parser::{ParseErrorKind, parse};
 
 /// The call that answers.
@@ -34,11 +34,24 @@ impl Call {
 /// Writes what `parse` makes of a line.
 fn answer_parse<W: Write>(alloc: Global, line: &[u8], out: &mut W) -> io::Result<()> {
     match parse(alloc, line) {
-        Ok(command) => write!(out, "ok {}", Shown(&command)),
+        Ok(command) => {
+            let written = write!(out, "ok {}", Shown(&command));
+            drop(command);
+            written
+        }
         Err(error) => match error.kind() {
             ParseErrorKind::OutOfMemory => Err(io::ErrorKind::OutOfMemory.into()),
             kind => write!(out, "err {kind:?}"),
         },
+    }
+}
+
+/// Writes the kinds of a refusal and of its source.
+fn write_refusal<W: Write>(error: &ControlChanError, out: &mut W) -> io::Result<()> {
+    match (error.kind(), error.source()) {
+        (ControlChanErrorKind::OutOfMemory, _) => Err(io::ErrorKind::OutOfMemory.into()),
+        (kind, Source::Parse(source)) => write!(out, "err {kind:?} {:?} | ", source.kind()),
+        (kind, _) => write!(out, "err {kind:?} | "),
     }
 }
 
@@ -48,20 +61,20 @@ fn answer_decode<W: Write>(alloc: Global, input: Vec<u8>, out: &mut W) -> io::Re
     let mut buf = input;
     // a line has at least one byte, so the last call finds none
     for _ in 0..=buf.len() {
-        match codec.decode(alloc, &mut buf) {
+        let written = match codec.decode(alloc, &mut buf) {
             Ok(None) => break,
-            Ok(Some(command)) => write!(out, "ok {} | ", Shown(&command))?,
-            Err(error) => match (error.kind(), error.source()) {
-                (ControlChanErrorKind::OutOfMemory, _) => {
-                    return Err(io::ErrorKind::OutOfMemory.into());
-                }
-                (kind, Source::Parse(source)) => {
-                    let source = source.kind();
-                    write!(out, "err {kind:?} {source:?} | ")?;
-                }
-                (kind, Source::None) => write!(out, "err {kind:?} | ")?,
-            },
-        }
+            Ok(Some(command)) => {
+                let written = write!(out, "ok {} | ", Shown(&command));
+                drop(command);
+                written
+            }
+            Err(error) => {
+                let written = write_refusal(&error, out);
+                drop(error);
+                written
+            }
+        };
+        written?;
     }
     write!(out, "left={}", buf.len())
 }
