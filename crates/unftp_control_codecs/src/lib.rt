@@ -1,7 +1,7 @@
 //! Cuts lines from the front of a buffer, and appends replies to the end of one.
 #![tactic(auto)]
 
-ghost use Rattle.std.specs.Prelude.{◌≡◌, ◌↔◌, ◌+◌, ◌≤◌, IsTrue, ◌++◌, take, vec_len, IsOk, OnOk, OnErr, IfErr, if◌then◌else◌, length, ◌==◌, decimal};
+ghost use Rattle.std.specs.Prelude.{◌≡◌, ◌↔◌, ◌+◌, ◌≤◌, IsTrue, ◌++◌, take, drop, vec_len, IsOk, OnOk, OnErr, IfErr, if◌then◌else◌, length, ◌==◌, decimal};
 ghost use Rattle.unftp_control_defs.specs.Bytes.{crlf};
 ghost use Rattle.unftp_control_defs.specs.Events.{out_of_memory};
 ghost use Rattle.unftp_control_defs.specs.FtpReply.{Nothing, encoded, after_space};
@@ -81,7 +81,7 @@ impl FtpCodec {
         let (line, _) = buf.as_slice().split_at(end + 1);
         let answer = parse(alloc, line);
         if !is_starved(&answer) {
-            drop(buf.drain(..end + 1));
+            remove_front(buf, end + 1);
             self.place = 0;
         }
         Ok(Some(answer?))
@@ -104,6 +104,16 @@ impl FtpCodec {
         }
         Ok(())
     }
+}
+
+/// Removes this many bytes from the front of the buffer. The rest is moved once, where `drain` would turn the whole buffer.
+fn remove_front(buf: &mut Vec<u8>, count: usize)
+    requires { count ≤ vec_len buf.old }
+    ensures { buf.new.items ≡ drop count buf.old.items }
+{
+    let rest = buf.len() - count;
+    buf.copy_within(count.., 0);
+    buf.truncate(rest);
 }
 
 /// Whether memory was refused.
