@@ -1,5 +1,5 @@
 -- A reply as its code and texts, and the bytes that say it (RFC 959, section 4.2).
-use Rattle.std.specs.Prelude.{ℕ, ◌==◌, if◌then◌else◌, List, [], ◌∷◌, ◌++◌, length, decimal}
+use Rattle.std.specs.Prelude.{ℕ, Bool, true, ◌==◌, ◌&&◌, nat_le, if◌then◌else◌, List, [], ◌∷◌, ◌++◌, length, decimal}
 use Rattle.std.specs.Char.{is_ascii_digit}
 use Rattle.unftp_control_defs.specs.Bytes.{Bytes, SP, DASH, crlf}
 
@@ -30,3 +30,12 @@ encoded (CodeAndMsg code text) = decimal code ++ (if length text == 0 then crlf 
 encoded (MultiLine code []) = decimal code ++ after_space []
 encoded (MultiLine code (line ∷ [])) = decimal code ++ after_space line
 encoded (MultiLine code (line ∷ next ∷ lines)) = decimal code ++ DASH ∷ several code line (next ∷ lines)
+
+-- 2yz tells that the command is done, and 3yz that it may go on (RFC 959, section 4.2.1); where nothing is sent, nothing failed.
+abbrev pub is_positive_code : ℕ → Bool
+is_positive_code code = nat_le 200 code && nat_le code 399
+
+abbrev pub is_positive : FtpReply → Bool
+is_positive Nothing = true
+is_positive (CodeAndMsg code text) = is_positive_code code
+is_positive (MultiLine code lines) = is_positive_code code

@@ -1,0 +1,160 @@
+//! Replies.
+ghost use Rattle.std.specs.Prelude.{◌≡◌, ◌↔◌, map, IsTrue, IfOk, IfErr, string_bytes};
+ghost use Rattle.std.specs.Iterator.{Drains, IsFiniteIterable};
+ghost use Rattle.unftp_control_defs.specs.Events.{out_of_memory};
+ghost use Rattle.unftp_control_defs.specs.FtpReply.{Nothing, CodeAndMsg, MultiLine, is_positive};
+ghost use Rattle.unftp_control_error.specs.ErrorMeaning.{fault_of};
+ghost use Rattle.unftp_control_reply.specs.ReplyMeaning.{number_of, reply_of};
+ghost use Rattle.unftp_control_reply.specs.declared.reply.Reply.{Reply as RustReply};
+
+use crate::code::ReplyCode;
+use std::alloc::{AllocError, Global};
+use std::fmt;
+use unftp_control_error::ControlChanError;
+
+/// What the server answers to a command (RFC 959, section 4.2).
+#[derive(Drop, PartialEq, Eq)]
+pub enum Reply {
+    /// Nothing is sent.
+    None,
+    /// One line: the code and a text.
+    CodeAndMsg {
+        /// The code.
+        code: ReplyCode,
+        /// The text, which may be empty.
+        msg: String,
+    },
+    /// Lines, which stand between the code with a dash and the code with a space.
+    MultiLine {
+        /// The code.
+        code: ReplyCode,
+        /// The lines; there may be one or none.
+        lines: Vec<String>,
+    },
+}
+
+impl Reply {
+    /// A reply of one line. It is refused for want of memory alone, with the kind `OutOfMemory`.
+    pub fn new(alloc: Global, code: ReplyCode, message: &str) -> Result<Reply, ControlChanError>
+        ensures ok { IfOk result (λ reply. reply_of reply ≡ CodeAndMsg (number_of code) message.now) }
+        ensures err { IfErr result (λ error. fault_of error ≡ out_of_memory) }
+    {
+        let msg = String::from_str(alloc, message)?;
+        Ok(Reply::new_with_string(code, msg))
+    }
+
+    /// A reply of one line that holds this text. It takes no memory.
+    pub fn new_with_string(code: ReplyCode, msg: String) -> Reply
+        ensures { reply_of result ≡ CodeAndMsg (number_of code) (string_bytes msg) }
+    {
+        Reply::CodeAndMsg { code, msg }
+    }
+
+    /// A reply of these lines. It is refused for want of memory alone, with the kind `OutOfMemory`.
+    ///
+    /// The lines have to end, which the checker asks of each caller.
+    pub fn new_multiline<'a, I: IntoIterator<Item = &'a str>>(
+        alloc: Global,
+        code: ReplyCode,
+        lines: I,
+    ) -> Result<Reply, ControlChanError>
+        requires { IsFiniteIterable I.into_iter_gives I.IntoIter.can_next I.IntoIter.remaining lines }
+        ensures ok { IfOk result (λ reply. (iterator : I.IntoIter) × (texts : _) × I.into_iter_gives lines iterator
+            × Drains I.IntoIter.next_gives iterator texts × (reply_of reply ≡ MultiLine (number_of code) (map (λ text. text.now) texts))) }
+        ensures err { IfErr result (λ error. fault_of error ≡ out_of_memory) }
+    {
+        let lines = owned_lines(alloc, lines)?;
+        Ok(Reply::MultiLine { code, lines })
+    }
+
+    /// The reply of which nothing is sent.
+    pub fn none() -> Reply
+        ensures { reply_of result ≡ Nothing }
+    {
+        Reply::None
+    }
+
+    /// Whether it tells no failure: a code from 200 to 399, or no reply (RFC 959, section 4.2.1).
+    pub fn is_positive(&self) -> bool
+        ensures { result ≡ is_positive (reply_of self.now) }
+    {
+        match self {
+            Reply::None => true,
+            Reply::CodeAndMsg { code, .. } | Reply::MultiLine { code, .. } => {
+                (200..=399).contains(&code.number())
+            }
+        }
+    }
+
+    /// A reply that says the same, or `AllocError` where memory is refused, which leaves this one as it is.
+    pub fn clone(&self, alloc: Global) -> Result<Reply, AllocError>
+        ensures { IfOk result (λ reply. reply_of reply ≡ reply_of self.now) }
+    {
+        Ok(match self {
+            Reply::None => Reply::None,
+            Reply::CodeAndMsg { code, msg } => Reply::CodeAndMsg {
+                code: *code,
+                msg: String::from_str(alloc, msg.as_str())?,
+            },
+            Reply::MultiLine { code, lines } => Reply::MultiLine {
+                code: *code,
+                lines: lines_again(alloc, lines)?,
+            },
+        })
+    }
+}
+
+/// The lines in memory of their own.
+fn owned_lines<'a, I: IntoIterator<Item = &'a str>>(
+    alloc: Global,
+    lines: I,
+) -> Result<Vec<String>, AllocError>
+    requires { IsFiniteIterable I.into_iter_gives I.IntoIter.can_next I.IntoIter.remaining lines }
+    ensures { IfOk result (λ owned. (iterator : I.IntoIter) × (texts : _) × I.into_iter_gives lines iterator
+        × Drains I.IntoIter.next_gives iterator texts × (map string_bytes owned.items ≡ map (λ text. text.now) texts)) }
+{
+    let mut owned = Vec::new(alloc);
+    let mut rest = lines.into_iter();
+    while let Some(line) = rest.next() {
+        owned.push(String::from_str(alloc, line)?)?;
+    }
+    Ok(owned)
+}
+
+/// The same lines.
+fn lines_again(alloc: Global, lines: &Vec<String>) -> Result<Vec<String>, AllocError>
+    ensures { IfOk result (λ again. map string_bytes again.items ≡ map string_bytes lines.now.items) }
+{
+    let mut again = Vec::with_capacity(alloc, lines.len())?;
+    for line in lines {
+        again.push(String::from_str(alloc, line.as_str())?)?;
+    }
+    Ok(again)
+}
+
+/// One text under all flags of the formatter; of several lines the number and the first.
+impl fmt::Debug for Reply {
+    fn fmt<W: fmt::Write>(&self, f: &mut fmt::Formatter<W>) -> fmt::Result {
+        match self {
+            Reply::None => f.write_str("None"),
+            Reply::CodeAndMsg { code, msg } => {
+                write!(f, "CodeAndMsg {{ code: {code:?}, msg: {msg:?} }}")
+            }
+            Reply::MultiLine { code, lines } => match lines.as_slice() {
+                [first, _, ..] => {
+                    let count = lines.len();
+                    write!(
+                        f,
+                        "MultiLine {{ code: {code:?}, {count} lines ({first}...) }}"
+                    )
+                }
+                lines => write!(f, "MultiLine {{ code: {code:?}, line: {lines:?} }}"),
+            },
+        }
+    }
+}
+
+/// `==` of replies is equality of code and texts.
+pub fn same_replies()
+    ensures { (a b : RustReply) → IsTrue (⟦<Reply as PartialEq>⟧.eq a b) ↔ (reply_of a ≡ reply_of b) }
+{}
