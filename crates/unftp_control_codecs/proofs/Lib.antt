@@ -1,2 +1,3 @@
 pub mod LineFeedLemmas
 pub mod LineCutLemmas
+mod EncodingLemmas

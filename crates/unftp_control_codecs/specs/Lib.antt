@@ -1,3 +1,4 @@
 pub mod Codec
 pub mod LineFeed
 pub mod Decoding
+pub mod Encoding

@@ -1,18 +1,19 @@
 //! Cuts lines from the front of a buffer, and appends replies to the end of one.
 #![tactic(auto)]
 
-ghost use Rattle.std.specs.Prelude.{◌≡◌, ◌↔◌, ◌+◌, ◌≤◌, IsTrue, ◌++◌, take, drop, vec_len, IsOk, OnOk, OnErr, IfErr, if◌then◌else◌, length, ◌==◌, decimal};
-ghost use Rattle.unftp_control_defs.specs.Bytes.{crlf};
+ghost use Rattle.std.specs.Prelude.{◌≡◌, ◌↔◌, ◌+◌, ◌≤◌, IsTrue, ◌++◌, drop, vec_len, IsOk, OnOk, OnErr, IfErr};
 ghost use Rattle.unftp_control_defs.specs.Events.{out_of_memory};
-ghost use Rattle.unftp_control_defs.specs.FtpReply.{Nothing, encoded, after_space};
+ghost use Rattle.unftp_control_defs.specs.FtpReply.{Nothing, encoded};
 ghost use Rattle.unftp_control_error.specs.ErrorMeaning.{fault_of};
 ghost use Rattle.unftp_control_reply.specs.ReplyMeaning.{reply_of};
 ghost use Rattle.unftp_control_codecs.specs.Decoding.{Decodes, IsStarved};
 
+mod encoding;
 mod scan;
 
+use crate::encoding::append_reply;
 use crate::scan::{Scan, Tests};
-use std::alloc::{AllocError, Global};
+use std::alloc::Global;
 use std::marker::Model;
 use unftp_control_command::Command;
 use unftp_control_error::ControlChanError;
@@ -124,32 +125,4 @@ fn is_starved(answer: &Result<Command, ParseError>) -> bool
         Ok(_) => false,
         Err(error) => *error.kind() == ParseErrorKind::OutOfMemory,
     }
-}
-
-/// Appends the bytes of the reply; where memory is refused, perhaps a part of them.
-fn append_reply(reply: &Reply, buf: &mut Vec<u8>) -> Result<(), AllocError>
-    ensures ok { OnOk result (buf.new.items ≡ buf.old.items ++ encoded (reply_of reply.now)) }
-    ensures kept { take (vec_len buf.old) buf.new.items ≡ buf.old.items }
-    ensures no_memory { reply_of reply.now ≡ Nothing → IsOk result }
-{
-    match reply {
-        Reply::None => Ok(()),
-        Reply::CodeAndMsg { code, msg } => {
-            let mut digits = itoa::Buffer::new();
-            buf.extend_from_slice(digits.format(code.number()).as_bytes())?;
-            append_text(msg.as_str(), buf)
-        }
-    }
-}
-
-/// Appends what stands behind a code of one line: a space and the text, or nothing where it is empty, and CR LF.
-fn append_text(text: &str, buf: &mut Vec<u8>) -> Result<(), AllocError>
-    ensures ok { OnOk result (buf.new.items ≡ buf.old.items ++ (if length text.now == 0 then crlf else after_space text.now)) }
-    ensures kept { take (vec_len buf.old) buf.new.items ≡ buf.old.items }
-{
-    if !text.is_empty() {
-        buf.push(b' ')?;
-        buf.extend_from_slice(text.as_bytes())?;
-    }
-    buf.extend_from_slice(b"\r\n")
 }
