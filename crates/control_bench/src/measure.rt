@@ -5,6 +5,7 @@ use std::time::Instant;
 use std::{fmt, io};
 use unftp_control::codecs::FtpCodec;
 use unftp_control::line_parser::parse;
+use unftp_control::reply::{Reply, ReplyCode};
 
 /// Lines of a session, about as long as those that clients send.
 pub const SESSION: &[&[u8]] = &[
@@ -33,8 +34,28 @@ pub const SESSION: &[&[u8]] = &[
 /// How often the session is repeated, so that there are 1,000 lines.
 const REPEATS: usize = 50;
 
-/// The lines that one figure is of.
+/// The lines, or replies, that one figure is of.
 const LINES: usize = 1000;
+
+/// The lines of a reply to FEAT.
+pub const FEATURES: [&str; 13] = [
+    "Extensions supported:",
+    "AUTH TLS",
+    "EPSV",
+    "MDTM",
+    "MLSD",
+    "MLST",
+    "PBSZ",
+    "PROT",
+    "REST STREAM",
+    "SITE MD5",
+    "SIZE",
+    "UTF8",
+    "END",
+];
+
+/// Lines that begin with digits.
+pub const DIGIT_LINES: [&str; 100] = ["1234 bytes of a file named so"; 100];
 
 /// What one figure is of.
 #[derive(Clone, Copy)]
@@ -42,6 +63,9 @@ pub enum Measure {
     Decode,
     Parse,
     LongParameter,
+    ReplyOfOneLine,
+    Features,
+    DigitLines,
 }
 
 impl Display for Measure {
@@ -50,20 +74,33 @@ impl Display for Measure {
             Measure::Decode => "a line of 1,000 in one buffer, decoded",
             Measure::Parse => "the same lines, each parsed where it lies",
             Measure::LongParameter => "a line with a parameter of 4,096 bytes, parsed",
+            Measure::ReplyOfOneLine => "a reply of one line, made and encoded",
+            Measure::Features => "a reply of 13 lines, made and encoded",
+            Measure::DigitLines => "a reply of 100 lines that begin with digits, made and encoded",
         })
     }
 }
 
 impl Measure {
     /// All of them.
-    pub const ALL: [Measure; 3] = [Measure::Decode, Measure::Parse, Measure::LongParameter];
+    pub const ALL: [Measure; 6] = [
+        Measure::Decode,
+        Measure::Parse,
+        Measure::LongParameter,
+        Measure::ReplyOfOneLine,
+        Measure::Features,
+        Measure::DigitLines,
+    ];
 
-    /// How long one line takes, over one round.
+    /// How long one line or reply takes, over one round.
     pub fn nanoseconds(self, rt: &HostRuntime) -> io::Result<u128> {
         match self {
             Measure::Decode => decode_session(rt),
             Measure::Parse => parse_session(rt),
             Measure::LongParameter => parse_long_lines(rt),
+            Measure::ReplyOfOneLine => encode_one_line(rt),
+            Measure::Features => encode_lines(rt, &FEATURES),
+            Measure::DigitLines => encode_lines(rt, &DIGIT_LINES),
         }
     }
 }
@@ -73,7 +110,12 @@ fn no_command() -> io::Error {
     io::ErrorKind::InvalidData.into()
 }
 
-/// Nanoseconds a line since the start of a round.
+/// The error of a round in which memory is refused.
+fn no_memory() -> io::Error {
+    io::ErrorKind::OutOfMemory.into()
+}
+
+/// Nanoseconds a line or reply since the start of a round.
 fn a_line(rt: &HostRuntime, start: Instant) -> io::Result<u128> {
     Ok(start.elapsed(rt)?.as_nanos() / LINES as u128)
 }
@@ -132,4 +174,40 @@ pub fn long_line(alloc: Global) -> io::Result<Vec<u8>> {
     line.resize(line.len() + 4096, b'a')?;
     line.extend_from_slice(b"\r\n")?;
     Ok(line)
+}
+
+/// Appends the bytes of a reply to an empty buffer.
+fn encode(codec: &mut FtpCodec, reply: Reply, buf: &mut Vec<u8>) -> io::Result<()> {
+    buf.clear();
+    match codec.encode(reply, buf) {
+        Ok(()) => Ok(()),
+        Err(_) => Err(no_memory()),
+    }
+}
+
+fn encode_one_line(rt: &HostRuntime) -> io::Result<u128> {
+    let mut codec = FtpCodec::new();
+    let mut buf = Vec::new(rt.alloc());
+    let start = Instant::now(rt)?;
+    for _ in 0..LINES {
+        let Ok(reply) = Reply::new(rt.alloc(), ReplyCode::CommandOkay, "OK") else {
+            return Err(no_memory());
+        };
+        encode(&mut codec, reply, &mut buf)?;
+    }
+    a_line(rt, start)
+}
+
+fn encode_lines(rt: &HostRuntime, lines: &[&'static str]) -> io::Result<u128> {
+    let mut codec = FtpCodec::new();
+    let mut buf = Vec::new(rt.alloc());
+    let start = Instant::now(rt)?;
+    for _ in 0..LINES {
+        let lines = lines.iter().copied();
+        let Ok(reply) = Reply::new_multiline(rt.alloc(), ReplyCode::SystemStatus, lines) else {
+            return Err(no_memory());
+        };
+        encode(&mut codec, reply, &mut buf)?;
+    }
+    a_line(rt, start)
 }

@@ -5,6 +5,7 @@ mod counted;
 mod errors;
 mod growths;
 mod lines;
+mod replies;
 
 use crate::codecs::FtpCodec;
 use crate::command::Command;
@@ -124,41 +125,4 @@ fn a_refused_line_costs_itself_alone(rt: HostRuntime) -> Result<(), Fail> {
         assert_eq!(rt; codec.place(), 0);
     }
     Ok(())
-}
-
-#[test]
-fn replies_of_one_line_are_encoded(rt: HostRuntime) -> Result<(), Fail> {
-    let mut codec = FtpCodec::new();
-    let mut buf = Vec::from_slice(rt.alloc(), b"x")?;
-    codec.encode(Reply::None, &mut buf)?;
-    assert_eq!(rt; buf.as_slice(), b"x".as_slice());
-    for (code, text) in [
-        (ReplyCode::CommandOkay, "OK"),
-        (ReplyCode::CommandNotImplemented, "Not implemented"),
-        (ReplyCode::CommandOkay, ""),
-    ] {
-        codec.encode(Reply::new(rt.alloc(), code, text)?, &mut buf)?;
-    }
-    assert_eq!(rt;
-        buf.as_slice(),
-        b"x200 OK\r\n502 Not implemented\r\n200\r\n".as_slice()
-    );
-    assert_eq!(rt; codec.place(), 0);
-    Ok(())
-}
-
-#[test]
-fn replies_are_equal_where_code_and_text_are(rt: HostRuntime) -> Result<(), Fail> {
-    let done = Reply::new(rt.alloc(), ReplyCode::CommandOkay, "OK")?;
-    assert!(rt; done == Reply::new(rt.alloc(), ReplyCode::CommandOkay, "OK")?);
-    assert!(rt; done != Reply::new(rt.alloc(), ReplyCode::CommandOkay, "KO")?);
-    assert!(rt; done != Reply::new(rt.alloc(), ReplyCode::CommandNotImplemented, "OK")?);
-    assert!(rt; done != Reply::None);
-    Ok(())
-}
-
-#[test]
-fn codes_have_their_numbers(rt: HostRuntime) {
-    assert_eq!(rt; ReplyCode::CommandOkay.number(), 200);
-    assert_eq!(rt; ReplyCode::CommandNotImplemented.number(), 502);
 }

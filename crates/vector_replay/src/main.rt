@@ -1,11 +1,12 @@
 //! Answers the cases of a vector file (`vectors/README.md`): reads one a line from standard input, and writes its answer. Its one
-//! argument is the call that answers, `parse` or `decode`. What is no case is answered by `bad-case`.
+//! argument is the call that answers, `parse`, `decode` or `encode`. What is no case is answered by `bad-case`.
 #![tactic(auto)]
 
+mod cases;
 mod shown;
 
-use hex::FromHexError;
-use shown::Shown;
+use cases::{read_bytes, read_reply};
+use shown::{Hex, Shown};
 use std::alloc::Global;
 use std::io::Write;
 use std::process::ExitCode;
@@ -13,12 +14,14 @@ use std::{env, io};
 use unftp_control::codecs::FtpCodec;
 use unftp_control::error::{ControlChanError, ControlChanErrorKind, Source};
 use unftp_control::line_parser::{ParseErrorKind, parse};
+use unftp_control::reply::Reply;
 
 /// The call that answers.
 #[derive(Clone, Copy)]
 enum Call {
     Parse,
     Decode,
+    Encode,
 }
 
 impl Call {
@@ -26,6 +29,7 @@ impl Call {
         match name {
             "parse" => Some(Call::Parse),
             "decode" => Some(Call::Decode),
+            "encode" => Some(Call::Encode),
             _ => None,
         }
     }
@@ -79,15 +83,32 @@ fn answer_decode<W: Write>(alloc: Global, input: Vec<u8>, out: &mut W) -> io::Re
     write!(out, "left={}", buf.len())
 }
 
-/// Writes the answer to a case.
+/// Writes the bytes of a reply.
+fn answer_encode<W: Write>(alloc: Global, reply: Reply, out: &mut W) -> io::Result<()> {
+    let mut buf = Vec::new(alloc);
+    match FtpCodec::new().encode(reply, &mut buf) {
+        Ok(()) => write!(out, "{}", Hex(buf.as_slice())),
+        Err(_) => Err(io::ErrorKind::OutOfMemory.into()),
+    }
+}
+
+/// Writes the answer to a case; what is none is told as an error of kind `InvalidData`, and nothing is written.
+fn answer_case<W: Write>(alloc: Global, call: Call, case: &str, out: &mut W) -> io::Result<()> {
+    match call {
+        Call::Parse => answer_parse(alloc, read_bytes(alloc, case)?.as_slice(), out),
+        Call::Decode => answer_decode(alloc, read_bytes(alloc, case)?, out),
+        Call::Encode => answer_encode(alloc, read_reply(alloc, case)?, out),
+    }
+}
+
+/// Writes the answer to a line of standard input.
 fn answer<W: Write>(alloc: Global, call: Call, case: &str, out: &mut W) -> io::Result<()> {
-    match hex::decode(alloc, case) {
-        Ok(input) => match call {
-            Call::Parse => answer_parse(alloc, input.as_slice(), out),
-            Call::Decode => answer_decode(alloc, input, out),
+    match answer_case(alloc, call, case, out) {
+        Ok(()) => Ok(()),
+        Err(error) => match error.kind() {
+            io::ErrorKind::InvalidData => write!(out, "bad-case"),
+            _ => Err(error),
         },
-        Err(FromHexError::OutOfMemory) => Err(io::ErrorKind::OutOfMemory.into()),
-        Err(_) => write!(out, "bad-case"),
     }
 }
 
@@ -118,7 +139,7 @@ fn main(rt: HostRuntime) -> ExitCode {
     let replayed = match call_asked(&rt) {
         Ok(Some(call)) => replay(&rt, call),
         Ok(None) => {
-            let _ = eprintln!(rt; "usage: vector_replay parse|decode");
+            let _ = eprintln!(rt; "usage: vector_replay parse|decode|encode");
             return ExitCode::from(2);
         }
         Err(error) => Err(error),

@@ -5,7 +5,7 @@ use unftp_control::command::{Command, Opt};
 
 /// Bytes as lower-case hex.
 #[derive(Clone, Copy)]
-struct Hex<'a>(&'a [u8]);
+pub struct Hex<'a>(pub &'a [u8]);
 
 impl Display for Hex<'_> {
     fn fmt<W: Write>(&self, f: &mut Formatter<W>) -> fmt::Result {

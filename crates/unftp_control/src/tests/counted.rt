@@ -1,12 +1,12 @@
-//! How much memory a call takes: `tools/growths` counts the growths of each test, and compares the number with the first word
-//! of its name.
+//! How much memory a call takes: `tools/growths` counts the growths of each test, and compares their number with that in
+//! its name.
 use crate::codecs::FtpCodec;
 use crate::line_parser::parse;
-use crate::reply::Reply;
+use crate::reply::{Reply, ReplyCode};
 use std::test::Fail;
 
 #[test]
-fn zero_for_lines_without_a_field(rt: HostRuntime) -> Result<(), Fail> {
+fn takes_0_for_lines_without_a_field(rt: HostRuntime) -> Result<(), Fail> {
     for line in [
         b"NOOP\r\n".as_slice(),
         b"NOOP \r\n".as_slice(),
@@ -23,7 +23,7 @@ fn zero_for_lines_without_a_field(rt: HostRuntime) -> Result<(), Fail> {
 }
 
 #[test]
-fn zero_for_no_line_and_no_reply(rt: HostRuntime) -> Result<(), Fail> {
+fn takes_0_for_no_line_and_no_reply(rt: HostRuntime) -> Result<(), Fail> {
     let mut codec = FtpCodec::new();
     let mut buf = Vec::new(rt.alloc());
     assert!(rt; codec.decode(rt.alloc(), &mut buf)?.is_none());
@@ -32,25 +32,43 @@ fn zero_for_no_line_and_no_reply(rt: HostRuntime) -> Result<(), Fail> {
 }
 
 #[test]
-fn one_for_a_text(rt: HostRuntime) -> Result<(), Fail> {
+fn takes_1_for_a_text(rt: HostRuntime) -> Result<(), Fail> {
     drop(parse(rt.alloc(), b"RETR a.txt\r\n")?);
     Ok(())
 }
 
 #[test]
-fn one_for_a_path_behind_options(rt: HostRuntime) -> Result<(), Fail> {
+fn takes_1_for_a_path_behind_options(rt: HostRuntime) -> Result<(), Fail> {
     drop(parse(rt.alloc(), b"LIST -la a.txt\r\n")?);
     Ok(())
 }
 
 #[test]
-fn two_for_bytes(rt: HostRuntime) -> Result<(), Fail> {
+fn takes_2_for_bytes(rt: HostRuntime) -> Result<(), Fail> {
     drop(parse(rt.alloc(), b"USER Dolores\r\n")?);
     Ok(())
 }
 
 #[test]
-fn two_for_a_name_and_its_arguments(rt: HostRuntime) -> Result<(), Fail> {
+fn takes_2_for_a_name_and_its_arguments(rt: HostRuntime) -> Result<(), Fail> {
     drop(parse(rt.alloc(), b"SITE chmod 644 f\r\n")?);
+    Ok(())
+}
+
+#[test]
+fn takes_2_for_a_reply_and_its_bytes(rt: HostRuntime) -> Result<(), Fail> {
+    let reply = Reply::new(rt.alloc(), ReplyCode::CommandOkay, "OK")?;
+    let mut buf = Vec::new(rt.alloc());
+    FtpCodec::new().encode(reply, &mut buf)?;
+    Ok(())
+}
+
+// four places for the lines at once, the three lines, and their bytes
+#[test]
+fn takes_5_for_a_reply_of_three_lines_and_its_bytes(rt: HostRuntime) -> Result<(), Fail> {
+    let lines = ["1", "2", "3"];
+    let reply = Reply::new_multiline(rt.alloc(), ReplyCode::SystemStatus, lines)?;
+    let mut buf = Vec::new(rt.alloc());
+    FtpCodec::new().encode(reply, &mut buf)?;
     Ok(())
 }

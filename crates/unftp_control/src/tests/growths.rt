@@ -55,6 +55,33 @@ fn a_refused_encoding_leaves_the_buffer(rt: HostRuntime) -> Result<(), Fail> {
     Ok(())
 }
 
+#[test]
+fn refused_lines_are_made_anew(rt: HostRuntime) -> Result<(), Fail> {
+    let reply = match Reply::new_multiline(rt.alloc(), ReplyCode::SystemStatus, ["a", "1b"]) {
+        Ok(reply) => reply,
+        Err(error) => {
+            assert_starved(&rt, &error);
+            Reply::new_multiline(rt.alloc(), ReplyCode::SystemStatus, ["a", "1b"])?
+        }
+    };
+    let copy = match reply.clone(rt.alloc()) {
+        Ok(copy) => copy,
+        Err(_) => reply.clone(rt.alloc())?,
+    };
+    assert!(rt; copy == reply);
+    let Ok(mut buf) = Vec::from_slice(rt.alloc(), b"x") else {
+        return Ok(());
+    };
+    let mut codec = FtpCodec::new();
+    if let Err(error) = codec.encode(reply, &mut buf) {
+        assert_starved(&rt, &error);
+        assert_eq!(rt; buf.as_slice(), b"x".as_slice());
+        codec.encode(copy, &mut buf)?;
+    }
+    assert_eq!(rt; buf.as_slice(), b"x211-a\r\n211 1b\r\n".as_slice());
+    Ok(())
+}
+
 /// The command of the line in front of PWD. Where memory is refused for it, the line stays in the buffer, and is decoded anew;
 /// where it is refused for the buffer, there is none.
 fn first_command(rt: &impl Abort, alloc: Global, line: &[u8]) -> Result<Option<Command>, Fail> {
