@@ -113,8 +113,9 @@ fn owned_lines<'a, I: IntoIterator<Item = &'a str>>(
     ensures { IfOk result (λ owned. (iterator : I.IntoIter) × (texts : _) × I.into_iter_gives lines iterator
         × Drains I.IntoIter.next_gives iterator texts × (map string_bytes owned.items ≡ map (λ text. text.now) texts)) }
 {
-    let mut owned = Vec::new(alloc);
     let mut rest = lines.into_iter();
+    let (at_least, _) = rest.size_hint();
+    let mut owned = Vec::with_capacity(alloc, at_least)?;
     while let Some(line) = rest.next() {
         owned.push(String::from_str(alloc, line)?)?;
     }

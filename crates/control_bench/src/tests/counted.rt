@@ -20,9 +20,9 @@ fn takes_2_for_a_long_line_and_its_parameter(rt: HostRuntime) -> Result<(), Fail
     Ok(())
 }
 
-// the places of the lines, which grow in doubles from four, the lines, and their bytes
+// the places of the lines, the lines, and their bytes
 #[test]
-fn takes_17_for_a_reply_of_13_lines_and_its_bytes(rt: HostRuntime) -> Result<(), Fail> {
+fn takes_15_for_a_reply_of_13_lines_and_its_bytes(rt: HostRuntime) -> Result<(), Fail> {
     let reply = Reply::new_multiline(rt.alloc(), ReplyCode::SystemStatus, FEATURES)?;
     let mut buf = Vec::new(rt.alloc());
     FtpCodec::new().encode(reply, &mut buf)?;
@@ -30,7 +30,7 @@ fn takes_17_for_a_reply_of_13_lines_and_its_bytes(rt: HostRuntime) -> Result<(),
 }
 
 #[test]
-fn takes_107_for_a_reply_of_100_lines_and_its_bytes(rt: HostRuntime) -> Result<(), Fail> {
+fn takes_102_for_a_reply_of_100_lines_and_its_bytes(rt: HostRuntime) -> Result<(), Fail> {
     let reply = Reply::new_multiline(rt.alloc(), ReplyCode::SystemStatus, DIGIT_LINES)?;
     let mut buf = Vec::new(rt.alloc());
     FtpCodec::new().encode(reply, &mut buf)?;

@@ -63,7 +63,7 @@ fn takes_2_for_a_reply_and_its_bytes(rt: HostRuntime) -> Result<(), Fail> {
     Ok(())
 }
 
-// four places for the lines at once, the three lines, and their bytes
+// the places of the lines, the three lines, and their bytes
 #[test]
 fn takes_5_for_a_reply_of_three_lines_and_its_bytes(rt: HostRuntime) -> Result<(), Fail> {
     let lines = ["1", "2", "3"];
