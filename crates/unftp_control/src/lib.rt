@@ -6,6 +6,7 @@
 
 pub use unftp_control_codecs as codecs;
 pub use unftp_control_command as command;
+pub use unftp_control_commands as commands;
 pub use unftp_control_error as error;
 pub use unftp_control_laws as laws;
 pub use unftp_control_line_parser as line_parser;

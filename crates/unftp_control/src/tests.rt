@@ -1,6 +1,7 @@
 //! Each public call on its happy path, and answers that no clause says.
 ghost use Rattle.std.specs.Prelude.{◌≤◌, vec_len};
 
+mod commands;
 mod counted;
 mod errors;
 mod growths;

@@ -1,3 +1,4 @@
 mod CaseLaws
 mod FoldLaws
 mod EscapeLaws
+mod EpsvLaws

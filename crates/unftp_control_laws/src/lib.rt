@@ -2,7 +2,8 @@
 //! relation that a reader believes.
 #![tactic(auto)]
 
-ghost use Rattle.std.specs.Prelude.{◌≡◌, ◌↔◌, List, ◌++◌, Some, None, Ok, codes};
+ghost use Rattle.std.specs.Prelude.{◌≡◌, ◌↔◌, ◌<◌, ◌^◌, ℕ, List, ◌++◌, Some, None, Ok, codes};
+ghost use Rattle.unftp_control_commands.specs.Answers.{port_reply};
 ghost use Rattle.unftp_control_defs.specs.Bytes.{Bytes, LF, crlf, Lacks};
 ghost use Rattle.unftp_control_defs.specs.FtpCommand.{User};
 ghost use Rattle.unftp_control_defs.specs.Lines.{Lines, lines_of, rest_of};
@@ -54,4 +55,9 @@ pub fn case_folds()
 /// A name without a line feed that is sent with each CR as CR NUL is the name that is read (RFC 854).
 pub fn escape_reads_back()
     ensures { (name : Bytes) → Lacks LF name → outcome (codes "USER " ++ escaped name ++ crlf) ≡ Ok (User name) }
+{}
+
+/// Two ports whose EPSV replies are equal are equal (RFC 2428, section 3).
+pub fn epsv_ports_differ()
+    ensures { (port other : ℕ) → port < 2 ^ 16 → other < 2 ^ 16 → port_reply port ≡ port_reply other → port ≡ other }
 {}

@@ -24,7 +24,7 @@ pub enum Reply {
         /// The text, which may be empty.
         msg: String,
     },
-    /// Lines, which stand between the code with a dash and the code with a space.
+    /// Lines: the first stands behind the code and a dash, and the last behind the code and a space.
     MultiLine {
         /// The code.
         code: ReplyCode,

@@ -6,7 +6,12 @@ use std::process::Abort;
 use std::test::Fail;
 
 /// The reply is encoded so behind what stands in the buffer, and so is a clone of it, which is equal.
-fn assert_encoded(rt: &impl Abort, alloc: Global, reply: Reply, want: &[u8]) -> Result<(), Fail> {
+pub fn assert_encoded(
+    rt: &impl Abort,
+    alloc: Global,
+    reply: Reply,
+    want: &[u8],
+) -> Result<(), Fail> {
     let copy = reply.clone(alloc)?;
     assert!(rt; copy == reply);
     let mut codec = FtpCodec::new();

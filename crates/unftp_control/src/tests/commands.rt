@@ -1,0 +1,260 @@
+//! What the server answers to single commands, and the facts of files.
+use crate::commands::{
+    Auth, AuthParam, Epsv, Feat, Help, Metadata, Mlst, Mode, ModeParam, Opt, Opts, Passive, Prot,
+    ProtParam, SessionChange, Stru, StruParam, format_facts, make_epsv_reply,
+};
+use crate::tests::replies::assert_encoded;
+use jiff::Timestamp;
+use std::alloc::Global;
+use std::process::Abort;
+use std::test::Fail;
+
+/// A file of which this is known.
+#[derive(Drop)]
+struct File {
+    is_dir: bool,
+    size: u64,
+    modified: Option<Timestamp>,
+    uid: u32,
+    gid: u32,
+}
+
+impl Metadata for File {
+    ghost facts_of = { λ file. record {
+      is_dir = file.is_dir;
+      size = file.size;
+      modified = file.modified;
+      uid = file.uid;
+      gid = file.gid;
+    } };
+
+    fn len(&self) -> u64 {
+        self.size
+    }
+
+    fn is_dir(&self) -> bool {
+        self.is_dir
+    }
+
+    fn modified(&self) -> Option<Timestamp> {
+        self.modified
+    }
+
+    fn uid(&self) -> u32 {
+        self.uid
+    }
+
+    fn gid(&self) -> u32 {
+        self.gid
+    }
+}
+
+#[test]
+fn protection_is_answered_by_how_the_server_is_set_up(rt: HostRuntime) -> Result<(), Fail> {
+    for (protocol, is_on, want, change) in [
+        (
+            AuthParam::Tls,
+            true,
+            "234 Upgrading to TLS\r\n",
+            SessionChange::SecureControlChannel,
+        ),
+        (
+            AuthParam::Ssl,
+            true,
+            "504 Auth SSL not implemented\r\n",
+            SessionChange::Nothing,
+        ),
+        (
+            AuthParam::Tls,
+            false,
+            "502 TLS/SSL not configured\r\n",
+            SessionChange::Nothing,
+        ),
+    ] {
+        let (reply, changed) = Auth::new(protocol).reply(rt.alloc(), is_on)?;
+        assert_eq!(rt; changed, change);
+        assert_encoded(&rt, rt.alloc(), reply, want.as_bytes())?;
+    }
+    for (param, is_on, want, change) in [
+        (
+            ProtParam::Clear,
+            true,
+            "200 PROT OK. Switching data channel to plaintext\r\n",
+            SessionChange::DataTls(false),
+        ),
+        (
+            ProtParam::Private,
+            true,
+            "200 PROT OK. Securing data channel\r\n",
+            SessionChange::DataTls(true),
+        ),
+        (
+            ProtParam::Safe,
+            true,
+            "504 PROT S/E not implemented\r\n",
+            SessionChange::Nothing,
+        ),
+        (
+            ProtParam::Private,
+            false,
+            "502 TLS/SSL not configured\r\n",
+            SessionChange::Nothing,
+        ),
+    ] {
+        let (reply, changed) = Prot::new(param).reply(rt.alloc(), is_on)?;
+        assert_eq!(rt; changed, change);
+        assert_encoded(&rt, rt.alloc(), reply, want.as_bytes())?;
+    }
+    Ok(())
+}
+
+#[test]
+fn the_port_of_extended_passive_mode_is_told(rt: HostRuntime) -> Result<(), Fail> {
+    for (port, want) in [
+        (2121, "229 Entering Extended Passive Mode (|||2121|)\r\n"),
+        (65535, "229 Entering Extended Passive Mode (|||65535|)\r\n"),
+    ] {
+        let reply = Epsv::new().reply(rt.alloc(), Passive::Port(port))?;
+        assert!(rt; reply == make_epsv_reply(rt.alloc(), port)?);
+        assert_encoded(&rt, rt.alloc(), reply, want.as_bytes())?;
+    }
+    let reply = Epsv::new().reply(rt.alloc(), Passive::Prebound)?;
+    assert_encoded(
+        &rt,
+        rt.alloc(),
+        reply,
+        b"502 EPSV not supported in this mode\r\n",
+    )
+}
+
+#[test]
+fn modes_structures_and_options_are_answered(rt: HostRuntime) -> Result<(), Fail> {
+    let alloc = rt.alloc();
+    for (reply, want) in [
+        (
+            Mode::new(ModeParam::Stream).reply(alloc)?,
+            "200 Using Stream transfer mode\r\n",
+        ),
+        (
+            Mode::new(ModeParam::Block).reply(alloc)?,
+            "504 Only Stream transfer mode is supported\r\n",
+        ),
+        (
+            Stru::new(StruParam::File).reply(alloc)?,
+            "200 In File structure mode\r\n",
+        ),
+        (
+            Stru::new(StruParam::Page).reply(alloc)?,
+            "504 Only File structure mode is supported\r\n",
+        ),
+        (
+            Opts::new(Opt::Utf8 { on: true }).reply(alloc)?,
+            "200 Always in UTF-8 mode.\r\n",
+        ),
+        (
+            Opts::new(Opt::Utf8 { on: false }).reply(alloc)?,
+            "504 Non UTF-8 mode not supported\r\n",
+        ),
+        (
+            Help.reply(alloc)?,
+            "214-Help:\r\nPowered by libunftp: 0.24.0\r\n214 View the docs at: https://unftp.rs/\r\n",
+        ),
+    ] {
+        assert_encoded(&rt, alloc, reply, want.as_bytes())?;
+    }
+    Ok(())
+}
+
+#[test]
+fn features_are_told_where_they_are_on(rt: HostRuntime) -> Result<(), Fail> {
+    let all =
+        "211-Extensions supported:\r\n AUTH TLS\r\n EPSV\r\n MDTM\r\n MLSD\r\n MLST\r\n PBSZ\r\n PROT\r\n REST STREAM\r\n SITE MD5\r\n SIZE\r\n UTF8\r\n211 END\r\n";
+    let reply = Feat.reply(rt.alloc(), true, true, true)?;
+    assert_encoded(&rt, rt.alloc(), reply, all.as_bytes())?;
+    let none =
+        "211-Extensions supported:\r\n EPSV\r\n MDTM\r\n MLSD\r\n MLST\r\n SIZE\r\n UTF8\r\n211 END\r\n";
+    let reply = Feat.reply(rt.alloc(), false, false, false)?;
+    assert_encoded(&rt, rt.alloc(), reply, none.as_bytes())
+}
+
+/// The facts of a file of this size, modified at this instant.
+fn assert_facts(
+    rt: &impl Abort,
+    alloc: Global,
+    size: u64,
+    nanosecond: i128,
+    want: &str,
+) -> Result<(), Fail> {
+    let file = File {
+        is_dir: false,
+        size,
+        modified: Some(Timestamp::from_nanosecond(nanosecond)?),
+        uid: 0,
+        gid: 0,
+    };
+    let facts = format_facts(alloc, &file)?;
+    assert_eq!(rt; facts.as_str(), want);
+    Ok(())
+}
+
+#[test]
+fn instants_are_told_by_their_second_of_utc(rt: HostRuntime) -> Result<(), Fail> {
+    for (nanosecond, want) in [
+        (
+            1_701_432_000_000_000_000,
+            "type=file;size=1234;modify=20231201120000;",
+        ),
+        (-500_000_000, "type=file;size=1234;modify=19691231235959;"),
+        (
+            -62_167_219_200_000_000_000,
+            "type=file;size=1234;modify=00000101000000;",
+        ),
+        (-62_167_219_200_500_000_000, "type=file;size=1234;"),
+    ] {
+        assert_facts(&rt, rt.alloc(), 1234, nanosecond, want)?;
+    }
+    Ok(())
+}
+
+#[test]
+fn the_facts_of_a_path_are_listed(rt: HostRuntime) -> Result<(), Fail> {
+    let directory = File {
+        is_dir: true,
+        size: 0,
+        modified: None,
+        uid: 1000,
+        gid: 1000,
+    };
+    let reply = Mlst::new(None).reply(rt.alloc(), "/pub", Ok(&directory))?;
+    assert_encoded(
+        &rt,
+        rt.alloc(),
+        reply,
+        b"250- Listing\r\n type=dir;size=0;unix.uid=1000;unix.gid=1000; /pub\r\n250 End\r\n",
+    )?;
+    let file = File {
+        is_dir: false,
+        size: 1234,
+        modified: Some(Timestamp::from_second(1_701_432_000)?),
+        uid: 0,
+        gid: 0,
+    };
+    let path = String::from_str(rt.alloc(), "/a.txt")?;
+    let reply = Mlst::new(Some(path)).reply(rt.alloc(), "/pub", Ok(&file))?;
+    assert_encoded(
+        &rt,
+        rt.alloc(),
+        reply,
+        b"250- Listing\r\n type=file;size=1234;modify=20231201120000; /a.txt\r\n250 End\r\n",
+    )
+}
+
+#[test]
+fn a_path_that_is_not_found_is_a_fault(rt: HostRuntime) -> Result<(), Fail> {
+    for (text, want) in [("no such file", "550 no such file\r\n"), ("", "550\r\n")] {
+        let found: Result<&File, &str> = Err(text);
+        let reply = Mlst::new(None).reply(rt.alloc(), "/", found)?;
+        assert_encoded(&rt, rt.alloc(), reply, want.as_bytes())?;
+    }
+    Ok(())
+}

@@ -1,0 +1,2 @@
+mod Years
+pub mod OneText

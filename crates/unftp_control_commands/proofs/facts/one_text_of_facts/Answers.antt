@@ -1,0 +1,5 @@
+use Rattle.unftp_control_commands.proofs.OneText.{IsFacts-unique}
+use Rattle.unftp_control_commands.proofs.facts.one_text_of_facts.Goals as goal
+
+pub returns : goal.returns
+returns c = IsFacts-unique

@@ -1,0 +1,54 @@
+//! EPSV (RFC 2428, section 3).
+ghost use Rattle.std.specs.Prelude.{◌≡◌, IfOk, IfErr};
+ghost use Rattle.unftp_control_defs.specs.Events.{out_of_memory};
+ghost use Rattle.unftp_control_error.specs.ErrorMeaning.{fault_of};
+ghost use Rattle.unftp_control_reply.specs.ReplyMeaning.{reply_of};
+ghost use Rattle.unftp_control_commands.specs.Answers.{epsv_reply, port_reply};
+
+use std::alloc::Global;
+use unftp_control_error::ControlChanError;
+use unftp_control_reply::{Reply, ReplyCode};
+
+/// How the server listens for data connections.
+#[derive(Debug, PartialEq, Eq, Clone, Copy)]
+pub enum Passive {
+    /// On this port, which is listening.
+    Port(u16),
+    /// On ports that are bound before, of which EPSV can't tell one.
+    Prebound,
+}
+
+/// EPSV.
+#[derive(Debug, Drop)]
+pub struct Epsv {}
+
+impl Epsv {
+    /// EPSV.
+    pub fn new() -> Epsv {
+        Epsv {}
+    }
+
+    /// Tells the port. It is refused for want of memory alone, with the kind `OutOfMemory`.
+    pub fn reply(&self, alloc: Global, passive: Passive) -> Result<Reply, ControlChanError>
+        ensures ok { IfOk result (λ reply. reply_of reply ≡ epsv_reply passive) }
+        ensures err { IfErr result (λ error. fault_of error ≡ out_of_memory) }
+    {
+        match passive {
+            Passive::Port(port) => make_epsv_reply(alloc, port),
+            Passive::Prebound => Reply::new(
+                alloc,
+                ReplyCode::CommandNotImplemented,
+                "EPSV not supported in this mode",
+            ),
+        }
+    }
+}
+
+/// The reply that tells a port that listens. It is refused for want of memory alone, with the kind `OutOfMemory`.
+pub fn make_epsv_reply(alloc: Global, port: u16) -> Result<Reply, ControlChanError>
+    ensures ok { IfOk result (λ reply. reply_of reply ≡ port_reply port) }
+    ensures err { IfErr result (λ error. fault_of error ≡ out_of_memory) }
+{
+    let text = format!(in alloc; "Entering Extended Passive Mode (|||{port}|)")?;
+    Ok(Reply::new_with_string(ReplyCode::EnteringExtendedPassiveMode, text))
+}

@@ -1,0 +1,37 @@
+//! HELP (RFC 959, section 4.1.3).
+ghost use Rattle.std.specs.Prelude.{◌≡◌, IfOk, IfErr};
+ghost use Rattle.unftp_control_defs.specs.Events.{out_of_memory};
+ghost use Rattle.unftp_control_error.specs.ErrorMeaning.{fault_of};
+ghost use Rattle.unftp_control_reply.specs.ReplyMeaning.{reply_of};
+ghost use Rattle.unftp_control_commands.specs.Answers.{help_reply};
+
+use crate::lines::append_lines;
+use std::alloc::Global;
+use unftp_control_error::ControlChanError;
+use unftp_control_reply::{Reply, ReplyCode};
+
+/// HELP.
+#[derive(Debug, Clone, Copy)]
+pub struct Help;
+
+impl Help {
+    /// Tells of the server. It is refused for want of memory alone, with the kind `OutOfMemory`.
+    pub fn reply(&self, alloc: Global) -> Result<Reply, ControlChanError>
+        ensures ok { IfOk result (λ reply. reply_of reply ≡ help_reply) }
+        ensures err { IfErr result (λ error. fault_of error ≡ out_of_memory) }
+    {
+        let mut lines = Vec::with_capacity(alloc, 3)?;
+        append_lines(
+            &mut lines,
+            &[
+                "Help:",
+                "Powered by libunftp: 0.24.0",
+                "View the docs at: https://unftp.rs/",
+            ],
+        )?;
+        Ok(Reply::MultiLine {
+            code: ReplyCode::HelpMessage,
+            lines,
+        })
+    }
+}

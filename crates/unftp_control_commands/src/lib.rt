@@ -1,0 +1,28 @@
+//! What the server answers to single commands.
+#![tactic(auto)]
+
+mod auth;
+mod epsv;
+mod facts;
+mod feat;
+mod help;
+mod lines;
+mod mlst;
+mod mode;
+mod opts;
+mod prot;
+mod session;
+mod stru;
+
+pub use auth::Auth;
+pub use epsv::{Epsv, Passive, make_epsv_reply};
+pub use facts::{Metadata, format_facts, one_text_of_facts};
+pub use feat::Feat;
+pub use help::Help;
+pub use mlst::Mlst;
+pub use mode::Mode;
+pub use opts::Opts;
+pub use prot::Prot;
+pub use session::SessionChange;
+pub use stru::Stru;
+pub use unftp_control_defs::parameters::{AuthParam, ModeParam, Opt, ProtParam, StruParam};

@@ -1,0 +1,89 @@
+//! MLST (RFC 3659, section 7).
+ghost use Rattle.std.specs.Prelude.{◌≡◌, IfOk, IfErr, MatchResult, option_map, string_bytes, unwrap_or};
+ghost use Rattle.unftp_control_defs.specs.Events.{out_of_memory};
+ghost use Rattle.unftp_control_defs.specs.FtpReply.{CodeAndMsg};
+ghost use Rattle.unftp_control_error.specs.ErrorMeaning.{fault_of};
+ghost use Rattle.unftp_control_reply.specs.ReplyMeaning.{reply_of};
+ghost use Rattle.unftp_control_commands.specs.Facts.{TellsFacts, facts_reply};
+
+use crate::facts::{Metadata, format_facts};
+use crate::lines::append_lines;
+use std::alloc::Global;
+use std::marker::Model;
+use unftp_control_error::ControlChanError;
+use unftp_control_reply::{Reply, ReplyCode};
+
+/// MLST with its path, if it has one.
+#[derive(Debug, Drop)]
+pub struct Mlst {
+    path: Option<String>,
+}
+
+impl Model for Mlst {
+    ghost use Rattle.std.specs.Prelude.{List, Option, option_map, string_bytes, ℕ};
+
+    ghost Value = { Option (List ℕ) };
+
+    ghost view = { λ mlst. option_map string_bytes mlst.path };
+}
+
+impl Mlst {
+    /// MLST with this path.
+    pub fn new(path: Option<String>) -> Mlst
+        ensures { result ≡ option_map string_bytes path }
+    {
+        Mlst { path }
+    }
+
+    /// Its path, or this one where it has none.
+    fn path_or<'a>(&'a self, cwd: &'a str) -> &'a str
+        ensures { result.now ≡ unwrap_or self.now cwd.now }
+    {
+        match &self.path {
+            Some(path) => path.as_str(),
+            None => cwd,
+        }
+    }
+
+    /// Tells the facts of what was found and its path, which is the working directory where the command has none; or the text of
+    /// the fault that came in its place. It is refused for want of memory alone, with the kind `OutOfMemory`.
+    pub fn reply<M: Metadata>(
+        &self,
+        alloc: Global,
+        cwd: &str,
+        found: Result<&M, &str>,
+    ) -> Result<Reply, ControlChanError>
+        ensures ok { IfOk result (λ reply. MatchResult found.entry
+            (λ metadata. TellsFacts (M.facts_of metadata.now) (unwrap_or self.now cwd.now) (reply_of reply))
+            (λ text. reply_of reply ≡ CodeAndMsg 550 text.now)) }
+        ensures err { IfErr result (λ error. fault_of error ≡ out_of_memory) }
+    {
+        match found {
+            Ok(metadata) => tell(alloc, metadata, self.path_or(cwd)),
+            Err(text) => Reply::new(alloc, ReplyCode::FileError, text),
+        }
+    }
+}
+
+/// The reply that tells what is known of the path.
+fn tell<M: Metadata>(alloc: Global, metadata: &M, path: &str) -> Result<Reply, ControlChanError>
+    ensures ok { IfOk result (λ reply. TellsFacts (M.facts_of metadata.now) path.now (reply_of reply)) }
+    ensures err { IfErr result (λ error. fault_of error ≡ out_of_memory) }
+{
+    let facts = format_facts(alloc, metadata)?;
+    facts_reply(alloc, facts.as_str(), path)
+}
+
+/// The reply that tells these facts of the path.
+fn facts_reply(alloc: Global, facts: &str, path: &str) -> Result<Reply, ControlChanError>
+    ensures ok { IfOk result (λ reply. reply_of reply ≡ facts_reply facts.now path.now) }
+    ensures err { IfErr result (λ error. fault_of error ≡ out_of_memory) }
+{
+    let line = format!(in alloc; " {facts} {path}")?;
+    let mut lines = Vec::with_capacity(alloc, 3)?;
+    append_lines(&mut lines, &[" Listing", line.as_str(), "End"])?;
+    Ok(Reply::MultiLine {
+        code: ReplyCode::FileActionOkay,
+        lines,
+    })
+}

@@ -1,0 +1,5 @@
+use Rattle.unftp_control_laws.proofs.EpsvLaws.{port_reply-injective}
+use Rattle.unftp_control_laws.proofs.epsv_ports_differ.Goals as goal
+
+pub returns : goal.returns
+returns c = port_reply-injective
