@@ -1,1 +1,2 @@
-pub mod ResponseLemmas
+mod NoonLemmas
+mod ResponseLemmas

@@ -1,1 +1,3 @@
-pub mod Response
+-- To be read in this order.
+pub mod Sample
+pub mod Responses

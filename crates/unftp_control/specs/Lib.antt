@@ -8,6 +8,7 @@ pub use Rattle.unftp_control_defs.specs.Rules
 pub use Rattle.unftp_control_defs.specs.Outcome
 pub use Rattle.unftp_control_defs.specs.FtpReply
 pub use Rattle.unftp_control_defs.specs.Events
+pub use Rattle.unftp_control_defs.specs.Texts
 pub use Rattle.unftp_control_defs.specs.Run
 pub use Rattle.unftp_control_command.specs.CommandMeaning
 pub use Rattle.unftp_control_line_parser.specs.Told
@@ -18,3 +19,10 @@ pub use Rattle.unftp_control_reply.specs.ReplyMeaning
 pub use Rattle.unftp_control_codecs.specs.Codec
 pub use Rattle.unftp_control_codecs.specs.LineFeed
 pub use Rattle.unftp_control_codecs.specs.Decoding
+pub use Rattle.unftp_control_commands.specs.Answers
+pub use Rattle.unftp_control_commands.specs.Facts
+pub use Rattle.unftp_control_serve.specs.EventMeaning
+pub use Rattle.unftp_control_serve.specs.Sink
+pub use Rattle.unftp_control_serve.specs.Endings
+pub use Rattle.unftp_control_serve.specs.Engine
+pub use Rattle.unftp_control_serve.specs.Service

@@ -16,6 +16,7 @@ use crate::scan::{Scan, Tests};
 use std::alloc::Global;
 use std::marker::Model;
 use unftp_control_command::Command;
+use unftp_control_count::Count;
 use unftp_control_error::ControlChanError;
 use unftp_control_line_parser::{ParseError, ParseErrorKind, parse};
 use unftp_control_reply::Reply;
@@ -54,6 +55,13 @@ impl FtpCodec {
         ensures { result ≡ self.now.place }
     {
         self.place
+    }
+
+    /// How often a byte was tested for a line feed: contracts alone see it.
+    pub fn tests(&self) -> Count
+        ensures { result ≡ self.now.tests }
+    {
+        self.tests.count()
     }
 
     /// Takes the first line from the front of `buf` and answers its command, or `None` where no line has come whole yet

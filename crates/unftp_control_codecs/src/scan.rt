@@ -31,6 +31,13 @@ impl Tests {
         }
     }
 
+    /// Their number.
+    pub(crate) fn count(&self) -> Count
+        ensures { result ≡ self.now }
+    {
+        self.looks.same()
+    }
+
     #[inline(always)]
     fn add_look(&mut self)
         ensures { self.new ≡ self.old + 1 }

@@ -2,3 +2,4 @@ pub mod LineLaws
 pub mod VerbLaws
 pub mod ValueLaws
 pub mod PathLaws
+pub mod RunLaws

@@ -11,3 +11,5 @@ pub mod FtpReply
 pub mod Events
 pub mod Texts
 pub mod Run
+pub mod Cuttings
+pub mod Steps

@@ -19,6 +19,10 @@ abbrev pub last_state : {S : Type 0} → Law S → S → List FtpEvent → S
 last_state law s [] = s
 last_state law s (event ∷ events) = last_state law (law.next s event) events
 
--- what is written for an input: the replies' bytes, joined in order
+-- what is written for the events: the replies' bytes, joined in order
+abbrev pub text_of : {S : Type 0} → Law S → S → List FtpEvent → Bytes
+text_of law s events = flat_map encoded (replies law s events)
+
+-- what is written for an input
 abbrev pub text_for : {S : Type 0} → Law S → S → Bytes → Bytes
-text_for law s input = flat_map encoded (replies law s (events input))
+text_for law s input = text_of law s (events input)

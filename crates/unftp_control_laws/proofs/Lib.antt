@@ -2,3 +2,5 @@ mod CaseLaws
 mod FoldLaws
 mod EscapeLaws
 mod EpsvLaws
+mod CuttingLaws
+mod StepLaws

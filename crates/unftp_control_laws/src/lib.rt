@@ -2,11 +2,15 @@
 //! relation that a reader believes.
 #![tactic(auto)]
 
-ghost use Rattle.std.specs.Prelude.{◌≡◌, ◌↔◌, ◌<◌, ◌^◌, ℕ, List, ◌++◌, Some, None, Ok, codes};
+ghost use Rattle.std.specs.Prelude.{◌≡◌, ◌↔◌, ◌<◌, ◌≤◌, ◌+◌, ◌^◌, ℕ, List, [], ◌++◌, Some, None, Ok, codes};
+ghost use Rattle.std.specs.List.{concat, sum_by};
 ghost use Rattle.unftp_control_commands.specs.Answers.{port_reply};
 ghost use Rattle.unftp_control_defs.specs.Bytes.{Bytes, LF, crlf, Lacks};
 ghost use Rattle.unftp_control_defs.specs.FtpCommand.{User};
+ghost use Rattle.unftp_control_defs.specs.Cuttings.{events_in_turn};
+ghost use Rattle.unftp_control_defs.specs.Events.{events};
 ghost use Rattle.unftp_control_defs.specs.Lines.{Lines, lines_of, rest_of};
+ghost use Rattle.unftp_control_defs.specs.Steps.{AreSteps, Step, last_place};
 ghost use Rattle.unftp_control_defs.specs.Outcome.{outcome};
 ghost use Rattle.unftp_control_defs.specs.Paths.{ListPath, path_of};
 ghost use Rattle.unftp_control_defs.specs.Values.{Reads, BadEnd, value_of, escaped};
@@ -60,4 +64,15 @@ pub fn escape_reads_back()
 /// Two ports whose EPSV replies are equal are equal (RFC 2428, section 3).
 pub fn epsv_ports_differ()
     ensures { (port other : ℕ) → port < 2 ^ 16 → other < 2 ^ 16 → port_reply port ≡ port_reply other → port ≡ other }
+{}
+
+/// The pieces that an input comes in give its events, however it is cut.
+pub fn any_cutting()
+    ensures { (pieces : List Bytes) → events_in_turn [] pieces ≡ events (concat pieces) }
+{}
+
+/// Step by step from an empty buffer, a codec tests as many bytes as leave it and its place moves by, so at most those put in.
+pub fn tests_add_up()
+    ensures told { (steps : List Step) → AreSteps 0 0 steps → sum_by (λ step. step.tests) steps ≡ sum_by (λ step. step.removed) steps + last_place 0 steps }
+    ensures bound { (steps : List Step) → AreSteps 0 0 steps → sum_by (λ step. step.tests) steps ≤ sum_by (λ step. step.added) steps }
 {}

@@ -1,21 +1,44 @@
 //! Tests that hold whichever growth of memory is refused: `tools/growths` refuses each in turn.
-use super::super::answer;
+use crate::responses::Responses;
+use crate::tests::streams::Room;
 use std::test::Fail;
 use unftp_control::error::ControlChanErrorKind;
+use unftp_control::serve::{Engine, Output, ServeError};
 
 #[test]
-fn a_refused_answer_leaves_the_output(rt: HostRuntime) -> Result<(), Fail> {
-    let Ok(mut out) = Vec::from_slice(rt.alloc(), b"x") else {
+fn what_is_written_at_a_refusal_are_whole_replies(rt: HostRuntime) -> Result<(), Fail> {
+    let mut room = Room::ample(rt.alloc());
+    if room.held.reserve(64).is_err() {
         return Ok(());
-    };
-    if let Err(error) = answer(rt.alloc(), b"NOOP\r\nPWD\r\nNO", &mut out) {
-        assert_eq!(rt; error.kind(), &ControlChanErrorKind::OutOfMemory);
-        assert_eq!(rt; out.as_slice(), b"x".as_slice());
-        answer(rt.alloc(), b"NOOP\r\nPWD\r\nNO", &mut out)?;
     }
-    assert_eq!(rt;
-        out.as_slice(),
-        b"x200 OK\r\n502 Not implemented\r\n".as_slice()
-    );
+    let mut output = Output::new(room);
+    let mut engine = Engine::new(rt.alloc());
+    let mut responses = Responses::new();
+    let answer = engine.feed(b"NOOP\r\nNOOP\r\nNO", &mut responses, &mut output);
+    match &answer {
+        Ok(()) => {
+            assert_eq!(rt; engine.left(), 2);
+            assert_eq!(rt;
+                output.into_inner().held.as_slice(),
+                b"200 OK\r\n200 OK\r\n".as_slice()
+            );
+        }
+        Err(error) => {
+            match error {
+                ServeError::OutOfMemory => {}
+                ServeError::Handler(refused) => {
+                    assert_eq!(rt; refused.kind(), &ControlChanErrorKind::OutOfMemory)
+                }
+                _ => panic!(rt; "another answer"),
+            }
+            assert_eq!(rt; engine.left(), 0);
+            let then = engine.feed(b"NOOP\r\n", &mut responses, &mut output);
+            assert!(rt; matches!(&then, Err(ServeError::Stopped)));
+            drop(then);
+            let held = output.into_inner().held;
+            assert!(rt; held.is_empty() || held.as_slice() == b"200 OK\r\n".as_slice());
+        }
+    }
+    drop(answer);
     Ok(())
 }

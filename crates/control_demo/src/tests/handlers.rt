@@ -1,0 +1,87 @@
+//! Other handlers.
+ghost use Rattle.std.specs.Prelude.{◌≡◌, ◌⊎◌, codes};
+ghost use Rattle.unftp_control.specs.Events.{FaultKind, IllegalState, OutOfMemory};
+ghost use Rattle.unftp_control.specs.FtpReply.{FtpReply, CodeAndMsg, Nothing};
+ghost use Rattle.unftp_control.specs.Run.{Law};
+
+use std::alloc::Global;
+use unftp_control::error::{ControlChanError, ControlChanErrorKind};
+use unftp_control::reply::{Reply, ReplyCode};
+use unftp_control::serve::{Count, Event, Handler};
+
+/// Says `200 OK` to each event, counts them, and fails at the one `fails_at`, counted from 0.
+#[derive(Drop)]
+pub struct Counting {
+    pub taken: u32,
+    pub fails_at: u32,
+    failures: Count,
+}
+
+impl Counting {
+    pub fn new(fails_at: u32) -> Counting {
+        Counting {
+            taken: 0,
+            fails_at,
+            failures: Count::new(),
+        }
+    }
+}
+
+impl Handler for Counting {
+    ghost State = { Unit {0} };
+
+    ghost state = { λ _. tt };
+
+    ghost law = { record { says = λ _ _. CodeAndMsg 200 (codes "OK"); next = λ s _. s; may_fail = λ _ _ kind. (kind ≡ IllegalState) ⊎ (kind ≡ OutOfMemory) } };
+
+    ghost failures = { λ counting. counting.failures };
+
+    fn handle(&mut self, alloc: Global, event: Event) -> Result<Reply, ControlChanError> {
+        drop(event);
+        let is_failing = self.taken == self.fails_at;
+        self.taken = self.taken.saturating_add(1);
+        let answer = if is_failing {
+            Err(ControlChanError::new(ControlChanErrorKind::IllegalState))
+        } else {
+            Reply::new(alloc, ReplyCode::CommandOkay, "OK")
+        };
+        if answer.is_err() {
+            self.failures.raise();
+        }
+        answer
+    }
+}
+
+/// Keeps the events, and answers none.
+#[derive(Drop)]
+pub struct Recorder {
+    pub events: Vec<Event>,
+    failures: Count,
+}
+
+impl Recorder {
+    pub fn new(alloc: Global) -> Recorder {
+        Recorder {
+            events: Vec::new(alloc),
+            failures: Count::new(),
+        }
+    }
+}
+
+impl Handler for Recorder {
+    ghost State = { Unit {0} };
+
+    ghost state = { λ _. tt };
+
+    ghost law = { record { says = λ _ _. Nothing; next = λ s _. s; may_fail = λ _ _ kind. kind ≡ OutOfMemory } };
+
+    ghost failures = { λ recorder. recorder.failures };
+
+    fn handle(&mut self, _alloc: Global, event: Event) -> Result<Reply, ControlChanError> {
+        if self.events.push(event).is_err() {
+            self.failures.raise();
+            return Err(ControlChanError::new(ControlChanErrorKind::OutOfMemory));
+        }
+        Ok(Reply::None)
+    }
+}

@@ -1,0 +1,110 @@
+//! Readers that give pieces and writers with little room, which fail when they are told to.
+ghost use Rattle.std.specs.Prelude.{◌≡◌, Some};
+
+use std::alloc::Global;
+use std::io;
+use std::io::{ErrorKind, Read, Write};
+
+/// Gives at most `most` bytes a read, and fails once no turn is left.
+#[derive(Drop)]
+pub struct Pieces<'a> {
+    pub rest: &'a [u8],
+    pub most: usize,
+    pub turns: u32,
+}
+
+impl<'a> Pieces<'a> {
+    /// A reader that never fails.
+    pub fn new(input: &'a [u8], most: usize) -> Pieces<'a> {
+        Pieces {
+            rest: input,
+            most,
+            turns: u32::MAX,
+        }
+    }
+}
+
+impl Read for Pieces<'_> {
+    ghost remaining = { λ pieces. Some pieces.rest.now };
+
+    fn read(&mut self, buf: &mut [u8]) -> io::Result<usize> {
+        if self.turns == 0 {
+            return Err(io::Error::from(ErrorKind::Interrupted));
+        }
+        self.turns -= 1;
+        let n = buf.len().min(self.most.max(1)).min(self.rest.len());
+        let (given, rest) = self.rest.split_at(n);
+        buf[..n].copy_from_slice(given);
+        self.rest = rest;
+        Ok(n)
+    }
+}
+
+/// Holds what is written: `room` bytes, at most `most` in a write, and then it fails or takes nothing.
+#[derive(Drop)]
+pub struct Room {
+    pub held: Vec<u8>,
+    pub room: usize,
+    pub most: usize,
+    /// Whether it fails where there is no room.
+    pub fails: bool,
+    /// Whether it fails at a write while bytes of the write before are unflushed.
+    pub is_wary: bool,
+    pub unflushed: usize,
+    pub flushes: u32,
+    /// The flush that fails, counted from 0.
+    pub failing_flush: u32,
+}
+
+impl Room {
+    /// A writer that takes all.
+    pub fn ample(alloc: Global) -> Room {
+        Room::with_room(alloc, usize::MAX, true)
+    }
+
+    /// A writer that takes so many bytes.
+    pub fn with_room(alloc: Global, room: usize, fails: bool) -> Room {
+        Room {
+            held: Vec::new(alloc),
+            room,
+            most: usize::MAX,
+            fails,
+            is_wary: false,
+            unflushed: 0,
+            flushes: 0,
+            failing_flush: u32::MAX,
+        }
+    }
+
+    /// A writer that wants each write flushed before the next.
+    pub fn wary(alloc: Global) -> Room {
+        let mut room = Room::ample(alloc);
+        room.is_wary = true;
+        room
+    }
+}
+
+impl Write for Room {
+    ghost contents = { λ room. Some room.held.items };
+
+    fn write(&mut self, buf: &[u8]) -> io::Result<usize> {
+        let n = buf.len().min(self.room).min(self.most);
+        if (n == 0 && self.fails) || (self.is_wary && self.unflushed > 0) {
+            return Err(io::Error::from(ErrorKind::Other));
+        }
+        let (given, _) = buf.split_at(n);
+        self.held.extend_from_slice(given)?;
+        self.room -= n;
+        self.unflushed = self.unflushed.saturating_add(n);
+        Ok(n)
+    }
+
+    fn flush(&mut self) -> io::Result<()> {
+        if self.flushes == self.failing_flush {
+            return Err(io::Error::from(ErrorKind::Other));
+        }
+        self.flushes = self.flushes.saturating_add(1);
+        self.unflushed = 0;
+        Ok(())
+    }
+}

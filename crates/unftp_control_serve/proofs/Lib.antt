@@ -1,0 +1,4 @@
+mod SendLaws
+mod EndingLaws
+mod StoreLaws
+mod ServiceLaws

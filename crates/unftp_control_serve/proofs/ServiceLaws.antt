@@ -1,0 +1,102 @@
+-- A service, piece by piece.
+use Rattle.std.proofs.Common.{◌≡◌, ℕ, ◌+◌, ◌-◌, ◌^◌, ◌<◌, ◌≤◌, false, List, [], ◌++◌, Option, Some, None, length, refl, sym, ◌∙◌, ap, subst, arith, append_assoc, length-append}
+use Rattle.std.proofs.lemmas.List.{append-nil}
+use Rattle.std.specs.Io.KnownBytes.{Consumes, Keeps, IsAtEnd}
+use Rattle.unftp_control_defs.specs.Bytes.{Bytes}
+use Rattle.unftp_control_defs.specs.Lines.{rest_of}
+use Rattle.unftp_control_defs.specs.Events.{FtpEvent, events}
+use Rattle.unftp_control_defs.specs.Run.{Law}
+use Rattle.unftp_control_defs.proofs.LineLaws.{events-append, rest_of-append}
+use Rattle.unftp_control_serve.specs.Endings.{Moment, AllAnswered, RunEnded}
+use Rattle.unftp_control_serve.specs.Engine.{EngineState, IsGoing, Leaves, events_with, told}
+use Rattle.unftp_control_serve.specs.Service.{Source, Answered, AnsweredAll, EndedLate, ReadFailed, ReadTooOften, ServeEnded}
+use Rattle.unftp_control_serve.specs.declared.error.ServeError.{ServeError}
+use Rattle.unftp_control_serve.specs.declared.error.ServeError.TheVariants.{Read, Write, WriteZero, Handler, OutOfMemory, Stopped, TooManyReads}
+use Rattle.unftp_control_serve.proofs.EndingLaws.{AllAnswered-nothing, AllAnswered-then, RunEnded-then}
+
+Consumes-nothing : (known : Option Bytes) → Consumes known known []
+Consumes-nothing None = tt
+Consumes-nothing (Some bytes) = refl
+
+Consumes-keeps : (a b : Option Bytes) → Keeps a b → Consumes a b []
+Consumes-keeps None b h = tt
+Consumes-keeps (Some a) None h = h
+Consumes-keeps (Some a) (Some b) h = sym h
+
+Consumes-then : (a b c : Option Bytes) (read more : Bytes) → Consumes a b read → Consumes b c more → Consumes a c (read ++ more)
+Consumes-then None b c read more p q = tt
+Consumes-then (Some a) None c read more p q = absurd p
+Consumes-then (Some a) (Some b) None read more p q = q
+Consumes-then (Some a) (Some b) (Some c) read more p q = p ∙ ap (λ z. read ++ z) q ∙ sym (append_assoc read more c)
+
+-- in the loop of a service: all lines of what was read are answered, and the engine holds the rest
+pub record Serving {S : Type 0} (law : Law S) (m n : Moment S) (i j : Source) (engine : EngineState) (turn : ℕ) : Type 0 where
+  pub so_far : Answered law m n i j
+  pub going : IsGoing engine
+  pub rest : engine.rest ≡ rest_of so_far.read
+  pub left : engine.left ≡ told (length (rest_of so_far.read))
+  pub many : turn ≤ length so_far.read
+  pub tested : engine.tests ≤ length so_far.read
+  pub no_read_failed : j.failures ≡ i.failures
+
+module _ {S : Type 0} (law : Law S) (m : Moment S) (i : Source) where
+  pub Serving-start : (engine : EngineState) → engine ≡ record { rest = []; left = 0; failed = false; tests = 0 } → Serving law m m i i engine 0
+  Serving-start engine new = rw new record {
+    so_far = record { read = []; consumed = Consumes-nothing i.remaining; answered = AllAnswered-nothing law m };
+    going = refl;
+    rest = refl;
+    left = refl;
+    many = omega arith;
+    tested = omega arith;
+    no_read_failed = refl;
+  }
+
+  module _ (n : Moment S) (j k : Source) (engine : EngineState) (turn : ℕ) (s : Serving law m n i j engine turn) where
+    same_rest : (piece : Bytes) → rest_of (engine.rest ++ piece) ≡ rest_of (s.so_far.read ++ piece)
+    same_rest piece = ap (λ rest. rest_of (rest ++ piece)) s.rest ∙ sym (rest_of-append s.so_far.read piece)
+
+    same_events : (piece : Bytes) → events (s.so_far.read ++ piece) ≡ events s.so_far.read ++ events_with engine piece
+    same_events piece = events-append s.so_far.read piece ∙ ap (λ rest. events s.so_far.read ++ events (rest ++ piece)) (sym s.rest)
+
+    pub Serving-next : (after : Moment S) (piece : Bytes) (engine' : EngineState) → Consumes j.remaining k.remaining piece → 0 < length piece → k.failures ≡ j.failures →
+        AllAnswered law n (events_with engine piece) after → Leaves law engine piece n.state after.state engine' → engine'.tests ≤ engine.tests + length piece →
+        Serving law m after i k engine' (turn + 1)
+    Serving-next after piece engine' consumed some kept all leaves tests = record {
+      so_far = record {
+        read = s.so_far.read ++ piece;
+        consumed = Consumes-then i.remaining j.remaining k.remaining s.so_far.read piece s.so_far.consumed consumed;
+        answered = rw (same_events piece) (AllAnswered-then law m n after (events s.so_far.read) s.so_far.answered (events_with engine piece) all);
+      };
+      going = leaves.going;
+      rest = leaves.rest ∙ same_rest piece;
+      left = leaves.left ∙ ap (λ rest. told (length rest)) (same_rest piece);
+      many = omega (arith, s.many, length-append s.so_far.read piece);
+      tested = omega (arith, s.tested, length-append s.so_far.read piece);
+      no_read_failed = kept ∙ s.no_read_failed;
+    }
+
+    late : (after : Moment S) (piece : Bytes) (error : ServeError) → Consumes j.remaining k.remaining piece → length piece ≤ 4096 →
+        RunEnded law n (events_with engine piece) after error → EndedLate law m after i k error
+    late after piece error consumed short ended =
+        let all = RunEnded-then law m n after (events s.so_far.read) s.so_far.answered (events (s.so_far.read ++ piece)) (events_with engine piece) error (same_events piece) ended in
+        record {
+          read = s.so_far.read;
+          piece = piece;
+          consumed = Consumes-then i.remaining j.remaining k.remaining s.so_far.read piece s.so_far.consumed consumed;
+          short = short;
+          ended = all.0;
+          late = all.1;
+        }
+
+    pub Serving-ended : (after : Moment S) (piece : Bytes) (error : ServeError) → Consumes j.remaining k.remaining piece → length piece ≤ 4096 →
+        RunEnded law n (events_with engine piece) after error → ServeEnded law m after i k error
+    Serving-ended after piece (Read _) consumed short ended = absurd ended
+    Serving-ended after piece (Write error) consumed short ended = late after piece (Write error) consumed short ended
+    Serving-ended after piece WriteZero consumed short ended = late after piece WriteZero consumed short ended
+    Serving-ended after piece (Handler error) consumed short ended = late after piece (Handler error) consumed short ended
+    Serving-ended after piece OutOfMemory consumed short ended = late after piece OutOfMemory consumed short ended
+    Serving-ended after piece Stopped consumed short ended = absurd ended
+    Serving-ended after piece TooManyReads consumed short ended = absurd ended
+
+  pub Serving-too_often : (n : Moment S) (j : Source) (engine : EngineState) (turn : ℕ) → Serving law m n i j engine turn → 2 ^ 64 - 1 ≤ turn → ReadTooOften law m n i j
+  Serving-too_often n j engine turn s many = record { answered = s.so_far; many = omega (arith, s.many) }

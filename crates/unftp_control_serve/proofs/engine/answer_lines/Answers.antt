@@ -1,0 +1,31 @@
+use Rattle.std.proofs.Common.{◌≡◌, ◌∙◌, sym, arith}
+use Rattle.std.proofs.lemmas.Result.{err_from_is_err_and}
+use Rattle.unftp_control_serve.proofs.EndingLaws.{Answering-next, Answering-end, Answering-ended}
+use Rattle.unftp_control_serve.proofs.StoreLaws.{no_line-events, no_line-rest, first_line-events, first_line-rest}
+use Rattle.unftp_control_serve.proofs.engine.answer_lines.Goals as goal
+
+pub loop-event-preserved : goal.loop-event-preserved
+loop-event-preserved g c =
+    let first = rw c.in-Ok-Some.field-0-is at c.in-Ok-Some.ensures.nexts in
+    record {
+      answering = Answering-next _ _ _ _ _ _ _ _ c.loop-event.invariant.answering (first_line-events _ _ _ first) c.in_ok-answer_event-in-Ok-Some.ensures;
+      rest = c.loop-event.invariant.rest ∙ first_line-rest _ _ _ first;
+      tests = omega (arith, c.loop-event.invariant.tests, c.in-Ok-Some.ensures.tests);
+    }
+
+pub returns-in_err-answer_event-in-Ok-Some-clause-outcome : goal.returns-in_err-answer_event-in-Ok-Some-clause-outcome
+returns-in_err-answer_event-in-Ok-Some-clause-outcome g c =
+    let first = rw c.in-Ok-Some.field-0-is at c.in-Ok-Some.ensures.nexts in
+    let error = err_from_is_err_and c.from_residual.result c.from_residual.ensures.1 in
+    rw (error.1, error.2)
+    (Answering-ended _ _ _ _ _ _ _ _ _ c.loop-event.invariant.answering (first_line-events _ _ _ first) c.in_err-answer_event-in-Ok-Some.ensures)
+
+pub returns-in-Ok-None-clause-outcome : goal.returns-in-Ok-None-clause-outcome
+returns-in-Ok-None-clause-outcome g c =
+    let none = rw c.in-Ok-None.field-0-is at c.in-Ok-None.ensures.nexts in
+    Answering-end _ _ _ _ _ c.loop-event.invariant.answering (no_line-events _ _ none)
+
+pub returns-in-Ok-None-clause-rest : goal.returns-in-Ok-None-clause-rest
+returns-in-Ok-None-clause-rest g c =
+    let none = rw c.in-Ok-None.field-0-is at c.in-Ok-None.ensures.nexts in
+    no_line-rest _ _ none ∙ sym c.loop-event.invariant.rest

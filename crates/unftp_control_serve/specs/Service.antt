@@ -1,0 +1,63 @@
+-- What a whole service comes to.
+use Rattle.std.specs.Prelude.{◌≡◌, ℕ, ◌-◌, ◌^◌, ◌<◌, ◌≤◌, ◌++◌, length, Option}
+use Rattle.std.specs.Io.KnownBytes.{Consumes, IsAtEnd}
+use Rattle.unftp_control_defs.specs.Bytes.{Bytes}
+use Rattle.unftp_control_defs.specs.Lines.{rest_of}
+use Rattle.unftp_control_defs.specs.Events.{events}
+use Rattle.unftp_control_defs.specs.Run.{Law}
+use Rattle.unftp_control_serve.specs.Sink.{Begins}
+use Rattle.unftp_control_serve.specs.Endings.{Moment, AllAnswered, RunEnded, done_of}
+use Rattle.unftp_control_serve.specs.Engine.{told}
+use Rattle.unftp_control_serve.specs.declared.error.ServeError.{ServeError}
+use Rattle.unftp_control_serve.specs.declared.error.ServeError.TheVariants.{Read, Write, WriteZero, Handler, OutOfMemory, TooManyReads}
+
+-- What contracts see of an input at one moment: what is left of it, where the reader tells that, and how often a read failed.
+pub record Source : Type 0 where
+  pub remaining : Option Bytes
+  pub failures : ℕ
+
+abbrev pub source : Option Bytes → ℕ → Source
+source remaining failures = record { remaining = remaining; failures = failures }
+
+-- all lines of what was read were answered
+pub record Answered {S : Type 0} (law : Law S) (before after : Moment S) (input input' : Source) : Type 0 where
+  pub read : Bytes
+  pub consumed : Consumes input.remaining input'.remaining read
+  pub answered : AllAnswered law before (events read) after
+
+-- .. which is the whole input, and so many bytes of it came behind its last line feed; each byte was tested for one at most once
+pub record AnsweredAll {S : Type 0} (law : Law S) (before after : Moment S) (input input' : Source) (left tests : ℕ) : Type 0 where
+  pub read : Bytes
+  pub consumed : Consumes input.remaining input'.remaining read
+  pub at_end : IsAtEnd input'.remaining
+  pub answered : AllAnswered law before (events read) after
+  pub told_left : left ≡ told (length (rest_of read))
+  pub tested : tests ≤ length read
+  pub no_read_failed : input'.failures ≡ input.failures
+
+-- It ended at some line of what was read, and all lines of what was read before the last piece were answered by then.
+pub record EndedLate {S : Type 0} (law : Law S) (before after : Moment S) (input input' : Source) (error : ServeError) : Type 0 where
+  pub read : Bytes
+  pub piece : Bytes
+  pub consumed : Consumes input.remaining input'.remaining (read ++ piece)
+  pub short : length piece ≤ 4096
+  pub ended : RunEnded law before (events (read ++ piece)) after error
+  pub late : Begins (done_of law before (events (read ++ piece)) after error ended) (events read)
+
+pub record ReadFailed {S : Type 0} (law : Law S) (before after : Moment S) (input input' : Source) : Type 0 where
+  pub answered : Answered law before after input input'
+  pub read_failed : input.failures < input'.failures
+
+pub record ReadTooOften {S : Type 0} (law : Law S) (before after : Moment S) (input input' : Source) : Type 0 where
+  pub answered : Answered law before after input input'
+  pub many : 2 ^ 64 - 1 ≤ length answered.read
+
+-- which of them an error tells
+abbrev pub ServeEnded : {S : Type 0} → Law S → Moment S → Moment S → Source → Source → ServeError → Type 0
+ServeEnded law before after input input' (Read _) = ReadFailed law before after input input'
+ServeEnded law before after input input' (Write error) = EndedLate law before after input input' (Write error)
+ServeEnded law before after input input' WriteZero = EndedLate law before after input input' WriteZero
+ServeEnded law before after input input' (Handler error) = EndedLate law before after input input' (Handler error)
+ServeEnded law before after input input' OutOfMemory = EndedLate law before after input input' OutOfMemory
+ServeEnded law before after input input' TooManyReads = ReadTooOften law before after input input'
+ServeEnded law before after input input' _ = ⊥

@@ -1,0 +1,39 @@
+-- The bytes that wait for the end of their line.
+use Rattle.std.specs.Prelude.{◌≡◌, ℕ, ◌∷◌, ◌++◌, Option, Result, MatchResult, MatchOption, option_map}
+use Rattle.unftp_control_defs.specs.Bytes.{Bytes, LF, Lacks}
+use Rattle.unftp_control_defs.specs.Events.{FtpEvent, event_of}
+use Rattle.unftp_control_defs.specs.Outcome.{outcome}
+use Rattle.unftp_control_defs.specs.Lines.{IsLine}
+use Rattle.unftp_control_codecs.specs.Decoding.{Decoded, IsStarved, event_told}
+use Rattle.unftp_control_serve.specs.declared.event.Event.{Event}
+use Rattle.unftp_control_serve.specs.EventMeaning.{event_meant}
+
+-- the bytes, how often one was tested for a line feed since the store was made, and how many of them have not been
+pub record Pending : Type 0 where
+  pub bytes : Bytes
+  pub tests : ℕ
+  pub ahead : ℕ
+
+-- There is no line, and all bytes are tested.
+pub record HasNoLine (before after : Pending) : Type 0 where
+  pub unended : Lacks LF before.bytes
+  pub kept : after.bytes ≡ before.bytes
+  pub tested : after.ahead ≡ 0
+
+-- The first line is taken away, and this is its event.
+pub record TakesLine (before : Pending) (event : FtpEvent) (after : Pending) : Type 0 where
+  pub line : Bytes
+  pub is_line : IsLine line
+  pub whole : before.bytes ≡ line ++ after.bytes
+  pub meaning : event ≡ event_of (outcome line)
+
+abbrev pub Nexts : {E : Type 0} → Pending → Result (Option Event) E → Pending → Type 0
+Nexts before result after = MatchResult result
+    (λ next. MatchOption next (HasNoLine before after) (λ event. TakesLine before (event_meant event) after))
+    (λ _. after.bytes ≡ before.bytes)
+
+-- the event that an answer of the codec tells, if any; or memory was refused
+abbrev pub TellsEvent : {E : Type 0} → Decoded → Result (Option Event) E → Type 0
+TellsEvent answer result = MatchResult result
+    (λ event. (event_told answer ≡ option_map event_meant event) × ¬ IsStarved answer)
+    (λ _. IsStarved answer)

@@ -1,0 +1,201 @@
+//! The engine: lines in, replies out.
+ghost use Rattle.std.specs.Prelude.{◌≡◌, ◌≤◌, ◌+◌, ◌↔◌, ◌∷◌, ◌++◌, [], OnOk, OnErr, IsErrOf, is_err, true, false, length};
+ghost use Rattle.std.specs.Io.KnownBytes.{Appends};
+ghost use Rattle.unftp_control_defs.specs.Events.{events};
+ghost use Rattle.unftp_control_defs.specs.Lines.{rest_of};
+ghost use Rattle.unftp_control_defs.specs.Run.{text_of};
+ghost use Rattle.unftp_control_serve.specs.Endings.{RunOutcome, WriteFailed, HandlerFailed, MemoryRefused, OnWrite, OnHandler, OnMemory, ReadsNothing, moment};
+ghost use Rattle.unftp_control_serve.specs.Engine.{IsGoing, Leaves, events_with};
+ghost use Rattle.unftp_control_serve.specs.EventMeaning.{event_meant};
+ghost use Rattle.unftp_control_serve.specs.Sink.{Flushed, sink};
+
+use crate::error::ServeError;
+use crate::event::Event;
+use crate::handler::Handler;
+use crate::output::Output;
+use crate::send::send;
+use crate::store::Store;
+use std::alloc::Global;
+use std::io::Write;
+use std::marker::Model;
+use unftp_control_codecs::FtpCodec;
+use unftp_control_count::Count;
+
+/// Hands the event to the handler, and sends its reply.
+fn answer_event<H: Handler, W: Write>(
+    alloc: Global,
+    event: Event,
+    handler: &mut H,
+    output: &mut Output<W>,
+) -> Result<(), ServeError>
+    ensures { RunOutcome H.law
+        (moment (H.state handler.old) (H.failures handler.old) (sink (W.contents output.old.writer) output.old.failures output.old.unflushed))
+        (event_meant event ∷ [])
+        (moment (H.state handler.new) (H.failures handler.new) (sink (W.contents output.new.writer) output.new.failures output.new.unflushed))
+        result }
+{
+    let reply = match handler.handle(alloc, event) {
+        Ok(reply) => reply,
+        Err(error) => return Err(ServeError::Handler(error)),
+    };
+    let mut bytes = Vec::new(alloc);
+    match FtpCodec::new().encode(reply, &mut bytes) {
+        Ok(()) => send(output, bytes.as_slice()),
+        Err(_) => Err(ServeError::OutOfMemory),
+    }
+}
+
+/// Answers each line of what waits.
+fn answer_lines<H: Handler, W: Write>(
+    store: &mut Store,
+    handler: &mut H,
+    output: &mut Output<W>,
+) -> Result<(), ServeError>
+    ensures outcome { RunOutcome H.law
+        (moment (H.state handler.old) (H.failures handler.old) (sink (W.contents output.old.writer) output.old.failures output.old.unflushed))
+        (events store.old.bytes)
+        (moment (H.state handler.new) (H.failures handler.new) (sink (W.contents output.new.writer) output.new.failures output.new.unflushed))
+        result }
+    ensures rest { OnOk result (store.new.bytes ≡ rest_of store.old.bytes) }
+    ensures ahead { OnOk result (store.new.ahead ≡ 0) }
+    ensures tests { store.new.tests ≤ store.old.tests + store.old.ahead }
+{
+    let alloc = store.allocator();
+    loop {
+        match store.next() {
+            Ok(Some(event)) => answer_event(alloc, event, handler, output)?,
+            Ok(None) => return Ok(()),
+            Err(_) => return Err(ServeError::OutOfMemory),
+        }
+    }
+}
+
+/// Answers each line of what waits and a piece behind it.
+fn answer_piece<H: Handler, W: Write>(
+    store: &mut Store,
+    piece: &[u8],
+    handler: &mut H,
+    output: &mut Output<W>,
+) -> Result<(), ServeError>
+    ensures outcome { RunOutcome H.law
+        (moment (H.state handler.old) (H.failures handler.old) (sink (W.contents output.old.writer) output.old.failures output.old.unflushed))
+        (events (store.old.bytes ++ piece.now))
+        (moment (H.state handler.new) (H.failures handler.new) (sink (W.contents output.new.writer) output.new.failures output.new.unflushed))
+        result }
+    ensures rest { OnOk result (store.new.bytes ≡ rest_of (store.old.bytes ++ piece.now)) }
+    ensures ahead { OnOk result (store.new.ahead ≡ 0) }
+    ensures tests { store.new.tests ≤ store.old.tests + store.old.ahead + length piece.now }
+{
+    match store.put(piece) {
+        Ok(()) => answer_lines(store, handler, output),
+        Err(_) => Err(ServeError::OutOfMemory),
+    }
+}
+
+/// Cuts an input that comes in pieces into lines, and answers each.
+#[derive(Drop)]
+pub struct Engine {
+    store: Store,
+    left: u64,
+    failed: bool,
+}
+
+impl Model for Engine {
+    ghost use Rattle.std.specs.Prelude.{◌≡◌, false, length};
+    ghost use Rattle.unftp_control_serve.specs.Engine.{EngineState, told};
+
+    ghost Value = { EngineState };
+
+    ghost view = { λ engine. record {
+      rest = engine.store.bytes;
+      left = engine.left;
+      failed = engine.failed;
+      tests = engine.store.tests;
+    } };
+
+    ghost invariant = { λ engine. engine.failed ≡ false → (engine.store.ahead ≡ 0) × (engine.left ≡ told (length engine.store.bytes)) };
+}
+
+impl Engine {
+    /// An engine that was fed nothing.
+    pub fn new(alloc: Global) -> Engine
+        ensures { result ≡ record { rest = []; left = 0; failed = false; tests = 0 } }
+    {
+        Engine {
+            store: Store::new(alloc),
+            left: 0,
+            failed: false,
+        }
+    }
+
+    /// How many bytes came behind the last line feed of what was fed by calls that answered `Ok`; `u64::MAX` tells a greater number too.
+    pub fn left(&self) -> u64
+        ensures { result ≡ self.now.left }
+    {
+        self.left
+    }
+
+    /// How often a byte was tested for a line feed.
+    pub(crate) fn tests(&self) -> Count
+        ensures { result ≡ self.now.tests }
+    {
+        self.store.tests()
+    }
+
+    /// Takes the next piece of the input, and answers each line that has come whole by then: its event is handed to the handler, and
+    /// its reply is written and flushed, before the next line is taken.
+    ///
+    /// Each error makes the engine a failed one. From then on it answers `Stopped` and does nothing.
+    pub fn feed<H: Handler, W: Write>(
+        &mut self,
+        piece: &[u8],
+        handler: &mut H,
+        output: &mut Output<W>,
+    ) -> Result<(), ServeError>
+        // What was written and taken at each answer, over the lines of what waits and the piece.
+        ensures outcome { IsGoing self.old → RunOutcome H.law
+            (moment (H.state handler.old) (H.failures handler.old) (sink (W.contents output.old.writer) output.old.failures output.old.unflushed))
+            (events_with self.old piece.now)
+            (moment (H.state handler.new) (H.failures handler.new) (sink (W.contents output.new.writer) output.new.failures output.new.unflushed))
+            result }
+        // The same, answer by answer.
+        ensures written { IsGoing self.old → OnOk result (Appends (W.contents output.old.writer) (W.contents output.new.writer) (text_of H.law (H.state handler.old) (events_with self.old piece.now))) }
+        ensures flushed { IsGoing self.old → OnOk result (Flushed (text_of H.law (H.state handler.old) (events_with self.old piece.now)) [] output.old.unflushed output.new.unflushed) }
+        ensures leaves { IsGoing self.old → OnOk result (Leaves H.law self.old piece.now (H.state handler.old) (H.state handler.new) self.new) }
+        ensures quiet { OnOk result ((output.new.failures ≡ output.old.failures) × (H.failures handler.new ≡ H.failures handler.old)) }
+        ensures write { OnWrite result (WriteFailed H.law
+            (moment (H.state handler.old) (H.failures handler.old) (sink (W.contents output.old.writer) output.old.failures output.old.unflushed))
+            (events_with self.old piece.now)
+            (moment (H.state handler.new) (H.failures handler.new) (sink (W.contents output.new.writer) output.new.failures output.new.unflushed))) }
+        ensures handler { OnHandler result (HandlerFailed H.law
+            (moment (H.state handler.old) (H.failures handler.old) (sink (W.contents output.old.writer) output.old.failures output.old.unflushed))
+            (events_with self.old piece.now)
+            (moment (H.state handler.new) (H.failures handler.new) (sink (W.contents output.new.writer) output.new.failures output.new.unflushed))) }
+        ensures memory { OnMemory result (MemoryRefused H.law
+            (moment (H.state handler.old) (H.failures handler.old) (sink (W.contents output.old.writer) output.old.failures output.old.unflushed))
+            (events_with self.old piece.now)
+            (moment (H.state handler.new) (H.failures handler.new) (sink (W.contents output.new.writer) output.new.failures output.new.unflushed))) }
+        ensures never { ReadsNothing result }
+        // An engine that failed does nothing, and each error makes it one.
+        ensures stopped { IsErrOf result ServeError.Stopped ↔ (self.old.failed ≡ true) }
+        ensures unchanged { self.old.failed ≡ true → (handler.new ≡ handler.old) × (output.new ≡ output.old) }
+        ensures failed { self.new.failed ≡ is_err result }
+        ensures kept { OnErr result (self.new.left ≡ self.old.left) }
+        // Each byte is tested for a line feed at most once.
+        ensures tests { self.new.tests ≤ self.old.tests + length piece.now }
+    {
+        if self.failed {
+            return Err(ServeError::Stopped);
+        }
+        match answer_piece(&mut self.store, piece, handler, output) {
+            Ok(()) => {
+                self.left = self.store.len() as u64;
+                Ok(())
+            }
+            Err(error) => {
+                self.failed = true;
+                Err(error)
+            }
+        }
+    }
+}

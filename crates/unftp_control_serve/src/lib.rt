@@ -1,0 +1,21 @@
+//! The engine of a control connection: pieces of its input come in, a handler answers each line's event, and the replies go out.
+#![tactic(auto)]
+
+mod engine;
+mod error;
+mod event;
+mod handler;
+mod input;
+mod output;
+mod send;
+mod service;
+mod store;
+
+pub use engine::Engine;
+pub use error::ServeError;
+pub use event::Event;
+pub use handler::Handler;
+pub use input::Input;
+pub use output::Output;
+pub use service::{Served, serve};
+pub use unftp_control_count::Count;

@@ -1,0 +1,79 @@
+//! A whole connection, from the first read to the end of the input.
+ghost use Rattle.std.specs.Prelude.{◌≡◌, ◌≤◌, IfOk, IfErr, IfSome, OnOk, length};
+ghost use Rattle.std.specs.Io.KnownBytes.{Appends};
+ghost use Rattle.unftp_control_defs.specs.Events.{events};
+ghost use Rattle.unftp_control_defs.specs.Lines.{rest_of};
+ghost use Rattle.unftp_control_defs.specs.Run.{last_state, text_for};
+ghost use Rattle.unftp_control_serve.specs.Endings.{moment};
+ghost use Rattle.unftp_control_serve.specs.Engine.{told};
+ghost use Rattle.unftp_control_serve.specs.Service.{AnsweredAll, ServeEnded, source};
+ghost use Rattle.unftp_control_serve.specs.Sink.{sink};
+
+use crate::engine::Engine;
+use crate::error::ServeError;
+use crate::handler::Handler;
+use crate::input::Input;
+use crate::output::Output;
+use std::alloc::Global;
+use std::io::{Read, Write};
+use unftp_control_count::Count;
+
+/// What is told of a whole input.
+#[derive(Drop)]
+pub struct Served {
+    /// How many bytes came behind the last line feed; `u64::MAX` tells a greater number too.
+    pub left: u64,
+    /// How often a byte was tested for a line feed: contracts alone see it.
+    pub tests: Count,
+}
+
+/// How many bytes are read at most at once.
+const PIECE: usize = 4096;
+
+/// Answers the lines that the reader gives, until it gives no more.
+///
+/// Each reply is written whole and flushed before the next line is taken, and before more is read.
+pub fn serve<R: Read, W: Write, H: Handler>(
+    alloc: Global,
+    reader: &mut Input<R>,
+    writer: &mut Output<W>,
+    handler: &mut H,
+) -> Result<Served, ServeError>
+    // Whatever pieces the input comes in, at Ok exactly the replies to its lines are written,
+    ensures headline { OnOk result (IfSome (R.remaining reader.old.reader) (λ input.
+        Appends (W.contents writer.old.writer) (W.contents writer.new.writer) (text_for H.law (H.state handler.old) input))) }
+    // the handler is in the last state of its run over them, and each byte was tested for a line feed at most once.
+    ensures state { OnOk result (IfSome (R.remaining reader.old.reader) (λ input. H.state handler.new ≡ last_state H.law (H.state handler.old) (events input))) }
+    ensures tested { IfOk result (λ served. IfSome (R.remaining reader.old.reader) (λ input. served.tests ≤ length input)) }
+    ensures left { IfOk result (λ served. IfSome (R.remaining reader.old.reader) (λ input. served.left ≡ told (length (rest_of input)))) }
+    // The same of any reader, with what was flushed and what failed; and what is so at each error.
+    ensures ok { IfOk result (λ served. AnsweredAll H.law
+        (moment (H.state handler.old) (H.failures handler.old) (sink (W.contents writer.old.writer) writer.old.failures writer.old.unflushed))
+        (moment (H.state handler.new) (H.failures handler.new) (sink (W.contents writer.new.writer) writer.new.failures writer.new.unflushed))
+        (source (R.remaining reader.old.reader) reader.old.failures)
+        (source (R.remaining reader.new.reader) reader.new.failures)
+        served.left served.tests) }
+    ensures err { IfErr result (ServeEnded H.law
+        (moment (H.state handler.old) (H.failures handler.old) (sink (W.contents writer.old.writer) writer.old.failures writer.old.unflushed))
+        (moment (H.state handler.new) (H.failures handler.new) (sink (W.contents writer.new.writer) writer.new.failures writer.new.unflushed))
+        (source (R.remaining reader.old.reader) reader.old.failures)
+        (source (R.remaining reader.new.reader) reader.new.failures)) }
+{
+    let mut engine = Engine::new(alloc);
+    let mut piece = [0u8; PIECE];
+    for _turn in 0..u64::MAX {
+        let n = match reader.read(&mut piece) {
+            Ok(n) => n,
+            Err(error) => return Err(ServeError::Read(error)),
+        };
+        if n == 0 {
+            return Ok(Served {
+                left: engine.left(),
+                tests: engine.tests(),
+            });
+        }
+        let (given, _) = piece.split_at(n);
+        engine.feed(given, handler, writer)?;
+    }
+    Err(ServeError::TooManyReads)
+}
