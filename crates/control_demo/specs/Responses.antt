@@ -2,7 +2,7 @@
 use Rattle.std.specs.Prelude.{◌≡◌, bytes_eq, if◌then◌else◌, false, unwrap_or, codes}
 use Rattle.unftp_control.specs.Bytes.{Bytes}
 use Rattle.unftp_control.specs.FtpCommand.{FtpCommand, Auth, Prot, Feat, Epsv, Help, Mode, Opts, Stru, Mlst, Noop, Quit, Site}
-use Rattle.unftp_control.specs.Events.{Fault, FaultKind, FaultSource, FtpEvent, Command, Refused, Parse, OutOfMemory}
+use Rattle.unftp_control.specs.Events.{FaultKind, FaultSource, FtpEvent, Command, Refused, Parse, OutOfMemory}
 use Rattle.unftp_control.specs.FtpReply.{FtpReply, CodeAndMsg}
 use Rattle.unftp_control.specs.Texts.{reading_text, kind_text}
 use Rattle.unftp_control.specs.Run.{Law}

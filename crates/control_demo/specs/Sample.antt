@@ -1,5 +1,5 @@
 -- The one file that the program tells of.
-use Rattle.std.specs.Prelude.{ℕ, Bool, false, Option, codes}
+use Rattle.std.specs.Prelude.{false, Option, codes}
 use Rattle.jiff_core.specs.declared.timestamp.Timestamp.{Timestamp}
 use Rattle.unftp_control.specs.Bytes.{Bytes}
 use Rattle.unftp_control.specs.Facts.{FileFacts}

@@ -48,7 +48,7 @@ fn answer_line(
     codec.encode(Reply::new(alloc, code, text)?, out)
 }
 
-// The README's caller.
+// The caller of the codec alone in docs/CALLING.md.
 #[test]
 fn a_caller_answers_line_by_line(rt: HostRuntime) -> Result<(), Fail> {
     let mut codec = FtpCodec::new();

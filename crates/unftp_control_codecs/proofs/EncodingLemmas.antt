@@ -1,9 +1,9 @@
 -- The bytes of a reply of several lines, from its parts.
-use Rattle.std.proofs.Common.{◌≡◌, ℕ, ◌+◌, ◌≤◌, List, [], ◌∷◌, ◌++◌, length, take, map, flat_map, decimal, string_bytes, String, Global, refl, sym, ap, ◌∙◌, append_assoc, arith}
-use Rattle.std.proofs.lemmas.List.{append-nil, take-take, length-append, map-append}
+use Rattle.std.proofs.Common.{◌≡◌, ℕ, ◌≤◌, List, [], ◌∷◌, ◌++◌, length, take, map, flat_map, decimal, string_bytes, String, Global, refl, sym, ap, ◌∙◌, append_assoc, arith}
+use Rattle.std.proofs.lemmas.List.{take-take, length-append, map-append}
 use Rattle.std.proofs.Math.Seq.{take-append_seam}
-use Rattle.unftp_control_defs.specs.Bytes.{Bytes, DASH, crlf}
-use Rattle.unftp_control_defs.specs.FtpReply.{MultiLine, encoded, several, padded, after_space}
+use Rattle.unftp_control_defs.specs.Bytes.{Bytes, DASH}
+use Rattle.unftp_control_defs.specs.FtpReply.{MultiLine, encoded, several, after_space}
 use Rattle.unftp_control_codecs.specs.Encoding.{ended, opening}
 
 abbrev ending : ℕ → Bytes → Bytes

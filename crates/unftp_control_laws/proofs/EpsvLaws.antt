@@ -1,5 +1,5 @@
 -- The text of EPSV tells the port.
-use Rattle.std.proofs.Common.{◌≡◌, ℕ, ◌<◌, ◌^◌, ◌++◌, codes, decimal, ap, ◌∙◌, sym, arith}
+use Rattle.std.proofs.Common.{◌≡◌, ℕ, ◌<◌, ◌^◌, ◌++◌, codes, decimal, ap, arith}
 use Rattle.std.proofs.lemmas.List.{append_cancel_left, append_cancel_right}
 use Rattle.std.proofs.lemmas.Fmt.{decimal_injective}
 use Rattle.unftp_control_defs.specs.Bytes.{Bytes}

@@ -1,4 +1,4 @@
-mod SendLaws
+pub mod SendLaws
 mod EndingLaws
 mod StoreLaws
 mod ServiceLaws

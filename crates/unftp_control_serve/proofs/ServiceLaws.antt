@@ -1,15 +1,14 @@
 -- A service, piece by piece.
-use Rattle.std.proofs.Common.{◌≡◌, ℕ, ◌+◌, ◌-◌, ◌^◌, ◌<◌, ◌≤◌, false, List, [], ◌++◌, Option, Some, None, length, refl, sym, ◌∙◌, ap, subst, arith, append_assoc, length-append}
-use Rattle.std.proofs.lemmas.List.{append-nil}
-use Rattle.std.specs.Io.KnownBytes.{Consumes, Keeps, IsAtEnd}
+use Rattle.std.proofs.Common.{◌≡◌, ℕ, ◌+◌, ◌-◌, ◌^◌, ◌<◌, ◌≤◌, false, [], ◌++◌, Option, Some, None, length, refl, sym, ◌∙◌, ap, arith, append_assoc, length-append}
+use Rattle.std.specs.Io.KnownBytes.{Consumes, Keeps}
 use Rattle.unftp_control_defs.specs.Bytes.{Bytes}
 use Rattle.unftp_control_defs.specs.Lines.{rest_of}
-use Rattle.unftp_control_defs.specs.Events.{FtpEvent, events}
+use Rattle.unftp_control_defs.specs.Events.{events}
 use Rattle.unftp_control_defs.specs.Run.{Law}
 use Rattle.unftp_control_defs.proofs.LineLaws.{events-append, rest_of-append}
 use Rattle.unftp_control_serve.specs.Endings.{Moment, AllAnswered, RunEnded}
 use Rattle.unftp_control_serve.specs.Engine.{EngineState, IsGoing, Leaves, events_with, told}
-use Rattle.unftp_control_serve.specs.Service.{Source, Answered, AnsweredAll, EndedLate, ReadFailed, ReadTooOften, ServeEnded}
+use Rattle.unftp_control_serve.specs.Service.{Source, Answered, EndedLate, ReadTooOften, ServeEnded}
 use Rattle.unftp_control_serve.specs.declared.error.ServeError.{ServeError}
 use Rattle.unftp_control_serve.specs.declared.error.ServeError.TheVariants.{Read, Write, WriteZero, Handler, OutOfMemory, Stopped, TooManyReads}
 use Rattle.unftp_control_serve.proofs.EndingLaws.{AllAnswered-nothing, AllAnswered-then, RunEnded-then}

@@ -1,5 +1,5 @@
 -- What came of some events: which of them the handler took, what was written by then, and what was flushed.
-use Rattle.std.specs.Prelude.{◌≡◌, ℕ, ◌<◌, ◌⊎◌, List, [], ◌∷◌, ◌++◌, Result, Ok, Err, MatchResult}
+use Rattle.std.specs.Prelude.{◌≡◌, ℕ, ◌<◌, ◌⊎◌, List, [], ◌∷◌, ◌++◌, Result, Err, MatchResult}
 use Rattle.std.specs.Io.KnownBytes.{Appends}
 use Rattle.unftp_control_defs.specs.Events.{FaultKind, FtpEvent}
 use Rattle.unftp_control_defs.specs.FtpReply.{encoded}

@@ -1,5 +1,5 @@
 -- The bytes that wait for the end of their line.
-use Rattle.std.specs.Prelude.{◌≡◌, ℕ, ◌∷◌, ◌++◌, Option, Result, MatchResult, MatchOption, option_map}
+use Rattle.std.specs.Prelude.{◌≡◌, ℕ, ◌++◌, Option, Result, MatchResult, MatchOption, option_map}
 use Rattle.unftp_control_defs.specs.Bytes.{Bytes, LF, Lacks}
 use Rattle.unftp_control_defs.specs.Events.{FtpEvent, event_of}
 use Rattle.unftp_control_defs.specs.Outcome.{outcome}

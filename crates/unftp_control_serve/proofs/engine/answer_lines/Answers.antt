@@ -1,4 +1,4 @@
-use Rattle.std.proofs.Common.{◌≡◌, ◌∙◌, sym, arith}
+use Rattle.std.proofs.Common.{◌∙◌, sym, arith}
 use Rattle.std.proofs.lemmas.Result.{err_from_is_err_and}
 use Rattle.unftp_control_serve.proofs.EndingLaws.{Answering-next, Answering-end, Answering-ended}
 use Rattle.unftp_control_serve.proofs.StoreLaws.{no_line-events, no_line-rest, first_line-events, first_line-rest}

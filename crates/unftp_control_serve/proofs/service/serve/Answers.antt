@@ -1,4 +1,4 @@
-use Rattle.std.proofs.Common.{◌≡◌, ◌<◌, ◌≤◌, refl, sym, length, arith}
+use Rattle.std.proofs.Common.{◌<◌, ◌≤◌, refl, sym, length, arith}
 use Rattle.std.proofs.lemmas.Result.{err_from_is_err_and}
 use Rattle.unftp_control_serve.proofs.ServiceLaws.{Serving-start, Serving-next, Serving-ended, Serving-too_often}
 use Rattle.unftp_control_serve.proofs.service.serve.Goals as goal

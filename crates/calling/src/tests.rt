@@ -1,0 +1,57 @@
+//! The loop at a handler and a writer.
+ghost use Rattle.std.specs.Prelude.{◌≡◌};
+ghost use Rattle.unftp_control.specs.Events.{OutOfMemory};
+ghost use Rattle.unftp_control.specs.FtpReply.{CodeAndMsg};
+ghost use Rattle.std.specs.Prelude.{codes};
+
+use crate::answer_pieces;
+use std::alloc::Global;
+use std::test::Fail;
+use unftp_control::error::ControlChanError;
+use unftp_control::reply::{Reply, ReplyCode};
+use unftp_control::serve::{Count, Event, Handler, Output};
+
+/// Says `200 OK` to everything.
+#[derive(Drop)]
+struct Obliging {
+    failures: Count,
+}
+
+impl Handler for Obliging {
+    ghost State = { Unit {0} };
+
+    ghost state = { λ _. tt };
+
+    ghost law = { record { says = λ _ _. CodeAndMsg 200 (codes "OK"); next = λ s _. s; may_fail = λ _ _ kind. kind ≡ OutOfMemory } };
+
+    ghost failures = { λ obliging. obliging.failures };
+
+    fn handle(&mut self, alloc: Global, event: Event) -> Result<Reply, ControlChanError> {
+        drop(event);
+        let answer = Reply::new(alloc, ReplyCode::CommandOkay, "OK");
+        if answer.is_err() {
+            self.failures.raise();
+        }
+        answer
+    }
+}
+
+#[test]
+fn lines_in_pieces_are_answered(rt: HostRuntime) -> Result<(), Fail> {
+    let mut obliging = Obliging {
+        failures: Count::new(),
+    };
+    let mut output = Output::new(Vec::new(rt.alloc()));
+    let pieces = [
+        b"NO".as_slice(),
+        b"OP\r".as_slice(),
+        b"\nPWD\nQU".as_slice(),
+    ];
+    let left = answer_pieces(rt.alloc(), &pieces, &mut obliging, &mut output)?;
+    assert_eq!(rt; left, 2);
+    assert_eq!(rt;
+        output.into_inner().as_slice(),
+        b"200 OK\r\n200 OK\r\n".as_slice()
+    );
+    Ok(())
+}
