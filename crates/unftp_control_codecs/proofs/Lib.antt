@@ -1,3 +1,2 @@
 pub mod LineFeedLemmas
-pub mod LineCutLemmas
 mod EncodingLemmas

@@ -1,12 +1,13 @@
 -- What came of some events: which of them the handler took, what was written by then, and what was flushed.
-use Rattle.std.specs.Prelude.{◌≡◌, ℕ, ◌<◌, ◌⊎◌, List, [], ◌∷◌, ◌++◌, Result, Err, MatchResult}
+use Rattle.std.specs.Prelude.{◌≡◌, ℕ, ◌<◌, ◌⊎◌, List, [], ◌∷◌, ◌++◌, Option, Result, Err, MatchResult}
 use Rattle.std.specs.Io.KnownBytes.{Appends}
 use Rattle.unftp_control_defs.specs.Events.{FaultKind, FtpEvent}
 use Rattle.unftp_control_defs.specs.FtpReply.{encoded}
 use Rattle.unftp_control_defs.specs.Run.{Law, last_state, text_of}
 use Rattle.unftp_control_defs.specs.Bytes.{Bytes}
 use Rattle.unftp_control_error.specs.ErrorMeaning.{fault_of}
-use Rattle.unftp_control_serve.specs.Sink.{Sink, Begins, Flushed}
+use Rattle.unftp_control_serve.specs.Sink.{Sink, sink_of, Begins, Flushed}
+use Rattle.unftp_control_serve.specs.declared.output.Output.{Output}
 use Rattle.unftp_control_serve.specs.declared.error.ServeError.{ServeError}
 use Rattle.unftp_control_serve.specs.declared.error.ServeError.TheVariants.{Read, Write, WriteZero, Handler, OutOfMemory, TooManyReads}
 
@@ -16,8 +17,8 @@ pub record Moment (S : Type 0) : Type 0 where
   pub failures : ℕ
   pub output : Sink
 
-abbrev pub moment : {S : Type 0} → S → ℕ → Sink → Moment S
-moment state failures output = record { state = state; failures = failures; output = output }
+abbrev pub moment_of : {H S W : Type 0} → (H → S) → (H → ℕ) → (W → Option Bytes) → H → Output W → Moment S
+moment_of state failures contents handler output = record { state = state handler; failures = failures handler; output = sink_of contents output }
 
 -- The handler took all events, and its replies were written and flushed; nothing failed.
 pub record AllAnswered {S : Type 0} (law : Law S) (before : Moment S) (events : List FtpEvent) (after : Moment S) : Type 0 where

@@ -8,6 +8,7 @@ use Rattle.unftp_control_defs.specs.Run.{Law}
 use Rattle.unftp_control_serve.specs.Sink.{Begins}
 use Rattle.unftp_control_serve.specs.Endings.{Moment, AllAnswered, RunEnded, done_of}
 use Rattle.unftp_control_serve.specs.Engine.{told}
+use Rattle.unftp_control_serve.specs.declared.input.Input.{Input}
 use Rattle.unftp_control_serve.specs.declared.error.ServeError.{ServeError}
 use Rattle.unftp_control_serve.specs.declared.error.ServeError.TheVariants.{Read, Write, WriteZero, Handler, OutOfMemory, TooManyReads}
 
@@ -16,8 +17,8 @@ pub record Source : Type 0 where
   pub remaining : Option Bytes
   pub failures : ℕ
 
-abbrev pub source : Option Bytes → ℕ → Source
-source remaining failures = record { remaining = remaining; failures = failures }
+abbrev pub source_of : {R : Type 0} → (R → Option Bytes) → Input R → Source
+source_of remaining input = record { remaining = remaining input.reader; failures = input.failures }
 
 -- all lines of what was read were answered
 pub record Answered {S : Type 0} (law : Law S) (before after : Moment S) (input input' : Source) : Type 0 where

@@ -2,6 +2,7 @@
 use Rattle.std.specs.Prelude.{◌≡◌, ℕ, ◌+◌, ◌<◌, ◌≤◌, ◌==◌, ◌&&◌, not, if◌then◌else◌, [], ◌∷◌, ◌++◌, length, List, Option, Result, MatchResult}
 use Rattle.std.specs.Io.KnownBytes.{Appends}
 use Rattle.unftp_control_defs.specs.Bytes.{Bytes}
+use Rattle.unftp_control_serve.specs.declared.output.Output.{Output}
 use Rattle.unftp_control_serve.specs.declared.error.ServeError.{ServeError}
 use Rattle.unftp_control_serve.specs.declared.error.ServeError.TheVariants.{Write, WriteZero}
 
@@ -12,8 +13,9 @@ pub record Sink : Type 0 where
   pub failures : ℕ
   pub unflushed : ℕ
 
-abbrev pub sink : Option Bytes → ℕ → ℕ → Sink
-sink written failures unflushed = record { written = written; failures = failures; unflushed = unflushed }
+-- of an output over a writer whose written bytes are told so
+abbrev pub sink_of : {W : Type 0} → (W → Option Bytes) → Output W → Sink
+sink_of contents output = record { written = contents output.writer; failures = output.failures; unflushed = output.unflushed }
 
 -- One write of so many bytes: an error is a failure, and so is a write that takes nothing of bytes that are not empty.
 abbrev pub CountsWrite : {E : Type 0} → Result ℕ E → ℕ → ℕ → ℕ → ℕ → ℕ → Type 0

@@ -4,10 +4,10 @@ ghost use Rattle.std.specs.Io.KnownBytes.{Appends};
 ghost use Rattle.unftp_control_defs.specs.Events.{events};
 ghost use Rattle.unftp_control_defs.specs.Lines.{rest_of};
 ghost use Rattle.unftp_control_defs.specs.Run.{text_of};
-ghost use Rattle.unftp_control_serve.specs.Endings.{RunOutcome, WriteFailed, HandlerFailed, MemoryRefused, OnWrite, OnHandler, OnMemory, ReadsNothing, moment};
+ghost use Rattle.unftp_control_serve.specs.Endings.{RunOutcome, WriteFailed, HandlerFailed, MemoryRefused, OnWrite, OnHandler, OnMemory, ReadsNothing, moment_of};
 ghost use Rattle.unftp_control_serve.specs.Engine.{IsGoing, Leaves, events_with};
 ghost use Rattle.unftp_control_serve.specs.EventMeaning.{event_meant};
-ghost use Rattle.unftp_control_serve.specs.Sink.{Flushed, sink};
+ghost use Rattle.unftp_control_serve.specs.Sink.{Flushed};
 
 use crate::error::ServeError;
 use crate::event::Event;
@@ -29,9 +29,9 @@ fn answer_event<H: Handler, W: Write>(
     output: &mut Output<W>,
 ) -> Result<(), ServeError>
     ensures { RunOutcome H.law
-        (moment (H.state handler.old) (H.failures handler.old) (sink (W.contents output.old.writer) output.old.failures output.old.unflushed))
+        (moment_of H.state H.failures W.contents handler.old output.old)
         (event_meant event ∷ [])
-        (moment (H.state handler.new) (H.failures handler.new) (sink (W.contents output.new.writer) output.new.failures output.new.unflushed))
+        (moment_of H.state H.failures W.contents handler.new output.new)
         result }
 {
     let reply = match handler.handle(alloc, event) {
@@ -52,9 +52,9 @@ fn answer_lines<H: Handler, W: Write>(
     output: &mut Output<W>,
 ) -> Result<(), ServeError>
     ensures outcome { RunOutcome H.law
-        (moment (H.state handler.old) (H.failures handler.old) (sink (W.contents output.old.writer) output.old.failures output.old.unflushed))
+        (moment_of H.state H.failures W.contents handler.old output.old)
         (events store.old.bytes)
-        (moment (H.state handler.new) (H.failures handler.new) (sink (W.contents output.new.writer) output.new.failures output.new.unflushed))
+        (moment_of H.state H.failures W.contents handler.new output.new)
         result }
     ensures rest { OnOk result (store.new.bytes ≡ rest_of store.old.bytes) }
     ensures ahead { OnOk result (store.new.ahead ≡ 0) }
@@ -78,9 +78,9 @@ fn answer_piece<H: Handler, W: Write>(
     output: &mut Output<W>,
 ) -> Result<(), ServeError>
     ensures outcome { RunOutcome H.law
-        (moment (H.state handler.old) (H.failures handler.old) (sink (W.contents output.old.writer) output.old.failures output.old.unflushed))
+        (moment_of H.state H.failures W.contents handler.old output.old)
         (events (store.old.bytes ++ piece.now))
-        (moment (H.state handler.new) (H.failures handler.new) (sink (W.contents output.new.writer) output.new.failures output.new.unflushed))
+        (moment_of H.state H.failures W.contents handler.new output.new)
         result }
     ensures rest { OnOk result (store.new.bytes ≡ rest_of (store.old.bytes ++ piece.now)) }
     ensures ahead { OnOk result (store.new.ahead ≡ 0) }
@@ -154,27 +154,29 @@ impl Engine {
     ) -> Result<(), ServeError>
         // What was written and taken at each answer, over the lines of what waits and the piece.
         ensures outcome { IsGoing self.old → RunOutcome H.law
-            (moment (H.state handler.old) (H.failures handler.old) (sink (W.contents output.old.writer) output.old.failures output.old.unflushed))
+            (moment_of H.state H.failures W.contents handler.old output.old)
             (events_with self.old piece.now)
-            (moment (H.state handler.new) (H.failures handler.new) (sink (W.contents output.new.writer) output.new.failures output.new.unflushed))
+            (moment_of H.state H.failures W.contents handler.new output.new)
             result }
         // The same, answer by answer.
-        ensures written { IsGoing self.old → OnOk result (Appends (W.contents output.old.writer) (W.contents output.new.writer) (text_of H.law (H.state handler.old) (events_with self.old piece.now))) }
-        ensures flushed { IsGoing self.old → OnOk result (Flushed (text_of H.law (H.state handler.old) (events_with self.old piece.now)) [] output.old.unflushed output.new.unflushed) }
+        ensures written { IsGoing self.old → OnOk result (Appends (W.contents output.old.writer) (W.contents output.new.writer)
+            (text_of H.law (H.state handler.old) (events_with self.old piece.now))) }
+        ensures flushed { IsGoing self.old → OnOk result (Flushed (text_of H.law (H.state handler.old) (events_with self.old piece.now)) []
+            output.old.unflushed output.new.unflushed) }
         ensures leaves { IsGoing self.old → OnOk result (Leaves H.law self.old piece.now (H.state handler.old) (H.state handler.new) self.new) }
         ensures quiet { OnOk result ((output.new.failures ≡ output.old.failures) × (H.failures handler.new ≡ H.failures handler.old)) }
         ensures write { OnWrite result (WriteFailed H.law
-            (moment (H.state handler.old) (H.failures handler.old) (sink (W.contents output.old.writer) output.old.failures output.old.unflushed))
+            (moment_of H.state H.failures W.contents handler.old output.old)
             (events_with self.old piece.now)
-            (moment (H.state handler.new) (H.failures handler.new) (sink (W.contents output.new.writer) output.new.failures output.new.unflushed))) }
+            (moment_of H.state H.failures W.contents handler.new output.new)) }
         ensures handler { OnHandler result (HandlerFailed H.law
-            (moment (H.state handler.old) (H.failures handler.old) (sink (W.contents output.old.writer) output.old.failures output.old.unflushed))
+            (moment_of H.state H.failures W.contents handler.old output.old)
             (events_with self.old piece.now)
-            (moment (H.state handler.new) (H.failures handler.new) (sink (W.contents output.new.writer) output.new.failures output.new.unflushed))) }
+            (moment_of H.state H.failures W.contents handler.new output.new)) }
         ensures memory { OnMemory result (MemoryRefused H.law
-            (moment (H.state handler.old) (H.failures handler.old) (sink (W.contents output.old.writer) output.old.failures output.old.unflushed))
+            (moment_of H.state H.failures W.contents handler.old output.old)
             (events_with self.old piece.now)
-            (moment (H.state handler.new) (H.failures handler.new) (sink (W.contents output.new.writer) output.new.failures output.new.unflushed))) }
+            (moment_of H.state H.failures W.contents handler.new output.new)) }
         ensures never { ReadsNothing result }
         // An engine that failed does nothing, and each error makes it one.
         ensures stopped { IsErrOf result ServeError.Stopped ↔ (self.old.failed ≡ true) }

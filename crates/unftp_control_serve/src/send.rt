@@ -1,5 +1,5 @@
 //! Writing bytes whole.
-ghost use Rattle.unftp_control_serve.specs.Sink.{Sends, Writes, sink};
+ghost use Rattle.unftp_control_serve.specs.Sink.{Sends, Writes, sink_of};
 
 use crate::error::ServeError;
 use crate::output::Output;
@@ -8,8 +8,8 @@ use std::io::Write;
 /// Writes all of the bytes, or a beginning of them where the writer fails.
 fn write_whole<W: Write>(output: &mut Output<W>, bytes: &[u8]) -> Result<(), ServeError>
     ensures { Writes result bytes.now
-        (sink (W.contents output.old.writer) output.old.failures output.old.unflushed)
-        (sink (W.contents output.new.writer) output.new.failures output.new.unflushed) }
+        (sink_of W.contents output.old)
+        (sink_of W.contents output.new) }
 {
     let mut rest = bytes;
     while !rest.is_empty() {
@@ -25,8 +25,8 @@ fn write_whole<W: Write>(output: &mut Output<W>, bytes: &[u8]) -> Result<(), Ser
 /// Writes and flushes the bytes, if there are any.
 pub(crate) fn send<W: Write>(output: &mut Output<W>, bytes: &[u8]) -> Result<(), ServeError>
     ensures { Sends result bytes.now
-        (sink (W.contents output.old.writer) output.old.failures output.old.unflushed)
-        (sink (W.contents output.new.writer) output.new.failures output.new.unflushed) }
+        (sink_of W.contents output.old)
+        (sink_of W.contents output.new) }
 {
     if bytes.is_empty() {
         return Ok(());

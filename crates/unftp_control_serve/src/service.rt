@@ -4,10 +4,9 @@ ghost use Rattle.std.specs.Io.KnownBytes.{Appends};
 ghost use Rattle.unftp_control_defs.specs.Events.{events};
 ghost use Rattle.unftp_control_defs.specs.Lines.{rest_of};
 ghost use Rattle.unftp_control_defs.specs.Run.{last_state, text_for};
-ghost use Rattle.unftp_control_serve.specs.Endings.{moment};
+ghost use Rattle.unftp_control_serve.specs.Endings.{moment_of};
 ghost use Rattle.unftp_control_serve.specs.Engine.{told};
-ghost use Rattle.unftp_control_serve.specs.Service.{AnsweredAll, ServeEnded, source};
-ghost use Rattle.unftp_control_serve.specs.Sink.{sink};
+ghost use Rattle.unftp_control_serve.specs.Service.{AnsweredAll, ServeEnded, source_of};
 
 use crate::engine::Engine;
 use crate::error::ServeError;
@@ -43,21 +42,22 @@ pub fn serve<R: Read, W: Write, H: Handler>(
     ensures headline { OnOk result (IfSome (R.remaining reader.old.reader) (λ input.
         Appends (W.contents writer.old.writer) (W.contents writer.new.writer) (text_for H.law (H.state handler.old) input))) }
     // the handler is in the last state of its run over them, and each byte was tested for a line feed at most once.
-    ensures state { OnOk result (IfSome (R.remaining reader.old.reader) (λ input. H.state handler.new ≡ last_state H.law (H.state handler.old) (events input))) }
+    ensures state { OnOk result (IfSome (R.remaining reader.old.reader) (λ input.
+        H.state handler.new ≡ last_state H.law (H.state handler.old) (events input))) }
     ensures tested { IfOk result (λ served. IfSome (R.remaining reader.old.reader) (λ input. served.tests ≤ length input)) }
     ensures left { IfOk result (λ served. IfSome (R.remaining reader.old.reader) (λ input. served.left ≡ told (length (rest_of input)))) }
     // The same of any reader, with what was flushed and what failed; and what is so at each error.
     ensures ok { IfOk result (λ served. AnsweredAll H.law
-        (moment (H.state handler.old) (H.failures handler.old) (sink (W.contents writer.old.writer) writer.old.failures writer.old.unflushed))
-        (moment (H.state handler.new) (H.failures handler.new) (sink (W.contents writer.new.writer) writer.new.failures writer.new.unflushed))
-        (source (R.remaining reader.old.reader) reader.old.failures)
-        (source (R.remaining reader.new.reader) reader.new.failures)
+        (moment_of H.state H.failures W.contents handler.old writer.old)
+        (moment_of H.state H.failures W.contents handler.new writer.new)
+        (source_of R.remaining reader.old)
+        (source_of R.remaining reader.new)
         served.left served.tests) }
     ensures err { IfErr result (ServeEnded H.law
-        (moment (H.state handler.old) (H.failures handler.old) (sink (W.contents writer.old.writer) writer.old.failures writer.old.unflushed))
-        (moment (H.state handler.new) (H.failures handler.new) (sink (W.contents writer.new.writer) writer.new.failures writer.new.unflushed))
-        (source (R.remaining reader.old.reader) reader.old.failures)
-        (source (R.remaining reader.new.reader) reader.new.failures)) }
+        (moment_of H.state H.failures W.contents handler.old writer.old)
+        (moment_of H.state H.failures W.contents handler.new writer.new)
+        (source_of R.remaining reader.old)
+        (source_of R.remaining reader.new)) }
 {
     let mut engine = Engine::new(alloc);
     let mut piece = [0u8; PIECE];

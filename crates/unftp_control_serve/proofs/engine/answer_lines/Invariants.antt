@@ -1,17 +1,16 @@
 use Rattle.std.proofs.Common.{◌≡◌, ◌≤◌, ◌+◌, length}
 use Rattle.unftp_control_defs.specs.Events.{events}
 use Rattle.unftp_control_defs.specs.Lines.{rest_of}
-use Rattle.unftp_control_serve.specs.Endings.{moment}
-use Rattle.unftp_control_serve.specs.Sink.{sink}
+use Rattle.unftp_control_serve.specs.Endings.{moment_of}
 use Rattle.unftp_control_serve.proofs.EndingLaws.{Answering}
 use Rattle.unftp_control_serve.proofs.engine.answer_lines.Given as goal
 
 abbrev pub invariant-loop-event : goal.invariant-loop-event
 invariant-loop-event g l = record {
   answering : Answering g.H.Handler.law
-      (moment (g.H.Handler.state l.fn.handler) (g.H.Handler.failures l.fn.handler) (sink (g.W.Write.contents l.fn.output.writer) l.fn.output.failures l.fn.output.unflushed))
+      (moment_of g.H.Handler.state g.H.Handler.failures g.W.Write.contents l.fn.handler l.fn.output)
       (events l.fn.store.bytes)
-      (moment (g.H.Handler.state l.handler) (g.H.Handler.failures l.handler) (sink (g.W.Write.contents l.output.writer) l.output.failures l.output.unflushed))
+      (moment_of g.H.Handler.state g.H.Handler.failures g.W.Write.contents l.handler l.output)
       (events l.store.bytes);
   rest : rest_of l.fn.store.bytes ≡ rest_of l.store.bytes;
   tests : l.store.tests + l.store.ahead ≤ l.fn.store.tests + l.fn.store.ahead;
