@@ -1,4 +1,4 @@
-//! Measures how long lines take to be decoded and parsed, and replies to be made and encoded. Its one argument is the number of
+//! Measures how long lines take to be decoded and parsed, and replies to be made, encoded and read. Its one argument is the number of
 //! rounds: of each figure it prints the median, with the least and the greatest. Without an argument it does one round and prints
 //! nothing.
 #![tactic(auto)]
@@ -17,9 +17,9 @@ fn rounds_asked(rt: &HostRuntime) -> io::Result<Option<usize>> {
     let Some(text) = arguments.next() else {
         return Ok(None);
     };
-    match text.as_str().parse::<usize>() {
-        Ok(rounds) => Ok(Some(rounds)),
-        Err(_) => Err(io::ErrorKind::InvalidInput.into()),
+    match (text.as_str().parse::<usize>(), arguments.next()) {
+        (Ok(rounds), None) => Ok(Some(rounds)),
+        _ => Err(io::ErrorKind::InvalidInput.into()),
     }
 }
 

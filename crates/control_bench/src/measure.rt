@@ -5,6 +5,7 @@ use std::time::Instant;
 use std::{fmt, io};
 use unftp_control::codecs::FtpCodec;
 use unftp_control::line_parser::parse;
+use unftp_control::read::read_reply;
 use unftp_control::reply::{Reply, ReplyCode};
 
 /// Lines of a session, about as long as those that clients send.
@@ -40,22 +41,25 @@ const LINES: usize = 1000;
 /// The lines of a reply to FEAT.
 pub const FEATURES: [&str; 13] = [
     "Extensions supported:",
-    "AUTH TLS",
-    "EPSV",
-    "MDTM",
-    "MLSD",
-    "MLST",
-    "PBSZ",
-    "PROT",
-    "REST STREAM",
-    "SITE MD5",
-    "SIZE",
-    "UTF8",
+    " AUTH TLS",
+    " EPSV",
+    " MDTM",
+    " MLSD",
+    " MLST",
+    " PBSZ",
+    " PROT",
+    " REST STREAM",
+    " SITE MD5",
+    " SIZE",
+    " UTF8",
     "END",
 ];
 
 /// Lines that begin with digits.
 pub const DIGIT_LINES: [&str; 100] = ["1234 bytes of a file named so"; 100];
+
+/// The lines of replies that are read in a round.
+const READ_LINES: usize = 10_000;
 
 /// What one figure is of.
 #[derive(Clone, Copy)]
@@ -66,6 +70,8 @@ pub enum Measure {
     ReplyOfOneLine,
     Features,
     DigitLines,
+    ReadShortReplies,
+    ReadLongReply,
 }
 
 impl Display for Measure {
@@ -77,19 +83,23 @@ impl Display for Measure {
             Measure::ReplyOfOneLine => "a reply of one line, made and encoded",
             Measure::Features => "a reply of 13 lines, made and encoded",
             Measure::DigitLines => "a reply of 100 lines that begin with digits, made and encoded",
+            Measure::ReadShortReplies => "a line of replies of 100 lines, read",
+            Measure::ReadLongReply => "a line of a reply of 10,000 lines, read",
         })
     }
 }
 
 impl Measure {
     /// All of them.
-    pub const ALL: [Measure; 6] = [
+    pub const ALL: [Measure; 8] = [
         Measure::Decode,
         Measure::Parse,
         Measure::LongParameter,
         Measure::ReplyOfOneLine,
         Measure::Features,
         Measure::DigitLines,
+        Measure::ReadShortReplies,
+        Measure::ReadLongReply,
     ];
 
     /// How long one line or reply takes, over one round.
@@ -101,6 +111,8 @@ impl Measure {
             Measure::ReplyOfOneLine => encode_one_line(rt),
             Measure::Features => encode_lines(rt, &FEATURES),
             Measure::DigitLines => encode_lines(rt, &DIGIT_LINES),
+            Measure::ReadShortReplies => read_replies(rt, READ_LINES / 100, 100),
+            Measure::ReadLongReply => read_replies(rt, 1, READ_LINES),
         }
     }
 }
@@ -210,4 +222,26 @@ fn encode_lines(rt: &HostRuntime, lines: &[&'static str]) -> io::Result<u128> {
         encode(&mut codec, reply, &mut buf)?;
     }
     a_line(rt, start)
+}
+
+/// The bytes of a reply of so many lines, two at least.
+fn reply_of(alloc: Global, lines: usize) -> io::Result<Vec<u8>> {
+    let mut bytes = Vec::from_slice(alloc, b"213-Status of files\r\n")?;
+    for _ in 2..lines {
+        bytes.extend_from_slice(b" 1234 bytes of a file named so\r\n")?;
+    }
+    bytes.extend_from_slice(b"213 End\r\n")?;
+    Ok(bytes)
+}
+
+/// Nanoseconds a line, where this many replies of so many lines are read.
+fn read_replies(rt: &HostRuntime, replies: usize, lines: usize) -> io::Result<u128> {
+    let bytes = reply_of(rt.alloc(), lines)?;
+    let start = Instant::now(rt)?;
+    for _ in 0..replies {
+        if read_reply(rt.alloc(), bytes.as_slice()).is_err() {
+            return Err(no_memory());
+        }
+    }
+    Ok(start.elapsed(rt)?.as_nanos() / READ_LINES as u128)
 }

@@ -7,6 +7,7 @@ pub use Rattle.unftp_control_defs.specs.FtpCommand
 pub use Rattle.unftp_control_defs.specs.Rules
 pub use Rattle.unftp_control_defs.specs.Outcome
 pub use Rattle.unftp_control_defs.specs.FtpReply
+pub use Rattle.unftp_control_defs.specs.ReplyReader
 pub use Rattle.unftp_control_defs.specs.Events
 pub use Rattle.unftp_control_defs.specs.Texts
 pub use Rattle.unftp_control_defs.specs.Run
@@ -26,3 +27,4 @@ pub use Rattle.unftp_control_serve.specs.Sink
 pub use Rattle.unftp_control_serve.specs.Endings
 pub use Rattle.unftp_control_serve.specs.Engine
 pub use Rattle.unftp_control_serve.specs.Service
+pub use Rattle.unftp_control_read.specs.Reading

@@ -10,6 +10,7 @@ pub use unftp_control_commands as commands;
 pub use unftp_control_error as error;
 pub use unftp_control_laws as laws;
 pub use unftp_control_line_parser as line_parser;
+pub use unftp_control_read as read;
 pub use unftp_control_reply as reply;
 pub use unftp_control_serve as serve;
 

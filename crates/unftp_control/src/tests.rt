@@ -6,6 +6,7 @@ mod counted;
 mod errors;
 mod growths;
 mod lines;
+mod reading;
 mod replies;
 
 use crate::codecs::FtpCodec;

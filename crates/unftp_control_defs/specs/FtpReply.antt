@@ -1,7 +1,8 @@
 -- A reply as its code and texts, and the bytes that say it (RFC 959, section 4.2).
-use Rattle.std.specs.Prelude.{ℕ, Bool, true, ◌==◌, ◌&&◌, nat_le, if◌then◌else◌, List, [], ◌∷◌, ◌++◌, length, decimal}
+use Rattle.std.specs.Prelude.{ℕ, ◌<◌, ◌≤◌, Bool, true, ◌==◌, ◌&&◌, nat_le, if◌then◌else◌, List, [], ◌∷◌, ◌++◌, length, decimal, Option, Some, None}
+use Rattle.std.specs.List.{AllByRecursion}
 use Rattle.std.specs.Char.{is_ascii_digit}
-use Rattle.unftp_control_defs.specs.Bytes.{Bytes, SP, DASH, crlf}
+use Rattle.unftp_control_defs.specs.Bytes.{Bytes, LF, SP, DASH, crlf, Lacks}
 
 -- no reply; a code and one line of text; a code and lines
 pub data FtpReply : Type 0 where
@@ -39,3 +40,23 @@ abbrev pub is_positive : FtpReply → Bool
 is_positive Nothing = true
 is_positive (CodeAndMsg code text) = is_positive_code code
 is_positive (MultiLine code lines) = is_positive_code code
+
+-- The lines as a client sees them: at least one, each but the last padded.
+abbrev pub shown_lines : List Bytes → List Bytes
+shown_lines [] = [] ∷ []
+shown_lines (line ∷ []) = line ∷ []
+shown_lines (line ∷ next ∷ lines) = padded line ∷ shown_lines (next ∷ lines)
+
+abbrev pub shown : FtpReply → Option (ℕ × List Bytes)
+shown Nothing = None
+shown (CodeAndMsg code text) = Some (code, text ∷ [])
+shown (MultiLine code lines) = Some (code, shown_lines lines)
+
+-- what a client can read back: a code of three digits, and texts without LF
+abbrev pub HasThreeDigits : ℕ → Type 0
+HasThreeDigits code = (100 ≤ code) × (code < 1000)
+
+abbrev pub IsPlain : FtpReply → Type 0
+IsPlain Nothing = Unit {0}
+IsPlain (CodeAndMsg code text) = HasThreeDigits code × Lacks LF text
+IsPlain (MultiLine code lines) = HasThreeDigits code × AllByRecursion (Lacks LF) lines

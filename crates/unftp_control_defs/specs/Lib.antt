@@ -8,6 +8,7 @@ pub mod FtpCommand
 pub mod Rules
 pub mod Outcome
 pub mod FtpReply
+pub mod ReplyReader
 pub mod Events
 pub mod Texts
 pub mod Run

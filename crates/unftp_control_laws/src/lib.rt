@@ -2,13 +2,15 @@
 //! relation that a reader believes.
 #![tactic(auto)]
 
-ghost use Rattle.std.specs.Prelude.{◌≡◌, ◌↔◌, ◌<◌, ◌≤◌, ◌+◌, ◌^◌, ℕ, List, [], ◌++◌, Some, None, Ok, codes};
-ghost use Rattle.std.specs.List.{concat, sum_by};
+ghost use Rattle.std.specs.Prelude.{◌≡◌, ◌↔◌, ◌⊎◌, ◌<◌, ◌≤◌, ◌+◌, ◌^◌, ℕ, List, [], ◌++◌, length, flat_map, Some, None, Ok, codes};
+ghost use Rattle.std.specs.List.{AllByRecursion, concat, sum_by};
 ghost use Rattle.unftp_control_commands.specs.Answers.{port_reply};
 ghost use Rattle.unftp_control_defs.specs.Bytes.{Bytes, LF, crlf, Lacks};
 ghost use Rattle.unftp_control_defs.specs.FtpCommand.{User};
 ghost use Rattle.unftp_control_defs.specs.Cuttings.{events_in_turn};
 ghost use Rattle.unftp_control_defs.specs.Events.{events};
+ghost use Rattle.unftp_control_defs.specs.FtpReply.{FtpReply, IsPlain, encoded, shown};
+ghost use Rattle.unftp_control_defs.specs.ReplyReader.{FrontReply, HasFront, IsMalformed, IsPartial, ReadsBack};
 ghost use Rattle.unftp_control_defs.specs.Lines.{Lines, lines_of, rest_of};
 ghost use Rattle.unftp_control_defs.specs.Steps.{AreSteps, Step, last_place};
 ghost use Rattle.unftp_control_defs.specs.Outcome.{outcome};
@@ -75,4 +77,27 @@ pub fn any_cutting()
 pub fn tests_add_up()
     ensures told { (steps : List Step) → AreSteps 0 0 steps → sum_by (λ step. step.tests) steps ≡ sum_by (λ step. step.removed) steps + last_place 0 steps }
     ensures bound { (steps : List Step) → AreSteps 0 0 steps → sum_by (λ step. step.tests) steps ≤ sum_by (λ step. step.added) steps }
+{}
+
+/// A reply stands in front of the bytes, or what stands there is partial, or it is malformed; and one of these alone (RFC 959,
+/// section 4.2).
+pub fn one_reading()
+    ensures some { (bytes : Bytes) → HasFront bytes ⊎ (IsPartial bytes ⊎ IsMalformed bytes) }
+    ensures front_is_whole { (bytes : Bytes) → HasFront bytes → ¬ IsPartial bytes }
+    ensures front_is_formed { (bytes : Bytes) → HasFront bytes → ¬ IsMalformed bytes }
+    ensures partial_is_formed { (bytes : Bytes) → IsPartial bytes → ¬ IsMalformed bytes }
+{}
+
+/// At most one reply stands in front of the bytes, with one code, one list of lines and one length, which is within them.
+pub fn one_front()
+    ensures only { (bytes : Bytes) (code other : ℕ) (lines others : List Bytes) (used taken : ℕ) → FrontReply bytes code lines used → FrontReply bytes other others taken
+        → (code ≡ other) × (lines ≡ others) × (used ≡ taken) }
+    ensures within { (bytes : Bytes) (code : ℕ) (lines : List Bytes) (used : ℕ) → FrontReply bytes code lines used → (0 < used) × (used ≤ length bytes) }
+{}
+
+/// The bytes of plain replies are read back as what they show, and as nothing else, whatever follows (RFC 959, section 4.2).
+pub fn replies_read_back()
+    ensures front { (reply : FtpReply) (more : Bytes) → IsPlain reply → (code : ℕ) (lines : List Bytes) → shown reply ≡ Some (code, lines)
+        → FrontReply (encoded reply ++ more) code lines (length (encoded reply)) }
+    ensures all { (replies : List FtpReply) → AllByRecursion IsPlain replies → ReadsBack (flat_map encoded replies) replies }
 {}

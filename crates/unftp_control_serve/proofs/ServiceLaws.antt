@@ -1,10 +1,15 @@
 -- A service, piece by piece.
 use Rattle.std.proofs.Common.{◌≡◌, ℕ, ◌+◌, ◌-◌, ◌^◌, ◌<◌, ◌≤◌, false, [], ◌++◌, Option, Some, None, length, refl, sym, ◌∙◌, ap, arith, append_assoc, length-append}
+use Rattle.std.specs.List.{AllByRecursion}
+use Rattle.std.specs.Option.{IfSome}
 use Rattle.std.specs.Io.KnownBytes.{Consumes, Keeps}
 use Rattle.unftp_control_defs.specs.Bytes.{Bytes}
 use Rattle.unftp_control_defs.specs.Lines.{rest_of}
 use Rattle.unftp_control_defs.specs.Events.{events}
-use Rattle.unftp_control_defs.specs.Run.{Law}
+use Rattle.unftp_control_defs.specs.FtpReply.{IsPlain}
+use Rattle.unftp_control_defs.specs.ReplyReader.{ReadsBack}
+use Rattle.unftp_control_defs.specs.Run.{Law, replies, text_for}
+use Rattle.unftp_control_defs.proofs.EncodingLaws.{ReadsBack-encoded}
 use Rattle.unftp_control_defs.proofs.LineLaws.{events-append, rest_of-append}
 use Rattle.unftp_control_serve.specs.Endings.{Moment, AllAnswered, RunEnded}
 use Rattle.unftp_control_serve.specs.Engine.{EngineState, IsGoing, Leaves, events_with, told}
@@ -99,3 +104,9 @@ module _ {S : Type 0} (law : Law S) (m : Moment S) (i : Source) where
 
   pub Serving-too_often : (n : Moment S) (j : Source) (engine : EngineState) (turn : ℕ) → Serving law m n i j engine turn → 2 ^ 64 - 1 ≤ turn → ReadTooOften law m n i j
   Serving-too_often n j engine turn s many = record { answered = s.so_far; many = omega (arith, s.many) }
+
+-- the replies of a run over a known input are read back, where they are plain
+pub run_reads_back : {S : Type 0} (law : Law S) (s : S) (known : Option Bytes) →
+    IfSome known (λ input. AllByRecursion IsPlain (replies law s (events input)) → ReadsBack (text_for law s input) (replies law s (events input)))
+run_reads_back law s None = tt
+run_reads_back law s (Some input) = ReadsBack-encoded (replies law s (events input))

@@ -1,5 +1,5 @@
 //! Answers the cases of a vector file (`vectors/README.md`): reads one a line from standard input, and writes its answer. Its one
-//! argument is the call that answers, `parse`, `decode` or `encode`. What is no case is answered by `bad-case`.
+//! argument is the call that answers, `parse`, `decode`, `encode` or `read`. What is no case is answered by `bad-case`.
 #![tactic(auto)]
 
 mod cases;
@@ -14,6 +14,7 @@ use std::{env, io};
 use unftp_control::codecs::FtpCodec;
 use unftp_control::error::{ControlChanError, ControlChanErrorKind, Source};
 use unftp_control::line_parser::{ParseErrorKind, parse};
+use unftp_control::read::{Front, ReadReplyError, read_reply as read_front};
 use unftp_control::reply::Reply;
 
 /// The call that answers.
@@ -22,6 +23,7 @@ enum Call {
     Parse,
     Decode,
     Encode,
+    Read,
 }
 
 impl Call {
@@ -30,6 +32,7 @@ impl Call {
             "parse" => Some(Call::Parse),
             "decode" => Some(Call::Decode),
             "encode" => Some(Call::Encode),
+            "read" => Some(Call::Read),
             _ => None,
         }
     }
@@ -92,12 +95,48 @@ fn answer_encode<W: Write>(alloc: Global, reply: Reply, out: &mut W) -> io::Resu
     }
 }
 
+/// Writes a reply that was read.
+fn write_front<W: Write>(code: u16, lines: &[Vec<u8>], out: &mut W) -> io::Result<()> {
+    write!(out, "{code:03}:")?;
+    for (at, line) in lines.iter().enumerate() {
+        if at > 0 {
+            write!(out, ",")?;
+        }
+        write!(out, "{}", Hex(line.as_slice()))?;
+    }
+    Ok(())
+}
+
+/// Writes the replies in what a server sent, and how much is left.
+fn answer_read<W: Write>(alloc: Global, stream: &[u8], out: &mut W) -> io::Result<()> {
+    let mut rest = stream;
+    // a reply takes bytes, so the last call finds none
+    for turn in 0..=stream.len() {
+        match read_front(alloc, rest) {
+            Ok(Front::Whole { code, lines, used }) => {
+                if turn > 0 {
+                    write!(out, ";")?;
+                }
+                write_front(code, lines.as_slice(), out)?;
+                rest = rest.split_at(used).1;
+            }
+            Ok(Front::Partial) => return write!(out, " rest={}", rest.len()),
+            Err(ReadReplyError::Malformed) => {
+                return write!(out, " rest={} malformed", rest.len());
+            }
+            Err(ReadReplyError::OutOfMemory) => return Err(io::ErrorKind::OutOfMemory.into()),
+        }
+    }
+    Ok(())
+}
+
 /// Writes the answer to a case; what is none is told as an error of kind `InvalidData`, and nothing is written.
 fn answer_case<W: Write>(alloc: Global, call: Call, case: &str, out: &mut W) -> io::Result<()> {
     match call {
         Call::Parse => answer_parse(alloc, read_bytes(alloc, case)?.as_slice(), out),
         Call::Decode => answer_decode(alloc, read_bytes(alloc, case)?, out),
         Call::Encode => answer_encode(alloc, read_reply(alloc, case)?, out),
+        Call::Read => answer_read(alloc, read_bytes(alloc, case)?.as_slice(), out),
     }
 }
 
@@ -139,7 +178,7 @@ fn main(rt: HostRuntime) -> ExitCode {
     let replayed = match call_asked(&rt) {
         Ok(Some(call)) => replay(&rt, call),
         Ok(None) => {
-            let _ = eprintln!(rt; "usage: vector_replay parse|decode|encode");
+            let _ = eprintln!(rt; "usage: vector_replay parse|decode|encode|read");
             return ExitCode::from(2);
         }
         Err(error) => Err(error),

@@ -1,6 +1,6 @@
 use Rattle.std.proofs.Common.{◌<◌, ◌≤◌, refl, sym, length, arith}
 use Rattle.std.proofs.lemmas.Result.{err_from_is_err_and}
-use Rattle.unftp_control_serve.proofs.ServiceLaws.{Serving-start, Serving-next, Serving-ended, Serving-too_often}
+use Rattle.unftp_control_serve.proofs.ServiceLaws.{Serving-start, Serving-next, Serving-ended, Serving-too_often, run_reads_back}
 use Rattle.unftp_control_serve.proofs.service.serve.Goals as goal
 
 pub loop-turn-init : goal.loop-turn-init
@@ -28,3 +28,6 @@ loop-turn-preserved g c =
 
 pub returns-clause-err : goal.returns-clause-err
 returns-clause-err g c = Serving-too_often _ _ _ _ _ _ _ c.loop-turn.invariant.serving (omega (arith, c.loop-turn-test.false))
+
+pub returns-then-n-eq0-clause-read_back : goal.returns-then-n-eq0-clause-read_back
+returns-then-n-eq0-clause-read_back g c = run_reads_back g.H.Handler.law _ (g.R.Read.remaining c.args.reader.now.reader)

@@ -1,0 +1,102 @@
+-- Replies as a client reads them (RFC 959, section 4.2). Three digits alone are a reply too, with one empty line.
+use Rattle.std.specs.Prelude.{◌≡◌, ◌≢◌, ℕ, ◌<◌, ◌+◌, ◌*◌, List, [], ◌∷◌, ◌++◌, length, drop, flat_map, filter_map, ◌⊎◌}
+use Rattle.std.specs.List.{AllByRecursion}
+use Rattle.unftp_control_defs.specs.Bytes.{Bytes, CR, LF, SP, DASH, crlf}
+use Rattle.unftp_control_defs.specs.FtpReply.{FtpReply, shown}
+
+-- no CR LF stands in the text
+abbrev pub LacksCrlf : Bytes → Type 0
+LacksCrlf text = (before after : Bytes) → text ≢ before ++ CR ∷ LF ∷ after
+
+abbrev pub with_crlf : Bytes → Bytes
+with_crlf line = line ++ crlf
+
+-- the three digits of a code
+abbrev pub SpellsCode : Bytes → ℕ → Type 0
+SpellsCode digits code = (a : ℕ) × (b : ℕ) × (c : ℕ) × (a < 10) × (b < 10) × (c < 10)
+    × (digits ≡ (48 + a) ∷ (48 + b) ∷ (48 + c) ∷ []) × (code ≡ a * 100 + b * 10 + c)
+
+-- the line doesn't begin with these digits and a space
+abbrev pub GoesOn : Bytes → Bytes → Type 0
+GoesOn digits line = (text : Bytes) → line ≢ digits ++ SP ∷ text
+
+-- Whole lines, without their CR LF, that are one reply: the digits alone; the digits, a space and a text; or the digits, a dash and
+-- a text, lines that don't begin with the digits and a space, and one that does.
+pub data IsReply (digits : Bytes) (whole lines : List Bytes) : Type 0 where
+  bare : whole ≡ digits ∷ [] → lines ≡ [] ∷ [] → IsReply digits whole lines
+  single : (text : Bytes) → whole ≡ (digits ++ SP ∷ text) ∷ [] → lines ≡ text ∷ [] → IsReply digits whole lines
+  several : (text last : Bytes) (middle : List Bytes) → AllByRecursion (GoesOn digits) middle
+      → whole ≡ (digits ++ DASH ∷ text) ∷ (middle ++ (digits ++ SP ∷ last) ∷ []) → lines ≡ text ∷ (middle ++ last ∷ []) → IsReply digits whole lines
+
+-- The bytes, cut at each CR LF, begin with a reply, which takes `used` of them.
+pub record FrontReply (bytes : Bytes) (code : ℕ) (lines : List Bytes) (used : ℕ) : Type 0 where
+  pub digits : Bytes
+  pub code_is : SpellsCode digits code
+  pub whole : List Bytes
+  pub rest : Bytes
+  pub cut : bytes ≡ flat_map with_crlf whole ++ rest
+  pub each : AllByRecursion LacksCrlf whole
+  pub reply : IsReply digits whole lines
+  pub length_is : used ≡ length (flat_map with_crlf whole)
+
+-- a reply stands in front of the bytes
+abbrev pub HasFront : Bytes → Type 0
+HasFront bytes = (code : ℕ) × (lines : List Bytes) × (used : ℕ) × FrontReply bytes code lines used
+
+-- the bytes are replies one after the other, to the end, with these codes and lines
+abbrev pub AllReplies : Bytes → List (ℕ × List Bytes) → Type 0
+AllReplies bytes [] = bytes ≡ []
+AllReplies bytes (reply ∷ replies) = (used : ℕ) × FrontReply bytes reply.0 reply.1 used × AllReplies (drop used bytes) replies
+
+-- the bytes are read as what these replies show, and as nothing else
+abbrev pub ReadsBack : Bytes → List FtpReply → Type 0
+ReadsBack bytes replies = AllReplies bytes (filter_map shown replies)
+    × ((others : List (ℕ × List Bytes)) → AllReplies bytes others → others ≡ filter_map shown replies)
+
+-- the line opens a reply
+abbrev pub Opens : Bytes → Type 0
+Opens line = (digits : Bytes) × (code : ℕ) × SpellsCode digits code
+    × ((line ≡ digits) ⊎ ((text : Bytes) × ((line ≡ digits ++ SP ∷ text) ⊎ (line ≡ digits ++ DASH ∷ text))))
+
+-- the first whole line opens no reply
+pub record IsMalformed (bytes : Bytes) : Type 0 where
+  pub first : Bytes
+  pub rest : Bytes
+  pub cut : bytes ≡ first ++ CR ∷ LF ∷ rest
+  pub is_line : LacksCrlf first
+  pub opens_none : ¬ Opens first
+
+-- behind the first line of a reply of several: lines that go on, and the last one
+pub record IsEnded (digits bytes : Bytes) : Type 0 where
+  pub middle : List Bytes
+  pub last : Bytes
+  pub rest : Bytes
+  pub cut : bytes ≡ flat_map with_crlf (middle ++ (digits ++ SP ∷ last) ∷ []) ++ rest
+  pub each : AllByRecursion LacksCrlf (middle ++ (digits ++ SP ∷ last) ∷ [])
+  pub goes_on : AllByRecursion (GoesOn digits) middle
+
+-- behind it: lines that go on, and a rest that is no line
+pub record IsUnended (digits bytes : Bytes) : Type 0 where
+  pub middle : List Bytes
+  pub rest : Bytes
+  pub cut : bytes ≡ flat_map with_crlf middle ++ rest
+  pub each : AllByRecursion LacksCrlf middle
+  pub goes_on : AllByRecursion (GoesOn digits) middle
+  pub unended : LacksCrlf rest
+
+-- the first line opens a reply of several, and none of the whole lines behind it is the last one
+pub record IsOpened (bytes : Bytes) : Type 0 where
+  pub digits : Bytes
+  pub code : ℕ
+  pub code_is : SpellsCode digits code
+  pub text : Bytes
+  pub middle : List Bytes
+  pub rest : Bytes
+  pub cut : bytes ≡ flat_map with_crlf ((digits ++ DASH ∷ text) ∷ middle) ++ rest
+  pub each : AllByRecursion LacksCrlf ((digits ++ DASH ∷ text) ∷ middle)
+  pub goes_on : AllByRecursion (GoesOn digits) middle
+  pub unended : LacksCrlf rest
+
+-- the first line is unfinished, or the reply that it opens is
+abbrev pub IsPartial : Bytes → Type 0
+IsPartial bytes = LacksCrlf bytes ⊎ IsOpened bytes

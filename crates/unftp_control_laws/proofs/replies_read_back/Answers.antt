@@ -1,0 +1,5 @@
+use Rattle.unftp_control_defs.proofs.EncodingLaws.{FrontReply-encoded, ReadsBack-encoded}
+use Rattle.unftp_control_laws.proofs.replies_read_back.Goals as goal
+
+pub returns : goal.returns
+returns c = record { front = FrontReply-encoded; all = ReadsBack-encoded }

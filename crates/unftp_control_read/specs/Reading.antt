@@ -1,0 +1,72 @@
+-- What the answers of the reader tell of the bytes.
+use Rattle.std.specs.Prelude.{◌≡◌, ◌<◌, ◌≤◌, ℕ, ◌⊎◌, List, [], ◌∷◌, ◌++◌, map, flat_map, length}
+use Rattle.std.specs.List.{AllByRecursion}
+use Rattle.std.specs.declared.vec.Vec.{Vec}
+use Rattle.std.specs.declared.alloc.Global.{Global}
+use Rattle.unftp_control_defs.specs.Bytes.{Bytes, SP, DASH}
+use Rattle.unftp_control_defs.specs.ReplyReader.{LacksCrlf, with_crlf, SpellsCode, FrontReply, HasFront, IsMalformed, IsPartial, IsEnded}
+use Rattle.unftp_control_read.specs.declared.Front.{Front}
+use Rattle.unftp_control_read.specs.declared.Front.TheVariants.{Whole, Partial}
+use Rattle.unftp_control_read.specs.declared.ReadReplyError.{ReadReplyError}
+use Rattle.unftp_control_read.specs.declared.ReadReplyError.TheVariants.{Malformed, OutOfMemory}
+use Rattle.unftp_control_read.specs.declared.opening.Kind.{Kind}
+use Rattle.unftp_control_read.specs.declared.opening.Kind.TheVariants.{One, Several}
+use Rattle.unftp_control_read.specs.declared.finding.Texts.{Texts}
+use Rattle.unftp_control_read.specs.declared.finding.Texts.TheVariants as text
+use Rattle.unftp_control_read.specs.declared.finding.Finding.{Finding}
+use Rattle.unftp_control_read.specs.declared.finding.Finding.TheVariants as find
+
+-- the bytes of the lines, whatever room they take
+abbrev pub contents : Vec (Vec ℕ Global) Global → List Bytes
+contents lines = map (λ line. line.items) lines.items
+
+-- what an answer holds, whatever room its lines take
+pub data FrontContent : Type 0 where
+  whole : ℕ → List Bytes → ℕ → FrontContent
+  partial : FrontContent
+
+abbrev pub front_of : Front → FrontContent
+front_of (Whole code lines used) = whole code (contents lines) used
+front_of Partial = partial
+
+-- what an answer tells of the bytes
+abbrev pub TellsFront : Bytes → Front → Type 0
+TellsFront bytes (Whole code lines used) = FrontReply bytes code (contents lines) used
+TellsFront bytes Partial = IsPartial bytes
+
+-- the answer is the whole reply of this code and these lines
+abbrev pub IsWhole : ℕ → List Bytes → ℕ → Front → Type 0
+IsWhole code lines used (Whole found read taken) = (found ≡ code) × (contents read ≡ lines) × (taken ≡ used)
+IsWhole code lines used Partial = ⊥
+
+-- a whole reply takes bytes, and no more than there are
+abbrev pub IsWithin : Bytes → Front → Type 0
+IsWithin bytes (Whole code lines used) = (0 < used) × (used ≤ length bytes)
+IsWithin bytes Partial = Unit {0}
+
+-- what a refusal tells of them: memory is wanted only where a reply stands in front
+abbrev pub TellsRefusal : Bytes → ReadReplyError → Type 0
+TellsRefusal bytes Malformed = IsMalformed bytes
+TellsRefusal bytes OutOfMemory = HasFront bytes
+
+-- the lines before the last one, as they stand; its text; what follows
+abbrev pub EndsWith : Bytes → Bytes → Bytes → Bytes → Bytes → Type 0
+EndsWith digits bytes middle text rest = (ended : IsEnded digits bytes) × (middle ≡ flat_map with_crlf ended.middle) × (text ≡ ended.last) × (rest ≡ ended.rest)
+
+-- how the line opens a reply behind these digits
+abbrev pub IsKind : Bytes → Bytes → Kind → Type 0
+IsKind line digits (One text) = ((line ≡ digits) × (text.now ≡ [])) ⊎ (line ≡ digits ++ SP ∷ text.now)
+IsKind line digits (Several text) = line ≡ digits ++ DASH ∷ text.now
+
+abbrev pub IsOpening : Bytes → ℕ → Bytes → Kind → Type 0
+IsOpening line code digits kind = SpellsCode digits code × IsKind line digits kind
+
+-- the texts are these lines
+abbrev pub Holds : Texts → List Bytes → Type 0
+Holds (text.One one) lines = lines ≡ one.now ∷ []
+Holds (text.Several first middle last) lines = (between : List Bytes) × (middle.now ≡ flat_map with_crlf between) × AllByRecursion LacksCrlf between × (lines ≡ first.now ∷ (between ++ last.now ∷ []))
+
+abbrev pub Finds : Bytes → Finding → Type 0
+Finds bytes (find.Whole code texts used) = (lines : List Bytes) × Holds texts lines × FrontReply bytes code lines used
+Finds bytes find.Partial = IsPartial bytes
+Finds bytes find.Malformed = IsMalformed bytes

@@ -1,0 +1,74 @@
+//! Reads the reply at the front of some bytes, as a client of RFC 959 does.
+#![tactic(auto)]
+
+ghost use Rattle.std.specs.Prelude.{◌≡◌, ◌↔◌, ℕ, List, IsTrue, IfOk, IfErr, MatchResult};
+ghost use Rattle.unftp_control_defs.specs.Bytes.{Bytes};
+ghost use Rattle.unftp_control_defs.specs.ReplyReader.{FrontReply, IsPartial, IsMalformed};
+ghost use Rattle.unftp_control_read.specs.Reading.{TellsFront, TellsRefusal, IsWhole, IsWithin, front_of};
+ghost use Rattle.unftp_control_read.specs.declared.Front.{Front as RustFront};
+
+mod copying;
+mod finding;
+mod lines;
+mod opening;
+
+use crate::copying::copy_lines;
+use crate::finding::{Finding, find_front};
+use std::alloc::Global;
+use thiserror::Error;
+
+/// What stands at the front of some bytes.
+#[derive(Debug, PartialEq, Eq, Drop)]
+pub enum Front {
+    /// A whole reply.
+    Whole {
+        /// Its three digits, as a number.
+        code: u16,
+        /// Its lines without their end of line: of the first and the last the text behind the code and its sign, of those between
+        /// the whole line. A reply of three digits alone has one empty line.
+        lines: Vec<Vec<u8>>,
+        /// How many bytes it takes, its last end of line included.
+        used: usize,
+    },
+    /// Less than a reply: the first line has not come whole, or a reply of several lines has no last line yet.
+    Partial,
+}
+
+/// Why no reply is read.
+#[derive(Debug, Drop, Error)]
+pub enum ReadReplyError {
+    /// The first line has come whole and opens no reply.
+    #[error("malformed reply")]
+    Malformed,
+    /// Memory was refused for the lines of a whole reply.
+    #[error("out of memory")]
+    OutOfMemory,
+}
+
+/// Reads the reply at the front of `bytes` (RFC 959, section 4.2). A line ends at CR LF, and a CR or LF alone belongs to it.
+///
+/// Whether there is one is decided first, in one pass and without memory; then its lines are copied. So `Partial` and `Malformed` take
+/// no memory, and `OutOfMemory` is told only where a whole reply is there. The bytes behind the reply are not looked at.
+pub fn read_reply(alloc: Global, bytes: &[u8]) -> Result<Front, ReadReplyError>
+    ensures front { IfOk result (λ front. TellsFront bytes.now front) }
+    ensures refusal { IfErr result (λ refusal. TellsRefusal bytes.now refusal) }
+    ensures whole { (code : ℕ) (lines : List Bytes) (used : ℕ) → FrontReply bytes.now code lines used
+        → MatchResult result (λ front. IsWhole code lines used front) (λ refusal. refusal ≡ ReadReplyError.OutOfMemory) }
+    ensures within { IfOk result (λ front. IsWithin bytes.now front) }
+    ensures partial { IsPartial bytes.now → result ≡ Ok Front.Partial }
+    ensures malformed { IsMalformed bytes.now → result ≡ Err ReadReplyError.Malformed }
+{
+    match find_front(bytes) {
+        Finding::Whole { code, texts, used } => match copy_lines(alloc, texts) {
+            Ok(lines) => Ok(Front::Whole { code, lines, used }),
+            Err(_) => Err(ReadReplyError::OutOfMemory),
+        },
+        Finding::Partial => Ok(Front::Partial),
+        Finding::Malformed => Err(ReadReplyError::Malformed),
+    }
+}
+
+/// Two fronts are equal exactly where their contents are.
+pub fn same_fronts()
+    ensures { (a b : RustFront) → IsTrue (⟦<Front as PartialEq>⟧.eq a b) ↔ (front_of a ≡ front_of b) }
+{}

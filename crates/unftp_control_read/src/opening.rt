@@ -1,0 +1,79 @@
+//! The first line of a reply.
+ghost use Rattle.std.specs.Prelude.{◌≡◌, ◌≢◌, ℕ, ◌+◌, ◌<◌, IfSome, IfNone};
+ghost use Rattle.unftp_control_defs.specs.ReplyReader.{SpellsCode, Opens};
+ghost use Rattle.unftp_control_read.specs.Reading.{IsOpening};
+
+/// The number that a digit spells.
+fn digit_of(byte: u8) -> Option<u16>
+    ensures some { IfSome result (λ digit. (digit < 10) × (byte ≡ 48 + digit)) }
+    ensures none { IfNone result ((digit : ℕ) → digit < 10 → byte ≢ 48 + digit) }
+{
+    match byte {
+        b'0'..=b'9' => Some(u16::from(byte - b'0')),
+        _ => None,
+    }
+}
+
+/// The number that three digits spell.
+fn code_of(digits: &[u8]) -> Option<u16>
+    ensures some { IfSome result (λ code. SpellsCode digits.now code) }
+    ensures none { IfNone result ((code : ℕ) → ¬ SpellsCode digits.now code) }
+{
+    if digits.len() != 3 {
+        return None;
+    }
+    let Some(hundreds) = digit_of(digits[0]) else {
+        return None;
+    };
+    let Some(tens) = digit_of(digits[1]) else {
+        return None;
+    };
+    let Some(units) = digit_of(digits[2]) else {
+        return None;
+    };
+    Some(hundreds * 100 + tens * 10 + units)
+}
+
+/// What stands behind the code: the one text, after a space or empty behind the code alone, or the first of several after a dash.
+#[derive(Drop)]
+pub(crate) enum Kind<'a> {
+    /// The one text.
+    One(&'a [u8]),
+    /// The first of several.
+    Several(&'a [u8]),
+}
+
+/// How a line opens a reply: its code, the digits that spell it, and what stands behind them.
+#[derive(Drop)]
+pub(crate) struct Opening<'a> {
+    pub(crate) code: u16,
+    pub(crate) digits: &'a [u8],
+    pub(crate) kind: Kind<'a>,
+}
+
+/// How the line opens a reply.
+pub(crate) fn opening_of(line: &[u8]) -> Option<Opening<'_>>
+    ensures some { IfSome result (λ opening. IsOpening line.now opening.code opening.digits.now opening.kind) }
+    ensures none { IfNone result (¬ Opens line.now) }
+{
+    if line.len() < 3 {
+        return None;
+    }
+    let (digits, behind) = line.split_at(3);
+    let Some(code) = code_of(digits) else {
+        return None;
+    };
+    let Some((mark, text)) = behind.split_first() else {
+        let kind = Kind::One(behind);
+        return Some(Opening { code, digits, kind });
+    };
+    if *mark == b' ' {
+        let kind = Kind::One(text);
+        return Some(Opening { code, digits, kind });
+    }
+    if *mark == b'-' {
+        let kind = Kind::Several(text);
+        return Some(Opening { code, digits, kind });
+    }
+    None
+}
