@@ -9,6 +9,7 @@ use Rattle.std.proofs.lemmas.Option.{same_Some, none-some}
 use Rattle.unftp_control_defs.specs.Bytes.{Bytes, LF, SP, DASH, crlf, Lacks}
 use Rattle.unftp_control_defs.specs.FtpReply.{FtpReply, Nothing, CodeAndMsg, MultiLine, padded, after_space, several as several_bytes, encoded, shown_lines, shown, HasThreeDigits, IsPlain}
 use Rattle.unftp_control_defs.specs.ReplyReader.{LacksCrlf, with_crlf, SpellsCode, GoesOn, IsReply, bare, single, several, FrontReply, AllReplies, ReadsBack}
+use Rattle.unftp_control_defs.proofs.LackLaws.{Lacks-append}
 use Rattle.unftp_control_defs.proofs.ReaderLaws.{AllReplies-unique}
 
 -- a text without LF has no CR LF
@@ -18,10 +19,6 @@ no_crlf [] h (b ∷ before) after e = cc
 no_crlf (b ∷ []) h [] after e = cc
 no_crlf (b ∷ c ∷ text) h [] after e = h.1.0 cc
 no_crlf (b ∷ text) h (c ∷ before) after e = no_crlf text h.1 before after cc
-
-lacks_append : (s t : Bytes) → Lacks LF s → Lacks LF t → Lacks LF (s ++ t)
-lacks_append [] t p q = q
-lacks_append (b ∷ s) t p q = (p.0, lacks_append s t p.1 q)
 
 lacks_padded : (line : Bytes) → Lacks LF line → Lacks LF (padded line)
 lacks_padded [] h = tt
@@ -86,7 +83,7 @@ record Behind (digits : Bytes) (code : ℕ) (next : Bytes) (lines : List Bytes) 
 
 -- a line behind the digits and a byte
 lacks_after : (digits : Bytes) (b : ℕ) (text : Bytes) → Lacks LF digits → b ≢ LF → Lacks LF text → LacksCrlf (digits ++ b ∷ text)
-lacks_after digits b text p ne q = no_crlf (digits ++ b ∷ text) (lacks_append digits (b ∷ text) p (ne, q))
+lacks_after digits b text p ne q = no_crlf (digits ++ b ∷ text) (Lacks-append LF digits (b ∷ text) p (ne, q))
 
 module _ (code : ℕ) (spells : SpellsCode (decimal code) code) where
   behind : (next : Bytes) (lines : List Bytes) → Lacks LF next → AllByRecursion (Lacks LF) lines → Behind (decimal code) code next lines

@@ -1,5 +1,6 @@
 -- A command of the control connection as what it says: its fields as numbers, choices and lists of bytes.
-use Rattle.std.specs.Prelude.{ℕ, Option, Result}
+use Rattle.std.specs.Prelude.{ℕ, ◌<◌, ◌^◌, ⊤, Option, Some, None, Result}
+use Rattle.std.specs.Str.{IsUtf8}
 use Rattle.unftp_control_defs.specs.Bytes.{Bytes}
 use Rattle.unftp_control_defs.specs.declared.parameters.AuthParam.{AuthParam}
 use Rattle.unftp_control_defs.specs.declared.parameters.ModeParam.{ModeParam}
@@ -65,3 +66,31 @@ pub data Refusal : Type 0 where
 -- what a line means
 abbrev pub Answer : Type 0
 Answer = Result FtpCommand Refusal
+
+abbrev pub IsMaybeUtf8 : Option Bytes → Type 0
+IsMaybeUtf8 None = ⊤
+IsMaybeUtf8 (Some text) = IsUtf8 text
+
+-- What the types of its fields say of a command: texts are UTF-8, and the offset has 64 bits.
+abbrev pub IsReal : FtpCommand → Type 0
+IsReal (Port addr) = IsUtf8 addr
+IsReal (Retr path) = IsUtf8 path
+IsReal (Stor path) = IsUtf8 path
+IsReal (Appe path) = IsUtf8 path
+IsReal (List options path) = IsMaybeUtf8 options × IsMaybeUtf8 path
+IsReal (Nlst path) = IsMaybeUtf8 path
+IsReal (Mlst path) = IsMaybeUtf8 path
+IsReal (Mlsd path) = IsMaybeUtf8 path
+IsReal (Cwd path) = IsUtf8 path
+IsReal (Dele path) = IsUtf8 path
+IsReal (Rmd path) = IsUtf8 path
+IsReal (Mkd path) = IsUtf8 path
+IsReal (Rnfr file) = IsUtf8 file
+IsReal (Rnto file) = IsUtf8 file
+IsReal (Size file) = IsUtf8 file
+IsReal (Rest offset) = offset < 2 ^ 64
+IsReal (Mdtm file) = IsUtf8 file
+IsReal (Md5 file) = IsUtf8 file
+IsReal (Site name arguments) = IsUtf8 name × IsUtf8 arguments
+IsReal (Other name arguments) = IsUtf8 name × IsUtf8 arguments
+IsReal _ = ⊤

@@ -7,7 +7,7 @@ use Rattle.unftp_control_defs.specs.Values.{value_of}
 use Rattle.unftp_control_defs.specs.FtpCommand.{Answer, InvalidUtf8}
 use Rattle.unftp_control_defs.specs.Rules.{rule_of, by_name}
 use Rattle.unftp_control_defs.specs.Outcome.{answer_by, by_value, site_answer, outcome}
-use Rattle.unftp_control_laws.proofs.CaseLaws.{is_utf8-upper}
+use Rattle.unftp_control_defs.proofs.CaseLaws.{is_utf8-upper}
 use Rattle.unftp_control_defs.proofs.VerbLaws.{Cut-unique}
 
 -- what the line means, from its parts

@@ -1,6 +1,4 @@
-mod CaseLaws
 mod FoldLaws
-mod EscapeLaws
 mod EpsvLaws
 mod CuttingLaws
 mod StepLaws

@@ -1,6 +1,8 @@
 //! Lines and replies worked out by hand, chosen where a definition is easily misread.
-ghost use Rattle.std.specs.Prelude.{◌≡◌, ◌++◌, [], ◌∷◌, Some, None, Ok, Err, codes};
-ghost use Rattle.unftp_control_defs.specs.FtpCommand.{User, Auth, Rest, Site, Other, List as Listing, InvalidCommand, InvalidUtf8, InvalidEol};
+ghost use Rattle.std.specs.Prelude.{◌≡◌, ◌++◌, [], ◌∷◌, Option, Some, None, Ok, Err, codes};
+ghost use Rattle.unftp_control_defs.specs.Bytes.{Bytes};
+ghost use Rattle.unftp_control_defs.specs.Canonical.{canonical_line, IsGiven};
+ghost use Rattle.unftp_control_defs.specs.FtpCommand.{User, Stat, Retr, Nlst, Auth, Rest, Md5, Site, Other, List as Listing, InvalidCommand, InvalidUtf8, InvalidEol};
 ghost use Rattle.unftp_control_defs.specs.FtpReply.{encoded, CodeAndMsg, MultiLine};
 ghost use Rattle.unftp_control_defs.specs.Lines.{lines_of, rest_of};
 ghost use Rattle.unftp_control_defs.specs.Outcome.{outcome};
@@ -55,6 +57,33 @@ pub fn refusals_come_in_order()
     ensures auth_utf8 { outcome (codes "AUTH " ++ 255 ∷ codes "\r\n") ≡ Err InvalidUtf8 }
     ensures site_name_before_its_end { outcome (codes "SITE " ++ 255 ∷ codes " a\rb\n") ≡ Err InvalidUtf8 }
     ensures end_before_the_value { outcome (codes "NOOP x\ry\r\n") ≡ Err InvalidEol }
+{}
+
+/// Which lines are sent for commands, and which commands no line gives.
+pub fn canonical_lines_are_so()
+    ensures cr_and_nul { canonical_line (User (codes "\r" ++ 0 ∷ [])) ≡ codes "USER \r" ++ 0 ∷ 0 ∷ codes "\r\n" }
+    ensures empty_name { canonical_line (User []) ≡ codes "USER\r\n" }
+    ensures one_space { canonical_line (User (codes " ")) ≡ codes "USER  \r\n" }
+    ensures dashes_in_a_path { canonical_line (Listing None (Some (codes "-- x"))) ≡ codes "LIST -- -- x\r\n" }
+    ensures space_before_a_path { canonical_line (Listing None (Some (codes " a"))) ≡ codes "LIST  a\r\n" }
+    ensures dash_in_front { canonical_line (Listing None (Some (codes "-x"))) ≡ codes "LIST -- -x\r\n" }
+    ensures cr_before_the_end { canonical_line (Md5 (codes "a\r")) ≡ codes "SITE MD5 a\r" ++ 0 ∷ codes "\r\n" }
+    ensures empty_verb { canonical_line (Other [] (codes "NOOP")) ≡ codes " NOOP\r\n" }
+    ensures empty_line { canonical_line (Other [] []) ≡ codes "\r\n" }
+    // the letter is U+00DF
+    ensures beyond_ascii { canonical_line (Other (codes "PA" ++ 195 ∷ 159 ∷ []) (codes "x")) ≡ codes "PA" ++ 195 ∷ 159 ∷ codes " x\r\n" }
+    ensures site_name { canonical_line (Site (codes "ECHO") []) ≡ codes "SITE ECHO\r\n" }
+    ensures site_alone { canonical_line (Site [] []) ≡ codes "SITE\r\n" }
+    ensures empty_site_name { canonical_line (Site [] (codes "X")) ≡ codes "SITE  X\r\n" }
+    ensures no_empty_path { ¬ IsGiven (Retr []) }
+    ensures no_empty_stat { ¬ IsGiven (Stat (Some [])) }
+    ensures no_empty_listing { ¬ IsGiven (Nlst (Some [])) }
+    ensures no_options { (options : Bytes) (path : Option Bytes) → ¬ IsGiven (Listing (Some options) path) }
+    ensures no_lf { ¬ IsGiven (User (codes "a\nb")) }
+    ensures no_other_bye { ¬ IsGiven (Other (codes "BYE") []) }
+    ensures no_other_site { ¬ IsGiven (Other (codes "SITE") []) }
+    ensures no_lowercase_verb { ¬ IsGiven (Other (codes "foo") []) }
+    ensures no_site_md5 { ¬ IsGiven (Site (codes "MD5") []) }
 {}
 
 /// A reply without a text, and lines that begin with a digit.

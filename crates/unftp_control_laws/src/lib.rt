@@ -6,15 +6,16 @@ ghost use Rattle.std.specs.Prelude.{◌≡◌, ◌↔◌, ◌⊎◌, ◌<◌, �
 ghost use Rattle.std.specs.List.{AllByRecursion, concat, sum_by};
 ghost use Rattle.unftp_control_commands.specs.Answers.{port_reply};
 ghost use Rattle.unftp_control_defs.specs.Bytes.{Bytes, LF, crlf, Lacks};
-ghost use Rattle.unftp_control_defs.specs.FtpCommand.{User};
+ghost use Rattle.unftp_control_defs.specs.Canonical.{canonical_line, IsGiven};
 ghost use Rattle.unftp_control_defs.specs.Cuttings.{events_in_turn};
 ghost use Rattle.unftp_control_defs.specs.Events.{events};
+ghost use Rattle.unftp_control_defs.specs.FtpCommand.{FtpCommand, User, IsReal};
 ghost use Rattle.unftp_control_defs.specs.FtpReply.{FtpReply, IsPlain, encoded, shown};
-ghost use Rattle.unftp_control_defs.specs.ReplyReader.{FrontReply, HasFront, IsMalformed, IsPartial, ReadsBack};
-ghost use Rattle.unftp_control_defs.specs.Lines.{Lines, lines_of, rest_of};
-ghost use Rattle.unftp_control_defs.specs.Steps.{AreSteps, Step, last_place};
+ghost use Rattle.unftp_control_defs.specs.Lines.{IsLine, Lines, lines_of, rest_of};
 ghost use Rattle.unftp_control_defs.specs.Outcome.{outcome};
 ghost use Rattle.unftp_control_defs.specs.Paths.{ListPath, path_of};
+ghost use Rattle.unftp_control_defs.specs.ReplyReader.{FrontReply, HasFront, IsMalformed, IsPartial, ReadsBack};
+ghost use Rattle.unftp_control_defs.specs.Steps.{AreSteps, Step, last_place};
 ghost use Rattle.unftp_control_defs.specs.Values.{Reads, BadEnd, value_of, escaped};
 ghost use Rattle.unftp_control_defs.specs.Verbs.{Cut, verb_of, parameter_of, upper};
 
@@ -61,6 +62,25 @@ pub fn case_folds()
 /// A name without a line feed that is sent with each CR as CR NUL is the name that is read (RFC 854).
 pub fn escape_reads_back()
     ensures { (name : Bytes) → Lacks LF name → outcome (codes "USER " ++ escaped name ++ crlf) ≡ Ok (User name) }
+{}
+
+/// The canonical line of a given command has one LF, its last byte, and means that command where its fields are of their types (RFC 959,
+/// section 5.3).
+pub fn canonical_lines_read_back()
+    ensures line { (command : FtpCommand) → IsGiven command → IsLine (canonical_line command) }
+    ensures read_back { (command : FtpCommand) → IsGiven command → IsReal command → outcome (canonical_line command) ≡ Ok command }
+{}
+
+/// A command that a line means, whose one LF is its last byte, is given, and has fields of their types (RFC 959, section 5.3).
+pub fn meant_commands_are_given()
+    ensures given { (line : Bytes) (command : FtpCommand) → IsLine line → outcome line ≡ Ok command → IsGiven command }
+    ensures real { (line : Bytes) (command : FtpCommand) → IsLine line → outcome line ≡ Ok command → IsReal command }
+{}
+
+/// A command with fields of their types is given exactly where a line, whose one LF is its last byte, means it (RFC 959, section 5.3).
+pub fn given_commands_have_lines()
+    ensures { (command : FtpCommand) → IsReal command
+        → IsGiven command ↔ ((line : Bytes) × IsLine line × (outcome line ≡ Ok command)) }
 {}
 
 /// Two ports whose EPSV replies are equal are equal (RFC 2428, section 3).

@@ -1,0 +1,6 @@
+use Rattle.unftp_control_defs.proofs.CanonicalEndLaws.{IsLine-canonical_line}
+use Rattle.unftp_control_defs.proofs.CanonicalLaws.{outcome-canonical_line}
+use Rattle.unftp_control_laws.proofs.canonical_lines_read_back.Goals as goal
+
+pub returns : goal.returns
+returns c = record { line = IsLine-canonical_line; read_back = outcome-canonical_line }
