@@ -8,6 +8,7 @@ mod growths;
 mod lines;
 mod reading;
 mod replies;
+mod writing;
 
 use crate::codecs::FtpCodec;
 use crate::command::Command;

@@ -1,7 +1,6 @@
 -- The bytes of a reply of several lines, from its parts.
-use Rattle.std.proofs.Common.{◌≡◌, ℕ, ◌≤◌, List, [], ◌∷◌, ◌++◌, length, take, map, flat_map, decimal, string_bytes, String, Global, refl, sym, ap, ◌∙◌, append_assoc, arith}
-use Rattle.std.proofs.lemmas.List.{take-take, length-append, map-append}
-use Rattle.std.proofs.Math.Seq.{take-append_seam}
+use Rattle.std.proofs.Common.{◌≡◌, ℕ, List, [], ◌∷◌, ◌++◌, map, flat_map, decimal, string_bytes, String, Global, refl, sym, ap, ◌∙◌, append_assoc}
+use Rattle.std.proofs.lemmas.List.{map-append}
 use Rattle.unftp_control_defs.specs.Bytes.{Bytes, DASH}
 use Rattle.unftp_control_defs.specs.FtpReply.{MultiLine, encoded, several, after_space}
 use Rattle.unftp_control_codecs.specs.Encoding.{ended, opening}
@@ -26,12 +25,6 @@ encoded-opening : (code : ℕ) (front : List Bytes) (last : Bytes) → encoded (
 encoded-opening code [] last = refl
 encoded-opening code (line ∷ []) last = ap (λ t. decimal code ++ DASH ∷ t) (several-front code line [] last) ∙ opening-back code line [] last
 encoded-opening code (line ∷ next ∷ lines) last = ap (λ t. decimal code ++ DASH ∷ t) (several-front code line (next ∷ lines) last) ∙ opening-back code line (next ∷ lines) last
-
--- what was kept of a longer front is kept of its start
-pub kept_start : (start more new : Bytes) (n m : ℕ) → n ≡ length start → m ≡ length (start ++ more) → take m new ≡ start ++ more → take n new ≡ start
-kept_start start more new n m n_is m_is kept =
-    let le : n ≤ m = omega (arith, length-append start more, n_is, m_is) in
-    sym (take-take n m new le) ∙ ap (take n) kept ∙ ap (λ k. take k (start ++ more)) n_is ∙ take-append_seam start more
 
 abbrev Text : Type 0
 Text = String Global

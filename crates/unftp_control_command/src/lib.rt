@@ -3,6 +3,7 @@
 
 ghost use Rattle.std.specs.Prelude.{◌≡◌, ◌↔◌, IsTrue, IfOk, option_map, string_bytes};
 ghost use Rattle.unftp_control_command.specs.CommandMeaning.{command_of};
+ghost use Rattle.unftp_control_defs.specs.FtpCommand.{IsReal};
 ghost use Rattle.unftp_control_command.specs.declared.Command.{Command as RustCommand};
 
 use bytes::Bytes;
@@ -359,3 +360,13 @@ fn bytes_again(bytes: &Option<Bytes>) -> Result<Option<Bytes>, AllocError>
 pub fn same_commands()
     ensures { (a b : RustCommand) → IsTrue (⟦<Command as PartialEq>⟧.eq a b) ↔ (command_of a ≡ command_of b) }
 {}
+
+/// What the types of its fields say of a command: its texts are UTF-8, and its offset has 64 bits.
+pub fn commands_are_real(command: &Command)
+    ensures { IsReal (command_of command.now) }
+{
+    if let Command::Rest { offset } = command {
+        // contracts see the range of a number that is read
+        let _offset = *offset;
+    }
+}

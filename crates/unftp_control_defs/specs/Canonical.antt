@@ -1,4 +1,5 @@
--- The canonical line of a command, and the commands that a line gives: what a proxy or a client sends (RFC 959, section 5.3; RFC 854 for CR NUL).
+-- The canonical line of a command, and the commands that a line gives (RFC 959, section 5.3; RFC 854 for CR NUL). The line says what the
+-- command says, and so not what a reader has dropped: the parameter of TYPE, or the options of LIST.
 use Rattle.std.specs.Prelude.{◌≡◌, ◌≢◌, true, false, ◌==◌, if◌then◌else◌, [], ◌∷◌, ◌++◌, ⊤, Option, Some, None, option_map, codes, decimal}
 use Rattle.std.specs.Char.{is_ascii_lowercase}
 use Rattle.std.specs.List.{AllByRecursion}

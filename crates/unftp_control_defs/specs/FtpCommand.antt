@@ -71,7 +71,7 @@ abbrev pub IsMaybeUtf8 : Option Bytes → Type 0
 IsMaybeUtf8 None = ⊤
 IsMaybeUtf8 (Some text) = IsUtf8 text
 
--- What the types of its fields say of a command: texts are UTF-8, and the offset has 64 bits.
+-- What the types of its fields say of a command: a text is UTF-8, and the offset has 64 bits; of raw bytes nothing is said.
 abbrev pub IsReal : FtpCommand → Type 0
 IsReal (Port addr) = IsUtf8 addr
 IsReal (Retr path) = IsUtf8 path

@@ -64,23 +64,16 @@ pub fn escape_reads_back()
     ensures { (name : Bytes) → Lacks LF name → outcome (codes "USER " ++ escaped name ++ crlf) ≡ Ok (User name) }
 {}
 
-/// The canonical line of a given command has one LF, its last byte, and means that command where its fields are of their types (RFC 959,
+/// The canonical line of a given command has one LF, its last byte, and means that command, where its fields are of their types (RFC 959,
 /// section 5.3).
 pub fn canonical_lines_read_back()
     ensures line { (command : FtpCommand) → IsGiven command → IsLine (canonical_line command) }
     ensures read_back { (command : FtpCommand) → IsGiven command → IsReal command → outcome (canonical_line command) ≡ Ok command }
 {}
 
-/// A command that a line means, whose one LF is its last byte, is given, and has fields of their types (RFC 959, section 5.3).
-pub fn meant_commands_are_given()
-    ensures given { (line : Bytes) (command : FtpCommand) → IsLine line → outcome line ≡ Ok command → IsGiven command }
-    ensures real { (line : Bytes) (command : FtpCommand) → IsLine line → outcome line ≡ Ok command → IsReal command }
-{}
-
-/// A command with fields of their types is given exactly where a line, whose one LF is its last byte, means it (RFC 959, section 5.3).
+/// A command is given, and has fields of their types, exactly where a line whose one LF is its last byte means it (RFC 959, section 5.3).
 pub fn given_commands_have_lines()
-    ensures { (command : FtpCommand) → IsReal command
-        → IsGiven command ↔ ((line : Bytes) × IsLine line × (outcome line ≡ Ok command)) }
+    ensures { (command : FtpCommand) → (IsGiven command × IsReal command) ↔ ((line : Bytes) × IsLine line × (outcome line ≡ Ok command)) }
 {}
 
 /// Two ports whose EPSV replies are equal are equal (RFC 2428, section 3).

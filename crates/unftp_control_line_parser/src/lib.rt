@@ -9,3 +9,4 @@ mod verb;
 
 pub use error::{ParseError, ParseErrorKind, Result};
 pub use parser::parse;
+pub use verb::is_verb;

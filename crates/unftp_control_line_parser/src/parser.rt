@@ -1,6 +1,9 @@
 //! A line's verb and parameter, and the command that they are.
-ghost use Rattle.std.specs.Prelude.{◌≡◌, ◌≤◌, length};
+ghost use Rattle.std.specs.Prelude.{◌≡◌, ◌≤◌, length, IfOk};
 ghost use Rattle.std.specs.List.{position_or_len};
+ghost use Rattle.unftp_control_command.specs.CommandMeaning.{command_of};
+ghost use Rattle.unftp_control_defs.specs.Canonical.{IsGiven};
+ghost use Rattle.unftp_control_defs.specs.Lines.{IsLine};
 ghost use Rattle.unftp_control_defs.specs.Verbs.{is_separator, verb_of, parameter_of};
 ghost use Rattle.unftp_control_defs.specs.Outcome.{outcome};
 ghost use Rattle.unftp_control_line_parser.specs.Memory.{MayTakeMemory, OnStarved};
@@ -57,6 +60,8 @@ pub fn parse(alloc: Global, line: &[u8]) -> Result<Command>
     ensures told { Tells (outcome line.now) result }
     // memory is refused only where the line may take some
     ensures memory { OnStarved result (MayTakeMemory line.now) }
+    // a command is one that `write_command` has a line for
+    ensures given { IsLine line.now → IfOk result (λ command. IsGiven (command_of command)) }
 {
     Ok(command_in(alloc, line)?)
 }

@@ -1,6 +1,8 @@
 //! The verbs that have a rule of their own.
-ghost use Rattle.std.specs.Prelude.{◌≡◌, ◌<◌, ◌^◌};
-ghost use Rattle.std.specs.Char.{to_ascii_uppercase};
+ghost use Rattle.std.specs.Prelude.{◌≡◌, ◌↔◌, ◌<◌, ◌^◌, IsTrue, IsSome};
+ghost use Rattle.std.specs.Char.{is_ascii_lowercase, to_ascii_uppercase};
+ghost use Rattle.std.specs.List.{list_any};
+ghost use Rattle.unftp_control_defs.specs.Rules.{row_of, verbs};
 ghost use Rattle.unftp_control_defs.specs.Verbs.{upper};
 ghost use Rattle.unftp_control_line_parser.specs.Named.{four, key_of, TellsVerb};
 
@@ -200,4 +202,18 @@ pub fn verb_named(word: &[u8]) -> Option<Verb>
     } else {
         None
     }
+}
+
+/// Whether the word is a verb with a rule of its own, in upper case (RFC 959, section 5.3). It takes no memory.
+pub fn is_verb(raised: &[u8]) -> bool
+    ensures { IsTrue result ↔ IsSome (row_of raised.now verbs) }
+{
+    verb_named(raised).is_some() && !has_lowercase(raised)
+}
+
+/// Whether a letter of the word is one of `a` to `z`.
+fn has_lowercase(word: &[u8]) -> bool
+    ensures { result ≡ list_any is_ascii_lowercase word.now }
+{
+    word.iter().any(|byte| byte.is_ascii_lowercase())
 }

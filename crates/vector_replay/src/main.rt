@@ -1,5 +1,5 @@
 //! Answers the cases of a vector file (`vectors/README.md`): reads one a line from standard input, and writes its answer. Its one
-//! argument is the call that answers, `parse`, `decode`, `encode` or `read`. What is no case is answered by `bad-case`.
+//! argument is the call that answers, `parse`, `decode`, `encode`, `read` or `write`. What is no case is answered by `bad-case`.
 #![tactic(auto)]
 
 mod cases;
@@ -16,6 +16,7 @@ use unftp_control::error::{ControlChanError, ControlChanErrorKind, Source};
 use unftp_control::line_parser::{ParseErrorKind, parse};
 use unftp_control::read::{Front, ReadReplyError, read_reply as read_front};
 use unftp_control::reply::Reply;
+use unftp_control::write::{WriteCommandError, write_command};
 
 /// The call that answers.
 #[derive(Clone, Copy)]
@@ -24,6 +25,7 @@ enum Call {
     Decode,
     Encode,
     Read,
+    Write,
 }
 
 impl Call {
@@ -33,6 +35,7 @@ impl Call {
             "decode" => Some(Call::Decode),
             "encode" => Some(Call::Encode),
             "read" => Some(Call::Read),
+            "write" => Some(Call::Write),
             _ => None,
         }
     }
@@ -130,6 +133,21 @@ fn answer_read<W: Write>(alloc: Global, stream: &[u8], out: &mut W) -> io::Resul
     Ok(())
 }
 
+/// Writes what `parse` makes of the line that is written for the command that a line is; of a refused line, its refusal.
+fn answer_write<W: Write>(alloc: Global, line: &[u8], out: &mut W) -> io::Result<()> {
+    let Ok(command) = parse(alloc, line) else {
+        return answer_parse(alloc, line, out);
+    };
+    let mut written = Vec::new(alloc);
+    let answer = write_command(&command, &mut written);
+    drop(command);
+    match answer {
+        Ok(()) => answer_parse(alloc, written.as_slice(), out),
+        Err(WriteCommandError::NoLine) => write!(out, "no-line"),
+        Err(WriteCommandError::OutOfMemory) => Err(io::ErrorKind::OutOfMemory.into()),
+    }
+}
+
 /// Writes the answer to a case; what is none is told as an error of kind `InvalidData`, and nothing is written.
 fn answer_case<W: Write>(alloc: Global, call: Call, case: &str, out: &mut W) -> io::Result<()> {
     match call {
@@ -137,6 +155,7 @@ fn answer_case<W: Write>(alloc: Global, call: Call, case: &str, out: &mut W) -> 
         Call::Decode => answer_decode(alloc, read_bytes(alloc, case)?, out),
         Call::Encode => answer_encode(alloc, read_reply(alloc, case)?, out),
         Call::Read => answer_read(alloc, read_bytes(alloc, case)?.as_slice(), out),
+        Call::Write => answer_write(alloc, read_bytes(alloc, case)?.as_slice(), out),
     }
 }
 
@@ -178,7 +197,7 @@ fn main(rt: HostRuntime) -> ExitCode {
     let replayed = match call_asked(&rt) {
         Ok(Some(call)) => replay(&rt, call),
         Ok(None) => {
-            let _ = eprintln!(rt; "usage: vector_replay parse|decode|encode|read");
+            let _ = eprintln!(rt; "usage: vector_replay parse|decode|encode|read|write");
             return ExitCode::from(2);
         }
         Err(error) => Err(error),

@@ -1,8 +1,10 @@
 //! How much memory a call takes: `tools/growths` counts the growths of each test, and compares their number with that in
 //! its name.
 use crate::codecs::FtpCodec;
+use crate::command::Command;
 use crate::line_parser::parse;
 use crate::reply::{Reply, ReplyCode};
+use crate::write::write_command;
 use std::test::Fail;
 
 #[test]
@@ -70,5 +72,40 @@ fn takes_5_for_a_reply_of_three_lines_and_its_bytes(rt: HostRuntime) -> Result<(
     let reply = Reply::new_multiline(rt.alloc(), ReplyCode::SystemStatus, lines)?;
     let mut buf = Vec::new(rt.alloc());
     FtpCodec::new().encode(reply, &mut buf)?;
+    Ok(())
+}
+
+#[test]
+fn takes_0_for_a_command_without_a_line(rt: HostRuntime) -> Result<(), Fail> {
+    let path = String::new(rt.alloc());
+    let command = Command::Retr { path };
+    let mut buf = Vec::new(rt.alloc());
+    let is_refused = write_command(&command, &mut buf).is_err();
+    drop(command);
+    assert!(rt; is_refused && buf.is_empty());
+    Ok(())
+}
+
+#[test]
+fn takes_2_for_a_path_and_its_line(rt: HostRuntime) -> Result<(), Fail> {
+    let path = String::from_str(rt.alloc(), "-\r-\r-\r-\r-\r-\r-\r-\r")?;
+    let command = Command::List {
+        options: None,
+        path: Some(path),
+    };
+    let mut buf = Vec::new(rt.alloc());
+    let is_written = write_command(&command, &mut buf).is_ok();
+    drop(command);
+    assert!(rt; is_written);
+    Ok(())
+}
+
+#[test]
+fn takes_1_for_the_line_of_an_offset(rt: HostRuntime) -> Result<(), Fail> {
+    let command = Command::Rest { offset: u64::MAX };
+    let mut buf = Vec::new(rt.alloc());
+    let is_written = write_command(&command, &mut buf).is_ok();
+    drop(command);
+    assert!(rt; is_written);
     Ok(())
 }

@@ -4,6 +4,7 @@ use crate::codecs::FtpCodec;
 use crate::command::Command;
 use crate::error::{ControlChanError, ControlChanErrorKind};
 use crate::reply::{Reply, ReplyCode};
+use crate::write::{WriteCommandError, write_command};
 use std::alloc::Global;
 use std::process::Abort;
 use std::test::Fail;
@@ -158,4 +159,40 @@ fn a_refused_line_stays_in_the_buffer(rt: HostRuntime) -> Result<(), Fail> {
         b"RETR a\xffb\r\nPWD\r\n",
         "Retr { path: \"a\u{fffd}b\" }",
     )
+}
+
+/// The line of the command stands behind what the buffer had. Where the buffer can't grow it stays as it was, and is written to anew.
+fn assert_line(
+    rt: &impl Abort,
+    command: &Command,
+    buf: &mut Vec<u8>,
+    want: &[u8],
+) -> Result<(), Fail> {
+    if let Err(refused) = write_command(command, buf) {
+        assert!(rt; matches!(refused, WriteCommandError::OutOfMemory));
+        assert_eq!(rt; buf.as_slice(), b"x".as_slice());
+        assert!(rt; write_command(command, buf).is_ok());
+    }
+    assert_eq!(rt; buf.as_slice(), want);
+    Ok(())
+}
+
+#[test]
+fn a_line_refused_memory_leaves_the_buffer(rt: HostRuntime) -> Result<(), Fail> {
+    let Ok(arguments) = String::from_str(rt.alloc(), "644 a\r") else {
+        return Ok(());
+    };
+    let Ok(name) = String::from_str(rt.alloc(), "CHMOD") else {
+        return Ok(());
+    };
+    let Ok(mut buf) = Vec::from_slice(rt.alloc(), b"x") else {
+        return Ok(());
+    };
+    let command = Command::Site {
+        command: name,
+        arguments,
+    };
+    let outcome = assert_line(&rt, &command, &mut buf, b"xSITE CHMOD 644 a\r\0\r\n");
+    drop(command);
+    outcome
 }

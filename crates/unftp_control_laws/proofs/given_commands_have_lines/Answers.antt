@@ -1,11 +1,11 @@
 use Rattle.unftp_control_defs.specs.Canonical.{canonical_line}
 use Rattle.unftp_control_defs.proofs.CanonicalEndLaws.{IsLine-canonical_line}
 use Rattle.unftp_control_defs.proofs.CanonicalLaws.{outcome-canonical_line}
-use Rattle.unftp_control_defs.proofs.GivenLaws.{IsGiven-outcome}
+use Rattle.unftp_control_defs.proofs.GivenLaws.{IsGiven-outcome, IsReal-outcome}
 use Rattle.unftp_control_laws.proofs.given_commands_have_lines.Goals as goal
 
 pub returns : goal.returns
-returns c = λ command real. (
-  (λ given. (canonical_line command, IsLine-canonical_line command given, outcome-canonical_line command given real)),
-  (λ has. IsGiven-outcome has.0 command has.1 has.2),
+returns c = λ command. (
+  (λ has. (canonical_line command, IsLine-canonical_line command has.0, outcome-canonical_line command has.0 has.1)),
+  (λ has. (IsGiven-outcome has.0 command has.1 has.2, IsReal-outcome has.0 command has.1 has.2)),
 )

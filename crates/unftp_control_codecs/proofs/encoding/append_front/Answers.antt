@@ -1,6 +1,6 @@
 use Rattle.std.proofs.Common.{flat_map, map, take, length, string_bytes, ap, ◌∙◌}
 use Rattle.unftp_control_codecs.specs.Encoding.{ended}
-use Rattle.unftp_control_codecs.proofs.EncodingLemmas.{kept_start}
+use Rattle.unftp_control_defs.proofs.AppendLaws.{kept_start}
 use Rattle.unftp_control_codecs.proofs.encoding.append_front.Goals as goal
 
 pub returns-in_err-append_ended-clause-kept : goal.returns-in_err-append_ended-clause-kept

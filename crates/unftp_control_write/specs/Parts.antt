@@ -1,0 +1,31 @@
+-- The parts of a line, and what is told of a command by them.
+use Rattle.std.specs.Prelude.{◌≡◌, Bool, not, ◌&&◌, [], ◌∷◌, ◌++◌, ℕ, Option, Some, None, option_map, decimal}
+use Rattle.std.specs.Char.{is_ascii_lowercase}
+use Rattle.unftp_control_defs.specs.Bytes.{Bytes, SP}
+use Rattle.unftp_control_defs.specs.Values.{escaped}
+use Rattle.unftp_control_defs.specs.Verbs.{is_separator}
+use Rattle.unftp_control_write.specs.declared.line.Line.{Line}
+use Rattle.unftp_control_write.specs.declared.line.Word.{Word}
+use Rattle.unftp_control_write.specs.declared.line.Word.TheVariants.{Name, Number}
+
+-- a byte of a name as it is once raised
+abbrev pub is_name_byte : ℕ → Bool
+is_name_byte b = not (is_separator b) && not (is_ascii_lowercase b)
+
+abbrev pub bytes_of : Word → Bytes
+bytes_of (Name name) = name.now
+bytes_of (Number number) = decimal number
+
+-- what stands behind a space, where there is anything
+abbrev pub after_space : Option Bytes → Bytes
+after_space None = []
+after_space (Some bytes) = SP ∷ bytes
+
+-- what the parts say, in front of the CR LF
+abbrev pub body_of : Line → Bytes
+body_of line = line.verb.now ++ after_space (option_map bytes_of line.word) ++ after_space (option_map (λ text. escaped text.now) line.text)
+
+-- Where this is given there are parts, which say the body; else there are none.
+abbrev pub Tells : Type 0 → Bytes → Option Line → Type 0
+Tells given body None = ¬ given
+Tells given body (Some line) = given × (body_of line ≡ body)

@@ -1,0 +1,54 @@
+//! Writes the line that a command is sent as.
+#![tactic(auto)]
+
+ghost use Rattle.std.specs.Prelude.{◌≡◌, ◌++◌, Ok, Err, OnOk, OnErr, IfErr};
+ghost use Rattle.unftp_control_command.specs.CommandMeaning.{command_of};
+ghost use Rattle.unftp_control_defs.specs.Canonical.{IsGiven, canonical_line};
+ghost use Rattle.unftp_control_defs.specs.Lines.{IsLine};
+ghost use Rattle.unftp_control_defs.specs.Outcome.{outcome};
+
+mod given;
+mod line;
+
+use crate::given::line_of;
+use thiserror::Error;
+use unftp_control_command::{Command, commands_are_real};
+
+/// Why no line is written.
+#[derive(Debug, Drop, Error)]
+pub enum WriteCommandError {
+    /// No line whose one line feed is its last byte is read as this command.
+    #[error("no line gives this command")]
+    NoLine,
+    /// Memory was refused.
+    #[error("out of memory")]
+    OutOfMemory,
+}
+
+/// Appends the canonical line of the command, with its CR LF, to `buf` and changes no earlier byte (RFC 959, section 5.3). The line is
+/// read back as the command: verbs and names are in upper case, each CR of a text is sent as CR NUL (RFC 854), and a path of LIST that
+/// begins with a dash stands behind `-- `.
+///
+/// It is refused with `NoLine` where no line is read as this command, as one with an empty path or a text with a line feed, and for
+/// that it takes no memory; and with `OutOfMemory` where the buffer has to grow, once at most, and memory is refused. `buf` is then as it was.
+pub fn write_command(command: &Command, buf: &mut Vec<u8>) -> Result<(), WriteCommandError>
+    ensures ok { OnOk result (buf.new.items ≡ buf.old.items ++ canonical_line (command_of command.now)) }
+    ensures line { OnOk result (IsLine (canonical_line (command_of command.now))) }
+    ensures read_back { OnOk result (outcome (canonical_line (command_of command.now)) ≡ Ok (command_of command.now)) }
+    ensures err { OnErr result (buf.new.items ≡ buf.old.items) }
+    ensures given { IsGiven (command_of command.now) → IfErr result (λ error. error ≡ WriteCommandError.OutOfMemory) }
+    ensures no_line { ¬ IsGiven (command_of command.now) → result ≡ Err WriteCommandError.NoLine }
+{
+    commands_are_real(command);
+    let Some(line) = line_of(command) else {
+        return Err(WriteCommandError::NoLine);
+    };
+    let length = buf.len();
+    match line.append(buf) {
+        Ok(()) => Ok(()),
+        Err(_) => {
+            buf.truncate(length);
+            Err(WriteCommandError::OutOfMemory)
+        }
+    }
+}

@@ -1,0 +1,139 @@
+//! The parts of a line.
+ghost use Rattle.std.specs.Prelude.{◌≡◌, [], ◌∷◌, ◌++◌, option_map, take, vec_len, OnOk};
+ghost use Rattle.unftp_control_defs.specs.Bytes.{crlf};
+ghost use Rattle.unftp_control_defs.specs.Values.{escaped};
+ghost use Rattle.unftp_control_write.specs.Parts.{after_space, body_of, bytes_of};
+
+use itoa::Buffer;
+use std::alloc::AllocError;
+
+/// More bytes than a line has beside its words and its text: two spaces, and CR LF.
+const ROOM_BESIDE_TEXT: usize = 4;
+
+/// The digits of the greatest number of 64 bits.
+const MOST_DIGITS: usize = 20;
+
+/// A word behind the verb, which is written as it is.
+#[derive(Drop)]
+pub(crate) enum Word<'a> {
+    /// A letter or name, or the mark in front of a path of LIST.
+    Name(&'a str),
+    /// A number in decimal.
+    Number(u64),
+}
+
+/// A line in front of its CR LF: a verb, a word behind a space, and a text behind another.
+#[derive(Drop)]
+pub(crate) struct Line<'a> {
+    /// The verb.
+    pub(crate) verb: &'a str,
+    /// The word, where there is one.
+    pub(crate) word: Option<Word<'a>>,
+    /// The text, where there is one; each CR of it is written as CR NUL.
+    pub(crate) text: Option<&'a [u8]>,
+}
+
+impl<'a> Word<'a> {
+    /// Appends the word; where memory is refused, perhaps a part of it.
+    fn append(&self, buf: &mut Vec<u8>) -> Result<(), AllocError>
+        ensures ok { OnOk result (buf.new.items ≡ buf.old.items ++ bytes_of self.now) }
+        ensures kept { take (vec_len buf.old) buf.new.items ≡ buf.old.items }
+    {
+        match self {
+            Word::Name(name) => buf.extend_from_slice(name.as_bytes()),
+            Word::Number(number) => {
+                let mut digits = Buffer::new();
+                buf.extend_from_slice(digits.format(*number).as_bytes())
+            }
+        }
+    }
+}
+
+impl<'a> Line<'a> {
+    /// Appends the line and its CR LF; where memory is refused, perhaps a part of them. The buffer grows once at most.
+    pub(crate) fn append(&self, buf: &mut Vec<u8>) -> Result<(), AllocError>
+        ensures ok { OnOk result (buf.new.items ≡ buf.old.items ++ (body_of self.now ++ crlf)) }
+        ensures kept { take (vec_len buf.old) buf.new.items ≡ buf.old.items }
+    {
+        buf.reserve(self.room())?;
+        buf.extend_from_slice(self.verb.as_bytes())?;
+        self.append_word(buf)?;
+        self.append_text(buf)?;
+        buf.extend_from_slice(b"\r\n")
+    }
+
+    /// Appends the word behind a space, where there is one.
+    fn append_word(&self, buf: &mut Vec<u8>) -> Result<(), AllocError>
+        ensures ok { OnOk result (buf.new.items ≡ buf.old.items ++ after_space (option_map bytes_of self.now.word)) }
+        ensures kept { take (vec_len buf.old) buf.new.items ≡ buf.old.items }
+    {
+        let Some(word) = &self.word else {
+            return Ok(());
+        };
+        buf.push(b' ')?;
+        word.append(buf)
+    }
+
+    /// Appends the text behind a space, where there is one.
+    fn append_text(&self, buf: &mut Vec<u8>) -> Result<(), AllocError>
+        ensures ok { OnOk result (buf.new.items ≡ buf.old.items ++ after_space (option_map (λ text. escaped text.now) self.now.text)) }
+        ensures kept { take (vec_len buf.old) buf.new.items ≡ buf.old.items }
+    {
+        let Some(text) = self.text else {
+            return Ok(());
+        };
+        buf.push(b' ')?;
+        append_escaped(text, buf)
+    }
+
+    /// At least as many bytes as the line has, where so many can be counted.
+    fn room(&self) -> usize {
+        let word = match &self.word {
+            Some(Word::Name(name)) => name.len(),
+            Some(Word::Number(_)) => MOST_DIGITS,
+            None => 0,
+        };
+        let text = match self.text {
+            Some(text) => escaped_len(text),
+            None => 0,
+        };
+        ROOM_BESIDE_TEXT
+            .saturating_add(self.verb.len())
+            .saturating_add(word)
+            .saturating_add(text)
+    }
+}
+
+/// How many bytes the text has with each CR as CR NUL, where so many can be counted.
+fn escaped_len(text: &[u8]) -> usize {
+    let mut count = text.len();
+    for byte in text {
+        if *byte == b'\r' {
+            count = count.saturating_add(1);
+        }
+    }
+    count
+}
+
+/// Appends the text with each CR as CR NUL.
+fn append_escaped(text: &[u8], buf: &mut Vec<u8>) -> Result<(), AllocError>
+    ensures ok { OnOk result (buf.new.items ≡ buf.old.items ++ escaped text.now) }
+    ensures kept { take (vec_len buf.old) buf.new.items ≡ buf.old.items }
+{
+    for byte in text {
+        append_escaped_byte(*byte, buf)?;
+    }
+    Ok(())
+}
+
+/// Appends the byte, and a NUL behind a CR.
+fn append_escaped_byte(byte: u8, buf: &mut Vec<u8>) -> Result<(), AllocError>
+    ensures ok { OnOk result (buf.new.items ≡ buf.old.items ++ escaped (byte ∷ [])) }
+    ensures kept { take (vec_len buf.old) buf.new.items ≡ buf.old.items }
+{
+    buf.push(byte)?;
+    if byte == b'\r' {
+        buf.push(b'\0')?;
+    }
+    Ok(())
+}
