@@ -103,7 +103,7 @@ fn each_command_is_written_and_decoded(rt: HostRuntime) -> Result<(), Fail> {
     "#;
     for row in rows.trim().lines() {
         let Some((line, want)) = row.trim().split_once(" => ") else {
-            panic!(&rt; "no row: {row}");
+            panic!(rt; "no row: {row}");
         };
         let line = Vec::unescape_bytes(rt.alloc(), line)?;
         let want = Vec::unescape_bytes(rt.alloc(), want)?;
@@ -207,16 +207,15 @@ fn names_that_are_read_otherwise_have_no_line(rt: HostRuntime) -> Result<(), Fai
 
 #[test]
 fn verbs_are_told_as_they_stand(rt: HostRuntime) -> Result<(), Fail> {
-    let verbs = "ABOR ACCT ALLO APPE AUTH BYE CCC CDUP CWD DELE EPSV FEAT HELP LIST MDTM MKD MLSD MLST MODE NLST NOOP OPTS PASS \
+    let verbs =
+        "ABOR ACCT ALLO APPE AUTH BYE CCC CDUP CWD DELE EPSV FEAT HELP LIST MDTM MKD MLSD MLST MODE NLST NOOP OPTS PASS \
         PASV PBSZ PORT PROT PWD QUIT REST RETR RMD RNFR RNTO SITE SIZE STAT STOR STOU STRU SYST TYPE USER XCWD XMKD XPWD";
-    let mut count = 0usize;
     for verb in verbs.split(' ') {
-        assert!(&rt; is_verb(verb.as_bytes()), "at {verb}");
-        count += 1;
+        assert!(rt; is_verb(verb.as_bytes()), "at {verb}");
     }
-    assert_eq!(&rt; count, 46);
+    assert_eq!(rt; verbs.split(' ').count(), 46);
     for word in ["", "noop", "NOOp", "PW", "PWDX", "MD5", "ZZZ", "XRMD"] {
-        assert!(&rt; !is_verb(word.as_bytes()), "at {word}");
+        assert!(rt; !is_verb(word.as_bytes()), "at {word}");
     }
     Ok(())
 }
@@ -224,8 +223,8 @@ fn verbs_are_told_as_they_stand(rt: HostRuntime) -> Result<(), Fail> {
 #[test]
 fn errors_have_their_texts(rt: HostRuntime) -> Result<(), Fail> {
     let no_line = format!(in rt.alloc(); "{}", WriteCommandError::NoLine)?;
-    assert_eq!(&rt; no_line.as_str(), "no line gives this command");
+    assert_eq!(rt; no_line.as_str(), "no line gives this command");
     let out_of_memory = format!(in rt.alloc(); "{}", WriteCommandError::OutOfMemory)?;
-    assert_eq!(&rt; out_of_memory.as_str(), "out of memory");
+    assert_eq!(rt; out_of_memory.as_str(), "out of memory");
     Ok(())
 }
