@@ -1,5 +1,5 @@
 -- What the places of CR LF say, and the lines that a loop has passed.
-use Rattle.std.proofs.Common.{zero, Option, None, Some, IfSome, IfNone, slice_index, ◌≡◌, ◌≢◌, ℕ, suc, ◌+◌, ◌-◌, ◌<◌, List, [], ◌∷◌, ◌++◌, flat_map, length, get_or, take, drop, refl, sym, ap, subst, ◌∙◌, append_assoc, length-append, length-take-le, take-append-drop, take_at, drop-cons, arith}
+use Rattle.std.proofs.Common.{zero, Option, None, Some, IfSome, IfNone, MatchOption, Bor, slice_index, ◌≡◌, ◌≢◌, ℕ, suc, ◌+◌, ◌-◌, ◌<◌, List, [], ◌∷◌, ◌++◌, flat_map, length, get_or, take, drop, refl, sym, ap, subst, ◌∙◌, append_assoc, length-append, length-take-le, take-append-drop, take_at, drop-cons, arith}
 use Rattle.std.proofs.Math.Seq.{get_or-append_seam}
 use Rattle.std.proofs.lemmas.List.{get_or-append-add, get_or-take}
 use Rattle.std.proofs.lemmas.Grind.{flat_map-append}
@@ -111,11 +111,11 @@ lines_unique (k ∷ ks) (l ∷ ls) x y p q f g e =
     let more = lines_unique ks ls x y p.1 q.1 f g cut.1 in
     λ i. cut.0 i ∷ more i
 
--- behind the digits stands no space
-pub other_mark : (digits line rest : Bytes) (mark : ℕ) (text : Bytes) → line ≡ digits ++ rest → rest ≡ mark ∷ text → mark ≢ SP → GoesOn digits line
-other_mark digits line rest mark text e f no_space t h =
-    let same = (same_front digits digits (SP ∷ t) (mark ∷ text) refl (sym h ∙ e ∙ ap (λ r. digits ++ r) f)).1 in
-    no_space (cc)
+-- the text behind the digits and a space, or that there is none
+pub behind_digits : (digits line rest : Bytes) (r : Option (Bor Bytes)) → line ≡ digits ++ rest → MatchOption r ((text : Bytes) → rest ≢ SP ∷ text) (λ text. rest ≡ SP ∷ text.now)
+    → IfSome r (λ text. line ≡ digits ++ SP ∷ text.now) × IfNone r (GoesOn digits line)
+behind_digits digits line rest (Some text) e h = (e ∙ ap (λ r. digits ++ r) h, tt)
+behind_digits digits line rest None e h = (tt, λ text f. h text (same_front digits digits rest (SP ∷ text) refl (sym e ∙ f)).1)
 
 pub last_found : (digits bytes rest line after text middle : Bytes) → Passed digits bytes rest → rest ≡ line ++ CR ∷ LF ∷ after → LacksCrlf line → line ≡ digits ++ SP ∷ text
     → middle ≡ take (length bytes - length rest) bytes → EndsWith digits bytes middle text after

@@ -39,7 +39,8 @@ fn copy_several(
     middle: &[u8],
     last: &[u8],
 ) -> Result<Vec<Vec<u8>>, AllocError>
-    ensures { IfOk result (λ copied. (between : List Bytes) → AllByRecursion LacksCrlf between → middle.now ≡ flat_map with_crlf between → contents copied ≡ first.now ∷ (between ++ last.now ∷ [])) }
+    ensures { IfOk result (λ copied. (between : List Bytes) → AllByRecursion LacksCrlf between → middle.now ≡ flat_map with_crlf between
+        → contents copied ≡ first.now ∷ (between ++ last.now ∷ [])) }
 {
     let mut lines = copy_one(alloc, first)?;
     let mut rest = middle;

@@ -1,5 +1,5 @@
 //! Lines that end with CR LF.
-ghost use Rattle.std.specs.Prelude.{◌≡◌, ◌≢◌, ℕ, ◌+◌, ◌<◌, List, ◌∷◌, ◌++◌, length, slice_index, MatchOption, IfSome, IfNone};
+ghost use Rattle.std.specs.Prelude.{◌≡◌, ℕ, ◌+◌, ◌<◌, ◌∷◌, ◌++◌, length, slice_index, IfSome, IfNone};
 ghost use Rattle.unftp_control_defs.specs.Bytes.{CR, LF, SP};
 ghost use Rattle.unftp_control_defs.specs.ReplyReader.{LacksCrlf, GoesOn, IsUnended};
 ghost use Rattle.unftp_control_read.specs.Reading.{EndsWith};
@@ -8,9 +8,12 @@ use bstr::ByteSlice;
 
 /// The place of the first CR LF.
 pub(crate) fn crlf_place(bytes: &[u8]) -> Option<usize>
-    ensures found { IfSome result (λ at. (at + 1 < length bytes.now) × (slice_index bytes.now at ≡ CR) × (slice_index bytes.now (at + 1) ≡ LF)) }
-    ensures first { IfSome result (λ at. (k : ℕ) → k < at → slice_index bytes.now k ≡ CR → slice_index bytes.now (k + 1) ≡ LF → ⊥) }
-    ensures none { IfNone result ((k : ℕ) → k + 1 < length bytes.now → slice_index bytes.now k ≡ CR → slice_index bytes.now (k + 1) ≡ LF → ⊥) }
+    ensures found { IfSome result (λ at. (at + 1 < length bytes.now)
+        × (slice_index bytes.now at ≡ CR) × (slice_index bytes.now (at + 1) ≡ LF)) }
+    ensures first { IfSome result (λ at. (k : ℕ) → k < at
+        → slice_index bytes.now k ≡ CR → slice_index bytes.now (k + 1) ≡ LF → ⊥) }
+    ensures none { IfNone result ((k : ℕ) → k + 1 < length bytes.now
+        → slice_index bytes.now k ≡ CR → slice_index bytes.now (k + 1) ≡ LF → ⊥) }
 {
     bytes.find(b"\r\n")
 }
@@ -21,19 +24,10 @@ pub(crate) fn next_line(bytes: &[u8]) -> Option<(&[u8], &[u8])>
     ensures is_line { IfSome result (λ cut. LacksCrlf cut.0.now) }
     ensures none { IfNone result (LacksCrlf bytes.now) }
 {
-    let Some(at) = crlf_place(bytes) else {
-        return None;
-    };
+    let at = crlf_place(bytes)?;
     let (line, end) = bytes.split_at(at);
     let (_, rest) = end.split_at(2);
     Some((line, rest))
-}
-
-/// What stands behind the digits.
-fn behind<'a>(digits: &[u8], line: &'a [u8]) -> Option<&'a [u8]>
-    ensures { MatchOption result ((rest : List ℕ) → line.now ≢ digits.now ++ rest) (λ rest. line.now ≡ digits.now ++ rest.now) }
-{
-    line.strip_prefix(digits)
 }
 
 /// The text of a last line, which begins with the digits and a space.
@@ -41,13 +35,7 @@ pub(crate) fn last_text<'a>(digits: &[u8], line: &'a [u8]) -> Option<&'a [u8]>
     ensures found { IfSome result (λ text. line.now ≡ digits.now ++ SP ∷ text.now) }
     ensures none { IfNone result (GoesOn digits.now line.now) }
 {
-    let Some(rest) = behind(digits, line) else {
-        return None;
-    };
-    match rest.split_first() {
-        None => None,
-        Some((mark, text)) => { if *mark == b' ' { Some(text) } else { None } }
-    }
+    line.strip_prefix(digits)?.strip_prefix(b" ")
 }
 
 /// The last line of a reply of several, with the lines before it and what follows.

@@ -22,15 +22,9 @@ fn code_of(digits: &[u8]) -> Option<u16>
     if digits.len() != 3 {
         return None;
     }
-    let Some(hundreds) = digit_of(digits[0]) else {
-        return None;
-    };
-    let Some(tens) = digit_of(digits[1]) else {
-        return None;
-    };
-    let Some(units) = digit_of(digits[2]) else {
-        return None;
-    };
+    let hundreds = digit_of(digits[0])?;
+    let tens = digit_of(digits[1])?;
+    let units = digit_of(digits[2])?;
     Some(hundreds * 100 + tens * 10 + units)
 }
 
@@ -60,9 +54,7 @@ pub(crate) fn opening_of(line: &[u8]) -> Option<Opening<'_>>
         return None;
     }
     let (digits, behind) = line.split_at(3);
-    let Some(code) = code_of(digits) else {
-        return None;
-    };
+    let code = code_of(digits)?;
     let Some((mark, text)) = behind.split_first() else {
         let kind = Kind::One(behind);
         return Some(Opening { code, digits, kind });

@@ -1,6 +1,16 @@
-use Rattle.unftp_control_read.proofs.LineLemmas.{other_mark}
+use Rattle.std.proofs.Common.{None, Some, [], ◌∷◌}
+use Rattle.std.proofs.lemmas.Bool.Decides.{Decides-eqb}
+use Rattle.std.proofs.lemmas.Slice.Eq.{strip_prefix_is}
+use Rattle.unftp_control_defs.specs.Bytes.{SP}
+use Rattle.unftp_control_read.proofs.LineLemmas.{behind_digits}
 use Rattle.unftp_control_read.proofs.lines.last_text.Goals as goal
 
-pub returns-else-mark-eq32-clause-none : goal.returns-else-mark-eq32-clause-none
-returns-else-mark-eq32-clause-none c =
-    other_mark c.args.digits.now c.args.line.now c.in-Some.rest.now c.in-Some-split_first.mark.now c.in-Some-split_first.text.now c.in-Some.ensures c.in-Some-split_first.ensures.cases.0 c.if-mark-eq32.false
+pub returns-in_err-strip_prefix-clause-none : goal.returns-in_err-strip_prefix-clause-none
+returns-in_err-strip_prefix-clause-none c = rw c.from_residual.ensures (λ text. strip_prefix_is Decides-eqb c.args.line.now c.args.digits.now None c.in_err-strip_prefix.ensures.cases (SP ∷ text))
+
+pub returns : goal.returns
+returns c =
+    let first = strip_prefix_is Decides-eqb c.args.line.now c.args.digits.now (Some c.in_ok-strip_prefix.field-0) c.in_ok-strip_prefix.ensures.cases in
+    let second = strip_prefix_is Decides-eqb c.in_ok-strip_prefix.field-0.now (SP ∷ []) c.strip_prefix-2.result c.strip_prefix-2.ensures.cases in
+    let text = behind_digits c.args.digits.now c.args.line.now c.in_ok-strip_prefix.field-0.now c.strip_prefix-2.result first second in
+    record { found = text.0; none = text.1 }

@@ -1,6 +1,0 @@
-use Rattle.std.proofs.lemmas.Slice.Eq.{strip_prefix_is}
-use Rattle.std.proofs.lemmas.Bool.Decides.{Decides-eqb}
-use Rattle.unftp_control_read.proofs.lines.behind.Goals as goal
-
-pub returns : goal.returns
-returns c = strip_prefix_is Decides-eqb c.args.line.now c.args.digits.now c.strip_prefix.result c.strip_prefix.ensures.cases
