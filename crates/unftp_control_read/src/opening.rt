@@ -19,13 +19,10 @@ fn code_of(digits: &[u8]) -> Option<u16>
     ensures some { IfSome result (λ code. SpellsCode digits.now code) }
     ensures none { IfNone result ((code : ℕ) → ¬ SpellsCode digits.now code) }
 {
-    if digits.len() != 3 {
+    let [hundreds, tens, units] = digits else {
         return None;
-    }
-    let hundreds = digit_of(digits[0])?;
-    let tens = digit_of(digits[1])?;
-    let units = digit_of(digits[2])?;
-    Some(hundreds * 100 + tens * 10 + units)
+    };
+    Some(digit_of(*hundreds)? * 100 + digit_of(*tens)? * 10 + digit_of(*units)?)
 }
 
 /// What stands behind the code: the one text, after a space or empty behind the code alone, or the first of several after a dash.
@@ -50,22 +47,13 @@ pub(crate) fn opening_of(line: &[u8]) -> Option<Opening<'_>>
     ensures some { IfSome result (λ opening. IsOpening line.now opening.code opening.digits.now opening.kind) }
     ensures none { IfNone result (¬ Opens line.now) }
 {
-    if line.len() < 3 {
-        return None;
-    }
-    let (digits, behind) = line.split_at(3);
+    let (digits, behind) = line.split_at_checked(3)?;
     let code = code_of(digits)?;
-    let Some((mark, text)) = behind.split_first() else {
-        let kind = Kind::One(behind);
-        return Some(Opening { code, digits, kind });
+    let kind = match behind {
+        [] => Kind::One(behind),
+        [b' ', text @ ..] => Kind::One(text),
+        [b'-', text @ ..] => Kind::Several(text),
+        _ => return None,
     };
-    if *mark == b' ' {
-        let kind = Kind::One(text);
-        return Some(Opening { code, digits, kind });
-    }
-    if *mark == b'-' {
-        let kind = Kind::Several(text);
-        return Some(Opening { code, digits, kind });
-    }
-    None
+    Some(Opening { code, digits, kind })
 }
