@@ -67,6 +67,7 @@ impl Store {
     pub(crate) fn put(&mut self, piece: &[u8]) -> Result<(), AllocError>
         ensures bytes { OnOk result (self.new.bytes ≡ self.old.bytes ++ piece.now) }
         ensures ahead { OnOk result (self.new.ahead ≡ self.old.ahead + length piece.now) }
+        ensures err { OnErr result (self.new ≡ self.old) }
         ensures tests { self.new.tests ≡ self.old.tests }
     {
         self.buf.extend_from_slice(piece)
