@@ -1,10 +1,10 @@
-//! The loop at a handler and a writer.
+//! The loop at a handler and a writer, and a proxy's lines.
 ghost use Rattle.std.specs.Prelude.{◌≡◌};
 ghost use Rattle.unftp_control.specs.Events.{OutOfMemory};
 ghost use Rattle.unftp_control.specs.FtpReply.{CodeAndMsg};
 ghost use Rattle.std.specs.Prelude.{codes};
 
-use crate::answer_pieces;
+use crate::{HandOnError, answer_pieces, hand_on};
 use std::alloc::Global;
 use std::test::Fail;
 use unftp_control::error::ControlChanError;
@@ -52,6 +52,25 @@ fn lines_in_pieces_are_answered(rt: HostRuntime) -> Result<(), Fail> {
     assert_eq!(rt;
         output.into_inner().as_slice(),
         b"200 OK\r\n200 OK\r\n".as_slice()
+    );
+    Ok(())
+}
+
+#[test]
+fn lines_are_handed_on_in_one_form(rt: HostRuntime) -> Result<(), Fail> {
+    let mut out = Vec::new(rt.alloc());
+    for line in [
+        b"retr a b\n".as_slice(),
+        b"list -la -- -x\r\n".as_slice(),
+        b"xpwd\n".as_slice(),
+    ] {
+        assert!(rt; hand_on(rt.alloc(), line, &mut out).is_ok());
+    }
+    let refused = hand_on(rt.alloc(), b"RETR\r\n", &mut out);
+    assert!(rt; matches!(refused, Err(HandOnError::Refused(_))));
+    assert_eq!(rt;
+        out.as_slice(),
+        b"RETR a b\r\nLIST -- -x\r\nPWD\r\n".as_slice()
     );
     Ok(())
 }

@@ -13,7 +13,7 @@ pub use unftp_control_line_parser as line_parser;
 pub use unftp_control_read as read;
 pub use unftp_control_reply as reply;
 pub use unftp_control_serve as serve;
-pub use unftp_control_write as write;
+pub use unftp_control_write as writing;
 
 #[cfg(test)]
 mod tests;

@@ -1,6 +1,5 @@
 //! Which commands have a line, and its parts.
-ghost use Rattle.std.specs.Prelude.{◌≡◌, ◌↔◌, ◌∷◌, ◌++◌, ⊤, IsTrue, codes, decimal, option_map, string_bytes};
-ghost use Rattle.std.specs.List.{list_all, list_any};
+ghost use Rattle.std.specs.Prelude.{◌≡◌, ◌↔◌, ◌∷◌, ◌++◌, ⊤, IsTrue, decimal, option_map, string_bytes};
 ghost use Rattle.unftp_control_command.specs.CommandMeaning.{command_of};
 ghost use Rattle.unftp_control_defs.specs.Bytes.{LF, Lacks, SP};
 ghost use Rattle.unftp_control_defs.specs.Canonical.{IsGiven, IsName, IsNamed, IsOptional, bare_or_spaced, canonical_body, spaced, with_optional};

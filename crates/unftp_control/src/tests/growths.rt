@@ -4,7 +4,7 @@ use crate::codecs::FtpCodec;
 use crate::command::Command;
 use crate::error::{ControlChanError, ControlChanErrorKind};
 use crate::reply::{Reply, ReplyCode};
-use crate::write::{WriteCommandError, write_command};
+use crate::writing::{WriteCommandError, write_command};
 use std::alloc::Global;
 use std::process::Abort;
 use std::test::Fail;
