@@ -2,6 +2,8 @@
 use crate::responses::Responses;
 use crate::tests::handlers::{Counting, Recorder};
 use crate::tests::streams::{Pieces, Room};
+use std::alloc::{AllocError, Global};
+use std::io::ErrorKind;
 use std::test::Fail;
 use unftp_control::command::Command;
 use unftp_control::error::ControlChanErrorKind;
@@ -128,16 +130,28 @@ fn the_lines_before_a_failure_are_answered(rt: HostRuntime) -> Result<(), Fail> 
     Ok(())
 }
 
+/// What the error prints.
+fn text_of(alloc: Global, error: ServeError) -> Result<String, AllocError> {
+    let text = format!(in alloc; "{error}");
+    drop(error);
+    text
+}
+
 #[test]
 fn errors_of_serving_tell_their_texts(rt: HostRuntime) -> Result<(), Fail> {
+    let read = ErrorKind::UnexpectedEof.into();
+    let written = ErrorKind::BrokenPipe.into();
+    let handled = ControlChanErrorKind::IllegalState.into();
     for (error, want) in [
+        (ServeError::Read(read), "reading failed"),
+        (ServeError::Write(written), "writing failed"),
         (ServeError::WriteZero, "the writer took nothing"),
+        (ServeError::Handler(handled), "the handler failed"),
         (ServeError::OutOfMemory, "out of memory"),
         (ServeError::Stopped, "the engine has stopped"),
         (ServeError::TooManyReads, "too many reads"),
     ] {
-        let text = format!(in rt.alloc(); "{error}")?;
-        assert_eq!(rt; text.as_str(), want);
+        assert_eq!(rt; text_of(rt.alloc(), error)?.as_str(), want);
     }
     Ok(())
 }
