@@ -20,7 +20,9 @@ fn assert_written(
     let written = write_command(&command, &mut buf);
     drop(command);
     assert!(rt; written.is_ok());
-    assert_eq!(rt; buf.as_slice().split_at(1), (b"x".as_slice(), want));
+    let mut whole = Vec::from_slice(alloc, b"x")?;
+    whole.extend_from_slice(want)?;
+    assert_eq!(rt; buf.as_slice(), whole.as_slice());
     Ok(())
 }
 
