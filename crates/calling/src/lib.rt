@@ -45,16 +45,15 @@ pub enum HandOnError {
     /// It is no command, or memory was refused for the command.
     #[error("{0}")]
     Refused(ParseError),
-    /// Memory was refused for the line that is handed on.
-    #[error("out of memory")]
-    OutOfMemory,
+    /// What it says has no line, which is so for no line that its one line feed ends; or memory was refused for the line.
+    #[error("{0}")]
+    Unwritten(WriteCommandError),
 }
 
 /// Hands a client's line on: appends a line that means the same, in its canonical form.
 pub fn hand_on(alloc: Global, line: &[u8], out: &mut Vec<u8>) -> Result<(), HandOnError>
-    requires { IsLine line.now }
     ensures same { OnOk result ((sent : Bytes) × IsLine sent × (outcome sent ≡ outcome line.now) × (out.new.items ≡ out.old.items ++ sent)) }
-    ensures why { IfErr result (λ error. TellsWhy (outcome line.now) error) }
+    ensures why { IfErr result (λ error. TellsWhy line.now error) }
     ensures err { OnErr result (out.new.items ≡ out.old.items) }
 {
     let command = match parse(alloc, line) {
@@ -65,10 +64,6 @@ pub fn hand_on(alloc: Global, line: &[u8], out: &mut Vec<u8>) -> Result<(), Hand
     drop(command);
     match written {
         Ok(()) => Ok(()),
-        Err(refused) => {
-            // a command that a line gave has a line
-            prove!(matches!(refused, WriteCommandError::OutOfMemory));
-            Err(HandOnError::OutOfMemory)
-        }
+        Err(refused) => Err(HandOnError::Unwritten(refused)),
     }
 }
