@@ -52,7 +52,8 @@ pub enum HandOnError {
 
 /// Hands a client's line on: appends a line that means the same, in its canonical form.
 pub fn hand_on(alloc: Global, line: &[u8], out: &mut Vec<u8>) -> Result<(), HandOnError>
-    ensures same { OnOk result ((sent : Bytes) × IsLine sent × (outcome sent ≡ outcome line.now) × (out.new.items ≡ out.old.items ++ sent)) }
+    ensures same { OnOk result ((sent : Bytes) × IsLine sent
+        × (outcome sent ≡ outcome line.now) × (out.new.items ≡ out.old.items ++ sent)) }
     ensures why { IfErr result (λ error. TellsWhy line.now error) }
     ensures err { OnErr result (out.new.items ≡ out.old.items) }
 {

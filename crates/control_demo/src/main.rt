@@ -1,7 +1,7 @@
 //! Serves one control connection over standard input and output: each line is answered when it has come whole.
 #![tactic(auto)]
 
-ghost use Rattle.std.specs.Prelude.{◌≡◌, IfSome, OnOk};
+ghost use Rattle.std.specs.Prelude.{IfSome, OnOk};
 ghost use Rattle.std.specs.Io.KnownBytes.{Appends};
 ghost use Rattle.unftp_control.specs.Run.{text_for};
 ghost use Rattle.control_demo.specs.Responses.{program_law};

@@ -1,5 +1,5 @@
 //! The bytes of replies.
-ghost use Rattle.std.specs.Prelude.{◌≡◌, ◌==◌, ◌∷◌, ◌++◌, take, length, map, flat_map, vec_len, decimal, string_bytes, IsOk, OnOk, if◌then◌else◌};
+ghost use Rattle.std.specs.Prelude.{◌≡◌, ◌==◌, ◌++◌, take, length, map, flat_map, vec_len, decimal, string_bytes, IsOk, OnOk, if◌then◌else◌};
 ghost use Rattle.unftp_control_defs.specs.Bytes.{crlf};
 ghost use Rattle.unftp_control_defs.specs.FtpReply.{Nothing, MultiLine, encoded, after_space};
 ghost use Rattle.unftp_control_reply.specs.ReplyMeaning.{number_of, reply_of};

@@ -80,7 +80,8 @@ impl FtpCodec {
         requires { self.old.place ≤ vec_len buf.old }
         ensures decodes { Decodes self.old self.new buf.old.items buf.new.items result }
         ensures within { self.new.place ≤ vec_len buf.new }
-        ensures counted { ¬ IsStarved result → self.new.tests + self.old.place + vec_len buf.new ≡ self.old.tests + self.new.place + vec_len buf.old }
+        ensures counted { ¬ IsStarved result
+            → self.new.tests + self.old.place + vec_len buf.new ≡ self.old.tests + self.new.place + vec_len buf.old }
     {
         let mut scan = Scan::over(buf.as_slice(), &mut self.tests);
         let Some(end) = scan.find_line_feed(self.place) else {

@@ -40,7 +40,8 @@ impl Auth {
         alloc: Global,
         tls_configured: bool,
     ) -> Result<(Reply, SessionChange), ControlChanError>
-        ensures ok { IfOk result (λ answer. (reply_of answer.0 ≡ auth_reply tls_configured self.now) × (answer.1 ≡ auth_change tls_configured self.now)) }
+        ensures ok { IfOk result (λ answer. (reply_of answer.0 ≡ auth_reply tls_configured self.now)
+            × (answer.1 ≡ auth_change tls_configured self.now)) }
         ensures err { IfErr result (λ error. fault_of error ≡ out_of_memory) }
     {
         let (code, text, change) = match (tls_configured, &self.protocol) {

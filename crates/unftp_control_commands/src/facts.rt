@@ -1,6 +1,5 @@
 //! The facts of a file (RFC 3659, section 7.5).
-ghost use Rattle.std.specs.Prelude.{◌≡◌, ◌<◌, ◌++◌, ℕ, Bool, Option, IfOk, IfErr, OnOk, string_bytes, option_map};
-ghost use Rattle.jiff_core.specs.declared.timestamp.Timestamp.{Timestamp as Instant};
+ghost use Rattle.std.specs.Prelude.{◌≡◌, ◌<◌, ◌++◌, Option, IfOk, IfErr, OnOk, string_bytes, option_map};
 ghost use Rattle.unftp_control_defs.specs.Bytes.{Bytes};
 ghost use Rattle.unftp_control_defs.specs.Events.{out_of_memory};
 ghost use Rattle.unftp_control_error.specs.ErrorMeaning.{fault_of};

@@ -42,7 +42,8 @@ fn feature_lines(
     restart: bool,
     site_md5: bool,
 ) -> Result<Vec<String>, AllocError>
-    ensures { IfOk result (λ lines. map string_bytes lines.items ≡ codes "Extensions supported:" ∷ features tls restart site_md5 ++ codes "END" ∷ []) }
+    ensures { IfOk result (λ lines. map string_bytes lines.items
+        ≡ codes "Extensions supported:" ∷ features tls restart site_md5 ++ codes "END" ∷ []) }
 {
     let mut lines = Vec::with_capacity(alloc, 13)?;
     append_when(&mut lines, true, &["Extensions supported:"])?;
@@ -57,7 +58,8 @@ fn feature_lines(
 
 /// Appends these lines where they are on.
 fn append_when(lines: &mut Vec<String>, is_on: bool, more: &[&str]) -> Result<(), AllocError>
-    ensures { OnOk result (map string_bytes lines.new.items ≡ map string_bytes lines.old.items ++ when is_on (map (λ line. line.now) more.now)) }
+    ensures { OnOk result (map string_bytes lines.new.items
+        ≡ map string_bytes lines.old.items ++ when is_on (map (λ line. line.now) more.now)) }
 {
     if is_on {
         append_lines(lines, more)?;

@@ -41,7 +41,8 @@ impl Prot {
         alloc: Global,
         tls_configured: bool,
     ) -> Result<(Reply, SessionChange), ControlChanError>
-        ensures ok { IfOk result (λ answer. (reply_of answer.0 ≡ prot_reply tls_configured self.now) × (answer.1 ≡ prot_change tls_configured self.now)) }
+        ensures ok { IfOk result (λ answer. (reply_of answer.0 ≡ prot_reply tls_configured self.now)
+            × (answer.1 ≡ prot_change tls_configured self.now)) }
         ensures err { IfErr result (λ error. fault_of error ≡ out_of_memory) }
     {
         let (code, text, change) = match (tls_configured, &self.param) {

@@ -2,7 +2,7 @@
 ghost use Rattle.std.specs.Prelude.{◌≡◌, ◌++◌, [], ◌∷◌, Option, Some, None, Ok, Err, codes};
 ghost use Rattle.unftp_control_defs.specs.Bytes.{Bytes};
 ghost use Rattle.unftp_control_defs.specs.Canonical.{canonical_line, IsGiven};
-ghost use Rattle.unftp_control_defs.specs.FtpCommand.{User, Stat, Retr, Nlst, Auth, Rest, Md5, Site, Other, List as Listing, InvalidCommand, InvalidUtf8, InvalidEol};
+ghost use Rattle.unftp_control_defs.specs.FtpCommand.{User, Stat, Retr, Nlst, Rest, Md5, Site, Other, List as Listing, InvalidCommand, InvalidUtf8, InvalidEol};
 ghost use Rattle.unftp_control_defs.specs.FtpReply.{encoded, CodeAndMsg, MultiLine};
 ghost use Rattle.unftp_control_defs.specs.Lines.{lines_of, rest_of};
 ghost use Rattle.unftp_control_defs.specs.Outcome.{outcome};

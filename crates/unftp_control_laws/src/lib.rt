@@ -24,7 +24,8 @@ pub mod examples;
 /// An input has one list of lines and one rest, `lines_of` and `rest_of` (RFC 959, section 5.3).
 pub fn one_list_of_lines()
     ensures computed { (input : Bytes) → Lines input (lines_of input) (rest_of input) }
-    ensures only { (input : Bytes) (lines : List Bytes) (rest : Bytes) → Lines input lines rest → (lines ≡ lines_of input) × (rest ≡ rest_of input) }
+    ensures only { (input : Bytes) (lines : List Bytes) (rest : Bytes) → Lines input lines rest
+        → (lines ≡ lines_of input) × (rest ≡ rest_of input) }
 {}
 
 /// A line has one verb and one parameter, `verb_of` and `parameter_of` (RFC 959, section 5.3).
@@ -88,7 +89,8 @@ pub fn any_cutting()
 
 /// Step by step from an empty buffer, a codec tests as many bytes as leave it and its place moves by, so at most those put in.
 pub fn tests_add_up()
-    ensures told { (steps : List Step) → AreSteps 0 0 steps → sum_by (λ step. step.tests) steps ≡ sum_by (λ step. step.removed) steps + last_place 0 steps }
+    ensures told { (steps : List Step) → AreSteps 0 0 steps
+        → sum_by (λ step. step.tests) steps ≡ sum_by (λ step. step.removed) steps + last_place 0 steps }
     ensures bound { (steps : List Step) → AreSteps 0 0 steps → sum_by (λ step. step.tests) steps ≤ sum_by (λ step. step.added) steps }
 {}
 
@@ -103,9 +105,11 @@ pub fn one_reading()
 
 /// At most one reply stands in front of the bytes, with one code, one list of lines and one length, which is within them.
 pub fn one_front()
-    ensures only { (bytes : Bytes) (code other : ℕ) (lines others : List Bytes) (used taken : ℕ) → FrontReply bytes code lines used → FrontReply bytes other others taken
+    ensures only { (bytes : Bytes) (code other : ℕ) (lines others : List Bytes) (used taken : ℕ)
+        → FrontReply bytes code lines used → FrontReply bytes other others taken
         → (code ≡ other) × (lines ≡ others) × (used ≡ taken) }
-    ensures within { (bytes : Bytes) (code : ℕ) (lines : List Bytes) (used : ℕ) → FrontReply bytes code lines used → (0 < used) × (used ≤ length bytes) }
+    ensures within { (bytes : Bytes) (code : ℕ) (lines : List Bytes) (used : ℕ) → FrontReply bytes code lines used
+        → (0 < used) × (used ≤ length bytes) }
 {}
 
 /// The bytes of plain replies are read back as what they show, and as nothing else, whatever follows (RFC 959, section 4.2).

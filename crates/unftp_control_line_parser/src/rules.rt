@@ -1,5 +1,5 @@
 //! What each verb makes of its parameter.
-ghost use Rattle.std.specs.Prelude.{◌≡◌, ◌≤◌, length, drop, codes, string_bytes, bytes_eq, IfOk, IfErr, false};
+ghost use Rattle.std.specs.Prelude.{◌≡◌, ◌≤◌, length, drop, codes, string_bytes, bytes_eq, IfOk, false};
 ghost use Rattle.unftp_control_defs.specs.Verbs.{upper};
 ghost use Rattle.unftp_control_defs.specs.Values.{value_of};
 ghost use Rattle.unftp_control_defs.specs.FtpCommand.{Other};

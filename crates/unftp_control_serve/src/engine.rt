@@ -163,7 +163,8 @@ impl Engine {
             (text_of H.law (H.state handler.old) (events_with self.old piece.now))) }
         ensures flushed { IsGoing self.old → OnOk result (Flushed (text_of H.law (H.state handler.old) (events_with self.old piece.now)) []
             output.old.unflushed output.new.unflushed) }
-        ensures leaves { IsGoing self.old → OnOk result (Leaves H.law self.old piece.now (H.state handler.old) (H.state handler.new) self.new) }
+        ensures leaves { IsGoing self.old
+            → OnOk result (Leaves H.law self.old piece.now (H.state handler.old) (H.state handler.new) self.new) }
         ensures quiet { OnOk result ((output.new.failures ≡ output.old.failures) × (H.failures handler.new ≡ H.failures handler.old)) }
         ensures write { OnWrite result (WriteFailed H.law
             (moment_of H.state H.failures W.contents handler.old output.old)

@@ -1,8 +1,7 @@
 //! Other handlers.
 ghost use Rattle.std.specs.Prelude.{◌≡◌, ◌⊎◌, codes};
-ghost use Rattle.unftp_control.specs.Events.{FaultKind, IllegalState, OutOfMemory};
-ghost use Rattle.unftp_control.specs.FtpReply.{FtpReply, CodeAndMsg, Nothing};
-ghost use Rattle.unftp_control.specs.Run.{Law};
+ghost use Rattle.unftp_control.specs.Events.{IllegalState, OutOfMemory};
+ghost use Rattle.unftp_control.specs.FtpReply.{CodeAndMsg, Nothing};
 
 use std::alloc::Global;
 use unftp_control::error::{ControlChanError, ControlChanErrorKind};
@@ -32,7 +31,11 @@ impl Handler for Counting {
 
     ghost state = { λ _. tt };
 
-    ghost law = { record { says = λ _ _. CodeAndMsg 200 (codes "OK"); next = λ s _. s; may_fail = λ _ _ kind. (kind ≡ IllegalState) ⊎ (kind ≡ OutOfMemory) } };
+    ghost law = { record {
+      says = λ _ _. CodeAndMsg 200 (codes "OK");
+      next = λ s _. s;
+      may_fail = λ _ _ kind. (kind ≡ IllegalState) ⊎ (kind ≡ OutOfMemory);
+    } };
 
     ghost failures = { λ counting. counting.failures };
 

@@ -1,5 +1,5 @@
 //! Readers that give pieces and writers with little room, which fail when they are told to.
-ghost use Rattle.std.specs.Prelude.{◌≡◌, Some};
+ghost use Rattle.std.specs.Prelude.{Some};
 
 use std::alloc::Global;
 use std::io;

@@ -11,12 +11,12 @@ use std::test::Fail;
 
 /// A file of which this is known.
 #[derive(Drop)]
-struct File {
-    is_dir: bool,
-    size: u64,
-    modified: Option<Timestamp>,
-    uid: u32,
-    gid: u32,
+pub(crate) struct File {
+    pub(crate) is_dir: bool,
+    pub(crate) size: u64,
+    pub(crate) modified: Option<Timestamp>,
+    pub(crate) uid: u32,
+    pub(crate) gid: u32,
 }
 
 impl Metadata for File {

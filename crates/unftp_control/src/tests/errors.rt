@@ -27,7 +27,8 @@ fn pass_on_io(failed: Result<(), io::Error>) -> Result<(), ControlChanError>
 
 /// What a caller knows of bytes that are not UTF-8.
 fn pass_on_utf8(ill_formed: Result<(), Utf8Error>) -> Result<(), ControlChanError>
-    ensures { IfErr ill_formed (λ utf8. IfErr result (λ error. (error.kind ≡ ControlChanErrorKind.Utf8Error) × (error.source ≡ Source.Utf8 utf8))) }
+    ensures { IfErr ill_formed (λ utf8. IfErr result (λ error.
+        (error.kind ≡ ControlChanErrorKind.Utf8Error) × (error.source ≡ Source.Utf8 utf8))) }
 {
     Ok(ill_formed?)
 }

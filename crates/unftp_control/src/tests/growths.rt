@@ -2,9 +2,16 @@
 //! there is nothing to judge; where the call is, all is as before, and the call with memory succeeds.
 use crate::codecs::FtpCodec;
 use crate::command::Command;
+use crate::commands::{
+    Auth, AuthParam, Epsv, Feat, Help, Mlst, Mode, ModeParam, Opt, Opts, Passive, Prot, ProtParam,
+    Stru, StruParam,
+};
 use crate::error::{ControlChanError, ControlChanErrorKind};
+use crate::read::{Front, ReadReplyError, read_reply};
 use crate::reply::{Reply, ReplyCode};
+use crate::tests::commands::File;
 use crate::writing::{WriteCommandError, write_command};
+use jiff::Timestamp;
 use std::alloc::Global;
 use std::process::Abort;
 use std::test::Fail;
@@ -195,4 +202,49 @@ fn a_line_refused_memory_leaves_the_buffer(rt: HostRuntime) -> Result<(), Fail> 
     let outcome = assert_line(&rt, &command, &mut buf, b"xSITE CHMOD 644 a\r\0\r\n");
     drop(command);
     outcome
+}
+
+#[test]
+fn a_reply_refused_memory_is_read_anew(rt: HostRuntime) -> Result<(), Fail> {
+    let bytes = b"211-a\r\n 1b\r\n211 2c\r\n";
+    let front = match read_reply(rt.alloc(), bytes) {
+        Ok(front) => front,
+        Err(refused) => {
+            assert!(rt; matches!(refused, ReadReplyError::OutOfMemory));
+            read_reply(rt.alloc(), bytes)?
+        }
+    };
+    assert!(rt; front != Front::Partial);
+    Ok(())
+}
+
+/// The replies to the nine commands that are answered here, with the facts of the file.
+fn all_replies(alloc: Global, file: &File) -> Result<(), ControlChanError> {
+    Auth::new(AuthParam::Tls).reply(alloc, true)?;
+    Prot::new(ProtParam::Private).reply(alloc, true)?;
+    Epsv::new().reply(alloc, Passive::Port(2121))?;
+    Feat.reply(alloc, true, true, true)?;
+    Help.reply(alloc)?;
+    Mode::new(ModeParam::Stream).reply(alloc)?;
+    Opts::new(Opt::Utf8 { on: true }).reply(alloc)?;
+    Stru::new(StruParam::File).reply(alloc)?;
+    Mlst::new(None).reply(alloc, "/", Ok(file))?;
+    Ok(())
+}
+
+#[test]
+fn replies_to_commands_are_made_anew(rt: HostRuntime) -> Result<(), Fail> {
+    let file = File {
+        is_dir: false,
+        size: 1234,
+        modified: Some(Timestamp::from_second(1_701_432_000)?),
+        uid: 0,
+        gid: 0,
+    };
+    if let Err(refused) = all_replies(rt.alloc(), &file) {
+        assert_starved(&rt, &refused);
+        drop(refused);
+        all_replies(rt.alloc(), &file)?;
+    }
+    Ok(())
 }
