@@ -1,5 +1,5 @@
 -- What verbs make of a value without LF are sound commands: given, and with fields of their types.
-use Rattle.std.proofs.Common.{◌≡◌, ◌≢◌, ℕ, Bool, true, false, cond, ◌==◌, nat_lt, ◌&&◌, ◌^◌, List, [], ◌∷◌, length, Option, Some, None, option_map, Ok, Err, bytes_eq, refl, sym, ap, subst, ◌∙◌, codes}
+use Rattle.std.proofs.Common.{◌≡◌, ◌≢◌, ℕ, Bool, true, false, cond, ◌==◌, nat_lt, ◌&&◌, ◌^◌, List, [], ◌∷◌, length, Option, Some, None, option_map, Ok, Err, bytes_eq, refl, sym, ap, subst, ◌∙◌}
 use Rattle.std.specs.List.{AllByRecursion}
 use Rattle.std.specs.Str.{IsUtf8, is_utf8, all_ascii_digits}
 use Rattle.std.specs.Str.Lossy.{utf8_lossy}
@@ -8,10 +8,9 @@ use Rattle.std.proofs.lemmas.Bool.{ltb-true, and_parts}
 use Rattle.unftp_control_defs.specs.Bytes.{Bytes, LF, Lacks}
 use Rattle.unftp_control_defs.specs.Paths.{path_of}
 use Rattle.unftp_control_defs.specs.Verbs.{upper}
-use Rattle.unftp_control_defs.specs.FtpCommand.{FtpCommand, Stat, List as Listing, Auth, Rest, Answer, Refusal, InvalidCommand, InvalidUtf8, IsMaybeUtf8, IsReal}
-use Rattle.unftp_control_defs.specs.Rules.{raw, alone, any_text, some_text, maybe_text, unless_empty, chosen, auth, offset, listing}
+use Rattle.unftp_control_defs.specs.FtpCommand.{FtpCommand, Stat, List as Listing, Rest, Answer, Refusal, InvalidCommand, InvalidUtf8, IsMaybeUtf8, IsReal}
+use Rattle.unftp_control_defs.specs.Rules.{raw, alone, any_text, some_text, maybe_text, unless_empty, chosen, mechanisms, auth, offset, listing}
 use Rattle.unftp_control_defs.specs.Canonical.{IsGiven, IsNamed, IsOptional}
-use Rattle.unftp_control_defs.specs.declared.parameters.AuthParam.TheVariants.{Ssl, Tls}
 use Rattle.unftp_control_defs.proofs.LackLaws.{Lacks-utf8_lossy, Lacks-path_of}
 use Rattle.unftp_control_defs.proofs.LossyLaws.{IsUtf8-utf8_lossy, kept-utf8_lossy, IsUtf8-path_of}
 use Rattle.unftp_control_defs.proofs.ReadBackLaws.{some_text-some, unless_empty-some}
@@ -83,9 +82,6 @@ any_chosen (row ∷ rows) each v told e = chosen_step (bytes_eq row.0 v) row.1 t
 
 pub chosen_gives : (rows : List (Bytes × FtpCommand)) → AllByRecursion (λ row. IsSound row.1) rows → Gives (chosen rows)
 chosen_gives rows each v told h e = any_chosen rows each v told e
-
-abbrev mechanisms : List (Bytes × FtpCommand)
-mechanisms = (codes "TLS", Auth Tls) ∷ (codes "SSL", Auth Ssl) ∷ []
 
 pub auth_gives : Gives auth
 auth_gives v told h e =

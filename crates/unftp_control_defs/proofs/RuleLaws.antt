@@ -1,16 +1,12 @@
 -- The rule of each verb gives sound commands, of a value without LF.
-use Rattle.std.proofs.Common.{◌≡◌, true, false, Bool, cond, List, [], ◌∷◌, Option, Some, None, option_map, unwrap_or, find, bytes_eq, refl, subst, codes}
+use Rattle.std.proofs.Common.{◌≡◌, true, false, Bool, cond, List, [], ◌∷◌, Option, Some, None, option_map, unwrap_or, find, bytes_eq, refl, subst}
 use Rattle.std.specs.Bool.{⊤}
 use Rattle.std.specs.List.{AllByRecursion}
 use Rattle.std.specs.Str.{IsUtf8}
 use Rattle.unftp_control_defs.specs.Bytes.{Bytes}
-use Rattle.unftp_control_defs.specs.FtpCommand.{User, Pass, Acct, Stru, Mode, Noop, Pasv, Port, Retr, Stor, Appe, Nlst, Mlst, Mlsd, Feat, Pwd, Cwd, Cdup, Opts, Dele, Rmd, Quit, Mkd, Abor, Stou, Rnfr, Rnto, Ccc, Pbsz, Prot, Size, Mdtm, Other}
-use Rattle.unftp_control_defs.specs.Rules.{Rule, Ignores, Takes, Cuts, any_text, row_of, verbs, rule_of}
+use Rattle.unftp_control_defs.specs.FtpCommand.{User, Pass, Acct, Noop, Pasv, Port, Retr, Stor, Appe, Nlst, Mlst, Mlsd, Feat, Pwd, Cwd, Cdup, Dele, Rmd, Quit, Mkd, Abor, Stou, Rnfr, Rnto, Ccc, Size, Mdtm, Other}
+use Rattle.unftp_control_defs.specs.Rules.{structures, modes, protections, options, buffer_sizes, Rule, Ignores, Takes, Cuts, any_text, row_of, verbs, rule_of}
 use Rattle.unftp_control_defs.specs.Canonical.{IsName}
-use Rattle.unftp_control_defs.specs.declared.parameters.ModeParam.TheVariants.{Stream, Block, Compressed}
-use Rattle.unftp_control_defs.specs.declared.parameters.Opt.TheVariants.{Utf8}
-use Rattle.unftp_control_defs.specs.declared.parameters.ProtParam.TheVariants.{Clear, Safe, Confidential, Private}
-use Rattle.unftp_control_defs.specs.declared.parameters.StruParam.TheVariants.{File, Record, Page}
 use Rattle.unftp_control_defs.proofs.AnswerLaws.{IsSound, Gives, raw_gives, any_gives, alone_gives, some_gives, maybe_gives, chosen_gives, auth_gives, offset_gives, stat_gives, list_gives}
 
 -- of SITE its names decide
@@ -36,9 +32,9 @@ all_rules =
     & (tt, tt)
     & (tt, tt)
     & (tt, tt)
-    & chosen_gives ((codes "F", Stru File) ∷ (codes "R", Stru Record) ∷ (codes "P", Stru Page) ∷ []) ((tt, tt), ((tt, tt), ((tt, tt), tt)))
-    & chosen_gives ((codes "S", Mode Stream) ∷ (codes "B", Mode Block) ∷ (codes "C", Mode Compressed) ∷ []) ((tt, tt), ((tt, tt), ((tt, tt), tt)))
-    & chosen_gives ((codes "C", Prot Clear) ∷ (codes "S", Prot Safe) ∷ (codes "E", Prot Confidential) ∷ (codes "P", Prot Private) ∷ []) ((tt, tt), ((tt, tt), ((tt, tt), ((tt, tt), tt))))
+    & chosen_gives structures ((tt, tt), ((tt, tt), ((tt, tt), tt)))
+    & chosen_gives modes ((tt, tt), ((tt, tt), ((tt, tt), tt)))
+    & chosen_gives protections ((tt, tt), ((tt, tt), ((tt, tt), ((tt, tt), tt))))
     & alone_gives Noop (tt, tt)
     & alone_gives Pasv (tt, tt)
     & alone_gives Feat (tt, tt)
@@ -68,9 +64,9 @@ all_rules =
     & maybe_gives Mlst (λ path optional utf8. (optional, utf8))
     & maybe_gives Mlsd (λ path optional utf8. (optional, utf8))
     & list_gives
-    & chosen_gives ((codes "UTF8 ON", Opts (Utf8 true)) ∷ (codes "utf8 on", Opts (Utf8 true)) ∷ (codes "UTF8 OFF", Opts (Utf8 false)) ∷ (codes "utf8 off", Opts (Utf8 false)) ∷ []) ((tt, tt), ((tt, tt), ((tt, tt), ((tt, tt), tt))))
+    & chosen_gives options ((tt, tt), ((tt, tt), ((tt, tt), ((tt, tt), tt))))
     & auth_gives
-    & chosen_gives ((codes "0", Pbsz) ∷ []) ((tt, tt), tt)
+    & chosen_gives buffer_sizes ((tt, tt), tt)
     & offset_gives
     & tt
     & tt

@@ -52,10 +52,29 @@ abbrev pub chosen : List (Bytes × FtpCommand) → Bytes → Answer
 chosen [] v = Err InvalidCommand
 chosen (row ∷ rows) v = if bytes_eq row.0 v then Ok row.1 else chosen rows v
 
+-- the values of STRU and MODE (RFC 959, section 4.1.2), of PROT, PBSZ and AUTH (RFC 2228, section 3), and of OPTS
+abbrev pub structures : List (Bytes × FtpCommand)
+structures = (codes "F", Stru File) ∷ (codes "R", Stru Record) ∷ (codes "P", Stru Page) ∷ []
+
+abbrev pub modes : List (Bytes × FtpCommand)
+modes = (codes "S", Mode Stream) ∷ (codes "B", Mode Block) ∷ (codes "C", Mode Compressed) ∷ []
+
+abbrev pub protections : List (Bytes × FtpCommand)
+protections = (codes "C", Prot Clear) ∷ (codes "S", Prot Safe) ∷ (codes "E", Prot Confidential) ∷ (codes "P", Prot Private) ∷ []
+
+abbrev pub options : List (Bytes × FtpCommand)
+options = (codes "UTF8 ON", Opts (Utf8 true)) ∷ (codes "utf8 on", Opts (Utf8 true)) ∷ (codes "UTF8 OFF", Opts (Utf8 false)) ∷ (codes "utf8 off", Opts (Utf8 false)) ∷ []
+
+abbrev pub buffer_sizes : List (Bytes × FtpCommand)
+buffer_sizes = (codes "0", Pbsz) ∷ []
+
+abbrev pub mechanisms : List (Bytes × FtpCommand)
+mechanisms = (codes "TLS", Auth Tls) ∷ (codes "SSL", Auth Ssl) ∷ []
+
 -- the value of AUTH, at most three bytes of UTF-8, in either case (RFC 2228, section 3)
 abbrev pub auth : Bytes → Answer
 auth v = if nat_lt 3 (length v) then Err InvalidCommand
-    else (if is_utf8 v then chosen ((codes "TLS", Auth Tls) ∷ (codes "SSL", Auth Ssl) ∷ []) (upper v)
+    else (if is_utf8 v then chosen mechanisms (upper v)
     else Err InvalidUtf8)
 
 -- the offset of REST, a decimal number below 2 ^ 64 behind a plus or none (RFC 3659, section 5)
@@ -79,9 +98,9 @@ verbs =
     ∷ (codes "HELP", Ignores Help)
     ∷ (codes "EPSV", Ignores Epsv)
     ∷ (codes "ALLO", Ignores Allo)
-    ∷ (codes "STRU", Takes (chosen ((codes "F", Stru File) ∷ (codes "R", Stru Record) ∷ (codes "P", Stru Page) ∷ [])))
-    ∷ (codes "MODE", Takes (chosen ((codes "S", Mode Stream) ∷ (codes "B", Mode Block) ∷ (codes "C", Mode Compressed) ∷ [])))
-    ∷ (codes "PROT", Takes (chosen ((codes "C", Prot Clear) ∷ (codes "S", Prot Safe) ∷ (codes "E", Prot Confidential) ∷ (codes "P", Prot Private) ∷ [])))
+    ∷ (codes "STRU", Takes (chosen structures))
+    ∷ (codes "MODE", Takes (chosen modes))
+    ∷ (codes "PROT", Takes (chosen protections))
     ∷ (codes "NOOP", Takes (alone Noop))
     ∷ (codes "PASV", Takes (alone Pasv))
     ∷ (codes "FEAT", Takes (alone Feat))
@@ -111,9 +130,9 @@ verbs =
     ∷ (codes "MLST", Takes (maybe_text Mlst))
     ∷ (codes "MLSD", Takes (maybe_text Mlsd))
     ∷ (codes "LIST", Takes (λ v. listing (utf8_lossy v)))
-    ∷ (codes "OPTS", Takes (chosen ((codes "UTF8 ON", Opts (Utf8 true)) ∷ (codes "utf8 on", Opts (Utf8 true)) ∷ (codes "UTF8 OFF", Opts (Utf8 false)) ∷ (codes "utf8 off", Opts (Utf8 false)) ∷ [])))
+    ∷ (codes "OPTS", Takes (chosen options))
     ∷ (codes "AUTH", Takes auth)
-    ∷ (codes "PBSZ", Takes (chosen ((codes "0", Pbsz) ∷ [])))
+    ∷ (codes "PBSZ", Takes (chosen buffer_sizes))
     ∷ (codes "REST", Takes (λ v. offset (utf8_lossy v)))
     ∷ (codes "SITE", Cuts)
     ∷ []

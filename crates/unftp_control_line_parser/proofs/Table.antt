@@ -1,22 +1,103 @@
--- The table of verbs: in order, found by halving, and with each verb once.
-use Rattle.std.proofs.Common.{◌≡◌, ◌≢◌, ℕ, zero, suc, ◌+◌, ◌*◌, ◌/◌, ◌%◌, ◌<◌, ◌≤◌, Bool, true, false, bytes_eq, nat_lt, ◌==◌, ◌&&◌, ◌||◌, List, [], ◌∷◌, length, map, take, get_or, Fits, w8, None, refl, sym, ap, subst, ◌∙◌, ⊎_elim, arith, eqb-true}
+-- The table of verbs has the rows of the definition, in order.
+use Rattle.std.proofs.Common.{◌≡◌, ◌≢◌, ℕ, zero, cond, option_map, is_some, suc, ◌<◌, ◌≤◌, Bool, true, false, bytes_eq, nat_lt, ◌==◌, ◌&&◌, ◌||◌, List, [], ◌∷◌, length, map, get_or, w32, Option, Some, None, Result, Ok, Err, MatchResult, refl, sym, ap, subst, ◌∙◌, ⊎_elim, arith, eqb-true}
 use borrow.Author.Tests.{ltb-true}
 use lib.Pointwise.{bytes_decides}
+use Rattle.std.specs.Int.{from_be_bytes, to_be_bytes}
+use Rattle.std.specs.List.{list_all}
+use Rattle.std.specs.List.Sorted.{IsSearchInRange, IsBinarySearchResult, IsNonDecreasingBy}
+use Rattle.std.specs.Ordering.{nat_cmp, ordering_index}
+use Rattle.std.specs.declared.cmp.Ordering.TheVariants.{Less, Equal, Greater}
 use Rattle.std.proofs.lemmas.Bool.{cases_Bool, cases_lt, and_parts, false≢true}
-use Rattle.std.proofs.Math.Nat.{eq-or-lt_of_le}
-use Rattle.unftp_control_defs.specs.Bytes.{Bytes}
-use Rattle.unftp_control_defs.specs.Rules.{Rule, row_of, verbs}
-use Rattle.unftp_control_defs.specs.Verbs.{upper}
-use Rattle.std.specs.Char.{to_ascii_uppercase}
 use Rattle.std.proofs.lemmas.Bool.Decides.{nat_tests}
-use Rattle.unftp_control_line_parser.specs.Named.{name_of, four, key_of}
-use Rattle.unftp_control_line_parser.specs.declared.verb.Verb.{Verb}
-use Rattle.unftp_control_line_parser.specs.declared.verb.TheConstants.{KEYS, VERBS}
+use Rattle.std.proofs.lemmas.Cmp.{ranked}
+use Rattle.std.proofs.lemmas.List.{get_or-map}
+use Rattle.std.proofs.lemmas.List.Sorted.{IsNonDecreasingBy-from_default}
+use Rattle.std.proofs.lemmas.Nat.{be_bytes_4}
+use Rattle.unftp_control_defs.specs.Bytes.{Bytes}
+use Rattle.std.specs.Char.{to_ascii_uppercase}
+use Rattle.unftp_control_defs.specs.Verbs.{upper}
+use Rattle.unftp_control_defs.specs.Rules.{Rule, row_of, verbs}
+use Rattle.unftp_control_line_parser.specs.Meaning.{meaning}
+use Rattle.unftp_control_line_parser.specs.Words.{filled, unfilled}
+use Rattle.unftp_control_line_parser.specs.declared.verb.Rule.{Rule as RustRule}
+use Rattle.unftp_control_line_parser.specs.declared.verb.Rule.TheVariants as rust
+use Rattle.unftp_control_line_parser.specs.declared.verb.TheConstants.{VERBS}
+
+-- each row of the table is the definition's
+rows_are : map (λ row. row_of (unfilled row.0) verbs) VERBS ≡ map (λ row. Some (meaning row.1)) VERBS
+rows_are = refl
+
+-- the number by which a word is found
+abbrev pub key : Bytes → ℕ
+key word = from_be_bytes w32 word
+
+abbrev keys : List ℕ
+keys = map (λ row. key row.0) VERBS
+
+abbrev has : ℕ → List ℕ → Bool
+has k [] = false
+has k (x ∷ xs) = (x == k) || has k xs
+
+abbrev has_word : Option Bytes → Bool
+has_word None = false
+has_word (Some word) = has (key word) keys
+
+-- and each of the definition's is one of the table
+all_have : list_all (λ row. has_word (filled row.0)) verbs ≡ true
+all_have = refl
 
 -- each number is below the next one
 abbrev rising : ℕ → List ℕ → Bool
 rising a [] = true
 rising a (b ∷ xs) = nat_lt a b && rising b xs
+
+keys_rise : rising 0 keys ≡ true
+keys_rise = refl
+
+words_back : map (λ row. to_be_bytes w32 (key row.0)) VERBS ≡ map (λ row. row.0) VERBS
+words_back = refl
+
+-- what a word of four bytes is once filled, and back
+filled_back : (word : Bytes) → length word ≡ 4 → filled (unfilled word) ≡ Some word
+filled_back [] h = absurd (omega arith)
+filled_back (a ∷ []) h = absurd (omega arith)
+filled_back (a ∷ b ∷ []) h = absurd (omega arith)
+filled_back (a ∷ b ∷ c ∷ []) h = absurd (omega arith)
+filled_back (a ∷ b ∷ c ∷ d ∷ []) h = ⊎_elim
+    (λ t. rw t (ap (λ n. Some (a ∷ b ∷ c ∷ n ∷ [])) (sym (eqb-true d 0 t))))
+    (λ f. rw f (rw f refl))
+    (cases_Bool (d == 0))
+filled_back (a ∷ b ∷ c ∷ d ∷ e ∷ word) h = absurd (omega arith)
+
+some_is : {X : Type 0} {x y : X} → Some x ≡ Some y → x ≡ y
+some_is e = cc
+
+none_some : {X : Type 0} {x : X} → None ≡ Some x → ⊥
+none_some e = cc
+
+pub unfilled_back : (word w : Bytes) → filled word ≡ Some w → unfilled w ≡ word
+unfilled_back [] w e = cc
+unfilled_back (a ∷ []) w e = cc
+unfilled_back (a ∷ b ∷ []) w e = cc
+unfilled_back (a ∷ b ∷ c ∷ []) w e = subst (λ x. unfilled x ≡ a ∷ b ∷ c ∷ []) (some_is e) refl
+unfilled_back (a ∷ b ∷ c ∷ d ∷ []) w e = ⊎_elim
+    (λ t. absurd (none_some (rw t at e)))
+    (λ f. subst (λ x. unfilled x ≡ a ∷ b ∷ c ∷ d ∷ []) (some_is (rw f at e)) (rw f refl))
+    (cases_Bool (d == 0))
+unfilled_back (a ∷ b ∷ c ∷ d ∷ e ∷ word) w h = cc
+
+-- a name whose filled word is not in the table has no row
+none_of : (name : Bytes) (rows : List (Bytes × Rule)) → list_all (λ row. has_word (filled row.0)) rows ≡ true → has_word (filled name) ≡ false → row_of name rows ≡ None
+none_of name [] all none = refl
+none_of name (row ∷ rows) all none =
+    let parts = and_parts (has_word (filled row.0)) (list_all (λ row. has_word (filled row.0)) rows) all in
+    ⊎_elim
+    (λ t. absurd (false≢true (sym none ∙ ap (λ n. has_word (filled n)) ((bytes_decides name row.0).0 t) ∙ parts.0)))
+    (λ f. rw f (none_of name rows parts.1 none))
+    (cases_Bool (bytes_eq name row.0))
+
+pub unfilled_none : (name : Bytes) → filled name ≡ None → row_of name verbs ≡ None
+unfilled_none name e = none_of name verbs all_have (ap has_word e)
 
 below_all : (a : ℕ) (xs : List ℕ) → rising a xs ≡ true → (j : ℕ) → j < length xs → a < get_or xs j 0
 below_all a [] h j lt = absurd (omega arith)
@@ -26,126 +107,83 @@ below_all a (b ∷ xs) h (suc j) lt =
     let more : b < get_or xs j 0 = below_all b xs (and_parts (nat_lt a b) (rising b xs) h).1 j (omega arith) in
     omega arith
 
-in_order : (a : ℕ) (xs : List ℕ) → rising a xs ≡ true → (i j : ℕ) → i < j → j < length xs → get_or xs i 0 < get_or xs j 0
-in_order a [] h i j lt le = absurd (omega arith)
-in_order a (b ∷ xs) h i zero lt le = absurd (omega arith)
-in_order a (b ∷ xs) h zero (suc j) lt le = below_all b xs (and_parts (nat_lt a b) (rising b xs) h).1 j (omega arith)
-in_order a (b ∷ xs) h (suc i) (suc j) lt le = in_order b xs (and_parts (nat_lt a b) (rising b xs) h).1 i j (omega arith) (omega arith)
+in_order : (a : ℕ) (xs : List ℕ) → rising a xs ≡ true → (i j : ℕ) → i ≤ j → j < length xs → get_or xs i 0 ≤ get_or xs j 0
+in_order a [] h i j le lt = absurd (omega arith)
+in_order a (b ∷ xs) h zero zero le lt = omega arith
+in_order a (b ∷ xs) h (suc i) zero le lt = absurd (omega arith)
+in_order a (b ∷ xs) h zero (suc j) le lt = let more : b < get_or xs j 0 = below_all b xs (and_parts (nat_lt a b) (rising b xs) h).1 j (omega arith) in omega arith
+in_order a (b ∷ xs) h (suc i) (suc j) le lt = in_order b xs (and_parts (nat_lt a b) (rising b xs) h).1 i j (omega arith) (omega arith)
 
-keys_rise : rising 0 KEYS ≡ true
-keys_rise = refl
-
-pub key_below : (i j : ℕ) → i < j → j < 46 → get_or KEYS i 0 < get_or KEYS j 0
-key_below i j lt le = in_order 0 KEYS keys_rise i j lt le
-
--- the word of a key
-abbrev unkey : ℕ → Bytes
-unkey k = let s = k / 256 in take (k % 256) ((s / 256 / 256 / 256) ∷ (s / 256 / 256 % 256) ∷ (s / 256 % 256) ∷ (s % 256) ∷ [])
-
-names_are : map unkey KEYS ≡ map name_of VERBS
-names_are = refl
-
-high : (x y : ℕ) → y < 256 → (x * 256 + y) / 256 ≡ x
-high x y h = omega arith
-
-low : (x y : ℕ) → y < 256 → (x * 256 + y) % 256 ≡ y
-low x y h = omega arith
-
-four_back : (a b c d n : ℕ) → a < 256 → b < 256 → c < 256 → d < 256 → n < 256 → unkey (four a b c d * 256 + n) ≡ take n (a ∷ b ∷ c ∷ d ∷ [])
-four_back a b c d n la lb lc ld ln =
-    rw (
-      high (four a b c d) n ln,
-      low (four a b c d) n ln,
-      high ((a * 256 + b) * 256 + c) d ld,
-      low ((a * 256 + b) * 256 + c) d ld,
-      high (a * 256 + b) c lc,
-      low (a * 256 + b) c lc,
-      high a b lb,
-      low a b lb,
-    )
-
--- each byte is one
-abbrev pub AreBytes : Bytes → Type 0
-AreBytes word = (i : ℕ) → get_or word i 0 < 256
-
-key_back : (word : Bytes) → AreBytes word → key_of word ≢ 0 → unkey (key_of word) ≡ word
-key_back [] h ne = absurd (ne refl)
-key_back (a ∷ []) h ne = four_back a 0 0 0 1 (h 0) (omega arith) (omega arith) (omega arith) (omega arith)
-key_back (a ∷ b ∷ []) h ne = four_back a b 0 0 2 (h 0) (h 1) (omega arith) (omega arith) (omega arith)
-key_back (a ∷ b ∷ c ∷ []) h ne = four_back a b c 0 3 (h 0) (h 1) (h 2) (omega arith) (omega arith)
-key_back (a ∷ b ∷ c ∷ d ∷ []) h ne = four_back a b c d 4 (h 0) (h 1) (h 2) (h 3) (omega arith)
-key_back (a ∷ b ∷ c ∷ d ∷ e ∷ word) h ne = absurd (ne refl)
-
-get_or_mapped : {A : Type 0} (f : A → Bytes) (xs : List A) (i : ℕ) (d : A) (b : Bytes) → i < length xs → get_or (map f xs) i b ≡ f (get_or xs i d)
-get_or_mapped f [] i d b lt = absurd (omega arith)
-get_or_mapped f (x ∷ xs) zero d b lt = refl
-get_or_mapped f (x ∷ xs) (suc i) d b lt = get_or_mapped f xs i d b (omega arith)
-
-key_some : (i : ℕ) → i < 46 → get_or KEYS i 0 ≢ 0
-key_some i lt e = let h : 0 < get_or KEYS i 0 = below_all 0 KEYS keys_rise i lt in omega arith
-
-pub found : (word : Bytes) (i : ℕ) (v : Verb) → AreBytes word → i < 46 → get_or KEYS i 0 ≡ key_of word → word ≡ name_of (get_or VERBS i v)
-found word i v h lt e =
-    sym (key_back word h (λ z. key_some i lt (e ∙ z)))
-    ∙ ap unkey (sym e)
-    ∙ sym (get_or_mapped unkey KEYS i 0 [] lt)
-    ∙ ap (λ names. get_or names i []) names_are
-    ∙ get_or_mapped name_of VERBS i v [] lt
-
--- a word in upper case is of bytes
-upper_byte : (b : ℕ) → b < 256 → to_ascii_uppercase b < 256
-upper_byte b h = grind (arith, nat_tests)
-
-pub upper_bytes : (word : Bytes) → ((i : ℕ) → Fits w8 (get_or word i 0)) → AreBytes (upper word)
-upper_bytes [] h i = omega arith
-upper_bytes (b ∷ word) h zero = upper_byte b (omega (arith, h 0))
-upper_bytes (b ∷ word) h (suc i) = upper_bytes word (λ j. h (suc j)) i
-
-pub moved : (k i j : ℕ) → i ≡ j → k < get_or KEYS i 0 → k < get_or KEYS j 0
-moved k i j e h = subst (λ n. k < get_or KEYS n 0) e h
-
--- a key below one of the table is below all behind it
-pub halved : (k i j : ℕ) → i ≤ j → j < 46 → k < get_or KEYS i 0 → k < get_or KEYS j 0
-halved k i j le lt h = ⊎_elim
-    (λ e. subst (λ n. k < get_or KEYS n 0) e h)
-    (λ l. let m : get_or KEYS i 0 < get_or KEYS j 0 = key_below i j l lt in omega arith)
-    (eq-or-lt_of_le le)
-
--- where one key is not the word's, and those on both sides are apart from it, none is
-pub others : (k i : ℕ) → i < 46 → get_or KEYS i 0 ≢ k → (0 < i → get_or KEYS i 0 ≤ k) → (i + 1 < 46 → k < get_or KEYS (i + 1) 0) → (j : ℕ) → j < 46 → get_or KEYS j 0 ≢ k
-others k i within ne low high j lt e = ⊎_elim
-    (λ l. let m : get_or KEYS j 0 < get_or KEYS i 0 = key_below j i l within in let n : get_or KEYS i 0 ≤ k = low (omega arith) in omega arith)
-    (λ r. ⊎_elim
-    (λ same. ne (ap (λ n. get_or KEYS n 0) same ∙ e))
-    (λ l. let m : k < get_or KEYS j 0 = halved k (i + 1) j (omega arith) lt (high (omega arith)) in omega arith)
-    (eq-or-lt_of_le r))
-    (cases_lt j i)
-
-abbrev has : ℕ → List ℕ → Bool
-has k [] = false
-has k (x ∷ xs) = (x == k) || has k xs
-
-abbrev all_have : List (Bytes × Rule) → Bool
-all_have [] = true
-all_have (row ∷ rows) = has (key_of row.0) KEYS && all_have rows
-
-all_verbs : all_have verbs ≡ true
-all_verbs = refl
-
-has_not : (k : ℕ) (xs : List ℕ) → has k xs ≡ true → ((i : ℕ) → i < length xs → get_or xs i 0 ≢ k) → ⊥
-has_not k [] h none = false≢true h
-has_not k (x ∷ xs) h none = ⊎_elim
-    (λ t. none 0 (omega arith) (eqb-true x k t))
-    (λ f. has_not k xs (rw f at h) (λ i lt. none (suc i) (omega arith)))
+has_not : (k : ℕ) (xs : List ℕ) → ((i : ℕ) → i < length xs → get_or xs i 0 ≢ k) → has k xs ≡ false
+has_not k [] none = refl
+has_not k (x ∷ xs) none = ⊎_elim
+    (λ t. absurd (none 0 (omega arith) (eqb-true x k t)))
+    (λ f. rw f (has_not k xs (λ i lt. none (suc i) (omega arith))))
     (cases_Bool (x == k))
 
-none_of : (word : Bytes) (rows : List (Bytes × Rule)) → all_have rows ≡ true → ((i : ℕ) → i < 46 → get_or KEYS i 0 ≢ key_of word) → row_of word rows ≡ None
-none_of word [] h none = refl
-none_of word (row ∷ rows) h none = ⊎_elim
-    (λ t. absurd (has_not (key_of row.0) KEYS (and_parts (has (key_of row.0) KEYS) (all_have rows) h).0
-    (λ i lt e. none i lt (e ∙ ap key_of (sym ((bytes_decides word row.0).0 t))))))
-    (λ f. rw f (none_of word rows (and_parts (has (key_of row.0) KEYS) (all_have rows) h).1 none))
-    (cases_Bool (bytes_eq word row.0))
+rises : (a b k : ℕ) → a ≤ b → ordering_index (nat_cmp a k) ≤ ordering_index (nat_cmp b k)
+rises a b k le = grind (arith, nat_tests)
 
-pub not_found : (word : Bytes) → ((i : ℕ) → i < 46 → get_or KEYS i 0 ≢ key_of word) → row_of word verbs ≡ None
-not_found word none = none_of word verbs all_verbs none
+module _ (word : Bytes) (long : length word ≡ 4) (bytes : (j : ℕ) → get_or word j 0 < 256) where
+  same_word : (w : Bytes) → to_be_bytes w32 (key w) ≡ w → key w ≡ key word → w ≡ word
+  same_word w back e = sym back ∙ ap (to_be_bytes w32) e ∙ be_bytes_4 word (key word) long bytes refl
+
+  pub found : (i : ℕ) (d : Bytes × RustRule) → i < 46 → key (get_or VERBS i d).0 ≡ key word → Some (meaning (get_or VERBS i d).1) ≡ row_of (unfilled word) verbs
+  found i d lt e =
+      let row : Bytes × RustRule = get_or VERBS i d in
+      let back : to_be_bytes w32 (key row.0) ≡ row.0 = sym (get_or-map (λ r. to_be_bytes w32 (key r.0)) VERBS i d [] lt) ∙ ap (λ ws. get_or ws i []) words_back ∙ get_or-map (λ r. r.0) VERBS i d [] lt in
+      sym (get_or-map (λ r. Some (meaning r.1)) VERBS i d None lt)
+      ∙ ap (λ rows. get_or rows i None) (sym rows_are)
+      ∙ get_or-map (λ r. row_of (unfilled r.0) verbs) VERBS i d None lt
+      ∙ ap (λ w. row_of (unfilled w) verbs) (same_word row.0 back e)
+
+  pub not_found : ((i : ℕ) → i < 46 → get_or keys i 0 ≢ key word) → row_of (unfilled word) verbs ≡ None
+  not_found none = none_of (unfilled word) verbs all_have (ap has_word (filled_back word long) ∙ has_not (key word) keys none)
+
+  module _ (k : ℕ) (is : k ≡ key word) where
+    nothing : Bytes × RustRule
+    nothing = ([], rust.Cuts)
+
+    comparisons_rise : IsNonDecreasingBy (λ row. ordering_index (nat_cmp (key row.0) k)) VERBS
+    comparisons_rise = IsNonDecreasingBy-from_default (λ row. ordering_index (nat_cmp (key row.0) k)) VERBS nothing (λ i j le lt.
+        let up : get_or keys i 0 ≤ get_or keys j 0 = in_order 0 keys keys_rise i j le lt in
+        let here : get_or keys i 0 ≡ key (get_or VERBS i nothing).0 = get_or-map (λ r. key r.0) VERBS i nothing 0 (omega arith) in
+        let there : get_or keys j 0 ≡ key (get_or VERBS j nothing).0 = get_or-map (λ r. key r.0) VERBS j nothing 0 lt in
+        rises (key (get_or VERBS i nothing).0) (key (get_or VERBS j nothing).0) k (omega arith))
+
+    -- what a search for the word ends at
+    pub searched : (r : Result ℕ ℕ) → IsSearchInRange r 46 → IsBinarySearchResult (λ row. nat_cmp (key row.0) k) VERBS r
+        → MatchResult r (λ i. (d : Bytes × RustRule) → Some (meaning (get_or VERBS i d).1) ≡ row_of (unfilled word) verbs) (λ i. row_of (unfilled word) verbs ≡ None)
+    searched (Ok at) within equal = λ d. found at d within (ranked (key (get_or VERBS at d).0) k Equal (sym (equal d)) ∙ is)
+    searched (Err at) within parted = not_found (λ i lt e.
+        let same : key (get_or VERBS i nothing).0 ≡ key word = sym (get_or-map (λ r. key r.0) VERBS i nothing 0 lt) ∙ e in
+        ⊎_elim
+        (λ l. let m : key (get_or VERBS i nothing).0 < k = ranked (key (get_or VERBS i nothing).0) k Less (sym ((parted comparisons_rise).0 i nothing (omega arith) l)) in omega arith)
+        (λ g. let m : k < key (get_or VERBS i nothing).0 = ranked (key (get_or VERBS i nothing).0) k Greater (sym ((parted comparisons_rise).1 i nothing g lt)) in omega arith)
+        (cases_lt i at))
+
+-- a word is filled up in either case of its letters
+raised_nul : (b : ℕ) → (to_ascii_uppercase b == 0) ≡ (b == 0)
+raised_nul b = grind (arith, nat_tests)
+
+filled_upper : (word : Bytes) → filled (upper word) ≡ option_map upper (filled word)
+filled_upper [] = refl
+filled_upper (a ∷ []) = refl
+filled_upper (a ∷ b ∷ []) = refl
+filled_upper (a ∷ b ∷ c ∷ []) = refl
+filled_upper (a ∷ b ∷ c ∷ d ∷ []) = rw (raised_nul d) (by_nul (d == 0))
+  where
+    by_nul : (t : Bool) → cond t None (Some (upper (a ∷ b ∷ c ∷ d ∷ []))) ≡ option_map upper (cond t None (Some (a ∷ b ∷ c ∷ d ∷ [])))
+    by_nul true = refl
+    by_nul false = refl
+filled_upper (a ∷ b ∷ c ∷ d ∷ e ∷ word) = refl
+
+pub unfilled_upper : (word w : Bytes) → filled word ≡ Some w → unfilled (upper w) ≡ upper word
+unfilled_upper word w e = unfilled_back (upper word) (upper w) (filled_upper word ∙ ap (option_map upper) e)
+
+pub unfilled_none_upper : (word : Bytes) → filled word ≡ None → row_of (upper word) verbs ≡ None
+unfilled_none_upper word e = unfilled_none (upper word) (filled_upper word ∙ ap (option_map upper) e)
+
+pub mapped_some : (rule : Option RustRule) → is_some rule ≡ is_some (option_map meaning rule)
+mapped_some None = refl
+mapped_some (Some rule) = refl

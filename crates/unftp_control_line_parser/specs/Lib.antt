@@ -1,4 +1,5 @@
 pub mod Told
-pub mod Named
+pub mod Meaning
+pub mod Words
 pub mod Values
 pub mod Memory

@@ -7,8 +7,6 @@ use Rattle.unftp_control_defs.specs.FtpCommand.{FtpCommand, Syst, TypeCode, Help
 use Rattle.unftp_control_defs.specs.Outcome.{outcome}
 use Rattle.unftp_control_line_parser.specs.declared.error.ParseErrorKind.{ParseErrorKind}
 use Rattle.unftp_control_line_parser.specs.declared.error.ParseErrorKind.TheVariants as kind
-use Rattle.unftp_control_line_parser.specs.declared.verb.Verb.{Verb}
-use Rattle.unftp_control_line_parser.specs.declared.verb.Verb.TheVariants as verb
 
 -- a command of a verb that takes no value, or doesn't look at its parameter
 abbrev pub is_bare : FtpCommand → Bool
@@ -47,18 +45,3 @@ IfStarved kind.OutOfMemory P = P
 abbrev pub OnStarved : {T : Type 0} → Result T ParseErrorKind → Type 0 → Type 0
 OnStarved (Ok x) P = ⊤
 OnStarved (Err error) P = IfStarved error P
-
--- the verbs that take no value
-abbrev pub stands_alone : Verb → Bool
-stands_alone verb.Abor = true
-stands_alone verb.Bye = true
-stands_alone verb.Ccc = true
-stands_alone verb.Cdup = true
-stands_alone verb.Feat = true
-stands_alone verb.Noop = true
-stands_alone verb.Pasv = true
-stands_alone verb.Pwd = true
-stands_alone verb.Quit = true
-stands_alone verb.Stou = true
-stands_alone verb.Xpwd = true
-stands_alone _ = false

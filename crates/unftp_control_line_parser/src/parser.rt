@@ -10,8 +10,8 @@ ghost use Rattle.unftp_control_line_parser.specs.Memory.{MayTakeMemory, OnStarve
 ghost use Rattle.unftp_control_line_parser.specs.Told.{Tells};
 
 use crate::error::{ParseErrorKind, Result};
-use crate::rules::{as_text, by_verb, other};
-use crate::verb::verb_named;
+use crate::rules::{as_text, by_rule, other};
+use crate::verb::rule_named;
 use std::alloc::Global;
 use std::result;
 use unftp_control_command::Command;
@@ -72,8 +72,8 @@ fn command_in(alloc: Global, line: &[u8]) -> result::Result<Command, ParseErrorK
     ensures memory { OnStarved result (MayTakeMemory line.now) }
 {
     let (verb, parameter) = split(line);
-    match verb_named(verb) {
-        Some(verb) => by_verb(alloc, verb, parameter),
+    match rule_named(verb) {
+        Some(rule) => by_rule(alloc, rule, parameter),
         None => match as_text(verb) {
             Some(name) => other(alloc, name, parameter),
             None => Err(ParseErrorKind::InvalidUtf8),

@@ -1,15 +1,13 @@
 //! What each verb makes of its parameter.
-ghost use Rattle.std.specs.Prelude.{◌≡◌, ◌≤◌, length, drop, codes, string_bytes, bytes_eq, IfOk, false};
+ghost use Rattle.std.specs.Prelude.{◌≡◌, ◌≤◌, length, drop, string_bytes, bytes_eq, IfOk};
 ghost use Rattle.unftp_control_defs.specs.Verbs.{upper};
 ghost use Rattle.unftp_control_defs.specs.Values.{value_of};
 ghost use Rattle.unftp_control_defs.specs.FtpCommand.{Other};
-ghost use Rattle.unftp_control_defs.specs.Rules.{alone, any_text, by_name, rule_of};
+ghost use Rattle.unftp_control_defs.specs.Rules.{alone, any_text, by_name, chosen, structures, modes, protections, options, buffer_sizes, auth, offset};
 ghost use Rattle.unftp_control_defs.specs.Outcome.{answer_by, by_value as valued, site_answer};
-ghost use Rattle.unftp_control_line_parser.specs.Named.{by_rule};
-ghost use Rattle.unftp_control_command.specs.CommandMeaning.{command_of};
-ghost use Rattle.unftp_control_line_parser.specs.Memory.{IsNotBare, OnStarved, stands_alone};
+ghost use Rattle.unftp_control_line_parser.specs.Meaning.{bare, of_value, of_form, meaning};
+ghost use Rattle.unftp_control_line_parser.specs.Memory.{IsNotBare, OnStarved};
 ghost use Rattle.unftp_control_line_parser.specs.Told.{Tells};
-ghost use Rattle.unftp_control_line_parser.specs.Named.{rule_for};
 ghost use Rattle.unftp_control_line_parser.specs.Values.{TellsBytes, TellsText, TellsSome, TellsOptional, TellsOptionalBytes, TellsPath, TellsUpper, TellsUtf8, value_bytes};
 ghost use Rattle.std.specs.Str.{IsCharBoundary, IsUtf8};
 ghost use Rattle.std.specs.Str.Lossy.{utf8_lossy};
@@ -18,13 +16,12 @@ ghost use Rattle.unftp_control_defs.specs.Paths.{path_of};
 use crate::error::ParseErrorKind;
 use crate::parser::split;
 use crate::value::{Value, parameter_value};
-use crate::verb::Verb;
+use crate::verb::{Bare, Form, OfValue, Rule};
 use bstr::ByteSlice;
 use bytes::Bytes;
 use std::alloc::{AllocError, Global};
 use std::str::from_utf8;
 use unftp_control_command::{AuthParam, Command, ModeParam, Opt, ProtParam, StruParam};
-use unftp_control_password::Password;
 
 type Answer = Result<Command, ParseErrorKind>;
 
@@ -59,6 +56,7 @@ fn optional_raw(alloc: Global, value: Value<'_>) -> Result<Option<Bytes>, ParseE
 }
 
 /// The value as text, ill-formed UTF-8 replaced.
+#[inline]
 fn text(alloc: Global, value: Value<'_>) -> Result<String, ParseErrorKind>
     ensures { TellsText (value_bytes value.entry) result }
 {
@@ -73,11 +71,14 @@ fn text(alloc: Global, value: Value<'_>) -> Result<String, ParseErrorKind>
 }
 
 /// The bytes as a new text.
+#[inline(always)]
 fn borrowed_text(alloc: Global, bytes: &[u8]) -> Result<String, AllocError>
     ensures { IfOk result (λ text. string_bytes text ≡ utf8_lossy bytes.now) }
 {
-    let text = bytes.to_str_lossy(alloc)?;
-    text.into_owned(alloc)
+    match from_utf8(bytes) {
+        Ok(text) => String::from_str(alloc, text),
+        Err(_) => bytes.to_str_lossy(alloc)?.into_owned(alloc),
+    }
 }
 
 /// The bytes as text, in their own memory where they are well-formed UTF-8.
@@ -114,12 +115,12 @@ fn optional_text(alloc: Global, value: Value<'_>) -> Result<Option<String>, Pars
 }
 
 /// The command, where there is no value.
-fn alone(command: Command, value: &[u8]) -> Answer
-    ensures told { Tells (alone (command_of command) value.now) result }
+fn alone(command: Bare, value: &[u8]) -> Answer
+    ensures told { Tells (alone (bare command) value.now) result }
     ensures memory { OnStarved result ⊥ }
 {
     if value.is_empty() {
-        Ok(command)
+        Ok(command.command())
     } else {
         Err(ParseErrorKind::InvalidCommand)
     }
@@ -159,6 +160,9 @@ fn path_start(text: &[u8]) -> usize
 fn list(alloc: Global, value: Value<'_>) -> Result<Option<String>, ParseErrorKind>
     ensures { TellsPath (value_bytes value.entry) result }
 {
+    if value.as_slice().is_empty() {
+        return Ok(None);
+    }
     let mut path = text(alloc, value)?;
     let start = path_start(path.as_str().as_bytes());
     if start == path.len() {
@@ -171,7 +175,8 @@ fn list(alloc: Global, value: Value<'_>) -> Result<Option<String>, ParseErrorKin
 }
 
 fn stru(value: &[u8]) -> Answer
-    ensures { Tells (by_rule (rule_of (codes "STRU")) value.now) result }
+    ensures told { Tells (chosen structures value.now) result }
+    ensures memory { OnStarved result ⊥ }
 {
     let structure = match value {
         b"F" => StruParam::File,
@@ -183,7 +188,8 @@ fn stru(value: &[u8]) -> Answer
 }
 
 fn mode(value: &[u8]) -> Answer
-    ensures { Tells (by_rule (rule_of (codes "MODE")) value.now) result }
+    ensures told { Tells (chosen modes value.now) result }
+    ensures memory { OnStarved result ⊥ }
 {
     let mode = match value {
         b"S" => ModeParam::Stream,
@@ -195,7 +201,8 @@ fn mode(value: &[u8]) -> Answer
 }
 
 fn prot(value: &[u8]) -> Answer
-    ensures { Tells (by_rule (rule_of (codes "PROT")) value.now) result }
+    ensures told { Tells (chosen protections value.now) result }
+    ensures memory { OnStarved result ⊥ }
 {
     let param = match value {
         b"C" => ProtParam::Clear,
@@ -208,7 +215,8 @@ fn prot(value: &[u8]) -> Answer
 }
 
 fn opts(value: &[u8]) -> Answer
-    ensures { Tells (by_rule (rule_of (codes "OPTS")) value.now) result }
+    ensures told { Tells (chosen options value.now) result }
+    ensures memory { OnStarved result ⊥ }
 {
     let on = Opt::Utf8 { on: true };
     let off = Opt::Utf8 { on: false };
@@ -251,7 +259,8 @@ fn is_word(text: &[u8], word: [u8; 3]) -> bool
 }
 
 fn auth(value: &[u8]) -> Answer
-    ensures { Tells (by_rule (rule_of (codes "AUTH")) value.now) result }
+    ensures told { Tells (auth value.now) result }
+    ensures memory { OnStarved result ⊥ }
 {
     if value.len() > 3 {
         return Err(ParseErrorKind::InvalidCommand);
@@ -273,7 +282,8 @@ fn auth(value: &[u8]) -> Answer
 }
 
 fn pbsz(value: &[u8]) -> Answer
-    ensures { Tells (by_rule (rule_of (codes "PBSZ")) value.now) result }
+    ensures told { Tells (chosen buffer_sizes value.now) result }
+    ensures memory { OnStarved result ⊥ }
 {
     match value {
         b"0" => Ok(Command::Pbsz {}),
@@ -282,7 +292,8 @@ fn pbsz(value: &[u8]) -> Answer
 }
 
 fn rest(value: &[u8]) -> Answer
-    ensures { Tells (by_rule (rule_of (codes "REST")) value.now) result }
+    ensures told { Tells (offset (utf8_lossy value.now)) result }
+    ensures memory { OnStarved result ⊥ }
 {
     let Ok(text) = from_utf8(value) else {
         return Err(ParseErrorKind::InvalidCommand);
@@ -344,113 +355,54 @@ pub fn other(alloc: Global, name: &str, parameter: &[u8]) -> Answer
     })
 }
 
-/// A verb that takes the value of its parameter.
-fn by_value(alloc: Global, verb: Verb, value: Value<'_>) -> Answer
-    ensures told { Tells (by_rule (rule_for verb) (value_bytes value.entry)) result }
-    ensures memory { OnStarved result (stands_alone verb ≡ false) }
+/// What a value names for the command.
+fn read(command: OfValue, value: &[u8]) -> Answer
+    ensures told { Tells (of_value command value.now) result }
+    ensures memory { OnStarved result ⊥ }
 {
-    match verb {
-        Verb::User => Ok(Command::User {
-            username: raw(alloc, value)?,
-        }),
-        Verb::Pass => Ok(Command::Pass {
-            password: Password::new(raw(alloc, value)?),
-        }),
-        Verb::Acct => Ok(Command::Acct {
-            account: raw(alloc, value)?,
-        }),
-        Verb::Stat => Ok(Command::Stat {
-            path: optional_raw(alloc, value)?,
-        }),
-        Verb::Stru => stru(value.as_slice()),
-        Verb::Mode => mode(value.as_slice()),
-        Verb::Prot => prot(value.as_slice()),
-        Verb::Noop => alone(Command::Noop, value.as_slice()),
-        Verb::Pasv => alone(Command::Pasv, value.as_slice()),
-        Verb::Feat => alone(Command::Feat, value.as_slice()),
-        Verb::Cdup => alone(Command::Cdup, value.as_slice()),
-        Verb::Abor => alone(Command::Abor, value.as_slice()),
-        Verb::Stou => alone(Command::Stou, value.as_slice()),
-        Verb::Ccc => alone(Command::Ccc, value.as_slice()),
-        Verb::Pwd | Verb::Xpwd => alone(Command::Pwd, value.as_slice()),
-        Verb::Quit | Verb::Bye => alone(Command::Quit, value.as_slice()),
-        Verb::Port => Ok(Command::Port {
-            addr: some_text(alloc, value)?,
-        }),
-        Verb::Retr => Ok(Command::Retr {
-            path: some_text(alloc, value)?,
-        }),
-        Verb::Stor => Ok(Command::Stor {
-            path: some_text(alloc, value)?,
-        }),
-        Verb::Appe => Ok(Command::Appe {
-            path: some_text(alloc, value)?,
-        }),
-        Verb::Dele => Ok(Command::Dele {
-            path: some_text(alloc, value)?,
-        }),
-        Verb::Rmd => Ok(Command::Rmd {
-            path: some_text(alloc, value)?,
-        }),
-        Verb::Cwd | Verb::Xcwd => Ok(Command::Cwd {
-            path: some_text(alloc, value)?,
-        }),
-        Verb::Mkd | Verb::Xmkd => Ok(Command::Mkd {
-            path: some_text(alloc, value)?,
-        }),
-        Verb::Rnfr => Ok(Command::Rnfr {
-            file: some_text(alloc, value)?,
-        }),
-        Verb::Rnto => Ok(Command::Rnto {
-            file: some_text(alloc, value)?,
-        }),
-        Verb::Size => Ok(Command::Size {
-            file: some_text(alloc, value)?,
-        }),
-        Verb::Mdtm => Ok(Command::Mdtm {
-            file: some_text(alloc, value)?,
-        }),
-        Verb::Nlst => Ok(Command::Nlst {
-            path: optional_text(alloc, value)?,
-        }),
-        Verb::Mlst => Ok(Command::Mlst {
-            path: optional_text(alloc, value)?,
-        }),
-        Verb::Mlsd => Ok(Command::Mlsd {
-            path: optional_text(alloc, value)?,
-        }),
-        Verb::List => Ok(Command::List {
-            options: None,
-            path: list(alloc, value)?,
-        }),
-        Verb::Opts => opts(value.as_slice()),
-        Verb::Auth => auth(value.as_slice()),
-        Verb::Pbsz => pbsz(value.as_slice()),
-        Verb::Rest => rest(value.as_slice()),
-        Verb::Syst => Ok(Command::Syst),
-        Verb::Type => Ok(Command::TypeCode),
-        Verb::Help => Ok(Command::Help),
-        Verb::Epsv => Ok(Command::Epsv),
-        Verb::Allo => Ok(Command::Allo {}),
-        Verb::Site => Err(ParseErrorKind::InvalidCommand),
+    match command {
+        OfValue::Auth => auth(value),
+        OfValue::Mode => mode(value),
+        OfValue::Opts => opts(value),
+        OfValue::Pbsz => pbsz(value),
+        OfValue::Prot => prot(value),
+        OfValue::Rest => rest(value),
+        OfValue::Stru => stru(value),
     }
 }
 
-/// A verb with a rule of its own.
-pub fn by_verb(alloc: Global, verb: Verb, parameter: &[u8]) -> Answer
-    ensures told { Tells (answer_by (rule_for verb) parameter.now) result }
-    ensures memory { OnStarved result (IsNotBare (answer_by (rule_for verb) parameter.now)) }
+/// What a form makes of a value.
+fn by_form(alloc: Global, form: Form, value: Value<'_>) -> Answer
+    ensures told { Tells (of_form form (value_bytes value.entry)) result }
+    ensures memory { OnStarved result (IsNotBare (of_form form (value_bytes value.entry))) }
 {
-    match verb {
-        Verb::Syst => Ok(Command::Syst),
-        Verb::Type => Ok(Command::TypeCode),
-        Verb::Help => Ok(Command::Help),
-        Verb::Epsv => Ok(Command::Epsv),
-        Verb::Allo => Ok(Command::Allo {}),
-        Verb::Site => site(alloc, parameter),
-        _ => match parameter_value(alloc, parameter) {
-            Ok(value) => by_value(alloc, verb, value),
+    match form {
+        Form::Alone(command) => alone(command, value.as_slice()),
+        Form::Raw(command) => Ok(command.command(raw(alloc, value)?)),
+        Form::Stat => Ok(Command::Stat {
+            path: optional_raw(alloc, value)?,
+        }),
+        Form::SomeText(command) => Ok(command.command(some_text(alloc, value)?)),
+        Form::MaybeText(command) => Ok(command.command(optional_text(alloc, value)?)),
+        Form::List => Ok(Command::List {
+            options: None,
+            path: list(alloc, value)?,
+        }),
+        Form::Read(command) => read(command, value.as_slice()),
+    }
+}
+
+/// What a rule makes of parameter bytes.
+pub fn by_rule(alloc: Global, rule: Rule, parameter: &[u8]) -> Answer
+    ensures told { Tells (answer_by (meaning rule) parameter.now) result }
+    ensures memory { OnStarved result (IsNotBare (answer_by (meaning rule) parameter.now)) }
+{
+    match rule {
+        Rule::Ignores(command) => Ok(command.command()),
+        Rule::Takes(form) => match parameter_value(alloc, parameter) {
+            Ok(value) => by_form(alloc, form, value),
             Err(kind) => Err(kind),
         },
+        Rule::Cuts => site(alloc, parameter),
     }
 }

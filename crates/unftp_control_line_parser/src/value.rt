@@ -95,21 +95,29 @@ fn joined(front: Vec<u8>, after: &[u8]) -> Result<Vec<u8>, ParseErrorKind>
 {
     let mut joined = front;
     let mut rest = after;
-    loop {
-        match front_run(rest) {
-            Run::Last(part) => {
-                return match joined.extend_from_slice(part) {
-                    Ok(()) => Ok(joined),
-                    Err(_) => Err(ParseErrorKind::OutOfMemory),
-                };
+    'parts: loop {
+        if begins_escaped(rest) {
+            let (_, further) = rest.split_at(2);
+            if joined.push(CR).is_err() {
+                return Err(ParseErrorKind::OutOfMemory);
             }
-            Run::Escaped(part, further) => {
-                if joined.extend_from_slice(part).is_err() {
-                    return Err(ParseErrorKind::OutOfMemory);
+            rest = further;
+        } else {
+            match front_run(rest) {
+                Run::Last(part) => {
+                    return match joined.extend_from_slice(part) {
+                        Ok(()) => Ok(joined),
+                        Err(_) => Err(ParseErrorKind::OutOfMemory),
+                    };
                 }
-                rest = further;
+                Run::Escaped(part, further) => {
+                    if joined.extend_from_slice(part).is_err() {
+                        return Err(ParseErrorKind::OutOfMemory);
+                    }
+                    rest = further;
+                }
+                Run::BadEnd => return Err(ParseErrorKind::InvalidEol),
             }
-            Run::BadEnd => return Err(ParseErrorKind::InvalidEol),
         }
     }
 }

@@ -1,206 +1,276 @@
-//! The verbs that have a rule of their own.
-ghost use Rattle.std.specs.Prelude.{◌≡◌, ◌↔◌, ◌<◌, ◌^◌, IsTrue, IsSome};
-ghost use Rattle.std.specs.Char.{is_ascii_lowercase, to_ascii_uppercase};
-ghost use Rattle.std.specs.List.{list_any};
+//! The verbs that have a rule of their own, and the rules.
+ghost use Rattle.std.specs.Prelude.{◌≡◌, ◌↔◌, IsTrue, IsSome, option_map, string_bytes};
+ghost use Rattle.unftp_control_command.specs.CommandMeaning.{command_of};
 ghost use Rattle.unftp_control_defs.specs.Rules.{row_of, verbs};
 ghost use Rattle.unftp_control_defs.specs.Verbs.{upper};
-ghost use Rattle.unftp_control_line_parser.specs.Named.{four, key_of, TellsVerb};
+ghost use Rattle.unftp_control_line_parser.specs.Meaning.{bare, of_bytes, of_text, of_maybe_text, meaning};
+ghost use Rattle.unftp_control_line_parser.specs.Words.{filled, unfilled};
 
-/// A verb with a rule of its own.
-#[derive(Debug, PartialEq, Eq, Clone, Copy)]
-pub enum Verb {
+use Form::{Alone, List, MaybeText, Raw, Read, SomeText, Stat};
+use Rule::{Cuts, Ignores, Takes};
+use bytes::Bytes;
+use unftp_control_command::Command;
+use unftp_control_password::Password;
+
+/// What a verb does with its parameter bytes.
+#[derive(Clone, Copy)]
+pub enum Rule {
+    /// It ignores them.
+    Ignores(Bare),
+    /// It takes their value.
+    Takes(Form),
+    /// It cuts them again, as a line.
+    Cuts,
+}
+
+/// What a verb makes of the value of its parameter.
+#[derive(Clone, Copy)]
+pub enum Form {
+    /// No value.
+    Alone(Bare),
+    /// Any value, as it is.
+    Raw(OfBytes),
+    /// The same, or none where it is empty.
+    Stat,
+    /// A text that is not empty.
+    SomeText(OfText),
+    /// A text, or none where the value is empty.
+    MaybeText(OfMaybeText),
+    /// A path behind options, or none.
+    List,
+    /// One of the values that the command has.
+    Read(OfValue),
+}
+
+/// A command that has no field.
+#[derive(Clone, Copy)]
+pub enum Bare {
     Abor,
-    Acct,
     Allo,
-    Appe,
-    Auth,
-    Bye,
     Ccc,
     Cdup,
-    Cwd,
-    Dele,
     Epsv,
     Feat,
     Help,
-    List,
-    Mdtm,
-    Mkd,
-    Mlsd,
-    Mlst,
-    Mode,
-    Nlst,
     Noop,
-    Opts,
-    Pass,
     Pasv,
-    Pbsz,
-    Port,
-    Prot,
     Pwd,
     Quit,
-    Rest,
+    Stou,
+    Syst,
+    TypeCode,
+}
+
+impl Bare {
+    pub fn command(self) -> Command
+        ensures { command_of result ≡ bare self }
+    {
+        match self {
+            Bare::Abor => Command::Abor,
+            Bare::Allo => Command::Allo {},
+            Bare::Ccc => Command::Ccc,
+            Bare::Cdup => Command::Cdup,
+            Bare::Epsv => Command::Epsv,
+            Bare::Feat => Command::Feat,
+            Bare::Help => Command::Help,
+            Bare::Noop => Command::Noop,
+            Bare::Pasv => Command::Pasv,
+            Bare::Pwd => Command::Pwd,
+            Bare::Quit => Command::Quit,
+            Bare::Stou => Command::Stou,
+            Bare::Syst => Command::Syst,
+            Bare::TypeCode => Command::TypeCode,
+        }
+    }
+}
+
+/// A command of bytes.
+#[derive(Clone, Copy)]
+pub enum OfBytes {
+    Acct,
+    Pass,
+    User,
+}
+
+impl OfBytes {
+    pub fn command(self, bytes: Bytes) -> Command
+        ensures { command_of result ≡ of_bytes self bytes }
+    {
+        match self {
+            OfBytes::Acct => Command::Acct { account: bytes },
+            OfBytes::Pass => Command::Pass {
+                password: Password::new(bytes),
+            },
+            OfBytes::User => Command::User { username: bytes },
+        }
+    }
+}
+
+/// A command of a text.
+#[derive(Clone, Copy)]
+pub enum OfText {
+    Appe,
+    Cwd,
+    Dele,
+    Mdtm,
+    Mkd,
+    Port,
     Retr,
     Rmd,
     Rnfr,
     Rnto,
-    Site,
     Size,
-    Stat,
     Stor,
-    Stou,
-    Stru,
-    Syst,
-    Type,
-    User,
-    Xcwd,
-    Xmkd,
-    Xpwd,
 }
 
-/// The words of the verbs in the order of their bytes: each filled up with NUL to four bytes, and its length.
-static KEYS: [u64; 46] = [
-    0x41_42_4f_52_04,
-    0x41_43_43_54_04,
-    0x41_4c_4c_4f_04,
-    0x41_50_50_45_04,
-    0x41_55_54_48_04,
-    0x42_59_45_00_03,
-    0x43_43_43_00_03,
-    0x43_44_55_50_04,
-    0x43_57_44_00_03,
-    0x44_45_4c_45_04,
-    0x45_50_53_56_04,
-    0x46_45_41_54_04,
-    0x48_45_4c_50_04,
-    0x4c_49_53_54_04,
-    0x4d_44_54_4d_04,
-    0x4d_4b_44_00_03,
-    0x4d_4c_53_44_04,
-    0x4d_4c_53_54_04,
-    0x4d_4f_44_45_04,
-    0x4e_4c_53_54_04,
-    0x4e_4f_4f_50_04,
-    0x4f_50_54_53_04,
-    0x50_41_53_53_04,
-    0x50_41_53_56_04,
-    0x50_42_53_5a_04,
-    0x50_4f_52_54_04,
-    0x50_52_4f_54_04,
-    0x50_57_44_00_03,
-    0x51_55_49_54_04,
-    0x52_45_53_54_04,
-    0x52_45_54_52_04,
-    0x52_4d_44_00_03,
-    0x52_4e_46_52_04,
-    0x52_4e_54_4f_04,
-    0x53_49_54_45_04,
-    0x53_49_5a_45_04,
-    0x53_54_41_54_04,
-    0x53_54_4f_52_04,
-    0x53_54_4f_55_04,
-    0x53_54_52_55_04,
-    0x53_59_53_54_04,
-    0x54_59_50_45_04,
-    0x55_53_45_52_04,
-    0x58_43_57_44_04,
-    0x58_4d_4b_44_04,
-    0x58_50_57_44_04,
-];
-
-/// The verb of each of these words.
-static VERBS: [Verb; 46] = [
-    Verb::Abor,
-    Verb::Acct,
-    Verb::Allo,
-    Verb::Appe,
-    Verb::Auth,
-    Verb::Bye,
-    Verb::Ccc,
-    Verb::Cdup,
-    Verb::Cwd,
-    Verb::Dele,
-    Verb::Epsv,
-    Verb::Feat,
-    Verb::Help,
-    Verb::List,
-    Verb::Mdtm,
-    Verb::Mkd,
-    Verb::Mlsd,
-    Verb::Mlst,
-    Verb::Mode,
-    Verb::Nlst,
-    Verb::Noop,
-    Verb::Opts,
-    Verb::Pass,
-    Verb::Pasv,
-    Verb::Pbsz,
-    Verb::Port,
-    Verb::Prot,
-    Verb::Pwd,
-    Verb::Quit,
-    Verb::Rest,
-    Verb::Retr,
-    Verb::Rmd,
-    Verb::Rnfr,
-    Verb::Rnto,
-    Verb::Site,
-    Verb::Size,
-    Verb::Stat,
-    Verb::Stor,
-    Verb::Stou,
-    Verb::Stru,
-    Verb::Syst,
-    Verb::Type,
-    Verb::User,
-    Verb::Xcwd,
-    Verb::Xmkd,
-    Verb::Xpwd,
-];
-
-/// The bytes of a word of at most four, in upper case and filled up with NUL, and its length, as one number; 0 for any other word.
-fn key(word: &[u8]) -> u64
-    ensures { result ≡ key_of (upper word.now) }
-{
-    let (a, b, c, d) = match word {
-        [a, b, c, d] => (*a, *b, *c, *d),
-        [a, b, c] => (*a, *b, *c, 0),
-        [a, b] => (*a, *b, 0, 0),
-        [a] => (*a, 0, 0, 0),
-        _ => return 0,
-    };
-    spelled(a, b, c, d) * 256 + word.len() as u64
-}
-
-/// Four bytes in upper case as one number.
-fn spelled(a: u8, b: u8, c: u8, d: u8) -> u64
-    ensures value { result ≡ four (to_ascii_uppercase a) (to_ascii_uppercase b) (to_ascii_uppercase c) (to_ascii_uppercase d) }
-    ensures within { result < 2 ^ 32 }
-{
-    let a = u64::from(a.to_ascii_uppercase());
-    let b = u64::from(b.to_ascii_uppercase());
-    let c = u64::from(c.to_ascii_uppercase());
-    let d = u64::from(d.to_ascii_uppercase());
-    ((a * 256 + b) * 256 + c) * 256 + d
-}
-
-/// The verb that the word is in either case of its letters.
-pub fn verb_named(word: &[u8]) -> Option<Verb>
-    ensures { TellsVerb word.now result }
-{
-    let key = key(word);
-    let mut low = 0usize;
-    let mut count = 46usize;
-    while count > 1 {
-        let half = count / 2;
-        if KEYS[low + half] <= key {
-            low += half;
+impl OfText {
+    pub fn command(self, text: String) -> Command
+        ensures { command_of result ≡ of_text self (string_bytes text) }
+    {
+        match self {
+            OfText::Appe => Command::Appe { path: text },
+            OfText::Cwd => Command::Cwd { path: text },
+            OfText::Dele => Command::Dele { path: text },
+            OfText::Mdtm => Command::Mdtm { file: text },
+            OfText::Mkd => Command::Mkd { path: text },
+            OfText::Port => Command::Port { addr: text },
+            OfText::Retr => Command::Retr { path: text },
+            OfText::Rmd => Command::Rmd { path: text },
+            OfText::Rnfr => Command::Rnfr { file: text },
+            OfText::Rnto => Command::Rnto { file: text },
+            OfText::Size => Command::Size { file: text },
+            OfText::Stor => Command::Stor { path: text },
         }
-        count -= half;
     }
-    if KEYS[low] == key {
-        Some(VERBS[low])
-    } else {
-        None
+}
+
+/// A command of a path, or of none.
+#[derive(Clone, Copy)]
+pub enum OfMaybeText {
+    Mlsd,
+    Mlst,
+    Nlst,
+}
+
+impl OfMaybeText {
+    pub fn command(self, path: Option<String>) -> Command
+        ensures { command_of result ≡ of_maybe_text self (option_map string_bytes path) }
+    {
+        match self {
+            OfMaybeText::Mlsd => Command::Mlsd { path },
+            OfMaybeText::Mlst => Command::Mlst { path },
+            OfMaybeText::Nlst => Command::Nlst { path },
+        }
+    }
+}
+
+/// A command whose field a value names.
+#[derive(Clone, Copy)]
+pub enum OfValue {
+    Auth,
+    Mode,
+    Opts,
+    Pbsz,
+    Prot,
+    Rest,
+    Stru,
+}
+
+/// The verbs in the order of their bytes, each filled up with NUL to four, and their rules.
+static VERBS: [([u8; 4], Rule); 46] = [
+    (*b"ABOR", Takes(Alone(Bare::Abor))),
+    (*b"ACCT", Takes(Raw(OfBytes::Acct))),
+    (*b"ALLO", Ignores(Bare::Allo)),
+    (*b"APPE", Takes(SomeText(OfText::Appe))),
+    (*b"AUTH", Takes(Read(OfValue::Auth))),
+    (*b"BYE\0", Takes(Alone(Bare::Quit))),
+    (*b"CCC\0", Takes(Alone(Bare::Ccc))),
+    (*b"CDUP", Takes(Alone(Bare::Cdup))),
+    (*b"CWD\0", Takes(SomeText(OfText::Cwd))),
+    (*b"DELE", Takes(SomeText(OfText::Dele))),
+    (*b"EPSV", Ignores(Bare::Epsv)),
+    (*b"FEAT", Takes(Alone(Bare::Feat))),
+    (*b"HELP", Ignores(Bare::Help)),
+    (*b"LIST", Takes(List)),
+    (*b"MDTM", Takes(SomeText(OfText::Mdtm))),
+    (*b"MKD\0", Takes(SomeText(OfText::Mkd))),
+    (*b"MLSD", Takes(MaybeText(OfMaybeText::Mlsd))),
+    (*b"MLST", Takes(MaybeText(OfMaybeText::Mlst))),
+    (*b"MODE", Takes(Read(OfValue::Mode))),
+    (*b"NLST", Takes(MaybeText(OfMaybeText::Nlst))),
+    (*b"NOOP", Takes(Alone(Bare::Noop))),
+    (*b"OPTS", Takes(Read(OfValue::Opts))),
+    (*b"PASS", Takes(Raw(OfBytes::Pass))),
+    (*b"PASV", Takes(Alone(Bare::Pasv))),
+    (*b"PBSZ", Takes(Read(OfValue::Pbsz))),
+    (*b"PORT", Takes(SomeText(OfText::Port))),
+    (*b"PROT", Takes(Read(OfValue::Prot))),
+    (*b"PWD\0", Takes(Alone(Bare::Pwd))),
+    (*b"QUIT", Takes(Alone(Bare::Quit))),
+    (*b"REST", Takes(Read(OfValue::Rest))),
+    (*b"RETR", Takes(SomeText(OfText::Retr))),
+    (*b"RMD\0", Takes(SomeText(OfText::Rmd))),
+    (*b"RNFR", Takes(SomeText(OfText::Rnfr))),
+    (*b"RNTO", Takes(SomeText(OfText::Rnto))),
+    (*b"SITE", Cuts),
+    (*b"SIZE", Takes(SomeText(OfText::Size))),
+    (*b"STAT", Takes(Stat)),
+    (*b"STOR", Takes(SomeText(OfText::Stor))),
+    (*b"STOU", Takes(Alone(Bare::Stou))),
+    (*b"STRU", Takes(Read(OfValue::Stru))),
+    (*b"SYST", Ignores(Bare::Syst)),
+    (*b"TYPE", Ignores(Bare::TypeCode)),
+    (*b"USER", Takes(Raw(OfBytes::User))),
+    (*b"XCWD", Takes(SomeText(OfText::Cwd))),
+    (*b"XMKD", Takes(SomeText(OfText::Mkd))),
+    (*b"XPWD", Takes(Alone(Bare::Pwd))),
+];
+
+/// A word of three or four bytes, filled up with NUL to four.
+fn filled(word: &[u8]) -> Option<[u8; 4]>
+    ensures { result ≡ filled word.now }
+{
+    match word {
+        [a, b, c] => Some([*a, *b, *c, 0]),
+        [a, b, c, d] if *d != 0 => Some([*a, *b, *c, *d]),
+        _ => None,
+    }
+}
+
+/// The rule of a verb in upper case.
+fn rule_of(word: &[u8; 4]) -> Option<Rule>
+    ensures { option_map meaning result ≡ row_of (unfilled word.now) verbs }
+{
+    let found = VERBS.binary_search_by_key(
+        &u32::from_be_bytes(*word),
+        |row| u32::from_be_bytes(row.0),
+    );
+    match found {
+        Ok(at) => Some(VERBS[at].1),
+        Err(_) => None,
+    }
+}
+
+/// The four bytes in upper case.
+fn raised(word: [u8; 4]) -> [u8; 4]
+    ensures { result ≡ upper word }
+{
+    let [a, b, c, d] = word;
+    [
+        a.to_ascii_uppercase(),
+        b.to_ascii_uppercase(),
+        c.to_ascii_uppercase(),
+        d.to_ascii_uppercase(),
+    ]
+}
+
+/// The rule of the verb that the word is in either case of its letters.
+pub fn rule_named(word: &[u8]) -> Option<Rule>
+    ensures { option_map meaning result ≡ row_of (upper word.now) verbs }
+{
+    match filled(word) {
+        Some(word) => rule_of(&raised(word)),
+        None => None,
     }
 }
 
@@ -208,12 +278,8 @@ pub fn verb_named(word: &[u8]) -> Option<Verb>
 pub fn is_verb(raised: &[u8]) -> bool
     ensures { IsTrue result ↔ IsSome (row_of raised.now verbs) }
 {
-    verb_named(raised).is_some() && !has_lowercase(raised)
-}
-
-/// Whether a letter of the word is one of `a` to `z`.
-fn has_lowercase(word: &[u8]) -> bool
-    ensures { result ≡ list_any is_ascii_lowercase word.now }
-{
-    word.iter().any(|byte| byte.is_ascii_lowercase())
+    match filled(raised) {
+        Some(word) => rule_of(&word).is_some(),
+        None => false,
+    }
 }

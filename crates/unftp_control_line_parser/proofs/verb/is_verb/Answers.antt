@@ -1,16 +1,14 @@
-use Rattle.std.proofs.Common.{not, sym, ap, ◌∙◌}
-use Rattle.std.proofs.lemmas.Bool.{false≢true}
-use Rattle.unftp_control_line_parser.proofs.Exact.{named_raised, found_as_it_stands, not_found_as_it_stands, not_lowercase}
+use Rattle.std.proofs.Common.{◌≡◌, is_some, sym, ap, ◌∙◌}
+use Rattle.unftp_control_defs.specs.Rules.{row_of, verbs}
+use Rattle.unftp_control_line_parser.proofs.Table.{mapped_some, unfilled_back, unfilled_none}
 use Rattle.unftp_control_line_parser.proofs.verb.is_verb.Goals as goal
 
-pub returns-then-is_some : goal.returns-then-is_some
-returns-then-is_some c = (
-  (λ raised. found_as_it_stands c.args.raised.now c.verb_named.result c.verb_named.ensures (sym c.is_some.ensures ∙ c.if-is_some.true) (sym c.has_lowercase.ensures ∙ not_lowercase c.has_lowercase.result raised)),
-  (λ some. ap not (c.has_lowercase.ensures ∙ named_raised c.args.raised.now some)),
-)
+pub returns-in-Some : goal.returns-in-Some
+returns-in-Some c =
+    let same : c.is_some.result ≡ is_some (row_of c.args.raised.now verbs) = c.is_some.ensures ∙ mapped_some c.rule_of.result ∙ ap is_some c.rule_of.ensures ∙ ap (λ w. is_some (row_of w verbs)) (unfilled_back c.args.raised.now c.in-Some.word (sym c.in-Some.ensures)) in
+    ((λ found. sym same ∙ found), (λ some. same ∙ some))
 
-pub returns-else-is_some : goal.returns-else-is_some
-returns-else-is_some c = (
-  (λ found. absurd (false≢true (sym c.if-is_some.false ∙ found))),
-  (λ some. absurd (not_found_as_it_stands c.args.raised.now c.verb_named.result c.verb_named.ensures (sym c.is_some.ensures ∙ c.if-is_some.false) some)),
-)
+pub returns-in-None : goal.returns-in-None
+returns-in-None c =
+    let none = ap is_some (unfilled_none c.args.raised.now (sym c.in-None.ensures)) in
+    ((λ found. none ∙ found), (λ some. sym none ∙ some))
