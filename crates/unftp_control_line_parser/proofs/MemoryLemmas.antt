@@ -1,30 +1,31 @@
 -- No memory is taken for a command of a verb that takes no value or doesn't look at its parameter.
-use Rattle.std.proofs.Common.{◌≡◌, ◌≢◌, Bool, true, false, cond, List as Sequence, [], ◌∷◌, Option, Some, None, nat_lt, ◌==◌, ◌&&◌, ◌^◌, length, Result, Ok, Err, bytes_eq, codes, refl, sym, subst, ne_eqb, arith}
+use Rattle.std.proofs.Common.{◌≡◌, ◌≢◌, Bool, true, false, cond, List as Sequence, [], ◌∷◌, Option, Some, None, nat_lt, ◌==◌, ◌&&◌, ◌^◌, length, Result, Ok, Err, bytes_eq, codes, refl, sym, ap, subst, ne_eqb, arith}
 use Rattle.std.specs.List.{AllByRecursion}
+use Rattle.std.specs.Result.{IsErrAnd}
 use Rattle.std.specs.Str.{is_utf8, all_ascii_digits}
 use Rattle.std.specs.Str.Lossy.{utf8_lossy}
 use Rattle.std.specs.Str.Parse.{without_leading_plus, digits_value}
 use Rattle.unftp_control_defs.specs.Bytes.{Bytes}
 use Rattle.unftp_control_defs.specs.Verbs.{verb_of, parameter_of, upper}
 use Rattle.unftp_control_defs.specs.Values.{value_of}
-use Rattle.unftp_control_defs.specs.FtpCommand.{FtpCommand, Answer, InvalidCommand, Stat, Rest, Md5, Site, Other}
-use Rattle.unftp_control_defs.specs.Rules.{Rule, row_of, verbs, alone, chosen, any_text, some_text, structures, modes, protections, options, buffer_sizes, mechanisms, auth, offset, by_name}
+use Rattle.unftp_control_defs.specs.FtpCommand.{FtpCommand, Answer, InvalidCommand, Rest, Md5, Site, Other}
+use Rattle.unftp_control_defs.specs.Rules.{Rule, row_of, verbs, chosen, any_text, some_text, structures, modes, protections, options, buffer_sizes, mechanisms, auth, offset, by_name}
 use Rattle.unftp_control_defs.specs.Outcome.{answer_by, by_value, site_answer, outcome}
 use Rattle.unftp_control_line_parser.specs.declared.error.ParseErrorKind.{ParseErrorKind}
 use Rattle.unftp_control_line_parser.specs.declared.error.ParseErrorKind.TheVariants as kind
-use Rattle.unftp_control_line_parser.specs.declared.verb.OfBytes.{OfBytes}
-use Rattle.unftp_control_line_parser.specs.declared.verb.OfText.{OfText}
-use Rattle.unftp_control_line_parser.specs.declared.verb.OfMaybeText.{OfMaybeText}
-use Rattle.unftp_control_line_parser.specs.declared.verb.OfBytes.TheVariants as bytes
-use Rattle.unftp_control_line_parser.specs.declared.verb.OfText.TheVariants as text
-use Rattle.unftp_control_line_parser.specs.declared.verb.OfMaybeText.TheVariants as maybe
-use Rattle.unftp_control_line_parser.specs.declared.verb.OfValue.{OfValue}
-use Rattle.unftp_control_line_parser.specs.declared.verb.OfValue.TheVariants as value
-use Rattle.unftp_control_line_parser.specs.declared.verb.Form.{Form}
-use Rattle.unftp_control_line_parser.specs.declared.verb.Form.TheVariants.{Alone, Raw, Stat, SomeText, MaybeText, List, Read}
+use Rattle.unftp_control_line_parser.specs.declared.rule.RawCommand.{RawCommand}
+use Rattle.unftp_control_line_parser.specs.declared.rule.RawCommand.TheVariants as raw_bytes
+use Rattle.unftp_control_line_parser.specs.declared.rule.TextCommand.{TextCommand}
+use Rattle.unftp_control_line_parser.specs.declared.rule.TextCommand.TheVariants as text
+use Rattle.unftp_control_line_parser.specs.declared.rule.PathCommand.{PathCommand}
+use Rattle.unftp_control_line_parser.specs.declared.rule.PathCommand.TheVariants as path
+use Rattle.unftp_control_line_parser.specs.declared.rule.TypedCommand.{TypedCommand}
+use Rattle.unftp_control_line_parser.specs.declared.rule.TypedCommand.TheVariants as typed
+use Rattle.unftp_control_line_parser.specs.declared.rule.ParameterKind.{ParameterKind}
+use Rattle.unftp_control_line_parser.specs.declared.rule.ParameterKind.TheVariants.{Empty, Raw, StatPath, Text, OptionalPath, ListPath, Typed}
 use Rattle.unftp_control_line_parser.specs.Memory.{is_bare, IsNotBare, MayTakeMemory, IfStarved, OnStarved}
-use Rattle.unftp_control_line_parser.specs.Meaning.{bare, of_bytes, of_text, of_maybe_text, of_value, of_form}
-use Rattle.unftp_control_line_parser.proofs.Named.{named_utf8}
+use Rattle.unftp_control_line_parser.specs.Meaning.{raw_command, text_command, path_command, typed_answer, parameter_answer}
+use Rattle.unftp_control_line_parser.proofs.OutcomeLemmas.{named_utf8}
 
 pub IfStarved-weaker : (error : ParseErrorKind) (P Q : Type 0) → (P → Q) → IfStarved error P → IfStarved error Q
 IfStarved-weaker kind.InvalidCommand P Q turn h = tt
@@ -35,6 +36,10 @@ IfStarved-weaker kind.OutOfMemory P Q turn h = turn h
 pub OnStarved-weaker : {T : Type 0} (answer : Result T ParseErrorKind) (P Q : Type 0) → (P → Q) → OnStarved answer P → OnStarved answer Q
 OnStarved-weaker (Ok x) P Q turn h = tt
 OnStarved-weaker (Err error) P Q turn h = IfStarved-weaker error P Q turn h
+
+pub OnStarved-error : {T : Type 0} (error : ParseErrorKind) (answer : Result T ParseErrorKind) (P : Type 0) → IfStarved error P → IsErrAnd answer (λ e. e ≡ error) → OnStarved answer P
+OnStarved-error error (Ok x) P h is = absurd is
+OnStarved-error error (Err e) P h is = subst (λ e. IfStarved e P) (sym is) h
 
 pub OnStarved-from : {T : Type 0} (answer : Result T ParseErrorKind) (P : Type 0) → P → OnStarved answer P
 OnStarved-from (Ok x) P p = tt
@@ -66,11 +71,6 @@ offset_not_bare text =
     let digits : Bytes = without_leading_plus text in
     not_bare_if (nat_lt 0 (length digits) && all_ascii_digits digits && nat_lt (digits_value 10 digits) (2 ^ 64)) (Ok (Rest (digits_value 10 digits))) (Err InvalidCommand) refl tt
 
-alone_not_bare : (command : FtpCommand) (value : Option Bytes) → value ≢ Some [] → IsNotBare (by_value (alone command) value)
-alone_not_bare command None filled = tt
-alone_not_bare command (Some []) filled = absurd (filled refl)
-alone_not_bare command (Some (b ∷ v)) filled = let longer : length (b ∷ v) ≢ 0 = λ e. absurd (omega arith) in rw (ne_eqb (length (b ∷ v)) 0 longer) tt
-
 pub site_not_bare : (parameter : Bytes) → IsNotBare (site_answer parameter)
 site_not_bare parameter = not_bare_if (is_utf8 (verb_of parameter)) _ _ (by_value_not_bare (by_name name) (value_of (parameter_of parameter)) by_the_name) tt
   where
@@ -87,47 +87,42 @@ site_not_bare parameter = not_bare_if (is_utf8 (verb_of parameter)) _ _ (by_valu
 pub other_not_bare : (name : Bytes) (value : Option Bytes) → IsNotBare (by_value (any_text (Other name)) value)
 other_not_bare name value = by_value_not_bare (any_text (Other name)) value (λ v. refl)
 
--- the commands of a field are no such commands
-of_bytes_not_bare : (command : OfBytes) (v : Bytes) → is_bare (of_bytes command v) ≡ false
-of_bytes_not_bare bytes.Acct t = refl
-of_bytes_not_bare _ t = refl
+-- a command with a field is no such command
+raw_not_bare : (command : RawCommand) (v : Bytes) → is_bare (raw_command command v) ≡ false
+raw_not_bare raw_bytes.Acct v = refl
+raw_not_bare _ v = refl
 
-of_text_not_bare : (command : OfText) (text : Bytes) → is_bare (of_text command text) ≡ false
-of_text_not_bare text.Appe t = refl
-of_text_not_bare _ t = refl
+text_not_bare : (command : TextCommand) (text : Bytes) → is_bare (text_command command text) ≡ false
+text_not_bare text.Appe t = refl
+text_not_bare _ t = refl
 
-of_maybe_text_not_bare : (command : OfMaybeText) (text : Option Bytes) → is_bare (of_maybe_text command text) ≡ false
-of_maybe_text_not_bare maybe.Mlsd t = refl
-of_maybe_text_not_bare _ t = refl
+path_not_bare : (command : PathCommand) (text : Option Bytes) → is_bare (path_command command text) ≡ false
+path_not_bare path.Mlsd t = refl
+path_not_bare _ t = refl
 
-of_value_not_bare : (command : OfValue) (v : Bytes) → IsNotBare (of_value command v)
-of_value_not_bare value.Auth v = auth_not_bare v
-of_value_not_bare value.Mode v = chosen_not_bare modes (refl, (refl, (refl, tt))) v
-of_value_not_bare value.Opts v = chosen_not_bare options (refl, (refl, (refl, (refl, tt)))) v
-of_value_not_bare value.Pbsz v = chosen_not_bare buffer_sizes (refl, tt) v
-of_value_not_bare value.Prot v = chosen_not_bare protections (refl, (refl, (refl, (refl, tt)))) v
-of_value_not_bare value.Rest v = offset_not_bare (utf8_lossy v)
-of_value_not_bare value.Stru v = chosen_not_bare structures (refl, (refl, (refl, tt))) v
+typed_not_bare : (command : TypedCommand) (v : Bytes) → IsNotBare (typed_answer command v)
+typed_not_bare typed.Auth v = auth_not_bare v
+typed_not_bare typed.Mode v = chosen_not_bare modes (refl, (refl, (refl, tt))) v
+typed_not_bare typed.Opts v = chosen_not_bare options (refl, (refl, (refl, (refl, tt)))) v
+typed_not_bare typed.Pbsz v = chosen_not_bare buffer_sizes (refl, tt) v
+typed_not_bare typed.Prot v = chosen_not_bare protections (refl, (refl, (refl, (refl, tt)))) v
+typed_not_bare typed.Rest v = offset_not_bare (utf8_lossy v)
+typed_not_bare typed.Stru v = chosen_not_bare structures (refl, (refl, (refl, tt))) v
 
--- what takes a value makes no such command of it
-pub raw_not_bare : (command : OfBytes) (v : Bytes) → IsNotBare (of_form (Raw command) v)
-raw_not_bare command v = of_bytes_not_bare command v
+-- so what takes a value makes no such command of it, whatever it is
+pub value_not_bare : (kind : ParameterKind) (v : Bytes) → v ≢ [] → IsNotBare (parameter_answer kind v)
+value_not_bare (Empty command) [] some = absurd (some refl)
+value_not_bare (Empty command) (b ∷ v) some = let longer : length (b ∷ v) ≢ 0 = λ e. absurd (omega arith) in rw (ne_eqb (length (b ∷ v)) 0 longer) tt
+value_not_bare (Raw command) v some = raw_not_bare command v
+value_not_bare StatPath v some = refl
+value_not_bare (Text command) v some = some_not_bare (text_command command) (text_not_bare command) v
+value_not_bare (OptionalPath command) v some = path_not_bare command _
+value_not_bare ListPath v some = refl
+value_not_bare (Typed command) v some = typed_not_bare command v
 
-pub some_text_not_bare : (command : OfText) (v : Bytes) → IsNotBare (of_form (SomeText command) v)
-some_text_not_bare command v = some_not_bare (of_text command) (of_text_not_bare command) v
-
-pub maybe_text_not_bare : (command : OfMaybeText) (v : Bytes) → IsNotBare (of_form (MaybeText command) v)
-maybe_text_not_bare command v = of_maybe_text_not_bare command _
-
--- and what takes none makes one of no value alone
-pub filled_not_bare : (form : Form) (value : Option Bytes) → value ≢ Some [] → IsNotBare (by_value (of_form form) value)
-filled_not_bare (Alone command) value filled = alone_not_bare (bare command) value filled
-filled_not_bare (Raw command) value filled = by_value_not_bare (of_form (Raw command)) value (raw_not_bare command)
-filled_not_bare Stat value filled = by_value_not_bare (of_form Stat) value (λ v. refl)
-filled_not_bare (SomeText command) value filled = by_value_not_bare (of_form (SomeText command)) value (some_text_not_bare command)
-filled_not_bare (MaybeText command) value filled = by_value_not_bare (of_form (MaybeText command)) value (maybe_text_not_bare command)
-filled_not_bare List value filled = by_value_not_bare (of_form List) value (λ v. refl)
-filled_not_bare (Read command) value filled = by_value_not_bare (of_form (Read command)) value (of_value_not_bare command)
+pub kind_not_bare : (kind : ParameterKind) (value : Option Bytes) → value ≢ Some [] → IsNotBare (by_value (parameter_answer kind) value)
+kind_not_bare kind None some = tt
+kind_not_bare kind (Some v) some = value_not_bare kind v (λ e. some (ap (λ w. Some w) e))
 
 -- so a line may take memory only where it is no such command
 module _ (line word parameter : Bytes) (whole : word ≡ verb_of line) (rest : parameter ≡ parameter_of line) where

@@ -1,37 +1,28 @@
 -- What the parts of a parameter's reading answer.
 use Rattle.std.specs.Prelude.{◌≡◌, ℕ, ◌<◌, ◌≤◌, ◌==◌, ◌||◌, Bool, true, false, ◌&&◌, [], ◌∷◌, ◌++◌, length, take, drop, slice_index, Option, Some, None, option_map, Result, Ok, Err, ⊤, Vec, String, string_bytes}
-use Rattle.std.specs.Str.{is_utf8}
-use denote.Ref.{Bor}
+use Rattle.std.specs.Cow.{cow_slice_items}
+use Rattle.std.specs.declared.borrow.CowSlice.{CowSlice}
 use Rattle.std.specs.Str.Lossy.{utf8_lossy}
 use Rattle.unftp_control_defs.specs.Bytes.{Bytes, CR, LF, NUL}
-use Rattle.unftp_control_defs.specs.Verbs.{upper}
-use Rattle.unftp_control_defs.specs.Paths.{path_of}
-use Rattle.unftp_control_defs.specs.Rules.{unless_empty}
 use Rattle.unftp_control_defs.specs.Values.{Place, later_value, Fresh, Plain}
 use Rattle.unftp_control_line_parser.specs.declared.error.ParseErrorKind.{ParseErrorKind}
 use Rattle.unftp_control_line_parser.specs.declared.error.ParseErrorKind.TheVariants as kind
-use Rattle.unftp_control_line_parser.specs.declared.value.Value.{Value}
-use Rattle.unftp_control_line_parser.specs.declared.value.Value.TheVariants.{Borrowed, Owned}
 use Rattle.unftp_control_line_parser.specs.declared.value.Run.{Run}
 use Rattle.unftp_control_line_parser.specs.declared.value.Run.TheVariants.{Last, Escaped, BadEnd}
 
-abbrev pub value_bytes : Value → Bytes
-value_bytes (Borrowed bytes) = bytes.now
-value_bytes (Owned bytes) = bytes.items
-
--- A bad end is told where there is no value; want of memory may be told anywhere.
+-- `InvalidEol` is returned where there is no value, and `OutOfMemory` may be returned anywhere.
 abbrev pub RefusesValue : Option Bytes → ParseErrorKind → Type 0
 RefusesValue value kind.InvalidEol = value ≡ None
 RefusesValue value kind.OutOfMemory = ⊤
 RefusesValue value kind.InvalidCommand = ⊥
 RefusesValue value kind.InvalidUtf8 = ⊥
 
-abbrev pub TellsValue : Option Bytes → Result Value ParseErrorKind → Type 0
-TellsValue value (Ok v) = value ≡ Some (value_bytes v)
+abbrev pub TellsValue : {A : Type 0} → Option Bytes → Result (CowSlice ℕ A) ParseErrorKind → Type 0
+TellsValue value (Ok v) = value ≡ Some (cow_slice_items v)
 TellsValue value (Err refusal) = RefusesValue value refusal
 
 -- the value that begins with these bytes and goes on with what the rest makes
-abbrev pub TellsWhole : Bytes → Option Bytes → Result Value ParseErrorKind → Type 0
+abbrev pub TellsWhole : {A : Type 0} → Bytes → Option Bytes → Result (CowSlice ℕ A) ParseErrorKind → Type 0
 TellsWhole front more result = TellsValue (option_map (λ w. front ++ w) more) result
 
 abbrev pub TellsJoined : {A : Type 0} → Bytes → Option Bytes → Result (Vec ℕ A) ParseErrorKind → Type 0
@@ -61,20 +52,11 @@ TellsRun bytes (Escaped part rest) = (later_value Fresh bytes ≡ option_map (λ
     × (part.now ≡ take (length part.now) bytes) × (length rest.now < length bytes)
 TellsRun bytes BadEnd = later_value Fresh bytes ≡ None
 
--- a text that is made of a value
-abbrev pub TellsText : {A : Type 0} → Bytes → Result (String A) ParseErrorKind → Type 0
-TellsText v (Ok text) = string_bytes text ≡ utf8_lossy v
-TellsText v (Err refusal) = refusal ≡ kind.OutOfMemory
-
 -- the bytes begin with CR NUL
 abbrev pub begins_escaped : Bytes → Bool
 begins_escaped [] = false
 begins_escaped (a ∷ []) = false
 begins_escaped (a ∷ b ∷ bytes) = (a == CR) && (b == NUL)
-
-abbrev pub TellsBytes : Bytes → Result Bytes ParseErrorKind → Type 0
-TellsBytes v (Ok bytes) = bytes ≡ v
-TellsBytes v (Err refusal) = refusal ≡ kind.OutOfMemory
 
 -- the text of a value that is not empty
 abbrev pub RefusesSome : Bytes → ParseErrorKind → Type 0
@@ -86,24 +68,3 @@ RefusesSome v kind.InvalidUtf8 = ⊥
 abbrev pub TellsSome : {A : Type 0} → Bytes → Result (String A) ParseErrorKind → Type 0
 TellsSome v (Ok text) = (0 < length v) × (string_bytes text ≡ utf8_lossy v)
 TellsSome v (Err refusal) = RefusesSome v refusal
-
-abbrev pub TellsOptional : {A : Type 0} → Bytes → Result (Option (String A)) ParseErrorKind → Type 0
-TellsOptional v (Ok text) = option_map string_bytes text ≡ option_map utf8_lossy (unless_empty v)
-TellsOptional v (Err refusal) = refusal ≡ kind.OutOfMemory
-
-abbrev pub TellsPath : {A : Type 0} → Bytes → Result (Option (String A)) ParseErrorKind → Type 0
-TellsPath v (Ok path) = option_map string_bytes path ≡ unless_empty (path_of (utf8_lossy v))
-TellsPath v (Err refusal) = refusal ≡ kind.OutOfMemory
-
-abbrev pub TellsUpper : {A : Type 0} → Bytes → Result (String A) ParseErrorKind → Type 0
-TellsUpper name (Ok text) = string_bytes text ≡ upper name
-TellsUpper name (Err refusal) = refusal ≡ kind.OutOfMemory
-
-abbrev pub TellsOptionalBytes : Bytes → Result (Option Bytes) ParseErrorKind → Type 0
-TellsOptionalBytes v (Ok bytes) = bytes ≡ unless_empty v
-TellsOptionalBytes v (Err refusal) = refusal ≡ kind.OutOfMemory
-
--- the text that bytes are
-abbrev pub TellsUtf8 : Bytes → Option (Bor Bytes) → Type 0
-TellsUtf8 bytes (Some text) = (text.now ≡ bytes) × (is_utf8 bytes ≡ true)
-TellsUtf8 bytes None = is_utf8 bytes ≡ false

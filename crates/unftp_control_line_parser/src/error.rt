@@ -1,6 +1,7 @@
 //! Why a line is no command.
 ghost use Rattle.std.specs.Prelude.{◌≡◌};
 
+use std::alloc::AllocError;
 use std::error::Error;
 use std::marker::Model;
 use std::str::Utf8Error;
@@ -33,6 +34,28 @@ impl fmt::Display for ParseErrorKind {
             ParseErrorKind::InvalidEol => "Invalid end-of-line",
             ParseErrorKind::OutOfMemory => "Out of memory",
         })
+    }
+}
+
+impl From<AllocError> for ParseErrorKind {
+    ghost use Rattle.std.specs.Prelude.{◌≡◌};
+    ghost use Rattle.unftp_control_line_parser.specs.declared.error.ParseErrorKind.TheVariants.{OutOfMemory};
+
+    ghost from_gives = { λ _ kind. kind ≡ OutOfMemory };
+
+    fn from(_failed: AllocError) -> ParseErrorKind {
+        ParseErrorKind::OutOfMemory
+    }
+}
+
+impl From<Utf8Error> for ParseErrorKind {
+    ghost use Rattle.std.specs.Prelude.{◌≡◌};
+    ghost use Rattle.unftp_control_line_parser.specs.declared.error.ParseErrorKind.TheVariants.{InvalidUtf8};
+
+    ghost from_gives = { λ _ kind. kind ≡ InvalidUtf8 };
+
+    fn from(_error: Utf8Error) -> ParseErrorKind {
+        ParseErrorKind::InvalidUtf8
     }
 }
 

@@ -2,8 +2,10 @@
 #![tactic(auto)]
 
 mod error;
+mod fields;
 mod parser;
-mod rules;
+mod rule;
+mod typed;
 mod value;
 mod verb;
 

@@ -1,20 +1,34 @@
 //! A line's verb and parameter, and the command that they are.
 ghost use Rattle.std.specs.Prelude.{◌≡◌, ◌≤◌, length, IfOk};
 ghost use Rattle.std.specs.List.{position_or_len};
+ghost use Rattle.std.specs.Cow.{cow_slice_items};
 ghost use Rattle.unftp_control_command.specs.CommandMeaning.{command_of};
 ghost use Rattle.unftp_control_defs.specs.Canonical.{IsGiven};
 ghost use Rattle.unftp_control_defs.specs.Lines.{IsLine};
-ghost use Rattle.unftp_control_defs.specs.Verbs.{is_separator, verb_of, parameter_of};
-ghost use Rattle.unftp_control_defs.specs.Outcome.{outcome};
-ghost use Rattle.unftp_control_line_parser.specs.Memory.{MayTakeMemory, OnStarved};
+ghost use Rattle.unftp_control_defs.specs.Verbs.{is_separator, parameter_of, upper, verb_of};
+ghost use Rattle.unftp_control_defs.specs.FtpCommand.{Other};
+ghost use Rattle.unftp_control_defs.specs.Outcome.{answer_by, by_value, outcome, site_answer};
+ghost use Rattle.unftp_control_defs.specs.Rules.{alone, any_text, by_name};
+ghost use Rattle.unftp_control_defs.specs.Values.{value_of};
+ghost use Rattle.unftp_control_line_parser.specs.Meaning.{meaning, parameter_answer, unit_command};
+ghost use Rattle.unftp_control_line_parser.specs.Memory.{IsNotBare, MayTakeMemory, OnStarved};
 ghost use Rattle.unftp_control_line_parser.specs.Told.{Tells};
+ghost use Rattle.unftp_control_line_parser.specs.Values.{TellsSome};
 
 use crate::error::{ParseErrorKind, Result};
-use crate::rules::{as_text, by_rule, other};
+use crate::fields::{list_path, optional_raw, optional_text, raw, text, upper_cased};
+use crate::rule::{ParameterKind, Rule, UnitCommand};
+use crate::typed::typed;
+use crate::value::parameter_value;
 use crate::verb::rule_named;
 use std::alloc::Global;
+use std::borrow::CowSlice;
+use std::convert::AsSlice;
 use std::result;
+use std::str::from_utf8;
 use unftp_control_command::Command;
+
+type Answer = result::Result<Command, ParseErrorKind>;
 
 /// Whether the byte ends a verb.
 fn is_separator(byte: u8) -> bool
@@ -67,16 +81,105 @@ pub fn parse(alloc: Global, line: &[u8]) -> Result<Command>
 }
 
 /// The same, with the kind of the refusal.
-fn command_in(alloc: Global, line: &[u8]) -> result::Result<Command, ParseErrorKind>
+fn command_in(alloc: Global, line: &[u8]) -> Answer
     ensures told { Tells (outcome line.now) result }
     ensures memory { OnStarved result (MayTakeMemory line.now) }
 {
     let (verb, parameter) = split(line);
     match rule_named(verb) {
         Some(rule) => by_rule(alloc, rule, parameter),
-        None => match as_text(verb) {
-            Some(name) => other(alloc, name, parameter),
-            None => Err(ParseErrorKind::InvalidUtf8),
-        },
+        None => other(alloc, from_utf8(verb)?, parameter),
     }
+}
+
+/// What the rule makes of parameter bytes.
+fn by_rule(alloc: Global, rule: Rule, parameter: &[u8]) -> Answer
+    ensures told { Tells (answer_by (meaning rule) parameter.now) result }
+    ensures memory { OnStarved result (IsNotBare (answer_by (meaning rule) parameter.now)) }
+{
+    match rule {
+        Rule::Ignores(command) => Ok(command.command()),
+        Rule::Takes(kind) => with_value(alloc, kind, parameter_value(alloc, parameter)?),
+        Rule::Splits => site(alloc, parameter),
+    }
+}
+
+/// The command with this value.
+fn with_value(alloc: Global, kind: ParameterKind, value: CowSlice<'_, u8>) -> Answer
+    ensures told { Tells (parameter_answer kind (cow_slice_items value.entry)) result }
+    ensures memory { OnStarved result (IsNotBare (parameter_answer kind (cow_slice_items value.entry))) }
+{
+    match kind {
+        ParameterKind::Empty(command) => without_value(command, value.as_slice()),
+        ParameterKind::Raw(command) => Ok(command.command(raw(alloc, value)?)),
+        ParameterKind::StatPath => Ok(Command::Stat {
+            path: optional_raw(alloc, value)?,
+        }),
+        ParameterKind::Text(command) => Ok(command.command(some_text(alloc, value)?)),
+        ParameterKind::OptionalPath(command) => {
+            Ok(command.command(optional_text(alloc, value)?))
+        }
+        ParameterKind::ListPath => Ok(Command::List {
+            options: None,
+            path: list_path(alloc, value)?,
+        }),
+        ParameterKind::Typed(command) => typed(command, value.as_slice()),
+    }
+}
+
+/// The command, where there is no value.
+fn without_value(command: UnitCommand, value: &[u8]) -> Answer
+    ensures told { Tells (alone (unit_command command) value.now) result }
+    ensures memory { OnStarved result ⊥ }
+{
+    if value.is_empty() {
+        Ok(command.command())
+    } else {
+        Err(ParseErrorKind::InvalidCommand)
+    }
+}
+
+/// The value as text, which must not be empty.
+fn some_text(alloc: Global, value: CowSlice<'_, u8>) -> result::Result<String, ParseErrorKind>
+    ensures { TellsSome (cow_slice_items value.entry) result }
+{
+    if value.as_slice().is_empty() {
+        return Err(ParseErrorKind::InvalidCommand);
+    }
+    Ok(text(alloc, value)?)
+}
+
+/// A SITE subcommand and its parameter (RFC 959, section 4.1.3).
+fn site(alloc: Global, parameter: &[u8]) -> Answer
+    ensures { Tells (site_answer parameter.now) result }
+{
+    let (name, inner) = split(parameter);
+    subcommand(alloc, from_utf8(name)?, inner)
+}
+
+/// The same, of a name in UTF-8.
+fn subcommand(alloc: Global, name: &str, parameter: &[u8]) -> Answer
+    ensures { Tells (by_value (by_name (upper name.now)) (value_of parameter.now)) result }
+{
+    let value = parameter_value(alloc, parameter)?;
+    if name.eq_ignore_ascii_case("MD5") {
+        return Ok(Command::Md5 {
+            file: some_text(alloc, value)?,
+        });
+    }
+    Ok(Command::Site {
+        arguments: text(alloc, value)?,
+        command: upper_cased(alloc, name)?,
+    })
+}
+
+/// A verb without a rule of its own, and its parameter.
+fn other(alloc: Global, name: &str, parameter: &[u8]) -> Answer
+    ensures { Tells (by_value (any_text (Other (upper name.now))) (value_of parameter.now)) result }
+{
+    let value = parameter_value(alloc, parameter)?;
+    Ok(Command::Other {
+        arguments: text(alloc, value)?,
+        command_name: upper_cased(alloc, name)?,
+    })
 }

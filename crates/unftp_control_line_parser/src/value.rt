@@ -2,35 +2,18 @@
 ghost use Rattle.std.specs.Prelude.{◌≡◌, ◌≢◌, Some, []};
 ghost use Rattle.unftp_control_defs.specs.Values.{value_of, later_value, Fresh};
 ghost use Rattle.unftp_control_line_parser.specs.Memory.{OnStarved};
-ghost use Rattle.unftp_control_line_parser.specs.Values.{begins_escaped, IsPlainEnd, IsFreshEnd, TellsValue, TellsRun, TellsWhole, TellsJoined, value_bytes};
+ghost use Rattle.unftp_control_line_parser.specs.Values.{begins_escaped, IsPlainEnd, IsFreshEnd, TellsValue, TellsRun, TellsWhole, TellsJoined};
 
 use crate::error::ParseErrorKind;
 use memchr::memchr2;
-use std::alloc::Global;
+use std::alloc::{AllocError, Global};
+use std::borrow::CowSlice;
 
 const NUL: u8 = 0;
 
 const LF: u8 = b'\n';
 
 const CR: u8 = b'\r';
-
-/// A value: bytes of the line where it has no CR NUL, else bytes of its own.
-#[derive(Drop)]
-pub enum Value<'a> {
-    Borrowed(&'a [u8]),
-    Owned(Vec<u8>),
-}
-
-impl<'a> Value<'a> {
-    pub fn as_slice(&self) -> &[u8]
-        ensures { result.now ≡ value_bytes self.now }
-    {
-        match self {
-            Value::Borrowed(bytes) => bytes,
-            Value::Owned(bytes) => bytes.as_slice(),
-        }
-    }
-}
 
 /// What bytes begin with, directly after the first unit or a CR NUL.
 #[derive(Drop)]
@@ -98,22 +81,16 @@ fn joined(front: Vec<u8>, after: &[u8]) -> Result<Vec<u8>, ParseErrorKind>
     'parts: loop {
         if begins_escaped(rest) {
             let (_, further) = rest.split_at(2);
-            if joined.push(CR).is_err() {
-                return Err(ParseErrorKind::OutOfMemory);
-            }
+            joined.push(CR).map_err(AllocError::from)?;
             rest = further;
         } else {
             match front_run(rest) {
                 Run::Last(part) => {
-                    return match joined.extend_from_slice(part) {
-                        Ok(()) => Ok(joined),
-                        Err(_) => Err(ParseErrorKind::OutOfMemory),
-                    };
+                    joined.extend_from_slice(part)?;
+                    return Ok(joined);
                 }
                 Run::Escaped(part, further) => {
-                    if joined.extend_from_slice(part).is_err() {
-                        return Err(ParseErrorKind::OutOfMemory);
-                    }
+                    joined.extend_from_slice(part)?;
                     rest = further;
                 }
                 Run::BadEnd => return Err(ParseErrorKind::InvalidEol),
@@ -122,17 +99,16 @@ fn joined(front: Vec<u8>, after: &[u8]) -> Result<Vec<u8>, ParseErrorKind>
     }
 }
 
-/// The value that begins with these bytes and goes on, directly after a CR NUL, with the rest.
-fn escaped<'a>(alloc: Global, front: &[u8], after: &[u8]) -> Result<Value<'a>, ParseErrorKind>
+/// The same, of bytes in front that are copied.
+fn unescaped<'a>(
+    alloc: Global,
+    front: &[u8],
+    after: &[u8],
+) -> Result<CowSlice<'a, u8>, ParseErrorKind>
     ensures { TellsWhole front.now (later_value Fresh after.now) result }
 {
-    match Vec::from_slice(alloc, front) {
-        Ok(front) => match joined(front, after) {
-            Ok(bytes) => Ok(Value::Owned(bytes)),
-            Err(kind) => Err(kind),
-        },
-        Err(_) => Err(ParseErrorKind::OutOfMemory),
-    }
+    let front = Vec::from_slice(alloc, front)?;
+    Ok(CowSlice::Owned(joined(front, after)?))
 }
 
 /// Whether the parameter begins with CR NUL.
@@ -145,31 +121,34 @@ fn begins_escaped(parameter: &[u8]) -> bool
     }
 }
 
-/// The value of parameter bytes.
-pub fn parameter_value<'a>(alloc: Global, parameter: &'a [u8]) -> Result<Value<'a>, ParseErrorKind>
+/// The value of parameter bytes: bytes of the line, or new ones where it has CR NUL.
+pub fn parameter_value<'a>(
+    alloc: Global,
+    parameter: &'a [u8],
+) -> Result<CowSlice<'a, u8>, ParseErrorKind>
     ensures told { TellsValue (value_of parameter.now) result }
     ensures memory { OnStarved result (value_of parameter.now ≢ Some []) }
 {
     let (none, _) = parameter.split_at(0);
     if parameter.is_empty() || parameter[0] == LF {
-        return Ok(Value::Borrowed(none));
+        return Ok(CowSlice::Borrowed(none));
     }
     let (first, rest) = parameter.split_at(1);
     if rest == b"\n".as_slice() {
-        return Ok(Value::Borrowed(if parameter[0] == CR { none } else { first }));
+        return Ok(CowSlice::Borrowed(if parameter[0] == CR { none } else { first }));
     }
     if begins_escaped(parameter) {
         let (_, after) = parameter.split_at(2);
-        return escaped(alloc, first, after);
+        return unescaped(alloc, first, after);
     }
     match front_run(rest) {
         Run::Last(part) => {
             let (value, _) = parameter.split_at(1 + part.len());
-            Ok(Value::Borrowed(value))
+            Ok(CowSlice::Borrowed(value))
         }
         Run::Escaped(part, further) => {
             let (front, _) = parameter.split_at(1 + part.len());
-            escaped(alloc, front, further)
+            unescaped(alloc, front, further)
         }
         Run::BadEnd => Err(ParseErrorKind::InvalidEol),
     }

@@ -1,234 +1,68 @@
-//! The verbs that have a rule of their own, and the rules.
-ghost use Rattle.std.specs.Prelude.{◌≡◌, ◌↔◌, IsTrue, IsSome, option_map, string_bytes};
-ghost use Rattle.unftp_control_command.specs.CommandMeaning.{command_of};
+//! The verbs with a rule of their own.
+ghost use Rattle.std.specs.Prelude.{◌≡◌, ◌↔◌, IsTrue, IsSome, option_map};
 ghost use Rattle.unftp_control_defs.specs.Rules.{row_of, verbs};
 ghost use Rattle.unftp_control_defs.specs.Verbs.{upper};
-ghost use Rattle.unftp_control_line_parser.specs.Meaning.{bare, of_bytes, of_text, of_maybe_text, meaning};
-ghost use Rattle.unftp_control_line_parser.specs.Words.{filled, unfilled};
+ghost use Rattle.unftp_control_line_parser.specs.Meaning.{meaning};
+ghost use Rattle.unftp_control_line_parser.specs.Words.{padded, unpadded};
 
-use Form::{Alone, List, MaybeText, Raw, Read, SomeText, Stat};
-use Rule::{Cuts, Ignores, Takes};
-use bytes::Bytes;
-use unftp_control_command::Command;
-use unftp_control_password::Password;
+use crate::rule::ParameterKind::{Empty, ListPath, OptionalPath, Raw, StatPath, Text, Typed};
+use crate::rule::Rule::{Ignores, Splits, Takes};
+use crate::rule::{PathCommand, RawCommand, Rule, TextCommand, TypedCommand, UnitCommand};
 
-/// What a verb does with its parameter bytes.
-#[derive(Clone, Copy)]
-pub enum Rule {
-    /// It ignores them.
-    Ignores(Bare),
-    /// It takes their value.
-    Takes(Form),
-    /// It cuts them again, as a line.
-    Cuts,
-}
-
-/// What a verb makes of the value of its parameter.
-#[derive(Clone, Copy)]
-pub enum Form {
-    /// No value.
-    Alone(Bare),
-    /// Any value, as it is.
-    Raw(OfBytes),
-    /// The same, or none where it is empty.
-    Stat,
-    /// A text that is not empty.
-    SomeText(OfText),
-    /// A text, or none where the value is empty.
-    MaybeText(OfMaybeText),
-    /// A path behind options, or none.
-    List,
-    /// One of the values that the command has.
-    Read(OfValue),
-}
-
-/// A command that has no field.
-#[derive(Clone, Copy)]
-pub enum Bare {
-    Abor,
-    Allo,
-    Ccc,
-    Cdup,
-    Epsv,
-    Feat,
-    Help,
-    Noop,
-    Pasv,
-    Pwd,
-    Quit,
-    Stou,
-    Syst,
-    TypeCode,
-}
-
-impl Bare {
-    pub fn command(self) -> Command
-        ensures { command_of result ≡ bare self }
-    {
-        match self {
-            Bare::Abor => Command::Abor,
-            Bare::Allo => Command::Allo {},
-            Bare::Ccc => Command::Ccc,
-            Bare::Cdup => Command::Cdup,
-            Bare::Epsv => Command::Epsv,
-            Bare::Feat => Command::Feat,
-            Bare::Help => Command::Help,
-            Bare::Noop => Command::Noop,
-            Bare::Pasv => Command::Pasv,
-            Bare::Pwd => Command::Pwd,
-            Bare::Quit => Command::Quit,
-            Bare::Stou => Command::Stou,
-            Bare::Syst => Command::Syst,
-            Bare::TypeCode => Command::TypeCode,
-        }
-    }
-}
-
-/// A command of bytes.
-#[derive(Clone, Copy)]
-pub enum OfBytes {
-    Acct,
-    Pass,
-    User,
-}
-
-impl OfBytes {
-    pub fn command(self, bytes: Bytes) -> Command
-        ensures { command_of result ≡ of_bytes self bytes }
-    {
-        match self {
-            OfBytes::Acct => Command::Acct { account: bytes },
-            OfBytes::Pass => Command::Pass {
-                password: Password::new(bytes),
-            },
-            OfBytes::User => Command::User { username: bytes },
-        }
-    }
-}
-
-/// A command of a text.
-#[derive(Clone, Copy)]
-pub enum OfText {
-    Appe,
-    Cwd,
-    Dele,
-    Mdtm,
-    Mkd,
-    Port,
-    Retr,
-    Rmd,
-    Rnfr,
-    Rnto,
-    Size,
-    Stor,
-}
-
-impl OfText {
-    pub fn command(self, text: String) -> Command
-        ensures { command_of result ≡ of_text self (string_bytes text) }
-    {
-        match self {
-            OfText::Appe => Command::Appe { path: text },
-            OfText::Cwd => Command::Cwd { path: text },
-            OfText::Dele => Command::Dele { path: text },
-            OfText::Mdtm => Command::Mdtm { file: text },
-            OfText::Mkd => Command::Mkd { path: text },
-            OfText::Port => Command::Port { addr: text },
-            OfText::Retr => Command::Retr { path: text },
-            OfText::Rmd => Command::Rmd { path: text },
-            OfText::Rnfr => Command::Rnfr { file: text },
-            OfText::Rnto => Command::Rnto { file: text },
-            OfText::Size => Command::Size { file: text },
-            OfText::Stor => Command::Stor { path: text },
-        }
-    }
-}
-
-/// A command of a path, or of none.
-#[derive(Clone, Copy)]
-pub enum OfMaybeText {
-    Mlsd,
-    Mlst,
-    Nlst,
-}
-
-impl OfMaybeText {
-    pub fn command(self, path: Option<String>) -> Command
-        ensures { command_of result ≡ of_maybe_text self (option_map string_bytes path) }
-    {
-        match self {
-            OfMaybeText::Mlsd => Command::Mlsd { path },
-            OfMaybeText::Mlst => Command::Mlst { path },
-            OfMaybeText::Nlst => Command::Nlst { path },
-        }
-    }
-}
-
-/// A command whose field a value names.
-#[derive(Clone, Copy)]
-pub enum OfValue {
-    Auth,
-    Mode,
-    Opts,
-    Pbsz,
-    Prot,
-    Rest,
-    Stru,
-}
-
-/// The verbs in the order of their bytes, each filled up with NUL to four, and their rules.
+/// The verbs, each padded with NUL to four bytes, and their rules. The rows are in the order of the verbs' bytes, since they are
+/// found by binary search.
 static VERBS: [([u8; 4], Rule); 46] = [
-    (*b"ABOR", Takes(Alone(Bare::Abor))),
-    (*b"ACCT", Takes(Raw(OfBytes::Acct))),
-    (*b"ALLO", Ignores(Bare::Allo)),
-    (*b"APPE", Takes(SomeText(OfText::Appe))),
-    (*b"AUTH", Takes(Read(OfValue::Auth))),
-    (*b"BYE\0", Takes(Alone(Bare::Quit))),
-    (*b"CCC\0", Takes(Alone(Bare::Ccc))),
-    (*b"CDUP", Takes(Alone(Bare::Cdup))),
-    (*b"CWD\0", Takes(SomeText(OfText::Cwd))),
-    (*b"DELE", Takes(SomeText(OfText::Dele))),
-    (*b"EPSV", Ignores(Bare::Epsv)),
-    (*b"FEAT", Takes(Alone(Bare::Feat))),
-    (*b"HELP", Ignores(Bare::Help)),
-    (*b"LIST", Takes(List)),
-    (*b"MDTM", Takes(SomeText(OfText::Mdtm))),
-    (*b"MKD\0", Takes(SomeText(OfText::Mkd))),
-    (*b"MLSD", Takes(MaybeText(OfMaybeText::Mlsd))),
-    (*b"MLST", Takes(MaybeText(OfMaybeText::Mlst))),
-    (*b"MODE", Takes(Read(OfValue::Mode))),
-    (*b"NLST", Takes(MaybeText(OfMaybeText::Nlst))),
-    (*b"NOOP", Takes(Alone(Bare::Noop))),
-    (*b"OPTS", Takes(Read(OfValue::Opts))),
-    (*b"PASS", Takes(Raw(OfBytes::Pass))),
-    (*b"PASV", Takes(Alone(Bare::Pasv))),
-    (*b"PBSZ", Takes(Read(OfValue::Pbsz))),
-    (*b"PORT", Takes(SomeText(OfText::Port))),
-    (*b"PROT", Takes(Read(OfValue::Prot))),
-    (*b"PWD\0", Takes(Alone(Bare::Pwd))),
-    (*b"QUIT", Takes(Alone(Bare::Quit))),
-    (*b"REST", Takes(Read(OfValue::Rest))),
-    (*b"RETR", Takes(SomeText(OfText::Retr))),
-    (*b"RMD\0", Takes(SomeText(OfText::Rmd))),
-    (*b"RNFR", Takes(SomeText(OfText::Rnfr))),
-    (*b"RNTO", Takes(SomeText(OfText::Rnto))),
-    (*b"SITE", Cuts),
-    (*b"SIZE", Takes(SomeText(OfText::Size))),
-    (*b"STAT", Takes(Stat)),
-    (*b"STOR", Takes(SomeText(OfText::Stor))),
-    (*b"STOU", Takes(Alone(Bare::Stou))),
-    (*b"STRU", Takes(Read(OfValue::Stru))),
-    (*b"SYST", Ignores(Bare::Syst)),
-    (*b"TYPE", Ignores(Bare::TypeCode)),
-    (*b"USER", Takes(Raw(OfBytes::User))),
-    (*b"XCWD", Takes(SomeText(OfText::Cwd))),
-    (*b"XMKD", Takes(SomeText(OfText::Mkd))),
-    (*b"XPWD", Takes(Alone(Bare::Pwd))),
+    (*b"ABOR", Takes(Empty(UnitCommand::Abor))),
+    (*b"ACCT", Takes(Raw(RawCommand::Acct))),
+    (*b"ALLO", Ignores(UnitCommand::Allo)),
+    (*b"APPE", Takes(Text(TextCommand::Appe))),
+    (*b"AUTH", Takes(Typed(TypedCommand::Auth))),
+    (*b"BYE\0", Takes(Empty(UnitCommand::Quit))),
+    (*b"CCC\0", Takes(Empty(UnitCommand::Ccc))),
+    (*b"CDUP", Takes(Empty(UnitCommand::Cdup))),
+    (*b"CWD\0", Takes(Text(TextCommand::Cwd))),
+    (*b"DELE", Takes(Text(TextCommand::Dele))),
+    (*b"EPSV", Ignores(UnitCommand::Epsv)),
+    (*b"FEAT", Takes(Empty(UnitCommand::Feat))),
+    (*b"HELP", Ignores(UnitCommand::Help)),
+    (*b"LIST", Takes(ListPath)),
+    (*b"MDTM", Takes(Text(TextCommand::Mdtm))),
+    (*b"MKD\0", Takes(Text(TextCommand::Mkd))),
+    (*b"MLSD", Takes(OptionalPath(PathCommand::Mlsd))),
+    (*b"MLST", Takes(OptionalPath(PathCommand::Mlst))),
+    (*b"MODE", Takes(Typed(TypedCommand::Mode))),
+    (*b"NLST", Takes(OptionalPath(PathCommand::Nlst))),
+    (*b"NOOP", Takes(Empty(UnitCommand::Noop))),
+    (*b"OPTS", Takes(Typed(TypedCommand::Opts))),
+    (*b"PASS", Takes(Raw(RawCommand::Pass))),
+    (*b"PASV", Takes(Empty(UnitCommand::Pasv))),
+    (*b"PBSZ", Takes(Typed(TypedCommand::Pbsz))),
+    (*b"PORT", Takes(Text(TextCommand::Port))),
+    (*b"PROT", Takes(Typed(TypedCommand::Prot))),
+    (*b"PWD\0", Takes(Empty(UnitCommand::Pwd))),
+    (*b"QUIT", Takes(Empty(UnitCommand::Quit))),
+    (*b"REST", Takes(Typed(TypedCommand::Rest))),
+    (*b"RETR", Takes(Text(TextCommand::Retr))),
+    (*b"RMD\0", Takes(Text(TextCommand::Rmd))),
+    (*b"RNFR", Takes(Text(TextCommand::Rnfr))),
+    (*b"RNTO", Takes(Text(TextCommand::Rnto))),
+    (*b"SITE", Splits),
+    (*b"SIZE", Takes(Text(TextCommand::Size))),
+    (*b"STAT", Takes(StatPath)),
+    (*b"STOR", Takes(Text(TextCommand::Stor))),
+    (*b"STOU", Takes(Empty(UnitCommand::Stou))),
+    (*b"STRU", Takes(Typed(TypedCommand::Stru))),
+    (*b"SYST", Ignores(UnitCommand::Syst)),
+    (*b"TYPE", Ignores(UnitCommand::TypeCode)),
+    (*b"USER", Takes(Raw(RawCommand::User))),
+    (*b"XCWD", Takes(Text(TextCommand::Cwd))),
+    (*b"XMKD", Takes(Text(TextCommand::Mkd))),
+    (*b"XPWD", Takes(Empty(UnitCommand::Pwd))),
 ];
 
-/// A word of three or four bytes, filled up with NUL to four.
-fn filled(word: &[u8]) -> Option<[u8; 4]>
-    ensures { result ≡ filled word.now }
+/// The word, padded with NUL to four bytes; none where no verb has its length.
+fn padded(word: &[u8]) -> Option<[u8; 4]>
+    ensures { result ≡ padded word.now }
 {
     match word {
         [a, b, c] => Some([*a, *b, *c, 0]),
@@ -237,22 +71,19 @@ fn filled(word: &[u8]) -> Option<[u8; 4]>
     }
 }
 
-/// The rule of a verb in upper case.
+/// The rule of a padded word, if it is a verb.
 fn rule_of(word: &[u8; 4]) -> Option<Rule>
-    ensures { option_map meaning result ≡ row_of (unfilled word.now) verbs }
+    ensures { option_map meaning result ≡ row_of (unpadded word.now) verbs }
 {
-    let found = VERBS.binary_search_by_key(
-        &u32::from_be_bytes(*word),
-        |row| u32::from_be_bytes(row.0),
-    );
-    match found {
+    let key = u32::from_be_bytes(*word);
+    match VERBS.binary_search_by_key(&key, |row| u32::from_be_bytes(row.0)) {
         Ok(at) => Some(VERBS[at].1),
         Err(_) => None,
     }
 }
 
-/// The four bytes in upper case.
-fn raised(word: [u8; 4]) -> [u8; 4]
+/// The bytes, their ASCII letters in upper case.
+fn upper_cased(word: [u8; 4]) -> [u8; 4]
     ensures { result ≡ upper word }
 {
     let [a, b, c, d] = word;
@@ -264,21 +95,18 @@ fn raised(word: [u8; 4]) -> [u8; 4]
     ]
 }
 
-/// The rule of the verb that the word is in either case of its letters.
+/// The rule of a word, if it is a verb, ignoring ASCII case.
 pub fn rule_named(word: &[u8]) -> Option<Rule>
     ensures { option_map meaning result ≡ row_of (upper word.now) verbs }
 {
-    match filled(word) {
-        Some(word) => rule_of(&raised(word)),
-        None => None,
-    }
+    rule_of(&upper_cased(padded(word)?))
 }
 
 /// Whether the word is a verb with a rule of its own, in upper case (RFC 959, section 5.3). It takes no memory.
 pub fn is_verb(raised: &[u8]) -> bool
     ensures { IsTrue result ↔ IsSome (row_of raised.now verbs) }
 {
-    match filled(raised) {
+    match padded(raised) {
         Some(word) => rule_of(&word).is_some(),
         None => false,
     }

@@ -3,7 +3,7 @@ use Rattle.std.specs.Str.Lossy.{utf8_lossy}
 use Rattle.std.proofs.lemmas.Str.{utf8_lossy-IsUtf8}
 use Rattle.unftp_control_defs.specs.Rules.{offset}
 use Rattle.unftp_control_line_parser.proofs.Offsets.{offset_ok, offset_err, offset_ill}
-use Rattle.unftp_control_line_parser.proofs.rules.rest.Goals as goal
+use Rattle.unftp_control_line_parser.proofs.typed.rest.Goals as goal
 
 pub returns-in_default-clause-told : goal.returns-in_default-clause-told
 returns-in_default-clause-told c = offset_ill c.args.value.now (subst (λ n. n < length c.args.value.now) c.in_default.ensures.valid_len c.in_default.ensures.cases.1.short)

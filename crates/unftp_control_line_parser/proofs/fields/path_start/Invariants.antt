@@ -1,7 +1,7 @@
 use Rattle.std.proofs.Common.{◌-◌, ◌≡◌, ◌≤◌, length, drop, false}
 use Rattle.std.specs.Str.{IsCharBoundary}
 use Rattle.unftp_control_defs.specs.Paths.{path_of, path_from}
-use Rattle.unftp_control_line_parser.proofs.rules.path_start.Given as goal
+use Rattle.unftp_control_line_parser.proofs.fields.path_start.Given as goal
 
 abbrev pub invariant-loop-at : goal.invariant-loop-at
 invariant-loop-at l = record {

@@ -1,22 +1,26 @@
 -- What a verb of the table makes of a line.
-use Rattle.std.proofs.Common.{◌≡◌, ℕ, zero, suc, ◌<◌, Bool, true, false, bytes_eq, nat_lt, List, [], ◌∷◌, Some, None, Result, refl, sym, ap, subst, ◌∙◌, ⊎_elim, arith}
+use Rattle.std.proofs.Common.{◌≡◌, ◌≢◌, ℕ, zero, suc, ◌<◌, length, eq-eqb, ne_eqb, Bool, true, false, bytes_eq, nat_lt, List, [], ◌∷◌, Some, None, Result, Ok, Err, refl, sym, ap, subst, ◌∙◌, ⊎_elim, arith}
 use borrow.Author.Tests.{ltb-true}
 use lib.Pointwise.{bytes_decides}
 use Rattle.std.specs.Char.{to_ascii_uppercase}
 use Rattle.std.specs.List.{list_all}
+use Rattle.std.specs.Result.{IsErrAnd}
 use Rattle.std.specs.Str.{IsAscii, IsUtf8, is_utf8}
+use Rattle.std.specs.Str.Lossy.{utf8_lossy}
 use Rattle.std.proofs.lemmas.Bool.Decides.{nat_tests}
-use Rattle.std.proofs.lemmas.Bool.{and_parts, cases_Bool}
+use Rattle.std.proofs.lemmas.Bool.{and_parts, cases_Bool, false_from_ne_true}
 use Rattle.std.proofs.lemmas.Str.{IsUtf8-from_ascii, is_utf8-from_IsUtf8, IsUtf8-from_is_utf8}
 use Rattle.unftp_control_defs.specs.Bytes.{Bytes}
 use Rattle.unftp_control_defs.specs.Verbs.{upper, verb_of, parameter_of}
 use Rattle.unftp_control_defs.specs.Values.{value_of}
-use Rattle.unftp_control_defs.specs.FtpCommand.{Other}
-use Rattle.unftp_control_defs.specs.Rules.{Rule, row_of, verbs, any_text, by_name}
+use Rattle.unftp_control_defs.specs.FtpCommand.{FtpCommand, Answer, InvalidUtf8, Other}
+use Rattle.unftp_control_defs.specs.Rules.{Rule, row_of, verbs, any_text, some_text, by_name}
 use Rattle.unftp_control_defs.specs.Outcome.{site_answer, by_value, answer_by, outcome}
-use Rattle.unftp_control_line_parser.specs.Told.{Tells}
+use Rattle.unftp_control_line_parser.specs.Values.{RefusesSome}
+use Rattle.unftp_control_line_parser.specs.Told.{Refuses, Tells}
 use Rattle.unftp_control_command.specs.declared.Command.{Command}
 use Rattle.unftp_control_line_parser.specs.declared.error.ParseErrorKind.{ParseErrorKind}
+use Rattle.unftp_control_line_parser.specs.declared.error.ParseErrorKind.TheVariants as kind
 
 -- each verb is of bytes below 97, so a word that is one in upper case is ASCII
 abbrev is_low : Bytes → Bool
@@ -76,9 +80,22 @@ module _ (line word parameter : Bytes) (r : Result Command ParseErrorKind) (whol
       (subst (λ w. Tells (by_value (by_name (upper w)) (value_of (parameter_of line))) r) (same ∙ whole)
       (subst (λ p. Tells (by_value (by_name (upper name)) (value_of p)) r) rest h))
 
-not_true : (b : Bool) → ¬ (b ≡ true) → b ≡ false
-not_true true h = absurd (h refl)
-not_true false h = refl
+-- an error that is passed on
+pub refused : (answer : Answer) (error : ParseErrorKind) (r : Result Command ParseErrorKind) → Refuses answer error → IsErrAnd r (λ e. e ≡ error) → Tells answer r
+refused answer error (Ok command) refuses h = absurd h
+refused answer error (Err e) refuses h = subst (Refuses answer) (sym h) refuses
 
-pub not_utf8 : (bytes : Bytes) → ¬ (IsUtf8 bytes) → is_utf8 bytes ≡ false
-not_utf8 bytes h = not_true _ (λ t. h (IsUtf8-from_is_utf8 bytes t))
+-- a text that must not be empty
+pub some_refused : (command : Bytes → FtpCommand) (v : Bytes) (error : ParseErrorKind) → RefusesSome v error → Refuses (some_text command v) error
+some_refused command v kind.InvalidCommand h = rw (eq-eqb (length v) 0 h) refl
+some_refused command v kind.InvalidUtf8 h = absurd h
+some_refused command v kind.InvalidEol h = absurd h
+some_refused command v kind.OutOfMemory h = tt
+
+pub some_taken : (command : Bytes → FtpCommand) (v text : Bytes) → 0 < length v → text ≡ utf8_lossy v → some_text command v ≡ Ok (command text)
+some_taken command v text some is = let longer : length v ≢ 0 = λ e. absurd (omega arith) in rw (ne_eqb (length v) 0 longer) (ap (λ t. Ok (command t)) (sym is))
+
+-- what is refused since it is not UTF-8
+pub refused_utf8 : (bytes : Bytes) (answer : Answer) (r : Result Command ParseErrorKind) → ¬ (IsUtf8 bytes) → (is_utf8 bytes ≡ false → answer ≡ Err InvalidUtf8)
+    → IsErrAnd r (λ e. e ≡ kind.InvalidUtf8) → Tells answer r
+refused_utf8 bytes answer r ill is h = refused answer kind.InvalidUtf8 r (is (false_from_ne_true _ (λ t. ill (IsUtf8-from_is_utf8 bytes t)))) h
