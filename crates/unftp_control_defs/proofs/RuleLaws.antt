@@ -4,8 +4,8 @@ use Rattle.std.specs.Bool.{⊤}
 use Rattle.std.specs.List.{AllByRecursion}
 use Rattle.std.specs.Str.{IsUtf8}
 use Rattle.unftp_control_defs.specs.Bytes.{Bytes}
-use Rattle.unftp_control_defs.specs.FtpCommand.{User, Pass, Acct, Noop, Pasv, Port, Retr, Stor, Appe, Nlst, Mlst, Mlsd, Feat, Pwd, Cwd, Cdup, Dele, Rmd, Quit, Mkd, Abor, Stou, Rnfr, Rnto, Ccc, Size, Mdtm, Other}
-use Rattle.unftp_control_defs.specs.Rules.{structures, modes, protections, options, buffer_sizes, Rule, Ignores, Takes, Cuts, any_text, row_of, verbs, rule_of}
+use Rattle.unftp_control_defs.specs.FtpCommand.{Other}
+use Rattle.unftp_control_defs.specs.Rules.{chosen, structures, modes, protections, options, buffer_sizes, Rule, Ignores, Takes, Cuts, any_text, row_of, verbs, rule_of}
 use Rattle.unftp_control_defs.specs.Canonical.{IsName}
 use Rattle.unftp_control_defs.proofs.AnswerLaws.{IsSound, Gives, raw_gives, any_gives, alone_gives, some_gives, maybe_gives, chosen_gives, auth_gives, offset_gives, stat_gives, list_gives}
 
@@ -15,61 +15,24 @@ RuleGives (Ignores command) = IsSound command
 RuleGives (Takes answer) = Gives answer
 RuleGives Cuts = ⊤
 
--- a pair, written without its parentheses
-infixr 4 ◌&◌
-◌&◌ : {A B : Type 0} → A → B → A × B
-◌&◌ a b = (a, b)
+-- the values of a command's own type, each by computation
+structures_give : Gives (chosen structures)
+structures_give = chosen_gives structures ((tt, tt), ((tt, tt), ((tt, tt), tt)))
 
--- in the order of `verbs`; the last two are SITE and the end
+modes_give : Gives (chosen modes)
+modes_give = chosen_gives modes ((tt, tt), ((tt, tt), ((tt, tt), tt)))
+
+protections_give : Gives (chosen protections)
+protections_give = chosen_gives protections ((tt, tt), ((tt, tt), ((tt, tt), ((tt, tt), tt))))
+
+options_give : Gives (chosen options)
+options_give = chosen_gives options ((tt, tt), ((tt, tt), ((tt, tt), ((tt, tt), tt))))
+
+buffer_sizes_give : Gives (chosen buffer_sizes)
+buffer_sizes_give = chosen_gives buffer_sizes ((tt, tt), tt)
+
 all_rules : AllByRecursion (λ row. RuleGives row.1) verbs
-all_rules =
-    raw_gives User (λ text h. (h, tt))
-    & raw_gives Pass (λ text h. (h, tt))
-    & raw_gives Acct (λ text h. (h, tt))
-    & stat_gives
-    & (tt, tt)
-    & (tt, tt)
-    & (tt, tt)
-    & (tt, tt)
-    & (tt, tt)
-    & chosen_gives structures ((tt, tt), ((tt, tt), ((tt, tt), tt)))
-    & chosen_gives modes ((tt, tt), ((tt, tt), ((tt, tt), tt)))
-    & chosen_gives protections ((tt, tt), ((tt, tt), ((tt, tt), ((tt, tt), tt))))
-    & alone_gives Noop (tt, tt)
-    & alone_gives Pasv (tt, tt)
-    & alone_gives Feat (tt, tt)
-    & alone_gives Cdup (tt, tt)
-    & alone_gives Abor (tt, tt)
-    & alone_gives Stou (tt, tt)
-    & alone_gives Ccc (tt, tt)
-    & alone_gives Pwd (tt, tt)
-    & alone_gives Pwd (tt, tt)
-    & alone_gives Quit (tt, tt)
-    & alone_gives Quit (tt, tt)
-    & some_gives Port (λ text named utf8. (named, utf8))
-    & some_gives Retr (λ text named utf8. (named, utf8))
-    & some_gives Stor (λ text named utf8. (named, utf8))
-    & some_gives Appe (λ text named utf8. (named, utf8))
-    & some_gives Dele (λ text named utf8. (named, utf8))
-    & some_gives Rmd (λ text named utf8. (named, utf8))
-    & some_gives Cwd (λ text named utf8. (named, utf8))
-    & some_gives Cwd (λ text named utf8. (named, utf8))
-    & some_gives Mkd (λ text named utf8. (named, utf8))
-    & some_gives Mkd (λ text named utf8. (named, utf8))
-    & some_gives Rnfr (λ text named utf8. (named, utf8))
-    & some_gives Rnto (λ text named utf8. (named, utf8))
-    & some_gives Size (λ text named utf8. (named, utf8))
-    & some_gives Mdtm (λ text named utf8. (named, utf8))
-    & maybe_gives Nlst (λ path optional utf8. (optional, utf8))
-    & maybe_gives Mlst (λ path optional utf8. (optional, utf8))
-    & maybe_gives Mlsd (λ path optional utf8. (optional, utf8))
-    & list_gives
-    & chosen_gives options ((tt, tt), ((tt, tt), ((tt, tt), ((tt, tt), tt))))
-    & auth_gives
-    & chosen_gives buffer_sizes ((tt, tt), tt)
-    & offset_gives
-    & tt
-    & tt
+all_rules = search (raw_gives, alone_gives, some_gives, maybe_gives, structures_give, modes_give, protections_give, options_give, buffer_sizes_give, auth_gives, offset_gives, stat_gives, list_gives)
 
 -- the row that is found
 found : {A : Type 0} (P : A → Type 0) (name : Bytes) (rows : List (Bytes × A)) (x : A) → AllByRecursion (λ row. P row.1) rows → row_of name rows ≡ Some x → P x
