@@ -1,9 +1,8 @@
 //! The commands of the control connection.
 #![tactic(auto)]
 
-ghost use Rattle.std.specs.Prelude.{◌≡◌, ◌↔◌, IsTrue, IfOk, option_map, string_bytes};
+ghost use Rattle.std.specs.Prelude.{◌≡◌, ◌↔◌, IsTrue, IfOk};
 ghost use Rattle.unftp_control_command.specs.CommandMeaning.{command_of};
-ghost use Rattle.unftp_control_defs.specs.FtpCommand.{IsReal};
 ghost use Rattle.unftp_control_command.specs.declared.Command.{Command as RustCommand};
 
 use bytes::Bytes;
@@ -199,118 +198,68 @@ pub enum Command {
     },
 }
 
+/// The command again. Of each variant its fields are named, and each is cloned.
+macro_rules! clone_of {
+    ($command:expr, $($variant:ident $({ $($field:ident),* })?),* $(,)?) => {
+        match $command {
+            $(Command::$variant $({ $($field),* })? => Command::$variant $({ $($field: $field.clone()?),* })?,)*
+        }
+    };
+}
+
 impl Command {
     /// A command that means the same, or `AllocError` where memory is refused, which leaves this one as it is.
     pub fn clone(&self, alloc: Global) -> Result<Command, AllocError>
         ensures { IfOk result (λ command. command_of command ≡ command_of self.now) }
     {
-        Ok(match self {
-            Command::User { username } => Command::User {
-                username: username.clone()?,
-            },
-            Command::Pass { password } => Command::Pass {
-                password: password.clone()?,
-            },
-            Command::Acct { account } => Command::Acct {
-                account: account.clone()?,
-            },
-            Command::Syst => Command::Syst,
-            Command::Stat { path } => Command::Stat {
-                path: bytes_again(path)?,
-            },
-            Command::TypeCode => Command::TypeCode,
-            Command::Stru { structure } => Command::Stru {
-                structure: structure.clone()?,
-            },
-            Command::Mode { mode } => Command::Mode {
-                mode: mode.clone()?,
-            },
-            Command::Help => Command::Help,
-            Command::Noop => Command::Noop,
-            Command::Pasv => Command::Pasv,
-            Command::Epsv => Command::Epsv,
-            Command::Port { addr } => Command::Port {
-                addr: text_again(alloc, addr)?,
-            },
-            Command::Retr { path } => Command::Retr {
-                path: text_again(alloc, path)?,
-            },
-            Command::Stor { path } => Command::Stor {
-                path: text_again(alloc, path)?,
-            },
-            Command::Appe { path } => Command::Appe {
-                path: text_again(alloc, path)?,
-            },
-            Command::List { options, path } => Command::List {
-                options: path_again(alloc, options)?,
-                path: path_again(alloc, path)?,
-            },
-            Command::Nlst { path } => Command::Nlst {
-                path: path_again(alloc, path)?,
-            },
-            Command::Mlst { path } => Command::Mlst {
-                path: path_again(alloc, path)?,
-            },
-            Command::Mlsd { path } => Command::Mlsd {
-                path: path_again(alloc, path)?,
-            },
-            Command::Feat => Command::Feat,
-            Command::Pwd => Command::Pwd,
-            Command::Cwd { path } => Command::Cwd {
-                path: text_again(alloc, path)?,
-            },
-            Command::Cdup => Command::Cdup,
-            Command::Opts { option } => Command::Opts {
-                option: option.clone()?,
-            },
-            Command::Dele { path } => Command::Dele {
-                path: text_again(alloc, path)?,
-            },
-            Command::Rmd { path } => Command::Rmd {
-                path: text_again(alloc, path)?,
-            },
-            Command::Quit => Command::Quit,
-            Command::Mkd { path } => Command::Mkd {
-                path: text_again(alloc, path)?,
-            },
-            Command::Allo {} => Command::Allo {},
-            Command::Abor => Command::Abor,
-            Command::Stou => Command::Stou,
-            Command::Rnfr { file } => Command::Rnfr {
-                file: text_again(alloc, file)?,
-            },
-            Command::Rnto { file } => Command::Rnto {
-                file: text_again(alloc, file)?,
-            },
-            Command::Auth { protocol } => Command::Auth {
-                protocol: protocol.clone()?,
-            },
-            Command::Ccc => Command::Ccc,
-            Command::Pbsz {} => Command::Pbsz {},
-            Command::Prot { param } => Command::Prot {
-                param: param.clone()?,
-            },
-            Command::Size { file } => Command::Size {
-                file: text_again(alloc, file)?,
-            },
-            Command::Rest { offset } => Command::Rest { offset: *offset },
-            Command::Mdtm { file } => Command::Mdtm {
-                file: text_again(alloc, file)?,
-            },
-            Command::Md5 { file } => Command::Md5 {
-                file: text_again(alloc, file)?,
-            },
-            Command::Site { command, arguments } => Command::Site {
-                command: text_again(alloc, command)?,
-                arguments: text_again(alloc, arguments)?,
-            },
-            Command::Other {
-                command_name,
-                arguments,
-            } => Command::Other {
-                command_name: text_again(alloc, command_name)?,
-                arguments: text_again(alloc, arguments)?,
-            },
+        // each text has this allocator with it
+        let _ = alloc;
+        Ok(clone_of! {
+            self,
+            User { username },
+            Pass { password },
+            Acct { account },
+            Syst,
+            Stat { path },
+            TypeCode,
+            Stru { structure },
+            Mode { mode },
+            Help,
+            Noop,
+            Pasv,
+            Epsv,
+            Port { addr },
+            Retr { path },
+            Stor { path },
+            Appe { path },
+            List { options, path },
+            Nlst { path },
+            Mlst { path },
+            Mlsd { path },
+            Feat,
+            Pwd,
+            Cwd { path },
+            Cdup,
+            Opts { option },
+            Dele { path },
+            Rmd { path },
+            Quit,
+            Mkd { path },
+            Allo {},
+            Abor,
+            Stou,
+            Rnfr { file },
+            Rnto { file },
+            Auth { protocol },
+            Ccc,
+            Pbsz {},
+            Prot { param },
+            Size { file },
+            Rest { offset },
+            Mdtm { file },
+            Md5 { file },
+            Site { command, arguments },
+            Other { command_name, arguments },
         })
     }
 }
@@ -329,44 +278,7 @@ impl fmt::Display for Command {
     }
 }
 
-/// The same text.
-fn text_again(alloc: Global, text: &String) -> Result<String, AllocError>
-    ensures { IfOk result (λ again. string_bytes again ≡ string_bytes text.now) }
-{
-    String::from_str(alloc, text.as_str())
-}
-
-/// The same text, if there is one.
-fn path_again(alloc: Global, path: &Option<String>) -> Result<Option<String>, AllocError>
-    ensures { IfOk result (λ again. option_map string_bytes again ≡ option_map string_bytes path.now) }
-{
-    match path {
-        None => Ok(None),
-        Some(path) => Ok(Some(text_again(alloc, path)?)),
-    }
-}
-
-/// The same bytes, if there are any.
-fn bytes_again(bytes: &Option<Bytes>) -> Result<Option<Bytes>, AllocError>
-    ensures { IfOk result (λ again. again ≡ bytes.now) }
-{
-    match bytes {
-        None => Ok(None),
-        Some(bytes) => Ok(Some(bytes.clone()?)),
-    }
-}
-
 /// `==` of commands is equality of what they mean.
 pub fn same_commands()
     ensures { (a b : RustCommand) → IsTrue (⟦<Command as PartialEq>⟧.eq a b) ↔ (command_of a ≡ command_of b) }
 {}
-
-/// What the types of its fields say of a command: its texts are UTF-8, and its offset has 64 bits.
-pub fn commands_are_real(command: &Command)
-    ensures { IsReal (command_of command.now) }
-{
-    if let Command::Rest { offset } = command {
-        // contracts see the range of a number that is read
-        let _offset = *offset;
-    }
-}

@@ -3,7 +3,7 @@ ghost use Rattle.std.specs.Prelude.{◌≡◌, ◌↔◌, ◌∷◌, ◌++◌, �
 ghost use Rattle.unftp_control_command.specs.CommandMeaning.{command_of};
 ghost use Rattle.unftp_control_defs.specs.Bytes.{LF, Lacks, SP};
 ghost use Rattle.unftp_control_defs.specs.Canonical.{IsGiven, IsName, IsNamed, IsOptional, bare_or_spaced, canonical_body, spaced, with_optional};
-ghost use Rattle.unftp_control_defs.specs.FtpCommand.{Auth, List as Listing, Mode, Opts, Other, Prot, Site, Stru};
+ghost use Rattle.unftp_control_defs.specs.FtpCommand.{Auth, IsReal, List as Listing, Mode, Opts, Other, Prot, Site, Stru};
 ghost use Rattle.unftp_control_write.specs.Parts.{Tells, is_name_byte};
 
 use crate::line::{Line, Word};
@@ -12,8 +12,12 @@ use unftp_control_command::{AuthParam, Command, ModeParam, Opt, ProtParam, StruP
 use unftp_control_line_parser::is_verb;
 
 /// The line of the command, or none where no line gives the command.
+#[tactic(auto, using(crate::proofs::Texts::texts))]
 pub(crate) fn line_of(command: &Command) -> Option<Line<'_>>
-    ensures { Tells (IsGiven (command_of command.now)) (canonical_body (command_of command.now)) result }
+    ensures tells { Tells (IsGiven (command_of command.now)) (canonical_body (command_of command.now)) result }
+
+    // Its texts are UTF-8, and its offset has 64 bits.
+    ensures real { IsReal (command_of command.now) }
 {
     match command {
         Command::User { username } => maybe_empty("USER", username.as_slice()),

@@ -12,7 +12,7 @@ mod line;
 
 use crate::given::line_of;
 use thiserror::Error;
-use unftp_control_command::{Command, commands_are_real};
+use unftp_control_command::Command;
 
 /// Why no line is written.
 #[derive(Debug, Drop, Error)]
@@ -40,16 +40,13 @@ pub fn write_command(command: &Command, buf: &mut Vec<u8>) -> Result<(), WriteCo
     ensures given { IsGiven (command_of command.now) → IfErr result (λ error. error ≡ WriteCommandError.OutOfMemory) }
     ensures no_line { ¬ IsGiven (command_of command.now) → result ≡ Err WriteCommandError.NoLine }
 {
-    commands_are_real(command);
     let Some(line) = line_of(command) else {
         return Err(WriteCommandError::NoLine);
     };
     let length = buf.len();
-    match line.append(buf) {
-        Ok(()) => Ok(()),
-        Err(_) => {
-            buf.truncate(length);
-            Err(WriteCommandError::OutOfMemory)
-        }
+    if line.append(buf).is_err() {
+        buf.truncate(length);
+        return Err(WriteCommandError::OutOfMemory);
     }
+    Ok(())
 }

@@ -106,13 +106,8 @@ impl<'a> Line<'a> {
 
 /// How many bytes the text has with each CR as CR NUL, where so many can be counted.
 fn escaped_len(text: &[u8]) -> usize {
-    let mut count = text.len();
-    for byte in text {
-        if *byte == b'\r' {
-            count = count.saturating_add(1);
-        }
-    }
-    count
+    let carriage_returns = text.iter().filter(|byte| **byte == b'\r').count();
+    text.len().saturating_add(carriage_returns)
 }
 
 /// Appends the text with each CR as CR NUL.

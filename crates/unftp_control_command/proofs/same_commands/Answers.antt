@@ -1,8 +1,13 @@
 -- What the derived `==` of commands answers, against what they are.
-use Rattle.std.proofs.Common.{◌≡◌, ℕ, true, false, List, Option, Some, None, option_map, refl, ap, IsTrue, string_bytes, String, string_eq, bytes_eq, ◌==◌, eqb-true, eq-eqb, ◌↔◌, Global}
+use Rattle.std.proofs.Common.{◌≡◌, ◌==◌, ℕ, Bool, true, List, Option, Some, None, option_map, refl, ap, string_bytes, String, string_eq, bytes_eq, ◌&&◌, Global}
+use Rattle.std.specs.Bool.{Decides}
+use Rattle.std.specs.Cmp.{booleans_Decides}
 use Rattle.std.specs.Option.{option_eq}
-use Rattle.std.proofs.lemmas.Bool.{false≢true, true≢false, and_parts, and_from}
-use lib.Pointwise.{bytes_decides}
+use Rattle.std.proofs.lemmas.Bool.{false≢true, true≢false}
+use Rattle.std.proofs.lemmas.Bool.Decides.{Decides-and, Decides-eqb, Decides-like}
+use Rattle.std.proofs.lemmas.Slice.Eq.{bytes_eq-Decides}
+use denote.Enum.Bare.{Bare, sameb, same_true, true_same}
+use denote.Enum.Declared.{Declared}
 use Rattle.unftp_control_defs.specs.FtpCommand as spec
 use Rattle.unftp_control_defs.specs.FtpCommand.{FtpCommand}
 use Rattle.unftp_control_command.specs.CommandMeaning.{command_of}
@@ -10,157 +15,138 @@ use Rattle.unftp_control_command.specs.declared.Command.TheVariants as rust
 use Rattle.unftp_control_defs.specs.declared.parameters.Opt.{Opt}
 use Rattle.unftp_control_defs.specs.declared.parameters.Opt.TheVariants.{Utf8}
 use Rattle.unftp_control_defs.specs.contracts.parameters.OptPartialEq.TheImpl.{ghosts as of_Opt}
-use Rattle.unftp_control_defs.specs.declared.parameters.StruParam.{StruParam}
-use Rattle.unftp_control_defs.specs.declared.parameters.StruParam.TheVariants.{File, Record, Page}
-use Rattle.unftp_control_defs.specs.contracts.parameters.StruParamPartialEq.TheImpl.{ghosts as of_StruParam}
-use Rattle.unftp_control_defs.specs.declared.parameters.ModeParam.{ModeParam}
-use Rattle.unftp_control_defs.specs.declared.parameters.ModeParam.TheVariants.{Stream, Block, Compressed}
-use Rattle.unftp_control_defs.specs.contracts.parameters.ModeParamPartialEq.TheImpl.{ghosts as of_ModeParam}
-use Rattle.unftp_control_defs.specs.declared.parameters.AuthParam.{AuthParam}
-use Rattle.unftp_control_defs.specs.declared.parameters.AuthParam.TheVariants.{Ssl, Tls}
-use Rattle.unftp_control_defs.specs.contracts.parameters.AuthParamPartialEq.TheImpl.{ghosts as of_AuthParam}
-use Rattle.unftp_control_defs.specs.declared.parameters.ProtParam.{ProtParam}
-use Rattle.unftp_control_defs.specs.declared.parameters.ProtParam.TheVariants.{Clear, Safe, Confidential, Private}
-use Rattle.unftp_control_defs.specs.contracts.parameters.ProtParamPartialEq.TheImpl.{ghosts as of_ProtParam}
+use Rattle.unftp_control_defs.specs.contracts.parameters.AuthParam as AuthParam
+use Rattle.unftp_control_defs.specs.contracts.parameters.ModeParam as ModeParam
+use Rattle.unftp_control_defs.specs.contracts.parameters.ProtParam as ProtParam
+use Rattle.unftp_control_defs.specs.contracts.parameters.StruParam as StruParam
 use Rattle.unftp_control_command.proofs.same_commands.Goals as goal
 
-same_StruParam : (a b : StruParam) → IsTrue (of_StruParam.eq a b) ↔ (a ≡ b)
-same_StruParam File File = ((λ _. refl), (λ _. refl))
-same_StruParam Record Record = ((λ _. refl), (λ _. refl))
-same_StruParam Page Page = ((λ _. refl), (λ _. refl))
-same_StruParam _ _ = ((λ h. absurd (false≢true h)), (λ e. cc))
+-- What decides an equation decides the same of a constructor round its sides.
+field : {A B : Type 0} {x y : A} {r : Bool} (f : A → B) →
+    Decides r (x ≡ y) → (f x ≡ f y → x ≡ y) → Decides r (f x ≡ f y)
+field {r = r} f decides injective = Decides-like r (λ e. ap f e) injective decides
 
-same_ModeParam : (a b : ModeParam) → IsTrue (of_ModeParam.eq a b) ↔ (a ≡ b)
-same_ModeParam Stream Stream = ((λ _. refl), (λ _. refl))
-same_ModeParam Block Block = ((λ _. refl), (λ _. refl))
-same_ModeParam Compressed Compressed = ((λ _. refl), (λ _. refl))
-same_ModeParam _ _ = ((λ h. absurd (false≢true h)), (λ e. cc))
+-- The same of two equations and a constructor with two fields.
+fields : {A B C : Type 0} {x y : A} {z w : B} {r s : Bool} (f : A → B → C) → Decides r (x ≡ y) →
+    Decides s (z ≡ w) → (f x z ≡ f y w → (x ≡ y) × (z ≡ w)) → Decides (r && s) (f x z ≡ f y w)
+fields {r = r} {s = s} f first second injective =
+    Decides-like (r && s) (λ p. let e = p.0 in let g = p.1 in cc) injective (Decides-and r s first second)
 
-same_AuthParam : (a b : AuthParam) → IsTrue (of_AuthParam.eq a b) ↔ (a ≡ b)
-same_AuthParam Ssl Ssl = ((λ _. refl), (λ _. refl))
-same_AuthParam Tls Tls = ((λ _. refl), (λ _. refl))
-same_AuthParam _ _ = ((λ h. absurd (false≢true h)), (λ e. cc))
+same : {A : Type 0} {x : A} → Decides true (x ≡ x)
+same = (λ _. refl, λ _. refl)
 
-same_ProtParam : (a b : ProtParam) → IsTrue (of_ProtParam.eq a b) ↔ (a ≡ b)
-same_ProtParam Clear Clear = ((λ _. refl), (λ _. refl))
-same_ProtParam Safe Safe = ((λ _. refl), (λ _. refl))
-same_ProtParam Confidential Confidential = ((λ _. refl), (λ _. refl))
-same_ProtParam Private Private = ((λ _. refl), (λ _. refl))
-same_ProtParam _ _ = ((λ h. absurd (false≢true h)), (λ e. cc))
+choice-Decides : (D : Declared) → Bare D.parts → (a b : D.D) → Decides (sameb D a b) (a ≡ b)
+choice-Decides D bare a b = (same_true D bare a b, true_same D a b)
 
-same_Opt : (a b : Opt) → IsTrue (of_Opt.eq a b) ↔ (a ≡ b)
-same_Opt (Utf8 true) (Utf8 true) = ((λ _. refl), (λ _. refl))
-same_Opt (Utf8 false) (Utf8 false) = ((λ _. refl), (λ _. refl))
-same_Opt _ _ = ((λ h. absurd (false≢true h)), (λ e. cc))
+option-Decides : (a b : Opt) → Decides (of_Opt.eq a b) (a ≡ b)
+option-Decides (Utf8 on) (Utf8 off) = field Utf8 (booleans_Decides on off) (λ e. cc)
 
-same_maybe_bytes : (a b : Option (List ℕ)) → IsTrue (option_eq bytes_eq a b) ↔ (a ≡ b)
-same_maybe_bytes None None = ((λ _. refl), (λ _. refl))
-same_maybe_bytes (Some s) (Some t) = ((λ h. ap (λ x. Some x) ((bytes_decides s t).0 h)), (λ e. let f : s ≡ t = cc in (bytes_decides s t).1 f))
-same_maybe_bytes _ _ = ((λ h. absurd (false≢true h)), (λ e. cc))
+text-Decides : (s t : String Global) → Decides (string_eq s t) (string_bytes s ≡ string_bytes t)
+text-Decides s t = bytes_eq-Decides (string_bytes s) (string_bytes t)
 
-abbrev Text : Type 0
-Text = String Global
+maybe_bytes-Decides : (a b : Option (List ℕ)) → Decides (option_eq bytes_eq a b) (a ≡ b)
+maybe_bytes-Decides None None = same
+maybe_bytes-Decides (Some s) (Some t) = field (λ x. Some x) (bytes_eq-Decides s t) (λ e. cc)
+maybe_bytes-Decides _ _ = (λ h. absurd (false≢true h), λ e. cc)
 
-same_text : (s t : Text) → IsTrue (string_eq s t) ↔ (string_bytes s ≡ string_bytes t)
-same_text s t = bytes_decides (string_bytes s) (string_bytes t)
+path-Decides : (a b : Option (String Global)) →
+    Decides (option_eq string_eq a b) (option_map string_bytes a ≡ option_map string_bytes b)
+path-Decides None None = same
+path-Decides (Some s) (Some t) = field (λ x. Some x) (text-Decides s t) (λ e. cc)
+path-Decides _ _ = (λ h. absurd (false≢true h), λ e. cc)
 
-abbrev maybe_bytes : Option Text → Option (List ℕ)
-maybe_bytes o = option_map string_bytes o
-
-same_maybe_text : (a b : Option Text) → IsTrue (option_eq string_eq a b) ↔ (maybe_bytes a ≡ maybe_bytes b)
-same_maybe_text None None = ((λ _. refl), (λ _. refl))
-same_maybe_text (Some s) (Some t) = ((λ h. ap (λ x. Some x) ((same_text s t).0 h)), (λ e. let f : string_bytes s ≡ string_bytes t = cc in (same_text s t).1 f))
-same_maybe_text _ _ = ((λ h. absurd (false≢true h)), (λ e. cc))
-
+-- a number for each variant, which tells it from the others
 abbrev variant : FtpCommand → ℕ
-variant (spec.User _) = 0
-variant (spec.Pass _) = 1
-variant (spec.Acct _) = 2
-variant spec.Syst = 3
-variant (spec.Stat _) = 4
-variant spec.TypeCode = 5
-variant (spec.Stru _) = 6
-variant (spec.Mode _) = 7
-variant spec.Help = 8
-variant spec.Noop = 9
-variant spec.Pasv = 10
-variant spec.Epsv = 11
-variant (spec.Port _) = 12
-variant (spec.Retr _) = 13
-variant (spec.Stor _) = 14
-variant (spec.Appe _) = 15
-variant (spec.List _ _) = 16
-variant (spec.Nlst _) = 17
-variant (spec.Mlst _) = 18
-variant (spec.Mlsd _) = 19
-variant spec.Feat = 20
-variant spec.Pwd = 21
-variant (spec.Cwd _) = 22
-variant spec.Cdup = 23
-variant (spec.Opts _) = 24
-variant (spec.Dele _) = 25
-variant (spec.Rmd _) = 26
-variant spec.Quit = 27
-variant (spec.Mkd _) = 28
-variant spec.Allo = 29
-variant spec.Abor = 30
-variant spec.Stou = 31
-variant (spec.Rnfr _) = 32
-variant (spec.Rnto _) = 33
-variant (spec.Auth _) = 34
-variant spec.Ccc = 35
-variant spec.Pbsz = 36
-variant (spec.Prot _) = 37
-variant (spec.Size _) = 38
-variant (spec.Rest _) = 39
-variant (spec.Mdtm _) = 40
-variant (spec.Md5 _) = 41
-variant (spec.Site _ _) = 42
-variant (spec.Other _ _) = 43
+variant command = elim command [
+  | spec.User _ ↦ 0
+  | spec.Pass _ ↦ 1
+  | spec.Acct _ ↦ 2
+  | spec.Syst ↦ 3
+  | spec.Stat _ ↦ 4
+  | spec.TypeCode ↦ 5
+  | spec.Stru _ ↦ 6
+  | spec.Mode _ ↦ 7
+  | spec.Help ↦ 8
+  | spec.Noop ↦ 9
+  | spec.Pasv ↦ 10
+  | spec.Epsv ↦ 11
+  | spec.Port _ ↦ 12
+  | spec.Retr _ ↦ 13
+  | spec.Stor _ ↦ 14
+  | spec.Appe _ ↦ 15
+  | spec.List _ _ ↦ 16
+  | spec.Nlst _ ↦ 17
+  | spec.Mlst _ ↦ 18
+  | spec.Mlsd _ ↦ 19
+  | spec.Feat ↦ 20
+  | spec.Pwd ↦ 21
+  | spec.Cwd _ ↦ 22
+  | spec.Cdup ↦ 23
+  | spec.Opts _ ↦ 24
+  | spec.Dele _ ↦ 25
+  | spec.Rmd _ ↦ 26
+  | spec.Quit ↦ 27
+  | spec.Mkd _ ↦ 28
+  | spec.Allo ↦ 29
+  | spec.Abor ↦ 30
+  | spec.Stou ↦ 31
+  | spec.Rnfr _ ↦ 32
+  | spec.Rnto _ ↦ 33
+  | spec.Auth _ ↦ 34
+  | spec.Ccc ↦ 35
+  | spec.Pbsz ↦ 36
+  | spec.Prot _ ↦ 37
+  | spec.Size _ ↦ 38
+  | spec.Rest _ ↦ 39
+  | spec.Mdtm _ ↦ 40
+  | spec.Md5 _ ↦ 41
+  | spec.Site _ _ ↦ 42
+  | spec.Other _ _ ↦ 43
+]
 
 pub returns : goal.returns
-returns c (rust.User s) (rust.User t) = ((λ h. ap (λ x. spec.User x) ((bytes_decides s t).0 h)), (λ e. let f : s ≡ t = cc in (bytes_decides s t).1 f))
-returns c (rust.Pass s) (rust.Pass t) = ((λ h. ap (λ x. spec.Pass x) ((bytes_decides s t).0 h)), (λ e. let f : s ≡ t = cc in (bytes_decides s t).1 f))
-returns c (rust.Acct s) (rust.Acct t) = ((λ h. ap (λ x. spec.Acct x) ((bytes_decides s t).0 h)), (λ e. let f : s ≡ t = cc in (bytes_decides s t).1 f))
-returns c rust.Syst rust.Syst = ((λ _. refl), (λ _. refl))
-returns c (rust.Stat s) (rust.Stat t) = ((λ h. ap (λ x. spec.Stat x) ((same_maybe_bytes s t).0 h)), (λ e. let f : s ≡ t = cc in (same_maybe_bytes s t).1 f))
-returns c rust.TypeCode rust.TypeCode = ((λ _. refl), (λ _. refl))
-returns c (rust.Stru s) (rust.Stru t) = ((λ h. ap (λ x. spec.Stru x) ((same_StruParam s t).0 h)), (λ e. let f : s ≡ t = cc in (same_StruParam s t).1 f))
-returns c (rust.Mode s) (rust.Mode t) = ((λ h. ap (λ x. spec.Mode x) ((same_ModeParam s t).0 h)), (λ e. let f : s ≡ t = cc in (same_ModeParam s t).1 f))
-returns c rust.Help rust.Help = ((λ _. refl), (λ _. refl))
-returns c rust.Noop rust.Noop = ((λ _. refl), (λ _. refl))
-returns c rust.Pasv rust.Pasv = ((λ _. refl), (λ _. refl))
-returns c rust.Epsv rust.Epsv = ((λ _. refl), (λ _. refl))
-returns c (rust.Port s) (rust.Port t) = ((λ h. ap (λ x. spec.Port x) ((same_text s t).0 h)), (λ e. let f : string_bytes s ≡ string_bytes t = cc in (same_text s t).1 f))
-returns c (rust.Retr s) (rust.Retr t) = ((λ h. ap (λ x. spec.Retr x) ((same_text s t).0 h)), (λ e. let f : string_bytes s ≡ string_bytes t = cc in (same_text s t).1 f))
-returns c (rust.Stor s) (rust.Stor t) = ((λ h. ap (λ x. spec.Stor x) ((same_text s t).0 h)), (λ e. let f : string_bytes s ≡ string_bytes t = cc in (same_text s t).1 f))
-returns c (rust.Appe s) (rust.Appe t) = ((λ h. ap (λ x. spec.Appe x) ((same_text s t).0 h)), (λ e. let f : string_bytes s ≡ string_bytes t = cc in (same_text s t).1 f))
-returns c (rust.List s u) (rust.List t w) = ((λ h. let p = and_parts (option_eq string_eq s t) (option_eq string_eq u w) h in λ i. spec.List ((same_maybe_text s t).0 p.0 i) ((same_maybe_text u w).0 p.1 i)), (λ e. let f : maybe_bytes s ≡ maybe_bytes t = cc in let g : maybe_bytes u ≡ maybe_bytes w = cc in and_from (option_eq string_eq s t) (option_eq string_eq u w) ((same_maybe_text s t).1 f) ((same_maybe_text u w).1 g)))
-returns c (rust.Nlst s) (rust.Nlst t) = ((λ h. ap (λ x. spec.Nlst x) ((same_maybe_text s t).0 h)), (λ e. let f : maybe_bytes s ≡ maybe_bytes t = cc in (same_maybe_text s t).1 f))
-returns c (rust.Mlst s) (rust.Mlst t) = ((λ h. ap (λ x. spec.Mlst x) ((same_maybe_text s t).0 h)), (λ e. let f : maybe_bytes s ≡ maybe_bytes t = cc in (same_maybe_text s t).1 f))
-returns c (rust.Mlsd s) (rust.Mlsd t) = ((λ h. ap (λ x. spec.Mlsd x) ((same_maybe_text s t).0 h)), (λ e. let f : maybe_bytes s ≡ maybe_bytes t = cc in (same_maybe_text s t).1 f))
-returns c rust.Feat rust.Feat = ((λ _. refl), (λ _. refl))
-returns c rust.Pwd rust.Pwd = ((λ _. refl), (λ _. refl))
-returns c (rust.Cwd s) (rust.Cwd t) = ((λ h. ap (λ x. spec.Cwd x) ((same_text s t).0 h)), (λ e. let f : string_bytes s ≡ string_bytes t = cc in (same_text s t).1 f))
-returns c rust.Cdup rust.Cdup = ((λ _. refl), (λ _. refl))
-returns c (rust.Opts s) (rust.Opts t) = ((λ h. ap (λ x. spec.Opts x) ((same_Opt s t).0 h)), (λ e. let f : s ≡ t = cc in (same_Opt s t).1 f))
-returns c (rust.Dele s) (rust.Dele t) = ((λ h. ap (λ x. spec.Dele x) ((same_text s t).0 h)), (λ e. let f : string_bytes s ≡ string_bytes t = cc in (same_text s t).1 f))
-returns c (rust.Rmd s) (rust.Rmd t) = ((λ h. ap (λ x. spec.Rmd x) ((same_text s t).0 h)), (λ e. let f : string_bytes s ≡ string_bytes t = cc in (same_text s t).1 f))
-returns c rust.Quit rust.Quit = ((λ _. refl), (λ _. refl))
-returns c (rust.Mkd s) (rust.Mkd t) = ((λ h. ap (λ x. spec.Mkd x) ((same_text s t).0 h)), (λ e. let f : string_bytes s ≡ string_bytes t = cc in (same_text s t).1 f))
-returns c rust.Allo rust.Allo = ((λ _. refl), (λ _. refl))
-returns c rust.Abor rust.Abor = ((λ _. refl), (λ _. refl))
-returns c rust.Stou rust.Stou = ((λ _. refl), (λ _. refl))
-returns c (rust.Rnfr s) (rust.Rnfr t) = ((λ h. ap (λ x. spec.Rnfr x) ((same_text s t).0 h)), (λ e. let f : string_bytes s ≡ string_bytes t = cc in (same_text s t).1 f))
-returns c (rust.Rnto s) (rust.Rnto t) = ((λ h. ap (λ x. spec.Rnto x) ((same_text s t).0 h)), (λ e. let f : string_bytes s ≡ string_bytes t = cc in (same_text s t).1 f))
-returns c (rust.Auth s) (rust.Auth t) = ((λ h. ap (λ x. spec.Auth x) ((same_AuthParam s t).0 h)), (λ e. let f : s ≡ t = cc in (same_AuthParam s t).1 f))
-returns c rust.Ccc rust.Ccc = ((λ _. refl), (λ _. refl))
-returns c rust.Pbsz rust.Pbsz = ((λ _. refl), (λ _. refl))
-returns c (rust.Prot s) (rust.Prot t) = ((λ h. ap (λ x. spec.Prot x) ((same_ProtParam s t).0 h)), (λ e. let f : s ≡ t = cc in (same_ProtParam s t).1 f))
-returns c (rust.Size s) (rust.Size t) = ((λ h. ap (λ x. spec.Size x) ((same_text s t).0 h)), (λ e. let f : string_bytes s ≡ string_bytes t = cc in (same_text s t).1 f))
-returns c (rust.Rest s) (rust.Rest t) = ((λ h. ap (λ x. spec.Rest x) (eqb-true s t h)), (λ e. let f : s ≡ t = cc in eq-eqb s t f))
-returns c (rust.Mdtm s) (rust.Mdtm t) = ((λ h. ap (λ x. spec.Mdtm x) ((same_text s t).0 h)), (λ e. let f : string_bytes s ≡ string_bytes t = cc in (same_text s t).1 f))
-returns c (rust.Md5 s) (rust.Md5 t) = ((λ h. ap (λ x. spec.Md5 x) ((same_text s t).0 h)), (λ e. let f : string_bytes s ≡ string_bytes t = cc in (same_text s t).1 f))
-returns c (rust.Site s u) (rust.Site t w) = ((λ h. let p = and_parts (string_eq s t) (string_eq u w) h in λ i. spec.Site ((same_text s t).0 p.0 i) ((same_text u w).0 p.1 i)), (λ e. let f : string_bytes s ≡ string_bytes t = cc in let g : string_bytes u ≡ string_bytes w = cc in and_from (string_eq s t) (string_eq u w) ((same_text s t).1 f) ((same_text u w).1 g)))
-returns c (rust.Other s u) (rust.Other t w) = ((λ h. let p = and_parts (string_eq s t) (string_eq u w) h in λ i. spec.Other ((same_text s t).0 p.0 i) ((same_text u w).0 p.1 i)), (λ e. let f : string_bytes s ≡ string_bytes t = cc in let g : string_bytes u ≡ string_bytes w = cc in and_from (string_eq s t) (string_eq u w) ((same_text s t).1 f) ((same_text u w).1 g)))
-returns c a b = ((λ h. absurd (false≢true h)), (λ e. absurd (true≢false (ap (λ x. variant x == variant (command_of a)) e))))
+returns c (rust.User s) (rust.User t) = field spec.User (bytes_eq-Decides s t) (λ e. cc)
+returns c (rust.Pass s) (rust.Pass t) = field spec.Pass (bytes_eq-Decides s t) (λ e. cc)
+returns c (rust.Acct s) (rust.Acct t) = field spec.Acct (bytes_eq-Decides s t) (λ e. cc)
+returns c rust.Syst rust.Syst = same
+returns c (rust.Stat s) (rust.Stat t) = field spec.Stat (maybe_bytes-Decides s t) (λ e. cc)
+returns c rust.TypeCode rust.TypeCode = same
+returns c (rust.Stru s) (rust.Stru t) = field spec.Stru (choice-Decides StruParam.the_type tt s t) (λ e. cc)
+returns c (rust.Mode s) (rust.Mode t) = field spec.Mode (choice-Decides ModeParam.the_type tt s t) (λ e. cc)
+returns c rust.Help rust.Help = same
+returns c rust.Noop rust.Noop = same
+returns c rust.Pasv rust.Pasv = same
+returns c rust.Epsv rust.Epsv = same
+returns c (rust.Port s) (rust.Port t) = field spec.Port (text-Decides s t) (λ e. cc)
+returns c (rust.Retr s) (rust.Retr t) = field spec.Retr (text-Decides s t) (λ e. cc)
+returns c (rust.Stor s) (rust.Stor t) = field spec.Stor (text-Decides s t) (λ e. cc)
+returns c (rust.Appe s) (rust.Appe t) = field spec.Appe (text-Decides s t) (λ e. cc)
+returns c (rust.List s u) (rust.List t w) = fields spec.List (path-Decides s t) (path-Decides u w) (λ e. (cc, cc))
+returns c (rust.Nlst s) (rust.Nlst t) = field spec.Nlst (path-Decides s t) (λ e. cc)
+returns c (rust.Mlst s) (rust.Mlst t) = field spec.Mlst (path-Decides s t) (λ e. cc)
+returns c (rust.Mlsd s) (rust.Mlsd t) = field spec.Mlsd (path-Decides s t) (λ e. cc)
+returns c rust.Feat rust.Feat = same
+returns c rust.Pwd rust.Pwd = same
+returns c (rust.Cwd s) (rust.Cwd t) = field spec.Cwd (text-Decides s t) (λ e. cc)
+returns c rust.Cdup rust.Cdup = same
+returns c (rust.Opts s) (rust.Opts t) = field spec.Opts (option-Decides s t) (λ e. cc)
+returns c (rust.Dele s) (rust.Dele t) = field spec.Dele (text-Decides s t) (λ e. cc)
+returns c (rust.Rmd s) (rust.Rmd t) = field spec.Rmd (text-Decides s t) (λ e. cc)
+returns c rust.Quit rust.Quit = same
+returns c (rust.Mkd s) (rust.Mkd t) = field spec.Mkd (text-Decides s t) (λ e. cc)
+returns c rust.Allo rust.Allo = same
+returns c rust.Abor rust.Abor = same
+returns c rust.Stou rust.Stou = same
+returns c (rust.Rnfr s) (rust.Rnfr t) = field spec.Rnfr (text-Decides s t) (λ e. cc)
+returns c (rust.Rnto s) (rust.Rnto t) = field spec.Rnto (text-Decides s t) (λ e. cc)
+returns c (rust.Auth s) (rust.Auth t) = field spec.Auth (choice-Decides AuthParam.the_type tt s t) (λ e. cc)
+returns c rust.Ccc rust.Ccc = same
+returns c rust.Pbsz rust.Pbsz = same
+returns c (rust.Prot s) (rust.Prot t) = field spec.Prot (choice-Decides ProtParam.the_type tt s t) (λ e. cc)
+returns c (rust.Size s) (rust.Size t) = field spec.Size (text-Decides s t) (λ e. cc)
+returns c (rust.Rest s) (rust.Rest t) = field spec.Rest (Decides-eqb s t) (λ e. cc)
+returns c (rust.Mdtm s) (rust.Mdtm t) = field spec.Mdtm (text-Decides s t) (λ e. cc)
+returns c (rust.Md5 s) (rust.Md5 t) = field spec.Md5 (text-Decides s t) (λ e. cc)
+returns c (rust.Site s u) (rust.Site t w) = fields spec.Site (text-Decides s t) (text-Decides u w) (λ e. (cc, cc))
+returns c (rust.Other s u) (rust.Other t w) = fields spec.Other (text-Decides s t) (text-Decides u w) (λ e. (cc, cc))
+returns c a b = (λ h. absurd (false≢true h), λ e. absurd (true≢false (ap (λ x. variant x == variant (command_of a)) e)))
