@@ -198,7 +198,7 @@ pub enum Command {
     },
 }
 
-/// The command again. Of each variant its fields are named, and each is cloned.
+/// Clones a command by the fields of each variant.
 macro_rules! clone_of {
     ($command:expr, $($variant:ident $({ $($field:ident),* })?),* $(,)?) => {
         match $command {
@@ -209,11 +209,10 @@ macro_rules! clone_of {
 
 impl Command {
     /// A command that means the same, or `AllocError` where memory is refused, which leaves this one as it is.
-    pub fn clone(&self, alloc: Global) -> Result<Command, AllocError>
+    pub fn clone(&self, _alloc: Global) -> Result<Command, AllocError>
         ensures { IfOk result (λ command. command_of command ≡ command_of self.now) }
     {
-        // each text has this allocator with it
-        let _ = alloc;
+        // each field has its own allocator
         Ok(clone_of! {
             self,
             User { username },
