@@ -1,5 +1,5 @@
 //! The codes of replies.
-ghost use Rattle.std.specs.Prelude.{◌≡◌};
+ghost use Rattle.std.specs.Prelude.{◌≡◌, ◌↔◌};
 ghost use Rattle.unftp_control_reply.specs.ReplyMeaning.{number_of};
 
 /// The code of a reply, by its meaning (RFC 959, section 4.2.2, where no other is named).
@@ -102,10 +102,68 @@ pub enum ReplyCode {
 }
 
 impl ReplyCode {
+    ghost use Rattle.unftp_control_reply.specs.declared.code.ReplyCode.{ReplyCode};
+
     /// Its number.
     pub fn number(&self) -> u32
         ensures { result ≡ number_of self.now }
     {
         *self as u32
+    }
+
+    /// The code with this number, if there is one.
+    pub fn from_number(number: u32) -> Option<ReplyCode>
+        ensures { (code : ReplyCode) → (result ≡ Some code) ↔ (number_of code ≡ number) }
+    {
+        Some(match number {
+            0 => ReplyCode::NoReply,
+            1 => ReplyCode::GroupPreliminaryReply,
+            2 => ReplyCode::GroupPositiveCompletion,
+            110 => ReplyCode::RestartMarker,
+            120 => ReplyCode::InNMinutes,
+            125 => ReplyCode::ConnectionAlreadyOpen,
+            150 => ReplyCode::FileStatusOkay,
+            200 => ReplyCode::CommandOkay,
+            202 => ReplyCode::CommandOkayNotImplemented,
+            211 => ReplyCode::SystemStatus,
+            212 => ReplyCode::DirectoryStatus,
+            213 => ReplyCode::FileStatus,
+            214 => ReplyCode::HelpMessage,
+            215 => ReplyCode::SystemType,
+            220 => ReplyCode::ServiceReady,
+            221 => ReplyCode::ClosingControlConnection,
+            225 => ReplyCode::DataConnectionOpen,
+            226 => ReplyCode::ClosingDataConnection,
+            227 => ReplyCode::EnteringPassiveMode,
+            229 => ReplyCode::EnteringExtendedPassiveMode,
+            230 => ReplyCode::UserLoggedIn,
+            232 => ReplyCode::UserLoggedInViaCert,
+            234 => ReplyCode::AuthOkayNoDataNeeded,
+            250 => ReplyCode::FileActionOkay,
+            257 => ReplyCode::DirCreated,
+            331 => ReplyCode::NeedPassword,
+            332 => ReplyCode::NeedAccount,
+            350 => ReplyCode::FileActionPending,
+            421 => ReplyCode::ServiceNotAvailable,
+            425 => ReplyCode::CantOpenDataConnection,
+            426 => ReplyCode::ConnectionClosed,
+            450 => ReplyCode::TransientFileError,
+            451 => ReplyCode::LocalError,
+            452 => ReplyCode::OutOfSpace,
+            500 => ReplyCode::CommandSyntaxError,
+            501 => ReplyCode::ParameterSyntaxError,
+            502 => ReplyCode::CommandNotImplemented,
+            503 => ReplyCode::BadCommandSequence,
+            504 => ReplyCode::CommandNotImplementedForParameter,
+            530 => ReplyCode::NotLoggedIn,
+            532 => ReplyCode::NeedAccountToStore,
+            533 => ReplyCode::Resp533,
+            534 => ReplyCode::FtpsRequired,
+            550 => ReplyCode::FileError,
+            551 => ReplyCode::PageTypeUnknown,
+            552 => ReplyCode::ExceededStorageAllocation,
+            553 => ReplyCode::BadFileName,
+            _ => return None,
+        })
     }
 }

@@ -60,7 +60,8 @@ impl Reply {
     ) -> Result<Reply, ControlChanError>
         requires { IsFiniteIterable I.into_iter_gives I.IntoIter.can_next I.IntoIter.remaining lines }
         ensures ok { IfOk result (λ reply. (iterator : I.IntoIter) × (texts : _) × I.into_iter_gives lines iterator
-            × Drains I.IntoIter.next_gives iterator texts × (reply_of reply ≡ MultiLine (number_of code) (map (λ text. text.now) texts))) }
+            × Drains I.IntoIter.next_gives iterator texts
+            × (reply_of reply ≡ MultiLine (number_of code) (map (λ text. text.now) texts))) }
         ensures err { IfErr result (λ error. fault_of error ≡ out_of_memory) }
     {
         let lines = owned_lines(alloc, lines)?;

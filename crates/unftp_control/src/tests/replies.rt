@@ -103,6 +103,23 @@ fn the_same_codes_and_texts_are_equal(rt: HostRuntime) -> Result<(), Fail> {
 }
 
 #[test]
+fn codes_are_found_by_their_numbers(rt: HostRuntime) -> Result<(), Fail> {
+    for (number, want) in [
+        (0, Some(ReplyCode::NoReply)),
+        (110, Some(ReplyCode::RestartMarker)),
+        (229, Some(ReplyCode::EnteringExtendedPassiveMode)),
+        (553, Some(ReplyCode::BadFileName)),
+        (3, None),
+        (100, None),
+        (554, None),
+        (1000, None),
+    ] {
+        assert_eq!(rt; ReplyCode::from_number(number), want);
+    }
+    Ok(())
+}
+
+#[test]
 fn codes_from_200_to_399_are_positive(rt: HostRuntime) -> Result<(), Fail> {
     assert!(rt; Reply::none().is_positive());
     for (code, want) in [
