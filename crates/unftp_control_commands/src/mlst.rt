@@ -8,7 +8,7 @@ ghost use Rattle.unftp_control_commands.specs.Facts.{TellsFacts, facts_reply};
 
 use crate::facts::{Metadata, format_facts};
 use crate::lines::append_lines;
-use std::alloc::Global;
+use std::alloc::{AllocError, Global};
 use std::marker::Model;
 use unftp_control_error::ControlChanError;
 use unftp_control_reply::{Reply, ReplyCode};
@@ -59,25 +59,18 @@ impl Mlst {
         ensures err { IfErr result (λ error. fault_of error ≡ out_of_memory) }
     {
         match found {
-            Ok(metadata) => tell(alloc, metadata, self.path_or(cwd)),
+            Ok(metadata) => {
+                let facts = format_facts(alloc, metadata)?;
+                Ok(facts_reply(alloc, facts.as_str(), self.path_or(cwd))?)
+            }
             Err(text) => Reply::new(alloc, ReplyCode::FileError, text),
         }
     }
 }
 
-/// The reply that tells what is known of the path.
-fn tell<M: Metadata>(alloc: Global, metadata: &M, path: &str) -> Result<Reply, ControlChanError>
-    ensures ok { IfOk result (λ reply. TellsFacts (M.facts_of metadata.now) path.now (reply_of reply)) }
-    ensures err { IfErr result (λ error. fault_of error ≡ out_of_memory) }
-{
-    let facts = format_facts(alloc, metadata)?;
-    facts_reply(alloc, facts.as_str(), path)
-}
-
 /// The reply that tells these facts of the path.
-fn facts_reply(alloc: Global, facts: &str, path: &str) -> Result<Reply, ControlChanError>
-    ensures ok { IfOk result (λ reply. reply_of reply ≡ facts_reply facts.now path.now) }
-    ensures err { IfErr result (λ error. fault_of error ≡ out_of_memory) }
+fn facts_reply(alloc: Global, facts: &str, path: &str) -> Result<Reply, AllocError>
+    ensures { IfOk result (λ reply. reply_of reply ≡ facts_reply facts.now path.now) }
 {
     let line = format!(in alloc; " {facts} {path}")?;
     let mut lines = Vec::with_capacity(alloc, 3)?;
