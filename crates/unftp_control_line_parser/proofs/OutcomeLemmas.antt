@@ -1,5 +1,5 @@
 -- What a verb of the table makes of a line.
-use Rattle.std.proofs.Common.{◌≡◌, ℕ, zero, suc, ◌<◌, Bool, true, false, bytes_eq, nat_lt, List, [], ◌∷◌, Option, Some, None, option_map, Result, Ok, Err, refl, sym, ap, subst, ◌∙◌, ⊎_elim, arith}
+use Rattle.std.proofs.Common.{◌≡◌, ◌≢◌, ℕ, zero, suc, ◌<◌, length, eq-eqb, ne_eqb, Bool, true, false, bytes_eq, nat_lt, List, [], ◌∷◌, Some, None, Result, Ok, Err, refl, sym, ap, subst, ◌∙◌, ⊎_elim, arith}
 use borrow.Author.Tests.{ltb-true}
 use lib.Pointwise.{bytes_decides}
 use Rattle.std.specs.Char.{to_ascii_uppercase}
@@ -14,8 +14,9 @@ use Rattle.unftp_control_defs.specs.Bytes.{Bytes}
 use Rattle.unftp_control_defs.specs.Verbs.{upper, verb_of, parameter_of}
 use Rattle.unftp_control_defs.specs.Values.{value_of}
 use Rattle.unftp_control_defs.specs.FtpCommand.{FtpCommand, Answer, InvalidUtf8, Other}
-use Rattle.unftp_control_defs.specs.Rules.{Rule, row_of, verbs, any_text, by_name}
+use Rattle.unftp_control_defs.specs.Rules.{Rule, row_of, verbs, any_text, some_text, by_name}
 use Rattle.unftp_control_defs.specs.Outcome.{site_answer, by_value, answer_by, outcome}
+use Rattle.unftp_control_line_parser.specs.Values.{RefusesSome}
 use Rattle.unftp_control_line_parser.specs.Told.{Refuses, Tells}
 use Rattle.unftp_control_command.specs.declared.Command.{Command}
 use Rattle.unftp_control_line_parser.specs.declared.error.ParseErrorKind.{ParseErrorKind}
@@ -79,15 +80,20 @@ module _ (line word parameter : Bytes) (r : Result Command ParseErrorKind) (whol
       (subst (λ w. Tells (by_value (by_name (upper w)) (value_of (parameter_of line))) r) (same ∙ whole)
       (subst (λ p. Tells (by_value (by_name (upper name)) (value_of p)) r) rest h))
 
--- a text that may be empty
-pub any_text_of : (command : Bytes → FtpCommand) (value : Option Bytes) (text : Bytes) → Some text ≡ option_map utf8_lossy value → by_value (any_text command) value ≡ Ok (command text)
-any_text_of command None text e = cc
-any_text_of command (Some v) text e = let same : text ≡ utf8_lossy v = cc in ap (λ t. Ok (command t)) (sym same)
-
 -- an error that is passed on
 pub refused : (answer : Answer) (error : ParseErrorKind) (r : Result Command ParseErrorKind) → Refuses answer error → IsErrAnd r (λ e. e ≡ error) → Tells answer r
 refused answer error (Ok command) refuses h = absurd h
 refused answer error (Err e) refuses h = subst (Refuses answer) (sym h) refuses
+
+-- a text that must not be empty
+pub some_refused : (command : Bytes → FtpCommand) (v : Bytes) (error : ParseErrorKind) → RefusesSome v error → Refuses (some_text command v) error
+some_refused command v kind.InvalidCommand h = rw (eq-eqb (length v) 0 h) refl
+some_refused command v kind.InvalidUtf8 h = absurd h
+some_refused command v kind.InvalidEol h = absurd h
+some_refused command v kind.OutOfMemory h = tt
+
+pub some_taken : (command : Bytes → FtpCommand) (v text : Bytes) → 0 < length v → text ≡ utf8_lossy v → some_text command v ≡ Ok (command text)
+some_taken command v text some is = let longer : length v ≢ 0 = λ e. absurd (omega arith) in rw (ne_eqb (length v) 0 longer) (ap (λ t. Ok (command t)) (sym is))
 
 -- what is refused since it is not UTF-8
 pub refused_utf8 : (bytes : Bytes) (answer : Answer) (r : Result Command ParseErrorKind) → ¬ (IsUtf8 bytes) → (is_utf8 bytes ≡ false → answer ≡ Err InvalidUtf8)

@@ -1,9 +1,33 @@
 -- What the parts of a parameter's reading answer.
-use Rattle.std.specs.Prelude.{◌≡◌, ℕ, ◌<◌, ◌≤◌, ◌==◌, ◌||◌, Bool, true, false, ◌&&◌, [], ◌∷◌, ◌++◌, length, take, drop, slice_index, Some, None, option_map}
+use Rattle.std.specs.Prelude.{◌≡◌, ℕ, ◌<◌, ◌≤◌, ◌==◌, ◌||◌, Bool, true, false, ◌&&◌, [], ◌∷◌, ◌++◌, length, take, drop, slice_index, Option, Some, None, option_map, Result, Ok, Err, ⊤, Vec, String, string_bytes}
+use Rattle.std.specs.Cow.{cow_slice_items}
+use Rattle.std.specs.declared.borrow.CowSlice.{CowSlice}
+use Rattle.std.specs.Str.Lossy.{utf8_lossy}
 use Rattle.unftp_control_defs.specs.Bytes.{Bytes, CR, LF, NUL}
 use Rattle.unftp_control_defs.specs.Values.{Place, later_value, Fresh, Plain}
+use Rattle.unftp_control_line_parser.specs.declared.error.ParseErrorKind.{ParseErrorKind}
+use Rattle.unftp_control_line_parser.specs.declared.error.ParseErrorKind.TheVariants as kind
 use Rattle.unftp_control_line_parser.specs.declared.value.Run.{Run}
 use Rattle.unftp_control_line_parser.specs.declared.value.Run.TheVariants.{Last, Escaped, BadEnd}
+
+-- `InvalidEol` is returned where there is no value, and `OutOfMemory` may be returned anywhere.
+abbrev pub RefusesValue : Option Bytes → ParseErrorKind → Type 0
+RefusesValue value kind.InvalidEol = value ≡ None
+RefusesValue value kind.OutOfMemory = ⊤
+RefusesValue value kind.InvalidCommand = ⊥
+RefusesValue value kind.InvalidUtf8 = ⊥
+
+abbrev pub TellsValue : {A : Type 0} → Option Bytes → Result (CowSlice ℕ A) ParseErrorKind → Type 0
+TellsValue value (Ok v) = value ≡ Some (cow_slice_items v)
+TellsValue value (Err refusal) = RefusesValue value refusal
+
+-- the value that begins with these bytes and goes on with what the rest makes
+abbrev pub TellsWhole : {A : Type 0} → Bytes → Option Bytes → Result (CowSlice ℕ A) ParseErrorKind → Type 0
+TellsWhole front more result = TellsValue (option_map (λ w. front ++ w) more) result
+
+abbrev pub TellsJoined : {A : Type 0} → Bytes → Option Bytes → Result (Vec ℕ A) ParseErrorKind → Type 0
+TellsJoined front more (Ok v) = option_map (λ w. front ++ w) more ≡ Some v.items
+TellsJoined front more (Err refusal) = RefusesValue more refusal
 
 -- what ends a run of bytes that stand for themselves
 abbrev pub stops : ℕ → Bool
@@ -33,3 +57,14 @@ abbrev pub begins_escaped : Bytes → Bool
 begins_escaped [] = false
 begins_escaped (a ∷ []) = false
 begins_escaped (a ∷ b ∷ bytes) = (a == CR) && (b == NUL)
+
+-- the text of a value that is not empty
+abbrev pub RefusesSome : Bytes → ParseErrorKind → Type 0
+RefusesSome v kind.InvalidCommand = length v ≡ 0
+RefusesSome v kind.OutOfMemory = ⊤
+RefusesSome v kind.InvalidEol = ⊥
+RefusesSome v kind.InvalidUtf8 = ⊥
+
+abbrev pub TellsSome : {A : Type 0} → Bytes → Result (String A) ParseErrorKind → Type 0
+TellsSome v (Ok text) = (0 < length v) × (string_bytes text ≡ utf8_lossy v)
+TellsSome v (Err refusal) = RefusesSome v refusal

@@ -1,27 +1,27 @@
 //! A line's verb and parameter, and the command that they are.
-ghost use Rattle.std.specs.Prelude.{◌≡◌, ◌≤◌, length, option_map, string_bytes, IfOk};
+ghost use Rattle.std.specs.Prelude.{◌≡◌, ◌≤◌, length, IfOk};
 ghost use Rattle.std.specs.List.{position_or_len};
 ghost use Rattle.std.specs.Cow.{cow_slice_items};
-ghost use Rattle.std.specs.Str.Lossy.{utf8_lossy};
-ghost use Rattle.unftp_control_defs.specs.FtpCommand.{Other};
 ghost use Rattle.unftp_control_command.specs.CommandMeaning.{command_of};
 ghost use Rattle.unftp_control_defs.specs.Canonical.{IsGiven};
 ghost use Rattle.unftp_control_defs.specs.Lines.{IsLine};
 ghost use Rattle.unftp_control_defs.specs.Verbs.{is_separator, parameter_of, upper, verb_of};
+ghost use Rattle.unftp_control_defs.specs.FtpCommand.{Other};
 ghost use Rattle.unftp_control_defs.specs.Outcome.{answer_by, by_value, outcome, site_answer};
 ghost use Rattle.unftp_control_defs.specs.Rules.{alone, any_text, by_name};
 ghost use Rattle.unftp_control_defs.specs.Values.{value_of};
 ghost use Rattle.unftp_control_line_parser.specs.Meaning.{meaning, parameter_answer, unit_command};
 ghost use Rattle.unftp_control_line_parser.specs.Memory.{IsNotBare, MayTakeMemory, OnStarved};
 ghost use Rattle.unftp_control_line_parser.specs.Told.{Tells};
+ghost use Rattle.unftp_control_line_parser.specs.Values.{TellsSome};
 
 use crate::error::{ParseErrorKind, Result};
 use crate::fields::{list_path, optional_raw, optional_text, raw, text, upper_cased};
-use crate::rule::{ParameterKind, Rule, TextCommand, UnitCommand};
+use crate::rule::{ParameterKind, Rule, UnitCommand};
 use crate::typed::typed;
 use crate::value::parameter_value;
 use crate::verb::rule_named;
-use std::alloc::{AllocError, Global};
+use std::alloc::Global;
 use std::borrow::CowSlice;
 use std::convert::AsSlice;
 use std::result;
@@ -92,78 +92,19 @@ fn command_in(alloc: Global, line: &[u8]) -> Answer
     }
 }
 
-/// What the rule of a verb makes of its parameter.
+/// What the rule makes of parameter bytes.
 fn by_rule(alloc: Global, rule: Rule, parameter: &[u8]) -> Answer
     ensures told { Tells (answer_by (meaning rule) parameter.now) result }
     ensures memory { OnStarved result (IsNotBare (answer_by (meaning rule) parameter.now)) }
 {
     match rule {
         Rule::Ignores(command) => Ok(command.command()),
-        Rule::Takes(kind) => by_kind(alloc, kind, parameter),
+        Rule::Takes(kind) => with_value(alloc, kind, parameter_value(alloc, parameter)?),
         Rule::Splits => site(alloc, parameter),
     }
 }
 
-/// A verb without a rule of its own, and its arguments.
-fn other(alloc: Global, name: &str, parameter: &[u8]) -> Answer
-    ensures { Tells (by_value (any_text (Other (upper name.now))) (value_of parameter.now)) result }
-{
-    match arguments(alloc, parameter)? {
-        Some(arguments) => Ok(Command::Other {
-            command_name: upper_cased(alloc, name)?,
-            arguments,
-        }),
-        None => Err(ParseErrorKind::InvalidEol),
-    }
-}
-
-/// SITE: a subcommand, and the subcommand's own parameter (RFC 959, section 4.1.3).
-fn site(alloc: Global, parameter: &[u8]) -> Answer
-    ensures { Tells (site_answer parameter.now) result }
-{
-    let (name, inner) = split(parameter);
-    subcommand(alloc, from_utf8(name)?, inner)
-}
-
-/// A SITE subcommand, and its parameter.
-fn subcommand(alloc: Global, name: &str, parameter: &[u8]) -> Answer
-    ensures { Tells (by_value (by_name (upper name.now)) (value_of parameter.now)) result }
-{
-    if name.eq_ignore_ascii_case("MD5") {
-        return by_kind(alloc, ParameterKind::Text(TextCommand::Md5), parameter);
-    }
-    match arguments(alloc, parameter)? {
-        Some(arguments) => Ok(Command::Site {
-            command: upper_cased(alloc, name)?,
-            arguments,
-        }),
-        None => Err(ParseErrorKind::InvalidEol),
-    }
-}
-
-/// The value of the parameter as text, or none where its line ending is invalid.
-fn arguments(alloc: Global, parameter: &[u8]) -> result::Result<Option<String>, AllocError>
-    ensures { IfOk result (λ arguments. option_map string_bytes arguments
-        ≡ option_map utf8_lossy (value_of parameter.now)) }
-{
-    match parameter_value(alloc, parameter)? {
-        Some(value) => Ok(Some(text(alloc, value)?)),
-        None => Ok(None),
-    }
-}
-
-/// The command of a verb with a rule of its own, which takes this parameter.
-fn by_kind(alloc: Global, kind: ParameterKind, parameter: &[u8]) -> Answer
-    ensures told { Tells (by_value (parameter_answer kind) (value_of parameter.now)) result }
-    ensures memory { OnStarved result (IsNotBare (by_value (parameter_answer kind) (value_of parameter.now))) }
-{
-    match parameter_value(alloc, parameter)? {
-        Some(value) => with_value(alloc, kind, value),
-        None => Err(ParseErrorKind::InvalidEol),
-    }
-}
-
-/// The same, where the parameter has this value.
+/// The command with this value.
 fn with_value(alloc: Global, kind: ParameterKind, value: CowSlice<'_, u8>) -> Answer
     ensures told { Tells (parameter_answer kind (cow_slice_items value.entry)) result }
     ensures memory { OnStarved result (IsNotBare (parameter_answer kind (cow_slice_items value.entry))) }
@@ -174,10 +115,7 @@ fn with_value(alloc: Global, kind: ParameterKind, value: CowSlice<'_, u8>) -> An
         ParameterKind::StatPath => Ok(Command::Stat {
             path: optional_raw(alloc, value)?,
         }),
-        ParameterKind::Text(command) => match optional_text(alloc, value)? {
-            Some(text) => Ok(command.command(text)),
-            None => Err(ParseErrorKind::InvalidCommand),
-        },
+        ParameterKind::Text(command) => Ok(command.command(some_text(alloc, value)?)),
         ParameterKind::OptionalPath(command) => {
             Ok(command.command(optional_text(alloc, value)?))
         }
@@ -199,4 +137,49 @@ fn without_value(command: UnitCommand, value: &[u8]) -> Answer
     } else {
         Err(ParseErrorKind::InvalidCommand)
     }
+}
+
+/// The value as text, which must not be empty.
+fn some_text(alloc: Global, value: CowSlice<'_, u8>) -> result::Result<String, ParseErrorKind>
+    ensures { TellsSome (cow_slice_items value.entry) result }
+{
+    if value.as_slice().is_empty() {
+        return Err(ParseErrorKind::InvalidCommand);
+    }
+    Ok(text(alloc, value)?)
+}
+
+/// A SITE subcommand and its parameter (RFC 959, section 4.1.3).
+fn site(alloc: Global, parameter: &[u8]) -> Answer
+    ensures { Tells (site_answer parameter.now) result }
+{
+    let (name, inner) = split(parameter);
+    subcommand(alloc, from_utf8(name)?, inner)
+}
+
+/// The same, of a name in UTF-8.
+fn subcommand(alloc: Global, name: &str, parameter: &[u8]) -> Answer
+    ensures { Tells (by_value (by_name (upper name.now)) (value_of parameter.now)) result }
+{
+    let value = parameter_value(alloc, parameter)?;
+    if name.eq_ignore_ascii_case("MD5") {
+        return Ok(Command::Md5 {
+            file: some_text(alloc, value)?,
+        });
+    }
+    Ok(Command::Site {
+        arguments: text(alloc, value)?,
+        command: upper_cased(alloc, name)?,
+    })
+}
+
+/// A verb without a rule of its own, and its parameter.
+fn other(alloc: Global, name: &str, parameter: &[u8]) -> Answer
+    ensures { Tells (by_value (any_text (Other (upper name.now))) (value_of parameter.now)) result }
+{
+    let value = parameter_value(alloc, parameter)?;
+    Ok(Command::Other {
+        arguments: text(alloc, value)?,
+        command_name: upper_cased(alloc, name)?,
+    })
 }

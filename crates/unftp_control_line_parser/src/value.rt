@@ -1,9 +1,10 @@
 //! The value of a parameter.
-ghost use Rattle.std.specs.Prelude.{◌≡◌, ◌≢◌, ◌++◌, [], Some, option_map, IfErr, IfOk};
-ghost use Rattle.std.specs.Cow.{cow_slice_items};
+ghost use Rattle.std.specs.Prelude.{◌≡◌, ◌≢◌, Some, []};
 ghost use Rattle.unftp_control_defs.specs.Values.{value_of, later_value, Fresh};
-ghost use Rattle.unftp_control_line_parser.specs.Values.{begins_escaped, IsPlainEnd, IsFreshEnd, TellsRun};
+ghost use Rattle.unftp_control_line_parser.specs.Memory.{OnStarved};
+ghost use Rattle.unftp_control_line_parser.specs.Values.{begins_escaped, IsPlainEnd, IsFreshEnd, TellsValue, TellsRun, TellsWhole, TellsJoined};
 
+use crate::error::ParseErrorKind;
 use memchr::memchr2;
 use std::alloc::{AllocError, Global};
 use std::borrow::CowSlice;
@@ -71,29 +72,28 @@ fn front_run<'a>(bytes: &'a [u8]) -> Run<'a>
     Run::Escaped(taken, rest)
 }
 
-/// The value that begins with these bytes and goes on, directly after a CR NUL, with the rest; none where it has no end.
-fn joined(front: Vec<u8>, after: &[u8]) -> Result<Option<Vec<u8>>, AllocError>
-    ensures { IfOk result (λ value. option_map (λ bytes. bytes.items) value
-        ≡ option_map (λ more. front.items ++ more) (later_value Fresh after.now)) }
+/// The value that begins with these bytes and goes on, directly after a CR NUL, with the rest.
+fn joined(front: Vec<u8>, after: &[u8]) -> Result<Vec<u8>, ParseErrorKind>
+    ensures { TellsJoined front.items (later_value Fresh after.now) result }
 {
     let mut joined = front;
     let mut rest = after;
     'parts: loop {
         if begins_escaped(rest) {
             let (_, further) = rest.split_at(2);
-            joined.push(CR)?;
+            joined.push(CR).map_err(AllocError::from)?;
             rest = further;
         } else {
             match front_run(rest) {
                 Run::Last(part) => {
                     joined.extend_from_slice(part)?;
-                    return Ok(Some(joined));
+                    return Ok(joined);
                 }
                 Run::Escaped(part, further) => {
                     joined.extend_from_slice(part)?;
                     rest = further;
                 }
-                Run::BadEnd => return Ok(None),
+                Run::BadEnd => return Err(ParseErrorKind::InvalidEol),
             }
         }
     }
@@ -104,12 +104,11 @@ fn unescaped<'a>(
     alloc: Global,
     front: &[u8],
     after: &[u8],
-) -> Result<Option<CowSlice<'a, u8>>, AllocError>
-    ensures { IfOk result (λ value. option_map cow_slice_items value
-        ≡ option_map (λ more. front.now ++ more) (later_value Fresh after.now)) }
+) -> Result<CowSlice<'a, u8>, ParseErrorKind>
+    ensures { TellsWhole front.now (later_value Fresh after.now) result }
 {
     let front = Vec::from_slice(alloc, front)?;
-    Ok(joined(front, after)?.map(|value| CowSlice::Owned(value)))
+    Ok(CowSlice::Owned(joined(front, after)?))
 }
 
 /// Whether the parameter begins with CR NUL.
@@ -122,22 +121,21 @@ fn begins_escaped(parameter: &[u8]) -> bool
     }
 }
 
-/// The value of a parameter, or none where its line ending is invalid. The value is bytes of the line, or a copy where it has CR NUL.
+/// The value of parameter bytes: bytes of the line, or new ones where it has CR NUL.
 pub fn parameter_value<'a>(
     alloc: Global,
     parameter: &'a [u8],
-) -> Result<Option<CowSlice<'a, u8>>, AllocError>
-    ensures value { IfOk result (λ value. option_map cow_slice_items value ≡ value_of parameter.now) }
-    ensures memory { IfErr result (λ _. value_of parameter.now ≢ Some []) }
+) -> Result<CowSlice<'a, u8>, ParseErrorKind>
+    ensures told { TellsValue (value_of parameter.now) result }
+    ensures memory { OnStarved result (value_of parameter.now ≢ Some []) }
 {
     let (none, _) = parameter.split_at(0);
     if parameter.is_empty() || parameter[0] == LF {
-        return Ok(Some(CowSlice::Borrowed(none)));
+        return Ok(CowSlice::Borrowed(none));
     }
     let (first, rest) = parameter.split_at(1);
     if rest == b"\n".as_slice() {
-        let value = if parameter[0] == CR { none } else { first };
-        return Ok(Some(CowSlice::Borrowed(value)));
+        return Ok(CowSlice::Borrowed(if parameter[0] == CR { none } else { first }));
     }
     if begins_escaped(parameter) {
         let (_, after) = parameter.split_at(2);
@@ -146,12 +144,12 @@ pub fn parameter_value<'a>(
     match front_run(rest) {
         Run::Last(part) => {
             let (value, _) = parameter.split_at(1 + part.len());
-            Ok(Some(CowSlice::Borrowed(value)))
+            Ok(CowSlice::Borrowed(value))
         }
         Run::Escaped(part, further) => {
             let (front, _) = parameter.split_at(1 + part.len());
             unescaped(alloc, front, further)
         }
-        Run::BadEnd => Ok(None),
+        Run::BadEnd => Err(ParseErrorKind::InvalidEol),
     }
 }
