@@ -202,7 +202,7 @@ pub enum Command {
 macro_rules! clone_of {
     ($command:expr, $($variant:ident $({ $($field:ident),* })?),* $(,)?) => {
         match $command {
-            $(Command::$variant $({ $($field),* })? => Command::$variant $({ $($field: $field.clone()?),* })?,)*
+            $(Command::$variant $({ $($field),* })? => Ok(Command::$variant $({ $($field: $field.clone()?),* })?),)*
         }
     };
 }
@@ -213,7 +213,7 @@ impl Command {
         ensures { IfOk result (λ command. command_of command ≡ command_of self.now) }
     {
         // each field has its own allocator
-        Ok(clone_of! {
+        clone_of! {
             self,
             User { username },
             Pass { password },
@@ -259,7 +259,7 @@ impl Command {
             Md5 { file },
             Site { command, arguments },
             Other { command_name, arguments },
-        })
+        }
     }
 }
 

@@ -128,7 +128,7 @@ module _ (word : Bytes) (long : length word ≡ 4) (bytes : (j : ℕ) → get_or
   same_word : (w : Bytes) → to_be_bytes w32 (key w) ≡ w → key w ≡ key word → w ≡ word
   same_word w back e = sym back ∙ ap (to_be_bytes w32) e ∙ be_bytes_4 word (key word) long bytes refl
 
-  pub found : (i : ℕ) (d : Bytes × RustRule) → i < 46 → key (get_or VERBS i d).0 ≡ key word → Some (meaning (get_or VERBS i d).1) ≡ row_of (unpadded word) verbs
+  pub found : (i : ℕ) (d : Bytes × RustRule) → i < length VERBS → key (get_or VERBS i d).0 ≡ key word → Some (meaning (get_or VERBS i d).1) ≡ row_of (unpadded word) verbs
   found i d lt e =
       let row : Bytes × RustRule = get_or VERBS i d in
       let back : to_be_bytes w32 (key row.0) ≡ row.0 = sym (get_or-map (λ r. to_be_bytes w32 (key r.0)) VERBS i d [] lt) ∙ ap (λ ws. get_or ws i []) words_back ∙ get_or-map (λ r. r.0) VERBS i d [] lt in
@@ -137,7 +137,7 @@ module _ (word : Bytes) (long : length word ≡ 4) (bytes : (j : ℕ) → get_or
       ∙ get_or-map (λ r. row_of (unpadded r.0) verbs) VERBS i d None lt
       ∙ ap (λ w. row_of (unpadded w) verbs) (same_word row.0 back e)
 
-  pub not_found : ((i : ℕ) → i < 46 → get_or keys i 0 ≢ key word) → row_of (unpadded word) verbs ≡ None
+  pub not_found : ((i : ℕ) → i < length VERBS → get_or keys i 0 ≢ key word) → row_of (unpadded word) verbs ≡ None
   not_found none = none_of (unpadded word) verbs all_have (ap has_word (padded_back word long) ∙ has_not (key word) keys none)
 
   module _ (k : ℕ) (is : k ≡ key word) where
@@ -152,7 +152,7 @@ module _ (word : Bytes) (long : length word ≡ 4) (bytes : (j : ℕ) → get_or
         rises (key (get_or VERBS i nothing).0) (key (get_or VERBS j nothing).0) k (omega arith))
 
     -- what a search for the word ends at
-    pub searched : (r : Result ℕ ℕ) → IsSearchInRange r 46 → IsBinarySearchResult (λ row. nat_cmp (key row.0) k) VERBS r
+    pub searched : (r : Result ℕ ℕ) → IsSearchInRange r (length VERBS) → IsBinarySearchResult (λ row. nat_cmp (key row.0) k) VERBS r
         → MatchResult r (λ i. (d : Bytes × RustRule) → Some (meaning (get_or VERBS i d).1) ≡ row_of (unpadded word) verbs) (λ i. row_of (unpadded word) verbs ≡ None)
     searched (Ok at) within equal = λ d. found at d within (ranked (key (get_or VERBS at d).0) k Equal (sym (equal d)) ∙ is)
     searched (Err at) within parted = not_found (λ i lt e.
