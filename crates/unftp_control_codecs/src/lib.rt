@@ -82,6 +82,7 @@ impl FtpCodec {
         ensures within { self.new.place ≤ vec_len buf.new }
         ensures counted { ¬ IsStarved result
             → self.new.tests + self.old.place + vec_len buf.new ≡ self.old.tests + self.new.place + vec_len buf.old }
+        ensures never_fewer { self.old.tests ≤ self.new.tests }
     {
         let mut scan = Scan::over(buf.as_slice(), &mut self.tests);
         let Some(end) = scan.find_line_feed(self.place) else {

@@ -40,7 +40,7 @@ pub record Serving {S : Type 0} (law : Law S) (m n : Moment S) (i j : Source) (e
   pub rest : engine.rest ≡ rest_of so_far.read
   pub left : engine.left ≡ told (length (rest_of so_far.read))
   pub many : turn ≤ length so_far.read
-  pub tested : engine.tests ≤ length so_far.read
+  pub tested : engine.tests ≡ length so_far.read
   pub no_read_failed : j.failures ≡ i.failures
 
 module _ {S : Type 0} (law : Law S) (m : Moment S) (i : Source) where
@@ -63,7 +63,7 @@ module _ {S : Type 0} (law : Law S) (m : Moment S) (i : Source) where
     same_events piece = events-append s.so_far.read piece ∙ ap (λ rest. events s.so_far.read ++ events (rest ++ piece)) (sym s.rest)
 
     pub Serving-next : (after : Moment S) (piece : Bytes) (engine' : EngineState) → Consumes j.remaining k.remaining piece → 0 < length piece → k.failures ≡ j.failures →
-        AllAnswered law n (events_with engine piece) after → Leaves law engine piece n.state after.state engine' → engine'.tests ≤ engine.tests + length piece →
+        AllAnswered law n (events_with engine piece) after → Leaves law engine piece n.state after.state engine' → engine'.tests ≡ engine.tests + length piece →
         Serving law m after i k engine' (turn + 1)
     Serving-next after piece engine' consumed some kept all leaves tests = record {
       so_far = record {
@@ -75,7 +75,7 @@ module _ {S : Type 0} (law : Law S) (m : Moment S) (i : Source) where
       rest = leaves.rest ∙ same_rest piece;
       left = leaves.left ∙ ap (λ rest. told (length rest)) (same_rest piece);
       many = omega (arith, s.many, length-append s.so_far.read piece);
-      tested = omega (arith, s.tested, length-append s.so_far.read piece);
+      tested = omega (arith, s.tested, tests, length-append s.so_far.read piece);
       no_read_failed = kept ∙ s.no_read_failed;
     }
 

@@ -26,14 +26,14 @@ pub record Answered {S : Type 0} (law : Law S) (before after : Moment S) (input 
   pub consumed : Consumes input.remaining input'.remaining read
   pub answered : AllAnswered law before (events read) after
 
--- .. which is the whole input, and so many bytes of it came behind its last line feed; each byte was tested for one at most once
+-- .. which is the whole input, and so many bytes of it came behind its last line feed; each byte was scanned for one exactly once
 pub record AnsweredAll {S : Type 0} (law : Law S) (before after : Moment S) (input input' : Source) (left tests : ℕ) : Type 0 where
   pub read : Bytes
   pub consumed : Consumes input.remaining input'.remaining read
   pub at_end : IsAtEnd input'.remaining
   pub answered : AllAnswered law before (events read) after
   pub told_left : left ≡ told (length (rest_of read))
-  pub tested : tests ≤ length read
+  pub tested : tests ≡ length read
   pub no_read_failed : input'.failures ≡ input.failures
 
 -- It ended at some line of what was read, and all lines of what was read before the last piece were answered by then.

@@ -59,6 +59,8 @@ fn answer_lines<H: Handler, W: Write>(
     ensures rest { OnOk result (store.new.bytes ≡ rest_of store.old.bytes) }
     ensures ahead { OnOk result (store.new.ahead ≡ 0) }
     ensures tests { store.new.tests ≤ store.old.tests + store.old.ahead }
+    ensures tested { OnOk result (store.new.tests ≡ store.old.tests + store.old.ahead) }
+    ensures never_fewer { store.old.tests ≤ store.new.tests }
 {
     let alloc = store.allocator();
     loop {
@@ -85,6 +87,8 @@ fn answer_piece<H: Handler, W: Write>(
     ensures rest { OnOk result (store.new.bytes ≡ rest_of (store.old.bytes ++ piece.now)) }
     ensures ahead { OnOk result (store.new.ahead ≡ 0) }
     ensures tests { store.new.tests ≤ store.old.tests + store.old.ahead + length piece.now }
+    ensures tested { OnOk result (store.new.tests ≡ store.old.tests + store.old.ahead + length piece.now) }
+    ensures never_fewer { store.old.tests ≤ store.new.tests }
 {
     match store.put(piece) {
         Ok(()) => answer_lines(store, handler, output),
@@ -184,8 +188,10 @@ impl Engine {
         ensures unchanged { self.old.failed ≡ true → (handler.new ≡ handler.old) × (output.new ≡ output.old) }
         ensures failed { self.new.failed ≡ is_err result }
         ensures kept { OnErr result (self.new.left ≡ self.old.left) }
-        // Each byte is tested for a line feed at most once.
+        // At Ok each byte of the piece was scanned for a line feed exactly once; at an error at most once, and the count does not fall.
         ensures tests { self.new.tests ≤ self.old.tests + length piece.now }
+        ensures tested { OnOk result (self.new.tests ≡ self.old.tests + length piece.now) }
+        ensures never_fewer { self.old.tests ≤ self.new.tests }
     {
         if self.failed {
             return Err(ServeError::Stopped);

@@ -44,10 +44,10 @@ pub fn serve<R: Read, W: Write, H: Handler>(
     // Whatever pieces the input comes in, at Ok exactly the replies to its lines are written,
     ensures headline { OnOk result (IfSome (R.remaining reader.old.reader) (λ input.
         Appends (W.contents writer.old.writer) (W.contents writer.new.writer) (text_for H.law (H.state handler.old) input))) }
-    // the handler is in the last state of its run over them, and each byte was tested for a line feed at most once.
+    // the handler is in the last state of its run over them, and each byte was scanned for a line feed exactly once.
     ensures state { OnOk result (IfSome (R.remaining reader.old.reader) (λ input.
         H.state handler.new ≡ last_state H.law (H.state handler.old) (events input))) }
-    ensures tested { IfOk result (λ served. IfSome (R.remaining reader.old.reader) (λ input. served.tests ≤ length input)) }
+    ensures tested { IfOk result (λ served. IfSome (R.remaining reader.old.reader) (λ input. served.tests ≡ length input)) }
     ensures left { IfOk result (λ served. IfSome (R.remaining reader.old.reader) (λ input. served.left ≡ told (length (rest_of input)))) }
     // What is written is read as what the replies show, and as nothing else, where each of them is plain.
     ensures read_back { OnOk result (IfSome (R.remaining reader.old.reader) (λ input.

@@ -76,8 +76,9 @@ impl Store {
     /// Takes the first line and answers its event, or `None` where there is none. Where memory is refused, the line stays.
     pub(crate) fn next(&mut self) -> Result<Option<Event>, AllocError>
         ensures nexts { Nexts self.old result self.new }
-        ensures tests { OnOk result (self.new.tests + self.new.ahead ≤ self.old.tests + self.old.ahead) }
+        ensures tests { OnOk result (self.new.tests + self.new.ahead ≡ self.old.tests + self.old.ahead) }
         ensures starved { OnErr result (self.new.tests ≤ self.old.tests + self.old.ahead) }
+        ensures never_fewer { self.old.tests ≤ self.new.tests }
     {
         let alloc = self.allocator();
         event_told(self.codec.decode(alloc, &mut self.buf))

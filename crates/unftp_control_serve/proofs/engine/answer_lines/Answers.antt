@@ -11,6 +11,7 @@ loop-event-preserved g c =
       answering = Answering-next _ _ _ _ _ _ _ _ c.loop-event.invariant.answering (first_line-events _ _ _ first) c.in_ok-answer_event-in-Ok-Some.ensures;
       rest = c.loop-event.invariant.rest ∙ first_line-rest _ _ _ first;
       tests = omega (arith, c.loop-event.invariant.tests, c.in-Ok-Some.ensures.tests);
+      never_fewer = omega (arith, c.loop-event.invariant.never_fewer, c.in-Ok-Some.ensures.never_fewer);
     }
 
 pub returns-in_err-answer_event-in-Ok-Some-clause-outcome : goal.returns-in_err-answer_event-in-Ok-Some-clause-outcome

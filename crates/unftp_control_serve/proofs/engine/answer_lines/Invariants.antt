@@ -13,7 +13,8 @@ invariant-loop-event g l = record {
       (moment_of g.H.Handler.state g.H.Handler.failures g.W.Write.contents l.handler l.output)
       (events l.store.bytes);
   rest : rest_of l.fn.store.bytes ≡ rest_of l.store.bytes;
-  tests : l.store.tests + l.store.ahead ≤ l.fn.store.tests + l.fn.store.ahead;
+  tests : l.store.tests + l.store.ahead ≡ l.fn.store.tests + l.fn.store.ahead;
+  never_fewer : l.fn.store.tests ≤ l.store.tests;
 }
 
 abbrev pub decreases-loop-event : goal.decreases-loop-event

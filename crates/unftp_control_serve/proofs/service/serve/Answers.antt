@@ -22,7 +22,7 @@ loop-turn-preserved g c =
     let going = c.loop-turn.invariant.serving.going in
     record {
       serving = Serving-next _ _ _ _ _ _ _ _ c.loop-turn.invariant.serving _ c.split_at.result.0.now c.feed.new.self given some c.in-Ok.ensures.quiet
-          (c.in_ok-feed.ensures.outcome going) (c.in_ok-feed.ensures.leaves going) c.in_ok-feed.ensures.tests;
+          (c.in_ok-feed.ensures.outcome going) (c.in_ok-feed.ensures.leaves going) c.in_ok-feed.ensures.tested;
       room = omega (arith, c.loop-turn.invariant.room, c.read.auto.buf);
     }
 
