@@ -1,6 +1,6 @@
 //! The loop at a handler and a writer, and a proxy's lines.
 ghost use Rattle.std.specs.Prelude.{◌≡◌};
-ghost use Rattle.unftp_control.specs.Events.{OutOfMemory};
+ghost use Rattle.unftp_control.specs.Events.{out_of_memory};
 ghost use Rattle.unftp_control.specs.FtpReply.{CodeAndMsg};
 ghost use Rattle.std.specs.Prelude.{codes};
 
@@ -22,7 +22,7 @@ impl Handler for Obliging {
 
     ghost state = { λ _. tt };
 
-    ghost law = { record { says = λ _ _. CodeAndMsg 200 (codes "OK"); next = λ s _. s; may_fail = λ _ _ kind. kind ≡ OutOfMemory } };
+    ghost law = { record { says = λ _ _. CodeAndMsg 200 (codes "OK"); next = λ s _. s; may_fail = λ _ _ fault. fault ≡ out_of_memory } };
 
     ghost failures = { λ obliging. obliging.failures };
 

@@ -2,7 +2,7 @@
 use Rattle.std.specs.Prelude.{◌≡◌, bytes_eq, if◌then◌else◌, false, unwrap_or, codes}
 use Rattle.unftp_control.specs.Bytes.{Bytes}
 use Rattle.unftp_control.specs.FtpCommand.{FtpCommand, Auth, Prot, Feat, Epsv, Help, Mode, Opts, Stru, Mlst, Noop, Quit, Site}
-use Rattle.unftp_control.specs.Events.{FaultKind, FaultSource, FtpEvent, Command, Refused, Parse, OutOfMemory}
+use Rattle.unftp_control.specs.Events.{FaultKind, FaultSource, FtpEvent, Command, Refused, Parse, out_of_memory}
 use Rattle.unftp_control.specs.FtpReply.{FtpReply, CodeAndMsg}
 use Rattle.unftp_control.specs.Texts.{reading_text, kind_text}
 use Rattle.unftp_control.specs.Run.{Law}
@@ -42,6 +42,6 @@ abbrev pub event_reply : FtpEvent → FtpReply
 event_reply (Command command) = command_reply command
 event_reply (Refused fault) = CodeAndMsg 500 (refusal_text fault.kind fault.source)
 
--- It may fail for want of memory alone.
+-- It may fail with `OutOfMemory` only, without a source.
 abbrev pub program_law : Law (Unit {0})
-program_law = record { says = λ _ event. event_reply event; next = λ s _. s; may_fail = λ _ _ kind. kind ≡ OutOfMemory }
+program_law = record { says = λ _ event. event_reply event; next = λ s _. s; may_fail = λ _ _ fault. fault ≡ out_of_memory }

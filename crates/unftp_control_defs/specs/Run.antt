@@ -1,14 +1,15 @@
 -- What a handler of events answers over a whole input.
 use Rattle.std.specs.Prelude.{List, [], ◌∷◌, flat_map}
 use Rattle.unftp_control_defs.specs.Bytes.{Bytes}
-use Rattle.unftp_control_defs.specs.Events.{FaultKind, FtpEvent, events}
+use Rattle.unftp_control_defs.specs.Events.{Fault, FtpEvent, events}
 use Rattle.unftp_control_defs.specs.FtpReply.{FtpReply, encoded}
 
--- what contracts know of a handler: what it answers to an event, which state follows, and with which kinds it may fail
+-- what contracts know of a handler: what it answers to an event, which state follows, and with which faults it may fail: the
+-- kind and the source of its error
 pub record Law (S : Type 0) : Type 1 where
   pub says : S → FtpEvent → FtpReply
   pub next : S → FtpEvent → S
-  pub may_fail : S → FtpEvent → FaultKind → Type 0
+  pub may_fail : S → FtpEvent → Fault → Type 0
 
 -- the replies to the events, and the last state
 abbrev pub replies : {S : Type 0} → Law S → S → List FtpEvent → List FtpReply

@@ -1,7 +1,7 @@
 -- What comes of events that are put together.
 use Rattle.std.proofs.Common.{◌≡◌, ◌+◌, inl, inr, List, [], ◌∷◌, ◌++◌, Result, Ok, Err, refl, sym, ◌∙◌, ap, subst, arith, append_assoc}
 use Rattle.std.proofs.lemmas.List.{append-nil}
-use Rattle.unftp_control_defs.specs.Events.{FaultKind, FtpEvent}
+use Rattle.unftp_control_defs.specs.Events.{Fault, FtpEvent}
 use Rattle.unftp_control_defs.specs.FtpReply.{encoded}
 use Rattle.unftp_control_defs.specs.Run.{Law, last_state, text_of}
 use Rattle.unftp_control_defs.proofs.RunLaws.{last_state-append, text_of-append}
@@ -66,9 +66,9 @@ module _ {S : Type 0} (law : Law S) where
       (v.done, refl),
     )
 
-    HandlerFailed-then : (whole fs : List FtpEvent) (kind : FaultKind) → whole ≡ es ++ fs → HandlerFailed law n fs k kind →
-        (v : HandlerFailed law m whole k kind) × Begins v.done es
-    HandlerFailed-then whole fs kind same v = (
+    HandlerFailed-then : (whole fs : List FtpEvent) (fault : Fault) → whole ≡ es ++ fs → HandlerFailed law n fs k fault →
+        (v : HandlerFailed law m whole k fault) × Begins v.done es
+    HandlerFailed-then whole fs fault same v = (
       record {
         done = es ++ v.done;
         event = v.event;
@@ -107,7 +107,7 @@ module _ {S : Type 0} (law : Law S) where
     RunEnded-then whole fs (Read _) same v = absurd v
     RunEnded-then whole fs (Write _) same v = WriteFailed-then whole fs same v
     RunEnded-then whole fs WriteZero same v = WriteFailed-then whole fs same v
-    RunEnded-then whole fs (Handler error) same v = HandlerFailed-then whole fs (fault_of error).kind same v
+    RunEnded-then whole fs (Handler error) same v = HandlerFailed-then whole fs (fault_of error) same v
     RunEnded-then whole fs OutOfMemory same v = MemoryRefused-then whole fs same v
     RunEnded-then whole fs Stopped same v = absurd v
     RunEnded-then whole fs TooManyReads same v = absurd v
@@ -136,8 +136,8 @@ module _ {S : Type 0} (law : Law S) where
       handler_kept = v.handler_kept;
     }
 
-    HandlerFailed-more : (kind : FaultKind) → HandlerFailed law m es n kind → HandlerFailed law m (es ++ more) n kind
-    HandlerFailed-more kind v = record {
+    HandlerFailed-more : (fault : Fault) → HandlerFailed law m es n fault → HandlerFailed law m (es ++ more) n fault
+    HandlerFailed-more fault v = record {
       done = v.done;
       event = v.event;
       later = v.later ++ more;
@@ -165,15 +165,15 @@ module _ {S : Type 0} (law : Law S) where
     RunEnded-more (Read _) v = absurd v
     RunEnded-more (Write _) v = WriteFailed-more v
     RunEnded-more WriteZero v = WriteFailed-more v
-    RunEnded-more (Handler error) v = HandlerFailed-more (fault_of error).kind v
+    RunEnded-more (Handler error) v = HandlerFailed-more (fault_of error) v
     RunEnded-more OutOfMemory v = MemoryRefused-more v
     RunEnded-more Stopped v = absurd v
     RunEnded-more TooManyReads v = absurd v
 
   -- at one event
   module _ (m n : Moment S) (e : FtpEvent) where
-    pub failed-at : (kind : FaultKind) → law.may_fail m.state e kind → n.output ≡ m.output → n.failures ≡ m.failures + 1 → HandlerFailed law m (e ∷ []) n kind
-    failed-at kind may same failures = record {
+    pub failed-at : (fault : Fault) → law.may_fail m.state e fault → n.output ≡ m.output → n.failures ≡ m.failures + 1 → HandlerFailed law m (e ∷ []) n fault
+    failed-at fault may same failures = record {
       done = [];
       event = e;
       later = [];

@@ -1,7 +1,7 @@
 -- What came of some events: which of them the handler took, what was written by then, and what was flushed.
 use Rattle.std.specs.Prelude.{◌≡◌, ℕ, ◌<◌, ◌⊎◌, List, [], ◌∷◌, ◌++◌, Option, Result, Err, MatchResult}
 use Rattle.std.specs.Io.KnownBytes.{Appends}
-use Rattle.unftp_control_defs.specs.Events.{FaultKind, FtpEvent}
+use Rattle.unftp_control_defs.specs.Events.{Fault, FtpEvent}
 use Rattle.unftp_control_defs.specs.FtpReply.{encoded}
 use Rattle.unftp_control_defs.specs.Run.{Law, last_state, text_of}
 use Rattle.unftp_control_defs.specs.Bytes.{Bytes}
@@ -42,13 +42,13 @@ pub record WriteFailed {S : Type 0} (law : Law S) (before : Moment S) (events : 
   pub write_failed : before.output.failures < after.output.failures
   pub handler_kept : after.failures ≡ before.failures
 
--- The handler failed at some event, in a way in which it may.
-pub record HandlerFailed {S : Type 0} (law : Law S) (before : Moment S) (events : List FtpEvent) (after : Moment S) (kind : FaultKind) : Type 0 where
+-- The handler failed at some event with this fault, with which it may fail there.
+pub record HandlerFailed {S : Type 0} (law : Law S) (before : Moment S) (events : List FtpEvent) (after : Moment S) (fault : Fault) : Type 0 where
   pub done : List FtpEvent
   pub event : FtpEvent
   pub later : List FtpEvent
   pub split : events ≡ done ++ event ∷ later
-  pub allowed : law.may_fail (last_state law before.state done) event kind
+  pub allowed : law.may_fail (last_state law before.state done) event fault
   pub written : Appends before.output.written after.output.written (text_of law before.state done)
   pub flushed : Flushed (text_of law before.state done) [] before.output.unflushed after.output.unflushed
   pub no_write_failed : after.output.failures ≡ before.output.failures
@@ -74,7 +74,7 @@ pub record MemoryRefused {S : Type 0} (law : Law S) (before : Moment S) (events 
 abbrev pub RunEnded : {S : Type 0} → Law S → Moment S → List FtpEvent → Moment S → ServeError → Type 0
 RunEnded law before events after (Write _) = WriteFailed law before events after
 RunEnded law before events after WriteZero = WriteFailed law before events after
-RunEnded law before events after (Handler error) = HandlerFailed law before events after (fault_of error).kind
+RunEnded law before events after (Handler error) = HandlerFailed law before events after (fault_of error)
 RunEnded law before events after OutOfMemory = MemoryRefused law before events after
 RunEnded law before events after _ = ⊥
 
@@ -96,9 +96,9 @@ OnWrite (Err (Write _)) P = P
 OnWrite (Err WriteZero) P = P
 OnWrite _ P = Unit {0}
 
--- P of the kind, where the answer is that the handler failed
-abbrev pub OnHandler : {T : Type 0} → Result T ServeError → (FaultKind → Type 0) → Type 0
-OnHandler (Err (Handler error)) P = P (fault_of error).kind
+-- P of the fault, where the answer is that the handler failed
+abbrev pub OnHandler : {T : Type 0} → Result T ServeError → (Fault → Type 0) → Type 0
+OnHandler (Err (Handler error)) P = P (fault_of error)
 OnHandler _ P = Unit {0}
 
 -- P, where the answer is that memory was refused

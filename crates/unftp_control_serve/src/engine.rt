@@ -64,10 +64,9 @@ fn answer_lines<H: Handler, W: Write>(
 {
     let alloc = store.allocator();
     loop {
-        match store.next() {
-            Ok(Some(event)) => answer_event(alloc, event, handler, output)?,
-            Ok(None) => return Ok(()),
-            Err(_) => return Err(ServeError::OutOfMemory),
+        match store.next()? {
+            Some(event) => answer_event(alloc, event, handler, output)?,
+            None => return Ok(()),
         }
     }
 }
@@ -90,10 +89,8 @@ fn answer_piece<H: Handler, W: Write>(
     ensures tested { OnOk result (store.new.tests ≡ store.old.tests + store.old.ahead + length piece.now) }
     ensures never_fewer { store.old.tests ≤ store.new.tests }
 {
-    match store.put(piece) {
-        Ok(()) => answer_lines(store, handler, output),
-        Err(_) => Err(ServeError::OutOfMemory),
-    }
+    store.put(piece)?;
+    answer_lines(store, handler, output)
 }
 
 /// Cuts an input that comes in pieces into lines, and answers each.

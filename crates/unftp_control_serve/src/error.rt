@@ -1,4 +1,5 @@
 //! Why serving ends early.
+use std::alloc::AllocError;
 use std::error::Error;
 use std::{fmt, io};
 use unftp_control_error::ControlChanError;
@@ -43,3 +44,15 @@ impl fmt::Display for ServeError {
 }
 
 impl Error for ServeError {}
+
+/// Out of memory, outside the handler.
+impl From<AllocError> for ServeError {
+    ghost use Rattle.std.specs.Prelude.{◌≡◌};
+    ghost use Rattle.unftp_control_serve.specs.declared.error.ServeError.TheVariants.{OutOfMemory};
+
+    ghost from_gives = { λ _ error. error ≡ OutOfMemory };
+
+    fn from(_error: AllocError) -> ServeError {
+        ServeError::OutOfMemory
+    }
+}

@@ -12,8 +12,8 @@ use unftp_control_reply::Reply;
 
 /// Answers the events of a connection, one after the other.
 ///
-/// It states as functions and relations of its state what it answers to an event, which state follows, and with which kinds of errors it
-/// may fail. It counts its failures: the count takes no byte, and contracts alone see it.
+/// It states as functions and relations of its state what it answers to an event, which state follows, and with which errors it may fail:
+/// of which kind, and from which source. It counts its failures: the count takes no byte, and contracts alone see it.
 pub trait Handler {
     // What contracts see of it.
     ghost State: { Type 0 };
@@ -29,6 +29,6 @@ pub trait Handler {
         ensures says { IfOk result (λ reply. reply_of reply ≡ law.says (state self.old) (event_meant event)) }
         ensures next { OnOk result (state self.new ≡ law.next (state self.old) (event_meant event)) }
         ensures quiet { OnOk result (failures self.new ≡ failures self.old) }
-        ensures may_fail { IfErr result (λ error. law.may_fail (state self.old) (event_meant event) (fault_of error).kind) }
+        ensures may_fail { IfErr result (λ error. law.may_fail (state self.old) (event_meant event) (fault_of error)) }
         ensures counted { OnErr result (failures self.new ≡ failures self.old + 1) };
 }

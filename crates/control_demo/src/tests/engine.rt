@@ -1,12 +1,13 @@
 //! The engine and `serve` over other handlers, and over streams and handlers that fail.
 use crate::responses::Responses;
-use crate::tests::handlers::{Counting, Recorder};
+use crate::tests::handlers::{Counting, Failing, Recorder};
 use crate::tests::streams::{Pieces, Room};
 use std::alloc::{AllocError, Global};
 use std::io::ErrorKind;
 use std::test::Fail;
 use unftp_control::command::Command;
-use unftp_control::error::ControlChanErrorKind;
+use unftp_control::error::{ControlChanErrorKind, Source};
+use unftp_control::line_parser::ParseErrorKind;
 use unftp_control::serve::{Engine, Event, Input, Output, ServeError, serve};
 
 #[test]
@@ -127,6 +128,138 @@ fn the_lines_before_a_failure_are_answered(rt: HostRuntime) -> Result<(), Fail> 
         output.into_inner().held.as_slice(),
         b"200 OK\r\n".as_slice()
     );
+    Ok(())
+}
+
+#[test]
+fn a_failed_read_is_returned_at_once(rt: HostRuntime) -> Result<(), Fail> {
+    let mut output = Output::new(Room::ample(rt.alloc()));
+    let mut counting = Counting::new(u32::MAX);
+    let mut pieces = Pieces::new(b"NOOP\r\nPWD\r\nNO", 6);
+    pieces.failing_read = 1;
+    let mut input = Input::new(pieces);
+    let unread = serve(rt.alloc(), &mut input, &mut output, &mut counting);
+    assert!(rt; matches!(&unread, Err(ServeError::Read(_))));
+    drop(unread);
+    assert_eq!(rt; counting.taken, 1);
+    // the read that failed was the last, and a second call goes on where it was
+    let pieces = input.into_inner();
+    assert_eq!(rt; pieces.reads, 2);
+    assert_eq!(rt; pieces.rest, b"PWD\r\nNO".as_slice());
+    let mut input = Input::new(pieces);
+    let served = serve(rt.alloc(), &mut input, &mut output, &mut counting)?;
+    assert_eq!(rt; served.left, 2);
+    assert_eq!(rt; counting.taken, 2);
+    assert_eq!(rt;
+        output.into_inner().held.as_slice(),
+        b"200 OK\r\n200 OK\r\n".as_slice()
+    );
+    Ok(())
+}
+
+#[test]
+fn short_writes_go_on(rt: HostRuntime) -> Result<(), Fail> {
+    // each write takes one byte more than the one before
+    let mut room = Room::ample(rt.alloc());
+    room.most = 1;
+    room.step = 1;
+    let mut output = Output::new(room);
+    let mut counting = Counting::new(u32::MAX);
+    let mut input = Input::new(Pieces::new(b"NOOP\r\nNOOP\r\n", 4096));
+    let served = serve(rt.alloc(), &mut input, &mut output, &mut counting)?;
+    assert_eq!(rt; served.left, 0);
+    let room = output.into_inner();
+    // 1, 2, 3 and 2 bytes of the first reply, and 5 and 3 of the second
+    assert_eq!(rt; room.most, 7);
+    assert_eq!(rt; room.flushes, 2);
+    assert_eq!(rt; room.held.as_slice(), b"200 OK\r\n200 OK\r\n".as_slice());
+    Ok(())
+}
+
+#[test]
+fn the_error_of_the_handler_keeps_its_source(rt: HostRuntime) -> Result<(), Fail> {
+    let mut output = Output::new(Room::ample(rt.alloc()));
+    let mut input = Input::new(Pieces::new(b"NOOP\r\n", 4096));
+    let failed = serve(rt.alloc(), &mut input, &mut output, &mut Failing::new());
+    match &failed {
+        Err(ServeError::Handler(error)) => {
+            assert_eq!(rt; error.kind(), &ControlChanErrorKind::IoError);
+            assert!(rt;
+                matches!(error.source(), Source::Io(io) if io.kind() == ErrorKind::TimedOut)
+            );
+        }
+        _ => panic!(rt; "another answer"),
+    }
+    drop(failed);
+    let mut input = Input::new(Pieces::new(b"NOOP x\r\n", 4096));
+    let failed = serve(rt.alloc(), &mut input, &mut output, &mut Failing::new());
+    match &failed {
+        Err(ServeError::Handler(error)) => {
+            assert_eq!(rt; error.kind(), &ControlChanErrorKind::InvalidCommand);
+            assert!(rt;
+                matches!(error.source(), Source::Parse(parse) if *parse.kind() == ParseErrorKind::InvalidCommand)
+            );
+        }
+        _ => panic!(rt; "another answer"),
+    }
+    drop(failed);
+    assert!(rt; output.into_inner().held.is_empty());
+    Ok(())
+}
+
+/// A line of 100,000 bytes that SITE ECHO says again.
+fn long_line(alloc: Global) -> Result<Vec<u8>, AllocError> {
+    let mut line = Vec::new(alloc);
+    line.extend_from_slice(b"SITE ECHO ")?;
+    line.resize(99_998, b'x')?;
+    line.extend_from_slice(b"\r\n")?;
+    Ok(line)
+}
+
+/// 16,667 lines of 6 bytes.
+fn short_lines(alloc: Global) -> Result<Vec<u8>, AllocError> {
+    let mut lines = Vec::new(alloc);
+    for _ in 0..16_667 {
+        lines.extend_from_slice(b"NOOP\r\n")?;
+    }
+    Ok(lines)
+}
+
+#[test]
+fn a_hundred_kilobytes_are_fed(rt: HostRuntime) -> Result<(), Fail> {
+    let mut engine = Engine::new(rt.alloc());
+    let mut responses = Responses::new();
+    let mut output = Output::new(Room::ample(rt.alloc()));
+    let line = long_line(rt.alloc())?;
+    engine.feed(line.as_slice(), &mut responses, &mut output)?;
+    let lines = short_lines(rt.alloc())?;
+    engine.feed(lines.as_slice(), &mut responses, &mut output)?;
+    assert_eq!(rt; engine.left(), 0);
+    let room = output.into_inner();
+    assert_eq!(rt; room.flushes, 16_668);
+    // `200 `, what follows `SITE ECHO ` with its end of line, and `200 OK` for each short line
+    assert_eq!(rt; room.held.len(), 4 + 99_990 + 16_667 * 8);
+    assert_eq!(rt; room.held.last(), Some(&b'\n'));
+    Ok(())
+}
+
+#[test]
+fn a_hundred_kilobytes_are_served(rt: HostRuntime) -> Result<(), Fail> {
+    let line = long_line(rt.alloc())?;
+    let lines = short_lines(rt.alloc())?;
+    for (input, flushes, written) in [
+        (line.as_slice(), 1, 4 + 99_990),
+        (lines.as_slice(), 16_667, 16_667 * 8),
+    ] {
+        let mut responses = Responses::new();
+        let mut reader = Input::new(Pieces::new(input, usize::MAX));
+        let mut output = Output::new(Room::ample(rt.alloc()));
+        let served = serve(rt.alloc(), &mut reader, &mut output, &mut responses)?;
+        assert_eq!(rt; served.left, 0);
+        let room = output.into_inner();
+        assert_eq!(rt; room.flushes, flushes);
+        assert_eq!(rt; room.held.len(), written);
+    }
     Ok(())
 }
 

@@ -1,9 +1,11 @@
 //! Other handlers.
 ghost use Rattle.std.specs.Prelude.{◌≡◌, ◌⊎◌, codes};
-ghost use Rattle.unftp_control.specs.Events.{IllegalState, OutOfMemory};
+ghost use Rattle.unftp_control.specs.Events.{Io, IoError, IllegalState, Refused, out_of_memory};
 ghost use Rattle.unftp_control.specs.FtpReply.{CodeAndMsg, Nothing};
 
 use std::alloc::Global;
+use std::io;
+use std::io::ErrorKind;
 use unftp_control::error::{ControlChanError, ControlChanErrorKind};
 use unftp_control::reply::{Reply, ReplyCode};
 use unftp_control::serve::{Count, Event, Handler};
@@ -34,7 +36,7 @@ impl Handler for Counting {
     ghost law = { record {
       says = λ _ _. CodeAndMsg 200 (codes "OK");
       next = λ s _. s;
-      may_fail = λ _ _ kind. (kind ≡ IllegalState) ⊎ (kind ≡ OutOfMemory);
+      may_fail = λ _ _ fault. (fault.kind ≡ IllegalState) ⊎ (fault ≡ out_of_memory);
     } };
 
     ghost failures = { λ counting. counting.failures };
@@ -76,7 +78,7 @@ impl Handler for Recorder {
 
     ghost state = { λ _. tt };
 
-    ghost law = { record { says = λ _ _. Nothing; next = λ s _. s; may_fail = λ _ _ kind. kind ≡ OutOfMemory } };
+    ghost law = { record { says = λ _ _. Nothing; next = λ s _. s; may_fail = λ _ _ fault. fault ≡ out_of_memory } };
 
     ghost failures = { λ recorder. recorder.failures };
 
@@ -86,5 +88,44 @@ impl Handler for Recorder {
             return Err(ControlChanError::new(ControlChanErrorKind::OutOfMemory));
         }
         Ok(Reply::None)
+    }
+}
+
+/// Fails at a refused line with the line's own error, and at a command with one of std's.
+#[derive(Drop)]
+pub struct Failing {
+    failures: Count,
+}
+
+impl Failing {
+    pub fn new() -> Failing {
+        Failing {
+            failures: Count::new(),
+        }
+    }
+}
+
+impl Handler for Failing {
+    ghost State = { Unit {0} };
+
+    ghost state = { λ _. tt };
+
+    ghost law = { record {
+      says = λ _ _. Nothing;
+      next = λ s _. s;
+      may_fail = λ _ event fault. (event ≡ Refused fault) ⊎ (fault ≡ record { kind = IoError; source = Io });
+    } };
+
+    ghost failures = { λ failing. failing.failures };
+
+    fn handle(&mut self, _alloc: Global, event: Event) -> Result<Reply, ControlChanError> {
+        self.failures.raise();
+        match event {
+            Event::Refused(error) => Err(error),
+            Event::Command(command) => {
+                drop(command);
+                Err(io::Error::from(ErrorKind::TimedOut).into())
+            }
+        }
     }
 }

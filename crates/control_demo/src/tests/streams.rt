@@ -11,6 +11,10 @@ pub struct Pieces<'a> {
     pub rest: &'a [u8],
     pub most: usize,
     pub turns: u32,
+    /// How many reads were made.
+    pub reads: u32,
+    /// The read that fails, counted from 0.
+    pub failing_read: u32,
 }
 
 impl<'a> Pieces<'a> {
@@ -20,6 +24,8 @@ impl<'a> Pieces<'a> {
             rest: input,
             most,
             turns: u32::MAX,
+            reads: 0,
+            failing_read: u32::MAX,
         }
     }
 }
@@ -28,7 +34,9 @@ impl Read for Pieces<'_> {
     ghost remaining = { λ pieces. Some pieces.rest.now };
 
     fn read(&mut self, buf: &mut [u8]) -> io::Result<usize> {
-        if self.turns == 0 {
+        let is_failing = self.reads == self.failing_read;
+        self.reads = self.reads.saturating_add(1);
+        if is_failing || self.turns == 0 {
             return Err(io::Error::from(ErrorKind::Interrupted));
         }
         self.turns -= 1;
@@ -46,6 +54,8 @@ pub struct Room {
     pub held: Vec<u8>,
     pub room: usize,
     pub most: usize,
+    /// How many bytes more than the write before each write takes at most.
+    pub step: usize,
     /// Whether it fails where there is no room.
     pub fails: bool,
     /// Whether it fails at a write while bytes of the write before are unflushed.
@@ -68,6 +78,7 @@ impl Room {
             held: Vec::new(alloc),
             room,
             most: usize::MAX,
+            step: 0,
             fails,
             is_wary: false,
             unflushed: 0,
@@ -95,6 +106,7 @@ impl Write for Room {
         let (given, _) = buf.split_at(n);
         self.held.extend_from_slice(given)?;
         self.room -= n;
+        self.most = self.most.saturating_add(self.step);
         self.unflushed = self.unflushed.saturating_add(n);
         Ok(n)
     }

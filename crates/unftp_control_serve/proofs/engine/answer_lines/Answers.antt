@@ -6,27 +6,27 @@ use Rattle.unftp_control_serve.proofs.engine.answer_lines.Goals as goal
 
 pub loop-event-preserved : goal.loop-event-preserved
 loop-event-preserved g c =
-    let first = rw c.in-Ok-Some.field-0-is at c.in-Ok-Some.ensures.nexts in
+    let first = rw c.in-Some.is at c.in_ok-event.ensures.nexts in
     record {
-      answering = Answering-next _ _ _ _ _ _ _ _ c.loop-event.invariant.answering (first_line-events _ _ _ first) c.in_ok-answer_event-in-Ok-Some.ensures;
+      answering = Answering-next _ _ _ _ _ _ _ _ c.loop-event.invariant.answering (first_line-events _ _ _ first) c.in_ok-answer_event-in-Some.ensures;
       rest = c.loop-event.invariant.rest ∙ first_line-rest _ _ _ first;
-      tests = omega (arith, c.loop-event.invariant.tests, c.in-Ok-Some.ensures.tests);
-      never_fewer = omega (arith, c.loop-event.invariant.never_fewer, c.in-Ok-Some.ensures.never_fewer);
+      tests = omega (arith, c.loop-event.invariant.tests, c.in_ok-event.ensures.tests);
+      never_fewer = omega (arith, c.loop-event.invariant.never_fewer, c.in_ok-event.ensures.never_fewer);
     }
 
-pub returns-in_err-answer_event-in-Ok-Some-clause-outcome : goal.returns-in_err-answer_event-in-Ok-Some-clause-outcome
-returns-in_err-answer_event-in-Ok-Some-clause-outcome g c =
-    let first = rw c.in-Ok-Some.field-0-is at c.in-Ok-Some.ensures.nexts in
-    let error = err_from_is_err_and c.from_residual.result c.from_residual.ensures.1 in
+pub returns-in_err-answer_event-in-Some-clause-outcome : goal.returns-in_err-answer_event-in-Some-clause-outcome
+returns-in_err-answer_event-in-Some-clause-outcome g c =
+    let first = rw c.in-Some.is at c.in_ok-event.ensures.nexts in
+    let error = err_from_is_err_and c.from_residual-in_err-answer_event-in-Some.result c.from_residual-in_err-answer_event-in-Some.ensures.1 in
     rw (error.1, error.2)
-    (Answering-ended _ _ _ _ _ _ _ _ _ c.loop-event.invariant.answering (first_line-events _ _ _ first) c.in_err-answer_event-in-Ok-Some.ensures)
+    (Answering-ended _ _ _ _ _ _ _ _ _ c.loop-event.invariant.answering (first_line-events _ _ _ first) c.in_err-answer_event-in-Some.ensures)
 
-pub returns-in-Ok-None-clause-outcome : goal.returns-in-Ok-None-clause-outcome
-returns-in-Ok-None-clause-outcome g c =
-    let none = rw c.in-Ok-None.field-0-is at c.in-Ok-None.ensures.nexts in
+pub returns-in-None-clause-outcome : goal.returns-in-None-clause-outcome
+returns-in-None-clause-outcome g c =
+    let none = rw c.in-None.is at c.in_ok-event.ensures.nexts in
     Answering-end _ _ _ _ _ c.loop-event.invariant.answering (no_line-events _ _ none)
 
-pub returns-in-Ok-None-clause-rest : goal.returns-in-Ok-None-clause-rest
-returns-in-Ok-None-clause-rest g c =
-    let none = rw c.in-Ok-None.field-0-is at c.in-Ok-None.ensures.nexts in
+pub returns-in-None-clause-rest : goal.returns-in-None-clause-rest
+returns-in-None-clause-rest g c =
+    let none = rw c.in-None.is at c.in_ok-event.ensures.nexts in
     no_line-rest _ _ none ∙ sym c.loop-event.invariant.rest
