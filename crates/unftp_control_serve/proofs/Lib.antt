@@ -2,3 +2,4 @@ pub mod SendLaws
 mod EndingLaws
 mod StoreLaws
 mod ServiceLaws
+mod ExampleLemmas

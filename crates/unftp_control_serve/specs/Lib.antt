@@ -6,3 +6,4 @@ pub mod Endings
 pub mod Store
 pub mod Engine
 pub mod Service
+pub mod Examples

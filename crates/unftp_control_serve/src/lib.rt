@@ -4,6 +4,7 @@
 mod engine;
 mod error;
 mod event;
+pub mod examples;
 mod handler;
 mod input;
 mod output;
