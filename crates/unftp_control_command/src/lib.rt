@@ -269,6 +269,8 @@ impl fmt::Display for Command {
 
     ghost output = { shown };
 
+    ghost styled_output = { λ command _. shown command };
+
     fn fmt<W: fmt::Write>(&self, f: &mut fmt::Formatter<W>) -> fmt::Result {
         match self {
             Command::Pass { .. } => f.write_str("Pass { password: Password { bytes: ******* } }"),

@@ -1,9 +1,10 @@
 //! EPSV (RFC 2428, section 3).
-ghost use Rattle.std.specs.Prelude.{◌≡◌, IfOk, IfErr};
+ghost use Rattle.std.specs.Prelude.{◌≡◌, ◌↔◌, IsTrue, IfOk, IfErr};
 ghost use Rattle.unftp_control_defs.specs.Events.{out_of_memory};
 ghost use Rattle.unftp_control_error.specs.ErrorMeaning.{fault_of};
 ghost use Rattle.unftp_control_reply.specs.ReplyMeaning.{reply_of};
 ghost use Rattle.unftp_control_commands.specs.Answers.{epsv_reply, port_reply};
+ghost use Rattle.unftp_control_commands.specs.declared.epsv.Passive.{Passive as RustPassive};
 
 use std::alloc::Global;
 use unftp_control_error::ControlChanError;
@@ -52,3 +53,9 @@ pub fn make_epsv_reply(alloc: Global, port: u16) -> Result<Reply, ControlChanErr
     let text = format!(in alloc; "Entering Extended Passive Mode (|||{port}|)")?;
     Ok(Reply::new_with_string(ReplyCode::EnteringExtendedPassiveMode, text))
 }
+
+/// `==` of these settings is equality, and a clone is equal.
+pub fn same_passives()
+    ensures equal { (a b : RustPassive) → IsTrue (⟦<Passive as PartialEq>⟧.eq a b) ↔ (a ≡ b) }
+    ensures clone { (a b : RustPassive) → ⟦<Passive as Clone>⟧.is_clone a b → b ≡ a }
+{}

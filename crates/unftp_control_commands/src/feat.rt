@@ -11,7 +11,7 @@ use unftp_control_error::ControlChanError;
 use unftp_control_reply::{Reply, ReplyCode};
 
 /// FEAT.
-#[derive(Debug, Clone, Copy)]
+#[derive(Debug, Drop)]
 pub struct Feat;
 
 impl Feat {

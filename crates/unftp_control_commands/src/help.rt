@@ -11,7 +11,7 @@ use unftp_control_error::ControlChanError;
 use unftp_control_reply::{Reply, ReplyCode};
 
 /// HELP.
-#[derive(Debug, Clone, Copy)]
+#[derive(Debug, Drop)]
 pub struct Help;
 
 impl Help {

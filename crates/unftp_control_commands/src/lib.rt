@@ -15,7 +15,7 @@ mod session;
 mod stru;
 
 pub use auth::Auth;
-pub use epsv::{Epsv, Passive, make_epsv_reply};
+pub use epsv::{Epsv, Passive, make_epsv_reply, same_passives};
 pub use facts::{Metadata, format_facts, one_text_of_facts};
 pub use feat::Feat;
 pub use help::Help;
@@ -23,6 +23,6 @@ pub use mlst::Mlst;
 pub use mode::Mode;
 pub use opts::Opts;
 pub use prot::Prot;
-pub use session::SessionChange;
+pub use session::{SessionChange, same_changes};
 pub use stru::Stru;
 pub use unftp_control_defs::parameters::{AuthParam, ModeParam, Opt, ProtParam, StruParam};

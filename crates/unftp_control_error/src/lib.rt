@@ -53,10 +53,13 @@ impl fmt::Display for ControlChanErrorKind {
 
     ghost output = { λ kind. Some (kind_text (kind_meant kind)) };
 
+    ghost styled_output = { λ kind _. Some (kind_text (kind_meant kind)) };
+
     fn fmt<W: fmt::Write>(&self, f: &mut fmt::Formatter<W>) -> fmt::Result {
         f.write_str(match self {
             ControlChanErrorKind::UnknownCommand { command } => {
-                return write!(f, "Unknown command: {command}");
+                f.write_str("Unknown command: ")?;
+                return f.write_str(command.as_str());
             }
             ControlChanErrorKind::IoError => "Failed to perform IO",
             ControlChanErrorKind::ParseError => "Failed to parse command",
@@ -131,7 +134,7 @@ impl ControlChanError {
     }
 }
 
-/// The text of its kind behind `control channel error: `; its source is not told.
+/// The text of its kind after `control channel error: `, the same under all flags of the formatter; its source is not shown.
 impl fmt::Display for ControlChanError {
     ghost use Rattle.std.specs.Prelude.{Some};
     ghost use Rattle.unftp_control_defs.specs.Texts.{error_text};
@@ -139,8 +142,11 @@ impl fmt::Display for ControlChanError {
 
     ghost output = { λ error. Some (error_text (kind_meant error.kind)) };
 
+    ghost styled_output = { λ error _. Some (error_text (kind_meant error.kind)) };
+
     fn fmt<W: fmt::Write>(&self, f: &mut fmt::Formatter<W>) -> fmt::Result {
-        write!(f, "control channel error: {}", self.kind)
+        f.write_str("control channel error: ")?;
+        fmt::Display::fmt(&self.kind, f)
     }
 }
 

@@ -1,5 +1,6 @@
 //! Why a line is no command.
-ghost use Rattle.std.specs.Prelude.{◌≡◌};
+ghost use Rattle.std.specs.Prelude.{◌≡◌, ◌↔◌, IsTrue};
+ghost use Rattle.unftp_control_line_parser.specs.declared.error.ParseErrorKind.{ParseErrorKind as RustKind};
 
 use std::alloc::AllocError;
 use std::error::Error;
@@ -20,12 +21,15 @@ pub enum ParseErrorKind {
     OutOfMemory,
 }
 
+/// The text of the kind, the same under all flags of the formatter.
 impl fmt::Display for ParseErrorKind {
     ghost use Rattle.std.specs.Prelude.{Some};
     ghost use Rattle.unftp_control_defs.specs.Texts.{reading_text};
     ghost use Rattle.unftp_control_line_parser.specs.Told.{refusal_of};
 
     ghost output = { λ kind. Some (reading_text (refusal_of kind)) };
+
+    ghost styled_output = { λ kind _. Some (reading_text (refusal_of kind)) };
 
     fn fmt<W: fmt::Write>(&self, f: &mut fmt::Formatter<W>) -> fmt::Result {
         f.write_str(match self {
@@ -105,6 +109,7 @@ impl From<Utf8Error> for ParseError {
     }
 }
 
+/// The text of its kind after `parse error: `, the same under all flags of the formatter.
 impl fmt::Display for ParseError {
     ghost use Rattle.std.specs.Prelude.{Some};
     ghost use Rattle.unftp_control_defs.specs.Texts.{parse_error_text};
@@ -112,8 +117,11 @@ impl fmt::Display for ParseError {
 
     ghost output = { λ kind. Some (parse_error_text (refusal_of kind)) };
 
+    ghost styled_output = { λ kind _. Some (parse_error_text (refusal_of kind)) };
+
     fn fmt<W: fmt::Write>(&self, f: &mut fmt::Formatter<W>) -> fmt::Result {
-        write!(f, "parse error: {}", self.kind)
+        f.write_str("parse error: ")?;
+        fmt::Display::fmt(&self.kind, f)
     }
 }
 
@@ -121,3 +129,10 @@ impl Error for ParseError {}
 
 /// What `parse` answers.
 pub type Result<T> = result::Result<T, ParseError>;
+
+/// `==` of the parser's errors and of their kinds is equality, and a clone of a kind is equal.
+pub fn same_parse_errors()
+    ensures errors { (a b : RustKind) → IsTrue (⟦<ParseError as PartialEq>⟧.eq a b) ↔ (a ≡ b) }
+    ensures kinds { (a b : RustKind) → IsTrue (⟦<ParseErrorKind as PartialEq>⟧.eq a b) ↔ (a ≡ b) }
+    ensures clone { (a b : RustKind) → ⟦<ParseErrorKind as Clone>⟧.is_clone a b → b ≡ a }
+{}

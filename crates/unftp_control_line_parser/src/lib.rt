@@ -9,6 +9,6 @@ mod typed;
 mod value;
 mod verb;
 
-pub use error::{ParseError, ParseErrorKind, Result};
+pub use error::{ParseError, ParseErrorKind, Result, same_parse_errors};
 pub use parser::parse;
 pub use verb::is_verb;

@@ -1,5 +1,6 @@
 //! The codes of replies.
-ghost use Rattle.std.specs.Prelude.{◌≡◌, ◌↔◌};
+ghost use Rattle.std.specs.Prelude.{◌≡◌, ◌↔◌, IsTrue};
+ghost use Rattle.unftp_control_reply.specs.declared.code.ReplyCode.{ReplyCode as RustCode};
 ghost use Rattle.unftp_control_reply.specs.ReplyMeaning.{number_of};
 
 /// The code of a reply, by its meaning (RFC 959, section 4.2.2, where no other is named).
@@ -167,3 +168,9 @@ impl ReplyCode {
         })
     }
 }
+
+/// `==` of codes is equality, and a clone is equal.
+pub fn same_codes()
+    ensures equal { (a b : RustCode) → IsTrue (⟦<ReplyCode as PartialEq>⟧.eq a b) ↔ (a ≡ b) }
+    ensures clone { (a b : RustCode) → ⟦<ReplyCode as Clone>⟧.is_clone a b → b ≡ a }
+{}

@@ -4,5 +4,5 @@
 mod code;
 mod reply;
 
-pub use code::ReplyCode;
+pub use code::{ReplyCode, same_codes};
 pub use reply::{Reply, same_replies};
