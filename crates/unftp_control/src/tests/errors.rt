@@ -33,14 +33,21 @@ fn pass_on_utf8(ill_formed: Result<(), Utf8Error>) -> Result<(), ControlChanErro
     Ok(ill_formed?)
 }
 
+/// Display writes this text, whatever the flags.
 fn assert_prints(
     rt: &impl Abort,
     alloc: Global,
     error: &(impl Display + Drop),
     want: &str,
 ) -> Result<(), Fail> {
-    let text = format!(in alloc; "{error}")?;
-    assert_eq!(rt; text.as_str(), want);
+    let plain = format!(in alloc; "{error}")?;
+    assert_eq!(rt; plain.as_str(), want);
+    let alternate = format!(in alloc; "{error:#}")?;
+    assert_eq!(rt; alternate.as_str(), want);
+    let wide = format!(in alloc; "{error:>60}")?;
+    assert_eq!(rt; wide.as_str(), want);
+    let cut = format!(in alloc; "{error:.3}")?;
+    assert_eq!(rt; cut.as_str(), want);
     Ok(())
 }
 
