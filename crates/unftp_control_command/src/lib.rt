@@ -263,7 +263,7 @@ impl Command {
     }
 }
 
-/// The same as Debug. Of PASS it is one text, which tells neither the password's bytes nor their length.
+/// The same as Debug. Of PASS it is one text under all flags, which shows neither the password's bytes nor their length.
 impl fmt::Display for Command {
     ghost use Rattle.unftp_control_command.specs.CommandMeaning.{shown};
 

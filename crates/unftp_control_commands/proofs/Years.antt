@@ -1,15 +1,12 @@
 -- The years that have four digits.
-use Rattle.std.proofs.Common.{◌≡◌, ℕ, ◌/◌, ◌%◌, ◌++◌, ℤ, pos, negsuc, Some, None, refl, ap, ◌∙◌, true, false, arith, rules}
+use Rattle.std.proofs.Common.{◌≡◌, ◌/◌, ◌%◌, ◌++◌, ℤ, pos, negsuc, Some, None, refl, ap, ◌∙◌, true, false, arith, rules}
 use Rattle.std.specs.Prelude.{int_lt, unsigned_abs}
 use Rattle.jiff_core.specs.declared.civil.datetime.DateTime.{DateTime}
 use Rattle.unftp_control_commands.specs.Facts.{two_digits, time_text}
 
-no_less : (n : ℕ) → int_lt (pos n) (pos 0) ≡ true → ⊥
-no_less n h = search (rules, arith)
-
 pub time_text-none : (y : ℤ) (dt : DateTime) → int_lt y (pos 0) ≡ true → time_text y dt ≡ None
 time_text-none (negsuc n) dt h = refl
-time_text-none (pos n) dt h = absurd (no_less n h)
+time_text-none (pos n) dt h = search (rules, arith)
 
 pub time_text-some : (y : ℤ) (dt : DateTime) → int_lt y (pos 0) ≡ false
     → time_text y dt
