@@ -22,3 +22,5 @@ pub mod LineEndLaws
 pub mod AnswerLaws
 pub mod RuleLaws
 pub mod GivenLaws
+mod ExampleLemmas
+mod ReadExampleLemmas

@@ -19,8 +19,6 @@ ghost use Rattle.unftp_control_defs.specs.Steps.{AreSteps, Step, last_place};
 ghost use Rattle.unftp_control_defs.specs.Values.{Reads, BadEnd, value_of, escaped};
 ghost use Rattle.unftp_control_defs.specs.Verbs.{Cut, verb_of, parameter_of, upper};
 
-pub mod examples;
-
 /// An input has one list of lines and one rest, `lines_of` and `rest_of` (RFC 959, section 5.3).
 pub fn one_list_of_lines()
     ensures computed { (input : Bytes) → Lines input (lines_of input) (rest_of input) }

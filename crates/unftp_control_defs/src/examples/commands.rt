@@ -1,0 +1,242 @@
+//! Commands: the types of their fields, their lines, and which of them have one.
+ghost use Rattle.std.specs.Prelude.{◌≡◌, ◌++◌, [], ◌∷◌, true, false, Option, Some, None, codes};
+ghost use Rattle.unftp_control_defs.specs.Bytes.{Bytes};
+ghost use Rattle.unftp_control_defs.specs.Canonical.{canonical_line, IsGiven, IsName, IsNamed, IsOptional};
+ghost use Rattle.unftp_control_defs.specs.FtpCommand.{User, Pass, Acct, Syst, Stat, TypeCode, Stru, Mode, Help, Noop, Pasv, Epsv, Port, Retr, Stor, Appe, List as Listing, Nlst, Mlst, Mlsd, Feat, Pwd, Cwd, Cdup, Opts, Dele, Rmd, Quit, Mkd, Allo, Abor, Stou, Rnfr, Rnto, Auth, Ccc, Pbsz, Prot, Size, Rest, Mdtm, Md5, Site, Other, IsReal};
+ghost use Rattle.unftp_control_defs.specs.declared.parameters.AuthParam.TheVariants.{Ssl, Tls};
+ghost use Rattle.unftp_control_defs.specs.declared.parameters.ModeParam.TheVariants.{Stream, Block, Compressed};
+ghost use Rattle.unftp_control_defs.specs.declared.parameters.Opt.TheVariants.{Utf8};
+ghost use Rattle.unftp_control_defs.specs.declared.parameters.ProtParam.TheVariants.{Clear, Safe, Confidential, Private};
+ghost use Rattle.unftp_control_defs.specs.declared.parameters.StruParam.TheVariants.{File, Record, Page};
+
+/// Texts are UTF-8, an offset has 64 bits, and of bytes nothing is asked.
+pub fn fields_are_of_their_types()
+    // 195 169 is U+00E9, and no character has the byte 255
+    ensures user { IsReal (User (255 ∷ [])) }
+    ensures pass { IsReal (Pass (255 ∷ [])) }
+    ensures acct { IsReal (Acct (255 ∷ [])) }
+    ensures stat { IsReal (Stat (Some (255 ∷ []))) }
+    ensures port { IsReal (Port (195 ∷ 169 ∷ [])) }
+    ensures ill_formed_port { ¬ IsReal (Port (255 ∷ [])) }
+    ensures retr { IsReal (Retr (195 ∷ 169 ∷ [])) }
+    ensures ill_formed_retr { ¬ IsReal (Retr (255 ∷ [])) }
+    ensures stor { IsReal (Stor (195 ∷ 169 ∷ [])) }
+    ensures ill_formed_stor { ¬ IsReal (Stor (255 ∷ [])) }
+    ensures appe { IsReal (Appe (195 ∷ 169 ∷ [])) }
+    ensures ill_formed_appe { ¬ IsReal (Appe (255 ∷ [])) }
+    ensures cwd { IsReal (Cwd (195 ∷ 169 ∷ [])) }
+    ensures ill_formed_cwd { ¬ IsReal (Cwd (255 ∷ [])) }
+    ensures dele { IsReal (Dele (195 ∷ 169 ∷ [])) }
+    ensures ill_formed_dele { ¬ IsReal (Dele (255 ∷ [])) }
+    ensures rmd { IsReal (Rmd (195 ∷ 169 ∷ [])) }
+    ensures ill_formed_rmd { ¬ IsReal (Rmd (255 ∷ [])) }
+    ensures mkd { IsReal (Mkd (195 ∷ 169 ∷ [])) }
+    ensures ill_formed_mkd { ¬ IsReal (Mkd (255 ∷ [])) }
+    ensures rnfr { IsReal (Rnfr (195 ∷ 169 ∷ [])) }
+    ensures ill_formed_rnfr { ¬ IsReal (Rnfr (255 ∷ [])) }
+    ensures rnto { IsReal (Rnto (195 ∷ 169 ∷ [])) }
+    ensures ill_formed_rnto { ¬ IsReal (Rnto (255 ∷ [])) }
+    ensures size { IsReal (Size (195 ∷ 169 ∷ [])) }
+    ensures ill_formed_size { ¬ IsReal (Size (255 ∷ [])) }
+    ensures mdtm { IsReal (Mdtm (195 ∷ 169 ∷ [])) }
+    ensures ill_formed_mdtm { ¬ IsReal (Mdtm (255 ∷ [])) }
+    ensures md5 { IsReal (Md5 (195 ∷ 169 ∷ [])) }
+    ensures ill_formed_md5 { ¬ IsReal (Md5 (255 ∷ [])) }
+    ensures nlst { IsReal (Nlst (Some (195 ∷ 169 ∷ []))) }
+    ensures no_nlst { IsReal (Nlst None) }
+    ensures ill_formed_nlst { ¬ IsReal (Nlst (Some (255 ∷ []))) }
+    ensures mlst { IsReal (Mlst (Some (195 ∷ 169 ∷ []))) }
+    ensures no_mlst { IsReal (Mlst None) }
+    ensures ill_formed_mlst { ¬ IsReal (Mlst (Some (255 ∷ []))) }
+    ensures mlsd { IsReal (Mlsd (Some (195 ∷ 169 ∷ []))) }
+    ensures no_mlsd { IsReal (Mlsd None) }
+    ensures ill_formed_mlsd { ¬ IsReal (Mlsd (Some (255 ∷ []))) }
+    ensures list { IsReal (Listing (Some (195 ∷ 169 ∷ [])) (Some (195 ∷ 169 ∷ []))) }
+    ensures no_list { IsReal (Listing None None) }
+    ensures ill_formed_options { ¬ IsReal (Listing (Some (255 ∷ [])) None) }
+    ensures ill_formed_list { ¬ IsReal (Listing None (Some (255 ∷ []))) }
+    ensures greatest_rest { IsReal (Rest 18446744073709551615) }
+    ensures too_great_rest { ¬ IsReal (Rest 18446744073709551616) }
+    ensures site { IsReal (Site (195 ∷ 169 ∷ []) (195 ∷ 169 ∷ [])) }
+    ensures ill_formed_site { ¬ IsReal (Site (255 ∷ []) []) }
+    ensures ill_formed_site_arguments { ¬ IsReal (Site [] (255 ∷ [])) }
+    ensures other { IsReal (Other (195 ∷ 169 ∷ []) (195 ∷ 169 ∷ [])) }
+    ensures ill_formed_verb { ¬ IsReal (Other (255 ∷ []) []) }
+    ensures ill_formed_arguments { ¬ IsReal (Other [] (255 ∷ [])) }
+{}
+
+/// The line of each command.
+pub fn commands_have_lines()
+    ensures user { canonical_line (User (codes "a")) ≡ codes "USER a\r\n" }
+    ensures pass { canonical_line (Pass (codes "a")) ≡ codes "PASS a\r\n" }
+    ensures acct { canonical_line (Acct (codes "a")) ≡ codes "ACCT a\r\n" }
+    ensures port { canonical_line (Port (codes "a")) ≡ codes "PORT a\r\n" }
+    ensures retr { canonical_line (Retr (codes "a")) ≡ codes "RETR a\r\n" }
+    ensures stor { canonical_line (Stor (codes "a")) ≡ codes "STOR a\r\n" }
+    ensures appe { canonical_line (Appe (codes "a")) ≡ codes "APPE a\r\n" }
+    ensures cwd { canonical_line (Cwd (codes "a")) ≡ codes "CWD a\r\n" }
+    ensures dele { canonical_line (Dele (codes "a")) ≡ codes "DELE a\r\n" }
+    ensures rmd { canonical_line (Rmd (codes "a")) ≡ codes "RMD a\r\n" }
+    ensures mkd { canonical_line (Mkd (codes "a")) ≡ codes "MKD a\r\n" }
+    ensures rnfr { canonical_line (Rnfr (codes "a")) ≡ codes "RNFR a\r\n" }
+    ensures rnto { canonical_line (Rnto (codes "a")) ≡ codes "RNTO a\r\n" }
+    ensures size { canonical_line (Size (codes "a")) ≡ codes "SIZE a\r\n" }
+    ensures mdtm { canonical_line (Mdtm (codes "a")) ≡ codes "MDTM a\r\n" }
+    ensures empty_pass { canonical_line (Pass []) ≡ codes "PASS\r\n" }
+    ensures empty_acct { canonical_line (Acct []) ≡ codes "ACCT\r\n" }
+    ensures syst { canonical_line Syst ≡ codes "SYST\r\n" }
+    ensures help { canonical_line Help ≡ codes "HELP\r\n" }
+    ensures noop { canonical_line Noop ≡ codes "NOOP\r\n" }
+    ensures pasv { canonical_line Pasv ≡ codes "PASV\r\n" }
+    ensures epsv { canonical_line Epsv ≡ codes "EPSV\r\n" }
+    ensures feat { canonical_line Feat ≡ codes "FEAT\r\n" }
+    ensures pwd { canonical_line Pwd ≡ codes "PWD\r\n" }
+    ensures cdup { canonical_line Cdup ≡ codes "CDUP\r\n" }
+    ensures quit { canonical_line Quit ≡ codes "QUIT\r\n" }
+    ensures abor { canonical_line Abor ≡ codes "ABOR\r\n" }
+    ensures stou { canonical_line Stou ≡ codes "STOU\r\n" }
+    ensures ccc { canonical_line Ccc ≡ codes "CCC\r\n" }
+    ensures stat { canonical_line (Stat (Some (codes "a"))) ≡ codes "STAT a\r\n" }
+    ensures no_stat { canonical_line (Stat None) ≡ codes "STAT\r\n" }
+    ensures nlst { canonical_line (Nlst (Some (codes "a"))) ≡ codes "NLST a\r\n" }
+    ensures no_nlst { canonical_line (Nlst None) ≡ codes "NLST\r\n" }
+    ensures mlst { canonical_line (Mlst (Some (codes "a"))) ≡ codes "MLST a\r\n" }
+    ensures no_mlst { canonical_line (Mlst None) ≡ codes "MLST\r\n" }
+    ensures mlsd { canonical_line (Mlsd (Some (codes "a"))) ≡ codes "MLSD a\r\n" }
+    ensures no_mlsd { canonical_line (Mlsd None) ≡ codes "MLSD\r\n" }
+    ensures list { canonical_line (Listing None (Some (codes "a"))) ≡ codes "LIST a\r\n" }
+    ensures no_list { canonical_line (Listing None None) ≡ codes "LIST\r\n" }
+    ensures list_options { canonical_line (Listing (Some (codes "-l")) (Some (codes "a"))) ≡ codes "LIST a\r\n" }
+    ensures type_code { canonical_line TypeCode ≡ codes "TYPE I\r\n" }
+    ensures allo { canonical_line Allo ≡ codes "ALLO 0\r\n" }
+    ensures pbsz { canonical_line Pbsz ≡ codes "PBSZ 0\r\n" }
+    ensures stru_file { canonical_line (Stru File) ≡ codes "STRU F\r\n" }
+    ensures stru_record { canonical_line (Stru Record) ≡ codes "STRU R\r\n" }
+    ensures stru_page { canonical_line (Stru Page) ≡ codes "STRU P\r\n" }
+    ensures stream { canonical_line (Mode Stream) ≡ codes "MODE S\r\n" }
+    ensures block { canonical_line (Mode Block) ≡ codes "MODE B\r\n" }
+    ensures compressed { canonical_line (Mode Compressed) ≡ codes "MODE C\r\n" }
+    ensures clear { canonical_line (Prot Clear) ≡ codes "PROT C\r\n" }
+    ensures safe { canonical_line (Prot Safe) ≡ codes "PROT S\r\n" }
+    ensures confidential { canonical_line (Prot Confidential) ≡ codes "PROT E\r\n" }
+    ensures private { canonical_line (Prot Private) ≡ codes "PROT P\r\n" }
+    ensures tls { canonical_line (Auth Tls) ≡ codes "AUTH TLS\r\n" }
+    ensures ssl { canonical_line (Auth Ssl) ≡ codes "AUTH SSL\r\n" }
+    ensures utf8_on { canonical_line (Opts (Utf8 true)) ≡ codes "OPTS UTF8 ON\r\n" }
+    ensures utf8_off { canonical_line (Opts (Utf8 false)) ≡ codes "OPTS UTF8 OFF\r\n" }
+    ensures rest { canonical_line (Rest 0) ≡ codes "REST 0\r\n" }
+    ensures greatest_rest { canonical_line (Rest 18446744073709551615) ≡ codes "REST 18446744073709551615\r\n" }
+    ensures md5 { canonical_line (Md5 (codes "a")) ≡ codes "SITE MD5 a\r\n" }
+    ensures site { canonical_line (Site (codes "CHMOD") (codes "644 a")) ≡ codes "SITE CHMOD 644 a\r\n" }
+    ensures other { canonical_line (Other (codes "FOO") (codes "a")) ≡ codes "FOO a\r\n" }
+    ensures other_only { canonical_line (Other (codes "FOO") []) ≡ codes "FOO\r\n" }
+{}
+
+/// Texts and names that a line has room for.
+pub fn texts_fit_a_line()
+    ensures text { IsNamed (codes "a\r") }
+    ensures empty_text { ¬ IsNamed [] }
+    ensures text_with_lf { ¬ IsNamed (codes "a\n") }
+    ensures no_text { IsOptional None }
+    ensures some_text { IsOptional (Some (codes "a")) }
+    ensures some_empty_text { ¬ IsOptional (Some []) }
+    ensures some_text_with_lf { ¬ IsOptional (Some (codes "\n")) }
+    ensures name { IsName (codes "AZ-9") }
+    ensures empty_name { IsName [] }
+    ensures beside_the_letters { IsName (codes "`{") }
+    ensures first_letter { ¬ IsName (codes "Aa") }
+    ensures last_letter { ¬ IsName (codes "z") }
+    ensures space { ¬ IsName (codes "A B") }
+    ensures cr { ¬ IsName (codes "\r") }
+    ensures lf { ¬ IsName (codes "A\n") }
+{}
+
+/// Which commands have a line.
+pub fn commands_have_lines_or_none()
+    ensures empty_user { IsGiven (User []) }
+    ensures lf_in_user { ¬ IsGiven (User (codes "\n")) }
+    ensures empty_pass { IsGiven (Pass []) }
+    ensures lf_in_pass { ¬ IsGiven (Pass (codes "\n")) }
+    ensures empty_acct { IsGiven (Acct []) }
+    ensures lf_in_acct { ¬ IsGiven (Acct (codes "\n")) }
+    ensures port { IsGiven (Port (codes "a")) }
+    ensures empty_port { ¬ IsGiven (Port []) }
+    ensures retr { IsGiven (Retr (codes "a")) }
+    ensures empty_retr { ¬ IsGiven (Retr []) }
+    ensures stor { IsGiven (Stor (codes "a")) }
+    ensures empty_stor { ¬ IsGiven (Stor []) }
+    ensures appe { IsGiven (Appe (codes "a")) }
+    ensures empty_appe { ¬ IsGiven (Appe []) }
+    ensures cwd { IsGiven (Cwd (codes "a")) }
+    ensures empty_cwd { ¬ IsGiven (Cwd []) }
+    ensures dele { IsGiven (Dele (codes "a")) }
+    ensures empty_dele { ¬ IsGiven (Dele []) }
+    ensures rmd { IsGiven (Rmd (codes "a")) }
+    ensures empty_rmd { ¬ IsGiven (Rmd []) }
+    ensures mkd { IsGiven (Mkd (codes "a")) }
+    ensures empty_mkd { ¬ IsGiven (Mkd []) }
+    ensures rnfr { IsGiven (Rnfr (codes "a")) }
+    ensures empty_rnfr { ¬ IsGiven (Rnfr []) }
+    ensures rnto { IsGiven (Rnto (codes "a")) }
+    ensures empty_rnto { ¬ IsGiven (Rnto []) }
+    ensures size { IsGiven (Size (codes "a")) }
+    ensures empty_size { ¬ IsGiven (Size []) }
+    ensures mdtm { IsGiven (Mdtm (codes "a")) }
+    ensures empty_mdtm { ¬ IsGiven (Mdtm []) }
+    ensures md5 { IsGiven (Md5 (codes "a")) }
+    ensures empty_md5 { ¬ IsGiven (Md5 []) }
+    ensures stat { IsGiven (Stat (Some (codes "a"))) }
+    ensures no_stat { IsGiven (Stat None) }
+    ensures empty_stat { ¬ IsGiven (Stat (Some [])) }
+    ensures nlst { IsGiven (Nlst (Some (codes "a"))) }
+    ensures no_nlst { IsGiven (Nlst None) }
+    ensures empty_nlst { ¬ IsGiven (Nlst (Some [])) }
+    ensures mlst { IsGiven (Mlst (Some (codes "a"))) }
+    ensures no_mlst { IsGiven (Mlst None) }
+    ensures empty_mlst { ¬ IsGiven (Mlst (Some [])) }
+    ensures mlsd { IsGiven (Mlsd (Some (codes "a"))) }
+    ensures no_mlsd { IsGiven (Mlsd None) }
+    ensures empty_mlsd { ¬ IsGiven (Mlsd (Some [])) }
+    ensures list { IsGiven (Listing None (Some (codes "-l"))) }
+    ensures no_list { IsGiven (Listing None None) }
+    ensures empty_list { ¬ IsGiven (Listing None (Some [])) }
+    ensures empty_options { ¬ IsGiven (Listing (Some []) None) }
+    ensures site { IsGiven (Site (codes "ECHO") (codes "a")) }
+    ensures empty_site { IsGiven (Site [] []) }
+    ensures lowercase_site { ¬ IsGiven (Site (codes "echo") []) }
+    ensures lf_in_site { ¬ IsGiven (Site [] (codes "\n")) }
+    ensures other { IsGiven (Other (codes "FOO") (codes "a")) }
+    ensures empty_other { IsGiven (Other [] []) }
+    ensures other_noop { ¬ IsGiven (Other (codes "NOOP") []) }
+    ensures two_words { ¬ IsGiven (Other (codes "A B") []) }
+    ensures lf_in_other { ¬ IsGiven (Other [] (codes "\n")) }
+    ensures any_rest { IsGiven (Rest 18446744073709551616) }
+    ensures noop { IsGiven Noop }
+{}
+
+/// Lines that are easily misread, and commands that have none.
+pub fn canonical_lines_are_so()
+    ensures cr_and_nul { canonical_line (User (codes "\r" ++ 0 ∷ [])) ≡ codes "USER \r" ++ 0 ∷ 0 ∷ codes "\r\n" }
+    ensures empty_name { canonical_line (User []) ≡ codes "USER\r\n" }
+    ensures one_space { canonical_line (User (codes " ")) ≡ codes "USER  \r\n" }
+    ensures dashes_in_a_path { canonical_line (Listing None (Some (codes "-- x"))) ≡ codes "LIST -- -- x\r\n" }
+    ensures space_before_a_path { canonical_line (Listing None (Some (codes " a"))) ≡ codes "LIST  a\r\n" }
+    ensures dash_first { canonical_line (Listing None (Some (codes "-x"))) ≡ codes "LIST -- -x\r\n" }
+    ensures cr_before_the_end { canonical_line (Md5 (codes "a\r")) ≡ codes "SITE MD5 a\r" ++ 0 ∷ codes "\r\n" }
+    ensures empty_verb { canonical_line (Other [] (codes "NOOP")) ≡ codes " NOOP\r\n" }
+    ensures empty_line { canonical_line (Other [] []) ≡ codes "\r\n" }
+    // the letter is U+00DF
+    ensures beyond_ascii { canonical_line (Other (codes "PA" ++ 195 ∷ 159 ∷ []) (codes "x")) ≡ codes "PA" ++ 195 ∷ 159 ∷ codes " x\r\n" }
+    ensures site_name { canonical_line (Site (codes "ECHO") []) ≡ codes "SITE ECHO\r\n" }
+    ensures site_only { canonical_line (Site [] []) ≡ codes "SITE\r\n" }
+    ensures empty_site_name { canonical_line (Site [] (codes "X")) ≡ codes "SITE  X\r\n" }
+    ensures no_empty_path { ¬ IsGiven (Retr []) }
+    ensures no_empty_stat { ¬ IsGiven (Stat (Some [])) }
+    ensures no_empty_listing { ¬ IsGiven (Nlst (Some [])) }
+    ensures no_options { (options : Bytes) (path : Option Bytes) → ¬ IsGiven (Listing (Some options) path) }
+    ensures no_lf { ¬ IsGiven (User (codes "a\nb")) }
+    ensures no_other_bye { ¬ IsGiven (Other (codes "BYE") []) }
+    ensures no_other_site { ¬ IsGiven (Other (codes "SITE") []) }
+    ensures no_lowercase_verb { ¬ IsGiven (Other (codes "foo") []) }
+    ensures no_site_md5 { ¬ IsGiven (Site (codes "MD5") []) }
+{}

@@ -1,0 +1,76 @@
+//! Lines, and where a line is cut into its verb and its parameter.
+ghost use Rattle.std.specs.Prelude.{◌≡◌, [], ◌∷◌, ◌++◌, codes, false, true};
+ghost use Rattle.unftp_control_defs.specs.Bytes.{NUL, LF, CR, SP, DASH, crlf, Lacks};
+ghost use Rattle.unftp_control_defs.specs.Lines.{IsLine, Lines, lines_of, rest_of};
+ghost use Rattle.unftp_control_defs.specs.Verbs.{Cut, is_separator, upper};
+
+/// The bytes that have names.
+pub fn bytes_are_named_so()
+    ensures codes { NUL ∷ LF ∷ CR ∷ SP ∷ DASH ∷ [] ≡ 0 ∷ codes "\n\r -" }
+    ensures line_end { crlf ≡ codes "\r\n" }
+{}
+
+/// A text lacks a byte where no byte of it is that one.
+pub fn texts_lack_a_byte()
+    ensures empty { Lacks LF [] }
+    ensures other_bytes { Lacks LF (codes "a\r") }
+    ensures first { ¬ Lacks LF (codes "\na") }
+    ensures last { ¬ Lacks LF (codes "a\n") }
+{}
+
+/// A line has one LF, its last byte.
+pub fn lines_have_one_lf()
+    ensures crlf { IsLine (codes "NOOP\r\n") }
+    ensures lf_only { IsLine (codes "\n") }
+    ensures empty { ¬ IsLine [] }
+    ensures cr_only { ¬ IsLine (codes "NOOP\r") }
+    ensures two { ¬ IsLine (codes "A\nB\n") }
+    ensures more { ¬ IsLine (codes "A\nB") }
+{}
+
+/// An LF ends a line, and nothing else does; what none ends is the rest.
+pub fn lines_end_at_lf()
+    ensures lines { lines_of (codes "NOOP\r\nPWD\nNO\r") ≡ codes "NOOP\r\n" ∷ codes "PWD\n" ∷ [] }
+    ensures rest { rest_of (codes "NOOP\r\nPWD\nNO\r") ≡ codes "NO\r" }
+{}
+
+/// The lines of an input, and its rest.
+pub fn inputs_have_lines()
+    ensures nothing { Lines [] [] [] }
+    ensures lines_and_rest { Lines (codes "NOOP\r\nPWD\nNO\r") (codes "NOOP\r\n" ∷ codes "PWD\n" ∷ []) (codes "NO\r") }
+    ensures byte_left_out { ¬ Lines (codes "A\nB") (codes "A\n" ∷ []) [] }
+    ensures two_in_one { ¬ Lines (codes "A\nB\n") (codes "A\nB\n" ∷ []) [] }
+    ensures line_in_the_rest { ¬ Lines (codes "A\n") [] (codes "A\n") }
+{}
+
+/// What ends a verb: SP, CR and LF, and no other white space.
+pub fn separators_are_these()
+    ensures space { is_separator 32 ≡ true }
+    ensures cr { is_separator 13 ≡ true }
+    ensures lf { is_separator 10 ≡ true }
+    ensures tab { is_separator 9 ≡ false }
+    ensures vertical_tab { is_separator 11 ≡ false }
+    ensures nul { is_separator 0 ≡ false }
+{}
+
+/// One separator is cut out, and the rest is the parameter.
+pub fn lines_are_cut_so()
+    ensures space { Cut (codes "RETR a b\r\n") (codes "RETR") (codes "a b\r\n") }
+    ensures two_spaces { Cut (codes "RETR  a") (codes "RETR") (codes " a") }
+    ensures cr { Cut (codes "NOOP\r\n") (codes "NOOP") (codes "\n") }
+    ensures lf { Cut (codes "NOOP\n") (codes "NOOP") [] }
+    ensures no_separator { Cut (codes "NOOP") (codes "NOOP") [] }
+    ensures no_verb { Cut (codes " A") [] (codes "A") }
+    ensures separator_kept { ¬ Cut (codes "RETR a") (codes "RETR") (codes " a") }
+    ensures second_space { ¬ Cut (codes "A B C") (codes "A B") (codes "C") }
+    ensures parameter_dropped { ¬ Cut (codes "A B") (codes "A") [] }
+    ensures letter_cut_out { ¬ Cut (codes "ABC") (codes "A") (codes "C") }
+{}
+
+/// Only `a` to `z` are upper-cased.
+pub fn letters_are_upper_cased()
+    ensures letters { upper (codes "azAZ") ≡ codes "AZAZ" }
+    ensures beside_the_letters { upper (codes "`{@[") ≡ codes "`{@[" }
+    // the letter is U+00E9
+    ensures beyond_ascii { upper (195 ∷ 169 ∷ []) ≡ 195 ∷ 169 ∷ [] }
+{}

@@ -1,0 +1,79 @@
+//! Replies: their bytes, what a client sees of them, and which of them it can read back.
+ghost use Rattle.std.specs.Prelude.{◌≡◌, [], ◌∷◌, true, false, Some, None, codes};
+ghost use Rattle.unftp_control_defs.specs.FtpReply.{Nothing, CodeAndMsg, MultiLine, HasThreeDigits, IsPlain, encoded, is_positive, padded, shown};
+
+/// A line that begins with a digit gets a space.
+pub fn lines_are_padded_so()
+    ensures least { padded (codes "0") ≡ codes " 0" }
+    ensures greatest { padded (codes "9a") ≡ codes " 9a" }
+    ensures below_the_digits { padded (codes "/0") ≡ codes "/0" }
+    ensures above_the_digits { padded (codes ":0") ≡ codes ":0" }
+    ensures empty { padded [] ≡ [] }
+{}
+
+/// A reply without a text, and lines that begin with a digit.
+pub fn replies_are_encoded_so()
+    ensures nothing { encoded Nothing ≡ [] }
+    ensures text { encoded (CodeAndMsg 220 (codes "a")) ≡ codes "220 a\r\n" }
+    ensures digit_in_a_text { encoded (CodeAndMsg 220 (codes "1a")) ≡ codes "220 1a\r\n" }
+    ensures empty_text { encoded (CodeAndMsg 200 []) ≡ codes "200\r\n" }
+    ensures short_code { encoded (CodeAndMsg 7 (codes "a")) ≡ codes "7 a\r\n" }
+    ensures no_lines { encoded (MultiLine 200 []) ≡ codes "200 \r\n" }
+    ensures one_empty_line { encoded (MultiLine 200 ([] ∷ [])) ≡ codes "200 \r\n" }
+    ensures one_line { encoded (MultiLine 200 (codes "1a" ∷ [])) ≡ codes "200 1a\r\n" }
+    ensures digits_first { encoded (MultiLine 211 (codes "a" ∷ codes "1b" ∷ codes "2c" ∷ [])) ≡ codes "211-a\r\n 1b\r\n211 2c\r\n" }
+    ensures digit_in_the_first_line { encoded (MultiLine 211 (codes "1a" ∷ codes "b" ∷ [])) ≡ codes "211- 1a\r\n211 b\r\n" }
+{}
+
+/// The example of RFC 959, section 4.2.
+pub fn the_standards_reply_is_encoded_so()
+    ensures { encoded (MultiLine 123 (codes "First line" ∷ codes "Second line"
+        ∷ codes "  234 A line beginning with numbers" ∷ codes "The last line" ∷ []))
+        ≡ codes "123-First line\r\nSecond line\r\n  234 A line beginning with numbers\r\n123 The last line\r\n" }
+{}
+
+/// What a client sees.
+pub fn replies_are_shown_so()
+    ensures nothing { shown Nothing ≡ None }
+    ensures text { shown (CodeAndMsg 220 (codes "1a")) ≡ Some (220, codes "1a" ∷ []) }
+    ensures empty_text { shown (CodeAndMsg 200 []) ≡ Some (200, [] ∷ []) }
+    ensures no_lines { shown (MultiLine 200 []) ≡ Some (200, [] ∷ []) }
+    ensures last_line { shown (MultiLine 200 (codes "1a" ∷ [])) ≡ Some (200, codes "1a" ∷ []) }
+    ensures other_lines { shown (MultiLine 211 (codes "1a" ∷ codes "2b" ∷ codes "3c" ∷ [])) ≡ Some (211, codes " 1a" ∷ codes " 2b" ∷ codes "3c" ∷ []) }
+{}
+
+/// The codes 200 to 399, and no reply (RFC 959, section 4.2.1).
+pub fn replies_are_positive_so()
+    ensures nothing { is_positive Nothing ≡ true }
+    ensures below { is_positive (CodeAndMsg 199 []) ≡ false }
+    ensures least { is_positive (CodeAndMsg 200 []) ≡ true }
+    ensures greatest { is_positive (CodeAndMsg 399 []) ≡ true }
+    ensures above { is_positive (CodeAndMsg 400 []) ≡ false }
+    ensures lines_below { is_positive (MultiLine 199 []) ≡ false }
+    ensures lines_least { is_positive (MultiLine 200 []) ≡ true }
+    ensures lines_greatest { is_positive (MultiLine 399 []) ≡ true }
+    ensures lines_above { is_positive (MultiLine 400 []) ≡ false }
+{}
+
+/// Codes of three digits.
+pub fn codes_have_three_digits()
+    ensures below { ¬ HasThreeDigits 99 }
+    ensures least { HasThreeDigits 100 }
+    ensures greatest { HasThreeDigits 999 }
+    ensures above { ¬ HasThreeDigits 1000 }
+{}
+
+/// Which replies a client can read back.
+pub fn plain_replies_are_so()
+    ensures nothing { IsPlain Nothing }
+    ensures least_code { IsPlain (CodeAndMsg 100 []) }
+    ensures greatest_code { IsPlain (CodeAndMsg 999 (codes "a\rb")) }
+    ensures no_lines { IsPlain (MultiLine 211 []) }
+    ensures lines { IsPlain (MultiLine 211 (codes "211 x" ∷ [] ∷ [])) }
+    ensures two_digits { ¬ IsPlain (CodeAndMsg 99 []) }
+    ensures four_digits { ¬ IsPlain (CodeAndMsg 1000 []) }
+    ensures lines_two_digits { ¬ IsPlain (MultiLine 99 []) }
+    ensures lines_four_digits { ¬ IsPlain (MultiLine 1000 []) }
+    ensures line_feed { ¬ IsPlain (CodeAndMsg 200 (codes "a\nb")) }
+    ensures line_feed_in_a_line { ¬ IsPlain (MultiLine 211 (codes "a" ∷ codes "b\n" ∷ [])) }
+{}
