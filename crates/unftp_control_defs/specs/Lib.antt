@@ -15,3 +15,4 @@ pub mod Texts
 pub mod Run
 pub mod Cuttings
 pub mod Steps
+pub mod LossyText

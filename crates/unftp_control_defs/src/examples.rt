@@ -1,6 +1,7 @@
 //! Examples of the definitions, worked out by hand: for each one that holds and one that doesn't, at the boundary.
 pub mod commands;
 pub mod lines;
+pub mod lossy;
 pub mod paths;
 pub mod reading;
 pub mod replies;

@@ -2,3 +2,4 @@ mod FoldLaws
 mod EpsvLaws
 mod CuttingLaws
 mod StepLaws
+mod LossyTextLaws

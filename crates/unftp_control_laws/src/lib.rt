@@ -3,7 +3,9 @@
 #![tactic(auto)]
 
 ghost use Rattle.std.specs.Prelude.{◌≡◌, ◌↔◌, ◌⊎◌, ◌<◌, ◌≤◌, ◌+◌, ◌^◌, ℕ, List, [], ◌++◌, length, flat_map, Some, None, Ok, codes};
+ghost use Rattle.std.specs.Char.{IsScalar, encode_utf8};
 ghost use Rattle.std.specs.List.{AllByRecursion, concat, sum_by};
+ghost use Rattle.std.specs.Str.Lossy.{utf8_lossy};
 ghost use Rattle.unftp_control_commands.specs.Answers.{port_reply};
 ghost use Rattle.unftp_control_defs.specs.Bytes.{Bytes, LF, crlf, Lacks};
 ghost use Rattle.unftp_control_defs.specs.Canonical.{canonical_line, IsGiven};
@@ -12,6 +14,7 @@ ghost use Rattle.unftp_control_defs.specs.Events.{events};
 ghost use Rattle.unftp_control_defs.specs.FtpCommand.{FtpCommand, User, IsReal};
 ghost use Rattle.unftp_control_defs.specs.FtpReply.{FtpReply, IsPlain, encoded, shown};
 ghost use Rattle.unftp_control_defs.specs.Lines.{IsLine, Lines, lines_of, rest_of};
+ghost use Rattle.unftp_control_defs.specs.LossyText.{Character, LossyText, first_part};
 ghost use Rattle.unftp_control_defs.specs.Outcome.{outcome};
 ghost use Rattle.unftp_control_defs.specs.Paths.{ListPath, path_of};
 ghost use Rattle.unftp_control_defs.specs.ReplyReader.{FrontReply, HasFront, IsMalformed, IsPartial, ReadsBack};
@@ -41,6 +44,13 @@ pub fn one_value()
 /// The text of LIST has one path, `path_of`.
 pub fn one_path()
     ensures { (text path : Bytes) → ListPath text path ↔ (path_of text ≡ path) }
+{}
+
+/// The text of bytes, with U+FFFD for each ill-formed part, is the one that `String::from_utf8_lossy` gives, and no other; and the bytes of a
+/// character are its part, whatever follows (Unicode, section 3.9).
+pub fn one_lossy_text()
+    ensures text { (bytes text : Bytes) → LossyText bytes text ↔ (utf8_lossy bytes ≡ text) }
+    ensures character { (c : ℕ) (more : Bytes) → IsScalar c → first_part (encode_utf8 c ++ more) ≡ Character c (length (encode_utf8 c)) }
 {}
 
 /// Lines that differ in the case of the ASCII letters of their verb alone have one outcome, and so have lines of SITE whose names
