@@ -6,11 +6,15 @@ pub use Rattle.unftp_control_defs.specs.Paths
 pub use Rattle.unftp_control_defs.specs.FtpCommand
 pub use Rattle.unftp_control_defs.specs.Rules
 pub use Rattle.unftp_control_defs.specs.Outcome
+pub use Rattle.unftp_control_defs.specs.Canonical
+pub use Rattle.unftp_control_defs.specs.LossyText
 pub use Rattle.unftp_control_defs.specs.FtpReply
 pub use Rattle.unftp_control_defs.specs.ReplyReader
 pub use Rattle.unftp_control_defs.specs.Events
 pub use Rattle.unftp_control_defs.specs.Texts
 pub use Rattle.unftp_control_defs.specs.Run
+pub use Rattle.unftp_control_defs.specs.Cuttings
+pub use Rattle.unftp_control_defs.specs.Steps
 pub use Rattle.unftp_control_command.specs.CommandMeaning
 pub use Rattle.unftp_control_line_parser.specs.Told
 pub use Rattle.unftp_control_line_parser.specs.Memory
@@ -24,6 +28,7 @@ pub use Rattle.unftp_control_commands.specs.Answers
 pub use Rattle.unftp_control_commands.specs.Facts
 pub use Rattle.unftp_control_serve.specs.EventMeaning
 pub use Rattle.unftp_control_serve.specs.Sink
+pub use Rattle.unftp_control_serve.specs.ErrorTexts
 pub use Rattle.unftp_control_serve.specs.Endings
 pub use Rattle.unftp_control_serve.specs.Engine
 pub use Rattle.unftp_control_serve.specs.Service

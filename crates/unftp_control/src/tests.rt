@@ -5,6 +5,7 @@ mod commands;
 mod counted;
 mod errors;
 mod growths;
+mod large;
 mod lines;
 mod reading;
 mod replies;
@@ -12,7 +13,7 @@ mod writing;
 
 use crate::codecs::FtpCodec;
 use crate::command::Command;
-use crate::error::{ControlChanError, ControlChanErrorKind};
+use crate::error::{ControlChanError, ControlChanErrorKind, Source};
 use crate::reply::{Reply, ReplyCode};
 use std::alloc::Global;
 use std::test::Fail;
@@ -67,7 +68,7 @@ fn a_caller_answers_line_by_line(rt: HostRuntime) -> Result<(), Fail> {
     Ok(())
 }
 
-/// What the codec tells of the front of the buffer: the Debug text of its answer, or of the kind of its error.
+/// What `decode` returns: the Debug text of its answer, or the kinds of its error and of the source.
 fn told(alloc: Global, codec: &mut FtpCodec, buf: &mut Vec<u8>) -> Result<String, Fail>
     requires { codec.old.place ≤ vec_len buf.old }
     ensures { codec.new.place ≤ vec_len buf.new }
@@ -79,8 +80,13 @@ fn told(alloc: Global, codec: &mut FtpCodec, buf: &mut Vec<u8>) -> Result<String
             text
         }
         Err(error) => {
-            let kind = error.kind();
-            let text = format!(in alloc; "{kind:?}");
+            let text = match error.source() {
+                Source::Parse(source) => {
+                    let (kind, source) = (error.kind(), source.kind());
+                    format!(in alloc; "{kind:?} of {source:?}")
+                }
+                source => format!(in alloc; "{source:?}"),
+            };
             drop(error);
             text
         }
@@ -116,15 +122,25 @@ fn a_line_is_decoded_once_it_is_whole(rt: HostRuntime) -> Result<(), Fail> {
 #[test]
 fn a_refused_line_costs_itself_alone(rt: HostRuntime) -> Result<(), Fail> {
     let mut codec = FtpCodec::new();
-    let mut buf = Vec::from_slice(rt.alloc(), b"REST x\r\nSITE \xff\r\nPWD\r\n")?;
-    for (want, rest) in [
-        ("InvalidCommand", b"SITE \xff\r\nPWD\r\n".as_slice()),
-        ("Utf8Error", b"PWD\r\n".as_slice()),
-        ("Some(Pwd)", b"".as_slice()),
+    for (input, refusal, next) in [
+        (
+            b"REST x\r\nNOOP\r\n".as_slice(),
+            "InvalidCommand of InvalidCommand",
+            "Some(Noop)",
+        ),
+        (
+            b"SITE \xff\r\nPWD\r\n".as_slice(),
+            "Utf8Error of InvalidUtf8",
+            "Some(Pwd)",
+        ),
     ] {
+        let mut buf = Vec::from_slice(rt.alloc(), input)?;
         assert!(rt; codec.place() <= buf.len());
-        assert_eq!(rt; told(rt.alloc(), &mut codec, &mut buf)?.as_str(), want);
-        assert_eq!(rt; buf.as_slice(), rest);
+        assert_eq!(rt; told(rt.alloc(), &mut codec, &mut buf)?.as_str(), refusal);
+        assert!(rt; input.ends_with(buf.as_slice()));
+        assert_eq!(rt; codec.place(), 0);
+        assert_eq!(rt; told(rt.alloc(), &mut codec, &mut buf)?.as_str(), next);
+        assert!(rt; buf.is_empty());
         assert_eq!(rt; codec.place(), 0);
     }
     Ok(())

@@ -53,6 +53,6 @@ command_of (rust.Site v0 v1) = spec.Site (string_bytes v0) (string_bytes v1)
 command_of (rust.Other v0 v1) = spec.Other (string_bytes v0) (string_bytes v1)
 
 -- What Display writes of a command of PASS, whatever its password. Of the other commands nothing is said.
-abbrev pub shown : Command → Option Bytes
-shown (rust.Pass password) = Some (codes "Pass { password: Password { bytes: ******* } }")
-shown command = None
+abbrev pub displayed : Command → Option Bytes
+displayed (rust.Pass password) = Some (codes "Pass { password: Password { bytes: ******* } }")
+displayed command = None

@@ -265,11 +265,11 @@ impl Command {
 
 /// The same as Debug. Of PASS it is one text under all flags, which shows neither the password's bytes nor their length.
 impl fmt::Display for Command {
-    ghost use Rattle.unftp_control_command.specs.CommandMeaning.{shown};
+    ghost use Rattle.unftp_control_command.specs.CommandMeaning.{displayed};
 
-    ghost output = { shown };
+    ghost output = { displayed };
 
-    ghost styled_output = { λ command _. shown command };
+    ghost styled_output = { λ command _. displayed command };
 
     fn fmt<W: fmt::Write>(&self, f: &mut fmt::Formatter<W>) -> fmt::Result {
         match self {

@@ -18,13 +18,13 @@ use Rattle.std.specs.Char.{to_ascii_uppercase}
 use Rattle.unftp_control_defs.specs.Verbs.{upper}
 use Rattle.unftp_control_defs.specs.Rules.{Rule, row_of, verbs}
 use Rattle.unftp_control_line_parser.specs.Meaning.{meaning}
-use Rattle.unftp_control_line_parser.specs.Words.{padded, unpadded}
+use Rattle.unftp_control_line_parser.specs.Words.{to_four_bytes, from_four_bytes}
 use Rattle.unftp_control_line_parser.specs.declared.rule.Rule.{Rule as RustRule}
 use Rattle.unftp_control_line_parser.specs.declared.rule.Rule.TheVariants as rust
 use Rattle.unftp_control_line_parser.specs.declared.verb.TheConstants.{VERBS}
 
 -- each row of the table is the definition's
-rows_are : map (λ row. row_of (unpadded row.0) verbs) VERBS ≡ map (λ row. Some (meaning row.1)) VERBS
+rows_are : map (λ row. row_of (from_four_bytes row.0) verbs) VERBS ≡ map (λ row. Some (meaning row.1)) VERBS
 rows_are = refl
 
 -- the number by which a word is found
@@ -43,7 +43,7 @@ has_word None = false
 has_word (Some word) = has (key word) keys
 
 -- and each of the definition's is one of the table
-all_have : list_all (λ row. has_word (padded row.0)) verbs ≡ true
+all_have : list_all (λ row. has_word (to_four_bytes row.0)) verbs ≡ true
 all_have = refl
 
 -- each number is below the next one
@@ -57,17 +57,17 @@ keys_rise = refl
 words_back : map (λ row. to_be_bytes w32 (key row.0)) VERBS ≡ map (λ row. row.0) VERBS
 words_back = refl
 
--- what a word of four bytes is once padded, and back
-padded_back : (word : Bytes) → length word ≡ 4 → padded (unpadded word) ≡ Some word
-padded_back [] h = absurd (omega arith)
-padded_back (a ∷ []) h = absurd (omega arith)
-padded_back (a ∷ b ∷ []) h = absurd (omega arith)
-padded_back (a ∷ b ∷ c ∷ []) h = absurd (omega arith)
-padded_back (a ∷ b ∷ c ∷ d ∷ []) h = ⊎_elim
+-- four bytes, without their padding and padded again
+to_four_bytes_back : (word : Bytes) → length word ≡ 4 → to_four_bytes (from_four_bytes word) ≡ Some word
+to_four_bytes_back [] h = absurd (omega arith)
+to_four_bytes_back (a ∷ []) h = absurd (omega arith)
+to_four_bytes_back (a ∷ b ∷ []) h = absurd (omega arith)
+to_four_bytes_back (a ∷ b ∷ c ∷ []) h = absurd (omega arith)
+to_four_bytes_back (a ∷ b ∷ c ∷ d ∷ []) h = ⊎_elim
     (λ t. rw t (ap (λ n. Some (a ∷ b ∷ c ∷ n ∷ [])) (sym (eqb-true d 0 t))))
     (λ f. rw f (rw f refl))
     (cases_Bool (d == 0))
-padded_back (a ∷ b ∷ c ∷ d ∷ e ∷ word) h = absurd (omega arith)
+to_four_bytes_back (a ∷ b ∷ c ∷ d ∷ e ∷ word) h = absurd (omega arith)
 
 some_is : {X : Type 0} {x y : X} → Some x ≡ Some y → x ≡ y
 some_is e = cc
@@ -75,29 +75,29 @@ some_is e = cc
 none_some : {X : Type 0} {x : X} → None ≡ Some x → ⊥
 none_some e = cc
 
-pub unpadded_back : (word w : Bytes) → padded word ≡ Some w → unpadded w ≡ word
-unpadded_back [] w e = cc
-unpadded_back (a ∷ []) w e = cc
-unpadded_back (a ∷ b ∷ []) w e = cc
-unpadded_back (a ∷ b ∷ c ∷ []) w e = subst (λ x. unpadded x ≡ a ∷ b ∷ c ∷ []) (some_is e) refl
-unpadded_back (a ∷ b ∷ c ∷ d ∷ []) w e = ⊎_elim
+pub from_four_bytes_back : (word w : Bytes) → to_four_bytes word ≡ Some w → from_four_bytes w ≡ word
+from_four_bytes_back [] w e = cc
+from_four_bytes_back (a ∷ []) w e = cc
+from_four_bytes_back (a ∷ b ∷ []) w e = cc
+from_four_bytes_back (a ∷ b ∷ c ∷ []) w e = subst (λ x. from_four_bytes x ≡ a ∷ b ∷ c ∷ []) (some_is e) refl
+from_four_bytes_back (a ∷ b ∷ c ∷ d ∷ []) w e = ⊎_elim
     (λ t. absurd (none_some (rw t at e)))
-    (λ f. subst (λ x. unpadded x ≡ a ∷ b ∷ c ∷ d ∷ []) (some_is (rw f at e)) (rw f refl))
+    (λ f. subst (λ x. from_four_bytes x ≡ a ∷ b ∷ c ∷ d ∷ []) (some_is (rw f at e)) (rw f refl))
     (cases_Bool (d == 0))
-unpadded_back (a ∷ b ∷ c ∷ d ∷ e ∷ word) w h = cc
+from_four_bytes_back (a ∷ b ∷ c ∷ d ∷ e ∷ word) w h = cc
 
 -- a name whose padded word is not in the table has no row
-none_of : (name : Bytes) (rows : List (Bytes × Rule)) → list_all (λ row. has_word (padded row.0)) rows ≡ true → has_word (padded name) ≡ false → row_of name rows ≡ None
+none_of : (name : Bytes) (rows : List (Bytes × Rule)) → list_all (λ row. has_word (to_four_bytes row.0)) rows ≡ true → has_word (to_four_bytes name) ≡ false → row_of name rows ≡ None
 none_of name [] all none = refl
 none_of name (row ∷ rows) all none =
-    let parts = and_parts (has_word (padded row.0)) (list_all (λ row. has_word (padded row.0)) rows) all in
+    let parts = and_parts (has_word (to_four_bytes row.0)) (list_all (λ row. has_word (to_four_bytes row.0)) rows) all in
     ⊎_elim
-    (λ t. absurd (false≢true (sym none ∙ ap (λ n. has_word (padded n)) ((bytes_decides name row.0).0 t) ∙ parts.0)))
+    (λ t. absurd (false≢true (sym none ∙ ap (λ n. has_word (to_four_bytes n)) ((bytes_decides name row.0).0 t) ∙ parts.0)))
     (λ f. rw f (none_of name rows parts.1 none))
     (cases_Bool (bytes_eq name row.0))
 
-pub unpadded_none : (name : Bytes) → padded name ≡ None → row_of name verbs ≡ None
-unpadded_none name e = none_of name verbs all_have (ap has_word e)
+pub no_verb : (name : Bytes) → to_four_bytes name ≡ None → row_of name verbs ≡ None
+no_verb name e = none_of name verbs all_have (ap has_word e)
 
 below_all : (a : ℕ) (xs : List ℕ) → rising a xs ≡ true → (j : ℕ) → j < length xs → a < get_or xs j 0
 below_all a [] h j lt = absurd (omega arith)
@@ -128,17 +128,17 @@ module _ (word : Bytes) (long : length word ≡ 4) (bytes : (j : ℕ) → get_or
   same_word : (w : Bytes) → to_be_bytes w32 (key w) ≡ w → key w ≡ key word → w ≡ word
   same_word w back e = sym back ∙ ap (to_be_bytes w32) e ∙ be_bytes_4 word (key word) long bytes refl
 
-  pub found : (i : ℕ) (d : Bytes × RustRule) → i < length VERBS → key (get_or VERBS i d).0 ≡ key word → Some (meaning (get_or VERBS i d).1) ≡ row_of (unpadded word) verbs
+  pub found : (i : ℕ) (d : Bytes × RustRule) → i < length VERBS → key (get_or VERBS i d).0 ≡ key word → Some (meaning (get_or VERBS i d).1) ≡ row_of (from_four_bytes word) verbs
   found i d lt e =
       let row : Bytes × RustRule = get_or VERBS i d in
       let back : to_be_bytes w32 (key row.0) ≡ row.0 = sym (get_or-map (λ r. to_be_bytes w32 (key r.0)) VERBS i d [] lt) ∙ ap (λ ws. get_or ws i []) words_back ∙ get_or-map (λ r. r.0) VERBS i d [] lt in
       sym (get_or-map (λ r. Some (meaning r.1)) VERBS i d None lt)
       ∙ ap (λ rows. get_or rows i None) (sym rows_are)
-      ∙ get_or-map (λ r. row_of (unpadded r.0) verbs) VERBS i d None lt
-      ∙ ap (λ w. row_of (unpadded w) verbs) (same_word row.0 back e)
+      ∙ get_or-map (λ r. row_of (from_four_bytes r.0) verbs) VERBS i d None lt
+      ∙ ap (λ w. row_of (from_four_bytes w) verbs) (same_word row.0 back e)
 
-  pub not_found : ((i : ℕ) → i < length VERBS → get_or keys i 0 ≢ key word) → row_of (unpadded word) verbs ≡ None
-  not_found none = none_of (unpadded word) verbs all_have (ap has_word (padded_back word long) ∙ has_not (key word) keys none)
+  pub not_found : ((i : ℕ) → i < length VERBS → get_or keys i 0 ≢ key word) → row_of (from_four_bytes word) verbs ≡ None
+  not_found none = none_of (from_four_bytes word) verbs all_have (ap has_word (to_four_bytes_back word long) ∙ has_not (key word) keys none)
 
   module _ (k : ℕ) (is : k ≡ key word) where
     nothing : Bytes × RustRule
@@ -153,7 +153,7 @@ module _ (word : Bytes) (long : length word ≡ 4) (bytes : (j : ℕ) → get_or
 
     -- what a search for the word ends at
     pub searched : (r : Result ℕ ℕ) → IsSearchInRange r (length VERBS) → IsBinarySearchResult (λ row. nat_cmp (key row.0) k) VERBS r
-        → MatchResult r (λ i. (d : Bytes × RustRule) → Some (meaning (get_or VERBS i d).1) ≡ row_of (unpadded word) verbs) (λ i. row_of (unpadded word) verbs ≡ None)
+        → MatchResult r (λ i. (d : Bytes × RustRule) → Some (meaning (get_or VERBS i d).1) ≡ row_of (from_four_bytes word) verbs) (λ i. row_of (from_four_bytes word) verbs ≡ None)
     searched (Ok at) within equal = λ d. found at d within (ranked (key (get_or VERBS at d).0) k Equal (sym (equal d)) ∙ is)
     searched (Err at) within parted = not_found (λ i lt e.
         let same : key (get_or VERBS i nothing).0 ≡ key word = sym (get_or-map (λ r. key r.0) VERBS i nothing 0 lt) ∙ e in
@@ -162,27 +162,27 @@ module _ (word : Bytes) (long : length word ≡ 4) (bytes : (j : ℕ) → get_or
         (λ g. let m : k < key (get_or VERBS i nothing).0 = ranked (key (get_or VERBS i nothing).0) k Greater (sym ((parted comparisons_rise).1 i nothing g lt)) in omega arith)
         (cases_lt i at))
 
--- a word is padded up in either case of its letters
+-- a word is padded in the same way in upper case
 raised_nul : (b : ℕ) → (to_ascii_uppercase b == 0) ≡ (b == 0)
 raised_nul b = grind (arith, nat_tests)
 
-padded_upper : (word : Bytes) → padded (upper word) ≡ option_map upper (padded word)
-padded_upper [] = refl
-padded_upper (a ∷ []) = refl
-padded_upper (a ∷ b ∷ []) = refl
-padded_upper (a ∷ b ∷ c ∷ []) = refl
-padded_upper (a ∷ b ∷ c ∷ d ∷ []) = rw (raised_nul d) (by_nul (d == 0))
+to_four_bytes_upper : (word : Bytes) → to_four_bytes (upper word) ≡ option_map upper (to_four_bytes word)
+to_four_bytes_upper [] = refl
+to_four_bytes_upper (a ∷ []) = refl
+to_four_bytes_upper (a ∷ b ∷ []) = refl
+to_four_bytes_upper (a ∷ b ∷ c ∷ []) = refl
+to_four_bytes_upper (a ∷ b ∷ c ∷ d ∷ []) = rw (raised_nul d) (by_nul (d == 0))
   where
     by_nul : (t : Bool) → cond t None (Some (upper (a ∷ b ∷ c ∷ d ∷ []))) ≡ option_map upper (cond t None (Some (a ∷ b ∷ c ∷ d ∷ [])))
     by_nul true = refl
     by_nul false = refl
-padded_upper (a ∷ b ∷ c ∷ d ∷ e ∷ word) = refl
+to_four_bytes_upper (a ∷ b ∷ c ∷ d ∷ e ∷ word) = refl
 
-pub unpadded_upper : (word w : Bytes) → padded word ≡ Some w → unpadded (upper w) ≡ upper word
-unpadded_upper word w e = unpadded_back (upper word) (upper w) (padded_upper word ∙ ap (option_map upper) e)
+pub from_four_bytes_upper : (word w : Bytes) → to_four_bytes word ≡ Some w → from_four_bytes (upper w) ≡ upper word
+from_four_bytes_upper word w e = from_four_bytes_back (upper word) (upper w) (to_four_bytes_upper word ∙ ap (option_map upper) e)
 
-pub unpadded_none_upper : (word : Bytes) → padded word ≡ None → row_of (upper word) verbs ≡ None
-unpadded_none_upper word e = unpadded_none (upper word) (padded_upper word ∙ ap (option_map upper) e)
+pub no_verb_upper : (word : Bytes) → to_four_bytes word ≡ None → row_of (upper word) verbs ≡ None
+no_verb_upper word e = no_verb (upper word) (to_four_bytes_upper word ∙ ap (option_map upper) e)
 
 pub mapped_some : (rule : Option RustRule) → is_some rule ≡ is_some (option_map meaning rule)
 mapped_some None = refl

@@ -3,7 +3,7 @@ ghost use Rattle.std.specs.Prelude.{◌≡◌, ◌↔◌, IsTrue, IsSome, option
 ghost use Rattle.unftp_control_defs.specs.Rules.{row_of, verbs};
 ghost use Rattle.unftp_control_defs.specs.Verbs.{upper};
 ghost use Rattle.unftp_control_line_parser.specs.Meaning.{meaning};
-ghost use Rattle.unftp_control_line_parser.specs.Words.{padded, unpadded};
+ghost use Rattle.unftp_control_line_parser.specs.Words.{to_four_bytes, from_four_bytes};
 
 use crate::rule::ParameterKind::{Empty, ListPath, OptionalPath, Raw, StatPath, Text, Typed};
 use crate::rule::Rule::{Ignores, Splits, Takes};
@@ -61,8 +61,8 @@ static VERBS: [([u8; 4], Rule); 46] = [
 ];
 
 /// The word, padded with NUL to four bytes; none where no verb has its length.
-fn padded(word: &[u8]) -> Option<[u8; 4]>
-    ensures { result ≡ padded word.now }
+fn to_four_bytes(word: &[u8]) -> Option<[u8; 4]>
+    ensures { result ≡ to_four_bytes word.now }
 {
     match word {
         [a, b, c] => Some([*a, *b, *c, 0]),
@@ -73,7 +73,7 @@ fn padded(word: &[u8]) -> Option<[u8; 4]>
 
 /// The rule of a padded word, if it is a verb.
 fn rule_of(word: &[u8; 4]) -> Option<Rule>
-    ensures { option_map meaning result ≡ row_of (unpadded word.now) verbs }
+    ensures { option_map meaning result ≡ row_of (from_four_bytes word.now) verbs }
 {
     let key = u32::from_be_bytes(*word);
     match VERBS.binary_search_by_key(&key, |row| u32::from_be_bytes(row.0)) {
@@ -99,14 +99,14 @@ fn upper_cased(word: [u8; 4]) -> [u8; 4]
 pub fn rule_named(word: &[u8]) -> Option<Rule>
     ensures { option_map meaning result ≡ row_of (upper word.now) verbs }
 {
-    rule_of(&upper_cased(padded(word)?))
+    rule_of(&upper_cased(to_four_bytes(word)?))
 }
 
 /// Whether the word is a verb with a rule of its own, in upper case (RFC 959, section 5.3). It takes no memory.
 pub fn is_verb(raised: &[u8]) -> bool
     ensures { IsTrue result ↔ IsSome (row_of raised.now verbs) }
 {
-    match padded(raised) {
+    match to_four_bytes(raised) {
         Some(word) => rule_of(&word).is_some(),
         None => false,
     }

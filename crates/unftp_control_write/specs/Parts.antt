@@ -17,13 +17,13 @@ bytes_of (Name name) = name.now
 bytes_of (Number number) = decimal number
 
 -- what stands behind a space, where there is anything
-abbrev pub after_space : Option Bytes → Bytes
-after_space None = []
-after_space (Some bytes) = SP ∷ bytes
+abbrev pub spaced_part : Option Bytes → Bytes
+spaced_part None = []
+spaced_part (Some bytes) = SP ∷ bytes
 
 -- what the parts say, in front of the CR LF
 abbrev pub body_of : Line → Bytes
-body_of line = line.verb.now ++ after_space (option_map bytes_of line.word) ++ after_space (option_map (λ text. escaped text.now) line.text)
+body_of line = line.verb.now ++ spaced_part (option_map bytes_of line.word) ++ spaced_part (option_map (λ text. escaped text.now) line.text)
 
 -- Where this is given there are parts, which say the body; else there are none.
 abbrev pub Tells : Type 0 → Bytes → Option Line → Type 0

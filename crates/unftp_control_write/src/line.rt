@@ -2,7 +2,7 @@
 ghost use Rattle.std.specs.Prelude.{◌≡◌, [], ◌∷◌, ◌++◌, option_map, take, vec_len, OnOk};
 ghost use Rattle.unftp_control_defs.specs.Bytes.{crlf};
 ghost use Rattle.unftp_control_defs.specs.Values.{escaped};
-ghost use Rattle.unftp_control_write.specs.Parts.{after_space, body_of, bytes_of};
+ghost use Rattle.unftp_control_write.specs.Parts.{spaced_part, body_of, bytes_of};
 
 use itoa::Buffer;
 use std::alloc::AllocError;
@@ -64,7 +64,7 @@ impl<'a> Line<'a> {
 
     /// Appends the word behind a space, where there is one.
     fn append_word(&self, buf: &mut Vec<u8>) -> Result<(), AllocError>
-        ensures ok { OnOk result (buf.new.items ≡ buf.old.items ++ after_space (option_map bytes_of self.now.word)) }
+        ensures ok { OnOk result (buf.new.items ≡ buf.old.items ++ spaced_part (option_map bytes_of self.now.word)) }
         ensures kept { take (vec_len buf.old) buf.new.items ≡ buf.old.items }
     {
         let Some(word) = &self.word else {
@@ -76,7 +76,7 @@ impl<'a> Line<'a> {
 
     /// Appends the text behind a space, where there is one.
     fn append_text(&self, buf: &mut Vec<u8>) -> Result<(), AllocError>
-        ensures ok { OnOk result (buf.new.items ≡ buf.old.items ++ after_space (option_map (λ text. escaped text.now) self.now.text)) }
+        ensures ok { OnOk result (buf.new.items ≡ buf.old.items ++ spaced_part (option_map (λ text. escaped text.now) self.now.text)) }
         ensures kept { take (vec_len buf.old) buf.new.items ≡ buf.old.items }
     {
         let Some(text) = self.text else {

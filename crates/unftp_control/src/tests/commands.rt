@@ -199,19 +199,22 @@ fn assert_facts(
 
 #[test]
 fn instants_are_told_by_their_second_of_utc(rt: HostRuntime) -> Result<(), Fail> {
-    for (nanosecond, want) in [
+    for (size, nanosecond, want) in [
         (
+            1234,
             1_701_432_000_000_000_000,
             "type=file;size=1234;modify=20231201120000;",
         ),
-        (-500_000_000, "type=file;size=1234;modify=19691231235959;"),
+        (1234, -62_198_755_200_000_000_000, "type=file;size=1234;"),
+        (0, -500_000_000, "type=file;size=0;modify=19691231235959;"),
         (
+            0,
             -62_167_219_200_000_000_000,
-            "type=file;size=1234;modify=00000101000000;",
+            "type=file;size=0;modify=00000101000000;",
         ),
-        (-62_167_219_200_500_000_000, "type=file;size=1234;"),
+        (0, -62_167_219_200_500_000_000, "type=file;size=0;"),
     ] {
-        assert_facts(&rt, rt.alloc(), 1234, nanosecond, want)?;
+        assert_facts(&rt, rt.alloc(), size, nanosecond, want)?;
     }
     Ok(())
 }
@@ -225,6 +228,11 @@ fn the_facts_of_a_path_are_listed(rt: HostRuntime) -> Result<(), Fail> {
         uid: 1000,
         gid: 1000,
     };
+    let facts = format_facts(rt.alloc(), &directory)?;
+    assert_eq!(rt;
+        facts.as_str(),
+        "type=dir;size=0;unix.uid=1000;unix.gid=1000;"
+    );
     let reply = Mlst::new(None).reply(rt.alloc(), "/pub", Ok(&directory))?;
     assert_encoded(
         &rt,

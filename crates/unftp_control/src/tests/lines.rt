@@ -214,6 +214,7 @@ fn names_of_site_and_other_verbs_are_raised(rt: HostRuntime) -> Result<(), Fail>
         \r\n => Other { command_name: "", arguments: "" }
         \x20NOOP\r\n => Other { command_name: "", arguments: "NOOP" }
         PA\xc3\x9f x\r\n => Other { command_name: "PAß", arguments: "x" }
+        XRMD a\r\n => Other { command_name: "XRMD", arguments: "a" }
         xrmd a\r\n => Other { command_name: "XRMD", arguments: "a" }
         XCUP\r\n => Other { command_name: "XCUP", arguments: "" }
         A\r\n => Other { command_name: "A", arguments: "" }

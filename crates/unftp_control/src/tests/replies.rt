@@ -155,6 +155,16 @@ fn debug_tells_the_first_of_several_lines(rt: HostRuntime) -> Result<(), Fail> {
         &Reply::new(rt.alloc(), ReplyCode::CommandOkay, "OK")?,
         "CodeAndMsg { code: CommandOkay, msg: \"OK\" }",
     )?;
+    let no_lines = Reply::MultiLine {
+        code: ReplyCode::SystemStatus,
+        lines: Vec::new(rt.alloc()),
+    };
+    assert_shown(
+        &rt,
+        rt.alloc(),
+        &no_lines,
+        "MultiLine { code: SystemStatus, line: [] }",
+    )?;
     assert_shown(
         &rt,
         rt.alloc(),
