@@ -50,6 +50,9 @@ pub fn text(alloc: Global, value: CowSlice<'_, u8>) -> Result<String, AllocError
 fn borrowed_text(alloc: Global, bytes: &[u8]) -> Result<String, AllocError>
     ensures { IfOk result (λ text. string_bytes text ≡ utf8_lossy bytes.now) }
 {
+    if bytes.is_empty() {
+        return Ok(String::new(alloc));
+    }
     match from_utf8(bytes) {
         Ok(text) => String::from_str(alloc, text),
         Err(_) => bytes.to_str_lossy(alloc)?.into_owned(alloc),
