@@ -2,9 +2,10 @@
 use Rattle.std.proofs.Common.{◌≡◌, ◌≢◌, ℕ, zero, cond, option_map, is_some, suc, ◌<◌, ◌≤◌, Bool, true, false, bytes_eq, nat_lt, ◌==◌, ◌&&◌, ◌||◌, List, [], ◌∷◌, length, map, get_or, w32, Option, Some, None, Result, Ok, Err, MatchResult, refl, sym, ap, subst, ◌∙◌, ⊎_elim, arith, eqb-true}
 use borrow.Author.Tests.{ltb-true}
 use lib.Pointwise.{bytes_decides}
+use native.Mathlib.Numerals.{unary_clauses}
 use Rattle.std.specs.Int.{from_be_bytes, to_be_bytes}
 use Rattle.std.specs.List.{list_all}
-use Rattle.std.specs.List.Sorted.{IsSearchInRange, IsBinarySearchResult, IsNonDecreasingBy}
+use Rattle.std.specs.List.Sorted.{IsSearchInRange, IsBinarySearchResult, IsNonDecreasing, IsNonDecreasingBy, IsStrictlyIncreasing}
 use Rattle.std.specs.Ordering.{nat_cmp, ordering_index}
 use Rattle.std.specs.declared.cmp.Ordering.TheVariants.{Less, Equal, Greater}
 use Rattle.std.proofs.lemmas.Bool.{cases_Bool, cases_lt, and_parts, false≢true}
@@ -12,6 +13,7 @@ use Rattle.std.proofs.lemmas.Bool.Decides.{nat_tests}
 use Rattle.std.proofs.lemmas.Cmp.{ranked}
 use Rattle.std.proofs.lemmas.List.{get_or-map}
 use Rattle.std.proofs.lemmas.List.Sorted.{IsNonDecreasingBy-from_default}
+use Rattle.std.proofs.lemmas.Map.Keys.{non_decreasing_from_sorted, sorted_from_strictly_increasing}
 use Rattle.std.proofs.lemmas.Nat.{be_bytes_4}
 use Rattle.unftp_control_defs.specs.Bytes.{Bytes}
 use Rattle.std.specs.Char.{to_ascii_uppercase}
@@ -47,11 +49,12 @@ all_have : list_all (λ row. has_word (to_four_bytes row.0)) verbs ≡ true
 all_have = refl
 
 -- each number is below the next one
-abbrev rising : ℕ → List ℕ → Bool
-rising a [] = true
-rising a (b ∷ xs) = nat_lt a b && rising b xs
+abbrev rising : List ℕ → Bool
+rising [] = true
+rising (a ∷ []) = true
+rising (a ∷ b ∷ xs) = nat_lt a b && rising (b ∷ xs)
 
-keys_rise : rising 0 keys ≡ true
+keys_rise : rising keys ≡ true
 keys_rise = refl
 
 words_back : map (λ row. to_be_bytes w32 (key row.0)) VERBS ≡ map (λ row. row.0) VERBS
@@ -86,33 +89,59 @@ from_four_bytes_back (a ∷ b ∷ c ∷ d ∷ []) w e = ⊎_elim
     (cases_Bool (d == 0))
 from_four_bytes_back (a ∷ b ∷ c ∷ d ∷ e ∷ word) w h = cc
 
--- a name whose padded word is not in the table has no row
-none_of : (name : Bytes) (rows : List (Bytes × Rule)) → list_all (λ row. has_word (to_four_bytes row.0)) rows ≡ true → has_word (to_four_bytes name) ≡ false → row_of name rows ≡ None
-none_of name [] all none = refl
-none_of name (row ∷ rows) all none =
-    let parts = and_parts (has_word (to_four_bytes row.0)) (list_all (λ row. has_word (to_four_bytes row.0)) rows) all in
+-- a name that doesn't pass the test that each row's passes has no row
+none_of : (p : Bytes → Bool) (name : Bytes) (rows : List (Bytes × Rule)) → list_all (λ row. p row.0) rows ≡ true → p name ≡ false → row_of name rows ≡ None
+none_of p name [] all none = refl
+none_of p name (row ∷ rows) all none =
+    let parts = and_parts (p row.0) (list_all (λ row. p row.0) rows) all in
     ⊎_elim
-    (λ t. absurd (false≢true (sym none ∙ ap (λ n. has_word (to_four_bytes n)) ((bytes_decides name row.0).0 t) ∙ parts.0)))
-    (λ f. rw f (none_of name rows parts.1 none))
+    (λ t. absurd (false≢true (sym none ∙ ap p ((bytes_decides name row.0).0 t) ∙ parts.0)))
+    (λ f. rw f (none_of p name rows parts.1 none))
     (cases_Bool (bytes_eq name row.0))
 
 pub no_verb : (name : Bytes) → to_four_bytes name ≡ None → row_of name verbs ≡ None
-no_verb name e = none_of name verbs all_have (ap has_word e)
+no_verb name e = none_of (λ w. has_word (to_four_bytes w)) name verbs all_have (ap has_word e)
 
-below_all : (a : ℕ) (xs : List ℕ) → rising a xs ≡ true → (j : ℕ) → j < length xs → a < get_or xs j 0
-below_all a [] h j lt = absurd (omega arith)
-below_all a (b ∷ xs) h zero lt = ltb-true a b (and_parts (nat_lt a b) (rising b xs) h).0
-below_all a (b ∷ xs) h (suc j) lt =
-    let first : a < b = ltb-true a b (and_parts (nat_lt a b) (rising b xs) h).0 in
-    let more : b < get_or xs j 0 = below_all b xs (and_parts (nat_lt a b) (rising b xs) h).1 j (omega arith) in
-    omega arith
+-- each word of the definition has a row in the table, and each row of the table is the definition's
+abbrev table : List (Bytes × Rule)
+table = map (λ row. (from_four_bytes row.0, meaning row.1)) VERBS
 
-in_order : (a : ℕ) (xs : List ℕ) → rising a xs ≡ true → (i j : ℕ) → i ≤ j → j < length xs → get_or xs i 0 ≤ get_or xs j 0
-in_order a [] h i j le lt = absurd (omega arith)
-in_order a (b ∷ xs) h zero zero le lt = omega arith
-in_order a (b ∷ xs) h (suc i) zero le lt = absurd (omega arith)
-in_order a (b ∷ xs) h zero (suc j) le lt = let more : b < get_or xs j 0 = below_all b xs (and_parts (nat_lt a b) (rising b xs) h).1 j (omega arith) in omega arith
-in_order a (b ∷ xs) h (suc i) (suc j) le lt = in_order b xs (and_parts (nat_lt a b) (rising b xs) h).1 i j (omega arith) (omega arith)
+all_in_table : list_all (λ row. is_some (row_of row.0 table)) verbs ≡ true
+all_in_table = refl
+
+abbrev AreRows : List (Bytes × Rule) → Type 0
+AreRows rows = map (λ row. row_of row.0 verbs) rows ≡ map (λ row. Some row.1) rows
+
+table_rows : AreRows table
+table_rows = refl
+
+in_rows : (word : Bytes) (rows : List (Bytes × Rule)) → AreRows rows → (row_of word rows ≡ None → row_of word verbs ≡ None) → row_of word rows ≡ row_of word verbs
+in_rows word [] same none = sym (none refl)
+in_rows word (row ∷ rows) same none = ⊎_elim
+    (λ t.
+    let same_word : word ≡ row.0 = (bytes_decides word row.0).0 t in
+    let first : row_of row.0 verbs ≡ Some row.1 = cc in
+    rw t (sym (ap (λ w. row_of w verbs) same_word ∙ first)))
+    (λ f.
+    let others : AreRows rows = cc in
+    let no_row : row_of word rows ≡ None → row_of word verbs ≡ None = (λ e. none (rw f e)) in
+    rw f (in_rows word rows others no_row))
+    (cases_Bool (bytes_eq word row.0))
+
+pub same_rows : (word : Bytes) → row_of word table ≡ row_of word verbs
+same_rows word = in_rows word table table_rows (λ e. none_of (λ w. is_some (row_of w table)) word verbs all_in_table (ap is_some e))
+
+increasing : (xs : List ℕ) → rising xs ≡ true → IsStrictlyIncreasing xs
+increasing [] h k lt = absurd (omega arith)
+increasing (a ∷ []) h k lt = absurd (omega arith)
+increasing (a ∷ b ∷ xs) h zero lt = ltb-true a b (and_parts (nat_lt a b) (rising (b ∷ xs)) h).0
+increasing (a ∷ b ∷ xs) h (suc k) lt = simp unary_clauses (simp unary_clauses at (increasing (b ∷ xs) (and_parts (nat_lt a b) (rising (b ∷ xs)) h).1 k (omega arith)))
+
+pub keys_increase : IsStrictlyIncreasing keys
+keys_increase = increasing keys keys_rise
+
+keys_in_order : IsNonDecreasing keys
+keys_in_order = non_decreasing_from_sorted keys (sorted_from_strictly_increasing keys keys_increase)
 
 has_not : (k : ℕ) (xs : List ℕ) → ((i : ℕ) → i < length xs → get_or xs i 0 ≢ k) → has k xs ≡ false
 has_not k [] none = refl
@@ -138,7 +167,7 @@ module _ (word : Bytes) (long : length word ≡ 4) (bytes : (j : ℕ) → get_or
       ∙ ap (λ w. row_of (from_four_bytes w) verbs) (same_word row.0 back e)
 
   pub not_found : ((i : ℕ) → i < length VERBS → get_or keys i 0 ≢ key word) → row_of (from_four_bytes word) verbs ≡ None
-  not_found none = none_of (from_four_bytes word) verbs all_have (ap has_word (to_four_bytes_back word long) ∙ has_not (key word) keys none)
+  not_found none = none_of (λ w. has_word (to_four_bytes w)) (from_four_bytes word) verbs all_have (ap has_word (to_four_bytes_back word long) ∙ has_not (key word) keys none)
 
   module _ (k : ℕ) (is : k ≡ key word) where
     nothing : Bytes × RustRule
@@ -146,7 +175,7 @@ module _ (word : Bytes) (long : length word ≡ 4) (bytes : (j : ℕ) → get_or
 
     comparisons_rise : IsNonDecreasingBy (λ row. ordering_index (nat_cmp (key row.0) k)) VERBS
     comparisons_rise = IsNonDecreasingBy-from_default (λ row. ordering_index (nat_cmp (key row.0) k)) VERBS nothing (λ i j le lt.
-        let up : get_or keys i 0 ≤ get_or keys j 0 = in_order 0 keys keys_rise i j le lt in
+        let up : get_or keys i 0 ≤ get_or keys j 0 = keys_in_order i j 0 le lt in
         let here : get_or keys i 0 ≡ key (get_or VERBS i nothing).0 = get_or-map (λ r. key r.0) VERBS i nothing 0 (omega arith) in
         let there : get_or keys j 0 ≡ key (get_or VERBS j nothing).0 = get_or-map (λ r. key r.0) VERBS j nothing 0 lt in
         rises (key (get_or VERBS i nothing).0) (key (get_or VERBS j nothing).0) k (omega arith))

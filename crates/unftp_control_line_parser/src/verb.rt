@@ -1,9 +1,13 @@
 //! The verbs with a rule of their own.
-ghost use Rattle.std.specs.Prelude.{◌≡◌, ◌↔◌, IsTrue, IsSome, option_map};
+ghost use Rattle.std.specs.Prelude.{◌≡◌, ◌↔◌, IsTrue, IsSome, map, option_map};
+ghost use Rattle.std.specs.Int.{from_be_bytes, w32};
+ghost use Rattle.std.specs.List.Sorted.{IsStrictlyIncreasing};
+ghost use Rattle.unftp_control_defs.specs.Bytes.{Bytes};
 ghost use Rattle.unftp_control_defs.specs.Rules.{row_of, verbs};
 ghost use Rattle.unftp_control_defs.specs.Verbs.{upper};
 ghost use Rattle.unftp_control_line_parser.specs.Meaning.{meaning};
 ghost use Rattle.unftp_control_line_parser.specs.Words.{to_four_bytes, from_four_bytes};
+ghost use Rattle.unftp_control_line_parser.specs.declared.verb.TheConstants.{VERBS};
 
 use crate::rule::ParameterKind::{Empty, ListPath, OptionalPath, Raw, StatPath, Text, Typed};
 use crate::rule::Rule::{Ignores, Splits, Takes};
@@ -101,6 +105,13 @@ pub fn rule_named(word: &[u8]) -> Option<Rule>
 {
     rule_of(&upper_cased(to_four_bytes(word)?))
 }
+
+/// The table has the definition's verbs with their rules, each once, in strict order of the verbs' bytes.
+pub fn verb_table()
+    ensures order { IsStrictlyIncreasing (map (λ row. from_be_bytes w32 row.0) VERBS) }
+    ensures rows { (word : Bytes)
+        → row_of word (map (λ row. (from_four_bytes row.0, meaning row.1)) VERBS) ≡ row_of word verbs }
+{}
 
 /// Whether the word is a verb with a rule of its own, in upper case (RFC 959, section 5.3). It takes no memory.
 pub fn is_verb(raised: &[u8]) -> bool

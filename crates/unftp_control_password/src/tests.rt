@@ -3,37 +3,54 @@ mod growths;
 
 use super::Password;
 use bytes::Bytes;
+use std::alloc::AllocError;
 use std::convert::AsSlice;
 use std::test::Fail;
 
+fn password_of(rt: &HostRuntime, bytes: &[u8]) -> Result<Password, AllocError> {
+    Ok(Password::new(Bytes::copy_from_slice(rt.alloc(), bytes)?))
+}
+
 #[test]
-fn passwords_hold_their_bytes(rt: HostRuntime) -> Result<(), Fail> {
-    let password = Password::new(Bytes::copy_from_slice(rt.alloc(), b"supersecret")?);
+fn a_password_holds_its_bytes(rt: HostRuntime) -> Result<(), Fail> {
+    let password = password_of(&rt, b"supersecret")?;
     assert_eq!(rt; password.as_ref(), b"supersecret".as_slice());
     assert_eq!(rt; password.as_slice(), b"supersecret".as_slice());
-    assert!(rt; password.clone()? == password);
-    assert!(rt; Password::from_text(rt.alloc(), "supersecret")? == password);
-    let shorter = Password::new(Bytes::copy_from_slice(rt.alloc(), b"supersecre")?);
-    assert!(rt; password != shorter);
-    let other = Password::new(Bytes::copy_from_slice(rt.alloc(), b"supersecreT")?);
-    assert!(rt; password != other);
     Ok(())
 }
 
 #[test]
+fn a_clone_is_equal(rt: HostRuntime) -> Result<(), Fail> {
+    let password = password_of(&rt, b"supersecret")?;
+    assert!(rt; password.clone()? == password);
+    Ok(())
+}
+
+#[test]
+fn a_password_of_a_text_holds_its_bytes(rt: HostRuntime) -> Result<(), Fail> {
+    let password = Password::from_text(rt.alloc(), "supersecret")?;
+    assert!(rt; password == password_of(&rt, b"supersecret")?);
+    Ok(())
+}
+
+#[test]
+fn other_bytes_are_another_password(rt: HostRuntime) -> Result<(), Fail> {
+    let password = password_of(&rt, b"supersecret")?;
+    assert!(rt; password != password_of(&rt, b"supersecre")?);
+    assert!(rt; password != password_of(&rt, b"supersecreT")?);
+    Ok(())
+}
+
+fn prints_fixed_texts(rt: &HostRuntime, bytes: &[u8]) -> Result<bool, AllocError> {
+    let password = password_of(rt, bytes)?;
+    let shown = format!(in rt.alloc(); "{password} {password:?} {password:#?}")?;
+    Ok(shown.as_str() == "******* Password { bytes: ******* } Password { bytes: ******* }")
+}
+
+#[test]
 fn all_passwords_print_alike(rt: HostRuntime) -> Result<(), Fail> {
-    for bytes in [
-        b"supersecret".as_slice(),
-        b"".as_slice(),
-        b"\xff\r\n".as_slice(),
-    ] {
-        let password = Password::new(Bytes::copy_from_slice(rt.alloc(), bytes)?);
-        let shown = format!(in rt.alloc(); "{password}")?;
-        assert_eq!(rt; shown.as_str(), "*******");
-        let plain = format!(in rt.alloc(); "{password:?}")?;
-        assert_eq!(rt; plain.as_str(), "Password { bytes: ******* }");
-        let pretty = format!(in rt.alloc(); "{password:#?}")?;
-        assert_eq!(rt; pretty.as_str(), "Password { bytes: ******* }");
-    }
+    assert!(rt; prints_fixed_texts(&rt, b"supersecret")?);
+    assert!(rt; prints_fixed_texts(&rt, b"")?);
+    assert!(rt; prints_fixed_texts(&rt, b"\xff\r\n")?);
     Ok(())
 }
