@@ -2,6 +2,7 @@
 #![tactic(auto)]
 
 mod error;
+pub mod examples;
 mod fields;
 mod parser;
 mod rule;

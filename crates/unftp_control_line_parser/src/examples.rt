@@ -1,0 +1,24 @@
+//! Lines worked out by hand: which of them may need an allocation.
+ghost use Rattle.std.specs.Prelude.{◌++◌, ◌∷◌, codes};
+ghost use Rattle.unftp_control_line_parser.specs.Memory.{MayTakeMemory};
+
+/// A line whose command has a field, or that is refused.
+pub fn lines_that_may_take_memory()
+    ensures field { MayTakeMemory (codes "USER a\r\n") }
+    ensures empty_field { MayTakeMemory (codes "USER\r\n") }
+    ensures no_path { MayTakeMemory (codes "LIST\r\n") }
+    ensures number { MayTakeMemory (codes "REST 5\r\n") }
+    ensures other_verb { MayTakeMemory (codes "X\r\n") }
+    ensures value_refused { MayTakeMemory (codes "NOOP a\r\n") }
+    ensures end_refused { MayTakeMemory (codes "NOOP a") }
+    ensures subcommand_refused { MayTakeMemory (codes "SITE " ++ 255 ∷ codes "\r\n") }
+{}
+
+/// A line whose command has no field, or whose verb is not UTF-8.
+pub fn lines_that_take_no_memory()
+    ensures no_value { MayTakeMemory (codes "NOOP\r\n") → ⊥ }
+    ensures lower_case { MayTakeMemory (codes "noop") → ⊥ }
+    ensures ignored_value { MayTakeMemory (codes "TYPE a\r\n") → ⊥ }
+    ensures ignored_end { MayTakeMemory (codes "TYPE a") → ⊥ }
+    ensures bad_verb { MayTakeMemory (255 ∷ codes "\r\n") → ⊥ }
+{}
