@@ -1,6 +1,6 @@
-//! Measures how long lines take to be decoded and parsed, and replies to be made, encoded and read. Its one argument is the number of
-//! rounds: of each figure it prints the median, with the least and the greatest. Without an argument it does one round and prints
-//! nothing.
+//! Measures how long lines take to be decoded and parsed, and replies to be made, encoded and read.
+//! Its one argument is the number of rounds: of each figure it prints the median, with the least
+//! and the greatest. Without an argument it does one round and prints nothing.
 #![tactic(auto)]
 
 mod measure;

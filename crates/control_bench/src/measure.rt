@@ -117,12 +117,12 @@ impl Measure {
     }
 }
 
-/// The error of a round whose lines are not all commands, as where memory is refused.
+/// The error of a round whose lines are not all commands, as when out of memory.
 fn no_command() -> io::Error {
     io::ErrorKind::InvalidData.into()
 }
 
-/// The error of a round in which memory is refused.
+/// The error of a round that runs out of memory.
 fn no_memory() -> io::Error {
     io::ErrorKind::OutOfMemory.into()
 }

@@ -8,7 +8,7 @@ use Rattle.unftp_control_codecs.specs.Encoding.{ended, opening}
 abbrev ending : ℕ → Bytes → Bytes
 ending code last = decimal code ++ after_space last
 
--- behind the code and the dash
+-- after the code and the dash
 several-front : (code : ℕ) (line : Bytes) (lines : List Bytes) (last : Bytes)
     → several code line (lines ++ last ∷ []) ≡ ended line ++ (flat_map ended lines ++ ending code last)
 several-front code line [] last = refl

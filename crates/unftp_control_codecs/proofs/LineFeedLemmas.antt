@@ -7,7 +7,7 @@ use Rattle.std.proofs.lemmas.Grind.{common_steps}
 use Rattle.std.proofs.lemmas.List.Sums.{position_or_len_is, prefix_len_passes}
 use Rattle.unftp_control_codecs.specs.LineFeed.{is_line_feed, line_feed_from}
 
--- no line feed stands from i up to j
+-- there is no line feed from i up to j
 abbrev pub NoLineFeed : List ℕ → ℕ → ℕ → Type 0
 NoLineFeed bytes i j = (k : ℕ) → i ≤ k → k < j → is_line_feed (slice_index bytes k) ≡ false
 
@@ -31,7 +31,7 @@ line_feed_from_Some bytes from j low high before at =
     let e : position_or_len is_line_feed (drop from bytes) ≡ j - from = position_from_is bytes from j low (omega arith) before (λ below. rw at refl) in
     grind (arith, common_steps, e, length-drop from bytes)
 
--- ---- what `line_feed_from` tells
+-- ---- what `line_feed_from` returns
 
 mapped : (from k : ℕ) (o : Option ℕ) → option_map (λ i. from + i) o ≡ Some k → (i : ℕ) × (o ≡ Some i) × (from + i ≡ k)
 mapped from k None h = absurd (cc)

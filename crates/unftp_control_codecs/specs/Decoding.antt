@@ -1,4 +1,4 @@
--- What one decoding does to a codec and its buffer, and what it tells.
+-- What one call of `decode` does to a codec and its buffer, and what it returns.
 use Rattle.std.specs.Prelude.{◌≡◌, ℕ, ◌+◌, ◌-◌, ◌≤◌, ◌⊎◌, length, take, drop, Option, None, Some, Result, Ok, Err, MatchOption}
 use Rattle.unftp_control_defs.specs.Bytes.{Bytes}
 use Rattle.unftp_control_defs.specs.Events.{FtpEvent, Command, Refused, event_of, OutOfMemory}
@@ -14,7 +14,7 @@ use Rattle.unftp_control_codecs.specs.LineFeed.{line_feed_from}
 abbrev pub Decoded : Type 0
 Decoded = Result (Option RustCommand) Parts
 
--- the event that is told, if any
+-- the event that is returned, if any
 abbrev pub event_told : Decoded → Option FtpEvent
 event_told (Ok None) = None
 event_told (Ok (Some command)) = Some (Command (command_of command))
@@ -25,7 +25,8 @@ abbrev pub IsStarved : Decoded → Type 0
 IsStarved (Ok command) = ⊥
 IsStarved (Err error) = (fault_of error).kind ≡ OutOfMemory
 
--- There is no line feed: the buffer stays, and the next search begins at its end. Each byte from the place on was tested.
+-- There is no line feed: the buffer stays, and the next search begins at its end. Each byte from
+-- the place on was tested.
 pub record FindsNone (old new : Codec) (before after : Bytes) : Type 0 where
   pub kept : after ≡ before
   pub place : new.place ≡ length before

@@ -3,11 +3,11 @@ use Rattle.std.specs.Prelude.{ℕ, List, [], ◌∷◌, ◌++◌, flat_map, deci
 use Rattle.unftp_control_defs.specs.Bytes.{Bytes, DASH, crlf}
 use Rattle.unftp_control_defs.specs.FtpReply.{padded}
 
--- a line in front of the last
+-- a line before the last
 abbrev pub ended : Bytes → Bytes
 ended line = padded line ++ crlf
 
--- all of these behind the code and a dash; nothing where the last line is the only one
+-- all of these after the code and a dash; nothing where the last line is the only one
 abbrev pub opening : ℕ → List Bytes → Bytes
 opening code [] = []
 opening code (line ∷ lines) = decimal code ++ DASH ∷ flat_map ended (line ∷ lines)

@@ -8,10 +8,12 @@ ghost use Rattle.unftp_control_codecs.specs.Encoding.{ended, opening};
 use std::alloc::AllocError;
 use unftp_control_reply::{Reply, ReplyCode};
 
-/// More bytes than a line of a reply has beside its text: the code and a sign, or a space put before it, and CR LF.
+/// More bytes than a line of a reply has beside its text: the code and a sign, or a space put
+/// before it, and CR LF.
 const ROOM_BESIDE_TEXT: usize = 16;
 
-/// Appends the bytes of the reply; where memory is refused, perhaps a part of them. The buffer grows once at most.
+/// Appends the bytes of the reply, or perhaps a part of them when out of memory. The buffer grows
+/// once at most.
 pub fn append_reply(reply: &Reply, buf: &mut Vec<u8>) -> Result<(), AllocError>
     ensures ok { OnOk result (buf.new.items ≡ buf.old.items ++ encoded (reply_of reply.now)) }
     ensures kept { take (vec_len buf.old) buf.new.items ≡ buf.old.items }
@@ -54,7 +56,8 @@ fn append_code(code: ReplyCode, buf: &mut Vec<u8>) -> Result<(), AllocError>
     buf.extend_from_slice(digits.format(code.number()).as_bytes())
 }
 
-/// Appends what stands behind a code of one line: a space and the text, or nothing where it is empty, and CR LF.
+/// Appends what follows the code of a reply of one line: a space and the text, or nothing where it
+/// is empty, and CR LF.
 fn append_text(text: &str, buf: &mut Vec<u8>) -> Result<(), AllocError>
     ensures ok { OnOk result (buf.new.items ≡ buf.old.items ++ (if length text.now == 0 then crlf else after_space text.now)) }
     ensures kept { take (vec_len buf.old) buf.new.items ≡ buf.old.items }
@@ -75,7 +78,7 @@ fn append_after_space(text: &str, buf: &mut Vec<u8>) -> Result<(), AllocError>
     buf.extend_from_slice(b"\r\n")
 }
 
-/// Appends a line in front of the last: a space where it begins with a digit, the line and CR LF.
+/// Appends a line before the last: a space where it begins with a digit, the line and CR LF.
 fn append_ended(line: &str, buf: &mut Vec<u8>) -> Result<(), AllocError>
     ensures ok { OnOk result (buf.new.items ≡ buf.old.items ++ ended line.now) }
     ensures kept { take (vec_len buf.old) buf.new.items ≡ buf.old.items }
@@ -89,7 +92,7 @@ fn append_ended(line: &str, buf: &mut Vec<u8>) -> Result<(), AllocError>
     buf.extend_from_slice(b"\r\n")
 }
 
-/// Appends lines in front of the last.
+/// Appends lines before the last.
 fn append_front(lines: &[String], buf: &mut Vec<u8>) -> Result<(), AllocError>
     ensures ok { OnOk result (buf.new.items ≡ buf.old.items ++ flat_map ended (map string_bytes lines.now)) }
     ensures kept { take (vec_len buf.old) buf.new.items ≡ buf.old.items }
@@ -100,7 +103,7 @@ fn append_front(lines: &[String], buf: &mut Vec<u8>) -> Result<(), AllocError>
     Ok(())
 }
 
-/// Appends all lines in front of the last behind the code and a dash, where there are any.
+/// Appends the code, a dash and all lines before the last, if there are any.
 fn append_opening(code: ReplyCode, lines: &[String], buf: &mut Vec<u8>) -> Result<(), AllocError>
     ensures ok { OnOk result (buf.new.items ≡ buf.old.items ++ opening (number_of code) (map string_bytes lines.now)) }
     ensures kept { take (vec_len buf.old) buf.new.items ≡ buf.old.items }

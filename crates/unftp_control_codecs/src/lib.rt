@@ -23,7 +23,8 @@ use unftp_control_reply::Reply;
 
 /// Decodes the commands of a control connection, and encodes its replies.
 ///
-/// It keeps the place in its buffer where the search for a line feed goes on, so that no byte is tested twice.
+/// It keeps the place in its buffer where the search for a line feed goes on, so that no byte is
+/// tested twice.
 #[derive(Drop)]
 pub struct FtpCodec {
     place: usize,
@@ -57,21 +58,22 @@ impl FtpCodec {
         self.place
     }
 
-    /// How often a byte was tested for a line feed: contracts alone see it.
+    /// How many bytes were scanned for a line feed. Only contracts see it.
     pub fn tests(&self) -> Count
         ensures { result ≡ self.now.tests }
     {
         self.tests.count()
     }
 
-    /// Takes the first line from the front of `buf` and answers its command, or `None` where no line has come whole yet
-    /// (RFC 959, section 5.3). A line ends at its line feed.
+    /// Takes the first line from the front of `buf` and answers its command, or `None` while no
+    /// line is complete (RFC 959, section 5.3). A line ends at its line feed.
     ///
-    /// The place has to be within `buf`, as it is after each call, also where `buf` has grown at its end since. The bytes
-    /// before the place are not tested again.
+    /// The place has to be within `buf`, as it is after each call, also where `buf` has grown at
+    /// its end since. The bytes before the place are not tested again.
     ///
-    /// A line that is no command is refused, by the parser's error as source: it leaves `buf` as any other line does, and
-    /// what follows it stays. Where memory is refused, with the kind `OutOfMemory`, `buf` and the place are as before.
+    /// A line that is no command is refused, by the parser's error as source: it leaves `buf` as
+    /// any other line does, and what follows it stays. When out of memory, with the kind
+    /// `OutOfMemory`, `buf` and the place are as before.
     pub fn decode(
         &mut self,
         alloc: Global,
@@ -98,9 +100,11 @@ impl FtpCodec {
         Ok(Some(answer?))
     }
 
-    /// Appends the bytes of the reply to `buf` and changes no earlier byte (RFC 959, section 4.2); `Reply::None` has none.
+    /// Appends the bytes of the reply to `buf` and changes no earlier byte (RFC 959, section 4.2);
+    /// `Reply::None` has none.
     ///
-    /// It is refused for want of memory alone, with the kind `OutOfMemory`: `buf` is then as it was, and the reply is gone.
+    /// It fails only when out of memory, with the kind `OutOfMemory`: `buf` is then as it was, and
+    /// the reply is dropped.
     pub fn encode(&mut self, reply: Reply, buf: &mut Vec<u8>) -> Result<(), ControlChanError>
         ensures ok { OnOk result (buf.new.items ≡ buf.old.items ++ encoded (reply_of reply)) }
         ensures err { OnErr result (buf.new.items ≡ buf.old.items) }
@@ -117,7 +121,8 @@ impl FtpCodec {
     }
 }
 
-/// Removes this many bytes from the front of the buffer. The rest is moved once, where `drain` would turn the whole buffer.
+/// Removes this many bytes from the front of the buffer. The rest is moved once, where `drain`
+/// would turn the whole buffer.
 fn remove_front(buf: &mut Vec<u8>, count: usize)
     requires { count ≤ vec_len buf.old }
     ensures { buf.new.items ≡ drop count buf.old.items }

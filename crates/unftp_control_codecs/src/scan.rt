@@ -7,7 +7,7 @@ use unftp_control_count::Count;
 
 const LINE_FEED: u8 = b'\n';
 
-/// How many looks were made. Contracts alone see it, as a number.
+/// How many bytes were scanned, a number that only contracts see.
 #[derive(Drop)]
 pub(crate) struct Tests {
     looks: Count,
@@ -46,7 +46,8 @@ impl Tests {
     }
 }
 
-/// A slice that is looked at byte by byte: it is private, and each look at one of its bytes raises the count by one.
+/// A slice that is looked at byte by byte: it is private, and each look at one of its bytes raises
+/// the count by one.
 #[derive(Drop)]
 pub(crate) struct Scan<'a, 'c> {
     bytes: &'a [u8],
@@ -54,7 +55,7 @@ pub(crate) struct Scan<'a, 'c> {
 }
 
 impl<'a, 'c> Scan<'a, 'c> {
-    /// Looks at these bytes, and counts its looks here.
+    /// Scans these bytes, and counts each that it scans here.
     pub(crate) fn over(bytes: &'a [u8], tests: &'c mut Tests) -> Scan<'a, 'c>
         ensures bytes { result.bytes.now ≡ bytes.now }
         ensures tests { result.tests.now ≡ tests.old }
@@ -75,7 +76,8 @@ impl<'a, 'c> Scan<'a, 'c> {
         self.bytes[at]
     }
 
-    /// The first line feed at or after `from`. Each byte from there to it, or to the end, is looked at once.
+    /// The first line feed at or after `from`. Each byte from there to it, or to the end, is looked
+    /// at once.
     pub(crate) fn find_line_feed(&mut self, from: usize) -> Option<usize>
         requires { from ≤ length self.old.bytes.now }
         ensures found { result ≡ line_feed_from self.old.bytes.now from }

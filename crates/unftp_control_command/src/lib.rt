@@ -11,8 +11,8 @@ use std::fmt;
 pub use unftp_control_defs::parameters::{AuthParam, ModeParam, Opt, ProtParam, StruParam};
 use unftp_control_password::Password;
 
-/// A command that a client sends on the control connection. Its texts are the client's bytes with each ill-formed part of UTF-8
-/// replaced by U+FFFD.
+/// A command that a client sends on the control connection. Its texts are the client's bytes with
+/// each ill-formed part of UTF-8 replaced by U+FFFD.
 #[derive(Debug, Drop, PartialEq, Eq)]
 pub enum Command {
     /// USER: who logs in (RFC 959, section 4.1.1).
@@ -30,9 +30,9 @@ pub enum Command {
         /// The account as the client sent it; it may be empty.
         account: Bytes,
     },
-    /// SYST: tell the operating system (RFC 959, section 4.1.3). Its parameter is not looked at.
+    /// SYST: asks for the operating system (RFC 959, section 4.1.3). Its parameter is ignored.
     Syst,
-    /// STAT: tell the status of the server, or of a path (RFC 959, section 4.1.3).
+    /// STAT: asks for the status of the server, or of a path (RFC 959, section 4.1.3).
     Stat {
         /// The path as the client sent it; never an empty one.
         path: Option<Bytes>,
@@ -49,7 +49,7 @@ pub enum Command {
         /// The mode.
         mode: ModeParam,
     },
-    /// HELP: tell of the server (RFC 959, section 4.1.3). Its parameter is not looked at.
+    /// HELP: asks for help on the server (RFC 959, section 4.1.3). Its parameter is ignored.
     Help,
     /// NOOP: do nothing (RFC 959, section 4.1.3).
     Noop,
@@ -89,7 +89,7 @@ pub enum Command {
         /// What to list; never an empty path.
         path: Option<String>,
     },
-    /// MLST: tell the facts of a path (RFC 3659, section 7).
+    /// MLST: asks for the facts of a path (RFC 3659, section 7).
     Mlst {
         /// The path; never an empty one.
         path: Option<String>,
@@ -101,9 +101,11 @@ pub enum Command {
     },
     /// FEAT: list the features beyond RFC 959 (RFC 2389, section 3).
     Feat,
-    /// PWD or XPWD: tell the working directory (RFC 959, section 4.1.3; RFC 1123, section 4.1.3.1).
+    /// PWD or XPWD: asks for the working directory (RFC 959, section 4.1.3; RFC 1123, section
+    /// 4.1.3.1).
     Pwd,
-    /// CWD or XCWD: change the working directory (RFC 959, section 4.1.1; RFC 1123, section 4.1.3.1).
+    /// CWD or XCWD: change the working directory (RFC 959, section 4.1.1; RFC 1123, section
+    /// 4.1.3.1).
     Cwd {
         /// The directory; not empty.
         path: String,
@@ -162,7 +164,7 @@ pub enum Command {
         /// The level.
         param: ProtParam,
     },
-    /// SIZE: tell the size of a file (RFC 3659, section 4).
+    /// SIZE: asks for the size of a file (RFC 3659, section 4).
     Size {
         /// The file; not empty.
         file: String,
@@ -172,28 +174,28 @@ pub enum Command {
         /// The offset in bytes.
         offset: u64,
     },
-    /// MDTM: tell when a file was modified (RFC 3659, section 3).
+    /// MDTM: asks when a file was modified (RFC 3659, section 3).
     Mdtm {
         /// The file; not empty.
         file: String,
     },
-    /// SITE MD5: tell the MD5 sum of a file; of no RFC.
+    /// SITE MD5: asks for the MD5 sum of a file; of no RFC.
     Md5 {
         /// The file; not empty.
         file: String,
     },
     /// SITE with any other name (RFC 959, section 4.1.3).
     Site {
-        /// The name, its ASCII letters raised; it may be empty.
+        /// The subcommand, its ASCII letters in upper case; it may be empty.
         command: String,
-        /// What stands behind the name; it may be empty.
+        /// What follows the subcommand; it may be empty.
         arguments: String,
     },
     /// A verb of no other variant.
     Other {
-        /// The verb, its ASCII letters raised; it may be empty.
+        /// The verb, its ASCII letters in upper case; it may be empty.
         command_name: String,
-        /// What stands behind the verb; it may be empty.
+        /// What follows the verb; it may be empty.
         arguments: String,
     },
 }
@@ -208,7 +210,8 @@ macro_rules! clone_of {
 }
 
 impl Command {
-    /// A command that means the same, or `AllocError` where memory is refused, which leaves this one as it is.
+    /// A command that means the same, or `AllocError` when out of memory, which leaves this one as
+    /// it is.
     pub fn clone(&self, _alloc: Global) -> Result<Command, AllocError>
         ensures { IfOk result (λ command. command_of command ≡ command_of self.now) }
     {
@@ -263,7 +266,8 @@ impl Command {
     }
 }
 
-/// The same as Debug. Of PASS it is one text under all flags, which shows neither the password's bytes nor their length.
+/// The same as Debug. Of PASS it is one text under all flags, which shows neither the password's
+/// bytes nor their length.
 impl fmt::Display for Command {
     ghost use Rattle.unftp_control_command.specs.CommandMeaning.{displayed};
 

@@ -67,7 +67,7 @@ opts_reply (Utf8 false) = CodeAndMsg 504 (codes "Non UTF-8 mode not supported")
 abbrev pub help_reply : FtpReply
 help_reply = MultiLine 214 (codes "Help:" ∷ codes "Powered by libunftp: 0.24.0" ∷ codes "View the docs at: https://unftp.rs/" ∷ [])
 
--- FEAT: the features in the order of their bytes, each behind a space (RFC 2389, section 3.2)
+-- FEAT: the features in the order of their bytes, each after a space (RFC 2389, section 3.2)
 abbrev pub when : Bool → List Bytes → List Bytes
 when true lines = lines
 when false lines = []

@@ -1,4 +1,4 @@
--- The facts of a file (RFC 3659, section 7.5), each ended by a semicolon, and what MLST tells of one.
+-- The facts of a file (RFC 3659, section 7.5), each ended by a semicolon, and the reply to MLST.
 use Rattle.std.specs.Prelude.{◌≡◌, ℕ, ◌+◌, ◌/◌, ◌%◌, ℤ, pos, negsuc, ◌∷◌, ◌++◌, [], Bool, nat_lt, if◌then◌else◌, codes, decimal, Option, None, Some}
 use Rattle.jiff_core.specs.declared.civil.datetime.DateTime.{DateTime}
 use Rattle.jiff_core.specs.declared.timestamp.Timestamp.{Timestamp}

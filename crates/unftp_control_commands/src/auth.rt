@@ -34,7 +34,8 @@ impl Auth {
         Auth { protocol }
     }
 
-    /// Begins TLS where it is configured and asked for. It is refused for want of memory alone, with the kind `OutOfMemory`.
+    /// Begins TLS where it is configured and asked for. It fails only when out of memory, with the
+    /// kind `OutOfMemory`.
     pub fn reply(
         &self,
         alloc: Global,

@@ -15,7 +15,7 @@ use unftp_control_reply::{Reply, ReplyCode};
 pub enum Passive {
     /// On this port, which is listening.
     Port(u16),
-    /// On ports that are bound before, of which EPSV can't tell one.
+    /// On ports that are bound in advance, of which EPSV can't name one.
     Prebound,
 }
 
@@ -29,7 +29,7 @@ impl Epsv {
         Epsv {}
     }
 
-    /// Tells the port. It is refused for want of memory alone, with the kind `OutOfMemory`.
+    /// Names the port. It fails only when out of memory, with the kind `OutOfMemory`.
     pub fn reply(&self, alloc: Global, passive: Passive) -> Result<Reply, ControlChanError>
         ensures ok { IfOk result (λ reply. reply_of reply ≡ epsv_reply passive) }
         ensures err { IfErr result (λ error. fault_of error ≡ out_of_memory) }
@@ -45,7 +45,8 @@ impl Epsv {
     }
 }
 
-/// The reply that tells a port that listens. It is refused for want of memory alone, with the kind `OutOfMemory`.
+/// The reply that names a port that listens. It fails only when out of memory, with the kind
+/// `OutOfMemory`.
 pub fn make_epsv_reply(alloc: Global, port: u16) -> Result<Reply, ControlChanError>
     ensures ok { IfOk result (λ reply. reply_of reply ≡ port_reply port) }
     ensures err { IfErr result (λ error. fault_of error ≡ out_of_memory) }

@@ -26,11 +26,11 @@ pub trait Metadata {
     fn modified(&self) -> Option<Timestamp>
         ensures { result ≡ (facts_of self.now).modified };
 
-    /// The user that it belongs to; 0 is not told.
+    /// The user that it belongs to; 0 is left out.
     fn uid(&self) -> u32
         ensures { result ≡ (facts_of self.now).uid };
 
-    /// The group that it belongs to; 0 is not told.
+    /// The group that it belongs to; 0 is left out.
     fn gid(&self) -> u32
         ensures { result ≡ (facts_of self.now).gid };
 }
@@ -105,8 +105,9 @@ fn type_text(is_dir: bool) -> &'static str
     if is_dir { "type=dir;" } else { "type=file;" }
 }
 
-/// The facts of a file in one text: type and size, the second of UTC in which it was modified where that is known and its year is
-/// from 0 to 9999, and user and group where they are above 0. It is refused for want of memory alone, with the kind `OutOfMemory`.
+/// The facts of a file in one text: type and size, the second of UTC in which it was modified where
+/// that is known and its year is from 0 to 9999, and user and group where they are above 0. It
+/// fails only when out of memory, with the kind `OutOfMemory`.
 pub fn format_facts<M: Metadata>(alloc: Global, metadata: &M) -> Result<String, ControlChanError>
     ensures ok { IfOk result (λ facts. IsFacts (M.facts_of metadata.now) (string_bytes facts)) }
     ensures err { IfErr result (λ error. fault_of error ≡ out_of_memory) }

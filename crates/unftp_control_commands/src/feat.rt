@@ -15,8 +15,8 @@ use unftp_control_reply::{Reply, ReplyCode};
 pub struct Feat;
 
 impl Feat {
-    /// Tells the features, those of TLS, of restarts and of sums where they are on. It is refused for want of memory alone, with
-    /// the kind `OutOfMemory`.
+    /// Lists the features, those of TLS, of restarts and of sums where they are on. It fails only
+    /// when out of memory, with the kind `OutOfMemory`.
     pub fn reply(
         &self,
         alloc: Global,

@@ -45,8 +45,9 @@ impl Mlst {
         }
     }
 
-    /// Tells the facts of what was found and its path, which is the working directory where the command has none; or the text of
-    /// the fault that came in its place. It is refused for want of memory alone, with the kind `OutOfMemory`.
+    /// Lists the facts of what was found and its path, which is the working directory where the
+    /// command has none; or the text of the fault that came in its place. It fails only when out of
+    /// memory, with the kind `OutOfMemory`.
     pub fn reply<M: Metadata>(
         &self,
         alloc: Global,
@@ -68,7 +69,7 @@ impl Mlst {
     }
 }
 
-/// The reply that tells these facts of the path.
+/// The reply with these facts of the path.
 fn facts_reply(alloc: Global, facts: &str, path: &str) -> Result<Reply, AllocError>
     ensures { IfOk result (λ reply. reply_of reply ≡ facts_reply facts.now path.now) }
 {

@@ -33,7 +33,7 @@ impl Mode {
         Mode { params }
     }
 
-    /// Takes the stream mode alone. It is refused for want of memory alone, with the kind `OutOfMemory`.
+    /// Takes only the stream mode. It fails only when out of memory, with the kind `OutOfMemory`.
     pub fn reply(&self, alloc: Global) -> Result<Reply, ControlChanError>
         ensures ok { IfOk result (λ reply. reply_of reply ≡ mode_reply self.now) }
         ensures err { IfErr result (λ error. fault_of error ≡ out_of_memory) }

@@ -33,7 +33,7 @@ impl Opts {
         Opts { option }
     }
 
-    /// Texts are always in UTF-8. It is refused for want of memory alone, with the kind `OutOfMemory`.
+    /// Texts are always in UTF-8. It fails only when out of memory, with the kind `OutOfMemory`.
     pub fn reply(&self, alloc: Global) -> Result<Reply, ControlChanError>
         ensures ok { IfOk result (λ reply. reply_of reply ≡ opts_reply self.now) }
         ensures err { IfErr result (λ error. fault_of error ≡ out_of_memory) }

@@ -34,8 +34,8 @@ impl Prot {
         Prot { param }
     }
 
-    /// Switches TLS on data connections where it is configured. It is refused for want of memory alone, with the kind
-    /// `OutOfMemory`.
+    /// Switches TLS on data connections where it is configured. It fails only when out of memory,
+    /// with the kind `OutOfMemory`.
     pub fn reply(
         &self,
         alloc: Global,

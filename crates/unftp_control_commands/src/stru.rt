@@ -33,7 +33,8 @@ impl Stru {
         Stru { params }
     }
 
-    /// Takes the file structure alone. It is refused for want of memory alone, with the kind `OutOfMemory`.
+    /// Takes only the file structure. It fails only when out of memory, with the kind
+    /// `OutOfMemory`.
     pub fn reply(&self, alloc: Global) -> Result<Reply, ControlChanError>
         ensures ok { IfOk result (λ reply. reply_of reply ≡ stru_reply self.now) }
         ensures err { IfErr result (λ error. fault_of error ≡ out_of_memory) }

@@ -5,7 +5,8 @@ ghost use Rattle.std.specs.Prelude.{◌≡◌, ℕ, ◌+◌, max};
 
 use std::marker::Model;
 
-/// A number without a greatest value that contracts know and no code can read. Only this crate can make one.
+/// A number without a greatest value that contracts know and no code can read. Only this crate can
+/// make one.
 #[derive(Drop)]
 pub struct Count {
     seal: (),

@@ -72,7 +72,7 @@ decimal_spells code h =
       omega arith,
     )
 
--- the lines behind the first one
+-- the lines after the first one
 record Behind (digits : Bytes) (code : ℕ) (next : Bytes) (lines : List Bytes) : Type 0 where
   middle : List Bytes
   last : Bytes
@@ -81,7 +81,7 @@ record Behind (digits : Bytes) (code : ℕ) (next : Bytes) (lines : List Bytes) 
   lines_are : shown_lines (next ∷ lines) ≡ middle ++ last ∷ []
   bytes_are : several_bytes code next lines ≡ flat_map with_crlf (middle ++ (digits ++ SP ∷ last) ∷ [])
 
--- a line behind the digits and a byte
+-- a line after the digits and a byte
 lacks_after : (digits : Bytes) (b : ℕ) (text : Bytes) → Lacks LF digits → b ≢ LF → Lacks LF text → LacksCrlf (digits ++ b ∷ text)
 lacks_after digits b text p ne q = no_crlf (digits ++ b ∷ text) (Lacks-append LF digits (b ∷ text) p (ne, q))
 
@@ -124,7 +124,7 @@ module _ (code : ℕ) (three : HasThreeDigits code) (more : Bytes) where
   spells : SpellsCode (decimal code) code
   spells = decimal_spells code three
 
-  -- one line behind a space
+  -- one line after a space
   front_single : (text : Bytes) → Lacks LF text → FrontReply ((decimal code ++ after_space text) ++ more) code (text ∷ []) (length (decimal code ++ after_space text))
   front_single text h = front_from (decimal code) code ((decimal code ++ SP ∷ text) ∷ []) (text ∷ []) (decimal code ++ after_space text) more spells
       (sym (append_assoc (decimal code) (SP ∷ text) crlf) ∙ sym (append-nil ((decimal code ++ SP ∷ text) ++ crlf)))
@@ -157,7 +157,8 @@ module _ (code : ℕ) (three : HasThreeDigits code) (more : Bytes) where
   front_lines (line ∷ []) h = front_single line h.0
   front_lines (line ∷ next ∷ lines) h = front_several line next lines h
 
--- The bytes of a plain reply that writes any are one front, and what it shows is read, whatever follows.
+-- The bytes of a plain reply that writes any are one front, and what it shows is read, whatever
+-- follows.
 pub FrontReply-encoded : (reply : FtpReply) (more : Bytes) → IsPlain reply → (code : ℕ) (lines : List Bytes) → shown reply ≡ Some (code, lines)
     → FrontReply (encoded reply ++ more) code lines (length (encoded reply))
 FrontReply-encoded Nothing more h code lines e = absurd (none-some (code, lines) e)
@@ -168,7 +169,8 @@ FrontReply-encoded (MultiLine n ls) more h code lines e =
     let p = same_Some (n, shown_lines ls) (code, lines) e in
     subst (λ (q : ℕ × List Bytes). FrontReply (encoded (MultiLine n ls) ++ more) q.0 q.1 (length (encoded (MultiLine n ls)))) p (front_lines n h.0 more ls h.1)
 
--- So the bytes of plain replies in a row are read as what they show, and as nothing else (`AllReplies-unique`).
+-- So the bytes of plain replies in a row are read as what they show, and as nothing else
+-- (`AllReplies-unique`).
 next_reply : (reply : FtpReply) (more : Bytes) (rest : List (ℕ × List Bytes)) (code : ℕ) (lines : List Bytes) → IsPlain reply → shown reply ≡ Some (code, lines)
     → AllReplies more rest → AllReplies (encoded reply ++ more) ((code, lines) ∷ rest)
 next_reply reply more rest code lines h e all = (

@@ -9,7 +9,7 @@ use Rattle.unftp_control_defs.specs.Rules.{raw}
 use Rattle.unftp_control_defs.specs.Outcome.{outcome, by_value}
 use Rattle.unftp_control_defs.proofs.ValueLaws.{return_step, byte_step, first_step}
 
--- what is read of an escaped text and CR LF behind a place
+-- what is read of an escaped text and CR LF from some position on
 abbrev ReadsBack : Bytes → Type 0
 ReadsBack text = (later_value Fresh (escaped text ++ crlf) ≡ Some text) × (later_value Plain (escaped text ++ crlf) ≡ Some text)
 

@@ -32,7 +32,7 @@ value_gives answer gives parameter ends command e = by_option (value_of paramete
     by_option None q f = cc
     by_option (Some v) q f = gives v command (value_of-lacks parameter v ends q) f
 
--- the verb that is cut off, raised
+-- the verb that is cut off, in upper case
 raised_name : (line : Bytes) → IsName (upper (verb_of line))
 raised_name line = IsName-upper (verb_of line) (Cut-verb_of line).bare
 

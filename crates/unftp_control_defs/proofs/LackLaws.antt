@@ -1,4 +1,5 @@
--- Texts without a byte stay so: joined, cut, escaped, in decimals, or with ill-formed UTF-8 replaced.
+-- Texts without a byte stay so: joined, cut, escaped, in decimals, or with ill-formed UTF-8
+-- replaced.
 use Rattle.std.proofs.Common.{◌≡◌, ◌≢◌, ◌<◌, ◌+◌, ◌/◌, ◌%◌, nat_lt, ◌==◌, ◌&&◌, ℕ, zero, suc, Bool, true, false, not, [], ◌∷◌, ◌++◌, length, take, drop, ◌⊎◌, sym, ap, ◌∙◌, inl, inr, arith, eq-eqb, ne_eqb}
 use Rattle.std.specs.Fmt.{decimal, digits, digits_onto, digit_glyph}
 use Rattle.std.specs.Str.Lossy.{utf8_lossy, utf8_lossy_within, utf8_valid_len, after_first_chunk, replacement_bytes, utf8_invalid_len}

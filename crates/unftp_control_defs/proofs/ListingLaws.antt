@@ -14,7 +14,7 @@ use Rattle.unftp_control_defs.proofs.LackLaws.{Lacks-test, Lacks-append}
 use Rattle.unftp_control_defs.proofs.PathLaws.{plain_path}
 use Rattle.unftp_control_defs.proofs.ReadBackLaws.{by_escaped, unless_empty-some}
 
--- a marked path is told apart from options
+-- a marked path is not taken for options
 marked_path : (b : ℕ) (path : Bytes) → (b ≡ DASH) ⊎ (b ≡ DASH → ⊥) → path_of (marked (b ∷ path)) ≡ b ∷ path
 marked_path b path (inl e) = rw (eq-eqb b DASH e)
 marked_path b path (inr ne) = rw (ne_eqb b DASH ne) (plain_path (b ∷ path) (λ letters e. ne cc))

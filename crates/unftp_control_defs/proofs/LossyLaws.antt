@@ -1,4 +1,5 @@
--- A text whose ill-formed UTF-8 is replaced is UTF-8, and empty only where it was; the path of LIST in UTF-8 is UTF-8.
+-- A text whose ill-formed UTF-8 is replaced is UTF-8, and empty only where it was; the path of LIST
+-- in UTF-8 is UTF-8.
 use Rattle.std.proofs.Common.{◌≡◌, ◌≢◌, ◌≤◌, ◌<◌, ◌+◌, ℕ, zero, suc, [], ◌∷◌, ◌++◌, length, take, drop, length-drop, refl, sym, subst, ◌∙◌, ⊎_elim, arith, append_assoc, take_all, drop_at, IsCharBoundary}
 use Rattle.std.specs.Str.{IsUtf8, is_utf8, chars}
 use Rattle.std.specs.Str.Lossy.{utf8_lossy, utf8_valid_len, valid_len_up_to, after_first_chunk, replacement_bytes, utf8_invalid_len, utf8_error_len}

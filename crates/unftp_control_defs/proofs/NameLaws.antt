@@ -15,7 +15,7 @@ use Rattle.unftp_control_defs.proofs.VerbLaws.{parted_cut}
 use Rattle.unftp_control_defs.proofs.UpperLaws.{upper-IsName, bare_name}
 use Rattle.unftp_control_defs.proofs.ReadBackLaws.{any_back}
 
--- a name that takes any text behind a separator
+-- a name that takes any text after a separator
 name_back : (read : Bytes → Answer) (name : Bytes) (command : Bytes → FtpCommand)
     → ((b : ℕ) (parameter : Bytes) → is_separator b ≡ true → read (name ++ b ∷ parameter) ≡ by_value (any_text command) (value_of parameter))
     → (arguments : Bytes) → Lacks LF arguments → IsUtf8 arguments → read (bare_or_spaced name arguments ++ crlf) ≡ Ok (command arguments)

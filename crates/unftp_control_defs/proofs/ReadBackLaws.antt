@@ -1,4 +1,4 @@
--- An escaped text behind a word is read back, by what the word's rule makes of a value.
+-- An escaped text after a word is read back, by what the word's rule makes of a value.
 use Rattle.std.proofs.Common.{◌≡◌, ◌≢◌, false, [], ◌∷◌, ◌++◌, length, ◌==◌, cond, Option, Some, None, option_map, Ok, Err, ap, ◌∙◌, ne_eqb, append_assoc}
 use Rattle.std.specs.Str.{IsUtf8}
 use Rattle.std.specs.Str.Lossy.{utf8_lossy}
@@ -40,7 +40,7 @@ pub spaced_back : (word : Bytes) (answer : Bytes → Answer)
     → (text : Bytes) → Lacks LF text → outcome (spaced word text ++ crlf) ≡ answer text
 spaced_back word answer takes text h = ap outcome (append_assoc word (SP ∷ escaped text) crlf) ∙ takes (escaped text ++ crlf) ∙ by_escaped answer text h
 
--- words that may stand alone
+-- words that may have no text
 pub raw_back : (word : Bytes) (command : Bytes → FtpCommand)
     → outcome (word ++ crlf) ≡ Ok (command [])
     → ((parameter : Bytes) → outcome (word ++ SP ∷ parameter) ≡ by_value (raw command) (value_of parameter))

@@ -43,7 +43,7 @@ found P name (row ∷ rows) x each e = by_test (bytes_eq name row.0) (λ q. foun
     by_test true more q = let same : row.1 ≡ x = cc in subst P same each.0
     by_test false more q = more q
 
--- the rule of a raised verb
+-- the rule of a verb in upper case
 pub rule_gives : (verb : Bytes) → IsName verb → IsUtf8 verb → RuleGives (rule_of verb)
 rule_gives verb is_name is_text = by_row (row_of verb verbs) refl
   where

@@ -1,4 +1,4 @@
--- Names: texts without separators, with their letters raised.
+-- Names: upper-cased texts without separators.
 use Rattle.std.proofs.Common.{◌≡◌, ℕ, false, [], ◌∷◌, refl, ◌∙◌, arith}
 use Rattle.std.specs.Char.{is_ascii_lowercase, to_ascii_uppercase}
 use Rattle.std.specs.List.{AllByRecursion}
@@ -16,7 +16,7 @@ separator-raised b = grind (arith, nat_tests)
 no_lowercase : (b : ℕ) → is_ascii_lowercase (to_ascii_uppercase b) ≡ false
 no_lowercase b = grind (arith, nat_tests)
 
--- a name is raised already
+-- a name is in upper case already
 pub upper-IsName : (name : Bytes) → IsName name → upper name ≡ name
 upper-IsName [] h = refl
 upper-IsName (b ∷ name) h = λ i. raised_byte b h.0.1 i ∷ upper-IsName name h.1 i
@@ -25,7 +25,7 @@ pub bare_name : (name : Bytes) → IsName name → AllByRecursion (λ b. is_sepa
 bare_name [] h = tt
 bare_name (b ∷ name) h = (h.0.0, bare_name name h.1)
 
--- a text without separators is a name once raised
+-- a text without separators is a name in upper case
 pub IsName-upper : (text : Bytes) → AllByRecursion (λ b. is_separator b ≡ false) text → IsName (upper text)
 IsName-upper [] h = tt
 IsName-upper (b ∷ text) h = ((separator-raised b ∙ h.0, no_lowercase b), IsName-upper text h.1)

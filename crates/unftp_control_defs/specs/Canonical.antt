@@ -1,5 +1,6 @@
--- The canonical line of a command, and the commands that a line gives (RFC 959, section 5.3; RFC 854 for CR NUL). The line says what the
--- command says, and so not what a reader has dropped: the parameter of TYPE, or the options of LIST.
+-- The canonical line of a command, and the commands that a line gives (RFC 959, section 5.3; RFC
+-- 854 for CR NUL). The line says what the command says, and so not what a reader has dropped: the
+-- parameter of TYPE, or the options of LIST.
 use Rattle.std.specs.Prelude.{◌≡◌, ◌≢◌, true, false, ◌==◌, if◌then◌else◌, [], ◌∷◌, ◌++◌, ⊤, Option, Some, None, option_map, codes, decimal}
 use Rattle.std.specs.Char.{is_ascii_lowercase}
 use Rattle.std.specs.List.{AllByRecursion}
@@ -18,16 +19,16 @@ use Rattle.unftp_control_defs.specs.declared.parameters.Opt.TheVariants.{Utf8}
 use Rattle.unftp_control_defs.specs.declared.parameters.ProtParam.TheVariants.{Clear, Safe, Confidential, Private}
 use Rattle.unftp_control_defs.specs.declared.parameters.StruParam.TheVariants.{File, Record, Page}
 
--- a word, and a parameter behind a space
+-- a word, a space and a parameter
 abbrev pub spaced : Bytes → Bytes → Bytes
 spaced word text = word ++ SP ∷ escaped text
 
--- the word alone where the parameter is empty
+-- only the word where the parameter is empty
 abbrev pub bare_or_spaced : Bytes → Bytes → Bytes
 bare_or_spaced word [] = word
 bare_or_spaced word (b ∷ text) = spaced word (b ∷ text)
 
--- the word alone where there is none
+-- only the word where there is none
 abbrev pub with_optional : Bytes → Option Bytes → Bytes
 with_optional word None = word
 with_optional word (Some text) = spaced word text
@@ -61,7 +62,7 @@ abbrev pub mechanism : AuthParam → Bytes
 mechanism Ssl = codes "SSL"
 mechanism Tls = codes "TLS"
 
--- the line in front of its CR LF
+-- the line without its CR LF
 abbrev pub canonical_body : FtpCommand → Bytes
 canonical_body (User name) = bare_or_spaced (codes "USER") name
 canonical_body (Pass password) = bare_or_spaced (codes "PASS") password
@@ -120,7 +121,7 @@ abbrev pub IsOptional : Option Bytes → Type 0
 IsOptional None = ⊤
 IsOptional (Some text) = IsNamed text
 
--- a name as it is once raised: without separators and letters `a` to `z`
+-- a name in upper case: without separators and letters `a` to `z`
 abbrev pub IsName : Bytes → Type 0
 IsName name = AllByRecursion (λ b. (is_separator b ≡ false) × (is_ascii_lowercase b ≡ false)) name
 

@@ -4,7 +4,8 @@ use Rattle.unftp_control_defs.specs.Bytes.{Bytes}
 use Rattle.unftp_control_defs.specs.Lines.{rest_of}
 use Rattle.unftp_control_defs.specs.Events.{FtpEvent, events}
 
--- the events that the pieces give one after the other, each behind the rest that those before it left
+-- the events that the pieces give one after the other, each after the incomplete line that those
+-- before it left
 abbrev pub events_in_turn : Bytes → List Bytes → List FtpEvent
 events_in_turn rest [] = []
 events_in_turn rest (piece ∷ pieces) = events (rest ++ piece) ++ events_in_turn (rest_of (rest ++ piece)) pieces

@@ -1,4 +1,4 @@
--- What a server is told of its input: a command or a refused line, line after line.
+-- What a server receives of its input: for each line a command, or why it was refused.
 use Rattle.std.specs.Prelude.{List, map, Option, Some, Ok, Err}
 use Rattle.unftp_control_defs.specs.Bytes.{Bytes}
 use Rattle.unftp_control_defs.specs.Lines.{lines_of}
@@ -20,7 +20,8 @@ pub data FaultKind : Type 0 where
   IllegalState : FaultKind
   OutOfMemory : FaultKind
 
--- what such an error comes from: nothing else; the reading of a line, which refused it, or which had no memory; ill-formed UTF-8; the system
+-- what such an error comes from: nothing else; the reading of a line, which refused it, or which
+-- had no memory; ill-formed UTF-8; the system
 pub data FaultSource : Type 0 where
   NoSource : FaultSource
   Parse : Option Refusal → FaultSource
@@ -31,11 +32,11 @@ pub record Fault : Type 0 where
   pub kind : FaultKind
   pub source : FaultSource
 
--- want of memory, outside the reading of a line
+-- out of memory, outside the reading of a line
 abbrev pub out_of_memory : Fault
 out_of_memory = record { kind = OutOfMemory; source = NoSource }
 
--- the kind that a refused line is told as
+-- the kind that a refused line is reported with
 abbrev pub kind_of : Refusal → FaultKind
 kind_of line.InvalidUtf8 = Utf8Error
 kind_of line.InvalidCommand = InvalidCommand

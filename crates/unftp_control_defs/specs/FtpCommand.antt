@@ -1,4 +1,5 @@
--- A command of the control connection as what it says: its fields as numbers, choices and lists of bytes.
+-- A command of the control connection as what it says: its fields as numbers, choices and lists of
+-- bytes.
 use Rattle.std.specs.Prelude.{ℕ, ◌<◌, ◌^◌, ⊤, Option, Some, None, Result}
 use Rattle.std.specs.Str.{IsUtf8}
 use Rattle.unftp_control_defs.specs.Bytes.{Bytes}
@@ -71,7 +72,8 @@ abbrev pub IsMaybeUtf8 : Option Bytes → Type 0
 IsMaybeUtf8 None = ⊤
 IsMaybeUtf8 (Some text) = IsUtf8 text
 
--- What the types of its fields say of a command: a text is UTF-8, and the offset has 64 bits; of raw bytes nothing is said.
+-- What the types of its fields say of a command: a text is UTF-8, and the offset has 64 bits; of
+-- raw bytes nothing is said.
 abbrev pub IsReal : FtpCommand → Type 0
 IsReal (Port addr) = IsUtf8 addr
 IsReal (Retr path) = IsUtf8 path

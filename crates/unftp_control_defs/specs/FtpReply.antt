@@ -15,16 +15,17 @@ abbrev pub padded : Bytes → Bytes
 padded [] = []
 padded (b ∷ line) = if is_ascii_digit b then SP ∷ b ∷ line else b ∷ line
 
--- behind the code: one space and a text, which may be empty
+-- after the code: one space and a text, which may be empty
 abbrev pub after_space : Bytes → Bytes
 after_space text = (SP ∷ text) ++ crlf
 
--- the lines behind the code and a dash, each but the last padded; the last stands behind the code and a space
+-- the lines after the code and a dash, each but the last padded; the last follows the code and a
+-- space
 abbrev pub several : ℕ → Bytes → List Bytes → Bytes
 several code line [] = decimal code ++ after_space line
 several code line (next ∷ lines) = padded line ++ crlf ++ several code next lines
 
--- The code is written without padding; a lone code, for an empty text, has no space behind it.
+-- The code is written without padding; a lone code, for an empty text, has no space after it.
 abbrev pub encoded : FtpReply → Bytes
 encoded Nothing = []
 encoded (CodeAndMsg code text) = decimal code ++ (if length text == 0 then crlf else after_space text)
@@ -32,7 +33,8 @@ encoded (MultiLine code []) = decimal code ++ after_space []
 encoded (MultiLine code (line ∷ [])) = decimal code ++ after_space line
 encoded (MultiLine code (line ∷ next ∷ lines)) = decimal code ++ DASH ∷ several code line (next ∷ lines)
 
--- 2yz tells that the command is done, and 3yz that it may go on (RFC 959, section 4.2.1); where nothing is sent, nothing failed.
+-- 2yz says that the command is done, and 3yz that it may go on (RFC 959, section 4.2.1); where
+-- nothing is sent, nothing failed.
 abbrev pub is_positive_code : ℕ → Bool
 is_positive_code code = nat_le 200 code && nat_le code 399
 

@@ -1,4 +1,5 @@
--- The lines of an input (RFC 959, section 5.3, in a wider form: a line ends at its LF, with or without a CR before it).
+-- The lines of an input (RFC 959, section 5.3, in a wider form: a line ends at its LF, with or
+-- without a CR before it).
 use Rattle.std.specs.Prelude.{◌≡◌, ℕ, List, [], ◌∷◌, ◌++◌, ◌==◌, if◌then◌else◌}
 use Rattle.std.specs.List.{AllByRecursion, concat}
 use Rattle.unftp_control_defs.specs.Bytes.{Bytes, LF, Lacks}
@@ -15,7 +16,8 @@ pub record Lines (input : Bytes) (lines : List Bytes) (rest : Bytes) : Type 0 wh
   pub each : AllByRecursion IsLine lines
   pub unended : Lacks LF rest
 
--- Those lines and that rest, computed: a byte other than LF belongs to the first line behind it, or to the rest where there is none.
+-- Those lines and that rest, computed: a byte other than LF belongs to the first line after it, or
+-- to the rest where there is none.
 abbrev pub onto_line : ℕ → List Bytes → List Bytes
 onto_line b [] = []
 onto_line b (line ∷ lines) = (b ∷ line) ∷ lines

@@ -1,9 +1,11 @@
--- A text whose ill-formed UTF-8 is replaced, from left to right: U+FFFD stands for the longest part that begins a character, or for one byte
--- where none begins (Unicode, section 3.9 and table 3-7). Rust's `String::from_utf8_lossy` gives it.
+-- A text whose ill-formed UTF-8 is replaced, from left to right: U+FFFD replaces the longest part
+-- that begins a character, or for one byte where none begins (Unicode, section 3.9 and table 3-7).
+-- Rust's `String::from_utf8_lossy` gives it.
 use Rattle.std.specs.Prelude.{◌≡◌, ◌≢◌, ℕ, ◌+◌, ◌-◌, ◌*◌, Bool, nat_lt, ◌==◌, ◌&&◌, if◌then◌else◌, [], ◌∷◌, ◌++◌, length, drop, slice_index, encode_utf8}
 use Rattle.unftp_control_defs.specs.Bytes.{Bytes}
 
--- what some bytes begin with: a character and the number of its bytes, or so many bytes that are none
+-- what some bytes begin with: a character and the number of its bytes, or so many bytes that are
+-- none
 pub data Part : Type 0 where
   Character : ℕ → ℕ → Part
   IllFormed : ℕ → Part
@@ -43,7 +45,7 @@ abbrev pub part_len : Part → ℕ
 part_len (Character c n) = n
 part_len (IllFormed n) = n
 
--- the bytes that stand for it
+-- the bytes that spell it
 abbrev pub part_text : Part → Bytes
 part_text (Character c n) = encode_utf8 c
 part_text (IllFormed n) = 0xEF ∷ 0xBF ∷ 0xBD ∷ []

@@ -1,5 +1,5 @@
--- What a line means: a command, or one refusal. The UTF-8 of the verb is looked at first, then that of the name of SITE, then the line end,
--- then what the verb takes.
+-- What a line means: a command, or one refusal. The UTF-8 of the verb is looked at first, then that
+-- of the name of SITE, then the line end, then what the verb takes.
 use Rattle.std.specs.Prelude.{if◌then◌else◌, Option, Some, None, Ok, Err}
 use Rattle.std.specs.Str.{is_utf8}
 use Rattle.unftp_control_defs.specs.Bytes.{Bytes}
@@ -8,7 +8,7 @@ use Rattle.unftp_control_defs.specs.Values.{value_of}
 use Rattle.unftp_control_defs.specs.FtpCommand.{Answer, InvalidUtf8, InvalidEol}
 use Rattle.unftp_control_defs.specs.Rules.{Rule, Ignores, Takes, Cuts, rule_of, by_name}
 
--- what a rule that takes a value makes of it; there is none behind a bad end
+-- what a rule that takes a value makes of it; there is none after an invalid line ending
 abbrev pub by_value : (Bytes → Answer) → Option Bytes → Answer
 by_value answer None = Err InvalidEol
 by_value answer (Some v) = answer v

@@ -1,5 +1,6 @@
--- The path of LIST: words that begin with a dash are options for a listing, as those of `ls`, and are dropped (no RFC has them; clients send them).
--- One space ends each word; further spaces are part of the path.
+-- The path of LIST: words that begin with a dash are options for a listing, as those of `ls`, and
+-- are dropped (no RFC has them; clients send them). One space ends each word; further spaces are
+-- part of the path.
 use Rattle.std.specs.Prelude.{◌≡◌, ◌≢◌, Bool, true, false, not, ◌==◌, if◌then◌else◌, List, [], ◌∷◌, ◌++◌, flat_map, ◌⊎◌, bytes_eq, nat_eq, drop}
 use Rattle.std.specs.List.{AllByRecursion, starts_with}
 use Rattle.unftp_control_defs.specs.Bytes.{Bytes, SP, DASH, Lacks}
@@ -14,7 +15,8 @@ pub record IsOptionWord (word : Bytes) : Type 0 where
 abbrev pub with_space : Bytes → Bytes
 with_space word = word ++ SP ∷ []
 
--- what stands after the option words: a path with no dash in front; "-- " and a path; or one more word with a dash, and no path
+-- what stands after the option words: a path with no dash in front; "-- " and a path; or one more
+-- word with a dash, and no path
 abbrev pub EndsInPath : Bytes → Bytes → Type 0
 EndsInPath tail path = ((tail ≡ path) × ((letters : Bytes) → path ≢ DASH ∷ letters))
     ⊎ ((tail ≡ DASH ∷ DASH ∷ SP ∷ path)
@@ -27,7 +29,7 @@ pub record ListPath (text path : Bytes) : Type 0 where
   pub whole : text ≡ flat_map with_space options ++ tail
   pub end : EndsInPath tail path
 
--- That path, computed; in_word: within an option word, up to the space behind it.
+-- That path, computed; in_word: within an option word, up to the space after it.
 abbrev pub path_from : Bool → Bytes → Bytes
 path_from in_word [] = []
 path_from true (b ∷ bytes) = path_from (not (b == SP)) bytes

@@ -1,10 +1,11 @@
--- Replies as a client reads them (RFC 959, section 4.2). Three digits alone are a reply too, with one empty line.
+-- Replies as a client reads them (RFC 959, section 4.2). Just three digits are a reply too, with
+-- one empty line.
 use Rattle.std.specs.Prelude.{◌≡◌, ◌≢◌, ℕ, ◌<◌, ◌+◌, ◌*◌, List, [], ◌∷◌, ◌++◌, length, drop, flat_map, filter_map, ◌⊎◌}
 use Rattle.std.specs.List.{AllByRecursion}
 use Rattle.unftp_control_defs.specs.Bytes.{Bytes, CR, LF, SP, DASH, crlf}
 use Rattle.unftp_control_defs.specs.FtpReply.{FtpReply, shown}
 
--- no CR LF stands in the text
+-- there is no CR LF in the text
 abbrev pub LacksCrlf : Bytes → Type 0
 LacksCrlf text = (before after : Bytes) → text ≢ before ++ CR ∷ LF ∷ after
 
@@ -20,8 +21,9 @@ SpellsCode digits code = (a : ℕ) × (b : ℕ) × (c : ℕ) × (a < 10) × (b <
 abbrev pub GoesOn : Bytes → Bytes → Type 0
 GoesOn digits line = (text : Bytes) → line ≢ digits ++ SP ∷ text
 
--- Whole lines, without their CR LF, that are one reply: the digits alone; the digits, a space and a text; or the digits, a dash and
--- a text, lines that don't begin with the digits and a space, and one that does.
+-- Whole lines, without their CR LF, that are one reply: just the digits; the digits, a space and a
+-- text; or the digits, a dash and a text, lines that don't begin with the digits and a space, and
+-- one that does.
 pub data IsReply (digits : Bytes) (whole lines : List Bytes) : Type 0 where
   bare : whole ≡ digits ∷ [] → lines ≡ [] ∷ [] → IsReply digits whole lines
   single : (text : Bytes) → whole ≡ (digits ++ SP ∷ text) ∷ [] → lines ≡ text ∷ [] → IsReply digits whole lines
@@ -39,7 +41,7 @@ pub record FrontReply (bytes : Bytes) (code : ℕ) (lines : List Bytes) (used : 
   pub reply : IsReply digits whole lines
   pub length_is : used ≡ length (flat_map with_crlf whole)
 
--- a reply stands in front of the bytes
+-- the bytes begin with a reply
 abbrev pub HasFront : Bytes → Type 0
 HasFront bytes = (code : ℕ) × (lines : List Bytes) × (used : ℕ) × FrontReply bytes code lines used
 
@@ -66,7 +68,7 @@ pub record IsMalformed (bytes : Bytes) : Type 0 where
   pub is_line : LacksCrlf first
   pub opens_none : ¬ Opens first
 
--- behind the first line of a reply of several: lines that go on, and the last one
+-- after the first line of a reply of several: lines that go on, and the last one
 pub record IsEnded (digits bytes : Bytes) : Type 0 where
   pub middle : List Bytes
   pub last : Bytes
@@ -75,7 +77,7 @@ pub record IsEnded (digits bytes : Bytes) : Type 0 where
   pub each : AllByRecursion LacksCrlf (middle ++ (digits ++ SP ∷ last) ∷ [])
   pub goes_on : AllByRecursion (GoesOn digits) middle
 
--- behind it: lines that go on, and a rest that is no line
+-- after it: lines that go on, and a rest that is no line
 pub record IsUnended (digits bytes : Bytes) : Type 0 where
   pub middle : List Bytes
   pub rest : Bytes
@@ -84,7 +86,7 @@ pub record IsUnended (digits bytes : Bytes) : Type 0 where
   pub goes_on : AllByRecursion (GoesOn digits) middle
   pub unended : LacksCrlf rest
 
--- the first line opens a reply of several, and none of the whole lines behind it is the last one
+-- the first line opens a reply of several, and none of the whole lines after it is the last one
 pub record IsOpened (bytes : Bytes) : Type 0 where
   pub digits : Bytes
   pub code : ℕ

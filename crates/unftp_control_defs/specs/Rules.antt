@@ -1,5 +1,6 @@
--- What each verb makes of its parameter: those of RFC 959, section 4.1, with the older forms of RFC 1123, section 4.1.3.1 (XCWD, XMKD, XPWD),
--- and those of RFC 2228 (AUTH, CCC, PBSZ, PROT), 2389 (FEAT, OPTS), 2428 (EPSV), 3659 (MDTM, MLSD, MLST, SIZE) and of the field (BYE, SITE MD5).
+-- What each verb makes of its parameter: those of RFC 959, section 4.1, with the older forms of RFC
+-- 1123, section 4.1.3.1 (XCWD, XMKD, XPWD), and those of RFC 2228 (AUTH, CCC, PBSZ, PROT), 2389
+-- (FEAT, OPTS), 2428 (EPSV), 3659 (MDTM, MLSD, MLST, SIZE) and of the field (BYE, SITE MD5).
 use Rattle.std.specs.Prelude.{true, false, ◌==◌, ◌&&◌, nat_lt, ◌^◌, if◌then◌else◌, List, [], ◌∷◌, length, Option, Some, None, unwrap_or, option_map, Ok, Err, bytes_eq, codes, find}
 use Rattle.std.specs.Str.{is_utf8, all_ascii_digits}
 use Rattle.std.specs.Str.Lossy.{utf8_lossy}
@@ -14,7 +15,8 @@ use Rattle.unftp_control_defs.specs.declared.parameters.Opt.TheVariants.{Utf8}
 use Rattle.unftp_control_defs.specs.declared.parameters.ProtParam.TheVariants.{Clear, Safe, Confidential, Private}
 use Rattle.unftp_control_defs.specs.declared.parameters.StruParam.TheVariants.{File, Record, Page}
 
--- What a verb does with its parameter bytes: it ignores them, it takes their value, or it cuts them again.
+-- What a verb does with its parameter bytes: it ignores them, it takes their value, or it cuts them
+-- again.
 pub data Rule : Type 0 where
   Ignores : FtpCommand → Rule
   Takes : (Bytes → Answer) → Rule
@@ -43,7 +45,7 @@ unless_empty v = if length v == 0 then None else Some v
 abbrev pub maybe_text : (Option Bytes → FtpCommand) → Bytes → Answer
 maybe_text command v = Ok (command (option_map utf8_lossy (unless_empty v)))
 
--- what stands beside this name
+-- the value in this name's row
 abbrev pub row_of : {A : Type 0} → Bytes → List (Bytes × A) → Option A
 row_of name rows = option_map (λ row. row.1) (find (λ row. bytes_eq name row.0) rows)
 
@@ -52,7 +54,8 @@ abbrev pub chosen : List (Bytes × FtpCommand) → Bytes → Answer
 chosen [] v = Err InvalidCommand
 chosen (row ∷ rows) v = if bytes_eq row.0 v then Ok row.1 else chosen rows v
 
--- the values of STRU and MODE (RFC 959, section 4.1.2), of PROT, PBSZ and AUTH (RFC 2228, section 3), and of OPTS
+-- the values of STRU and MODE (RFC 959, section 4.1.2), of PROT, PBSZ and AUTH (RFC 2228, section
+-- 3), and of OPTS
 abbrev pub structures : List (Bytes × FtpCommand)
 structures = (codes "F", Stru File) ∷ (codes "R", Stru Record) ∷ (codes "P", Stru Page) ∷ []
 
@@ -77,13 +80,13 @@ auth v = if nat_lt 3 (length v) then Err InvalidCommand
     else (if is_utf8 v then chosen mechanisms (upper v)
     else Err InvalidUtf8)
 
--- the offset of REST, a decimal number below 2 ^ 64 behind a plus or none (RFC 3659, section 5)
+-- the offset of REST, a decimal number below 2 ^ 64 after a plus or none (RFC 3659, section 5)
 abbrev pub offset : Bytes → Answer
 offset text = let digits = without_leading_plus text in
     if nat_lt 0 (length digits) && all_ascii_digits digits && nat_lt (digits_value 10 digits) (2 ^ 64)
     then Ok (Rest (digits_value 10 digits)) else Err InvalidCommand
 
--- the path of LIST, or none where nothing is left behind the options
+-- the path of LIST, or none where nothing is left after the options
 abbrev pub listing : Bytes → Answer
 listing text = Ok (Listing None (unless_empty (path_of text)))
 
@@ -137,10 +140,10 @@ verbs =
     ∷ (codes "SITE", Cuts)
     ∷ []
 
--- the rule of a raised verb; one with no row is taken as it comes, with its arguments
+-- the rule of a verb in upper case; one with no row is taken as it comes, with its arguments
 abbrev pub rule_of : Bytes → Rule
 rule_of verb = unwrap_or (row_of verb verbs) (Takes (any_text (Other verb)))
 
--- what a raised name of SITE makes of the value behind it
+-- what a subcommand of SITE, in upper case, makes of the value after it
 abbrev pub by_name : Bytes → Bytes → Answer
 by_name name = if bytes_eq name (codes "MD5") then some_text Md5 else any_text (Site name)

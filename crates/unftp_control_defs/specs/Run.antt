@@ -4,8 +4,8 @@ use Rattle.unftp_control_defs.specs.Bytes.{Bytes}
 use Rattle.unftp_control_defs.specs.Events.{Fault, FtpEvent, events}
 use Rattle.unftp_control_defs.specs.FtpReply.{FtpReply, encoded}
 
--- what contracts know of a handler: what it answers to an event, which state follows, and with which faults it may fail: the
--- kind and the source of its error
+-- what contracts know of a handler: what it answers to an event, which state follows, and with
+-- which faults it may fail: the kind and the source of its error
 pub record Law (S : Type 0) : Type 1 where
   pub says : S → FtpEvent → FtpReply
   pub next : S → FtpEvent → S

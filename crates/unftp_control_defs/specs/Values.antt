@@ -1,9 +1,10 @@
--- The value of a parameter: a CR is sent as CR NUL, and CR LF ends the line (RFC 854, "The NVT printer and keyboard").
--- Two points are wider than the standard: an LF alone may end a value, and a bare CR is read where it comes first.
+-- The value of a parameter: a CR is sent as CR NUL, and CR LF ends the line (RFC 854, "The NVT
+-- printer and keyboard"). Two points are wider than the standard: a bare LF may end a value, and a
+-- bare CR is read where it comes first.
 use Rattle.std.specs.Prelude.{◌≡◌, ◌≢◌, ℕ, Bool, true, false, IsTrue, ◌==◌, ◌&&◌, if◌then◌else◌, List, [], ◌∷◌, ◌++◌, map, flat_map, ◌⊎◌, ⊤, Option, Some, None, option_map, bytes_eq}
 use Rattle.unftp_control_defs.specs.Bytes.{Bytes, NUL, LF, CR, crlf}
 
--- a carriage return alone, or a byte that stands for itself
+-- a carriage return, or a byte that is written as it is
 pub data Piece : Type 0 where
   Return : Piece
   Byte : ℕ → Piece
@@ -16,12 +17,14 @@ abbrev pub value : Piece → ℕ
 value Return = CR
 value (Byte b) = b
 
--- A first unit is CR NUL, or a byte other than LF that is not a CR before a NUL. So a bare CR is kept here.
+-- A first unit is CR NUL, or a byte other than LF that is not a CR before a NUL. So a bare CR is
+-- kept here.
 abbrev pub FirstUnit : Bytes → Piece → Type 0
 FirstUnit parameter Return = ⊤
 FirstUnit parameter (Byte b) = (b ≢ LF) × ((rest : Bytes) → parameter ≢ CR ∷ NUL ∷ rest)
 
--- A later unit is CR NUL, or a byte other than CR; an LF only if fresh, directly after the first unit or a CR NUL.
+-- A later unit is CR NUL, or a byte other than CR; an LF only if fresh, directly after the first
+-- unit or a CR NUL.
 abbrev pub LaterUnits : Bool → List Piece → Type 0
 LaterUnits fresh [] = ⊤
 LaterUnits fresh (Return ∷ units) = LaterUnits true units
@@ -31,7 +34,8 @@ LaterUnits fresh (Byte b ∷ units) = (b ≢ CR) × (b ≡ LF → IsTrue fresh) 
 abbrev pub End : List Piece → Bytes → Type 0
 End later end = (end ≡ crlf) ⊎ ((before : List Piece) × (b : ℕ) × (later ≡ before ++ Byte b ∷ []) × (end ≡ LF ∷ []))
 
--- The parameter is a first unit, later units, an end, and bytes that are ignored; the value is the units' values.
+-- The parameter is a first unit, later units, an end, and bytes that are ignored; the value is the
+-- units' values.
 pub record Division (parameter v : Bytes) : Type 0 where
   pub first : Piece
   pub later : List Piece
@@ -56,7 +60,7 @@ abbrev pub BadEnd : Bytes → Type 0
 BadEnd parameter = (v : Bytes) → Reads parameter v → ⊥
 
 -- The value, computed from the left.
--- Where a byte stands behind the first unit: after that unit or a CR NUL; after a byte; after a CR.
+-- Where a byte is after the first unit: after that unit or a CR NUL; after a byte; after a CR.
 pub data Place : Type 0 where
   Fresh : Place
   Plain : Place

@@ -8,7 +8,7 @@ use Rattle.unftp_control_defs.specs.Bytes.{Bytes, SP, CR, LF}
 abbrev pub is_separator : ℕ → Bool
 is_separator b = (b == SP) || (b == CR) || (b == LF)
 
--- The line is the verb alone; or the verb, one separator and the parameter bytes.
+-- The line is just the verb; or the verb, one separator and the parameter bytes.
 pub record Cut (line verb parameter : Bytes) : Type 0 where
   pub bare : AllByRecursion (λ b. is_separator b ≡ false) verb
   pub whole : ((line ≡ verb) × (parameter ≡ [])) ⊎ ((b : ℕ) × IsTrue (is_separator b) × (line ≡ verb ++ b ∷ parameter))
@@ -20,6 +20,7 @@ verb_of line = before_first is_separator line
 abbrev pub parameter_of : Bytes → Bytes
 parameter_of line = after_first is_separator line
 
--- `a` to `z` raised, all else kept: verbs are read in either case (RFC 959, section 5.3), and so are the names of SITE
+-- `a` to `z` in upper case, all else kept: the case of a verb is ignored (RFC 959, section 5.3),
+-- and that of a subcommand of SITE
 abbrev pub upper : Bytes → Bytes
 upper text = str_to_ascii_uppercase text

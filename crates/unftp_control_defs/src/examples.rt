@@ -1,4 +1,5 @@
-//! Examples of the definitions, worked out by hand: for each one that holds and one that doesn't, at the boundary.
+//! Examples of the definitions, worked out by hand: for each one that holds and one that doesn't,
+//! at the boundary.
 pub mod commands;
 pub mod lines;
 pub mod lossy;

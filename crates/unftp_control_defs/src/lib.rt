@@ -1,4 +1,5 @@
-//! What the contracts of `unftp_control` mean: lines, commands, replies, events and runs, as definitions in `specs/`.
+//! What the contracts of `unftp_control` mean: lines, commands, replies, events and runs, as
+//! definitions in `specs/`.
 #![tactic(auto)]
 
 pub mod examples;

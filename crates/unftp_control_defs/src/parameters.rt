@@ -41,9 +41,9 @@ pub enum Opt {
 pub enum ProtParam {
     /// `C`: none.
     Clear,
-    /// `S`: integrity alone.
+    /// `S`: only integrity.
     Safe,
-    /// `E`: confidentiality alone.
+    /// `E`: only confidentiality.
     Confidential,
     /// `P`: integrity and confidentiality.
     Private,

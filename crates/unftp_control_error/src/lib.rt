@@ -14,8 +14,8 @@ use unftp_control_line_parser::{ParseError, ParseErrorKind};
 
 /// What went wrong on the control channel.
 ///
-/// This library itself tells `Utf8Error`, `InvalidCommand` and `OutOfMemory`, and makes an `IoError` of std's; the other kinds are
-/// there for the server that stands on it.
+/// This library itself returns `Utf8Error`, `InvalidCommand` and `OutOfMemory`, and makes an
+/// `IoError` of std's; the other kinds are there for the server that uses it.
 #[derive(Debug, Drop, PartialEq, Eq)]
 pub enum ControlChanErrorKind {
     /// Reading or writing failed.
@@ -134,7 +134,8 @@ impl ControlChanError {
     }
 }
 
-/// The text of its kind after `control channel error: `, the same under all flags of the formatter; its source is not shown.
+/// The text of its kind after `control channel error: `, the same under all flags of the formatter;
+/// its source is not shown.
 impl fmt::Display for ControlChanError {
     ghost use Rattle.std.specs.Prelude.{Some};
     ghost use Rattle.unftp_control_defs.specs.Texts.{error_text};
@@ -219,7 +220,7 @@ impl From<ParseError> for ControlChanError {
     }
 }
 
-/// Want of memory, which comes from nothing else.
+/// Out of memory.
 impl From<AllocError> for ControlChanError {
     ghost use Rattle.std.specs.Prelude.{◌≡◌};
     ghost use Rattle.unftp_control_defs.specs.Events.{out_of_memory};

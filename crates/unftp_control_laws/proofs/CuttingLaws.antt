@@ -8,7 +8,7 @@ use Rattle.unftp_control_defs.specs.Events.{events}
 use Rattle.unftp_control_defs.specs.Cuttings.{events_in_turn}
 use Rattle.unftp_control_defs.proofs.LineLaws.{Lines-lines_of, events-append, events-rest}
 
--- behind a rest that no LF ends
+-- after bytes that no LF ends
 pub events_in_turn-behind : (rest : Bytes) (pieces : List Bytes) → Lacks LF rest → events_in_turn rest pieces ≡ events (rest ++ concat pieces)
 events_in_turn-behind rest [] h = sym (ap events (append-nil rest) ∙ events-rest rest h)
 events_in_turn-behind rest (piece ∷ pieces) h =

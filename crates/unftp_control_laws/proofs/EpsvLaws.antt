@@ -1,4 +1,4 @@
--- The text of EPSV tells the port.
+-- The text of EPSV determines the port.
 use Rattle.std.proofs.Common.{◌≡◌, ℕ, ◌<◌, ◌^◌, ◌++◌, codes, decimal, ap, arith}
 use Rattle.std.proofs.lemmas.List.{append_cancel_left, append_cancel_right}
 use Rattle.std.proofs.lemmas.Fmt.{decimal_injective}

@@ -1,4 +1,5 @@
--- The text whose ill-formed UTF-8 is replaced, beside std's words and those of `bstr`, which go through the same table.
+-- The text whose ill-formed UTF-8 is replaced, beside std's words and those of `bstr`, which go
+-- through the same table.
 use Rattle.std.proofs.Common.{◌≡◌, ◌≢◌, ◌<◌, ◌≤◌, ℕ, zero, suc, Bool, true, false, cond, [], ◌∷◌, ◌++◌, length, drop, slice_index, length-drop, Some, None, encode_utf8, encode_utf8_all, refl, sym, ap, ◌∙◌, arith}
 use Rattle.std.specs.Str.Lossy.{utf8_lossy}
 use lib.Utf8.{scalar}

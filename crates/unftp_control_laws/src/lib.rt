@@ -1,5 +1,5 @@
-//! Laws of the definitions, each the contract of a function that does nothing: what ties a value that is computed to the
-//! relation that a reader believes.
+//! Laws of the definitions, each the contract of a function that does nothing: what ties a value
+//! that is computed to the relation that a reader believes.
 #![tactic(auto)]
 
 ghost use Rattle.std.specs.Prelude.{◌≡◌, ◌↔◌, ◌⊎◌, ◌<◌, ◌≤◌, ◌+◌, ◌^◌, ℕ, List, [], ◌++◌, length, flat_map, Some, None, Ok, codes};
@@ -35,7 +35,8 @@ pub fn one_verb()
     ensures only { (line verb parameter : Bytes) → Cut line verb parameter → (verb ≡ verb_of line) × (parameter ≡ parameter_of line) }
 {}
 
-/// A parameter has one value, which `value_of` tells, or a bad end, where it tells none (RFC 854).
+/// A parameter has one value, which `value_of` computes, or an invalid line ending, where it gives
+/// none (RFC 854).
 pub fn one_value()
     ensures value { (parameter v : Bytes) → Reads parameter v ↔ (value_of parameter ≡ Some v) }
     ensures bad_end { (parameter : Bytes) → BadEnd parameter ↔ (value_of parameter ≡ None) }
@@ -46,15 +47,16 @@ pub fn one_path()
     ensures { (text path : Bytes) → ListPath text path ↔ (path_of text ≡ path) }
 {}
 
-/// The text of bytes, with U+FFFD for each ill-formed part, is the one that `String::from_utf8_lossy` gives, and no other; and the bytes of a
-/// character are its part, whatever follows (Unicode, section 3.9).
+/// The text of bytes, with U+FFFD for each ill-formed part, is the one that
+/// `String::from_utf8_lossy` gives, and no other; and the bytes of a character are its part,
+/// whatever follows (Unicode, section 3.9).
 pub fn one_lossy_text()
     ensures text { (bytes text : Bytes) → LossyText bytes text ↔ (utf8_lossy bytes ≡ text) }
     ensures character { (c : ℕ) (more : Bytes) → IsScalar c → first_part (encode_utf8 c ++ more) ≡ Character c (length (encode_utf8 c)) }
 {}
 
-/// Lines that differ in the case of the ASCII letters of their verb alone have one outcome, and so have lines of SITE whose names
-/// differ so (RFC 959, section 5.3).
+/// Lines that differ only in the case of the ASCII letters of their verb have one outcome, and so
+/// have lines of SITE whose names differ so (RFC 959, section 5.3).
 pub fn case_folds()
     ensures verb { (line other verb other_verb parameter : Bytes)
         → Cut line verb parameter → Cut other other_verb parameter
@@ -68,19 +70,21 @@ pub fn case_folds()
         → outcome line ≡ outcome other }
 {}
 
-/// A name without a line feed that is sent with each CR as CR NUL is the name that is read (RFC 854).
+/// A name without a line feed that is sent with each CR as CR NUL is the name that is read (RFC
+/// 854).
 pub fn escape_reads_back()
     ensures { (name : Bytes) → Lacks LF name → outcome (codes "USER " ++ escaped name ++ crlf) ≡ Ok (User name) }
 {}
 
-/// The canonical line of a given command has one LF, its last byte, and means that command, where its fields are of their types (RFC 959,
-/// section 5.3).
+/// The canonical line of a given command has one LF, its last byte, and means that command, where
+/// its fields are of their types (RFC 959, section 5.3).
 pub fn canonical_lines_read_back()
     ensures line { (command : FtpCommand) → IsGiven command → IsLine (canonical_line command) }
     ensures read_back { (command : FtpCommand) → IsGiven command → IsReal command → outcome (canonical_line command) ≡ Ok command }
 {}
 
-/// A command is given, and has fields of their types, exactly where a line whose one LF is its last byte means it (RFC 959, section 5.3).
+/// A command is given, and has fields of their types, exactly where a line whose one LF is its last
+/// byte means it (RFC 959, section 5.3).
 pub fn given_commands_have_lines()
     ensures { (command : FtpCommand) → (IsGiven command × IsReal command) ↔ ((line : Bytes) × IsLine line × (outcome line ≡ Ok command)) }
 {}
@@ -95,15 +99,16 @@ pub fn any_cutting()
     ensures { (pieces : List Bytes) → events_in_turn [] pieces ≡ events (concat pieces) }
 {}
 
-/// Step by step from an empty buffer, a codec tests as many bytes as leave it and its place moves by, so at most those put in.
+/// Step by step from an empty buffer, a codec tests as many bytes as leave it and its place moves
+/// by, so at most those put in.
 pub fn tests_add_up()
     ensures told { (steps : List Step) → AreSteps 0 0 steps
         → sum_by (λ step. step.tests) steps ≡ sum_by (λ step. step.removed) steps + last_place 0 steps }
     ensures bound { (steps : List Step) → AreSteps 0 0 steps → sum_by (λ step. step.tests) steps ≤ sum_by (λ step. step.added) steps }
 {}
 
-/// A reply stands in front of the bytes, or what stands there is partial, or it is malformed; and one of these alone (RFC 959,
-/// section 4.2).
+/// The bytes begin with a reply, or with a part of one, or they are malformed; and exactly one of
+/// these holds (RFC 959, section 4.2).
 pub fn one_reading()
     ensures some { (bytes : Bytes) → HasFront bytes ⊎ (IsPartial bytes ⊎ IsMalformed bytes) }
     ensures front_is_whole { (bytes : Bytes) → HasFront bytes → ¬ IsPartial bytes }
@@ -111,7 +116,8 @@ pub fn one_reading()
     ensures partial_is_formed { (bytes : Bytes) → IsPartial bytes → ¬ IsMalformed bytes }
 {}
 
-/// At most one reply stands in front of the bytes, with one code, one list of lines and one length, which is within them.
+/// The bytes begin with at most one reply, which has one code, one list of lines and one length,
+/// which is within them.
 pub fn one_front()
     ensures only { (bytes : Bytes) (code other : ℕ) (lines others : List Bytes) (used taken : ℕ)
         → FrontReply bytes code lines used → FrontReply bytes other others taken
@@ -120,7 +126,8 @@ pub fn one_front()
         → (0 < used) × (used ≤ length bytes) }
 {}
 
-/// The bytes of plain replies are read back as what they show, and as nothing else, whatever follows (RFC 959, section 4.2).
+/// The bytes of plain replies are read back as what they show, and as nothing else, whatever
+/// follows (RFC 959, section 4.2).
 pub fn replies_read_back()
     ensures front { (reply : FtpReply) (more : Bytes) → IsPlain reply → (code : ℕ) (lines : List Bytes) → shown reply ≡ Some (code, lines)
         → FrontReply (encoded reply ++ more) code lines (length (encoded reply)) }

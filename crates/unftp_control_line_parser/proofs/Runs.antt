@@ -1,4 +1,4 @@
--- Runs of bytes that stand for themselves.
+-- Runs of bytes that are written as they are.
 use Rattle.std.proofs.Common.{◌≡◌, ◌≢◌, ℕ, suc, zero, ◌+◌, ◌<◌, ◌≤◌, Bool, true, false, ◌==◌, [], ◌∷◌, ◌++◌, length, take, drop, get_or, Option, Some, None, option_map, refl, sym, ap, ◌∙◌, ⊎_elim, append_assoc, append-nil, arith, drop-cons, ne_eqb, eqb-true}
 use Rattle.std.proofs.lemmas.Bool.{cases_Bool, false≢true}
 use Rattle.std.proofs.lemmas.List.{take_more}
@@ -49,7 +49,7 @@ fresh_cons b bytes n h e = record {
   stop = λ lt. e.stop (omega arith);
 }
 
--- what stands at the end of a run
+-- what is at the end of a run
 at_end : (place : Place) (bytes : Bytes) (n : ℕ) (b : ℕ) → IsRunEnd place bytes n → n < length bytes → get_or bytes n 0 ≡ b
     → later_value place bytes ≡ option_map (λ w. take n bytes ++ w) (later_value Plain (b ∷ drop (suc n) bytes))
 at_end place bytes n b e lt h = e.goes_on ∙ ap (λ t. option_map (λ w. take n bytes ++ w) (later_value Plain t)) (drop-cons bytes n 0 lt ∙ ap (λ x. x ∷ drop (suc n) bytes) h)

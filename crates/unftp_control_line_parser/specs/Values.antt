@@ -29,11 +29,11 @@ abbrev pub TellsJoined : {A : Type 0} → Bytes → Option Bytes → Result (Vec
 TellsJoined front more (Ok v) = option_map (λ w. front ++ w) more ≡ Some v.items
 TellsJoined front more (Err refusal) = RefusesValue more refusal
 
--- what ends a run of bytes that stand for themselves
+-- what ends a run of bytes that are written as they are
 abbrev pub stops : ℕ → Bool
 stops b = (b == CR) || (b == LF)
 
--- So many bytes stand for themselves, and then there is nothing more or one that ends the run.
+-- So many bytes are written as they are, and then there is nothing more or one that ends the run.
 pub record IsRunEnd (place : Place) (bytes : Bytes) (n : ℕ) : Type 0 where
   pub within : n ≤ length bytes
   pub goes_on : later_value place bytes ≡ option_map (λ w. take n bytes ++ w) (later_value Plain (drop n bytes))
@@ -45,7 +45,8 @@ IsPlainEnd bytes n = IsRunEnd Plain bytes n
 abbrev pub IsFreshEnd : Bytes → ℕ → Type 0
 IsFreshEnd bytes n = IsRunEnd Fresh bytes n
 
--- The part of the bytes up to the next place where a value goes on in another way, and what the rest of them makes.
+-- The part of the bytes up to the next place where a value goes on in another way, and what the
+-- rest of them makes.
 abbrev pub TellsRun : Bytes → Run → Type 0
 TellsRun bytes (Last part) = (later_value Fresh bytes ≡ Some part.now) × (part.now ≡ take (length part.now) bytes)
 TellsRun bytes (Escaped part rest) = (later_value Fresh bytes ≡ option_map (λ w. part.now ++ w) (later_value Fresh rest.now))

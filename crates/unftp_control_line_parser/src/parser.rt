@@ -50,7 +50,7 @@ fn verb_len(line: &[u8]) -> usize
     line.len()
 }
 
-/// The verb, and the parameter bytes behind the one byte that ends it.
+/// The verb, and the parameter bytes after the one byte that ends it.
 pub fn split<'a>(line: &'a [u8]) -> (&'a [u8], &'a [u8])
     ensures verb { result.0.now ≡ verb_of line.now }
     ensures parameter { result.1.now ≡ parameter_of line.now }
@@ -64,15 +64,17 @@ pub fn split<'a>(line: &'a [u8]) -> (&'a [u8], &'a [u8])
     (verb, parameter)
 }
 
-/// The command that a line is (RFC 959, section 5.3). The line may have any bytes, with its line feed or without one; each text of
-/// the command is new memory, and nothing else is kept of the line.
+/// The command that a line is (RFC 959, section 5.3). The line may have any bytes, with its line
+/// feed or without one; each text of the command is new memory, and nothing else is kept of the
+/// line.
 ///
-/// It is refused with `InvalidUtf8` where the verb, or the name of SITE, is not UTF-8; else with `InvalidEol` where the parameter
-/// has no end or a bare carriage return (RFC 854); else with `InvalidCommand` where the verb doesn't take the parameter, or with
-/// `InvalidUtf8` where AUTH's is not UTF-8; and with `OutOfMemory` where memory is refused.
+/// It is refused with `InvalidUtf8` where the verb, or the name of SITE, is not UTF-8; else with
+/// `InvalidEol` where the parameter has no end or a bare carriage return (RFC 854); else with
+/// `InvalidCommand` where the verb doesn't take the parameter, or with `InvalidUtf8` where AUTH's
+/// is not UTF-8; and with `OutOfMemory` when out of memory.
 pub fn parse(alloc: Global, line: &[u8]) -> Result<Command>
     ensures told { Tells (outcome line.now) result }
-    // memory is refused only where the line may take some
+    // it runs out of memory only where the line may take some
     ensures memory { OnStarved result (MayTakeMemory line.now) }
     // a command is one that `write_command` has a line for
     ensures given { IsLine line.now → IfOk result (λ command. IsGiven (command_of command)) }

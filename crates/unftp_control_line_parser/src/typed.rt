@@ -71,7 +71,8 @@ fn prot(value: &[u8]) -> Answer
     Ok(Command::Prot { param })
 }
 
-/// OPTS and the option UTF8, its two words both in upper case or both in lower case (RFC 2389, section 4).
+/// OPTS and the option UTF8, its two words both in upper case or both in lower case (RFC 2389,
+/// section 4).
 fn opts(value: &[u8]) -> Answer
     ensures told { Tells (chosen options value.now) result }
     ensures memory { OnStarved result ⊥ }

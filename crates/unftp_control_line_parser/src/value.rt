@@ -20,12 +20,12 @@ const CR: u8 = b'\r';
 enum Run<'a> {
     /// All of the value.
     Last(&'a [u8]),
-    /// A part of the value whose last byte is a CR that a NUL follows, and what stands behind the NUL.
+    /// A part of the value whose last byte is a CR that a NUL follows, and the bytes after the NUL.
     Escaped(&'a [u8], &'a [u8]),
     BadEnd,
 }
 
-/// How many bytes, behind a byte of the value, stand in front of the next CR or LF.
+/// How many bytes, after a byte of the value, come before the next CR or LF.
 fn plain_len(bytes: &[u8]) -> usize
     ensures { IsPlainEnd bytes.now result }
 {
@@ -35,7 +35,7 @@ fn plain_len(bytes: &[u8]) -> usize
     }
 }
 
-/// The same directly after the first unit or a CR NUL, where an LF may stand first.
+/// The same directly after the first unit or a CR NUL, where an LF may come first.
 fn fresh_len(bytes: &[u8]) -> usize
     ensures { IsFreshEnd bytes.now result }
 {
@@ -46,7 +46,7 @@ fn fresh_len(bytes: &[u8]) -> usize
     1 + plain_len(rest)
 }
 
-/// The bytes up to the next end, CR NUL or bad end.
+/// The bytes up to the next line ending, valid or not, or CR NUL.
 fn front_run<'a>(bytes: &'a [u8]) -> Run<'a>
     ensures { TellsRun bytes.now result }
 {
@@ -99,7 +99,7 @@ fn joined(front: Vec<u8>, after: &[u8]) -> Result<Vec<u8>, ParseErrorKind>
     }
 }
 
-/// The same, of bytes in front that are copied.
+/// The same, where the first bytes are copied.
 fn unescaped<'a>(
     alloc: Global,
     front: &[u8],

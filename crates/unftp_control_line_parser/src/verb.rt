@@ -13,8 +13,8 @@ use crate::rule::ParameterKind::{Empty, ListPath, OptionalPath, Raw, StatPath, T
 use crate::rule::Rule::{Ignores, Splits, Takes};
 use crate::rule::{PathCommand, RawCommand, Rule, TextCommand, TypedCommand, UnitCommand};
 
-/// The verbs, each padded with NUL to four bytes, and their rules. The rows are in the order of the verbs' bytes, since they are
-/// found by binary search.
+/// The verbs, each padded with NUL to four bytes, and their rules. The rows are in the order of the
+/// verbs' bytes, since they are found by binary search.
 static VERBS: [([u8; 4], Rule); 46] = [
     (*b"ABOR", Takes(Empty(UnitCommand::Abor))),
     (*b"ACCT", Takes(Raw(RawCommand::Acct))),
@@ -106,14 +106,16 @@ pub fn rule_named(word: &[u8]) -> Option<Rule>
     rule_of(&upper_cased(to_four_bytes(word)?))
 }
 
-/// The table has the definition's verbs with their rules, each once, in strict order of the verbs' bytes.
+/// The table has the definition's verbs with their rules, each once, in strict order of the verbs'
+/// bytes.
 pub fn verb_table()
     ensures order { IsStrictlyIncreasing (map (λ row. from_be_bytes w32 row.0) VERBS) }
     ensures rows { (word : Bytes)
         → row_of word (map (λ row. (from_four_bytes row.0, meaning row.1)) VERBS) ≡ row_of word verbs }
 {}
 
-/// Whether the word is a verb with a rule of its own, in upper case (RFC 959, section 5.3). It takes no memory.
+/// Whether the word is a verb with a rule of its own, in upper case (RFC 959, section 5.3). It
+/// takes no memory.
 pub fn is_verb(raised: &[u8]) -> bool
     ensures { IsTrue result ↔ IsSome (row_of raised.now verbs) }
 {

@@ -10,7 +10,7 @@ use Rattle.unftp_control_defs.specs.ReplyReader.{LacksCrlf, with_crlf, GoesOn, I
 use Rattle.unftp_control_read.specs.Reading.{EndsWith}
 use Rattle.unftp_control_defs.proofs.ReaderLaws.{cut_first, line_apart, same_front}
 
--- no CR LF stands at the place
+-- there is no CR LF at the position
 abbrev pub NoCrlfAt : Bytes → ℕ → Type 0
 NoCrlfAt text k = slice_index text k ≡ CR → slice_index text (k + 1) ≡ LF → ⊥
 
@@ -54,7 +54,7 @@ lacks_front text at short h = lacks_by_place (take at text) (λ k within is_cr i
     let long : length (take at text) ≡ at = length-take-le at text (omega arith) in
     h k (omega arith) (sym (get_or-take at text k 0 (omega arith)) ∙ is_cr) (sym (get_or-take at text (k + 1) 0 (omega arith)) ∙ is_lf))
 
--- whole lines that go on stand before the rest
+-- whole lines that go on come before the rest
 pub record Passed (digits bytes rest : Bytes) : Type 0 where
   pub middle : List Bytes
   pub cut : bytes ≡ flat_map with_crlf middle ++ rest
@@ -111,7 +111,7 @@ lines_unique (k ∷ ks) (l ∷ ls) x y p q f g e =
     let more = lines_unique ks ls x y p.1 q.1 f g cut.1 in
     λ i. cut.0 i ∷ more i
 
--- the text behind the digits and a space, or that there is none
+-- the text after the digits and a space, or that there is none
 pub behind_digits : (digits line rest : Bytes) (r : Option (Bor Bytes)) → line ≡ digits ++ rest → MatchOption r ((text : Bytes) → rest ≢ SP ∷ text) (λ text. rest ≡ SP ∷ text.now)
     → IfSome r (λ text. line ≡ digits ++ SP ∷ text.now) × IfNone r (GoesOn digits line)
 behind_digits digits line rest (Some text) e h = (e ∙ ap (λ r. digits ++ r) h, tt)

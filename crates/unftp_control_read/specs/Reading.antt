@@ -1,4 +1,4 @@
--- What the answers of the reader tell of the bytes.
+-- What the answers of the reader mean for the bytes.
 use Rattle.std.specs.Prelude.{◌≡◌, ◌<◌, ◌≤◌, ℕ, ◌⊎◌, List, [], ◌∷◌, ◌++◌, map, flat_map, length}
 use Rattle.std.specs.List.{AllByRecursion}
 use Rattle.std.specs.declared.vec.Vec.{Vec}
@@ -29,7 +29,7 @@ abbrev pub front_of : Front → FrontContent
 front_of (Whole code lines used) = whole code (contents lines) used
 front_of Partial = partial
 
--- what an answer tells of the bytes
+-- what an answer means for the bytes
 abbrev pub TellsFront : Bytes → Front → Type 0
 TellsFront bytes (Whole code lines used) = FrontReply bytes code (contents lines) used
 TellsFront bytes Partial = IsPartial bytes
@@ -44,16 +44,16 @@ abbrev pub IsWithin : Bytes → Front → Type 0
 IsWithin bytes (Whole code lines used) = (0 < used) × (used ≤ length bytes)
 IsWithin bytes Partial = Unit {0}
 
--- what a refusal tells of them: memory is wanted only where a reply stands in front
+-- what a refusal means for them: memory is asked for only where they begin with a reply
 abbrev pub TellsRefusal : Bytes → ReadReplyError → Type 0
 TellsRefusal bytes Malformed = IsMalformed bytes
 TellsRefusal bytes OutOfMemory = HasFront bytes
 
--- the lines before the last one, as they stand; its text; what follows
+-- the lines before the last one, as they are; its text; what follows
 abbrev pub EndsWith : Bytes → Bytes → Bytes → Bytes → Bytes → Type 0
 EndsWith digits bytes middle text rest = (ended : IsEnded digits bytes) × (middle ≡ flat_map with_crlf ended.middle) × (text ≡ ended.last) × (rest ≡ ended.rest)
 
--- how the line opens a reply behind these digits
+-- how the line opens a reply after these digits
 abbrev pub IsKind : Bytes → Bytes → Kind → Type 0
 IsKind line digits (One text) = ((line ≡ digits) × (text.now ≡ [])) ⊎ (line ≡ digits ++ SP ∷ text.now)
 IsKind line digits (Several text) = line ≡ digits ++ DASH ∷ text.now

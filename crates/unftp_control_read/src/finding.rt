@@ -4,7 +4,8 @@ ghost use Rattle.unftp_control_read.specs.Reading.{Finds};
 use crate::lines::{LastLine, find_last_line, next_line};
 use crate::opening::{Kind, opening_of};
 
-/// The texts of a reply where they stand: the one text, or the first, the whole lines between, and the last.
+/// The texts of a reply, as parts of its bytes: the one text, or the first, the whole lines
+/// between, and the last.
 #[derive(Drop)]
 pub(crate) enum Texts<'a> {
     One(&'a [u8]),
@@ -15,7 +16,7 @@ pub(crate) enum Texts<'a> {
     },
 }
 
-/// What stands at the front.
+/// What the bytes begin with.
 #[derive(Drop)]
 pub(crate) enum Finding<'a> {
     Whole {

@@ -17,27 +17,29 @@ use crate::finding::{Finding, find_front};
 use std::alloc::Global;
 use thiserror::Error;
 
-/// What stands at the front of some bytes.
+/// What some bytes begin with.
 #[derive(Debug, PartialEq, Eq, Drop)]
 pub enum Front {
     /// A whole reply.
     Whole {
         /// Its three digits, as a number.
         code: u16,
-        /// Its lines without their end of line: of the first and the last the text behind the code and its sign, of those between
-        /// the whole line. A reply of three digits alone has one empty line.
+        /// Its lines without their end of line: of the first and the last the text after the code
+        /// and its sign, of those between the whole line. A reply of only three digits has one
+        /// empty line.
         lines: Vec<Vec<u8>>,
         /// How many bytes it takes, its last end of line included.
         used: usize,
     },
-    /// Less than a reply: the first line has not come whole, or a reply of several lines has no last line yet.
+    /// Less than a reply: the first line is not complete, or a reply of several lines has no last
+    /// line yet.
     Partial,
 }
 
 /// Why no reply is read.
 #[derive(Debug, Drop, Error)]
 pub enum ReadReplyError {
-    /// The first line has come whole and opens no reply.
+    /// The first line is complete and opens no reply.
     #[error("malformed reply")]
     Malformed,
     /// Memory was refused for the lines of a whole reply.
@@ -45,10 +47,12 @@ pub enum ReadReplyError {
     OutOfMemory,
 }
 
-/// Reads the reply at the front of `bytes` (RFC 959, section 4.2). A line ends at CR LF, and a CR or LF alone belongs to it.
+/// Reads the reply at the front of `bytes` (RFC 959, section 4.2). A line ends at CR LF, and a bare
+/// CR or LF belongs to it.
 ///
-/// Whether there is one is decided first, in one pass and without memory; then its lines are copied. So `Partial` and `Malformed` take
-/// no memory, and `OutOfMemory` is told only where a whole reply is there. The bytes behind the reply are not looked at.
+/// Whether there is one is decided first, in one pass and without memory; then its lines are
+/// copied. So `Partial` and `Malformed` take no memory, and `OutOfMemory` is returned only where a
+/// whole reply is there. The bytes after the reply are ignored.
 pub fn read_reply(alloc: Global, bytes: &[u8]) -> Result<Front, ReadReplyError>
     ensures front { IfOk result (λ front. TellsFront bytes.now front) }
     ensures refusal { IfErr result (λ refusal. TellsRefusal bytes.now refusal) }

@@ -43,7 +43,7 @@ pub(crate) fn last_text<'a>(digits: &[u8], line: &'a [u8]) -> Option<&'a [u8]>
 pub(crate) struct LastLine<'a> {
     /// The whole lines before it.
     pub(crate) middle: &'a [u8],
-    /// Its text behind the code and the space.
+    /// Its text after the code and the space.
     pub(crate) text: &'a [u8],
     /// What follows its end of line.
     pub(crate) rest: &'a [u8],

@@ -25,7 +25,8 @@ fn code_of(digits: &[u8]) -> Option<u16>
     Some(digit_of(*hundreds)? * 100 + digit_of(*tens)? * 10 + digit_of(*units)?)
 }
 
-/// What stands behind the code: the one text, after a space or empty behind the code alone, or the first of several after a dash.
+/// What follows the code: the one text, after a space or empty if nothing follows, or the first of
+/// several after a dash.
 #[derive(Drop)]
 pub(crate) enum Kind<'a> {
     /// The one text.
@@ -34,7 +35,7 @@ pub(crate) enum Kind<'a> {
     Several(&'a [u8]),
 }
 
-/// How a line opens a reply: its code, the digits that spell it, and what stands behind them.
+/// How a line opens a reply: its code, the digits that spell it, and what follows them.
 #[derive(Drop)]
 pub(crate) struct Opening<'a> {
     pub(crate) code: u16,

@@ -60,7 +60,7 @@ pub enum ReplyCode {
     NeedPassword = 331,
     /// 332: an account is needed to log in.
     NeedAccount = 332,
-    /// 350: the file action waits for more.
+    /// 350: the file action needs more.
     FileActionPending = 350,
     /// 421: the service is not available, and the control connection is being closed.
     ServiceNotAvailable = 421,

@@ -24,7 +24,7 @@ pub enum Reply {
         /// The text, which may be empty.
         msg: String,
     },
-    /// Lines: the first stands behind the code and a dash, and the last behind the code and a space.
+    /// Lines: the first follows the code and a dash, and the last follows the code and a space.
     MultiLine {
         /// The code.
         code: ReplyCode,
@@ -34,7 +34,7 @@ pub enum Reply {
 }
 
 impl Reply {
-    /// A reply of one line. It is refused for want of memory alone, with the kind `OutOfMemory`.
+    /// A reply of one line. It fails only when out of memory, with the kind `OutOfMemory`.
     pub fn new(alloc: Global, code: ReplyCode, message: &str) -> Result<Reply, ControlChanError>
         ensures ok { IfOk result (λ reply. reply_of reply ≡ CodeAndMsg (number_of code) message.now) }
         ensures err { IfErr result (λ error. fault_of error ≡ out_of_memory) }
@@ -50,7 +50,7 @@ impl Reply {
         Reply::CodeAndMsg { code, msg }
     }
 
-    /// A reply of these lines. It is refused for want of memory alone, with the kind `OutOfMemory`.
+    /// A reply of these lines. It fails only when out of memory, with the kind `OutOfMemory`.
     ///
     /// The lines have to end, which the checker asks of each caller.
     pub fn new_multiline<'a, I: IntoIterator<Item = &'a str>>(
@@ -75,7 +75,7 @@ impl Reply {
         Reply::None
     }
 
-    /// Whether it tells no failure: a code from 200 to 399, or no reply (RFC 959, section 4.2.1).
+    /// Whether it reports no failure: a code from 200 to 399, or no reply (RFC 959, section 4.2.1).
     pub fn is_positive(&self) -> bool
         ensures { result ≡ is_positive (reply_of self.now) }
     {
@@ -87,7 +87,8 @@ impl Reply {
         }
     }
 
-    /// A reply that says the same, or `AllocError` where memory is refused, which leaves this one as it is.
+    /// A reply that says the same, or `AllocError` when out of memory, which leaves this one as it
+    /// is.
     pub fn clone(&self, alloc: Global) -> Result<Reply, AllocError>
         ensures { IfOk result (λ reply. reply_of reply ≡ reply_of self.now) }
     {

@@ -26,7 +26,7 @@ module _ {S : Type 0} (law : Law S) where
     handler_kept = refl;
   }
 
-  -- behind events that were all answered
+  -- after events that were all answered
   module _ (m n k : Moment S) (es : List FtpEvent) (all : AllAnswered law m es n) where
     text-then : (fs : List FtpEvent) → text_of law m.state (es ++ fs) ≡ text_of law m.state es ++ text_of law n.state fs
     text-then fs = text_of-append law m.state es fs ∙ ap (λ s. text_of law m.state es ++ text_of law s fs) (sym all.state)
@@ -45,7 +45,7 @@ module _ {S : Type 0} (law : Law S) where
       handler_kept = v.handler_kept ∙ all.handler_kept;
     }
 
-    -- the same behind them in all of the events, past whose answers it goes
+    -- the same after them in all of the events, past whose answers it goes
     WriteFailed-then : (whole fs : List FtpEvent) → whole ≡ es ++ fs → WriteFailed law n fs k → (v : WriteFailed law m whole k) × Begins v.done es
     WriteFailed-then whole fs same v = (
       record {
@@ -112,7 +112,7 @@ module _ {S : Type 0} (law : Law S) where
     RunEnded-then whole fs Stopped same v = absurd v
     RunEnded-then whole fs TooManyReads same v = absurd v
 
-  -- with more events behind it
+  -- with more events after it
   module _ (m n : Moment S) (es more : List FtpEvent) where
     longer : (done : List FtpEvent) (event : FtpEvent) (later : List FtpEvent) → es ≡ done ++ event ∷ later → es ++ more ≡ done ++ event ∷ (later ++ more)
     longer done event later split = ap (λ z. z ++ more) split ∙ append_assoc done (event ∷ later) more

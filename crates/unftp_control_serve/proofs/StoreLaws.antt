@@ -47,11 +47,12 @@ none_before bytes place k before behind j low high = by_place (cases_lt j place)
 lf_at : (bytes : Bytes) (k : ℕ) → k < length bytes → is_line_feed (slice_index bytes k) ≡ true → take (k + 1) bytes ≡ take k bytes ++ LF ∷ []
 lf_at bytes k within h = take_more bytes k 0 within ∙ ap (λ b. take k bytes ++ b ∷ []) (eqb-true (slice_index bytes k) LF h)
 
--- no line feed stands before the codec's place, which is within the buffer
+-- there is no line feed before the codec's place, which is within the buffer
 abbrev pub StandsWell : Codec → Bytes → Type 0
 StandsWell codec bytes = (codec.place ≤ length bytes) × Lacks LF (take codec.place bytes)
 
--- what a decoding comes to: there is no line, or the first is cut and told, or memory is refused for it
+-- what a call of `decode` comes to: there is no line, or the first is cut and returned, or memory
+-- runs out
 record NoLine (new : Codec) (before after : Bytes) (answer : Decoded) : Type 0 where
   pub told : event_told answer ≡ None
   pub unended : Lacks LF before
@@ -107,7 +108,7 @@ module _ (old new : Codec) (before after : Bytes) (answer : Decoded) where
       by_end (inr (inl first)) = rw first.place (omega arith, tt)
       by_end (inr (inr starved)) = rw (starved.place, starved.kept) well
 
--- a line's event is never want of memory
+-- a line's event is never out of memory
 abbrev kind_in : FtpEvent → FaultKind
 kind_in (Command command) = IoError
 kind_in (Refused fault) = fault.kind

@@ -1,4 +1,4 @@
--- What came of some events: which of them the handler took, what was written by then, and what was flushed.
+-- What came of some events: which of them the handler took, what was written, and what was flushed.
 use Rattle.std.specs.Prelude.{◌≡◌, ℕ, ◌<◌, ◌⊎◌, List, [], ◌∷◌, ◌++◌, Option, Result, Err, MatchResult}
 use Rattle.std.specs.Io.KnownBytes.{Appends}
 use Rattle.unftp_control_defs.specs.Events.{Fault, FtpEvent}
@@ -59,7 +59,7 @@ abbrev pub TookAtMostOne : {S : Type 0} → Law S → S → List FtpEvent → S 
 TookAtMostOne law s [] s' = s' ≡ s
 TookAtMostOne law s (event ∷ later) s' = (s' ≡ s) ⊎ (s' ≡ law.next s event)
 
--- Memory was refused behind the reply to some event.
+-- Memory ran out after the reply to some event.
 pub record MemoryRefused {S : Type 0} (law : Law S) (before : Moment S) (events : List FtpEvent) (after : Moment S) : Type 0 where
   pub done : List FtpEvent
   pub later : List FtpEvent
@@ -70,7 +70,7 @@ pub record MemoryRefused {S : Type 0} (law : Law S) (before : Moment S) (events 
   pub no_write_failed : after.output.failures ≡ before.output.failures
   pub handler_kept : after.failures ≡ before.failures
 
--- which of them an error tells
+-- which of them an error means
 abbrev pub RunEnded : {S : Type 0} → Law S → Moment S → List FtpEvent → Moment S → ServeError → Type 0
 RunEnded law before events after (Write _) = WriteFailed law before events after
 RunEnded law before events after WriteZero = WriteFailed law before events after
@@ -81,7 +81,7 @@ RunEnded law before events after _ = ⊥
 abbrev pub RunOutcome : {S T : Type 0} → Law S → Moment S → List FtpEvent → Moment S → Result T ServeError → Type 0
 RunOutcome law before events after result = MatchResult result (λ _. AllAnswered law before events after) (RunEnded law before events after)
 
--- the events whose replies were written whole by then
+-- the events whose whole replies were written
 abbrev pub done_of : {S : Type 0} (law : Law S) (before : Moment S) (events : List FtpEvent) (after : Moment S) (error : ServeError) →
     RunEnded law before events after error → List FtpEvent
 done_of law before events after (Write _) ended = ended.done

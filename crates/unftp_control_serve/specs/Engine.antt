@@ -5,15 +5,15 @@ use Rattle.unftp_control_defs.specs.Lines.{rest_of}
 use Rattle.unftp_control_defs.specs.Events.{FtpEvent, events}
 use Rattle.unftp_control_defs.specs.Run.{Law, last_state}
 
--- the bytes that wait behind the last line feed, how many of them are told, whether the engine has failed, and how often a byte was
--- tested for a line feed since it was made
+-- the bytes after the last line feed, how many of them `left` reports, whether the engine has
+-- failed, and how often a byte was tested for a line feed since it was made
 pub record EngineState : Type 0 where
   pub rest : Bytes
   pub left : ℕ
   pub failed : Bool
   pub tests : ℕ
 
--- a number as 64 bits tell it
+-- a number as 64 bits hold it, the greatest for each greater one
 abbrev pub told : ℕ → ℕ
 told n = min n (2 ^ 64 - 1)
 
@@ -21,14 +21,15 @@ told n = min n (2 ^ 64 - 1)
 abbrev pub IsGoing : EngineState → Type 0
 IsGoing engine = engine.failed ≡ false
 
--- the bytes that wait and a piece behind them, and their events
+-- the pending bytes and a piece after them, and their events
 abbrev pub bytes_with : EngineState → Bytes → Bytes
 bytes_with engine piece = engine.rest ++ piece
 
 abbrev pub events_with : EngineState → Bytes → List FtpEvent
 events_with engine piece = events (bytes_with engine piece)
 
--- All lines of these bytes are taken: the handler is in the last state of its run, and the engine goes on and holds the rest.
+-- All lines of these bytes are taken: the handler is in the last state of its run, and the engine
+-- goes on and holds the rest.
 pub record Leaves {S : Type 0} (law : Law S) (before : EngineState) (piece : Bytes) (s s' : S) (after : EngineState) : Type 0 where
   pub state : s' ≡ last_state law s (events_with before piece)
   pub going : IsGoing after

@@ -14,6 +14,7 @@ counting = record { says = λ _ _. CodeAndMsg 200 (codes "OK"); next = λ taken 
 abbrev pub noop : FtpEvent
 noop = Command Noop
 
--- The handler took so many events; these bytes were written, and so many were not flushed; nothing has failed.
+-- The handler took so many events; these bytes were written, and so many were not flushed; nothing
+-- has failed.
 abbrev pub moment : ℕ → Bytes → ℕ → Moment ℕ
 moment taken written unflushed = record { state = taken; failures = 0; output = record { written = Some written; failures = 0; unflushed = unflushed } }

@@ -12,7 +12,8 @@ use Rattle.unftp_control_serve.specs.declared.input.Input.{Input}
 use Rattle.unftp_control_serve.specs.declared.error.ServeError.{ServeError}
 use Rattle.unftp_control_serve.specs.declared.error.ServeError.TheVariants.{Read, Write, WriteZero, Handler, OutOfMemory, TooManyReads}
 
--- What contracts see of an input at one moment: what is left of it, where the reader tells that, and how often a read failed.
+-- What contracts see of an input at one moment: what is left of it, where the reader's contracts
+-- say that, and how often a read failed.
 pub record Source : Type 0 where
   pub remaining : Option Bytes
   pub failures : ℕ
@@ -26,7 +27,8 @@ pub record Answered {S : Type 0} (law : Law S) (before after : Moment S) (input 
   pub consumed : Consumes input.remaining input'.remaining read
   pub answered : AllAnswered law before (events read) after
 
--- .. which is the whole input, and so many bytes of it came behind its last line feed; each byte was scanned for one exactly once
+-- .. which is the whole input, and so many bytes of it came after its last line feed; each byte was
+-- scanned for one exactly once
 pub record AnsweredAll {S : Type 0} (law : Law S) (before after : Moment S) (input input' : Source) (left tests : ℕ) : Type 0 where
   pub read : Bytes
   pub consumed : Consumes input.remaining input'.remaining read
@@ -36,7 +38,8 @@ pub record AnsweredAll {S : Type 0} (law : Law S) (before after : Moment S) (inp
   pub tested : tests ≡ length read
   pub no_read_failed : input'.failures ≡ input.failures
 
--- It ended at some line of what was read, and all lines of what was read before the last piece were answered by then.
+-- It ended at some line of what was read, and all lines of what was read before the last piece were
+-- answered.
 pub record EndedLate {S : Type 0} (law : Law S) (before after : Moment S) (input input' : Source) (error : ServeError) : Type 0 where
   pub read : Bytes
   pub piece : Bytes
@@ -53,7 +56,7 @@ pub record ReadTooOften {S : Type 0} (law : Law S) (before after : Moment S) (in
   pub answered : Answered law before after input input'
   pub many : 2 ^ 64 - 1 ≤ length answered.read
 
--- which of them an error tells
+-- which of them an error means
 abbrev pub ServeEnded : {S : Type 0} → Law S → Moment S → Moment S → Source → Source → ServeError → Type 0
 ServeEnded law before after input input' (Read _) = ReadFailed law before after input input'
 ServeEnded law before after input input' (Write error) = EndedLate law before after input input' (Write error)

@@ -6,18 +6,19 @@ use Rattle.unftp_control_serve.specs.declared.output.Output.{Output}
 use Rattle.unftp_control_serve.specs.declared.error.ServeError.{ServeError}
 use Rattle.unftp_control_serve.specs.declared.error.ServeError.TheVariants.{Write, WriteZero}
 
--- What contracts see of an output at one moment: what was written, where the writer tells it; how often it failed; and how many
--- bytes were written since it was last flushed.
+-- What contracts see of an output at one moment: what was written, where the writer's contracts say
+-- it; how often it failed; and how many bytes were written since it was last flushed.
 pub record Sink : Type 0 where
   pub written : Option Bytes
   pub failures : ℕ
   pub unflushed : ℕ
 
--- of an output over a writer whose written bytes are told so
+-- of an output over a writer with these written bytes
 abbrev pub sink_of : {W : Type 0} → (W → Option Bytes) → Output W → Sink
 sink_of contents output = record { written = contents output.writer; failures = output.failures; unflushed = output.unflushed }
 
--- One write of so many bytes: an error is a failure, and so is a write that takes nothing of bytes that are not empty.
+-- One write of so many bytes: an error is a failure, and so is a write that takes nothing of bytes
+-- that are not empty.
 abbrev pub CountsWrite : {E : Type 0} → Result ℕ E → ℕ → ℕ → ℕ → ℕ → ℕ → Type 0
 CountsWrite result len failures failures' unflushed unflushed' = MatchResult result
     (λ n. (failures' ≡ failures + (if n == 0 && not (len == 0) then 1 else 0)) × (unflushed' ≡ unflushed + n))
@@ -33,7 +34,7 @@ CountsFlush result failures failures' unflushed unflushed' = MatchResult result
 abbrev pub Begins : {A : Type 0} → List A → List A → Type 0
 Begins {A} whole part = (left : List A) × (whole ≡ part ++ left)
 
--- after a text that was flushed, where it is not empty, and a part behind it that may not have been
+-- after a text that was flushed, where it is not empty, and a part after it that may not have been
 abbrev pub Flushed : Bytes → Bytes → ℕ → ℕ → Type 0
 Flushed [] part unflushed unflushed' = unflushed' ≤ unflushed + length part
 Flushed (b ∷ text) part unflushed unflushed' = unflushed' ≤ length part

@@ -1,4 +1,4 @@
--- The bytes that wait for the end of their line.
+-- The pending bytes, whose line is not complete.
 use Rattle.std.specs.Prelude.{◌≡◌, ℕ, ◌++◌, Option, Result, MatchResult, MatchOption, option_map}
 use Rattle.unftp_control_defs.specs.Bytes.{Bytes, LF, Lacks}
 use Rattle.unftp_control_defs.specs.Events.{FtpEvent, event_of}
@@ -8,7 +8,8 @@ use Rattle.unftp_control_codecs.specs.Decoding.{Decoded, IsStarved, event_told}
 use Rattle.unftp_control_serve.specs.declared.event.Event.{Event}
 use Rattle.unftp_control_serve.specs.EventMeaning.{event_meant}
 
--- the bytes, how often one was tested for a line feed since the store was made, and how many of them have not been
+-- the bytes, how often one was tested for a line feed since the store was made, and how many of
+-- them have not been
 pub record Pending : Type 0 where
   pub bytes : Bytes
   pub tests : ℕ
@@ -32,7 +33,7 @@ Nexts before result after = MatchResult result
     (λ next. MatchOption next (HasNoLine before after) (λ event. TakesLine before (event_meant event) after))
     (λ _. after.bytes ≡ before.bytes)
 
--- the event that an answer of the codec tells, if any; or memory was refused
+-- the event that an answer of the codec is, if any; or out of memory
 abbrev pub TellsEvent : {E : Type 0} → Decoded → Result (Option Event) E → Type 0
 TellsEvent answer result = MatchResult result
     (λ event. (event_told answer ≡ option_map event_meant event) × ¬ IsStarved answer)

@@ -45,7 +45,7 @@ fn answer_event<H: Handler, W: Write>(
     }
 }
 
-/// Answers each line of what waits.
+/// Answers each pending line.
 fn answer_lines<H: Handler, W: Write>(
     store: &mut Store,
     handler: &mut H,
@@ -71,7 +71,7 @@ fn answer_lines<H: Handler, W: Write>(
     }
 }
 
-/// Answers each line of what waits and a piece behind it.
+/// Answers each line of the pending bytes and a piece after them.
 fn answer_piece<H: Handler, W: Write>(
     store: &mut Store,
     piece: &[u8],
@@ -129,7 +129,8 @@ impl Engine {
         }
     }
 
-    /// How many bytes came behind the last line feed of what was fed by calls that answered `Ok`; `u64::MAX` tells a greater number too.
+    /// How many bytes came after the last line feed of what was fed by calls that returned `Ok`, or
+    /// `u64::MAX` where there are more.
     pub fn left(&self) -> u64
         ensures { result ≡ self.now.left }
     {
@@ -143,17 +144,19 @@ impl Engine {
         self.store.tests()
     }
 
-    /// Takes the next piece of the input, and answers each line that has come whole by then: its event is handed to the handler, and
-    /// its reply is written and flushed, before the next line is taken.
+    /// Takes the next piece of the input, and answers each line that is now complete: its event is
+    /// handed to the handler, and its reply is written and flushed, before the next line is taken.
     ///
-    /// Each error makes the engine a failed one. From then on it answers `Stopped` and does nothing.
+    /// Each error makes the engine a failed one. From then on it answers `Stopped` and does
+    /// nothing.
     pub fn feed<H: Handler, W: Write>(
         &mut self,
         piece: &[u8],
         handler: &mut H,
         output: &mut Output<W>,
     ) -> Result<(), ServeError>
-        // What was written and taken at each answer, over the lines of what waits and the piece.
+        // What was written and taken at each answer, over the lines of the pending bytes and the
+        // piece.
         ensures outcome { IsGoing self.old → RunOutcome H.law
             (moment_of H.state H.failures W.contents handler.old output.old)
             (events_with self.old piece.now)
@@ -185,7 +188,8 @@ impl Engine {
         ensures unchanged { self.old.failed ≡ true → (handler.new ≡ handler.old) × (output.new ≡ output.old) }
         ensures failed { self.new.failed ≡ is_err result }
         ensures kept { OnErr result (self.new.left ≡ self.old.left) }
-        // At Ok each byte of the piece was scanned for a line feed exactly once; at an error at most once, and the count does not fall.
+        // At Ok each byte of the piece was scanned for a line feed exactly once; at an error at
+        // most once, and the count does not fall.
         ensures tests { self.new.tests ≤ self.old.tests + length piece.now }
         ensures tested { OnOk result (self.new.tests ≡ self.old.tests + length piece.now) }
         ensures never_fewer { self.old.tests ≤ self.new.tests }

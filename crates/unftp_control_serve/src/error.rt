@@ -9,18 +9,20 @@ use unftp_control_error::ControlChanError;
 pub enum ServeError {
     /// A read failed. All lines that were read are answered.
     Read(io::Error),
-    /// A write or a flush failed. A beginning of the replies is written, and the handler has taken the event whose reply was not
-    /// written whole, or not flushed.
+    /// A write or a flush failed. A beginning of the replies is written, and the handler has taken
+    /// the event whose reply was not written whole, or not flushed.
     Write(io::Error),
     /// The writer took nothing of a reply. What is written and taken is as for `Write`.
     WriteZero,
     /// The handler failed at an event. The lines before its line are answered.
     Handler(ControlChanError),
-    /// Memory was refused. Some lines are answered, and the handler may have taken the event of one more.
+    /// Memory was refused. Some lines are answered, and the handler may have taken the event of one
+    /// more.
     OutOfMemory,
     /// The engine failed in an earlier call. Nothing is written or taken.
     Stopped,
-    /// So many reads gave bytes that 64 bits don't count them. All lines that were read are answered.
+    /// So many reads gave bytes that 64 bits don't count them. All lines that were read are
+    /// answered.
     TooManyReads,
 }
 

@@ -1,4 +1,4 @@
-//! What a handler is told.
+//! What a handler receives.
 use unftp_control_command::Command;
 use unftp_control_error::ControlChanError;
 
@@ -7,6 +7,7 @@ use unftp_control_error::ControlChanError;
 pub enum Event {
     /// A command.
     Command(Command),
-    /// A line that is no command that is read, of the kind `Utf8Error` or `InvalidCommand`, with the parser's error as its source.
+    /// A line that is no command that is read, of the kind `Utf8Error` or `InvalidCommand`, with
+    /// the parser's error as its source.
     Refused(ControlChanError),
 }

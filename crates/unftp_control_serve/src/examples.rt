@@ -1,4 +1,5 @@
-//! Moments worked out by hand: what the definitions of the clauses of `feed` and `serve` say of them.
+//! Moments worked out by hand: what the definitions of the clauses of `feed` and `serve` say of
+//! them.
 ghost use Rattle.std.specs.Prelude.{◌≡◌, ◌+◌, ◌-◌, ◌^◌, ◌<◌, ◌≤◌, ◌⊎◌, ℕ, false, [], ◌∷◌, ◌++◌, Some, Err, length, codes};
 ghost use Rattle.std.specs.Io.KnownBytes.{Appends, Consumes, IsAtEnd};
 ghost use Rattle.unftp_control_defs.specs.Bytes.{Bytes};
@@ -23,7 +24,8 @@ pub fn all_events_are_answered()
         → (after.output.failures ≡ 0) × (after.failures ≡ 0) }
 {}
 
-/// The handler took the event. Of its reply the start was written, and only this part may not be flushed.
+/// The handler took the event. Of its reply the start was written, and only this part may not be
+/// flushed.
 pub fn a_write_failed_at_a_reply()
     ensures written { (after : Moment ℕ) → WriteFailed counting (moment 3 (codes "x") 1) (noop ∷ []) after
         → (part : Bytes) × Begins (codes "200 OK\r\n") part × Appends (Some (codes "x")) after.output.written part
@@ -42,7 +44,8 @@ pub fn the_handler_failed_at_an_event()
         → (0 < after.failures) × (after.output.failures ≡ 0) }
 {}
 
-/// An allocation failed: the handler took the event or not. Without events, it is in its state as before.
+/// An allocation failed: the handler took the event or not. Without events, it is in its state as
+/// before.
 pub fn an_allocation_failed()
     ensures state { (after : Moment ℕ) → MemoryRefused counting (moment 3 (codes "x") 1) (noop ∷ []) after → (after.state ≡ 3) ⊎ (after.state ≡ 4) }
     ensures no_event { (after : Moment ℕ) → MemoryRefused counting (moment 3 (codes "x") 1) [] after

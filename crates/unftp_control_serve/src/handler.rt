@@ -12,8 +12,9 @@ use unftp_control_reply::Reply;
 
 /// Answers the events of a connection, one after the other.
 ///
-/// It states as functions and relations of its state what it answers to an event, which state follows, and with which errors it may fail:
-/// of which kind, and from which source. It counts its failures: the count takes no byte, and contracts alone see it.
+/// It states as functions and relations of its state what it answers to an event, which state
+/// follows, and with which errors it may fail: of which kind, and from which source. It counts its
+/// failures: the count takes no byte, and only contracts see it.
 pub trait Handler {
     // What contracts see of it.
     ghost State: { Type 0 };
@@ -24,7 +25,8 @@ pub trait Handler {
 
     ghost failures: { Self → ℕ };
 
-    /// Answers an event. What it answers with an error ends the connection; of the state behind its own error nothing is promised.
+    /// Answers an event. What it answers with an error ends the connection; of its state after its
+    /// own error nothing is promised.
     fn handle(&mut self, alloc: Global, event: Event) -> Result<Reply, ControlChanError>
         ensures says { IfOk result (λ reply. reply_of reply ≡ law.says (state self.old) (event_meant event)) }
         ensures next { OnOk result (state self.new ≡ law.next (state self.old) (event_meant event)) }

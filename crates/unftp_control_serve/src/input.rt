@@ -7,7 +7,7 @@ use std::io;
 use std::io::Read;
 use unftp_control_count::Count;
 
-/// A reader with a count of its failures, which takes no byte and is seen by contracts alone.
+/// A reader with a count of its failures, which takes no byte and which only contracts see.
 #[derive(Drop)]
 pub struct Input<R> {
     reader: R,

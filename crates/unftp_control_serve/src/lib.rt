@@ -1,4 +1,5 @@
-//! The engine of a control connection: pieces of its input come in, a handler answers each line's event, and the replies go out.
+//! The engine of a control connection: pieces of its input come in, a handler answers each line's
+//! event, and the replies go out.
 #![tactic(auto)]
 
 mod engine;

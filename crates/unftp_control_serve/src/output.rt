@@ -8,8 +8,8 @@ use std::io;
 use std::io::Write;
 use unftp_control_count::Count;
 
-/// A writer with a count of its failures and one of the bytes that were written since it was last flushed, which take no byte and are
-/// seen by contracts alone.
+/// A writer with a count of its failures and one of the bytes that were written since it was last
+/// flushed, which take no byte and are which only contracts see.
 #[derive(Drop)]
 pub struct Output<W> {
     writer: W,
@@ -43,7 +43,8 @@ impl<W: Write> Output<W> {
         writer
     }
 
-    /// Writes once. Each error counts, `Interrupted` too, and so does a write that takes nothing of bytes that are not empty.
+    /// Writes once. Each error counts, `Interrupted` too, and so does a write that takes nothing of
+    /// bytes that are not empty.
     pub(crate) fn write(&mut self, bytes: &[u8]) -> io::Result<usize>
         ensures bound { WritesAtMost result bytes.now }
         ensures bytes { WriteAppends (W.contents self.old.writer) (W.contents self.new.writer) result bytes.now }

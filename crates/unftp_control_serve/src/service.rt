@@ -20,12 +20,12 @@ use std::alloc::Global;
 use std::io::{Read, Write};
 use unftp_control_count::Count;
 
-/// What is told of a whole input.
+/// What `serve` returns at the end of its input.
 #[derive(Drop)]
 pub struct Served {
-    /// How many bytes came behind the last line feed; `u64::MAX` tells a greater number too.
+    /// How many bytes came after the last line feed, or `u64::MAX` where there are more.
     pub left: u64,
-    /// How often a byte was tested for a line feed: contracts alone see it.
+    /// How many bytes were scanned for a line feed. Only contracts see it.
     pub tests: Count,
 }
 
@@ -44,12 +44,14 @@ pub fn serve<R: Read, W: Write, H: Handler>(
     // Whatever pieces the input comes in, at Ok exactly the replies to its lines are written,
     ensures headline { OnOk result (IfSome (R.remaining reader.old.reader) (λ input.
         Appends (W.contents writer.old.writer) (W.contents writer.new.writer) (text_for H.law (H.state handler.old) input))) }
-    // the handler is in the last state of its run over them, and each byte was scanned for a line feed exactly once.
+    // the handler is in the last state of its run over them, and each byte was scanned for a line
+    // feed exactly once.
     ensures state { OnOk result (IfSome (R.remaining reader.old.reader) (λ input.
         H.state handler.new ≡ last_state H.law (H.state handler.old) (events input))) }
     ensures tested { IfOk result (λ served. IfSome (R.remaining reader.old.reader) (λ input. served.tests ≡ length input)) }
     ensures left { IfOk result (λ served. IfSome (R.remaining reader.old.reader) (λ input. served.left ≡ told (length (rest_of input)))) }
-    // What is written is read as what the replies show, and as nothing else, where each of them is plain.
+    // What is written is read as what the replies show, and as nothing else, where each of them is
+    // plain.
     ensures read_back { OnOk result (IfSome (R.remaining reader.old.reader) (λ input.
         AllByRecursion IsPlain (replies H.law (H.state handler.old) (events input))
         → ReadsBack (text_for H.law (H.state handler.old) input) (replies H.law (H.state handler.old) (events input)))) }

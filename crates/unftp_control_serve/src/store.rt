@@ -1,4 +1,4 @@
-//! The bytes that wait for the end of their line.
+//! The pending bytes, whose line is not complete.
 ghost use Rattle.std.specs.Prelude.{◌≡◌, ◌≤◌, ◌+◌, ◌++◌, [], OnOk, OnErr, length};
 ghost use Rattle.unftp_control_serve.specs.Store.{Nexts, TellsEvent};
 
@@ -10,7 +10,7 @@ use unftp_control_command::Command;
 use unftp_control_count::Count;
 use unftp_control_error::{ControlChanError, ControlChanErrorKind};
 
-/// A buffer and the codec that cuts it into lines. No line feed stands before the codec's place.
+/// A buffer and the codec that cuts it into lines. There is no line feed before the codec's place.
 #[derive(Drop)]
 pub(crate) struct Store {
     codec: FtpCodec,
@@ -49,7 +49,7 @@ impl Store {
         *self.buf.allocator()
     }
 
-    /// How many bytes wait.
+    /// How many bytes are pending.
     pub(crate) fn len(&self) -> usize
         ensures { result ≡ length self.now.bytes }
     {
@@ -63,7 +63,7 @@ impl Store {
         self.codec.tests()
     }
 
-    /// Puts a piece behind what waits. Where memory is refused, nothing changes.
+    /// Appends a piece to the pending bytes. When out of memory, nothing changes.
     pub(crate) fn put(&mut self, piece: &[u8]) -> Result<(), AllocError>
         ensures bytes { OnOk result (self.new.bytes ≡ self.old.bytes ++ piece.now) }
         ensures ahead { OnOk result (self.new.ahead ≡ self.old.ahead + length piece.now) }
@@ -73,7 +73,8 @@ impl Store {
         self.buf.extend_from_slice(piece)
     }
 
-    /// Takes the first line and answers its event, or `None` where there is none. Where memory is refused, the line stays.
+    /// Takes the first line and answers its event, or `None` where there is none. When out of
+    /// memory, the line stays.
     pub(crate) fn next(&mut self) -> Result<Option<Event>, AllocError>
         ensures nexts { Nexts self.old result self.new }
         ensures tests { OnOk result (self.new.tests + self.new.ahead ≡ self.old.tests + self.old.ahead) }
@@ -85,7 +86,7 @@ impl Store {
     }
 }
 
-/// The event that the codec tells, if any; or want of memory.
+/// The event that the codec returns, if any; or out of memory.
 fn event_told(
     answer: Result<Option<Command>, ControlChanError>,
 ) -> Result<Option<Event>, AllocError>

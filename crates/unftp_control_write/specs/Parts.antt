@@ -1,4 +1,4 @@
--- The parts of a line, and what is told of a command by them.
+-- The parts of a line, and what they say of a command.
 use Rattle.std.specs.Prelude.{◌≡◌, Bool, not, ◌&&◌, [], ◌∷◌, ◌++◌, ℕ, Option, Some, None, option_map, decimal}
 use Rattle.std.specs.Char.{is_ascii_lowercase}
 use Rattle.unftp_control_defs.specs.Bytes.{Bytes, SP}
@@ -8,7 +8,7 @@ use Rattle.unftp_control_write.specs.declared.line.Line.{Line}
 use Rattle.unftp_control_write.specs.declared.line.Word.{Word}
 use Rattle.unftp_control_write.specs.declared.line.Word.TheVariants.{Name, Number}
 
--- a byte of a name as it is once raised
+-- a byte of a name in upper case
 abbrev pub is_name_byte : ℕ → Bool
 is_name_byte b = not (is_separator b) && not (is_ascii_lowercase b)
 
@@ -16,12 +16,12 @@ abbrev pub bytes_of : Word → Bytes
 bytes_of (Name name) = name.now
 bytes_of (Number number) = decimal number
 
--- what stands behind a space, where there is anything
+-- what follows a space, if there is anything
 abbrev pub spaced_part : Option Bytes → Bytes
 spaced_part None = []
 spaced_part (Some bytes) = SP ∷ bytes
 
--- what the parts say, in front of the CR LF
+-- what the parts say, without the CR LF
 abbrev pub body_of : Line → Bytes
 body_of line = line.verb.now ++ spaced_part (option_map bytes_of line.word) ++ spaced_part (option_map (λ text. escaped text.now) line.text)
 

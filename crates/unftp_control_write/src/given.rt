@@ -70,7 +70,7 @@ pub(crate) fn line_of(command: &Command) -> Option<Line<'_>>
     }
 }
 
-/// The verb alone.
+/// Only the verb.
 fn verb(verb: &str) -> Option<Line<'_>>
     ensures { Tells ⊤ verb.now result }
 {
@@ -117,7 +117,7 @@ fn text<'a>(verb: &'a str, text: &'a [u8]) -> Option<Line<'a>>
     })
 }
 
-/// The same, or the verb alone where there is no text.
+/// The same, or only the verb where there is no text.
 fn optional<'a>(name: &'a str, path: &'a Option<String>) -> Option<Line<'a>>
     ensures { Tells (IsOptional (option_map string_bytes path.now)) (with_optional name.now (option_map string_bytes path.now)) result }
 {
@@ -137,7 +137,7 @@ fn optional_bytes<'a>(name: &'a str, path: &'a Option<Bytes>) -> Option<Line<'a>
     }
 }
 
-/// The verb and any text; the verb alone where it is empty.
+/// The verb and any text; only the verb where it is empty.
 fn maybe_empty<'a>(name: &'a str, value: &'a [u8]) -> Option<Line<'a>>
     ensures { Tells (Lacks LF value.now) (bare_or_spaced name.now value.now) result }
 {
@@ -187,7 +187,7 @@ fn other_line<'a>(name: &'a str, arguments: &'a [u8]) -> Option<Line<'a>>
     maybe_empty(name, arguments)
 }
 
-/// The verb and a word, with a text that is not empty behind them.
+/// The verb and a word, followed by a text that is not empty.
 fn behind<'a>(verb: &'a str, word: &'a str, text: &'a [u8]) -> Option<Line<'a>>
     ensures { Tells (IsNamed text.now) (spaced (verb.now ++ SP ∷ word.now) text.now) result }
 {
@@ -208,7 +208,7 @@ fn is_named(text: &[u8]) -> bool
     !text.is_empty() && !text.contains(&b'\n')
 }
 
-/// Whether the name is as it is once raised: without separators and letters `a` to `z`.
+/// Whether the name is upper-cased: without separators and letters `a` to `z`.
 fn is_name(name: &str) -> bool
     ensures { IsTrue result ↔ IsName name.now }
 {

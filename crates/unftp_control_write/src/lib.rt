@@ -25,13 +25,14 @@ pub enum WriteCommandError {
     OutOfMemory,
 }
 
-/// Appends the canonical line of the command, with its CR LF, to `buf` and changes no earlier byte (RFC 959, section 5.3). The line is
-/// read back as the command: verbs and names are in upper case, each CR of a text is sent as CR NUL (RFC 854), and a path of LIST that
-/// begins with a dash stands behind `-- `. That of PASS has the password's bytes.
+/// Appends the canonical line of the command, with its CR LF, to `buf` and changes no earlier byte
+/// (RFC 959, section 5.3). The line is read back as the command: verbs and names are in upper case,
+/// each CR of a text is sent as CR NUL (RFC 854), and a path of LIST that begins with a dash
+/// follows `-- `. That of PASS has the password's bytes.
 ///
-/// It is refused with `NoLine` where no line is read as this command, as one with an empty path or with a line feed in a text, and for
-/// that no memory is asked for; and with `OutOfMemory` where the buffer has to grow, which it does once at most, and memory is refused.
-/// `buf` is then as it was.
+/// It is refused with `NoLine` where no line is read as this command, as one with an empty path or
+/// with a line feed in a text, and for that no memory is asked for; and with `OutOfMemory` where
+/// the buffer has to grow, which it does once at most, and can't. `buf` is then as it was.
 pub fn write_command(command: &Command, buf: &mut Vec<u8>) -> Result<(), WriteCommandError>
     ensures ok { OnOk result (buf.new.items ≡ buf.old.items ++ canonical_line (command_of command.now)) }
     ensures line { OnOk result (IsLine (canonical_line (command_of command.now))) }

@@ -13,16 +13,16 @@ const ROOM_BESIDE_TEXT: usize = 4;
 /// The digits of the greatest number of 64 bits.
 const MOST_DIGITS: usize = 20;
 
-/// A word behind the verb, which is written as it is.
+/// A word after the verb, which is written as it is.
 #[derive(Drop)]
 pub(crate) enum Word<'a> {
-    /// A letter or name, or the mark in front of a path of LIST.
+    /// A letter or name, or the mark before a path of LIST.
     Name(&'a str),
     /// A number in decimal.
     Number(u64),
 }
 
-/// A line in front of its CR LF: a verb, a word behind a space, and a text behind another.
+/// A line without its CR LF: a verb, a word after a space, and a text after another.
 #[derive(Drop)]
 pub(crate) struct Line<'a> {
     /// The verb.
@@ -34,7 +34,7 @@ pub(crate) struct Line<'a> {
 }
 
 impl<'a> Word<'a> {
-    /// Appends the word; where memory is refused, perhaps a part of it.
+    /// Appends the word, or perhaps a part of it when out of memory.
     fn append(&self, buf: &mut Vec<u8>) -> Result<(), AllocError>
         ensures ok { OnOk result (buf.new.items ≡ buf.old.items ++ bytes_of self.now) }
         ensures kept { take (vec_len buf.old) buf.new.items ≡ buf.old.items }
@@ -50,7 +50,8 @@ impl<'a> Word<'a> {
 }
 
 impl<'a> Line<'a> {
-    /// Appends the line and its CR LF; where memory is refused, perhaps a part of them. The buffer grows once at most.
+    /// Appends the line and its CR LF, or perhaps a part of them when out of memory. The buffer
+    /// grows once at most.
     pub(crate) fn append(&self, buf: &mut Vec<u8>) -> Result<(), AllocError>
         ensures ok { OnOk result (buf.new.items ≡ buf.old.items ++ (body_of self.now ++ crlf)) }
         ensures kept { take (vec_len buf.old) buf.new.items ≡ buf.old.items }
@@ -62,7 +63,7 @@ impl<'a> Line<'a> {
         buf.extend_from_slice(b"\r\n")
     }
 
-    /// Appends the word behind a space, where there is one.
+    /// Appends a space and the word, if there is one.
     fn append_word(&self, buf: &mut Vec<u8>) -> Result<(), AllocError>
         ensures ok { OnOk result (buf.new.items ≡ buf.old.items ++ spaced_part (option_map bytes_of self.now.word)) }
         ensures kept { take (vec_len buf.old) buf.new.items ≡ buf.old.items }
@@ -74,7 +75,7 @@ impl<'a> Line<'a> {
         word.append(buf)
     }
 
-    /// Appends the text behind a space, where there is one.
+    /// Appends a space and the text, if there is one.
     fn append_text(&self, buf: &mut Vec<u8>) -> Result<(), AllocError>
         ensures ok { OnOk result (buf.new.items ≡ buf.old.items ++ spaced_part (option_map (λ text. escaped text.now) self.now.text)) }
         ensures kept { take (vec_len buf.old) buf.new.items ≡ buf.old.items }
@@ -121,7 +122,7 @@ fn append_escaped(text: &[u8], buf: &mut Vec<u8>) -> Result<(), AllocError>
     Ok(())
 }
 
-/// Appends the byte, and a NUL behind a CR.
+/// Appends the byte, and a NUL after a CR.
 fn append_escaped_byte(byte: u8, buf: &mut Vec<u8>) -> Result<(), AllocError>
     ensures ok { OnOk result (buf.new.items ≡ buf.old.items ++ escaped (byte ∷ [])) }
     ensures kept { take (vec_len buf.old) buf.new.items ≡ buf.old.items }

@@ -1,4 +1,4 @@
-//! Cases as the vector files write them. What is no case is told as an error of kind `InvalidData`.
+//! Cases as the vector files write them. What is no case is an error of kind `InvalidData`.
 use hex::FromHexError;
 use std::alloc::Global;
 use std::io;

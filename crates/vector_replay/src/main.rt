@@ -1,5 +1,6 @@
-//! Answers the cases of a vector file (`vectors/README.md`): reads one a line from standard input, and writes its answer. Its one
-//! argument is the call that answers, `parse`, `decode`, `encode`, `read` or `write`. What is no case is answered by `bad-case`.
+//! Answers the cases of a vector file (`vectors/README.md`): reads one a line from standard input,
+//! and writes its answer. Its one argument is the call that answers, `parse`, `decode`, `encode`,
+//! `read` or `write`. What is no case is answered by `bad-case`.
 #![tactic(auto)]
 
 mod cases;
@@ -133,7 +134,8 @@ fn answer_read<W: Write>(alloc: Global, stream: &[u8], out: &mut W) -> io::Resul
     Ok(())
 }
 
-/// Writes what `parse` makes of the line that is written for the command that a line is; of a refused line, its refusal.
+/// Writes what `parse` makes of the line that is written for the command that a line is; of a
+/// refused line, its refusal.
 fn answer_write<W: Write>(alloc: Global, line: &[u8], out: &mut W) -> io::Result<()> {
     let Ok(command) = parse(alloc, line) else {
         return answer_parse(alloc, line, out);
@@ -148,7 +150,8 @@ fn answer_write<W: Write>(alloc: Global, line: &[u8], out: &mut W) -> io::Result
     }
 }
 
-/// Writes the answer to a case; what is none is told as an error of kind `InvalidData`, and nothing is written.
+/// Writes the answer to a case; what is none is an error of kind `InvalidData`, and nothing is
+/// written.
 fn answer_case<W: Write>(alloc: Global, call: Call, case: &str, out: &mut W) -> io::Result<()> {
     match call {
         Call::Parse => answer_parse(alloc, read_bytes(alloc, case)?.as_slice(), out),

@@ -56,7 +56,8 @@ fn one_field(command: &Command) -> Option<(&'static str, &'static str, &[u8])> {
     })
 }
 
-/// The variant and the bytes of its path, where the command has no field but a path that may be missing.
+/// The variant and the bytes of its path, where the command has no field but a path that may be
+/// missing.
 fn one_path(command: &Command) -> Option<(&'static str, Option<&[u8]>)> {
     Some(match command {
         Command::Stat { path } => ("Stat", path.as_ref().map(|path| path.as_slice())),

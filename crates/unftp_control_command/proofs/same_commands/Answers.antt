@@ -55,7 +55,7 @@ path-Decides None None = same
 path-Decides (Some s) (Some t) = field (λ x. Some x) (text-Decides s t) (λ e. cc)
 path-Decides _ _ = (λ h. absurd (false≢true h), λ e. cc)
 
--- a number for each variant, which tells it from the others
+-- a number for each variant, no two alike
 abbrev variant : FtpCommand → ℕ
 variant command = elim command [
   | spec.User _ ↦ 0

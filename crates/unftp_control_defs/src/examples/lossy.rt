@@ -27,7 +27,7 @@ pub fn bytes_begin_so()
     ensures fourth_other { first_part (240 ∷ 159 ∷ 146 ∷ 127 ∷ []) ≡ IllFormed 3 }
 {}
 
-/// Texts in which U+FFFD, 239 191 189, stands for each ill-formed part.
+/// Texts in which U+FFFD, 239 191 189, replaces each ill-formed part.
 pub fn ill_formed_parts_are_replaced()
     ensures empty { LossyText [] [] }
     ensures text { LossyText (codes "ab") (codes "ab") }

@@ -50,7 +50,8 @@ pub fn errors_have_texts()
     ensures parser_memory { reading_text None ≡ codes "Out of memory" }
 {}
 
-/// A handler that counts its events, and puts the count into the code of its reply, 2yz to a command and 5yz to a refused line.
+/// A handler that counts its events, and puts the count into the code of its reply, 2yz to a
+/// command and 5yz to a refused line.
 pub fn handlers_run_so()
     ensures { let law : Law ℕ = record {
       says = λ count event. elim event [ Command command ↦ CodeAndMsg (200 + count) [] | Refused fault ↦ CodeAndMsg (500 + count) [] ];
@@ -67,7 +68,8 @@ pub fn handlers_run_so()
 /// Steps of a codec.
 pub fn steps_follow_so()
     ensures none { AreSteps 0 0 [] }
-    // four bytes without a line feed; seven more, which end a line of six bytes and one of five; these two lines
+    // four bytes without a line feed; seven more, which end a line of six bytes and one of five;
+    // these two lines
     ensures lines { AreSteps 0 0
         (record { added = 4; tests = 4; removed = 0; place = 4 }
         ∷ record { added = 7; tests = 2; removed = 6; place = 0 }

@@ -159,7 +159,8 @@ pub fn other_words_are_kept()
     ensures longer { outcome (codes "USERS a\r\n") ≡ Ok (Other (codes "USERS") (codes "a")) }
 {}
 
-/// Ill-formed UTF-8 in a text: U+FFFD for each longest part that begins a character, or else for one byte (Unicode, table 3-8).
+/// Ill-formed UTF-8 in a text: U+FFFD for each longest part that begins a character, or else for
+/// one byte (Unicode, table 3-8).
 pub fn ill_formed_text_is_replaced()
     ensures byte { outcome (codes "RETR " ++ 255 ∷ codes "\r\n") ≡ Ok (Retr (239 ∷ 191 ∷ 189 ∷ [])) }
     ensures first_two_of_three { outcome (codes "RETR a" ++ 226 ∷ 130 ∷ codes "b\r\n") ≡ Ok (Retr (codes "a" ++ 239 ∷ 191 ∷ 189 ∷ codes "b")) }
