@@ -101,7 +101,10 @@ fn by_rule(alloc: Global, rule: Rule, parameter: &[u8]) -> Answer
 {
     match rule {
         Rule::Ignores(command) => Ok(command.command()),
-        Rule::Takes(kind) => with_value(alloc, kind, parameter_value(alloc, parameter)?),
+        Rule::Takes(kind) => match parameter_value(alloc, parameter) {
+            Ok(value) => with_value(alloc, kind, value),
+            Err(error) => Err(error),
+        },
         Rule::Splits => site(alloc, parameter),
     }
 }
@@ -179,9 +182,11 @@ fn subcommand(alloc: Global, name: &str, parameter: &[u8]) -> Answer
 fn other(alloc: Global, name: &str, parameter: &[u8]) -> Answer
     ensures { Tells (by_value (any_text (Other (upper name.now))) (value_of parameter.now)) result }
 {
-    let value = parameter_value(alloc, parameter)?;
-    Ok(Command::Other {
-        arguments: text(alloc, value)?,
-        command_name: upper_cased(alloc, name)?,
-    })
+    match parameter_value(alloc, parameter) {
+        Ok(value) => Ok(Command::Other {
+            arguments: text(alloc, value)?,
+            command_name: upper_cased(alloc, name)?,
+        }),
+        Err(error) => Err(error),
+    }
 }

@@ -107,8 +107,9 @@ fn unescaped<'a>(
 ) -> Result<CowSlice<'a, u8>, ParseErrorKind>
     ensures { TellsWhole front.now (later_value Fresh after.now) result }
 {
-    let front = Vec::from_slice(alloc, front)?;
-    Ok(CowSlice::Owned(joined(front, after)?))
+    let mut value = Vec::with_capacity(alloc, front.len().saturating_add(after.len()))?;
+    value.extend_from_slice(front)?;
+    Ok(CowSlice::Owned(joined(value, after)?))
 }
 
 /// Whether the parameter begins with CR NUL.
