@@ -9,9 +9,9 @@ use Rattle.unftp_control.specs.Events.{events}
 use Rattle.unftp_control.specs.Lines.{rest_of}
 use Rattle.unftp_control.specs.Run.{Law, last_state, text_of, text_for}
 use Rattle.unftp_control.specs.Engine.{EngineState, IsGoing, Leaves, events_with, told}
-use Rattle.unftp_control_defs.proofs.LineLaws.{events-append, rest_of-append}
-use Rattle.unftp_control_defs.proofs.RunLaws.{last_state-append, text_of-append}
-use Rattle.unftp_control_serve.proofs.SendLaws.{Appends-then}
+use Rattle.unftp_control.proofs.LineLaws.{events-append, rest_of-append}
+use Rattle.unftp_control.proofs.RunLaws.{last_state-append, text_of-append}
+use Rattle.unftp_control.proofs.SendLaws.{Appends-then}
 
 -- what was sent so far is answered
 pub record Fed {S : Type 0} (law : Law S) (s : S) (start : Option Bytes) (sent : Bytes) (engine : EngineState) (s' : S) (written : Option Bytes) : Type 0 where

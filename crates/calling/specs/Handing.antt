@@ -4,7 +4,7 @@ use Rattle.unftp_control.specs.Bytes.{Bytes}
 use Rattle.unftp_control.specs.Lines.{IsLine}
 use Rattle.unftp_control.specs.Outcome.{outcome}
 use Rattle.unftp_control.specs.Told.{Refuses}
-use Rattle.unftp_control_write.specs.declared.WriteCommandError.TheVariants as write
+use Rattle.unftp_control.specs.WriteCommandError.TheVariants as write
 use Rattle.calling.specs.declared.HandOnError.{HandOnError}
 use Rattle.calling.specs.declared.HandOnError.TheVariants.{Refused, Unwritten}
 

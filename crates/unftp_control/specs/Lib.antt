@@ -33,3 +33,4 @@ pub use Rattle.unftp_control_serve.specs.Endings
 pub use Rattle.unftp_control_serve.specs.Engine
 pub use Rattle.unftp_control_serve.specs.Service
 pub use Rattle.unftp_control_read.specs.Reading
+pub use Rattle.unftp_control_write.specs.declared.WriteCommandError
