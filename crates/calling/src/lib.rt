@@ -19,7 +19,7 @@ use std::io::Write;
 use thiserror::Error;
 use unftp_control::line_parser::{ParseError, parse};
 use unftp_control::serve::{Engine, Handler, Output, ServeError};
-use unftp_control::writing::{WriteCommandError, write_command};
+use unftp_control::write::{WriteCommandError, write_command};
 
 /// Answers what a client sent, piece by piece, and tells how many bytes are left behind its last line feed.
 pub fn answer_pieces<H: Handler, W: Write>(

@@ -5,6 +5,8 @@
 //! fields that are raw bytes.
 #![tactic(auto)]
 
+pub mod write;
+
 pub use bytes;
 pub use unftp_control_codecs as codecs;
 pub use unftp_control_command as command;
@@ -16,7 +18,6 @@ pub use unftp_control_password as password;
 pub use unftp_control_read as read;
 pub use unftp_control_reply as reply;
 pub use unftp_control_serve as serve;
-pub use unftp_control_write as writing;
 
 #[cfg(test)]
 mod tests;

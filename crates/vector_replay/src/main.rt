@@ -17,7 +17,7 @@ use unftp_control::error::{ControlChanError, ControlChanErrorKind, Source};
 use unftp_control::line_parser::{ParseErrorKind, parse};
 use unftp_control::read::{Front, ReadReplyError, read_reply as read_front};
 use unftp_control::reply::Reply;
-use unftp_control::writing::{WriteCommandError, write_command};
+use unftp_control::write::{WriteCommandError, write_command};
 
 /// The call that answers.
 #[derive(Clone, Copy)]

@@ -4,7 +4,7 @@ use crate::codecs::FtpCodec;
 use crate::command::Command;
 use crate::line_parser::parse;
 use crate::reply::{Reply, ReplyCode};
-use crate::writing::write_command;
+use crate::write::write_command;
 use std::test::Fail;
 
 #[test]

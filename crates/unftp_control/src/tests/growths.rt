@@ -10,7 +10,7 @@ use crate::error::{ControlChanError, ControlChanErrorKind};
 use crate::read::{Front, ReadReplyError, read_reply};
 use crate::reply::{Reply, ReplyCode};
 use crate::tests::commands::File;
-use crate::writing::{WriteCommandError, write_command};
+use crate::write::{WriteCommandError, write_command};
 use jiff::Timestamp;
 use std::alloc::Global;
 use std::process::Abort;

@@ -6,7 +6,7 @@ use crate::password::Password;
 use crate::read::{Front, read_reply};
 use crate::reply::{Reply, ReplyCode};
 use crate::tests::commands::File;
-use crate::writing::write_command;
+use crate::write::write_command;
 use std::alloc::{AllocError, Global};
 use std::test::Fail;
 

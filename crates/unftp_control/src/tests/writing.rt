@@ -2,7 +2,7 @@
 use crate::codecs::FtpCodec;
 use crate::command::Command;
 use crate::line_parser::{is_verb, parse};
-use crate::writing::{WriteCommandError, write_command};
+use crate::write::{WriteCommandError, write_command};
 use bstr::ByteVec;
 use bytes::Bytes;
 use std::alloc::Global;
