@@ -1,1 +1,2 @@
 mod PieceLaws
+mod ExampleLemmas

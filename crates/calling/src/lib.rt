@@ -11,6 +11,7 @@ ghost use Rattle.unftp_control.specs.Lines.{IsLine, rest_of};
 ghost use Rattle.unftp_control.specs.Outcome.{outcome};
 ghost use Rattle.unftp_control.specs.Run.{text_for};
 
+pub mod examples;
 #[cfg(test)]
 mod tests;
 
