@@ -3,7 +3,7 @@ ghost use Rattle.std.specs.Prelude.{[], ◌∷◌, ◌++◌, codes};
 ghost use Rattle.calling.specs.Handing.{TellsWhy};
 ghost use Rattle.unftp_control.specs.Bytes.{Bytes};
 
-use crate::HandOnError;
+use crate::proxy::HandOnError;
 use unftp_control::line_parser::ParseErrorKind;
 use unftp_control::write::WriteCommandError;
 

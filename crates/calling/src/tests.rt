@@ -1,40 +1,10 @@
 //! The loop at a handler and a writer, and a proxy's lines.
-ghost use Rattle.std.specs.Prelude.{◌≡◌};
-ghost use Rattle.unftp_control.specs.Events.{out_of_memory};
-ghost use Rattle.unftp_control.specs.FtpReply.{CodeAndMsg};
-ghost use Rattle.std.specs.Prelude.{codes};
 
-use crate::{HandOnError, answer_pieces, hand_on};
-use std::alloc::Global;
+use crate::handler::Obliging;
+use crate::pieces::answer_pieces;
+use crate::proxy::{HandOnError, hand_on};
 use std::test::Fail;
-use unftp_control::error::ControlChanError;
-use unftp_control::reply::{Reply, ReplyCode};
-use unftp_control::serve::{Count, Event, Handler, Output};
-
-/// Says `200 OK` to everything.
-#[derive(Drop)]
-struct Obliging {
-    failures: Count,
-}
-
-impl Handler for Obliging {
-    ghost State = { Unit {0} };
-
-    ghost state = { λ _. tt };
-
-    ghost law = { record { says = λ _ _. CodeAndMsg 200 (codes "OK"); next = λ s _. s; may_fail = λ _ _ fault. fault ≡ out_of_memory } };
-
-    ghost failures = { λ obliging. obliging.failures };
-
-    fn handle(&mut self, alloc: Global, event: Event) -> Result<Reply, ControlChanError> {
-        drop(event);
-        let answer = Reply::new(alloc, ReplyCode::CommandOkay, "OK");
-        if answer.is_err() {
-            self.failures.raise();
-        }
-        answer
-    }
-}
+use unftp_control::serve::{Count, Output};
 
 #[test]
 fn lines_in_pieces_are_answered(rt: HostRuntime) -> Result<(), Fail> {

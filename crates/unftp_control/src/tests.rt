@@ -9,6 +9,7 @@ mod large;
 mod lines;
 mod reading;
 mod replies;
+mod texts;
 mod writing;
 
 use crate::codecs::FtpCodec;
@@ -18,7 +19,7 @@ use crate::reply::{Reply, ReplyCode};
 use std::alloc::Global;
 use std::test::Fail;
 
-/// Answers the first line of `buf`, if one has come whole.
+/// Answers the first line of `buf`, if it is complete.
 fn answer_line(
     alloc: Global,
     codec: &mut FtpCodec,
@@ -35,7 +36,7 @@ fn answer_line(
             is_noop
         }
         Err(error) => {
-            // the line is still there, and is decoded anew once there is memory
+            // the line is still there, and is decoded again once there is memory
             if *error.kind() == ControlChanErrorKind::OutOfMemory {
                 return Err(error);
             }

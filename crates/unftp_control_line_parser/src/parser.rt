@@ -182,11 +182,9 @@ fn subcommand(alloc: Global, name: &str, parameter: &[u8]) -> Answer
 fn other(alloc: Global, name: &str, parameter: &[u8]) -> Answer
     ensures { Tells (by_value (any_text (Other (upper name.now))) (value_of parameter.now)) result }
 {
-    match parameter_value(alloc, parameter) {
-        Ok(value) => Ok(Command::Other {
-            arguments: text(alloc, value)?,
-            command_name: upper_cased(alloc, name)?,
-        }),
-        Err(error) => Err(error),
-    }
+    let value = parameter_value(alloc, parameter)?;
+    Ok(Command::Other {
+        arguments: text(alloc, value)?,
+        command_name: upper_cased(alloc, name)?,
+    })
 }

@@ -52,7 +52,7 @@ fn a_failed_write_stops_the_engine(rt: HostRuntime) -> Result<(), Fail> {
     let mut engine = Engine::new(rt.alloc());
     let mut responses = Responses::new();
     let mut output = Output::new(Room::with_room(rt.alloc(), 3, true));
-    let broken = engine.feed(b"NOOP\r\nNOOP\r\nNO", &mut responses, &mut output);
+    let broken = engine.feed(b"NOOP\r\nNOOP\r\n", &mut responses, &mut output);
     assert!(rt; matches!(&broken, Err(ServeError::Write(_))));
     drop(broken);
     let stopped = engine.feed(b"NOOP\r\n", &mut responses, &mut output);

@@ -4,10 +4,8 @@ ghost use Rattle.unftp_control.specs.ErrorMeaning.{converted};
 
 use crate::error::{ControlChanError, ControlChanErrorKind, Source};
 use crate::line_parser::{ParseError, ParseErrorKind};
-use std::alloc::Global;
-use std::fmt::Display;
+use crate::tests::texts::assert_displayed;
 use std::io;
-use std::process::Abort;
 use std::str::{Utf8Error, from_utf8};
 use std::test::Fail;
 
@@ -31,24 +29,6 @@ fn pass_on_utf8(ill_formed: Result<(), Utf8Error>) -> Result<(), ControlChanErro
         (error.kind ≡ ControlChanErrorKind.Utf8Error) × (error.source ≡ Source.Utf8 utf8))) }
 {
     Ok(ill_formed?)
-}
-
-/// Display writes this text, whatever the flags.
-fn assert_prints(
-    rt: &impl Abort,
-    alloc: Global,
-    error: &(impl Display + Drop),
-    want: &str,
-) -> Result<(), Fail> {
-    let plain = format!(in alloc; "{error}")?;
-    assert_eq!(rt; plain.as_str(), want);
-    let alternate = format!(in alloc; "{error:#}")?;
-    assert_eq!(rt; alternate.as_str(), want);
-    let wide = format!(in alloc; "{error:>60}")?;
-    assert_eq!(rt; wide.as_str(), want);
-    let cut = format!(in alloc; "{error:.3}")?;
-    assert_eq!(rt; cut.as_str(), want);
-    Ok(())
 }
 
 #[test]
@@ -99,20 +79,20 @@ fn ill_formed_text_is_told_as_such_by_the_parser(rt: HostRuntime) {
 
 #[test]
 fn errors_print_their_texts(rt: HostRuntime) -> Result<(), Fail> {
-    assert_prints(
+    assert_displayed(
         &rt,
         rt.alloc(),
         &ParseError::from(ParseErrorKind::InvalidEol),
         "parse error: Invalid end-of-line",
     )?;
     let command = String::from_str(rt.alloc(), "FOO")?;
-    assert_prints(
+    assert_displayed(
         &rt,
         rt.alloc(),
         &ControlChanError::new(ControlChanErrorKind::UnknownCommand { command }),
         "control channel error: Unknown command: FOO",
     )?;
-    assert_prints(
+    assert_displayed(
         &rt,
         rt.alloc(),
         &ControlChanError::new(ControlChanErrorKind::IllegalState),

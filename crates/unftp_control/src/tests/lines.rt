@@ -1,9 +1,9 @@
 //! Lines, and what they are read as.
 use crate::command::Command;
 use crate::line_parser::parse;
+use crate::tests::texts::{assert_debug, assert_displayed};
 use bstr::ByteVec;
 use std::alloc::Global;
-use std::fmt::{Debug, Display};
 use std::process::Abort;
 use std::test::Fail;
 
@@ -226,41 +226,18 @@ fn names_of_site_and_other_verbs_are_raised(rt: HostRuntime) -> Result<(), Fail>
     )
 }
 
-/// Display writes this text, whatever the flags.
-fn assert_displayed(
-    rt: &impl Abort,
-    alloc: Global,
-    value: &(impl Display + Drop),
-    want: &str,
-) -> Result<(), Fail> {
-    let plain = format!(in alloc; "{value}")?;
-    assert_eq!(rt; plain.as_str(), want);
-    let alternate = format!(in alloc; "{value:#}")?;
-    assert_eq!(rt; alternate.as_str(), want);
-    let wide = format!(in alloc; "{value:>60}")?;
-    assert_eq!(rt; wide.as_str(), want);
-    let cut = format!(in alloc; "{value:.3}")?;
-    assert_eq!(rt; cut.as_str(), want);
-    Ok(())
-}
-
-/// Debug writes this text, and the other under `#`.
-fn assert_debug(
-    rt: &impl Abort,
-    alloc: Global,
-    value: &(impl Debug + Drop),
-    want: &str,
-    want_alternate: &str,
-) -> Result<(), Fail> {
-    let plain = format!(in alloc; "{value:?}")?;
-    assert_eq!(rt; plain.as_str(), want);
-    let wide = format!(in alloc; "{value:>60?}")?;
-    assert_eq!(rt; wide.as_str(), want);
-    let cut = format!(in alloc; "{value:.3?}")?;
-    assert_eq!(rt; cut.as_str(), want);
-    let alternate = format!(in alloc; "{value:#?}")?;
-    assert_eq!(rt; alternate.as_str(), want_alternate);
-    Ok(())
+/// A command of PASS and its password print these texts, whatever the flags.
+fn assert_hidden(rt: &impl Abort, alloc: Global, command: &Command) -> Result<(), Fail> {
+    let whole = "Pass { password: Password { bytes: ******* } }";
+    assert_displayed(rt, alloc, command, whole)?;
+    let lines = "Pass {\n    password: Password { bytes: ******* },\n}";
+    assert_debug(rt, alloc, command, whole, lines)?;
+    let Command::Pass { password } = command else {
+        panic!(rt; "another command");
+    };
+    assert_displayed(rt, alloc, password, "*******")?;
+    let held = "Password { bytes: ******* }";
+    assert_debug(rt, alloc, password, held, held)
 }
 
 #[test]
@@ -268,14 +245,7 @@ fn no_flag_shows_a_password(rt: HostRuntime) -> Result<(), Fail> {
     let Ok(command) = parse(rt.alloc(), b"PASS hunter2\r\n") else {
         panic!(rt; "no command");
     };
-    let whole = "Pass { password: Password { bytes: ******* } }";
-    assert_displayed(&rt, rt.alloc(), &command, whole)?;
-    let lines = "Pass {\n    password: Password { bytes: ******* },\n}";
-    assert_debug(&rt, rt.alloc(), &command, whole, lines)?;
-    let Command::Pass { password } = &command else {
-        panic!(rt; "another command");
-    };
-    assert_displayed(&rt, rt.alloc(), password, "*******")?;
-    let held = "Password { bytes: ******* }";
-    assert_debug(&rt, rt.alloc(), password, held, held)
+    let hidden = assert_hidden(&rt, rt.alloc(), &command);
+    drop(command);
+    hidden
 }

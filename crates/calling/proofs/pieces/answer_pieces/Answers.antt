@@ -1,6 +1,6 @@
 use Rattle.std.proofs.Common.{[]}
 use Rattle.calling.proofs.PieceLaws.{Fed-more, sent-more}
-use Rattle.calling.proofs.answer_pieces.Goals as goal
+use Rattle.calling.proofs.pieces.answer_pieces.Goals as goal
 
 pub loop-piece-preserved : goal.loop-piece-preserved
 loop-piece-preserved g c =

@@ -1,0 +1,30 @@
+//! A server's own loop over the engine.
+ghost use Rattle.std.specs.Prelude.{◌≡◌, map, IfOk, OnOk, length};
+ghost use Rattle.std.specs.List.{concat};
+ghost use Rattle.std.specs.Io.KnownBytes.{Appends};
+ghost use Rattle.unftp_control.specs.Engine.{told};
+ghost use Rattle.unftp_control.specs.Lines.{rest_of};
+ghost use Rattle.unftp_control.specs.Run.{text_for};
+
+use std::alloc::Global;
+use std::io::Write;
+use unftp_control::serve::{Engine, Handler, Output, ServeError};
+
+/// Answers what a client sent, piece by piece, and returns how many bytes come after its last line
+/// feed.
+pub fn answer_pieces<H: Handler, W: Write>(
+    alloc: Global,
+    pieces: &[&[u8]],
+    handler: &mut H,
+    output: &mut Output<W>,
+) -> Result<u64, ServeError>
+    ensures written { OnOk result (Appends (W.contents output.old.writer) (W.contents output.new.writer)
+        (text_for H.law (H.state handler.old) (concat (map (λ piece. piece.now) pieces.now)))) }
+    ensures left { IfOk result (λ left. left ≡ told (length (rest_of (concat (map (λ piece. piece.now) pieces.now))))) }
+{
+    let mut engine = Engine::new(alloc);
+    for piece in pieces {
+        engine.feed(piece, handler, output)?;
+    }
+    Ok(engine.left())
+}

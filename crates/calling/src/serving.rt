@@ -1,0 +1,23 @@
+//! A connection served to its end.
+ghost use Rattle.std.specs.Prelude.{◌≡◌, IfSome, OnOk};
+ghost use Rattle.unftp_control.specs.Events.{events};
+ghost use Rattle.unftp_control.specs.Run.{last_state};
+
+use std::alloc::Global;
+use std::io::{Read, Write};
+use unftp_control::serve::{Handler, Input, Output, ServeError, Served, serve};
+
+/// Answers the lines of a connection to its end.
+pub fn serve_connection<R: Read + Drop, W: Write + Drop, H: Handler>(
+    alloc: Global,
+    stream_in: R,
+    stream_out: W,
+    handler: &mut H,
+) -> Result<Served, ServeError>
+    ensures { OnOk result (IfSome (R.remaining stream_in) (λ input.
+        H.state handler.new ≡ last_state H.law (H.state handler.old) (events input))) }
+{
+    let mut input = Input::new(stream_in);
+    let mut output = Output::new(stream_out);
+    serve(alloc, &mut input, &mut output, handler)
+}
