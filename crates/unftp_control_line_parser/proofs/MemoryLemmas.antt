@@ -1,7 +1,6 @@
 -- No memory is taken for a command of a verb that takes no value or doesn't look at its parameter.
 use Rattle.std.proofs.Common.{◌≡◌, ◌≢◌, Bool, true, false, cond, List as Sequence, [], ◌∷◌, Option, Some, None, nat_lt, ◌==◌, ◌&&◌, ◌^◌, length, Result, Ok, Err, bytes_eq, codes, refl, sym, ap, subst, ne_eqb, arith}
 use Rattle.std.specs.List.{AllByRecursion}
-use Rattle.std.specs.Result.{IsErrAnd}
 use Rattle.std.specs.Str.{is_utf8, all_ascii_digits}
 use Rattle.std.specs.Str.Lossy.{utf8_lossy}
 use Rattle.std.specs.Str.Parse.{without_leading_plus, digits_value}
@@ -36,10 +35,6 @@ IfStarved-weaker kind.OutOfMemory P Q turn h = turn h
 pub OnStarved-weaker : {T : Type 0} (answer : Result T ParseErrorKind) (P Q : Type 0) → (P → Q) → OnStarved answer P → OnStarved answer Q
 OnStarved-weaker (Ok x) P Q turn h = tt
 OnStarved-weaker (Err error) P Q turn h = IfStarved-weaker error P Q turn h
-
-pub OnStarved-error : {T : Type 0} (error : ParseErrorKind) (answer : Result T ParseErrorKind) (P : Type 0) → IfStarved error P → IsErrAnd answer (λ e. e ≡ error) → OnStarved answer P
-OnStarved-error error (Ok x) P h is = absurd is
-OnStarved-error error (Err e) P h is = subst (λ e. IfStarved e P) (sym is) h
 
 pub OnStarved-from : {T : Type 0} (answer : Result T ParseErrorKind) (P : Type 0) → P → OnStarved answer P
 OnStarved-from (Ok x) P p = tt

@@ -1,6 +1,6 @@
 -- Runs of bytes that are written as they are.
-use Rattle.std.proofs.Common.{◌≡◌, ◌≢◌, ℕ, suc, zero, ◌+◌, ◌<◌, ◌≤◌, Bool, true, false, ◌==◌, [], ◌∷◌, ◌++◌, length, take, drop, get_or, Option, Some, None, option_map, refl, sym, ap, ◌∙◌, ⊎_elim, append_assoc, append-nil, arith, drop-cons, ne_eqb, eqb-true}
-use Rattle.std.proofs.lemmas.Bool.{cases_Bool, false≢true}
+use Rattle.std.proofs.Common.{◌≡◌, ◌≢◌, ℕ, suc, zero, ◌+◌, ◌<◌, ◌≤◌, true, false, ◌==◌, [], ◌∷◌, ◌++◌, length, take, drop, get_or, Option, Some, None, option_map, refl, sym, ap, ◌∙◌, ⊎_elim, append_assoc, append-nil, arith, drop-cons, ne_eqb, eqb-true}
+use Rattle.std.proofs.lemmas.Bool.{cases_Bool, false_from_ne_true, false≢true}
 use Rattle.std.proofs.lemmas.List.{take_more}
 use Rattle.unftp_control_defs.specs.Bytes.{Bytes, NUL, LF, CR}
 use Rattle.unftp_control_defs.specs.Values.{Place, Fresh, Plain, later_value}
@@ -31,23 +31,9 @@ skip (b ∷ bytes) (suc n) h f =
     let more = skip bytes n (omega arith) (λ k lt. f (suc k) (omega arith)) in
     plain_step b bytes (f 0 (omega arith)) ∙ ap (option_map (λ w. (b ∷ []) ++ w)) more ∙ option_joined (b ∷ []) (take n bytes) (later_value Plain (drop n bytes))
 
-not_true : (b : Bool) → ¬ (b ≡ true) → b ≡ false
-not_true true h = absurd (h refl)
-not_true false h = refl
-
 pub skip_nowhere : (bytes : Bytes) (n : ℕ) → n ≤ length bytes → ((k : ℕ) → 0 ≤ k → k < n → ¬ (stops (get_or bytes k 0) ≡ true))
     → later_value Plain bytes ≡ option_map (λ w. take n bytes ++ w) (later_value Plain (drop n bytes))
-skip_nowhere bytes n h f = skip bytes n h (λ k lt. not_true (stops (get_or bytes k 0)) (f k (omega arith) lt))
-
-fresh_step : (b : ℕ) (bytes : Bytes) → (b == CR) ≡ false → later_value Fresh (b ∷ bytes) ≡ option_map (λ w. (b ∷ []) ++ w) (later_value Plain bytes)
-fresh_step b bytes h = rw h
-
-pub fresh_cons : (b : ℕ) (bytes : Bytes) (n : ℕ) → (b == CR) ≡ false → IsRunEnd Plain bytes n → IsRunEnd Fresh (b ∷ bytes) (suc n)
-fresh_cons b bytes n h e = record {
-  within = omega (arith, e.within);
-  goes_on = fresh_step b bytes h ∙ ap (option_map (λ w. (b ∷ []) ++ w)) e.goes_on ∙ option_joined (b ∷ []) (take n bytes) (later_value Plain (drop n bytes));
-  stop = λ lt. e.stop (omega arith);
-}
+skip_nowhere bytes n h f = skip bytes n h (λ k lt. false_from_ne_true (stops (get_or bytes k 0)) (f k (omega arith) lt))
 
 -- what is at the end of a run
 at_end : (place : Place) (bytes : Bytes) (n : ℕ) (b : ℕ) → IsRunEnd place bytes n → n < length bytes → get_or bytes n 0 ≡ b

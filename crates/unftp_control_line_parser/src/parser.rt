@@ -21,6 +21,7 @@ use crate::rule::{ParameterKind, Rule, UnitCommand};
 use crate::typed::typed;
 use crate::value::parameter_value;
 use crate::verb::rule_named;
+use memchr::memchr3;
 use std::alloc::Global;
 use std::borrow::CowSlice;
 use std::convert::AsSlice;
@@ -30,24 +31,15 @@ use unftp_control_command::Command;
 
 type Answer = result::Result<Command, ParseErrorKind>;
 
-/// Whether the byte ends a verb.
-fn is_separator(byte: u8) -> bool
-    ensures { result ≡ is_separator byte }
-{
-    byte == b' ' || byte == b'\r' || byte == b'\n'
-}
-
 /// The length of the verb.
 fn verb_len(line: &[u8]) -> usize
     ensures place { result ≡ position_or_len is_separator line.now }
     ensures within { result ≤ length line.now }
 {
-    for end in 0..line.len() {
-        if is_separator(line[end]) {
-            return end;
-        }
+    match memchr3(b' ', b'\r', b'\n', line) {
+        Some(end) => end,
+        None => line.len(),
     }
-    line.len()
 }
 
 /// The verb, and the parameter bytes after the one byte that ends it.

@@ -1,12 +1,12 @@
 -- What the places of CR LF say, and the lines that a loop has passed.
-use Rattle.std.proofs.Common.{zero, Option, None, Some, IfSome, IfNone, MatchOption, Bor, slice_index, ◌≡◌, ◌≢◌, ℕ, suc, ◌+◌, ◌-◌, ◌<◌, List, [], ◌∷◌, ◌++◌, flat_map, length, get_or, take, drop, refl, sym, ap, subst, ◌∙◌, append_assoc, length-append, length-take-le, take-append-drop, take_at, drop-cons, arith}
+use Rattle.std.proofs.Common.{zero, Option, None, Some, IfSome, IfNone, MatchOption, Bor, slice_index, ◌≡◌, ◌≢◌, ℕ, suc, ◌+◌, ◌-◌, ◌<◌, List, [], ◌∷◌, ◌++◌, flat_map, length, get_or, take, refl, sym, ap, subst, ◌∙◌, append_assoc, length-append, length-take-le, take_at, arith}
 use Rattle.std.proofs.Math.Seq.{get_or-append_seam}
 use Rattle.std.proofs.lemmas.List.{get_or-append-add, get_or-take}
 use Rattle.std.proofs.lemmas.Grind.{flat_map-append}
 use Rattle.std.specs.List.{AllByRecursion}
 use Rattle.bstr.specs.Find.{FindsNeedle, OccursAt}
 use Rattle.unftp_control_defs.specs.Bytes.{Bytes, CR, LF, SP, crlf}
-use Rattle.unftp_control_defs.specs.ReplyReader.{LacksCrlf, with_crlf, GoesOn, IsEnded, IsUnended}
+use Rattle.unftp_control_defs.specs.ReplyReader.{LacksCrlf, with_crlf, GoesOn, IsEnded}
 use Rattle.unftp_control_read.specs.Reading.{EndsWith}
 use Rattle.unftp_control_defs.proofs.ReaderLaws.{cut_first, line_apart, same_front}
 
@@ -41,14 +41,6 @@ lacks_by_place text h before after e = h
     (ap (λ t. get_or t (length before) 0) e ∙ get_or-append_seam before CR (LF ∷ after) 0)
     (ap (λ t. get_or t (length before + 1) 0) e ∙ get_or-append-add before (CR ∷ LF ∷ after) 1 0)
 
-pub cut_at_place : (text : Bytes) (at : ℕ) → at + 1 < length text → get_or text at 0 ≡ CR → get_or text (at + 1) 0 ≡ LF → text ≡ take at text ++ CR ∷ LF ∷ drop 2 (drop at text)
-cut_at_place text at short is_cr is_lf =
-    let at_lf : get_or text (suc at) 0 ≡ LF = subst (λ k. get_or text k 0 ≡ LF) (omega arith) is_lf in
-    let a = drop-cons text at 0 (omega arith) in
-    let b = drop-cons text (suc at) 0 (omega arith) in
-    let both : drop at text ≡ CR ∷ LF ∷ drop (suc (suc at)) text = a ∙ (λ i. is_cr i ∷ b i) ∙ (λ i. CR ∷ (at_lf i ∷ drop (suc (suc at)) text)) in
-    sym (take-append-drop at text) ∙ ap (λ s. take at text ++ s) (both ∙ sym (ap (λ s. CR ∷ LF ∷ drop 2 s) both))
-
 pub lacks_front : (text : Bytes) (at : ℕ) → at + 1 < length text → ((k : ℕ) → k < at → get_or text k 0 ≡ CR → get_or text (k + 1) 0 ≡ LF → ⊥) → LacksCrlf (take at text)
 lacks_front text at short h = lacks_by_place (take at text) (λ k within is_cr is_lf.
     let long : length (take at text) ≡ at = length-take-le at text (omega arith) in
@@ -60,9 +52,6 @@ pub record Passed (digits bytes rest : Bytes) : Type 0 where
   pub cut : bytes ≡ flat_map with_crlf middle ++ rest
   pub each : AllByRecursion LacksCrlf middle
   pub goes_on : AllByRecursion (GoesOn digits) middle
-
-pub none_passed : (digits bytes : Bytes) → Passed digits bytes bytes
-none_passed digits bytes = record { middle = []; cut = refl; each = tt; goes_on = tt }
 
 pub all_snoc : (P : Bytes → Type 0) (lines : List Bytes) (line : Bytes) → AllByRecursion P lines → P line → AllByRecursion P (lines ++ line ∷ [])
 all_snoc P [] line h p = (p, tt)
@@ -96,9 +85,6 @@ pub passed_bytes : (digits bytes rest : Bytes) → (p : Passed digits bytes rest
 passed_bytes digits bytes rest p =
     ap (λ s. take (length bytes - length rest) s) p.cut
     ∙ take_at (flat_map with_crlf p.middle) rest (length bytes - length rest) (omega (arith, ap length p.cut, length-append (flat_map with_crlf p.middle) rest))
-
-pub passed_all : (digits bytes rest : Bytes) → Passed digits bytes rest → LacksCrlf rest → IsUnended digits bytes
-passed_all digits bytes rest p h = record { middle = p.middle; rest = rest; cut = p.cut; each = p.each; goes_on = p.goes_on; unended = h }
 
 -- bytes have one list of whole lines, and one rest
 pub lines_unique : (ks ls : List Bytes) (x y : Bytes) → AllByRecursion LacksCrlf ks → AllByRecursion LacksCrlf ls → LacksCrlf x → LacksCrlf y

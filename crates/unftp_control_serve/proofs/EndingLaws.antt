@@ -238,9 +238,6 @@ module _ {S : Type 0} (law : Law S) where
     pub split : es ≡ done ++ left
     pub all : AllAnswered law m done n
 
-  pub Answering-start : (m : Moment S) (es : List FtpEvent) → Answering m es m es
-  Answering-start m es = record { done = []; split = refl; all = AllAnswered-nothing m }
-
   module _ (m n : Moment S) (es : List FtpEvent) where
     pub Answering-next : (k : Moment S) (e : FtpEvent) (left left' : List FtpEvent) → Answering m es n left → left ≡ e ∷ left' → AllAnswered law n (e ∷ []) k →
         Answering m es k left'
@@ -259,15 +256,3 @@ module _ {S : Type 0} (law : Law S) where
         RunEnded law n (e ∷ []) k error → RunEnded law m es k error
     Answering-ended k e left left' error t p w =
         (RunEnded-then m n k t.done t.all es (e ∷ [] ++ left') error (t.split ∙ ap (λ z. t.done ++ z) p) (RunEnded-more n k (e ∷ []) left' error w)).0
-
-    pub Answering-starved : (left : List FtpEvent) → Answering m es n left → MemoryRefused law m es n
-    Answering-starved left t = record {
-      done = t.done;
-      later = left;
-      split = t.split;
-      state = took_none (last_state law m.state t.done) n.state left t.all.state;
-      written = t.all.written;
-      flushed = t.all.flushed;
-      no_write_failed = t.all.no_write_failed;
-      handler_kept = t.all.handler_kept;
-    }

@@ -2,7 +2,7 @@
 use Rattle.std.proofs.Common.{◌≡◌, ℕ, ◌+◌, ◌-◌, ◌^◌, ◌<◌, ◌≤◌, false, [], ◌++◌, Option, Some, None, length, refl, sym, ◌∙◌, ap, arith, append_assoc, length-append}
 use Rattle.std.specs.List.{AllByRecursion}
 use Rattle.std.specs.Option.{IfSome}
-use Rattle.std.specs.Io.KnownBytes.{Consumes, Keeps}
+use Rattle.std.specs.Io.KnownBytes.{Consumes}
 use Rattle.unftp_control_defs.specs.Bytes.{Bytes}
 use Rattle.unftp_control_defs.specs.Lines.{rest_of}
 use Rattle.unftp_control_defs.specs.Events.{events}
@@ -21,11 +21,6 @@ use Rattle.unftp_control_serve.proofs.EndingLaws.{AllAnswered-nothing, AllAnswer
 Consumes-nothing : (known : Option Bytes) → Consumes known known []
 Consumes-nothing None = tt
 Consumes-nothing (Some bytes) = refl
-
-Consumes-keeps : (a b : Option Bytes) → Keeps a b → Consumes a b []
-Consumes-keeps None b h = tt
-Consumes-keeps (Some a) None h = h
-Consumes-keeps (Some a) (Some b) h = sym h
 
 Consumes-then : (a b c : Option Bytes) (read more : Bytes) → Consumes a b read → Consumes b c more → Consumes a c (read ++ more)
 Consumes-then None b c read more p q = tt

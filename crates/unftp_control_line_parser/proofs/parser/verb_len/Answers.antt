@@ -1,12 +1,14 @@
-use Rattle.std.proofs.Common.{sym, ◌∙◌, arith}
+use Rattle.std.proofs.Common.{sym, arith}
+use Rattle.std.proofs.lemmas.Bool.{false_from_ne_true}
 use Rattle.std.proofs.lemmas.List.Sums.{position_or_len_is}
 use Rattle.unftp_control_defs.specs.Verbs.{is_separator}
 use Rattle.unftp_control_line_parser.proofs.parser.verb_len.Goals as goal
 
-pub returns-then-is_separator-clause-place : goal.returns-then-is_separator-clause-place
-returns-then-is_separator-clause-place c =
-    sym (position_or_len_is is_separator c.args.line.now c.loop-end.end 0 (omega arith) c.loop-end.invariant (λ _. sym c.is_separator.ensures ∙ c.if-is_separator.true))
+pub returns-in-Some-clause-place : goal.returns-in-Some-clause-place
+returns-in-Some-clause-place c =
+    let first = c.in-Some.ensures.0 in
+    sym (position_or_len_is is_separator c.args.line.now c.in-Some.end 0 (omega (arith, first.high)) (λ k lt. false_from_ne_true _ (first.before k (omega arith) lt)) (λ lt. c.in-Some.ensures.1))
 
-pub returns-clause-place : goal.returns-clause-place
-returns-clause-place c =
-    sym (position_or_len_is is_separator c.args.line.now _ 0 (omega arith) (λ k lt. c.loop-end.invariant k (omega arith)) (λ lt. absurd (omega arith)))
+pub returns-in-None-clause-place : goal.returns-in-None-clause-place
+returns-in-None-clause-place c =
+    sym (position_or_len_is is_separator c.args.line.now _ 0 (omega arith) (λ k lt. false_from_ne_true _ (c.in-None.ensures k (omega arith) lt)) (λ lt. absurd (omega arith)))
