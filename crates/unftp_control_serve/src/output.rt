@@ -9,7 +9,7 @@ use std::io::Write;
 use unftp_control_count::Count;
 
 /// A writer with a count of its failures and one of the bytes that were written since it was last
-/// flushed, which take no byte and are which only contracts see.
+/// flushed, which take no byte and which only contracts see.
 #[derive(Drop)]
 pub struct Output<W> {
     writer: W,
