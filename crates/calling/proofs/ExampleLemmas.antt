@@ -2,7 +2,7 @@
 use Rattle.std.proofs.Common.{◌≡◌, [], ◌∷◌, ◌++◌, append-nil, sym, ◌∙◌}
 use Rattle.unftp_control.specs.Bytes.{Bytes}
 use Rattle.unftp_control.specs.Lines.{IsLine, lines_of}
-use Rattle.unftp_control.proofs.LineLaws.{Lines-unique}
+use Rattle.unftp_control.proofs.LineLemmas.{Lines-unique}
 
 -- the lines of a line are that line
 pub lines_of-IsLine : (line : Bytes) → IsLine line → line ∷ [] ≡ lines_of line

@@ -1,2 +1,2 @@
-mod PieceLaws
+mod PieceLemmas
 mod ExampleLemmas

@@ -2,8 +2,8 @@
 ghost use Rattle.std.specs.Prelude.{◌≡◌, map, IfOk, OnOk, length};
 ghost use Rattle.std.specs.List.{concat};
 ghost use Rattle.std.specs.Io.KnownBytes.{Appends};
-ghost use Rattle.unftp_control.specs.Engine.{told};
-ghost use Rattle.unftp_control.specs.Lines.{rest_of};
+ghost use Rattle.unftp_control.specs.Engine.{saturating_u64};
+ghost use Rattle.unftp_control.specs.Lines.{incomplete_line};
 ghost use Rattle.unftp_control.specs.Run.{text_for};
 
 use std::alloc::Global;
@@ -18,9 +18,12 @@ pub fn answer_pieces<H: Handler, W: Write>(
     handler: &mut H,
     output: &mut Output<W>,
 ) -> Result<u64, ServeError>
-    ensures written { OnOk result (Appends (W.contents output.old.writer) (W.contents output.new.writer)
+    ensures written { OnOk result
+        (Appends (W.contents output.old.writer) (W.contents output.new.writer)
         (text_for H.law (H.state handler.old) (concat (map (λ piece. piece.now) pieces.now)))) }
-    ensures left { IfOk result (λ left. left ≡ told (length (rest_of (concat (map (λ piece. piece.now) pieces.now))))) }
+    ensures left { IfOk result (λ left.
+        left ≡ saturating_u64
+        (length (incomplete_line (concat (map (λ piece. piece.now) pieces.now))))) }
 {
     let mut engine = Engine::new(alloc);
     for piece in pieces {

@@ -1,6 +1,6 @@
 //! A proxy that writes each command again.
 ghost use Rattle.std.specs.Prelude.{◌≡◌, ◌++◌, OnErr, OnOk, IfErr};
-ghost use Rattle.calling.specs.Handing.{TellsWhy};
+ghost use Rattle.calling.specs.Forwarding.{IsReason};
 ghost use Rattle.unftp_control.specs.Bytes.{Bytes};
 ghost use Rattle.unftp_control.specs.Lines.{IsLine};
 ghost use Rattle.unftp_control.specs.Outcome.{outcome};
@@ -12,30 +12,31 @@ use unftp_control::write::{WriteCommandError, write_command};
 
 /// Why a line is not handed on.
 #[derive(Debug, Drop, Error)]
-pub enum HandOnError {
-    /// It is no command, or memory was refused for the command.
+pub enum ForwardError {
+    /// It is no command, or memory ran out for the command.
     #[error("{0}")]
     Refused(ParseError),
-    /// What it says has no line, which is so for no line that its one line feed ends; or memory was refused for the line.
+    /// Its command has no line, which is so for no line whose one line feed is its last byte; or
+    /// memory ran out for the line.
     #[error("{0}")]
     Unwritten(WriteCommandError),
 }
 
 /// Hands a client's line on: appends a line that means the same, in its canonical form.
-pub fn hand_on(alloc: Global, line: &[u8], out: &mut Vec<u8>) -> Result<(), HandOnError>
+pub fn forward_line(alloc: Global, line: &[u8], out: &mut Vec<u8>) -> Result<(), ForwardError>
     ensures same { OnOk result ((sent : Bytes) × IsLine sent
         × (outcome sent ≡ outcome line.now) × (out.new.items ≡ out.old.items ++ sent)) }
-    ensures why { IfErr result (λ error. TellsWhy line.now error) }
+    ensures why { IfErr result (λ error. IsReason line.now error) }
     ensures err { OnErr result (out.new.items ≡ out.old.items) }
 {
     let command = match parse(alloc, line) {
         Ok(command) => command,
-        Err(refused) => return Err(HandOnError::Refused(refused)),
+        Err(refused) => return Err(ForwardError::Refused(refused)),
     };
     let written = write_command(&command, out);
     drop(command);
     match written {
         Ok(()) => Ok(()),
-        Err(refused) => Err(HandOnError::Unwritten(refused)),
+        Err(refused) => Err(ForwardError::Unwritten(refused)),
     }
 }

@@ -2,7 +2,7 @@
 
 use crate::handler::Obliging;
 use crate::pieces::answer_pieces;
-use crate::proxy::{HandOnError, hand_on};
+use crate::proxy::{ForwardError, forward_line};
 use std::test::Fail;
 use unftp_control::serve::{Count, Output};
 
@@ -27,17 +27,17 @@ fn lines_in_pieces_are_answered(rt: HostRuntime) -> Result<(), Fail> {
 }
 
 #[test]
-fn lines_are_handed_on_in_one_form(rt: HostRuntime) -> Result<(), Fail> {
+fn lines_are_forwarded_in_canonical_form(rt: HostRuntime) -> Result<(), Fail> {
     let mut out = Vec::new(rt.alloc());
     for line in [
         b"retr a b\n".as_slice(),
         b"list -la -- -x\r\n".as_slice(),
         b"xpwd\n".as_slice(),
     ] {
-        assert!(rt; hand_on(rt.alloc(), line, &mut out).is_ok());
+        assert!(rt; forward_line(rt.alloc(), line, &mut out).is_ok());
     }
-    let refused = hand_on(rt.alloc(), b"RETR\r\n", &mut out);
-    assert!(rt; matches!(refused, Err(HandOnError::Refused(_))));
+    let refused = forward_line(rt.alloc(), b"RETR\r\n", &mut out);
+    assert!(rt; matches!(refused, Err(ForwardError::Refused(_))));
     assert_eq!(rt;
         out.as_slice(),
         b"RETR a b\r\nLIST -- -x\r\nPWD\r\n".as_slice()

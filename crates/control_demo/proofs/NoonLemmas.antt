@@ -23,7 +23,7 @@ pub IsModified-noon : (instant : Timestamp) → instant.nanosecond ≡ pos 1_701
 unfolding noon
 IsModified-noon instant same = (noon, at_noon ∙ sym same, refl)
 
--- so the instant that is made of its seconds is told as noon
+-- so the instant that is made of its seconds is written as noon
 pub IsModified-made : {E : Type 0} (made : Result Timestamp E) → (IsTimestampNanos (pos 1_701_432_000 *ℤ pos 1_000_000_000) → IsOk made)
     → IfOk made (λ instant. instant.nanosecond ≡ pos 1_701_432_000 *ℤ pos 1_000_000_000) → IsModified (result_ok made) (Some (codes "20231201120000"))
 IsModified-made (Ok instant) succeeds value = IsModified-noon instant value

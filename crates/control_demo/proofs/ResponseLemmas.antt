@@ -7,7 +7,7 @@ use Rattle.unftp_control.specs.FtpReply.{FtpReply}
 use Rattle.unftp_control.specs.ReplyMeaning.{reply_of}
 use Rattle.unftp_control.specs.declared.reply.Reply.{Reply}
 use Rattle.unftp_control.specs.CommandMeaning.{command_of}
-use Rattle.unftp_control.specs.Facts.{IsFacts, TellsFacts, facts_reply}
+use Rattle.unftp_control.specs.Facts.{IsFacts, IsFactsReply, facts_reply}
 use Rattle.unftp_control.specs.declared.command.Command.{Command}
 use Rattle.unftp_control.specs.declared.command.Command.TheVariants as command
 use Rattle.unftp_control_commands.proofs.OneText.{IsFacts-unique}
@@ -33,12 +33,12 @@ other-command command.Quit auth prot feat epsv help mode opts stru mlst noop qui
 other-command (command.Site x y) auth prot feat epsv help mode opts stru mlst noop quit site = absurd (site x y refl)
 other-command _ auth prot feat epsv help mode opts stru mlst noop quit site = refl
 
-sample_told : (modified : Option Timestamp) (path : Bytes) (reply : FtpReply) → IsFacts (sample_facts modified) sample_text
-    → TellsFacts (sample_facts modified) path reply → reply ≡ facts_reply sample_text path
-sample_told modified path reply known told =
+sample_reply : (modified : Option Timestamp) (path : Bytes) (reply : FtpReply) → IsFacts (sample_facts modified) sample_text
+    → IsFactsReply (sample_facts modified) path reply → reply ≡ facts_reply sample_text path
+sample_reply modified path reply known told =
     told.2 ∙ ap (λ facts. facts_reply facts path) (IsFacts-unique (sample_facts modified) told.0 sample_text told.1 known)
 
-pub reply_told : {E : Type 0} (modified : Option Timestamp) (path : Bytes) (answer : Result Reply E) → IsFacts (sample_facts modified) sample_text
-    → IfOk answer (λ reply. TellsFacts (sample_facts modified) path (reply_of reply)) → IfOk answer (λ reply. reply_of reply ≡ facts_reply sample_text path)
-reply_told modified path (Ok reply) known told = sample_told modified path (reply_of reply) known told
-reply_told modified path (Err error) known told = tt
+pub reply_of_sample : {E : Type 0} (modified : Option Timestamp) (path : Bytes) (answer : Result Reply E) → IsFacts (sample_facts modified) sample_text
+    → IfOk answer (λ reply. IsFactsReply (sample_facts modified) path (reply_of reply)) → IfOk answer (λ reply. reply_of reply ≡ facts_reply sample_text path)
+reply_of_sample modified path (Ok reply) known told = sample_reply modified path (reply_of reply) known told
+reply_of_sample modified path (Err error) known told = tt

@@ -15,9 +15,11 @@ not_implemented = CodeAndMsg 502 (codes "Not implemented")
 
 -- SITE ECHO says its arguments again
 abbrev pub site_reply : Bytes → Bytes → FtpReply
-site_reply name arguments = if bytes_eq name (codes "ECHO") then CodeAndMsg 200 arguments else not_implemented
+site_reply name arguments =
+    if bytes_eq name (codes "ECHO") then CodeAndMsg 200 arguments else not_implemented
 
--- TLS, restarts and sums are off, EPSV tells a port that is not opened, and every path is that of the sample
+-- TLS, restarts and sums are off, EPSV reports a port that is not opened, and every path is that of
+-- the sample
 abbrev pub command_reply : FtpCommand → FtpReply
 command_reply (Auth protocol) = auth_reply false protocol
 command_reply (Prot param) = prot_reply false param
@@ -44,4 +46,8 @@ event_reply (Refused fault) = CodeAndMsg 500 (refusal_text fault.kind fault.sour
 
 -- It may fail with `OutOfMemory` only, without a source.
 abbrev pub program_law : Law (Unit {0})
-program_law = record { says = λ _ event. event_reply event; next = λ s _. s; may_fail = λ _ _ fault. fault ≡ out_of_memory }
+program_law = record {
+  says = λ _ event. event_reply event;
+  next = λ s _. s;
+  may_fail = λ _ _ fault. fault ≡ out_of_memory;
+}

@@ -1,4 +1,4 @@
--- The one file that the program tells of.
+-- The one file that the program knows.
 use Rattle.std.specs.Prelude.{false, Option, codes}
 use Rattle.jiff_core.specs.declared.timestamp.Timestamp.{Timestamp}
 use Rattle.unftp_control.specs.Bytes.{Bytes}
@@ -6,7 +6,8 @@ use Rattle.unftp_control.specs.Facts.{FileFacts}
 
 -- a file of 1,234 bytes that was last modified then
 abbrev pub sample_facts : Option Timestamp → FileFacts
-sample_facts modified = record { is_dir = false; size = 1234; modified = modified; uid = 0; gid = 0 }
+sample_facts modified =
+    record { is_dir = false; size = 1234; modified = modified; uid = 0; gid = 0 }
 
 -- which was on 2023-12-01 at 12:00:00 UTC
 abbrev pub sample_text : Bytes

@@ -1,4 +1,5 @@
-//! Serves one control connection over standard input and output: each line is answered when it has come whole.
+//! Serves one control connection over standard input and output: each line is answered when it is
+//! complete.
 #![tactic(auto)]
 
 ghost use Rattle.std.specs.Prelude.{IfSome, OnOk};
@@ -25,7 +26,8 @@ pub fn run<R: Read, W: Write>(
     writer: &mut Output<W>,
 ) -> Result<Served, ServeError>
     ensures { OnOk result (IfSome (R.remaining reader.old.reader) (λ input.
-        Appends (W.contents writer.old.writer) (W.contents writer.new.writer) (text_for program_law tt input))) }
+        Appends (W.contents writer.old.writer) (W.contents writer.new.writer)
+        (text_for program_law tt input))) }
 {
     serve(alloc, reader, writer, &mut Responses::new())
 }

@@ -16,7 +16,7 @@ use unftp_control::error::{ControlChanError, Source};
 use unftp_control::reply::{Reply, ReplyCode};
 use unftp_control::serve::{Count, Event, Handler};
 
-/// The port that EPSV tells. It is not opened.
+/// The port that EPSV reports. It is not opened.
 const PORT: u16 = 2121;
 
 /// Answers each event by itself, and keeps nothing.
@@ -54,7 +54,7 @@ impl Handler for Responses {
     }
 }
 
-/// The response to an event. It is refused for want of memory alone.
+/// The response to an event. It fails only when out of memory.
 fn answer_event(alloc: Global, event: Event) -> Result<Reply, ControlChanError>
     ensures ok { IfOk result (λ reply. reply_of reply ≡ event_reply (event_meant event)) }
     ensures err { IfErr result (λ error. fault_of error ≡ out_of_memory) }
@@ -79,7 +79,7 @@ fn answer_command(alloc: Global, command: Command) -> Result<Reply, ControlChanE
         Command::Mode { mode } => Mode::new(mode).reply(alloc),
         Command::Opts { option } => Opts::new(option).reply(alloc),
         Command::Stru { structure } => Stru::new(structure).reply(alloc),
-        Command::Mlst { path } => tell_sample(alloc, path),
+        Command::Mlst { path } => reply_of_sample_file(alloc, path),
         Command::Noop => Reply::new(alloc, ReplyCode::CommandOkay, "OK"),
         Command::Quit => Reply::new(alloc, ReplyCode::ClosingControlConnection, "Bye"),
         Command::Site { command, arguments } => answer_site(alloc, command, arguments),
@@ -88,8 +88,9 @@ fn answer_command(alloc: Global, command: Command) -> Result<Reply, ControlChanE
 }
 
 /// The response to MLST.
-fn tell_sample(alloc: Global, path: Option<String>) -> Result<Reply, ControlChanError>
-    ensures ok { IfOk result (λ reply. reply_of reply ≡ command_reply (FtpMlst (option_map string_bytes path))) }
+fn reply_of_sample_file(alloc: Global, path: Option<String>) -> Result<Reply, ControlChanError>
+    ensures ok { IfOk result (λ reply.
+        reply_of reply ≡ command_reply (FtpMlst (option_map string_bytes path))) }
     ensures err { IfErr result (λ error. fault_of error ≡ out_of_memory) }
 {
     Mlst::new(path).reply(alloc, "/", Ok(&Sample::new()))
@@ -97,7 +98,8 @@ fn tell_sample(alloc: Global, path: Option<String>) -> Result<Reply, ControlChan
 
 /// The response to SITE.
 fn answer_site(alloc: Global, command: String, arguments: String) -> Result<Reply, ControlChanError>
-    ensures ok { IfOk result (λ reply. reply_of reply ≡ command_reply (FtpSite (string_bytes command) (string_bytes arguments))) }
+    ensures ok { IfOk result (λ reply.
+        reply_of reply ≡ command_reply (FtpSite (string_bytes command) (string_bytes arguments))) }
     ensures err { IfErr result (λ error. fault_of error ≡ out_of_memory) }
 {
     match command.as_str() {

@@ -1,4 +1,4 @@
-//! The one file that the program tells of.
+//! The one file that the program knows.
 ghost use Rattle.std.specs.Prelude.{Some, codes};
 ghost use Rattle.unftp_control.specs.Facts.{IsFacts, IsModified};
 ghost use Rattle.control_demo.specs.Sample.{sample_facts, sample_text};

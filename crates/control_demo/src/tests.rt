@@ -1,6 +1,6 @@
 //! The program over inputs and outputs in memory, and the engine over other handlers.
 mod engine;
-mod growths;
+mod failed_allocations;
 mod handlers;
 mod streams;
 
@@ -51,7 +51,7 @@ fn each_line_is_answered(rt: HostRuntime) -> Result<(), Fail> {
 }
 
 #[test]
-fn refused_lines_are_told_why(rt: HostRuntime) -> Result<(), Fail> {
+fn refused_lines_get_the_reason(rt: HostRuntime) -> Result<(), Fail> {
     assert_answered(
         &rt,
         rt.alloc(),

@@ -13,10 +13,10 @@ pub use Rattle.unftp_control_defs.specs.ReplyReader
 pub use Rattle.unftp_control_defs.specs.Events
 pub use Rattle.unftp_control_defs.specs.Texts
 pub use Rattle.unftp_control_defs.specs.Run
-pub use Rattle.unftp_control_defs.specs.Cuttings
+pub use Rattle.unftp_control_defs.specs.Pieces
 pub use Rattle.unftp_control_defs.specs.Steps
 pub use Rattle.unftp_control_command.specs.CommandMeaning
-pub use Rattle.unftp_control_line_parser.specs.Told
+pub use Rattle.unftp_control_line_parser.specs.ParseAnswer
 pub use Rattle.unftp_control_line_parser.specs.Memory
 pub use Rattle.unftp_control_error.specs.ErrorParts
 pub use Rattle.unftp_control_error.specs.ErrorMeaning

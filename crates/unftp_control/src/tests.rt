@@ -4,7 +4,7 @@ ghost use Rattle.std.specs.Prelude.{◌≤◌, vec_len};
 mod commands;
 mod counted;
 mod errors;
-mod growths;
+mod failed_allocations;
 mod large;
 mod lines;
 mod reading;
@@ -52,7 +52,7 @@ fn answer_line(
     codec.encode(Reply::new(alloc, code, text)?, out)
 }
 
-// The caller of the codec alone in docs/CALLING.md.
+// The caller of the codec in docs/CALLING.md.
 #[test]
 fn a_caller_answers_line_by_line(rt: HostRuntime) -> Result<(), Fail> {
     let mut codec = FtpCodec::new();
@@ -70,7 +70,7 @@ fn a_caller_answers_line_by_line(rt: HostRuntime) -> Result<(), Fail> {
 }
 
 /// What `decode` returns: the Debug text of its answer, or the kinds of its error and of the source.
-fn told(alloc: Global, codec: &mut FtpCodec, buf: &mut Vec<u8>) -> Result<String, Fail>
+fn answer_text(alloc: Global, codec: &mut FtpCodec, buf: &mut Vec<u8>) -> Result<String, Fail>
     requires { codec.old.place ≤ vec_len buf.old }
     ensures { codec.new.place ≤ vec_len buf.new }
 {
@@ -99,29 +99,35 @@ fn told(alloc: Global, codec: &mut FtpCodec, buf: &mut Vec<u8>) -> Result<String
 fn a_line_is_decoded_once_it_is_whole(rt: HostRuntime) -> Result<(), Fail> {
     let mut codec = FtpCodec::new();
     let mut buf = Vec::from_slice(rt.alloc(), b"NOOP")?;
-    assert_eq!(rt; told(rt.alloc(), &mut codec, &mut buf)?.as_str(), "None");
+    assert_eq!(rt;
+        answer_text(rt.alloc(), &mut codec, &mut buf)?.as_str(),
+        "None"
+    );
     assert_eq!(rt; codec.place(), 4);
     assert_eq!(rt; buf.as_slice(), b"NOOP".as_slice());
     buf.extend_from_slice(b"\r\nQUIT\n")?;
     assert!(rt; codec.place() <= buf.len());
     assert_eq!(rt;
-        told(rt.alloc(), &mut codec, &mut buf)?.as_str(),
+        answer_text(rt.alloc(), &mut codec, &mut buf)?.as_str(),
         "Some(Noop)"
     );
     assert_eq!(rt; codec.place(), 0);
     assert_eq!(rt; buf.as_slice(), b"QUIT\n".as_slice());
     assert_eq!(rt;
-        told(rt.alloc(), &mut codec, &mut buf)?.as_str(),
+        answer_text(rt.alloc(), &mut codec, &mut buf)?.as_str(),
         "Some(Quit)"
     );
     assert!(rt; buf.is_empty());
-    assert_eq!(rt; told(rt.alloc(), &mut codec, &mut buf)?.as_str(), "None");
+    assert_eq!(rt;
+        answer_text(rt.alloc(), &mut codec, &mut buf)?.as_str(),
+        "None"
+    );
     assert_eq!(rt; codec.place(), 0);
     Ok(())
 }
 
 #[test]
-fn a_refused_line_costs_itself_alone(rt: HostRuntime) -> Result<(), Fail> {
+fn a_refused_line_costs_only_itself(rt: HostRuntime) -> Result<(), Fail> {
     let mut codec = FtpCodec::new();
     for (input, refusal, next) in [
         (
@@ -137,10 +143,16 @@ fn a_refused_line_costs_itself_alone(rt: HostRuntime) -> Result<(), Fail> {
     ] {
         let mut buf = Vec::from_slice(rt.alloc(), input)?;
         assert!(rt; codec.place() <= buf.len());
-        assert_eq!(rt; told(rt.alloc(), &mut codec, &mut buf)?.as_str(), refusal);
+        assert_eq!(rt;
+            answer_text(rt.alloc(), &mut codec, &mut buf)?.as_str(),
+            refusal
+        );
         assert!(rt; input.ends_with(buf.as_slice()));
         assert_eq!(rt; codec.place(), 0);
-        assert_eq!(rt; told(rt.alloc(), &mut codec, &mut buf)?.as_str(), next);
+        assert_eq!(rt;
+            answer_text(rt.alloc(), &mut codec, &mut buf)?.as_str(),
+            next
+        );
         assert!(rt; buf.is_empty());
         assert_eq!(rt; codec.place(), 0);
     }

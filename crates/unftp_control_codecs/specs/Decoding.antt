@@ -15,18 +15,18 @@ abbrev pub Decoded : Type 0
 Decoded = Result (Option RustCommand) Parts
 
 -- the event that is returned, if any
-abbrev pub event_told : Decoded → Option FtpEvent
-event_told (Ok None) = None
-event_told (Ok (Some command)) = Some (Command (command_of command))
-event_told (Err error) = Some (Refused (fault_of error))
+abbrev pub returned_event : Decoded → Option FtpEvent
+returned_event (Ok None) = None
+returned_event (Ok (Some command)) = Some (Command (command_of command))
+returned_event (Err error) = Some (Refused (fault_of error))
 
--- memory was refused
-abbrev pub IsStarved : Decoded → Type 0
-IsStarved (Ok command) = ⊥
-IsStarved (Err error) = (fault_of error).kind ≡ OutOfMemory
+-- the answer is that memory ran out
+abbrev pub IsOutOfMemory : Decoded → Type 0
+IsOutOfMemory (Ok command) = ⊥
+IsOutOfMemory (Err error) = (fault_of error).kind ≡ OutOfMemory
 
 -- There is no line feed: the buffer stays, and the next search begins at its end. Each byte from
--- the place on was tested.
+-- the place on was scanned.
 pub record FindsNone (old new : Codec) (before after : Bytes) : Type 0 where
   pub kept : after ≡ before
   pub place : new.place ≡ length before
@@ -38,7 +38,7 @@ pub record CutsLine (k : ℕ) (old new : Codec) (before after : Bytes) : Type 0 
   pub place : new.place ≡ 0
   pub tests : new.tests ≡ old.tests + (k + 1 - old.place)
 
--- Memory was refused for that line, which may take some: nothing but the tests changes.
+-- Memory ran out for that line, which may take some: nothing but the tests changes.
 pub record KeepsLine (k : ℕ) (old new : Codec) (before after : Bytes) : Type 0 where
   pub kept : after ≡ before
   pub place : new.place ≡ old.place
@@ -47,10 +47,12 @@ pub record KeepsLine (k : ℕ) (old new : Codec) (before after : Bytes) : Type 0
 -- the line that ends at k is answered
 abbrev pub AnswersLine : ℕ → Codec → Codec → Bytes → Bytes → Decoded → Type 0
 AnswersLine k old new before after answer =
-    ((event_told answer ≡ Some (event_of (outcome (take (k + 1) before)))) × CutsLine k old new before after)
-    ⊎ (IsStarved answer × MayTakeMemory (take (k + 1) before) × KeepsLine k old new before after)
+    ((returned_event answer ≡ Some (event_of (outcome (take (k + 1) before))))
+    × CutsLine k old new before after)
+    ⊎ (IsOutOfMemory answer × MayTakeMemory (take (k + 1) before)
+    × KeepsLine k old new before after)
 
 abbrev pub Decodes : Codec → Codec → Bytes → Bytes → Decoded → Type 0
 Decodes old new before after answer = MatchOption (line_feed_from before old.place)
-    ((event_told answer ≡ None) × FindsNone old new before after)
+    ((returned_event answer ≡ None) × FindsNone old new before after)
     (λ k. AnswersLine k old new before after answer)

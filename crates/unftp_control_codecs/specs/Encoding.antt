@@ -4,10 +4,10 @@ use Rattle.unftp_control_defs.specs.Bytes.{Bytes, DASH, crlf}
 use Rattle.unftp_control_defs.specs.FtpReply.{padded}
 
 -- a line before the last
-abbrev pub ended : Bytes → Bytes
-ended line = padded line ++ crlf
+abbrev pub padded_line : Bytes → Bytes
+padded_line line = padded line ++ crlf
 
 -- all of these after the code and a dash; nothing where the last line is the only one
-abbrev pub opening : ℕ → List Bytes → Bytes
-opening code [] = []
-opening code (line ∷ lines) = decimal code ++ DASH ∷ flat_map ended (line ∷ lines)
+abbrev pub lines_before_last : ℕ → List Bytes → Bytes
+lines_before_last code [] = []
+lines_before_last code (line ∷ lines) = decimal code ++ DASH ∷ flat_map padded_line (line ∷ lines)

@@ -1,9 +1,9 @@
 //! The bytes of replies.
 ghost use Rattle.std.specs.Prelude.{◌≡◌, ◌==◌, ◌++◌, take, length, map, flat_map, vec_len, decimal, string_bytes, IsOk, OnOk, if◌then◌else◌};
 ghost use Rattle.unftp_control_defs.specs.Bytes.{crlf};
-ghost use Rattle.unftp_control_defs.specs.FtpReply.{Nothing, MultiLine, encoded, after_space};
+ghost use Rattle.unftp_control_defs.specs.FtpReply.{Nothing, MultiLine, encoded, spaced_line};
 ghost use Rattle.unftp_control_reply.specs.ReplyMeaning.{number_of, reply_of};
-ghost use Rattle.unftp_control_codecs.specs.Encoding.{ended, opening};
+ghost use Rattle.unftp_control_codecs.specs.Encoding.{padded_line, lines_before_last};
 
 use std::alloc::AllocError;
 use unftp_control_reply::{Reply, ReplyCode};
@@ -59,18 +59,19 @@ fn append_code(code: ReplyCode, buf: &mut Vec<u8>) -> Result<(), AllocError>
 /// Appends what follows the code of a reply of one line: a space and the text, or nothing where it
 /// is empty, and CR LF.
 fn append_text(text: &str, buf: &mut Vec<u8>) -> Result<(), AllocError>
-    ensures ok { OnOk result (buf.new.items ≡ buf.old.items ++ (if length text.now == 0 then crlf else after_space text.now)) }
+    ensures ok { OnOk result (buf.new.items
+        ≡ buf.old.items ++ (if length text.now == 0 then crlf else spaced_line text.now)) }
     ensures kept { take (vec_len buf.old) buf.new.items ≡ buf.old.items }
 {
     if text.is_empty() {
         return buf.extend_from_slice(b"\r\n");
     }
-    append_after_space(text, buf)
+    append_spaced_line(text, buf)
 }
 
 /// Appends a space, the text and CR LF.
-fn append_after_space(text: &str, buf: &mut Vec<u8>) -> Result<(), AllocError>
-    ensures ok { OnOk result (buf.new.items ≡ buf.old.items ++ after_space text.now) }
+fn append_spaced_line(text: &str, buf: &mut Vec<u8>) -> Result<(), AllocError>
+    ensures ok { OnOk result (buf.new.items ≡ buf.old.items ++ spaced_line text.now) }
     ensures kept { take (vec_len buf.old) buf.new.items ≡ buf.old.items }
 {
     buf.push(b' ')?;
@@ -79,8 +80,8 @@ fn append_after_space(text: &str, buf: &mut Vec<u8>) -> Result<(), AllocError>
 }
 
 /// Appends a line before the last: a space where it begins with a digit, the line and CR LF.
-fn append_ended(line: &str, buf: &mut Vec<u8>) -> Result<(), AllocError>
-    ensures ok { OnOk result (buf.new.items ≡ buf.old.items ++ ended line.now) }
+fn append_padded_line(line: &str, buf: &mut Vec<u8>) -> Result<(), AllocError>
+    ensures ok { OnOk result (buf.new.items ≡ buf.old.items ++ padded_line line.now) }
     ensures kept { take (vec_len buf.old) buf.new.items ≡ buf.old.items }
 {
     if let [first, ..] = line.as_bytes() {
@@ -93,19 +94,25 @@ fn append_ended(line: &str, buf: &mut Vec<u8>) -> Result<(), AllocError>
 }
 
 /// Appends lines before the last.
-fn append_front(lines: &[String], buf: &mut Vec<u8>) -> Result<(), AllocError>
-    ensures ok { OnOk result (buf.new.items ≡ buf.old.items ++ flat_map ended (map string_bytes lines.now)) }
+fn append_padded_lines(lines: &[String], buf: &mut Vec<u8>) -> Result<(), AllocError>
+    ensures ok { OnOk result
+        (buf.new.items ≡ buf.old.items ++ flat_map padded_line (map string_bytes lines.now)) }
     ensures kept { take (vec_len buf.old) buf.new.items ≡ buf.old.items }
 {
     for line in lines {
-        append_ended(line.as_str(), buf)?;
+        append_padded_line(line.as_str(), buf)?;
     }
     Ok(())
 }
 
 /// Appends the code, a dash and all lines before the last, if there are any.
-fn append_opening(code: ReplyCode, lines: &[String], buf: &mut Vec<u8>) -> Result<(), AllocError>
-    ensures ok { OnOk result (buf.new.items ≡ buf.old.items ++ opening (number_of code) (map string_bytes lines.now)) }
+fn append_lines_before_last(
+    code: ReplyCode,
+    lines: &[String],
+    buf: &mut Vec<u8>,
+) -> Result<(), AllocError>
+    ensures ok { OnOk result (buf.new.items
+        ≡ buf.old.items ++ lines_before_last (number_of code) (map string_bytes lines.now)) }
     ensures kept { take (vec_len buf.old) buf.new.items ≡ buf.old.items }
 {
     if lines.is_empty() {
@@ -113,19 +120,20 @@ fn append_opening(code: ReplyCode, lines: &[String], buf: &mut Vec<u8>) -> Resul
     }
     append_code(code, buf)?;
     buf.push(b'-')?;
-    append_front(lines, buf)
+    append_padded_lines(lines, buf)
 }
 
 /// Appends a reply of these lines.
 fn append_lines(code: ReplyCode, lines: &[String], buf: &mut Vec<u8>) -> Result<(), AllocError>
-    ensures ok { OnOk result (buf.new.items ≡ buf.old.items ++ encoded (MultiLine (number_of code) (map string_bytes lines.now))) }
+    ensures ok { OnOk result (buf.new.items
+        ≡ buf.old.items ++ encoded (MultiLine (number_of code) (map string_bytes lines.now))) }
     ensures kept { take (vec_len buf.old) buf.new.items ≡ buf.old.items }
 {
     let Some((last, front)) = lines.split_last() else {
         append_code(code, buf)?;
-        return append_after_space("", buf);
+        return append_spaced_line("", buf);
     };
-    append_opening(code, front, buf)?;
+    append_lines_before_last(code, front, buf)?;
     append_code(code, buf)?;
-    append_after_space(last.as_str(), buf)
+    append_spaced_line(last.as_str(), buf)
 }

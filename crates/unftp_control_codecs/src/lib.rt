@@ -6,7 +6,7 @@ ghost use Rattle.unftp_control_defs.specs.Events.{out_of_memory};
 ghost use Rattle.unftp_control_defs.specs.FtpReply.{Nothing, encoded};
 ghost use Rattle.unftp_control_error.specs.ErrorMeaning.{fault_of};
 ghost use Rattle.unftp_control_reply.specs.ReplyMeaning.{reply_of};
-ghost use Rattle.unftp_control_codecs.specs.Decoding.{Decodes, IsStarved};
+ghost use Rattle.unftp_control_codecs.specs.Decoding.{Decodes, IsOutOfMemory};
 
 mod encoding;
 mod scan;
@@ -24,7 +24,7 @@ use unftp_control_reply::Reply;
 /// Decodes the commands of a control connection, and encodes its replies.
 ///
 /// It keeps the place in its buffer where the search for a line feed goes on, so that no byte is
-/// tested twice.
+/// scanned twice.
 #[derive(Drop)]
 pub struct FtpCodec {
     place: usize,
@@ -40,7 +40,7 @@ impl Model for FtpCodec {
 }
 
 impl FtpCodec {
-    /// A codec at place 0 that has tested nothing.
+    /// A codec at place 0 that has scanned nothing.
     pub fn new() -> FtpCodec
         ensures place { result.place ≡ 0 }
         ensures tests { result.tests ≡ 0 }
@@ -69,7 +69,7 @@ impl FtpCodec {
     /// line is complete (RFC 959, section 5.3). A line ends at its line feed.
     ///
     /// The place has to be within `buf`, as it is after each call, also where `buf` has grown at
-    /// its end since. The bytes before the place are not tested again.
+    /// its end since. The bytes before the place are not scanned again.
     ///
     /// A line that is no command is refused, by the parser's error as source: it leaves `buf` as
     /// any other line does, and what follows it stays. When out of memory, with the kind
@@ -82,8 +82,9 @@ impl FtpCodec {
         requires { self.old.place ≤ vec_len buf.old }
         ensures decodes { Decodes self.old self.new buf.old.items buf.new.items result }
         ensures within { self.new.place ≤ vec_len buf.new }
-        ensures counted { ¬ IsStarved result
-            → self.new.tests + self.old.place + vec_len buf.new ≡ self.old.tests + self.new.place + vec_len buf.old }
+        ensures counted { ¬ IsOutOfMemory result
+            → self.new.tests + self.old.place + vec_len buf.new
+            ≡ self.old.tests + self.new.place + vec_len buf.old }
         ensures never_fewer { self.old.tests ≤ self.new.tests }
     {
         let mut scan = Scan::over(buf.as_slice(), &mut self.tests);
@@ -93,7 +94,7 @@ impl FtpCodec {
         };
         let (line, _) = buf.as_slice().split_at(end + 1);
         let answer = parse(alloc, line);
-        if !is_starved(&answer) {
+        if !is_out_of_memory(&answer) {
             remove_front(buf, end + 1);
             self.place = 0;
         }
@@ -132,8 +133,8 @@ fn remove_front(buf: &mut Vec<u8>, count: usize)
     buf.truncate(rest);
 }
 
-/// Whether memory was refused.
-fn is_starved(answer: &Result<Command, ParseError>) -> bool
+/// Whether the answer is that memory ran out.
+fn is_out_of_memory(answer: &Result<Command, ParseError>) -> bool
     ensures { IsTrue result ↔ (answer.now ≡ Err ParseErrorKind.OutOfMemory) }
 {
     match answer {

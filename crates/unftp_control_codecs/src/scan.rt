@@ -1,4 +1,4 @@
-//! The one way by which the codec tests a byte for a line feed.
+//! The one way by which the codec scans a byte for a line feed.
 ghost use Rattle.std.specs.Prelude.{◌≡◌, ◌+◌, ◌-◌, ◌<◌, ◌≤◌, length, slice_index, MatchOption};
 ghost use Rattle.unftp_control_codecs.specs.LineFeed.{line_feed_from};
 
@@ -10,7 +10,7 @@ const LINE_FEED: u8 = b'\n';
 /// How many bytes were scanned, a number that only contracts see.
 #[derive(Drop)]
 pub(crate) struct Tests {
-    looks: Count,
+    scanned: Count,
 }
 
 impl Model for Tests {
@@ -18,16 +18,16 @@ impl Model for Tests {
 
     ghost Value = { ℕ };
 
-    ghost view = { λ tests. tests.looks };
+    ghost view = { λ tests. tests.scanned };
 }
 
 impl Tests {
-    /// No look so far.
+    /// No byte so far.
     pub(crate) fn none() -> Tests
         ensures { result ≡ 0 }
     {
         Tests {
-            looks: Count::new(),
+            scanned: Count::new(),
         }
     }
 
@@ -35,19 +35,19 @@ impl Tests {
     pub(crate) fn count(&self) -> Count
         ensures { result ≡ self.now }
     {
-        self.looks.same()
+        self.scanned.same()
     }
 
     #[inline(always)]
-    fn add_look(&mut self)
+    fn add_scanned(&mut self)
         ensures { self.new ≡ self.old + 1 }
     {
-        self.looks.raise();
+        self.scanned.raise();
     }
 }
 
-/// A slice that is looked at byte by byte: it is private, and each look at one of its bytes raises
-/// the count by one.
+/// A slice that is scanned byte by byte: it is private, and each byte read from it raises the count
+/// by one.
 #[derive(Drop)]
 pub(crate) struct Scan<'a, 'c> {
     bytes: &'a [u8],
@@ -65,19 +65,19 @@ impl<'a, 'c> Scan<'a, 'c> {
     }
 
     #[inline(always)]
-    fn look(&mut self, at: usize) -> u8
+    fn byte_at(&mut self, at: usize) -> u8
         requires { at < length self.old.bytes.now }
         ensures byte { result ≡ slice_index self.old.bytes.now at }
         ensures tests { self.new.tests.now ≡ self.old.tests.now + 1 }
         ensures bytes { self.new.bytes.now ≡ self.old.bytes.now }
         ensures same_reference { self.new.tests.ghost_name ≡ self.old.tests.ghost_name }
     {
-        self.tests.add_look();
+        self.tests.add_scanned();
         self.bytes[at]
     }
 
-    /// The first line feed at or after `from`. Each byte from there to it, or to the end, is looked
-    /// at once.
+    /// The first line feed at or after `from`. Each byte from there to it, or to the end, is read
+    /// once.
     pub(crate) fn find_line_feed(&mut self, from: usize) -> Option<usize>
         requires { from ≤ length self.old.bytes.now }
         ensures found { result ≡ line_feed_from self.old.bytes.now from }
@@ -88,7 +88,7 @@ impl<'a, 'c> Scan<'a, 'c> {
         ensures same_reference { self.new.tests.ghost_name ≡ self.old.tests.ghost_name }
     {
         for at in from..self.bytes.len() {
-            if self.look(at) == LINE_FEED {
+            if self.byte_at(at) == LINE_FEED {
                 return Some(at);
             }
         }

@@ -17,7 +17,7 @@ use unftp_control_password::Password;
 pub enum Command {
     /// USER: who logs in (RFC 959, section 4.1.1).
     User {
-        /// The name as the client sent it, in no given encoding; it may be empty.
+        /// The name as the client sent it, in no particular encoding; it may be empty.
         username: Bytes,
     },
     /// PASS: the password (RFC 959, section 4.1.1).
@@ -37,7 +37,7 @@ pub enum Command {
         /// The path as the client sent it; never an empty one.
         path: Option<Bytes>,
     },
-    /// TYPE: the representation of files (RFC 959, section 4.1.2). Its parameter is not looked at.
+    /// TYPE: the representation of files (RFC 959, section 4.1.2). Its parameter is ignored.
     TypeCode,
     /// STRU: the structure of files (RFC 959, section 4.1.2).
     Stru {
@@ -55,7 +55,7 @@ pub enum Command {
     Noop,
     /// PASV: listen for the data connection (RFC 959, section 4.1.2).
     Pasv,
-    /// EPSV: the same over any protocol (RFC 2428, section 3). Its parameter is not looked at.
+    /// EPSV: the same over any protocol (RFC 2428, section 3). Its parameter is ignored.
     Epsv,
     /// PORT: connect to the client for data (RFC 959, section 4.1.2).
     Port {
@@ -134,7 +134,7 @@ pub enum Command {
         /// The directory; not empty.
         path: String,
     },
-    /// ALLO: reserve room (RFC 959, section 4.1.3). Its parameter is not looked at.
+    /// ALLO: reserve room (RFC 959, section 4.1.3). Its parameter is ignored.
     Allo {},
     /// ABOR: end the transfer that is under way (RFC 959, section 4.1.3).
     Abor,
@@ -285,5 +285,6 @@ impl fmt::Display for Command {
 
 /// `==` of commands is equality of what they mean.
 pub fn same_commands()
-    ensures { (a b : RustCommand) → IsTrue (⟦<Command as PartialEq>⟧.eq a b) ↔ (command_of a ≡ command_of b) }
+    ensures { (a b : RustCommand)
+        → IsTrue (⟦<Command as PartialEq>⟧.eq a b) ↔ (command_of a ≡ command_of b) }
 {}

@@ -1,2 +1,2 @@
-mod Years
-pub mod OneText
+mod YearLemmas
+pub mod FactTextLemmas

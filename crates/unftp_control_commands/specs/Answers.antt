@@ -44,7 +44,8 @@ prot_change _ _ = change.Nothing
 
 -- EPSV, with the port that listens (RFC 2428, section 3)
 abbrev pub port_reply : ℕ → FtpReply
-port_reply port = CodeAndMsg 229 (codes "Entering Extended Passive Mode (|||" ++ decimal port ++ codes "|)")
+port_reply port =
+    CodeAndMsg 229 (codes "Entering Extended Passive Mode (|||" ++ decimal port ++ codes "|)")
 
 abbrev pub epsv_reply : Passive → FtpReply
 epsv_reply (Port port) = port_reply port
@@ -65,7 +66,9 @@ opts_reply (Utf8 false) = CodeAndMsg 504 (codes "Non UTF-8 mode not supported")
 
 -- HELP (RFC 959, section 4.1.3)
 abbrev pub help_reply : FtpReply
-help_reply = MultiLine 214 (codes "Help:" ∷ codes "Powered by libunftp: 0.24.0" ∷ codes "View the docs at: https://unftp.rs/" ∷ [])
+help_reply = MultiLine 214
+    (codes "Help:" ∷ codes "Powered by libunftp: 0.24.0"
+    ∷ codes "View the docs at: https://unftp.rs/" ∷ [])
 
 -- FEAT: the features in the order of their bytes, each after a space (RFC 2389, section 3.2)
 abbrev pub when : Bool → List Bytes → List Bytes
@@ -82,4 +85,5 @@ features tls restart site_md5 =
     ++ (codes " SIZE" ∷ codes " UTF8" ∷ [])
 
 abbrev pub feat_reply : Bool → Bool → Bool → FtpReply
-feat_reply tls restart site_md5 = MultiLine 211 (codes "Extensions supported:" ∷ features tls restart site_md5 ++ codes "END" ∷ [])
+feat_reply tls restart site_md5 = MultiLine 211
+    (codes "Extensions supported:" ∷ features tls restart site_md5 ++ codes "END" ∷ [])

@@ -14,12 +14,14 @@ two_digits n = (48 + n / 10) ∷ (48 + n % 10) ∷ []
 abbrev pub time_text : ℤ → DateTime → Option Bytes
 time_text (negsuc year) civil = None
 time_text (pos year) civil =
-    Some (two_digits (year / 100) ++ two_digits (year % 100) ++ two_digits civil.date.month ++ two_digits civil.date.day
+    Some (two_digits (year / 100) ++ two_digits (year % 100) ++ two_digits civil.date.month
+    ++ two_digits civil.date.day
     ++ two_digits civil.time.hour ++ two_digits civil.time.minute ++ two_digits civil.time.second)
 
 -- the text of the civil time of UTC that an instant is, its fraction of a second left out
 abbrev pub IsTimeText : ℤ → Option Bytes → Type 0
-IsTimeText nanosecond text = (civil : DateTime) × (civil_nanos civil ≡ nanosecond) × (text ≡ time_text civil.date.year civil)
+IsTimeText nanosecond text =
+    (civil : DateTime) × (civil_nanos civil ≡ nanosecond) × (text ≡ time_text civil.date.year civil)
 
 -- the same of an instant that may not be known
 abbrev pub IsModified : Option Timestamp → Option Bytes → Type 0
@@ -48,12 +50,15 @@ pub record FileFacts : Type 0 where
 abbrev pub IsFacts : FileFacts → Bytes → Type 0
 IsFacts file facts =
     (time : Option Bytes) × IsModified file.modified time
-    × (facts ≡ type_fact file.is_dir ++ codes "size=" ++ decimal file.size ++ codes ";" ++ modify_fact time
+    × (facts ≡ type_fact file.is_dir ++ codes "size=" ++ decimal file.size ++ codes ";"
+    ++ modify_fact time
     ++ id_fact (codes "unix.uid=") file.uid ++ id_fact (codes "unix.gid=") file.gid)
 
 -- MLST (RFC 3659, section 7.2)
 abbrev pub facts_reply : Bytes → Bytes → FtpReply
-facts_reply facts path = MultiLine 250 (codes " Listing" ∷ (codes " " ++ facts ++ codes " " ++ path) ∷ codes "End" ∷ [])
+facts_reply facts path =
+    MultiLine 250 (codes " Listing" ∷ (codes " " ++ facts ++ codes " " ++ path) ∷ codes "End" ∷ [])
 
-abbrev pub TellsFacts : FileFacts → Bytes → FtpReply → Type 0
-TellsFacts file path reply = (facts : Bytes) × IsFacts file facts × (reply ≡ facts_reply facts path)
+abbrev pub IsFactsReply : FileFacts → Bytes → FtpReply → Type 0
+IsFactsReply file path reply =
+    (facts : Bytes) × IsFacts file facts × (reply ≡ facts_reply facts path)

@@ -80,7 +80,8 @@ fn modified_text(alloc: Global, modified: Option<Timestamp>) -> Result<Option<St
 
 /// Appends the fact of a time.
 fn push_modify(text: &mut String, time: &Option<String>) -> Result<(), AllocError>
-    ensures { OnOk result (string_bytes text.new ≡ string_bytes text.old ++ modify_fact (option_map string_bytes time.now)) }
+    ensures { OnOk result (string_bytes text.new
+        ≡ string_bytes text.old ++ modify_fact (option_map string_bytes time.now)) }
 {
     if let Some(time) = time {
         write!(text, "modify={time};")?;
@@ -124,5 +125,6 @@ pub fn format_facts<M: Metadata>(alloc: Global, metadata: &M) -> Result<String, 
 
 /// A file has one text of facts.
 pub fn one_text_of_facts()
-    ensures { (file : FileFacts) (facts other : Bytes) → IsFacts file facts → IsFacts file other → facts ≡ other }
+    ensures { (file : FileFacts) (facts other : Bytes) → IsFacts file facts → IsFacts file other
+        → facts ≡ other }
 {}

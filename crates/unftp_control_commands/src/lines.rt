@@ -5,7 +5,8 @@ use std::alloc::AllocError;
 
 /// Appends these lines, in the memory of the list.
 pub fn append_lines(lines: &mut Vec<String>, more: &[&str]) -> Result<(), AllocError>
-    ensures { OnOk result (map string_bytes lines.new.items ≡ map string_bytes lines.old.items ++ map (λ line. line.now) more.now) }
+    ensures { OnOk result (map string_bytes lines.new.items
+        ≡ map string_bytes lines.old.items ++ map (λ line. line.now) more.now) }
 {
     let alloc = *lines.allocator();
     for line in more {

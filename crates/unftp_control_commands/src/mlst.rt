@@ -4,7 +4,7 @@ ghost use Rattle.unftp_control_defs.specs.Events.{out_of_memory};
 ghost use Rattle.unftp_control_defs.specs.FtpReply.{CodeAndMsg};
 ghost use Rattle.unftp_control_error.specs.ErrorMeaning.{fault_of};
 ghost use Rattle.unftp_control_reply.specs.ReplyMeaning.{reply_of};
-ghost use Rattle.unftp_control_commands.specs.Facts.{TellsFacts, facts_reply};
+ghost use Rattle.unftp_control_commands.specs.Facts.{IsFactsReply, facts_reply};
 
 use crate::facts::{Metadata, format_facts};
 use crate::lines::append_lines;
@@ -55,7 +55,8 @@ impl Mlst {
         found: Result<&M, &str>,
     ) -> Result<Reply, ControlChanError>
         ensures ok { IfOk result (λ reply. MatchResult found.entry
-            (λ metadata. TellsFacts (M.facts_of metadata.now) (unwrap_or self.now cwd.now) (reply_of reply))
+            (λ metadata. IsFactsReply (M.facts_of metadata.now) (unwrap_or self.now cwd.now)
+            (reply_of reply))
             (λ text. reply_of reply ≡ CodeAndMsg 550 text.now)) }
         ensures err { IfErr result (λ error. fault_of error ≡ out_of_memory) }
     {

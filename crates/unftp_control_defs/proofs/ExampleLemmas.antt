@@ -4,7 +4,7 @@ use Rattle.std.specs.Str.{is_utf8, chars}
 use Rattle.std.proofs.lemmas.Str.{IsUtf8-from_is_utf8, is_utf8-from_IsUtf8}
 use Rattle.unftp_control_defs.specs.Bytes.{Bytes}
 use Rattle.unftp_control_defs.specs.Lines.{IsLine, lines_of}
-use Rattle.unftp_control_defs.proofs.LineLaws.{Lines-unique}
+use Rattle.unftp_control_defs.proofs.LineLemmas.{Lines-unique}
 
 -- the lines of a line are that line
 pub lines_of-IsLine : (line : Bytes) → IsLine line → line ∷ [] ≡ lines_of line

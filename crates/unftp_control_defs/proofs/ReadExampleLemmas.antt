@@ -5,10 +5,10 @@ use Rattle.std.proofs.lemmas.Bool.{and_parts}
 use Rattle.unftp_control_defs.specs.Bytes.{Bytes, CR, LF, SP}
 use Rattle.unftp_control_defs.specs.FtpReply.{CodeAndMsg}
 use Rattle.unftp_control_defs.specs.ReplyReader.{LacksCrlf, SpellsCode, GoesOn, Opens, FrontReply, IsMalformed, IsPartial}
-use Rattle.unftp_control_defs.proofs.LackLaws.{Lacks-test}
-use Rattle.unftp_control_defs.proofs.ReaderLaws.{code_length}
-use Rattle.unftp_control_defs.proofs.ReadingLaws.{lacks_nil, lacks_one, lacks_more, opens_code}
-use Rattle.unftp_control_defs.proofs.EncodingLaws.{FrontReply-encoded}
+use Rattle.unftp_control_defs.proofs.LackLemmas.{Lacks-test}
+use Rattle.unftp_control_defs.proofs.ReplyUniqueLemmas.{code_length}
+use Rattle.unftp_control_defs.proofs.ReplyCasesLemmas.{lacks_nil, lacks_one, lacks_more, opens_code}
+use Rattle.unftp_control_defs.proofs.EncodingLemmas.{FrontReply-encoded}
 
 -- a test for texts that are written out
 abbrev pub lacks_crlf : Bytes → Bool

@@ -24,9 +24,9 @@ abbrev pub spaced : Bytes → Bytes → Bytes
 spaced word text = word ++ SP ∷ escaped text
 
 -- only the word where the parameter is empty
-abbrev pub bare_or_spaced : Bytes → Bytes → Bytes
-bare_or_spaced word [] = word
-bare_or_spaced word (b ∷ text) = spaced word (b ∷ text)
+abbrev pub spaced_unless_empty : Bytes → Bytes → Bytes
+spaced_unless_empty word [] = word
+spaced_unless_empty word (b ∷ text) = spaced word (b ∷ text)
 
 -- only the word where there is none
 abbrev pub with_optional : Bytes → Option Bytes → Bytes
@@ -40,7 +40,7 @@ marked (b ∷ path) = if b == DASH then codes "-- " ++ b ∷ path else b ∷ pat
 
 abbrev pub site : Bytes → Bytes → Bytes
 site [] [] = codes "SITE"
-site name arguments = codes "SITE " ++ bare_or_spaced name arguments
+site name arguments = codes "SITE " ++ spaced_unless_empty name arguments
 
 abbrev pub structure_letter : StruParam → Bytes
 structure_letter File = codes "F"
@@ -64,9 +64,9 @@ mechanism Tls = codes "TLS"
 
 -- the line without its CR LF
 abbrev pub canonical_body : FtpCommand → Bytes
-canonical_body (User name) = bare_or_spaced (codes "USER") name
-canonical_body (Pass password) = bare_or_spaced (codes "PASS") password
-canonical_body (Acct account) = bare_or_spaced (codes "ACCT") account
+canonical_body (User name) = spaced_unless_empty (codes "USER") name
+canonical_body (Pass password) = spaced_unless_empty (codes "PASS") password
+canonical_body (Acct account) = spaced_unless_empty (codes "ACCT") account
 canonical_body Syst = codes "SYST"
 canonical_body (Stat path) = with_optional (codes "STAT") path
 canonical_body TypeCode = codes "TYPE I"
@@ -108,7 +108,7 @@ canonical_body (Rest offset) = codes "REST " ++ decimal offset
 canonical_body (Mdtm file) = spaced (codes "MDTM") file
 canonical_body (Md5 file) = spaced (codes "SITE MD5") file
 canonical_body (Site name arguments) = site name arguments
-canonical_body (Other name arguments) = bare_or_spaced name arguments
+canonical_body (Other name arguments) = spaced_unless_empty name arguments
 
 abbrev pub canonical_line : FtpCommand → Bytes
 canonical_line command = canonical_body command ++ crlf
@@ -126,28 +126,28 @@ abbrev pub IsName : Bytes → Type 0
 IsName name = AllByRecursion (λ b. (is_separator b ≡ false) × (is_ascii_lowercase b ≡ false)) name
 
 -- Fields that a line gives, whose one LF is its last byte.
-abbrev pub IsGiven : FtpCommand → Type 0
-IsGiven (User name) = Lacks LF name
-IsGiven (Pass password) = Lacks LF password
-IsGiven (Acct account) = Lacks LF account
-IsGiven (Stat path) = IsOptional path
-IsGiven (Port addr) = IsNamed addr
-IsGiven (Retr path) = IsNamed path
-IsGiven (Stor path) = IsNamed path
-IsGiven (Appe path) = IsNamed path
-IsGiven (Listing options path) = (options ≡ None) × IsOptional path
-IsGiven (Nlst path) = IsOptional path
-IsGiven (Mlst path) = IsOptional path
-IsGiven (Mlsd path) = IsOptional path
-IsGiven (Cwd path) = IsNamed path
-IsGiven (Dele path) = IsNamed path
-IsGiven (Rmd path) = IsNamed path
-IsGiven (Mkd path) = IsNamed path
-IsGiven (Rnfr file) = IsNamed file
-IsGiven (Rnto file) = IsNamed file
-IsGiven (Size file) = IsNamed file
-IsGiven (Mdtm file) = IsNamed file
-IsGiven (Md5 file) = IsNamed file
-IsGiven (Site name arguments) = IsName name × (name ≢ codes "MD5") × Lacks LF arguments
-IsGiven (Other name arguments) = IsName name × (row_of name verbs ≡ None) × Lacks LF arguments
-IsGiven _ = ⊤
+abbrev pub HasLine : FtpCommand → Type 0
+HasLine (User name) = Lacks LF name
+HasLine (Pass password) = Lacks LF password
+HasLine (Acct account) = Lacks LF account
+HasLine (Stat path) = IsOptional path
+HasLine (Port addr) = IsNamed addr
+HasLine (Retr path) = IsNamed path
+HasLine (Stor path) = IsNamed path
+HasLine (Appe path) = IsNamed path
+HasLine (Listing options path) = (options ≡ None) × IsOptional path
+HasLine (Nlst path) = IsOptional path
+HasLine (Mlst path) = IsOptional path
+HasLine (Mlsd path) = IsOptional path
+HasLine (Cwd path) = IsNamed path
+HasLine (Dele path) = IsNamed path
+HasLine (Rmd path) = IsNamed path
+HasLine (Mkd path) = IsNamed path
+HasLine (Rnfr file) = IsNamed file
+HasLine (Rnto file) = IsNamed file
+HasLine (Size file) = IsNamed file
+HasLine (Mdtm file) = IsNamed file
+HasLine (Md5 file) = IsNamed file
+HasLine (Site name arguments) = IsName name × (name ≢ codes "MD5") × Lacks LF arguments
+HasLine (Other name arguments) = IsName name × (row_of name verbs ≡ None) × Lacks LF arguments
+HasLine _ = ⊤

@@ -16,22 +16,24 @@ padded [] = []
 padded (b ∷ line) = if is_ascii_digit b then SP ∷ b ∷ line else b ∷ line
 
 -- after the code: one space and a text, which may be empty
-abbrev pub after_space : Bytes → Bytes
-after_space text = (SP ∷ text) ++ crlf
+abbrev pub spaced_line : Bytes → Bytes
+spaced_line text = (SP ∷ text) ++ crlf
 
 -- the lines after the code and a dash, each but the last padded; the last follows the code and a
 -- space
 abbrev pub several : ℕ → Bytes → List Bytes → Bytes
-several code line [] = decimal code ++ after_space line
+several code line [] = decimal code ++ spaced_line line
 several code line (next ∷ lines) = padded line ++ crlf ++ several code next lines
 
 -- The code is written without padding; a lone code, for an empty text, has no space after it.
 abbrev pub encoded : FtpReply → Bytes
 encoded Nothing = []
-encoded (CodeAndMsg code text) = decimal code ++ (if length text == 0 then crlf else after_space text)
-encoded (MultiLine code []) = decimal code ++ after_space []
-encoded (MultiLine code (line ∷ [])) = decimal code ++ after_space line
-encoded (MultiLine code (line ∷ next ∷ lines)) = decimal code ++ DASH ∷ several code line (next ∷ lines)
+encoded (CodeAndMsg code text) =
+    decimal code ++ (if length text == 0 then crlf else spaced_line text)
+encoded (MultiLine code []) = decimal code ++ spaced_line []
+encoded (MultiLine code (line ∷ [])) = decimal code ++ spaced_line line
+encoded (MultiLine code (line ∷ next ∷ lines)) =
+    decimal code ++ DASH ∷ several code line (next ∷ lines)
 
 -- 2yz says that the command is done, and 3yz that it may go on (RFC 959, section 4.2.1); where
 -- nothing is sent, nothing failed.
@@ -44,15 +46,15 @@ is_positive (CodeAndMsg code text) = is_positive_code code
 is_positive (MultiLine code lines) = is_positive_code code
 
 -- The lines as a client sees them: at least one, each but the last padded.
-abbrev pub shown_lines : List Bytes → List Bytes
-shown_lines [] = [] ∷ []
-shown_lines (line ∷ []) = line ∷ []
-shown_lines (line ∷ next ∷ lines) = padded line ∷ shown_lines (next ∷ lines)
+abbrev pub lines_as_read : List Bytes → List Bytes
+lines_as_read [] = [] ∷ []
+lines_as_read (line ∷ []) = line ∷ []
+lines_as_read (line ∷ next ∷ lines) = padded line ∷ lines_as_read (next ∷ lines)
 
-abbrev pub shown : FtpReply → Option (ℕ × List Bytes)
-shown Nothing = None
-shown (CodeAndMsg code text) = Some (code, text ∷ [])
-shown (MultiLine code lines) = Some (code, shown_lines lines)
+abbrev pub reply_as_read : FtpReply → Option (ℕ × List Bytes)
+reply_as_read Nothing = None
+reply_as_read (CodeAndMsg code text) = Some (code, text ∷ [])
+reply_as_read (MultiLine code lines) = Some (code, lines_as_read lines)
 
 -- what a client can read back: a code of three digits, and texts without LF
 abbrev pub HasThreeDigits : ℕ → Type 0

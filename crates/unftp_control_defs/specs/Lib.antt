@@ -13,6 +13,6 @@ pub mod ReplyReader
 pub mod Events
 pub mod Texts
 pub mod Run
-pub mod Cuttings
+pub mod Pieces
 pub mod Steps
 pub mod LossyText

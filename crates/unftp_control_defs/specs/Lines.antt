@@ -10,26 +10,27 @@ pub record IsLine (line : Bytes) : Type 0 where
   pub whole : line ≡ body ++ LF ∷ []
   pub one_end : Lacks LF body
 
--- the input is these lines, and then a rest that no LF ends
-pub record Lines (input : Bytes) (lines : List Bytes) (rest : Bytes) : Type 0 where
-  pub whole : input ≡ concat lines ++ rest
+-- the input is these lines, and then an incomplete one that no LF ends
+pub record Lines (input : Bytes) (lines : List Bytes) (incomplete : Bytes) : Type 0 where
+  pub whole : input ≡ concat lines ++ incomplete
   pub each : AllByRecursion IsLine lines
-  pub unended : Lacks LF rest
+  pub unended : Lacks LF incomplete
 
--- Those lines and that rest, computed: a byte other than LF belongs to the first line after it, or
--- to the rest where there is none.
+-- Those lines and the incomplete one, computed: a byte other than LF belongs to the first line after
+-- it, or to the incomplete one where there is none.
 abbrev pub onto_line : ℕ → List Bytes → List Bytes
 onto_line b [] = []
 onto_line b (line ∷ lines) = (b ∷ line) ∷ lines
 
-abbrev pub onto_rest : ℕ → List Bytes → Bytes → Bytes
-onto_rest b [] rest = b ∷ rest
-onto_rest b (line ∷ lines) rest = rest
+abbrev pub onto_incomplete_line : ℕ → List Bytes → Bytes → Bytes
+onto_incomplete_line b [] incomplete = b ∷ incomplete
+onto_incomplete_line b (line ∷ lines) incomplete = incomplete
 
 abbrev pub lines_of : Bytes → List Bytes
 lines_of [] = []
 lines_of (b ∷ bytes) = if b == LF then (LF ∷ []) ∷ lines_of bytes else onto_line b (lines_of bytes)
 
-abbrev pub rest_of : Bytes → Bytes
-rest_of [] = []
-rest_of (b ∷ bytes) = if b == LF then rest_of bytes else onto_rest b (lines_of bytes) (rest_of bytes)
+abbrev pub incomplete_line : Bytes → Bytes
+incomplete_line [] = []
+incomplete_line (b ∷ bytes) = if b == LF then incomplete_line bytes
+    else onto_incomplete_line b (lines_of bytes) (incomplete_line bytes)

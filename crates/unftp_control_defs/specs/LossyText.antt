@@ -32,14 +32,18 @@ part_of n b c d e =
     else (if nat_lt n 2 then IllFormed 1
     else (if may_follow b c then (if nat_lt b 0xE0 then Character ((b - 0xC0) * 64 + (c - 0x80)) 2
     else (if nat_lt n 3 then IllFormed 2
-    else (if continues d then (if nat_lt b 0xF0 then Character (((b - 0xE0) * 64 + (c - 0x80)) * 64 + (d - 0x80)) 3
+    else (if continues d
+    then (if nat_lt b 0xF0 then Character (((b - 0xE0) * 64 + (c - 0x80)) * 64 + (d - 0x80)) 3
     else (if nat_lt n 4 then IllFormed 3
-    else (if continues e then Character ((((b - 0xF0) * 64 + (c - 0x80)) * 64 + (d - 0x80)) * 64 + (e - 0x80)) 4 else IllFormed 3)))
+    else (if continues e
+    then Character ((((b - 0xF0) * 64 + (c - 0x80)) * 64 + (d - 0x80)) * 64 + (e - 0x80)) 4
+    else IllFormed 3)))
     else IllFormed 2)))
     else IllFormed 1)))))
 
 abbrev pub first_part : Bytes → Part
-first_part bytes = part_of (length bytes) (slice_index bytes 0) (slice_index bytes 1) (slice_index bytes 2) (slice_index bytes 3)
+first_part bytes = part_of (length bytes) (slice_index bytes 0) (slice_index bytes 1)
+    (slice_index bytes 2) (slice_index bytes 3)
 
 abbrev pub part_len : Part → ℕ
 part_len (Character c n) = n

@@ -1,4 +1,4 @@
--- What a line means: a command, or one refusal. The UTF-8 of the verb is looked at first, then that
+-- What a line means: a command, or one refusal. The UTF-8 of the verb is checked first, then that
 -- of the name of SITE, then the line end, then what the verb takes.
 use Rattle.std.specs.Prelude.{if◌then◌else◌, Option, Some, None, Ok, Err}
 use Rattle.std.specs.Str.{is_utf8}
@@ -6,7 +6,7 @@ use Rattle.unftp_control_defs.specs.Bytes.{Bytes}
 use Rattle.unftp_control_defs.specs.Verbs.{verb_of, parameter_of, upper}
 use Rattle.unftp_control_defs.specs.Values.{value_of}
 use Rattle.unftp_control_defs.specs.FtpCommand.{Answer, InvalidUtf8, InvalidEol}
-use Rattle.unftp_control_defs.specs.Rules.{Rule, Ignores, Takes, Cuts, rule_of, by_name}
+use Rattle.unftp_control_defs.specs.Rules.{Rule, Ignores, Takes, Splits, rule_of, by_name}
 
 -- what a rule that takes a value makes of it; there is none after an invalid line ending
 abbrev pub by_value : (Bytes → Answer) → Option Bytes → Answer
@@ -22,7 +22,7 @@ site_answer parameter = if is_utf8 (verb_of parameter)
 abbrev pub answer_by : Rule → Bytes → Answer
 answer_by (Ignores command) parameter = Ok command
 answer_by (Takes answer) parameter = by_value answer (value_of parameter)
-answer_by Cuts parameter = site_answer parameter
+answer_by Splits parameter = site_answer parameter
 
 -- The line's verb has to be UTF-8, and its rule says the rest.
 abbrev pub outcome : Bytes → Answer

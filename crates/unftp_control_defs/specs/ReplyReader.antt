@@ -3,7 +3,7 @@
 use Rattle.std.specs.Prelude.{◌≡◌, ◌≢◌, ℕ, ◌<◌, ◌+◌, ◌*◌, List, [], ◌∷◌, ◌++◌, length, drop, flat_map, filter_map, ◌⊎◌}
 use Rattle.std.specs.List.{AllByRecursion}
 use Rattle.unftp_control_defs.specs.Bytes.{Bytes, CR, LF, SP, DASH, crlf}
-use Rattle.unftp_control_defs.specs.FtpReply.{FtpReply, shown}
+use Rattle.unftp_control_defs.specs.FtpReply.{FtpReply, reply_as_read}
 
 -- there is no CR LF in the text
 abbrev pub LacksCrlf : Bytes → Type 0
@@ -26,9 +26,11 @@ GoesOn digits line = (text : Bytes) → line ≢ digits ++ SP ∷ text
 -- one that does.
 pub data IsReply (digits : Bytes) (whole lines : List Bytes) : Type 0 where
   bare : whole ≡ digits ∷ [] → lines ≡ [] ∷ [] → IsReply digits whole lines
-  single : (text : Bytes) → whole ≡ (digits ++ SP ∷ text) ∷ [] → lines ≡ text ∷ [] → IsReply digits whole lines
+  single : (text : Bytes) → whole ≡ (digits ++ SP ∷ text) ∷ [] → lines ≡ text ∷ []
+      → IsReply digits whole lines
   several : (text last : Bytes) (middle : List Bytes) → AllByRecursion (GoesOn digits) middle
-      → whole ≡ (digits ++ DASH ∷ text) ∷ (middle ++ (digits ++ SP ∷ last) ∷ []) → lines ≡ text ∷ (middle ++ last ∷ []) → IsReply digits whole lines
+      → whole ≡ (digits ++ DASH ∷ text) ∷ (middle ++ (digits ++ SP ∷ last) ∷ [])
+      → lines ≡ text ∷ (middle ++ last ∷ []) → IsReply digits whole lines
 
 -- The bytes, cut at each CR LF, begin with a reply, which takes `used` of them.
 pub record FrontReply (bytes : Bytes) (code : ℕ) (lines : List Bytes) (used : ℕ) : Type 0 where
@@ -48,17 +50,20 @@ HasFront bytes = (code : ℕ) × (lines : List Bytes) × (used : ℕ) × FrontRe
 -- the bytes are replies one after the other, to the end, with these codes and lines
 abbrev pub AllReplies : Bytes → List (ℕ × List Bytes) → Type 0
 AllReplies bytes [] = bytes ≡ []
-AllReplies bytes (reply ∷ replies) = (used : ℕ) × FrontReply bytes reply.0 reply.1 used × AllReplies (drop used bytes) replies
+AllReplies bytes (reply ∷ replies) =
+    (used : ℕ) × FrontReply bytes reply.0 reply.1 used × AllReplies (drop used bytes) replies
 
 -- the bytes are read as what these replies show, and as nothing else
 abbrev pub ReadsBack : Bytes → List FtpReply → Type 0
-ReadsBack bytes replies = AllReplies bytes (filter_map shown replies)
-    × ((others : List (ℕ × List Bytes)) → AllReplies bytes others → others ≡ filter_map shown replies)
+ReadsBack bytes replies = AllReplies bytes (filter_map reply_as_read replies)
+    × ((others : List (ℕ × List Bytes)) → AllReplies bytes others
+    → others ≡ filter_map reply_as_read replies)
 
 -- the line opens a reply
 abbrev pub Opens : Bytes → Type 0
 Opens line = (digits : Bytes) × (code : ℕ) × SpellsCode digits code
-    × ((line ≡ digits) ⊎ ((text : Bytes) × ((line ≡ digits ++ SP ∷ text) ⊎ (line ≡ digits ++ DASH ∷ text))))
+    × ((line ≡ digits)
+    ⊎ ((text : Bytes) × ((line ≡ digits ++ SP ∷ text) ⊎ (line ≡ digits ++ DASH ∷ text))))
 
 -- the first whole line opens no reply
 pub record IsMalformed (bytes : Bytes) : Type 0 where

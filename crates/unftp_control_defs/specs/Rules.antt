@@ -20,15 +20,15 @@ use Rattle.unftp_control_defs.specs.declared.parameters.StruParam.TheVariants.{F
 pub data Rule : Type 0 where
   Ignores : FtpCommand → Rule
   Takes : (Bytes → Answer) → Rule
-  Cuts : Rule
+  Splits : Rule
 
 -- any value, as it is
 abbrev pub raw : (Bytes → FtpCommand) → Bytes → Answer
 raw command v = Ok (command v)
 
 -- no value
-abbrev pub alone : FtpCommand → Bytes → Answer
-alone command v = if length v == 0 then Ok command else Err InvalidCommand
+abbrev pub without_parameter : FtpCommand → Bytes → Answer
+without_parameter command v = if length v == 0 then Ok command else Err InvalidCommand
 
 -- any value as text, ill-formed UTF-8 replaced
 abbrev pub any_text : (Bytes → FtpCommand) → Bytes → Answer
@@ -63,10 +63,12 @@ abbrev pub modes : List (Bytes × FtpCommand)
 modes = (codes "S", Mode Stream) ∷ (codes "B", Mode Block) ∷ (codes "C", Mode Compressed) ∷ []
 
 abbrev pub protections : List (Bytes × FtpCommand)
-protections = (codes "C", Prot Clear) ∷ (codes "S", Prot Safe) ∷ (codes "E", Prot Confidential) ∷ (codes "P", Prot Private) ∷ []
+protections = (codes "C", Prot Clear) ∷ (codes "S", Prot Safe) ∷ (codes "E", Prot Confidential)
+    ∷ (codes "P", Prot Private) ∷ []
 
 abbrev pub options : List (Bytes × FtpCommand)
-options = (codes "UTF8 ON", Opts (Utf8 true)) ∷ (codes "utf8 on", Opts (Utf8 true)) ∷ (codes "UTF8 OFF", Opts (Utf8 false)) ∷ (codes "utf8 off", Opts (Utf8 false)) ∷ []
+options = (codes "UTF8 ON", Opts (Utf8 true)) ∷ (codes "utf8 on", Opts (Utf8 true))
+    ∷ (codes "UTF8 OFF", Opts (Utf8 false)) ∷ (codes "utf8 off", Opts (Utf8 false)) ∷ []
 
 abbrev pub buffer_sizes : List (Bytes × FtpCommand)
 buffer_sizes = (codes "0", Pbsz) ∷ []
@@ -83,7 +85,8 @@ auth v = if nat_lt 3 (length v) then Err InvalidCommand
 -- the offset of REST, a decimal number below 2 ^ 64 after a plus or none (RFC 3659, section 5)
 abbrev pub offset : Bytes → Answer
 offset text = let digits = without_leading_plus text in
-    if nat_lt 0 (length digits) && all_ascii_digits digits && nat_lt (digits_value 10 digits) (2 ^ 64)
+    if nat_lt 0 (length digits) && all_ascii_digits digits
+    && nat_lt (digits_value 10 digits) (2 ^ 64)
     then Ok (Rest (digits_value 10 digits)) else Err InvalidCommand
 
 -- the path of LIST, or none where nothing is left after the options
@@ -104,17 +107,17 @@ verbs =
     ∷ (codes "STRU", Takes (chosen structures))
     ∷ (codes "MODE", Takes (chosen modes))
     ∷ (codes "PROT", Takes (chosen protections))
-    ∷ (codes "NOOP", Takes (alone Noop))
-    ∷ (codes "PASV", Takes (alone Pasv))
-    ∷ (codes "FEAT", Takes (alone Feat))
-    ∷ (codes "CDUP", Takes (alone Cdup))
-    ∷ (codes "ABOR", Takes (alone Abor))
-    ∷ (codes "STOU", Takes (alone Stou))
-    ∷ (codes "CCC", Takes (alone Ccc))
-    ∷ (codes "PWD", Takes (alone Pwd))
-    ∷ (codes "XPWD", Takes (alone Pwd))
-    ∷ (codes "QUIT", Takes (alone Quit))
-    ∷ (codes "BYE", Takes (alone Quit))
+    ∷ (codes "NOOP", Takes (without_parameter Noop))
+    ∷ (codes "PASV", Takes (without_parameter Pasv))
+    ∷ (codes "FEAT", Takes (without_parameter Feat))
+    ∷ (codes "CDUP", Takes (without_parameter Cdup))
+    ∷ (codes "ABOR", Takes (without_parameter Abor))
+    ∷ (codes "STOU", Takes (without_parameter Stou))
+    ∷ (codes "CCC", Takes (without_parameter Ccc))
+    ∷ (codes "PWD", Takes (without_parameter Pwd))
+    ∷ (codes "XPWD", Takes (without_parameter Pwd))
+    ∷ (codes "QUIT", Takes (without_parameter Quit))
+    ∷ (codes "BYE", Takes (without_parameter Quit))
     ∷ (codes "PORT", Takes (some_text Port))
     ∷ (codes "RETR", Takes (some_text Retr))
     ∷ (codes "STOR", Takes (some_text Stor))
@@ -137,7 +140,7 @@ verbs =
     ∷ (codes "AUTH", Takes auth)
     ∷ (codes "PBSZ", Takes (chosen buffer_sizes))
     ∷ (codes "REST", Takes (λ v. offset (utf8_lossy v)))
-    ∷ (codes "SITE", Cuts)
+    ∷ (codes "SITE", Splits)
     ∷ []
 
 -- the rule of a verb in upper case; one with no row is taken as it comes, with its arguments

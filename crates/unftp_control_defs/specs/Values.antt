@@ -32,7 +32,8 @@ LaterUnits fresh (Byte b ∷ units) = (b ≢ CR) × (b ≡ LF → IsTrue fresh) 
 
 -- An end is CR LF, or an LF directly after a later unit of one byte.
 abbrev pub End : List Piece → Bytes → Type 0
-End later end = (end ≡ crlf) ⊎ ((before : List Piece) × (b : ℕ) × (later ≡ before ++ Byte b ∷ []) × (end ≡ LF ∷ []))
+End later end = (end ≡ crlf)
+    ⊎ ((before : List Piece) × (b : ℕ) × (later ≡ before ++ Byte b ∷ []) × (end ≡ LF ∷ []))
 
 -- The parameter is a first unit, later units, an end, and bytes that are ignored; the value is the
 -- units' values.
@@ -56,15 +57,15 @@ pub data Reads (parameter v : Bytes) : Type 0 where
   divided : Division parameter v → Reads parameter v
 
 -- They have none.
-abbrev pub BadEnd : Bytes → Type 0
-BadEnd parameter = (v : Bytes) → Reads parameter v → ⊥
+abbrev pub HasNoValue : Bytes → Type 0
+HasNoValue parameter = (v : Bytes) → Reads parameter v → ⊥
 
 -- The value, computed from the left.
 -- Where a byte is after the first unit: after that unit or a CR NUL; after a byte; after a CR.
-pub data Place : Type 0 where
-  Fresh : Place
-  Plain : Place
-  Returning : Place
+pub data Context : Type 0 where
+  Fresh : Context
+  Plain : Context
+  Returning : Context
 
 -- what a byte at a place does: it ends the value, gives bytes of it, or is refused
 pub data Effect : Type 0 where
@@ -72,24 +73,25 @@ pub data Effect : Type 0 where
   Gives : Bytes → Effect
   Refuses : Effect
 
-abbrev pub effect : Place → ℕ → Effect
+abbrev pub effect : Context → ℕ → Effect
 effect Fresh b = if b == CR then Gives [] else Gives (b ∷ [])
 effect Plain b = if b == CR then Gives [] else (if b == LF then Ends else Gives (b ∷ []))
 effect Returning b = if b == LF then Ends else (if b == NUL then Gives (CR ∷ []) else Refuses)
 
-abbrev pub place_after : Place → ℕ → Place
-place_after Fresh b = if b == CR then Returning else Plain
-place_after Plain b = if b == CR then Returning else Plain
-place_after Returning b = Fresh
+abbrev pub context_after : Context → ℕ → Context
+context_after Fresh b = if b == CR then Returning else Plain
+context_after Plain b = if b == CR then Returning else Plain
+context_after Returning b = Fresh
 
 abbrev pub then_value : Effect → Option Bytes → Option Bytes
 then_value Ends more = Some []
 then_value (Gives v) more = option_map (λ w. v ++ w) more
 then_value Refuses more = None
 
-abbrev pub later_value : Place → Bytes → Option Bytes
-later_value place [] = None
-later_value place (b ∷ bytes) = then_value (effect place b) (later_value (place_after place b) bytes)
+abbrev pub later_value : Context → Bytes → Option Bytes
+later_value context [] = None
+later_value context (b ∷ bytes) =
+    then_value (effect context b) (later_value (context_after context b) bytes)
 
 -- from the first unit on
 abbrev pub first_value : ℕ → Bytes → Option Bytes

@@ -4,7 +4,7 @@ use Rattle.unftp_control_defs.specs.Events.{Fault, FaultKind, FaultSource, NoSou
 use Rattle.unftp_control_defs.specs.Events as fault
 use Rattle.unftp_control_line_parser.specs.declared.error.ParseErrorKind.{ParseErrorKind}
 use Rattle.unftp_control_line_parser.specs.declared.error.ParseErrorKind.TheVariants as parse
-use Rattle.unftp_control_line_parser.specs.Told.{refusal_of}
+use Rattle.unftp_control_line_parser.specs.ParseAnswer.{refusal_of}
 use Rattle.unftp_control_error.specs.declared.ControlChanErrorKind.{ControlChanErrorKind}
 use Rattle.unftp_control_error.specs.declared.ControlChanErrorKind.TheVariants as kind
 use Rattle.unftp_control_error.specs.declared.Source.{Source}

@@ -235,5 +235,6 @@ impl From<AllocError> for ControlChanError {
 
 /// `==` of kinds is equality of what they mean.
 pub fn same_kinds()
-    ensures { (a b : RustKind) → IsTrue (⟦<ControlChanErrorKind as PartialEq>⟧.eq a b) ↔ (kind_meant a ≡ kind_meant b) }
+    ensures { (a b : RustKind)
+        → IsTrue (⟦<ControlChanErrorKind as PartialEq>⟧.eq a b) ↔ (kind_meant a ≡ kind_meant b) }
 {}

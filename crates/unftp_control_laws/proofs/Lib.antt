@@ -1,5 +1,5 @@
-mod FoldLaws
-mod EpsvLaws
-mod CuttingLaws
-mod StepLaws
-mod LossyTextLaws
+mod FoldLemmas
+mod EpsvLemmas
+mod PieceLemmas
+mod StepLemmas
+mod LossyTextLemmas

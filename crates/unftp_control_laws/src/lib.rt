@@ -8,38 +8,41 @@ ghost use Rattle.std.specs.List.{AllByRecursion, concat, sum_by};
 ghost use Rattle.std.specs.Str.Lossy.{utf8_lossy};
 ghost use Rattle.unftp_control_commands.specs.Answers.{port_reply};
 ghost use Rattle.unftp_control_defs.specs.Bytes.{Bytes, LF, crlf, Lacks};
-ghost use Rattle.unftp_control_defs.specs.Canonical.{canonical_line, IsGiven};
-ghost use Rattle.unftp_control_defs.specs.Cuttings.{events_in_turn};
+ghost use Rattle.unftp_control_defs.specs.Canonical.{canonical_line, HasLine};
+ghost use Rattle.unftp_control_defs.specs.Pieces.{events_in_turn};
 ghost use Rattle.unftp_control_defs.specs.Events.{events};
 ghost use Rattle.unftp_control_defs.specs.FtpCommand.{FtpCommand, User, IsReal};
-ghost use Rattle.unftp_control_defs.specs.FtpReply.{FtpReply, IsPlain, encoded, shown};
-ghost use Rattle.unftp_control_defs.specs.Lines.{IsLine, Lines, lines_of, rest_of};
+ghost use Rattle.unftp_control_defs.specs.FtpReply.{FtpReply, IsPlain, encoded, reply_as_read};
+ghost use Rattle.unftp_control_defs.specs.Lines.{IsLine, Lines, lines_of, incomplete_line};
 ghost use Rattle.unftp_control_defs.specs.LossyText.{Character, LossyText, first_part};
 ghost use Rattle.unftp_control_defs.specs.Outcome.{outcome};
 ghost use Rattle.unftp_control_defs.specs.Paths.{ListPath, path_of};
 ghost use Rattle.unftp_control_defs.specs.ReplyReader.{FrontReply, HasFront, IsMalformed, IsPartial, ReadsBack};
 ghost use Rattle.unftp_control_defs.specs.Steps.{AreSteps, Step, last_place};
-ghost use Rattle.unftp_control_defs.specs.Values.{Reads, BadEnd, value_of, escaped};
+ghost use Rattle.unftp_control_defs.specs.Values.{Reads, HasNoValue, value_of, escaped};
 ghost use Rattle.unftp_control_defs.specs.Verbs.{Cut, verb_of, parameter_of, upper};
 
-/// An input has one list of lines and one rest, `lines_of` and `rest_of` (RFC 959, section 5.3).
+/// An input has one list of lines and one incomplete line, `lines_of` and `incomplete_line` (RFC
+/// 959, section 5.3).
 pub fn one_list_of_lines()
-    ensures computed { (input : Bytes) → Lines input (lines_of input) (rest_of input) }
-    ensures only { (input : Bytes) (lines : List Bytes) (rest : Bytes) → Lines input lines rest
-        → (lines ≡ lines_of input) × (rest ≡ rest_of input) }
+    ensures computed { (input : Bytes) → Lines input (lines_of input) (incomplete_line input) }
+    ensures only { (input : Bytes) (lines : List Bytes) (incomplete : Bytes)
+        → Lines input lines incomplete
+        → (lines ≡ lines_of input) × (incomplete ≡ incomplete_line input) }
 {}
 
 /// A line has one verb and one parameter, `verb_of` and `parameter_of` (RFC 959, section 5.3).
 pub fn one_verb()
     ensures computed { (line : Bytes) → Cut line (verb_of line) (parameter_of line) }
-    ensures only { (line verb parameter : Bytes) → Cut line verb parameter → (verb ≡ verb_of line) × (parameter ≡ parameter_of line) }
+    ensures only { (line verb parameter : Bytes) → Cut line verb parameter
+        → (verb ≡ verb_of line) × (parameter ≡ parameter_of line) }
 {}
 
 /// A parameter has one value, which `value_of` computes, or an invalid line ending, where it gives
 /// none (RFC 854).
 pub fn one_value()
     ensures value { (parameter v : Bytes) → Reads parameter v ↔ (value_of parameter ≡ Some v) }
-    ensures bad_end { (parameter : Bytes) → BadEnd parameter ↔ (value_of parameter ≡ None) }
+    ensures bad_end { (parameter : Bytes) → HasNoValue parameter ↔ (value_of parameter ≡ None) }
 {}
 
 /// The text of LIST has one path, `path_of`.
@@ -52,7 +55,8 @@ pub fn one_path()
 /// whatever follows (Unicode, section 3.9).
 pub fn one_lossy_text()
     ensures text { (bytes text : Bytes) → LossyText bytes text ↔ (utf8_lossy bytes ≡ text) }
-    ensures character { (c : ℕ) (more : Bytes) → IsScalar c → first_part (encode_utf8 c ++ more) ≡ Character c (length (encode_utf8 c)) }
+    ensures character { (c : ℕ) (more : Bytes) → IsScalar c
+        → first_part (encode_utf8 c ++ more) ≡ Character c (length (encode_utf8 c)) }
 {}
 
 /// Lines that differ only in the case of the ASCII letters of their verb have one outcome, and so
@@ -73,38 +77,44 @@ pub fn case_folds()
 /// A name without a line feed that is sent with each CR as CR NUL is the name that is read (RFC
 /// 854).
 pub fn escape_reads_back()
-    ensures { (name : Bytes) → Lacks LF name → outcome (codes "USER " ++ escaped name ++ crlf) ≡ Ok (User name) }
+    ensures { (name : Bytes) → Lacks LF name
+        → outcome (codes "USER " ++ escaped name ++ crlf) ≡ Ok (User name) }
 {}
 
-/// The canonical line of a given command has one LF, its last byte, and means that command, where
+/// The canonical line of a command that has a line has one LF, its last byte, and means that command, where
 /// its fields are of their types (RFC 959, section 5.3).
 pub fn canonical_lines_read_back()
-    ensures line { (command : FtpCommand) → IsGiven command → IsLine (canonical_line command) }
-    ensures read_back { (command : FtpCommand) → IsGiven command → IsReal command → outcome (canonical_line command) ≡ Ok command }
+    ensures line { (command : FtpCommand) → HasLine command → IsLine (canonical_line command) }
+    ensures read_back { (command : FtpCommand) → HasLine command → IsReal command
+        → outcome (canonical_line command) ≡ Ok command }
 {}
 
-/// A command is given, and has fields of their types, exactly where a line whose one LF is its last
+/// A command has a line, and fields of their types, exactly where a line whose one LF is its last
 /// byte means it (RFC 959, section 5.3).
-pub fn given_commands_have_lines()
-    ensures { (command : FtpCommand) → (IsGiven command × IsReal command) ↔ ((line : Bytes) × IsLine line × (outcome line ≡ Ok command)) }
+pub fn commands_of_lines()
+    ensures { (command : FtpCommand) → (HasLine command × IsReal command)
+        ↔ ((line : Bytes) × IsLine line × (outcome line ≡ Ok command)) }
 {}
 
 /// Two ports whose EPSV replies are equal are equal (RFC 2428, section 3).
 pub fn epsv_ports_differ()
-    ensures { (port other : ℕ) → port < 2 ^ 16 → other < 2 ^ 16 → port_reply port ≡ port_reply other → port ≡ other }
+    ensures { (port other : ℕ) → port < 2 ^ 16 → other < 2 ^ 16 → port_reply port ≡ port_reply other
+        → port ≡ other }
 {}
 
-/// The pieces that an input comes in give its events, however it is cut.
+/// The pieces that an input comes in give its events, however it is split.
 pub fn any_cutting()
     ensures { (pieces : List Bytes) → events_in_turn [] pieces ≡ events (concat pieces) }
 {}
 
-/// Step by step from an empty buffer, a codec tests as many bytes as leave it and its place moves
-/// by, so at most those put in.
+/// Step by step from an empty buffer, a codec scans as many bytes as leave it and its place moves
+/// by, so at most those that were appended.
 pub fn tests_add_up()
-    ensures told { (steps : List Step) → AreSteps 0 0 steps
-        → sum_by (λ step. step.tests) steps ≡ sum_by (λ step. step.removed) steps + last_place 0 steps }
-    ensures bound { (steps : List Step) → AreSteps 0 0 steps → sum_by (λ step. step.tests) steps ≤ sum_by (λ step. step.added) steps }
+    ensures total { (steps : List Step) → AreSteps 0 0 steps
+        → sum_by (λ step. step.tests) steps
+        ≡ sum_by (λ step. step.removed) steps + last_place 0 steps }
+    ensures bound { (steps : List Step) → AreSteps 0 0 steps
+        → sum_by (λ step. step.tests) steps ≤ sum_by (λ step. step.added) steps }
 {}
 
 /// The bytes begin with a reply, or with a part of one, or they are malformed; and exactly one of
@@ -122,14 +132,17 @@ pub fn one_front()
     ensures only { (bytes : Bytes) (code other : ℕ) (lines others : List Bytes) (used taken : ℕ)
         → FrontReply bytes code lines used → FrontReply bytes other others taken
         → (code ≡ other) × (lines ≡ others) × (used ≡ taken) }
-    ensures within { (bytes : Bytes) (code : ℕ) (lines : List Bytes) (used : ℕ) → FrontReply bytes code lines used
+    ensures within { (bytes : Bytes) (code : ℕ) (lines : List Bytes) (used : ℕ)
+        → FrontReply bytes code lines used
         → (0 < used) × (used ≤ length bytes) }
 {}
 
 /// The bytes of plain replies are read back as what they show, and as nothing else, whatever
 /// follows (RFC 959, section 4.2).
 pub fn replies_read_back()
-    ensures front { (reply : FtpReply) (more : Bytes) → IsPlain reply → (code : ℕ) (lines : List Bytes) → shown reply ≡ Some (code, lines)
+    ensures front { (reply : FtpReply) (more : Bytes) → IsPlain reply
+        → (code : ℕ) (lines : List Bytes) → reply_as_read reply ≡ Some (code, lines)
         → FrontReply (encoded reply ++ more) code lines (length (encoded reply)) }
-    ensures all { (replies : List FtpReply) → AllByRecursion IsPlain replies → ReadsBack (flat_map encoded replies) replies }
+    ensures all { (replies : List FtpReply) → AllByRecursion IsPlain replies
+        → ReadsBack (flat_map encoded replies) replies }
 {}

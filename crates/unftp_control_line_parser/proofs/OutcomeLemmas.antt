@@ -16,8 +16,8 @@ use Rattle.unftp_control_defs.specs.Values.{value_of}
 use Rattle.unftp_control_defs.specs.FtpCommand.{FtpCommand, Answer, InvalidUtf8, Other}
 use Rattle.unftp_control_defs.specs.Rules.{Rule, row_of, verbs, any_text, some_text, by_name}
 use Rattle.unftp_control_defs.specs.Outcome.{site_answer, by_value, answer_by, outcome}
-use Rattle.unftp_control_line_parser.specs.Values.{RefusesSome}
-use Rattle.unftp_control_line_parser.specs.Told.{Refuses, Tells}
+use Rattle.unftp_control_line_parser.specs.Values.{RefusesEmpty}
+use Rattle.unftp_control_line_parser.specs.ParseAnswer.{Refuses, Returns}
 use Rattle.unftp_control_command.specs.declared.Command.{Command}
 use Rattle.unftp_control_line_parser.specs.declared.error.ParseErrorKind.{ParseErrorKind}
 use Rattle.unftp_control_line_parser.specs.declared.error.ParseErrorKind.TheVariants as kind
@@ -57,36 +57,36 @@ named_utf8 word rule e = is_utf8-from_IsUtf8 word (IsUtf8-from_ascii word (low_w
 
 -- what a call answers, from what it answers for the parts of the line
 module _ (line word parameter : Bytes) (r : Result Command ParseErrorKind) (whole : word ≡ verb_of line) (rest : parameter ≡ parameter_of line) where
-  pub line_named : (rule : Rule) → row_of (upper word) verbs ≡ Some rule → Tells (answer_by rule parameter) r → Tells (outcome line) r
+  pub line_named : (rule : Rule) → row_of (upper word) verbs ≡ Some rule → Returns (answer_by rule parameter) r → Returns (outcome line) r
   line_named rule e h =
       let f : row_of (upper (verb_of line)) verbs ≡ Some rule = subst (λ w. row_of (upper w) verbs ≡ Some rule) whole e in
       let is : outcome line ≡ answer_by rule (parameter_of line) = rw (named_utf8 (verb_of line) rule f, f) in
-      subst (λ a. Tells a r) (sym is) (subst (λ p. Tells (answer_by rule p) r) rest h)
+      subst (λ a. Returns a r) (sym is) (subst (λ p. Returns (answer_by rule p) r) rest h)
 
-  pub line_other : (name : Bytes) → row_of (upper word) verbs ≡ None → name ≡ word → is_utf8 word ≡ true → Tells (by_value (any_text (Other (upper name))) (value_of parameter)) r → Tells (outcome line) r
+  pub line_other : (name : Bytes) → row_of (upper word) verbs ≡ None → name ≡ word → is_utf8 word ≡ true → Returns (by_value (any_text (Other (upper name))) (value_of parameter)) r → Returns (outcome line) r
   line_other name none same u h =
       let n : row_of (upper (verb_of line)) verbs ≡ None = subst (λ w. row_of (upper w) verbs ≡ None) whole none in
       let t : is_utf8 (verb_of line) ≡ true = subst (λ w. is_utf8 w ≡ true) whole u in
       let is : outcome line ≡ by_value (any_text (Other (upper (verb_of line)))) (value_of (parameter_of line)) = rw (t, n) in
-      subst (λ a. Tells a r) (sym is)
-      (subst (λ w. Tells (by_value (any_text (Other (upper w))) (value_of (parameter_of line))) r) (same ∙ whole)
-      (subst (λ p. Tells (by_value (any_text (Other (upper name))) (value_of p)) r) rest h))
+      subst (λ a. Returns a r) (sym is)
+      (subst (λ w. Returns (by_value (any_text (Other (upper w))) (value_of (parameter_of line))) r) (same ∙ whole)
+      (subst (λ p. Returns (by_value (any_text (Other (upper name))) (value_of p)) r) rest h))
 
-  pub site_named : (name : Bytes) → name ≡ word → is_utf8 word ≡ true → Tells (by_value (by_name (upper name)) (value_of parameter)) r → Tells (site_answer line) r
+  pub site_named : (name : Bytes) → name ≡ word → is_utf8 word ≡ true → Returns (by_value (by_name (upper name)) (value_of parameter)) r → Returns (site_answer line) r
   site_named name same u h =
       let t : is_utf8 (verb_of line) ≡ true = subst (λ w. is_utf8 w ≡ true) whole u in
       let is : site_answer line ≡ by_value (by_name (upper (verb_of line))) (value_of (parameter_of line)) = rw t in
-      subst (λ a. Tells a r) (sym is)
-      (subst (λ w. Tells (by_value (by_name (upper w)) (value_of (parameter_of line))) r) (same ∙ whole)
-      (subst (λ p. Tells (by_value (by_name (upper name)) (value_of p)) r) rest h))
+      subst (λ a. Returns a r) (sym is)
+      (subst (λ w. Returns (by_value (by_name (upper w)) (value_of (parameter_of line))) r) (same ∙ whole)
+      (subst (λ p. Returns (by_value (by_name (upper name)) (value_of p)) r) rest h))
 
 -- an error that is passed on
-pub refused : (answer : Answer) (error : ParseErrorKind) (r : Result Command ParseErrorKind) → Refuses answer error → IsErrAnd r (λ e. e ≡ error) → Tells answer r
+pub refused : (answer : Answer) (error : ParseErrorKind) (r : Result Command ParseErrorKind) → Refuses answer error → IsErrAnd r (λ e. e ≡ error) → Returns answer r
 refused answer error (Ok command) refuses h = absurd h
 refused answer error (Err e) refuses h = subst (Refuses answer) (sym h) refuses
 
 -- a text that must not be empty
-pub some_refused : (command : Bytes → FtpCommand) (v : Bytes) (error : ParseErrorKind) → RefusesSome v error → Refuses (some_text command v) error
+pub some_refused : (command : Bytes → FtpCommand) (v : Bytes) (error : ParseErrorKind) → RefusesEmpty v error → Refuses (some_text command v) error
 some_refused command v kind.InvalidCommand h = rw (eq-eqb (length v) 0 h) refl
 some_refused command v kind.InvalidUtf8 h = absurd h
 some_refused command v kind.InvalidEol h = absurd h
@@ -97,5 +97,5 @@ some_taken command v text some is = let longer : length v ≢ 0 = λ e. absurd (
 
 -- what is refused since it is not UTF-8
 pub refused_utf8 : (bytes : Bytes) (answer : Answer) (r : Result Command ParseErrorKind) → ¬ (IsUtf8 bytes) → (is_utf8 bytes ≡ false → answer ≡ Err InvalidUtf8)
-    → IsErrAnd r (λ e. e ≡ kind.InvalidUtf8) → Tells answer r
+    → IsErrAnd r (λ e. e ≡ kind.InvalidUtf8) → Returns answer r
 refused_utf8 bytes answer r ill is h = refused answer kind.InvalidUtf8 r (is (false_from_ne_true _ (λ t. ill (IsUtf8-from_is_utf8 bytes t)))) h

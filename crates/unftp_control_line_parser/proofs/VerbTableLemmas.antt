@@ -192,15 +192,15 @@ module _ (word : Bytes) (long : length word ≡ 4) (bytes : (j : ℕ) → get_or
         (cases_lt i at))
 
 -- a word is padded in the same way in upper case
-raised_nul : (b : ℕ) → (to_ascii_uppercase b == 0) ≡ (b == 0)
-raised_nul b = grind (arith, nat_tests)
+uppercased_nul : (b : ℕ) → (to_ascii_uppercase b == 0) ≡ (b == 0)
+uppercased_nul b = grind (arith, nat_tests)
 
 to_four_bytes_upper : (word : Bytes) → to_four_bytes (upper word) ≡ option_map upper (to_four_bytes word)
 to_four_bytes_upper [] = refl
 to_four_bytes_upper (a ∷ []) = refl
 to_four_bytes_upper (a ∷ b ∷ []) = refl
 to_four_bytes_upper (a ∷ b ∷ c ∷ []) = refl
-to_four_bytes_upper (a ∷ b ∷ c ∷ d ∷ []) = rw (raised_nul d) (by_nul (d == 0))
+to_four_bytes_upper (a ∷ b ∷ c ∷ d ∷ []) = rw (uppercased_nul d) (by_nul (d == 0))
   where
     by_nul : (t : Bool) → cond t None (Some (upper (a ∷ b ∷ c ∷ d ∷ []))) ≡ option_map upper (cond t None (Some (a ∷ b ∷ c ∷ d ∷ [])))
     by_nul true = refl

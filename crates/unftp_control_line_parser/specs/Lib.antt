@@ -1,4 +1,4 @@
-pub mod Told
+pub mod ParseAnswer
 pub mod Meaning
 pub mod Words
 pub mod Values

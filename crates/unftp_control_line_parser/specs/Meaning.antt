@@ -5,7 +5,7 @@ use Rattle.unftp_control_defs.specs.Bytes.{Bytes}
 use Rattle.unftp_control_defs.specs.FtpCommand as spec
 use Rattle.unftp_control_defs.specs.FtpCommand.{FtpCommand, Answer}
 use Rattle.unftp_control_defs.specs.Rules as rule
-use Rattle.unftp_control_defs.specs.Rules.{raw, alone, some_text, maybe_text, unless_empty, listing, chosen, structures, modes, protections, options, buffer_sizes, auth, offset}
+use Rattle.unftp_control_defs.specs.Rules.{raw, without_parameter, some_text, maybe_text, unless_empty, listing, chosen, structures, modes, protections, options, buffer_sizes, auth, offset}
 use Rattle.unftp_control_line_parser.specs.declared.rule.UnitCommand.{UnitCommand}
 use Rattle.unftp_control_line_parser.specs.declared.rule.UnitCommand.TheVariants as unit
 use Rattle.unftp_control_line_parser.specs.declared.rule.RawCommand.{RawCommand}
@@ -71,7 +71,7 @@ typed_answer typed.Rest v = offset (utf8_lossy v)
 typed_answer typed.Stru v = chosen structures v
 
 abbrev pub parameter_answer : ParameterKind → Bytes → Answer
-parameter_answer (Empty command) v = alone (unit_command command) v
+parameter_answer (Empty command) v = without_parameter (unit_command command) v
 parameter_answer (Raw command) v = raw (raw_command command) v
 parameter_answer StatPath v = Ok (spec.Stat (unless_empty v))
 parameter_answer (Text command) v = some_text (text_command command) v
@@ -82,4 +82,4 @@ parameter_answer (Typed command) v = typed_answer command v
 abbrev pub meaning : Rule → rule.Rule
 meaning (Ignores command) = rule.Ignores (unit_command command)
 meaning (Takes kind) = rule.Takes (parameter_answer kind)
-meaning Splits = rule.Cuts
+meaning Splits = rule.Splits

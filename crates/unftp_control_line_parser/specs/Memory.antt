@@ -8,40 +8,40 @@ use Rattle.unftp_control_defs.specs.Outcome.{outcome}
 use Rattle.unftp_control_line_parser.specs.declared.error.ParseErrorKind.{ParseErrorKind}
 use Rattle.unftp_control_line_parser.specs.declared.error.ParseErrorKind.TheVariants as kind
 
--- a command of a verb that takes no value, or doesn't look at its parameter
-abbrev pub is_bare : FtpCommand → Bool
-is_bare Syst = true
-is_bare TypeCode = true
-is_bare Help = true
-is_bare Epsv = true
-is_bare Allo = true
-is_bare Noop = true
-is_bare Pasv = true
-is_bare Feat = true
-is_bare Pwd = true
-is_bare Cdup = true
-is_bare Quit = true
-is_bare Abor = true
-is_bare Stou = true
-is_bare Ccc = true
-is_bare _ = false
+-- a command whose verb takes no value, or ignores its parameter
+abbrev pub needs_no_memory : FtpCommand → Bool
+needs_no_memory Syst = true
+needs_no_memory TypeCode = true
+needs_no_memory Help = true
+needs_no_memory Epsv = true
+needs_no_memory Allo = true
+needs_no_memory Noop = true
+needs_no_memory Pasv = true
+needs_no_memory Feat = true
+needs_no_memory Pwd = true
+needs_no_memory Cdup = true
+needs_no_memory Quit = true
+needs_no_memory Abor = true
+needs_no_memory Stou = true
+needs_no_memory Ccc = true
+needs_no_memory _ = false
 
 -- it is no such command
-abbrev pub IsNotBare : Answer → Type 0
-IsNotBare (Ok command) = is_bare command ≡ false
-IsNotBare (Err refusal) = ⊤
+abbrev pub MayNeedMemory : Answer → Type 0
+MayNeedMemory (Ok command) = needs_no_memory command ≡ false
+MayNeedMemory (Err refusal) = ⊤
 
 -- The line's verb is UTF-8, and it is no such command.
 abbrev pub MayTakeMemory : Bytes → Type 0
-MayTakeMemory line = (is_utf8 (verb_of line) ≡ true) × IsNotBare (outcome line)
+MayTakeMemory line = (is_utf8 (verb_of line) ≡ true) × MayNeedMemory (outcome line)
 
--- where memory was refused, P
-abbrev pub IfStarved : ParseErrorKind → Type 0 → Type 0
-IfStarved kind.InvalidCommand P = ⊤
-IfStarved kind.InvalidUtf8 P = ⊤
-IfStarved kind.InvalidEol P = ⊤
-IfStarved kind.OutOfMemory P = P
+-- where memory ran out, P
+abbrev pub IfOutOfMemory : ParseErrorKind → Type 0 → Type 0
+IfOutOfMemory kind.InvalidCommand P = ⊤
+IfOutOfMemory kind.InvalidUtf8 P = ⊤
+IfOutOfMemory kind.InvalidEol P = ⊤
+IfOutOfMemory kind.OutOfMemory P = P
 
-abbrev pub OnStarved : {T : Type 0} → Result T ParseErrorKind → Type 0 → Type 0
-OnStarved (Ok x) P = ⊤
-OnStarved (Err error) P = IfStarved error P
+abbrev pub OnOutOfMemory : {T : Type 0} → Result T ParseErrorKind → Type 0 → Type 0
+OnOutOfMemory (Ok x) P = ⊤
+OnOutOfMemory (Err error) P = IfOutOfMemory error P

@@ -25,7 +25,7 @@ pub enum ParseErrorKind {
 impl fmt::Display for ParseErrorKind {
     ghost use Rattle.std.specs.Prelude.{Some};
     ghost use Rattle.unftp_control_defs.specs.Texts.{reading_text};
-    ghost use Rattle.unftp_control_line_parser.specs.Told.{refusal_of};
+    ghost use Rattle.unftp_control_line_parser.specs.ParseAnswer.{refusal_of};
 
     ghost output = { λ kind. Some (reading_text (refusal_of kind)) };
 
@@ -113,7 +113,7 @@ impl From<Utf8Error> for ParseError {
 impl fmt::Display for ParseError {
     ghost use Rattle.std.specs.Prelude.{Some};
     ghost use Rattle.unftp_control_defs.specs.Texts.{parse_error_text};
-    ghost use Rattle.unftp_control_line_parser.specs.Told.{refusal_of};
+    ghost use Rattle.unftp_control_line_parser.specs.ParseAnswer.{refusal_of};
 
     ghost output = { λ kind. Some (parse_error_text (refusal_of kind)) };
 

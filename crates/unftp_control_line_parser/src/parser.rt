@@ -3,17 +3,17 @@ ghost use Rattle.std.specs.Prelude.{◌≡◌, ◌≤◌, length, IfOk};
 ghost use Rattle.std.specs.List.{position_or_len};
 ghost use Rattle.std.specs.Cow.{cow_slice_items};
 ghost use Rattle.unftp_control_command.specs.CommandMeaning.{command_of};
-ghost use Rattle.unftp_control_defs.specs.Canonical.{IsGiven};
+ghost use Rattle.unftp_control_defs.specs.Canonical.{HasLine};
 ghost use Rattle.unftp_control_defs.specs.Lines.{IsLine};
 ghost use Rattle.unftp_control_defs.specs.Verbs.{is_separator, parameter_of, upper, verb_of};
 ghost use Rattle.unftp_control_defs.specs.FtpCommand.{Other};
 ghost use Rattle.unftp_control_defs.specs.Outcome.{answer_by, by_value, outcome, site_answer};
-ghost use Rattle.unftp_control_defs.specs.Rules.{alone, any_text, by_name};
+ghost use Rattle.unftp_control_defs.specs.Rules.{without_parameter, any_text, by_name};
 ghost use Rattle.unftp_control_defs.specs.Values.{value_of};
 ghost use Rattle.unftp_control_line_parser.specs.Meaning.{meaning, parameter_answer, unit_command};
-ghost use Rattle.unftp_control_line_parser.specs.Memory.{IsNotBare, MayTakeMemory, OnStarved};
-ghost use Rattle.unftp_control_line_parser.specs.Told.{Tells};
-ghost use Rattle.unftp_control_line_parser.specs.Values.{TellsSome};
+ghost use Rattle.unftp_control_line_parser.specs.Memory.{MayNeedMemory, MayTakeMemory, OnOutOfMemory};
+ghost use Rattle.unftp_control_line_parser.specs.ParseAnswer.{Returns};
+ghost use Rattle.unftp_control_line_parser.specs.Values.{ReturnsSomeText};
 
 use crate::error::{ParseErrorKind, Result};
 use crate::fields::{list_path, optional_raw, optional_text, raw, text, upper_cased};
@@ -65,19 +65,19 @@ pub fn split<'a>(line: &'a [u8]) -> (&'a [u8], &'a [u8])
 /// `InvalidCommand` where the verb doesn't take the parameter, or with `InvalidUtf8` where AUTH's
 /// is not UTF-8; and with `OutOfMemory` when out of memory.
 pub fn parse(alloc: Global, line: &[u8]) -> Result<Command>
-    ensures told { Tells (outcome line.now) result }
+    ensures answer { Returns (outcome line.now) result }
     // it runs out of memory only where the line may take some
-    ensures memory { OnStarved result (MayTakeMemory line.now) }
+    ensures memory { OnOutOfMemory result (MayTakeMemory line.now) }
     // a command is one that `write_command` has a line for
-    ensures given { IsLine line.now → IfOk result (λ command. IsGiven (command_of command)) }
+    ensures has_line { IsLine line.now → IfOk result (λ command. HasLine (command_of command)) }
 {
     Ok(command_in(alloc, line)?)
 }
 
 /// The same, with the kind of the refusal.
 fn command_in(alloc: Global, line: &[u8]) -> Answer
-    ensures told { Tells (outcome line.now) result }
-    ensures memory { OnStarved result (MayTakeMemory line.now) }
+    ensures answer { Returns (outcome line.now) result }
+    ensures memory { OnOutOfMemory result (MayTakeMemory line.now) }
 {
     let (verb, parameter) = split(line);
     match rule_named(verb) {
@@ -88,8 +88,8 @@ fn command_in(alloc: Global, line: &[u8]) -> Answer
 
 /// What the rule makes of parameter bytes.
 fn by_rule(alloc: Global, rule: Rule, parameter: &[u8]) -> Answer
-    ensures told { Tells (answer_by (meaning rule) parameter.now) result }
-    ensures memory { OnStarved result (IsNotBare (answer_by (meaning rule) parameter.now)) }
+    ensures answer { Returns (answer_by (meaning rule) parameter.now) result }
+    ensures memory { OnOutOfMemory result (MayNeedMemory (answer_by (meaning rule) parameter.now)) }
 {
     match rule {
         Rule::Ignores(command) => Ok(command.command()),
@@ -103,8 +103,9 @@ fn by_rule(alloc: Global, rule: Rule, parameter: &[u8]) -> Answer
 
 /// The command with this value.
 fn with_value(alloc: Global, kind: ParameterKind, value: CowSlice<'_, u8>) -> Answer
-    ensures told { Tells (parameter_answer kind (cow_slice_items value.entry)) result }
-    ensures memory { OnStarved result (IsNotBare (parameter_answer kind (cow_slice_items value.entry))) }
+    ensures answer { Returns (parameter_answer kind (cow_slice_items value.entry)) result }
+    ensures memory { OnOutOfMemory result
+        (MayNeedMemory (parameter_answer kind (cow_slice_items value.entry))) }
 {
     match kind {
         ParameterKind::Empty(command) => without_value(command, value.as_slice()),
@@ -126,8 +127,8 @@ fn with_value(alloc: Global, kind: ParameterKind, value: CowSlice<'_, u8>) -> An
 
 /// The command, where there is no value.
 fn without_value(command: UnitCommand, value: &[u8]) -> Answer
-    ensures told { Tells (alone (unit_command command) value.now) result }
-    ensures memory { OnStarved result ⊥ }
+    ensures answer { Returns (without_parameter (unit_command command) value.now) result }
+    ensures memory { OnOutOfMemory result ⊥ }
 {
     if value.is_empty() {
         Ok(command.command())
@@ -138,7 +139,7 @@ fn without_value(command: UnitCommand, value: &[u8]) -> Answer
 
 /// The value as text, which must not be empty.
 fn some_text(alloc: Global, value: CowSlice<'_, u8>) -> result::Result<String, ParseErrorKind>
-    ensures { TellsSome (cow_slice_items value.entry) result }
+    ensures { ReturnsSomeText (cow_slice_items value.entry) result }
 {
     if value.as_slice().is_empty() {
         return Err(ParseErrorKind::InvalidCommand);
@@ -148,7 +149,7 @@ fn some_text(alloc: Global, value: CowSlice<'_, u8>) -> result::Result<String, P
 
 /// A SITE subcommand and its parameter (RFC 959, section 4.1.3).
 fn site(alloc: Global, parameter: &[u8]) -> Answer
-    ensures { Tells (site_answer parameter.now) result }
+    ensures { Returns (site_answer parameter.now) result }
 {
     let (name, inner) = split(parameter);
     subcommand(alloc, from_utf8(name)?, inner)
@@ -156,7 +157,7 @@ fn site(alloc: Global, parameter: &[u8]) -> Answer
 
 /// The same, of a name in UTF-8.
 fn subcommand(alloc: Global, name: &str, parameter: &[u8]) -> Answer
-    ensures { Tells (by_value (by_name (upper name.now)) (value_of parameter.now)) result }
+    ensures { Returns (by_value (by_name (upper name.now)) (value_of parameter.now)) result }
 {
     let value = parameter_value(alloc, parameter)?;
     if name.eq_ignore_ascii_case("MD5") {
@@ -172,7 +173,8 @@ fn subcommand(alloc: Global, name: &str, parameter: &[u8]) -> Answer
 
 /// A verb without a rule of its own, and its parameter.
 fn other(alloc: Global, name: &str, parameter: &[u8]) -> Answer
-    ensures { Tells (by_value (any_text (Other (upper name.now))) (value_of parameter.now)) result }
+    ensures { Returns
+        (by_value (any_text (Other (upper name.now))) (value_of parameter.now)) result }
 {
     let value = parameter_value(alloc, parameter)?;
     Ok(Command::Other {

@@ -2,8 +2,8 @@
 ghost use Rattle.unftp_control_defs.specs.Rules.{auth, buffer_sizes, chosen, modes, offset, options, protections, structures};
 ghost use Rattle.std.specs.Str.Lossy.{utf8_lossy};
 ghost use Rattle.unftp_control_line_parser.specs.Meaning.{typed_answer};
-ghost use Rattle.unftp_control_line_parser.specs.Memory.{OnStarved};
-ghost use Rattle.unftp_control_line_parser.specs.Told.{Tells};
+ghost use Rattle.unftp_control_line_parser.specs.Memory.{OnOutOfMemory};
+ghost use Rattle.unftp_control_line_parser.specs.ParseAnswer.{Returns};
 
 use crate::error::ParseErrorKind;
 use crate::rule::TypedCommand;
@@ -14,8 +14,8 @@ type Answer = Result<Command, ParseErrorKind>;
 
 /// What the command's own type makes of the value.
 pub fn typed(command: TypedCommand, value: &[u8]) -> Answer
-    ensures told { Tells (typed_answer command value.now) result }
-    ensures memory { OnStarved result ⊥ }
+    ensures answer { Returns (typed_answer command value.now) result }
+    ensures memory { OnOutOfMemory result ⊥ }
 {
     match command {
         TypedCommand::Auth => auth(value),
@@ -30,8 +30,8 @@ pub fn typed(command: TypedCommand, value: &[u8]) -> Answer
 
 /// STRU and a structure (RFC 959, section 3.1.2).
 fn stru(value: &[u8]) -> Answer
-    ensures told { Tells (chosen structures value.now) result }
-    ensures memory { OnStarved result ⊥ }
+    ensures answer { Returns (chosen structures value.now) result }
+    ensures memory { OnOutOfMemory result ⊥ }
 {
     let structure = match value {
         b"F" => StruParam::File,
@@ -44,8 +44,8 @@ fn stru(value: &[u8]) -> Answer
 
 /// MODE and a transfer mode (RFC 959, section 3.4).
 fn mode(value: &[u8]) -> Answer
-    ensures told { Tells (chosen modes value.now) result }
-    ensures memory { OnStarved result ⊥ }
+    ensures answer { Returns (chosen modes value.now) result }
+    ensures memory { OnOutOfMemory result ⊥ }
 {
     let mode = match value {
         b"S" => ModeParam::Stream,
@@ -58,8 +58,8 @@ fn mode(value: &[u8]) -> Answer
 
 /// PROT and a protection level (RFC 2228, section 3).
 fn prot(value: &[u8]) -> Answer
-    ensures told { Tells (chosen protections value.now) result }
-    ensures memory { OnStarved result ⊥ }
+    ensures answer { Returns (chosen protections value.now) result }
+    ensures memory { OnOutOfMemory result ⊥ }
 {
     let param = match value {
         b"C" => ProtParam::Clear,
@@ -74,8 +74,8 @@ fn prot(value: &[u8]) -> Answer
 /// OPTS and the option UTF8, its two words both in upper case or both in lower case (RFC 2389,
 /// section 4).
 fn opts(value: &[u8]) -> Answer
-    ensures told { Tells (chosen options value.now) result }
-    ensures memory { OnStarved result ⊥ }
+    ensures answer { Returns (chosen options value.now) result }
+    ensures memory { OnOutOfMemory result ⊥ }
 {
     let on = if b"UTF8 ON".as_slice() == value || b"utf8 on".as_slice() == value {
         true
@@ -91,8 +91,8 @@ fn opts(value: &[u8]) -> Answer
 
 /// AUTH and a mechanism, ignoring ASCII case (RFC 2228, section 3; RFC 4217, section 2).
 fn auth(value: &[u8]) -> Answer
-    ensures told { Tells (auth value.now) result }
-    ensures memory { OnStarved result ⊥ }
+    ensures answer { Returns (auth value.now) result }
+    ensures memory { OnOutOfMemory result ⊥ }
 {
     if value.len() > 3 {
         return Err(ParseErrorKind::InvalidCommand);
@@ -110,8 +110,8 @@ fn auth(value: &[u8]) -> Answer
 
 /// PBSZ and the size 0 (RFC 4217, section 9).
 fn pbsz(value: &[u8]) -> Answer
-    ensures told { Tells (chosen buffer_sizes value.now) result }
-    ensures memory { OnStarved result ⊥ }
+    ensures answer { Returns (chosen buffer_sizes value.now) result }
+    ensures memory { OnOutOfMemory result ⊥ }
 {
     match value {
         b"0" => Ok(Command::Pbsz {}),
@@ -121,8 +121,8 @@ fn pbsz(value: &[u8]) -> Answer
 
 /// REST and an offset (RFC 3659, section 5).
 fn rest(value: &[u8]) -> Answer
-    ensures told { Tells (offset (utf8_lossy value.now)) result }
-    ensures memory { OnStarved result ⊥ }
+    ensures answer { Returns (offset (utf8_lossy value.now)) result }
+    ensures memory { OnOutOfMemory result ⊥ }
 {
     let Ok(text) = from_utf8(value) else {
         return Err(ParseErrorKind::InvalidCommand);

@@ -1,8 +1,8 @@
 //! The value of a parameter.
 ghost use Rattle.std.specs.Prelude.{◌≡◌, ◌≢◌, Some, []};
 ghost use Rattle.unftp_control_defs.specs.Values.{value_of, later_value, Fresh};
-ghost use Rattle.unftp_control_line_parser.specs.Memory.{OnStarved};
-ghost use Rattle.unftp_control_line_parser.specs.Values.{begins_escaped, IsPlainEnd, IsFreshEnd, TellsValue, TellsRun, TellsWhole, TellsJoined};
+ghost use Rattle.unftp_control_line_parser.specs.Memory.{OnOutOfMemory};
+ghost use Rattle.unftp_control_line_parser.specs.Values.{begins_with_cr_nul, IsPlainEnd, IsFreshEnd, ReturnsValue, IsRun, ReturnsValueFrom, ReturnsJoined};
 
 use crate::error::ParseErrorKind;
 use memchr::memchr2;
@@ -21,8 +21,8 @@ enum Run<'a> {
     /// All of the value.
     Last(&'a [u8]),
     /// A part of the value whose last byte is a CR that a NUL follows, and the bytes after the NUL.
-    Escaped(&'a [u8], &'a [u8]),
-    BadEnd,
+    Continued(&'a [u8], &'a [u8]),
+    InvalidEnd,
 }
 
 /// How many bytes, after a byte of the value, come before the next CR or LF.
@@ -48,38 +48,38 @@ fn fresh_len(bytes: &[u8]) -> usize
 
 /// The bytes up to the next line ending, valid or not, or CR NUL.
 fn front_run<'a>(bytes: &'a [u8]) -> Run<'a>
-    ensures { TellsRun bytes.now result }
+    ensures { IsRun bytes.now result }
 {
     let end = fresh_len(bytes);
     if end == bytes.len() {
-        return Run::BadEnd;
+        return Run::InvalidEnd;
     }
     let (part, _) = bytes.split_at(end);
     if bytes[end] == LF {
         return Run::Last(part);
     }
     if end + 1 == bytes.len() {
-        return Run::BadEnd;
+        return Run::InvalidEnd;
     }
     if bytes[end + 1] == LF {
         return Run::Last(part);
     }
     if bytes[end + 1] != NUL {
-        return Run::BadEnd;
+        return Run::InvalidEnd;
     }
     let (taken, _) = bytes.split_at(end + 1);
     let (_, rest) = bytes.split_at(end + 2);
-    Run::Escaped(taken, rest)
+    Run::Continued(taken, rest)
 }
 
 /// The value that begins with these bytes and goes on, directly after a CR NUL, with the rest.
 fn joined(front: Vec<u8>, after: &[u8]) -> Result<Vec<u8>, ParseErrorKind>
-    ensures { TellsJoined front.items (later_value Fresh after.now) result }
+    ensures { ReturnsJoined front.items (later_value Fresh after.now) result }
 {
     let mut joined = front;
     let mut rest = after;
     'parts: loop {
-        if begins_escaped(rest) {
+        if begins_with_cr_nul(rest) {
             let (_, further) = rest.split_at(2);
             joined.push(CR).map_err(AllocError::from)?;
             rest = further;
@@ -89,11 +89,11 @@ fn joined(front: Vec<u8>, after: &[u8]) -> Result<Vec<u8>, ParseErrorKind>
                     joined.extend_from_slice(part)?;
                     return Ok(joined);
                 }
-                Run::Escaped(part, further) => {
+                Run::Continued(part, further) => {
                     joined.extend_from_slice(part)?;
                     rest = further;
                 }
-                Run::BadEnd => return Err(ParseErrorKind::InvalidEol),
+                Run::InvalidEnd => return Err(ParseErrorKind::InvalidEol),
             }
         }
     }
@@ -105,7 +105,7 @@ fn unescaped<'a>(
     front: &[u8],
     after: &[u8],
 ) -> Result<CowSlice<'a, u8>, ParseErrorKind>
-    ensures { TellsWhole front.now (later_value Fresh after.now) result }
+    ensures { ReturnsValueFrom front.now (later_value Fresh after.now) result }
 {
     let mut value = Vec::with_capacity(alloc, front.len().saturating_add(after.len()))?;
     value.extend_from_slice(front)?;
@@ -113,8 +113,8 @@ fn unescaped<'a>(
 }
 
 /// Whether the parameter begins with CR NUL.
-fn begins_escaped(parameter: &[u8]) -> bool
-    ensures { result ≡ begins_escaped parameter.now }
+fn begins_with_cr_nul(parameter: &[u8]) -> bool
+    ensures { result ≡ begins_with_cr_nul parameter.now }
 {
     match parameter {
         [first, second, ..] => *first == CR && *second == NUL,
@@ -127,8 +127,8 @@ pub fn parameter_value<'a>(
     alloc: Global,
     parameter: &'a [u8],
 ) -> Result<CowSlice<'a, u8>, ParseErrorKind>
-    ensures told { TellsValue (value_of parameter.now) result }
-    ensures memory { OnStarved result (value_of parameter.now ≢ Some []) }
+    ensures answer { ReturnsValue (value_of parameter.now) result }
+    ensures memory { OnOutOfMemory result (value_of parameter.now ≢ Some []) }
 {
     let (none, _) = parameter.split_at(0);
     if parameter.is_empty() || parameter[0] == LF {
@@ -138,7 +138,7 @@ pub fn parameter_value<'a>(
     if rest == b"\n".as_slice() {
         return Ok(CowSlice::Borrowed(if parameter[0] == CR { none } else { first }));
     }
-    if begins_escaped(parameter) {
+    if begins_with_cr_nul(parameter) {
         let (_, after) = parameter.split_at(2);
         return unescaped(alloc, first, after);
     }
@@ -147,10 +147,10 @@ pub fn parameter_value<'a>(
             let (value, _) = parameter.split_at(1 + part.len());
             Ok(CowSlice::Borrowed(value))
         }
-        Run::Escaped(part, further) => {
+        Run::Continued(part, further) => {
             let (front, _) = parameter.split_at(1 + part.len());
             unescaped(alloc, front, further)
         }
-        Run::BadEnd => Err(ParseErrorKind::InvalidEol),
+        Run::InvalidEnd => Err(ParseErrorKind::InvalidEol),
     }
 }

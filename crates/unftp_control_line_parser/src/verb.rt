@@ -111,15 +111,16 @@ pub fn rule_named(word: &[u8]) -> Option<Rule>
 pub fn verb_table()
     ensures order { IsStrictlyIncreasing (map (λ row. from_be_bytes w32 row.0) VERBS) }
     ensures rows { (word : Bytes)
-        → row_of word (map (λ row. (from_four_bytes row.0, meaning row.1)) VERBS) ≡ row_of word verbs }
+        → row_of word (map (λ row. (from_four_bytes row.0, meaning row.1)) VERBS)
+        ≡ row_of word verbs }
 {}
 
 /// Whether the word is a verb with a rule of its own, in upper case (RFC 959, section 5.3). It
 /// takes no memory.
-pub fn is_verb(raised: &[u8]) -> bool
-    ensures { IsTrue result ↔ IsSome (row_of raised.now verbs) }
+pub fn is_verb(word: &[u8]) -> bool
+    ensures { IsTrue result ↔ IsSome (row_of word.now verbs) }
 {
-    match to_four_bytes(raised) {
+    match to_four_bytes(word) {
         Some(word) => rule_of(&word).is_some(),
         None => false,
     }

@@ -1,5 +1,5 @@
 //! What is printed, and each call with memory and without.
-mod growths;
+mod failed_allocations;
 
 use super::Password;
 use bytes::Bytes;

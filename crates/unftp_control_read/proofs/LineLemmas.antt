@@ -8,7 +8,7 @@ use Rattle.bstr.specs.Find.{FindsNeedle, OccursAt}
 use Rattle.unftp_control_defs.specs.Bytes.{Bytes, CR, LF, SP, crlf}
 use Rattle.unftp_control_defs.specs.ReplyReader.{LacksCrlf, with_crlf, GoesOn, IsEnded}
 use Rattle.unftp_control_read.specs.Reading.{EndsWith}
-use Rattle.unftp_control_defs.proofs.ReaderLaws.{cut_first, line_apart, same_front}
+use Rattle.unftp_control_defs.proofs.ReplyUniqueLemmas.{cut_first, line_apart, same_front}
 
 -- there is no CR LF at the position
 abbrev pub NoCrlfAt : Bytes → ℕ → Type 0

@@ -30,13 +30,14 @@ front_of (Whole code lines used) = whole code (contents lines) used
 front_of Partial = partial
 
 -- what an answer means for the bytes
-abbrev pub TellsFront : Bytes → Front → Type 0
-TellsFront bytes (Whole code lines used) = FrontReply bytes code (contents lines) used
-TellsFront bytes Partial = IsPartial bytes
+abbrev pub ReturnsFront : Bytes → Front → Type 0
+ReturnsFront bytes (Whole code lines used) = FrontReply bytes code (contents lines) used
+ReturnsFront bytes Partial = IsPartial bytes
 
 -- the answer is the whole reply of this code and these lines
 abbrev pub IsWhole : ℕ → List Bytes → ℕ → Front → Type 0
-IsWhole code lines used (Whole found read taken) = (found ≡ code) × (contents read ≡ lines) × (taken ≡ used)
+IsWhole code lines used (Whole found read taken) =
+    (found ≡ code) × (contents read ≡ lines) × (taken ≡ used)
 IsWhole code lines used Partial = ⊥
 
 -- a whole reply takes bytes, and no more than there are
@@ -45,17 +46,19 @@ IsWithin bytes (Whole code lines used) = (0 < used) × (used ≤ length bytes)
 IsWithin bytes Partial = Unit {0}
 
 -- what a refusal means for them: memory is asked for only where they begin with a reply
-abbrev pub TellsRefusal : Bytes → ReadReplyError → Type 0
-TellsRefusal bytes Malformed = IsMalformed bytes
-TellsRefusal bytes OutOfMemory = HasFront bytes
+abbrev pub ReturnsRefusal : Bytes → ReadReplyError → Type 0
+ReturnsRefusal bytes Malformed = IsMalformed bytes
+ReturnsRefusal bytes OutOfMemory = HasFront bytes
 
 -- the lines before the last one, as they are; its text; what follows
 abbrev pub EndsWith : Bytes → Bytes → Bytes → Bytes → Bytes → Type 0
-EndsWith digits bytes middle text rest = (ended : IsEnded digits bytes) × (middle ≡ flat_map with_crlf ended.middle) × (text ≡ ended.last) × (rest ≡ ended.rest)
+EndsWith digits bytes middle text rest = (ended : IsEnded digits bytes)
+    × (middle ≡ flat_map with_crlf ended.middle) × (text ≡ ended.last) × (rest ≡ ended.rest)
 
 -- how the line opens a reply after these digits
 abbrev pub IsKind : Bytes → Bytes → Kind → Type 0
-IsKind line digits (One text) = ((line ≡ digits) × (text.now ≡ [])) ⊎ (line ≡ digits ++ SP ∷ text.now)
+IsKind line digits (One text) =
+    ((line ≡ digits) × (text.now ≡ [])) ⊎ (line ≡ digits ++ SP ∷ text.now)
 IsKind line digits (Several text) = line ≡ digits ++ DASH ∷ text.now
 
 abbrev pub IsOpening : Bytes → ℕ → Bytes → Kind → Type 0
@@ -64,9 +67,12 @@ IsOpening line code digits kind = SpellsCode digits code × IsKind line digits k
 -- the texts are these lines
 abbrev pub Holds : Texts → List Bytes → Type 0
 Holds (text.One one) lines = lines ≡ one.now ∷ []
-Holds (text.Several first middle last) lines = (between : List Bytes) × (middle.now ≡ flat_map with_crlf between) × AllByRecursion LacksCrlf between × (lines ≡ first.now ∷ (between ++ last.now ∷ []))
+Holds (text.Several first middle last) lines = (between : List Bytes)
+    × (middle.now ≡ flat_map with_crlf between) × AllByRecursion LacksCrlf between
+    × (lines ≡ first.now ∷ (between ++ last.now ∷ []))
 
 abbrev pub Finds : Bytes → Finding → Type 0
-Finds bytes (find.Whole code texts used) = (lines : List Bytes) × Holds texts lines × FrontReply bytes code lines used
+Finds bytes (find.Whole code texts used) =
+    (lines : List Bytes) × Holds texts lines × FrontReply bytes code lines used
 Finds bytes find.Partial = IsPartial bytes
 Finds bytes find.Malformed = IsMalformed bytes

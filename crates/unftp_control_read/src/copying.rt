@@ -11,7 +11,8 @@ use std::alloc::{AllocError, Global};
 
 /// The lines that the texts are.
 pub(crate) fn copy_lines(alloc: Global, texts: Texts<'_>) -> Result<Vec<Vec<u8>>, AllocError>
-    ensures { IfOk result (λ copied. (lines : List Bytes) → Holds texts.entry lines → contents copied ≡ lines) }
+    ensures { IfOk result (λ copied.
+        (lines : List Bytes) → Holds texts.entry lines → contents copied ≡ lines) }
 {
     match texts {
         Texts::One(text) => copy_one(alloc, text),
@@ -39,7 +40,8 @@ fn copy_several(
     middle: &[u8],
     last: &[u8],
 ) -> Result<Vec<Vec<u8>>, AllocError>
-    ensures { IfOk result (λ copied. (between : List Bytes) → AllByRecursion LacksCrlf between → middle.now ≡ flat_map with_crlf between
+    ensures { IfOk result (λ copied. (between : List Bytes) → AllByRecursion LacksCrlf between
+        → middle.now ≡ flat_map with_crlf between
         → contents copied ≡ first.now ∷ (between ++ last.now ∷ [])) }
 {
     let mut lines = copy_one(alloc, first)?;

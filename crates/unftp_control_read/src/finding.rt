@@ -32,7 +32,7 @@ pub(crate) enum Finding<'a> {
 pub(crate) fn find_front(bytes: &[u8]) -> Finding<'_>
     ensures { Finds bytes.now result }
 {
-    let Some((line, behind)) = next_line(bytes) else {
+    let Some((line, after)) = next_line(bytes) else {
         return Finding::Partial;
     };
     let Some(opening) = opening_of(line) else {
@@ -43,9 +43,9 @@ pub(crate) fn find_front(bytes: &[u8]) -> Finding<'_>
         Kind::One(text) => Finding::Whole {
             code,
             texts: Texts::One(text),
-            used: bytes.len() - behind.len(),
+            used: bytes.len() - after.len(),
         },
-        Kind::Several(first) => match find_last_line(opening.digits, behind) {
+        Kind::Several(first) => match find_last_line(opening.digits, after) {
             None => Finding::Partial,
             Some(LastLine { middle, text, rest }) => Finding::Whole {
                 code,

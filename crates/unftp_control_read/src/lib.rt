@@ -4,7 +4,7 @@
 ghost use Rattle.std.specs.Prelude.{◌≡◌, ◌↔◌, ℕ, List, IsTrue, IfOk, IfErr, MatchResult};
 ghost use Rattle.unftp_control_defs.specs.Bytes.{Bytes};
 ghost use Rattle.unftp_control_defs.specs.ReplyReader.{FrontReply, IsPartial, IsMalformed};
-ghost use Rattle.unftp_control_read.specs.Reading.{TellsFront, TellsRefusal, IsWhole, IsWithin, front_of};
+ghost use Rattle.unftp_control_read.specs.Reading.{ReturnsFront, ReturnsRefusal, IsWhole, IsWithin, front_of};
 ghost use Rattle.unftp_control_read.specs.declared.Front.{Front as RustFront};
 
 mod copying;
@@ -54,10 +54,12 @@ pub enum ReadReplyError {
 /// copied. So `Partial` and `Malformed` take no memory, and `OutOfMemory` is returned only where a
 /// whole reply is there. The bytes after the reply are ignored.
 pub fn read_reply(alloc: Global, bytes: &[u8]) -> Result<Front, ReadReplyError>
-    ensures front { IfOk result (λ front. TellsFront bytes.now front) }
-    ensures refusal { IfErr result (λ refusal. TellsRefusal bytes.now refusal) }
-    ensures whole { (code : ℕ) (lines : List Bytes) (used : ℕ) → FrontReply bytes.now code lines used
-        → MatchResult result (λ front. IsWhole code lines used front) (λ refusal. refusal ≡ ReadReplyError.OutOfMemory) }
+    ensures front { IfOk result (λ front. ReturnsFront bytes.now front) }
+    ensures refusal { IfErr result (λ refusal. ReturnsRefusal bytes.now refusal) }
+    ensures whole { (code : ℕ) (lines : List Bytes) (used : ℕ)
+        → FrontReply bytes.now code lines used
+        → MatchResult result (λ front. IsWhole code lines used front) (λ refusal.
+        refusal ≡ ReadReplyError.OutOfMemory) }
     ensures within { IfOk result (λ front. IsWithin bytes.now front) }
     ensures partial { IsPartial bytes.now → result ≡ Ok Front.Partial }
     ensures malformed { IsMalformed bytes.now → result ≡ Err ReadReplyError.Malformed }
@@ -74,5 +76,6 @@ pub fn read_reply(alloc: Global, bytes: &[u8]) -> Result<Front, ReadReplyError>
 
 /// Two fronts are equal exactly where their contents are.
 pub fn same_fronts()
-    ensures { (a b : RustFront) → IsTrue (⟦<Front as PartialEq>⟧.eq a b) ↔ (front_of a ≡ front_of b) }
+    ensures { (a b : RustFront)
+        → IsTrue (⟦<Front as PartialEq>⟧.eq a b) ↔ (front_of a ≡ front_of b) }
 {}

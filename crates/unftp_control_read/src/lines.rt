@@ -51,7 +51,8 @@ pub(crate) struct LastLine<'a> {
 
 /// The first line that begins with the digits and a space.
 pub(crate) fn find_last_line<'a>(digits: &[u8], bytes: &'a [u8]) -> Option<LastLine<'a>>
-    ensures found { IfSome result (λ last. EndsWith digits.now bytes.now last.middle.now last.text.now last.rest.now) }
+    ensures found { IfSome result (λ last.
+        EndsWith digits.now bytes.now last.middle.now last.text.now last.rest.now) }
     ensures none { IfNone result (IsUnended digits.now bytes.now) }
 {
     let mut rest = bytes;

@@ -45,13 +45,14 @@ pub(crate) struct Opening<'a> {
 
 /// How the line opens a reply.
 pub(crate) fn opening_of(line: &[u8]) -> Option<Opening<'_>>
-    ensures some { IfSome result (λ opening. IsOpening line.now opening.code opening.digits.now opening.kind) }
+    ensures some { IfSome result (λ opening.
+        IsOpening line.now opening.code opening.digits.now opening.kind) }
     ensures none { IfNone result (¬ Opens line.now) }
 {
-    let (digits, behind) = line.split_at_checked(3)?;
+    let (digits, after) = line.split_at_checked(3)?;
     let code = code_of(digits)?;
-    let kind = match behind {
-        [] => Kind::One(behind),
+    let kind = match after {
+        [] => Kind::One(after),
         [b' ', text @ ..] => Kind::One(text),
         [b'-', text @ ..] => Kind::Several(text),
         _ => return None,

@@ -60,4 +60,5 @@ number_of code.BadFileName = 553
 abbrev pub reply_of : Reply → FtpReply
 reply_of rust.None = spec.Nothing
 reply_of (rust.CodeAndMsg code msg) = spec.CodeAndMsg (number_of code) (string_bytes msg)
-reply_of (rust.MultiLine code lines) = spec.MultiLine (number_of code) (map string_bytes lines.items)
+reply_of (rust.MultiLine code lines) =
+    spec.MultiLine (number_of code) (map string_bytes lines.items)

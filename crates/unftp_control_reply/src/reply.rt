@@ -36,7 +36,8 @@ pub enum Reply {
 impl Reply {
     /// A reply of one line. It fails only when out of memory, with the kind `OutOfMemory`.
     pub fn new(alloc: Global, code: ReplyCode, message: &str) -> Result<Reply, ControlChanError>
-        ensures ok { IfOk result (λ reply. reply_of reply ≡ CodeAndMsg (number_of code) message.now) }
+        ensures ok { IfOk result (λ reply.
+            reply_of reply ≡ CodeAndMsg (number_of code) message.now) }
         ensures err { IfErr result (λ error. fault_of error ≡ out_of_memory) }
     {
         let msg = String::from_str(alloc, message)?;
@@ -59,7 +60,8 @@ impl Reply {
         lines: I,
     ) -> Result<Reply, ControlChanError>
         requires { IsFiniteIterable I.into_iter_gives I.IntoIter.can_next I.IntoIter.remaining lines }
-        ensures ok { IfOk result (λ reply. (iterator : I.IntoIter) × (texts : _) × I.into_iter_gives lines iterator
+        ensures ok { IfOk result (λ reply.
+            (iterator : I.IntoIter) × (texts : _) × I.into_iter_gives lines iterator
             × Drains I.IntoIter.next_gives iterator texts
             × (reply_of reply ≡ MultiLine (number_of code) (map (λ text. text.now) texts))) }
         ensures err { IfErr result (λ error. fault_of error ≡ out_of_memory) }
@@ -112,8 +114,10 @@ fn owned_lines<'a, I: IntoIterator<Item = &'a str>>(
     lines: I,
 ) -> Result<Vec<String>, AllocError>
     requires { IsFiniteIterable I.into_iter_gives I.IntoIter.can_next I.IntoIter.remaining lines }
-    ensures { IfOk result (λ owned. (iterator : I.IntoIter) × (texts : _) × I.into_iter_gives lines iterator
-        × Drains I.IntoIter.next_gives iterator texts × (map string_bytes owned.items ≡ map (λ text. text.now) texts)) }
+    ensures { IfOk result (λ owned.
+        (iterator : I.IntoIter) × (texts : _) × I.into_iter_gives lines iterator
+        × Drains I.IntoIter.next_gives iterator texts
+        × (map string_bytes owned.items ≡ map (λ text. text.now) texts)) }
 {
     let mut rest = lines.into_iter();
     let (at_least, _) = rest.size_hint();
@@ -126,7 +130,8 @@ fn owned_lines<'a, I: IntoIterator<Item = &'a str>>(
 
 /// The same lines.
 fn lines_again(alloc: Global, lines: &Vec<String>) -> Result<Vec<String>, AllocError>
-    ensures { IfOk result (λ again. map string_bytes again.items ≡ map string_bytes lines.now.items) }
+    ensures { IfOk result (λ again.
+        map string_bytes again.items ≡ map string_bytes lines.now.items) }
 {
     let mut again = Vec::with_capacity(alloc, lines.len())?;
     for line in lines {
@@ -159,5 +164,6 @@ impl fmt::Debug for Reply {
 
 /// `==` of replies is equality of code and texts.
 pub fn same_replies()
-    ensures { (a b : RustReply) → IsTrue (⟦<Reply as PartialEq>⟧.eq a b) ↔ (reply_of a ≡ reply_of b) }
+    ensures { (a b : RustReply)
+        → IsTrue (⟦<Reply as PartialEq>⟧.eq a b) ↔ (reply_of a ≡ reply_of b) }
 {}

@@ -5,8 +5,8 @@ use Rattle.std.specs.Io.KnownBytes.{Appends}
 use Rattle.unftp_control_defs.specs.Bytes.{Bytes}
 use Rattle.unftp_control_defs.specs.Events.{Fault, FtpEvent}
 use Rattle.unftp_control_defs.specs.Run.{last_state}
-use Rattle.unftp_control_serve.specs.Endings.{Moment, AllAnswered, WriteFailed, HandlerFailed, MemoryRefused, TookAtMostOne}
-use Rattle.unftp_control_serve.specs.Examples.{counting, noop, moment}
+use Rattle.unftp_control_serve.specs.Endings.{Snapshot, AllAnswered, WriteFailed, HandlerFailed, RanOutOfMemory, TookAtMostOne}
+use Rattle.unftp_control_serve.specs.Examples.{counting, noop, snapshot}
 use Rattle.unftp_control_serve.specs.Sink.{Begins}
 
 -- the only event is the first
@@ -19,10 +19,10 @@ no_events : (done later : List FtpEvent) → [] ≡ done ++ later → done ≡ [
 no_events [] later split = refl
 no_events (e ∷ done) later split = absurd (cc)
 
-abbrev pub start : Moment ℕ
-start = moment 3 (codes "x") 1
+abbrev pub start : Snapshot ℕ
+start = snapshot 3 (codes "x") 1
 
-module _ (after : Moment ℕ) (v : WriteFailed counting start (noop ∷ []) after) where
+module _ (after : Snapshot ℕ) (v : WriteFailed counting start (noop ∷ []) after) where
   nothing : v.done ≡ []
   nothing = done_nothing v.done v.event v.later v.split
 
@@ -34,14 +34,14 @@ module _ (after : Moment ℕ) (v : WriteFailed counting start (noop ∷ []) afte
   pub write_failed-state : after.state ≡ 4
   write_failed-state = rw nothing at v.state
 
-module _ (after : Moment ℕ) (fault : Fault) (v : HandlerFailed counting start (noop ∷ []) after fault) where
+module _ (after : Snapshot ℕ) (fault : Fault) (v : HandlerFailed counting start (noop ∷ []) after fault) where
   still_nothing : v.done ≡ []
   still_nothing = done_nothing v.done v.event v.later v.split
 
   pub handler_failed-written : Appends (Some (codes "x")) after.output.written [] × (after.output.unflushed ≤ 1)
   handler_failed-written = (rw still_nothing at v.written, rw still_nothing at v.flushed)
 
-module _ (after : Moment ℕ) (v : AllAnswered counting start (noop ∷ noop ∷ []) after) where
+module _ (after : Snapshot ℕ) (v : AllAnswered counting start (noop ∷ noop ∷ []) after) where
   pub all_answered-written : Appends (Some (codes "x")) after.output.written (codes "200 OK\r\n200 OK\r\n")
   unfolding digits
   all_answered-written = v.written
@@ -59,7 +59,7 @@ took s (e ∷ []) [] split state = inr state
 took s (e ∷ []) (f ∷ later) split state = absurd (cc)
 took s (e ∷ f ∷ done) later split state = absurd (cc)
 
-pub allocation_failed-state : (after : Moment ℕ) → MemoryRefused counting start (noop ∷ []) after → (after.state ≡ 3) ⊎ (after.state ≡ 4)
+pub allocation_failed-state : (after : Snapshot ℕ) → RanOutOfMemory counting start (noop ∷ []) after → (after.state ≡ 3) ⊎ (after.state ≡ 4)
 allocation_failed-state after v = took after.state v.done v.later v.split v.state
 
 none_took : (s : ℕ) (done later : List FtpEvent) → [] ≡ done ++ later → TookAtMostOne counting (last_state counting 3 done) later s → s ≡ 3
@@ -67,7 +67,7 @@ none_took s [] [] split state = state
 none_took s [] (e ∷ later) split state = absurd (cc)
 none_took s (e ∷ done) later split state = absurd (cc)
 
-module _ (after : Moment ℕ) (v : MemoryRefused counting start [] after) where
+module _ (after : Snapshot ℕ) (v : RanOutOfMemory counting start [] after) where
   none_done : v.done ≡ []
   none_done = no_events v.done v.later v.split
 

@@ -1,5 +1,5 @@
-pub mod SendLaws
-mod EndingLaws
-mod StoreLaws
-mod ServiceLaws
+pub mod SendLemmas
+mod EndingLemmas
+mod LineBufferLemmas
+mod ServiceLemmas
 mod ExampleLemmas

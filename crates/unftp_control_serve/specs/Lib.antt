@@ -3,7 +3,7 @@ pub mod EventMeaning
 pub mod ErrorTexts
 pub mod Sink
 pub mod Endings
-pub mod Store
+pub mod LineBuffer
 pub mod Engine
 pub mod Service
 pub mod Examples

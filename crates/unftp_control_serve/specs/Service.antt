@@ -2,12 +2,12 @@
 use Rattle.std.specs.Prelude.{◌≡◌, ℕ, ◌-◌, ◌^◌, ◌<◌, ◌≤◌, ◌++◌, length, Option}
 use Rattle.std.specs.Io.KnownBytes.{Consumes, IsAtEnd}
 use Rattle.unftp_control_defs.specs.Bytes.{Bytes}
-use Rattle.unftp_control_defs.specs.Lines.{rest_of}
+use Rattle.unftp_control_defs.specs.Lines.{incomplete_line}
 use Rattle.unftp_control_defs.specs.Events.{events}
 use Rattle.unftp_control_defs.specs.Run.{Law}
 use Rattle.unftp_control_serve.specs.Sink.{Begins}
-use Rattle.unftp_control_serve.specs.Endings.{Moment, AllAnswered, RunEnded, done_of}
-use Rattle.unftp_control_serve.specs.Engine.{told}
+use Rattle.unftp_control_serve.specs.Endings.{Snapshot, AllAnswered, RunEnded, done_of}
+use Rattle.unftp_control_serve.specs.Engine.{saturating_u64}
 use Rattle.unftp_control_serve.specs.declared.input.Input.{Input}
 use Rattle.unftp_control_serve.specs.declared.error.ServeError.{ServeError}
 use Rattle.unftp_control_serve.specs.declared.error.ServeError.TheVariants.{Read, Write, WriteZero, Handler, OutOfMemory, TooManyReads}
@@ -22,25 +22,28 @@ abbrev pub source_of : {R : Type 0} → (R → Option Bytes) → Input R → Sou
 source_of remaining input = record { remaining = remaining input.reader; failures = input.failures }
 
 -- all lines of what was read were answered
-pub record Answered {S : Type 0} (law : Law S) (before after : Moment S) (input input' : Source) : Type 0 where
+pub record Answered {S : Type 0} (law : Law S) (before after : Snapshot S)
+    (input input' : Source) : Type 0 where
   pub read : Bytes
   pub consumed : Consumes input.remaining input'.remaining read
   pub answered : AllAnswered law before (events read) after
 
 -- .. which is the whole input, and so many bytes of it came after its last line feed; each byte was
 -- scanned for one exactly once
-pub record AnsweredAll {S : Type 0} (law : Law S) (before after : Moment S) (input input' : Source) (left tests : ℕ) : Type 0 where
+pub record AnsweredAll {S : Type 0} (law : Law S) (before after : Snapshot S)
+    (input input' : Source) (left tests : ℕ) : Type 0 where
   pub read : Bytes
   pub consumed : Consumes input.remaining input'.remaining read
   pub at_end : IsAtEnd input'.remaining
   pub answered : AllAnswered law before (events read) after
-  pub told_left : left ≡ told (length (rest_of read))
+  pub left_reported : left ≡ saturating_u64 (length (incomplete_line read))
   pub tested : tests ≡ length read
   pub no_read_failed : input'.failures ≡ input.failures
 
 -- It ended at some line of what was read, and all lines of what was read before the last piece were
 -- answered.
-pub record EndedLate {S : Type 0} (law : Law S) (before after : Moment S) (input input' : Source) (error : ServeError) : Type 0 where
+pub record EndedLate {S : Type 0} (law : Law S) (before after : Snapshot S) (input input' : Source)
+    (error : ServeError) : Type 0 where
   pub read : Bytes
   pub piece : Bytes
   pub consumed : Consumes input.remaining input'.remaining (read ++ piece)
@@ -48,20 +51,27 @@ pub record EndedLate {S : Type 0} (law : Law S) (before after : Moment S) (input
   pub ended : RunEnded law before (events (read ++ piece)) after error
   pub late : Begins (done_of law before (events (read ++ piece)) after error ended) (events read)
 
-pub record ReadFailed {S : Type 0} (law : Law S) (before after : Moment S) (input input' : Source) : Type 0 where
+pub record ReadFailed {S : Type 0} (law : Law S) (before after : Snapshot S)
+    (input input' : Source) : Type 0 where
   pub answered : Answered law before after input input'
   pub read_failed : input.failures < input'.failures
 
-pub record ReadTooOften {S : Type 0} (law : Law S) (before after : Moment S) (input input' : Source) : Type 0 where
+pub record ReadTooOften {S : Type 0} (law : Law S) (before after : Snapshot S)
+    (input input' : Source) : Type 0 where
   pub answered : Answered law before after input input'
   pub many : 2 ^ 64 - 1 ≤ length answered.read
 
 -- which of them an error means
-abbrev pub ServeEnded : {S : Type 0} → Law S → Moment S → Moment S → Source → Source → ServeError → Type 0
+abbrev pub ServeEnded : {S : Type 0} → Law S → Snapshot S → Snapshot S → Source → Source
+    → ServeError → Type 0
 ServeEnded law before after input input' (Read _) = ReadFailed law before after input input'
-ServeEnded law before after input input' (Write error) = EndedLate law before after input input' (Write error)
-ServeEnded law before after input input' WriteZero = EndedLate law before after input input' WriteZero
-ServeEnded law before after input input' (Handler error) = EndedLate law before after input input' (Handler error)
-ServeEnded law before after input input' OutOfMemory = EndedLate law before after input input' OutOfMemory
+ServeEnded law before after input input' (Write error) =
+    EndedLate law before after input input' (Write error)
+ServeEnded law before after input input' WriteZero =
+    EndedLate law before after input input' WriteZero
+ServeEnded law before after input input' (Handler error) =
+    EndedLate law before after input input' (Handler error)
+ServeEnded law before after input input' OutOfMemory =
+    EndedLate law before after input input' OutOfMemory
 ServeEnded law before after input input' TooManyReads = ReadTooOften law before after input input'
 ServeEnded law before after input input' _ = ⊥

@@ -15,13 +15,18 @@ pub record Sink : Type 0 where
 
 -- of an output over a writer with these written bytes
 abbrev pub sink_of : {W : Type 0} → (W → Option Bytes) → Output W → Sink
-sink_of contents output = record { written = contents output.writer; failures = output.failures; unflushed = output.unflushed }
+sink_of contents output = record {
+  written = contents output.writer;
+  failures = output.failures;
+  unflushed = output.unflushed;
+}
 
 -- One write of so many bytes: an error is a failure, and so is a write that takes nothing of bytes
 -- that are not empty.
 abbrev pub CountsWrite : {E : Type 0} → Result ℕ E → ℕ → ℕ → ℕ → ℕ → ℕ → Type 0
 CountsWrite result len failures failures' unflushed unflushed' = MatchResult result
-    (λ n. (failures' ≡ failures + (if n == 0 && not (len == 0) then 1 else 0)) × (unflushed' ≡ unflushed + n))
+    (λ n. (failures' ≡ failures + (if n == 0 && not (len == 0) then 1 else 0))
+    × (unflushed' ≡ unflushed + n))
     (λ _. (failures' ≡ failures + 1) × (unflushed' ≡ unflushed))
 
 -- one flush
@@ -66,7 +71,11 @@ WriterFailed WriteZero P = P
 WriterFailed _ P = ⊥
 
 abbrev pub Writes : {T : Type 0} → Result T ServeError → Bytes → Sink → Sink → Type 0
-Writes result bytes before after = MatchResult result (λ _. Wrote bytes before after) (λ error. WriterFailed error (CutShort bytes before after))
+Writes result bytes before after = MatchResult result
+    (λ _. Wrote bytes before after)
+    (λ error. WriterFailed error (CutShort bytes before after))
 
 abbrev pub Sends : {T : Type 0} → Result T ServeError → Bytes → Sink → Sink → Type 0
-Sends result bytes before after = MatchResult result (λ _. Sent bytes before after) (λ error. WriterFailed error (CutShort bytes before after))
+Sends result bytes before after = MatchResult result
+    (λ _. Sent bytes before after)
+    (λ error. WriterFailed error (CutShort bytes before after))

@@ -2,19 +2,19 @@
 ghost use Rattle.std.specs.Prelude.{◌≡◌, ◌≤◌, ◌+◌, ◌↔◌, ◌∷◌, ◌++◌, [], OnOk, OnErr, IsErrOf, is_err, true, false, length};
 ghost use Rattle.std.specs.Io.KnownBytes.{Appends};
 ghost use Rattle.unftp_control_defs.specs.Events.{events};
-ghost use Rattle.unftp_control_defs.specs.Lines.{rest_of};
+ghost use Rattle.unftp_control_defs.specs.Lines.{incomplete_line};
 ghost use Rattle.unftp_control_defs.specs.Run.{text_of};
-ghost use Rattle.unftp_control_serve.specs.Endings.{RunOutcome, WriteFailed, HandlerFailed, MemoryRefused, OnWrite, OnHandler, OnMemory, ReadsNothing, moment_of};
-ghost use Rattle.unftp_control_serve.specs.Engine.{IsGoing, Leaves, events_with};
+ghost use Rattle.unftp_control_serve.specs.Endings.{RunOutcome, WriteFailed, HandlerFailed, RanOutOfMemory, OnWrite, OnHandler, OnMemory, ReadsNothing, snapshot_of};
+ghost use Rattle.unftp_control_serve.specs.Engine.{IsRunning, Leaves, events_with};
 ghost use Rattle.unftp_control_serve.specs.EventMeaning.{event_meant};
 ghost use Rattle.unftp_control_serve.specs.Sink.{Flushed};
 
 use crate::error::ServeError;
 use crate::event::Event;
 use crate::handler::Handler;
+use crate::line_buffer::LineBuffer;
 use crate::output::Output;
 use crate::send::send;
-use crate::store::Store;
 use std::alloc::Global;
 use std::io::Write;
 use std::marker::Model;
@@ -29,9 +29,9 @@ fn answer_event<H: Handler, W: Write>(
     output: &mut Output<W>,
 ) -> Result<(), ServeError>
     ensures { RunOutcome H.law
-        (moment_of H.state H.failures W.contents handler.old output.old)
+        (snapshot_of H.state H.failures W.contents handler.old output.old)
         (event_meant event ∷ [])
-        (moment_of H.state H.failures W.contents handler.new output.new)
+        (snapshot_of H.state H.failures W.contents handler.new output.new)
         result }
 {
     let reply = match handler.handle(alloc, event) {
@@ -47,24 +47,26 @@ fn answer_event<H: Handler, W: Write>(
 
 /// Answers each pending line.
 fn answer_lines<H: Handler, W: Write>(
-    store: &mut Store,
+    line_buffer: &mut LineBuffer,
     handler: &mut H,
     output: &mut Output<W>,
 ) -> Result<(), ServeError>
     ensures outcome { RunOutcome H.law
-        (moment_of H.state H.failures W.contents handler.old output.old)
-        (events store.old.bytes)
-        (moment_of H.state H.failures W.contents handler.new output.new)
+        (snapshot_of H.state H.failures W.contents handler.old output.old)
+        (events line_buffer.old.bytes)
+        (snapshot_of H.state H.failures W.contents handler.new output.new)
         result }
-    ensures rest { OnOk result (store.new.bytes ≡ rest_of store.old.bytes) }
-    ensures ahead { OnOk result (store.new.ahead ≡ 0) }
-    ensures tests { store.new.tests ≤ store.old.tests + store.old.ahead }
-    ensures tested { OnOk result (store.new.tests ≡ store.old.tests + store.old.ahead) }
-    ensures never_fewer { store.old.tests ≤ store.new.tests }
+    ensures incomplete { OnOk result
+        (line_buffer.new.bytes ≡ incomplete_line line_buffer.old.bytes) }
+    ensures unscanned { OnOk result (line_buffer.new.unscanned ≡ 0) }
+    ensures tests { line_buffer.new.tests ≤ line_buffer.old.tests + line_buffer.old.unscanned }
+    ensures tested { OnOk result
+        (line_buffer.new.tests ≡ line_buffer.old.tests + line_buffer.old.unscanned) }
+    ensures never_fewer { line_buffer.old.tests ≤ line_buffer.new.tests }
 {
-    let alloc = store.allocator();
+    let alloc = line_buffer.allocator();
     loop {
-        match store.next()? {
+        match line_buffer.next()? {
             Some(event) => answer_event(alloc, event, handler, output)?,
             None => return Ok(()),
         }
@@ -73,57 +75,61 @@ fn answer_lines<H: Handler, W: Write>(
 
 /// Answers each line of the pending bytes and a piece after them.
 fn answer_piece<H: Handler, W: Write>(
-    store: &mut Store,
+    line_buffer: &mut LineBuffer,
     piece: &[u8],
     handler: &mut H,
     output: &mut Output<W>,
 ) -> Result<(), ServeError>
     ensures outcome { RunOutcome H.law
-        (moment_of H.state H.failures W.contents handler.old output.old)
-        (events (store.old.bytes ++ piece.now))
-        (moment_of H.state H.failures W.contents handler.new output.new)
+        (snapshot_of H.state H.failures W.contents handler.old output.old)
+        (events (line_buffer.old.bytes ++ piece.now))
+        (snapshot_of H.state H.failures W.contents handler.new output.new)
         result }
-    ensures rest { OnOk result (store.new.bytes ≡ rest_of (store.old.bytes ++ piece.now)) }
-    ensures ahead { OnOk result (store.new.ahead ≡ 0) }
-    ensures tests { store.new.tests ≤ store.old.tests + store.old.ahead + length piece.now }
-    ensures tested { OnOk result (store.new.tests ≡ store.old.tests + store.old.ahead + length piece.now) }
-    ensures never_fewer { store.old.tests ≤ store.new.tests }
+    ensures incomplete { OnOk result
+        (line_buffer.new.bytes ≡ incomplete_line (line_buffer.old.bytes ++ piece.now)) }
+    ensures unscanned { OnOk result (line_buffer.new.unscanned ≡ 0) }
+    ensures tests { line_buffer.new.tests
+        ≤ line_buffer.old.tests + line_buffer.old.unscanned + length piece.now }
+    ensures tested { OnOk result (line_buffer.new.tests
+        ≡ line_buffer.old.tests + line_buffer.old.unscanned + length piece.now) }
+    ensures never_fewer { line_buffer.old.tests ≤ line_buffer.new.tests }
 {
-    store.put(piece)?;
-    answer_lines(store, handler, output)
+    line_buffer.append(piece)?;
+    answer_lines(line_buffer, handler, output)
 }
 
 /// Cuts an input that comes in pieces into lines, and answers each.
 #[derive(Drop)]
 pub struct Engine {
-    store: Store,
+    line_buffer: LineBuffer,
     left: u64,
     failed: bool,
 }
 
 impl Model for Engine {
     ghost use Rattle.std.specs.Prelude.{◌≡◌, false, length};
-    ghost use Rattle.unftp_control_serve.specs.Engine.{EngineState, told};
+    ghost use Rattle.unftp_control_serve.specs.Engine.{EngineState, saturating_u64};
 
     ghost Value = { EngineState };
 
     ghost view = { λ engine. record {
-      rest = engine.store.bytes;
+      incomplete = engine.line_buffer.bytes;
       left = engine.left;
       failed = engine.failed;
-      tests = engine.store.tests;
+      tests = engine.line_buffer.tests;
     } };
 
-    ghost invariant = { λ engine. engine.failed ≡ false → (engine.store.ahead ≡ 0) × (engine.left ≡ told (length engine.store.bytes)) };
+    ghost invariant = { λ engine. engine.failed ≡ false → (engine.line_buffer.unscanned ≡ 0)
+        × (engine.left ≡ saturating_u64 (length engine.line_buffer.bytes)) };
 }
 
 impl Engine {
     /// An engine that was fed nothing.
     pub fn new(alloc: Global) -> Engine
-        ensures { result ≡ record { rest = []; left = 0; failed = false; tests = 0 } }
+        ensures { result ≡ record { incomplete = []; left = 0; failed = false; tests = 0 } }
     {
         Engine {
-            store: Store::new(alloc),
+            line_buffer: LineBuffer::new(alloc),
             left: 0,
             failed: false,
         }
@@ -137,11 +143,11 @@ impl Engine {
         self.left
     }
 
-    /// How often a byte was tested for a line feed.
+    /// How many bytes were scanned for a line feed.
     pub(crate) fn tests(&self) -> Count
         ensures { result ≡ self.now.tests }
     {
-        self.store.tests()
+        self.line_buffer.tests()
     }
 
     /// Takes the next piece of the input, and answers each line that is now complete: its event is
@@ -157,35 +163,40 @@ impl Engine {
     ) -> Result<(), ServeError>
         // What was written and taken at each answer, over the lines of the pending bytes and the
         // piece.
-        ensures outcome { IsGoing self.old → RunOutcome H.law
-            (moment_of H.state H.failures W.contents handler.old output.old)
+        ensures outcome { IsRunning self.old → RunOutcome H.law
+            (snapshot_of H.state H.failures W.contents handler.old output.old)
             (events_with self.old piece.now)
-            (moment_of H.state H.failures W.contents handler.new output.new)
+            (snapshot_of H.state H.failures W.contents handler.new output.new)
             result }
         // The same, answer by answer.
-        ensures written { IsGoing self.old → OnOk result (Appends (W.contents output.old.writer) (W.contents output.new.writer)
+        ensures written { IsRunning self.old
+            → OnOk result (Appends (W.contents output.old.writer) (W.contents output.new.writer)
             (text_of H.law (H.state handler.old) (events_with self.old piece.now))) }
-        ensures flushed { IsGoing self.old → OnOk result (Flushed (text_of H.law (H.state handler.old) (events_with self.old piece.now)) []
+        ensures flushed { IsRunning self.old
+            → OnOk result (Flushed (text_of H.law (H.state handler.old) (events_with self.old piece.now)) []
             output.old.unflushed output.new.unflushed) }
-        ensures leaves { IsGoing self.old
-            → OnOk result (Leaves H.law self.old piece.now (H.state handler.old) (H.state handler.new) self.new) }
-        ensures quiet { OnOk result ((output.new.failures ≡ output.old.failures) × (H.failures handler.new ≡ H.failures handler.old)) }
+        ensures leaves { IsRunning self.old
+            → OnOk result (Leaves H.law self.old piece.now
+            (H.state handler.old) (H.state handler.new) self.new) }
+        ensures quiet { OnOk result ((output.new.failures ≡ output.old.failures)
+            × (H.failures handler.new ≡ H.failures handler.old)) }
         ensures write { OnWrite result (WriteFailed H.law
-            (moment_of H.state H.failures W.contents handler.old output.old)
+            (snapshot_of H.state H.failures W.contents handler.old output.old)
             (events_with self.old piece.now)
-            (moment_of H.state H.failures W.contents handler.new output.new)) }
+            (snapshot_of H.state H.failures W.contents handler.new output.new)) }
         ensures handler { OnHandler result (HandlerFailed H.law
-            (moment_of H.state H.failures W.contents handler.old output.old)
+            (snapshot_of H.state H.failures W.contents handler.old output.old)
             (events_with self.old piece.now)
-            (moment_of H.state H.failures W.contents handler.new output.new)) }
-        ensures memory { OnMemory result (MemoryRefused H.law
-            (moment_of H.state H.failures W.contents handler.old output.old)
+            (snapshot_of H.state H.failures W.contents handler.new output.new)) }
+        ensures memory { OnMemory result (RanOutOfMemory H.law
+            (snapshot_of H.state H.failures W.contents handler.old output.old)
             (events_with self.old piece.now)
-            (moment_of H.state H.failures W.contents handler.new output.new)) }
+            (snapshot_of H.state H.failures W.contents handler.new output.new)) }
         ensures never { ReadsNothing result }
         // An engine that failed does nothing, and each error makes it one.
         ensures stopped { IsErrOf result ServeError.Stopped ↔ (self.old.failed ≡ true) }
-        ensures unchanged { self.old.failed ≡ true → (handler.new ≡ handler.old) × (output.new ≡ output.old) }
+        ensures unchanged { self.old.failed ≡ true
+            → (handler.new ≡ handler.old) × (output.new ≡ output.old) }
         ensures failed { self.new.failed ≡ is_err result }
         ensures kept { OnErr result (self.new.left ≡ self.old.left) }
         // At Ok each byte of the piece was scanned for a line feed exactly once; at an error at
@@ -197,9 +208,9 @@ impl Engine {
         if self.failed {
             return Err(ServeError::Stopped);
         }
-        match answer_piece(&mut self.store, piece, handler, output) {
+        match answer_piece(&mut self.line_buffer, piece, handler, output) {
             Ok(()) => {
-                self.left = self.store.len() as u64;
+                self.left = self.line_buffer.len() as u64;
                 Ok(())
             }
             Err(error) => {

@@ -28,9 +28,12 @@ pub trait Handler {
     /// Answers an event. What it answers with an error ends the connection; of its state after its
     /// own error nothing is promised.
     fn handle(&mut self, alloc: Global, event: Event) -> Result<Reply, ControlChanError>
-        ensures says { IfOk result (λ reply. reply_of reply ≡ law.says (state self.old) (event_meant event)) }
-        ensures next { OnOk result (state self.new ≡ law.next (state self.old) (event_meant event)) }
+        ensures says { IfOk result (λ reply.
+            reply_of reply ≡ law.says (state self.old) (event_meant event)) }
+        ensures next { OnOk result
+            (state self.new ≡ law.next (state self.old) (event_meant event)) }
         ensures quiet { OnOk result (failures self.new ≡ failures self.old) }
-        ensures may_fail { IfErr result (λ error. law.may_fail (state self.old) (event_meant event) (fault_of error)) }
+        ensures may_fail { IfErr result (λ error.
+            law.may_fail (state self.old) (event_meant event) (fault_of error)) }
         ensures counted { OnErr result (failures self.new ≡ failures self.old + 1) };
 }

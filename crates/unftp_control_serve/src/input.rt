@@ -40,7 +40,8 @@ impl<R: Read> Input<R> {
     /// Reads once. Each error counts, `Interrupted` too.
     pub(crate) fn read(&mut self, buf: &mut [u8]) -> io::Result<usize>
         ensures bound { ReadsAtMost result buf.new }
-        ensures bytes { ReadConsumes (R.remaining self.old.reader) (R.remaining self.new.reader) result buf.new }
+        ensures bytes { ReadConsumes (R.remaining self.old.reader)
+            (R.remaining self.new.reader) result buf.new }
         ensures quiet { OnOk result (self.new.failures ≡ self.old.failures) }
         ensures counted { OnErr result (self.new.failures ≡ self.old.failures + 1) }
     {

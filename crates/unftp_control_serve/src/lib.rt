@@ -8,10 +8,10 @@ mod event;
 pub mod examples;
 mod handler;
 mod input;
+mod line_buffer;
 mod output;
 mod send;
 mod service;
-mod store;
 
 pub use engine::Engine;
 pub use error::ServeError;

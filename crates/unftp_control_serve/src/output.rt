@@ -47,8 +47,10 @@ impl<W: Write> Output<W> {
     /// bytes that are not empty.
     pub(crate) fn write(&mut self, bytes: &[u8]) -> io::Result<usize>
         ensures bound { WritesAtMost result bytes.now }
-        ensures bytes { WriteAppends (W.contents self.old.writer) (W.contents self.new.writer) result bytes.now }
-        ensures counts { CountsWrite result (length bytes.now) self.old.failures self.new.failures self.old.unflushed self.new.unflushed }
+        ensures bytes { WriteAppends (W.contents self.old.writer)
+            (W.contents self.new.writer) result bytes.now }
+        ensures counts { CountsWrite result (length bytes.now)
+            self.old.failures self.new.failures self.old.unflushed self.new.unflushed }
     {
         let result = self.writer.write(bytes);
         match &result {
@@ -66,7 +68,8 @@ impl<W: Write> Output<W> {
     /// Flushes once. Each error counts.
     pub(crate) fn flush(&mut self) -> io::Result<()>
         ensures bytes { Keeps (W.contents self.old.writer) (W.contents self.new.writer) }
-        ensures counts { CountsFlush result self.old.failures self.new.failures self.old.unflushed self.new.unflushed }
+        ensures counts { CountsFlush result
+            self.old.failures self.new.failures self.old.unflushed self.new.unflushed }
     {
         let result = self.writer.flush();
         match &result {

@@ -2,13 +2,13 @@
 ghost use Rattle.std.specs.Prelude.{◌≡◌, ◌≤◌, IfOk, IfErr, IfSome, OnOk, length};
 ghost use Rattle.std.specs.Io.KnownBytes.{Appends};
 ghost use Rattle.unftp_control_defs.specs.Events.{events};
-ghost use Rattle.unftp_control_defs.specs.Lines.{rest_of};
+ghost use Rattle.unftp_control_defs.specs.Lines.{incomplete_line};
 ghost use Rattle.unftp_control_defs.specs.Run.{last_state, replies, text_for};
 ghost use Rattle.unftp_control_defs.specs.FtpReply.{IsPlain};
 ghost use Rattle.unftp_control_defs.specs.ReplyReader.{ReadsBack};
 ghost use Rattle.std.specs.List.{AllByRecursion};
-ghost use Rattle.unftp_control_serve.specs.Endings.{moment_of};
-ghost use Rattle.unftp_control_serve.specs.Engine.{told};
+ghost use Rattle.unftp_control_serve.specs.Endings.{snapshot_of};
+ghost use Rattle.unftp_control_serve.specs.Engine.{saturating_u64};
 ghost use Rattle.unftp_control_serve.specs.Service.{AnsweredAll, ServeEnded, source_of};
 
 use crate::engine::Engine;
@@ -43,28 +43,33 @@ pub fn serve<R: Read, W: Write, H: Handler>(
 ) -> Result<Served, ServeError>
     // Whatever pieces the input comes in, at Ok exactly the replies to its lines are written,
     ensures headline { OnOk result (IfSome (R.remaining reader.old.reader) (λ input.
-        Appends (W.contents writer.old.writer) (W.contents writer.new.writer) (text_for H.law (H.state handler.old) input))) }
+        Appends (W.contents writer.old.writer) (W.contents writer.new.writer)
+        (text_for H.law (H.state handler.old) input))) }
     // the handler is in the last state of its run over them, and each byte was scanned for a line
     // feed exactly once.
     ensures state { OnOk result (IfSome (R.remaining reader.old.reader) (λ input.
         H.state handler.new ≡ last_state H.law (H.state handler.old) (events input))) }
-    ensures tested { IfOk result (λ served. IfSome (R.remaining reader.old.reader) (λ input. served.tests ≡ length input)) }
-    ensures left { IfOk result (λ served. IfSome (R.remaining reader.old.reader) (λ input. served.left ≡ told (length (rest_of input)))) }
+    ensures tested { IfOk result (λ served.
+        IfSome (R.remaining reader.old.reader) (λ input. served.tests ≡ length input)) }
+    ensures left { IfOk result (λ served.
+        IfSome (R.remaining reader.old.reader) (λ input.
+        served.left ≡ saturating_u64 (length (incomplete_line input)))) }
     // What is written is read as what the replies show, and as nothing else, where each of them is
     // plain.
     ensures read_back { OnOk result (IfSome (R.remaining reader.old.reader) (λ input.
         AllByRecursion IsPlain (replies H.law (H.state handler.old) (events input))
-        → ReadsBack (text_for H.law (H.state handler.old) input) (replies H.law (H.state handler.old) (events input)))) }
+        → ReadsBack (text_for H.law (H.state handler.old) input)
+        (replies H.law (H.state handler.old) (events input)))) }
     // The same of any reader, with what was flushed and what failed; and what is so at each error.
     ensures ok { IfOk result (λ served. AnsweredAll H.law
-        (moment_of H.state H.failures W.contents handler.old writer.old)
-        (moment_of H.state H.failures W.contents handler.new writer.new)
+        (snapshot_of H.state H.failures W.contents handler.old writer.old)
+        (snapshot_of H.state H.failures W.contents handler.new writer.new)
         (source_of R.remaining reader.old)
         (source_of R.remaining reader.new)
         served.left served.tests) }
     ensures err { IfErr result (ServeEnded H.law
-        (moment_of H.state H.failures W.contents handler.old writer.old)
-        (moment_of H.state H.failures W.contents handler.new writer.new)
+        (snapshot_of H.state H.failures W.contents handler.old writer.old)
+        (snapshot_of H.state H.failures W.contents handler.new writer.new)
         (source_of R.remaining reader.old)
         (source_of R.remaining reader.new)) }
 {

@@ -23,9 +23,10 @@ spaced_part (Some bytes) = SP ∷ bytes
 
 -- what the parts say, without the CR LF
 abbrev pub body_of : Line → Bytes
-body_of line = line.verb.now ++ spaced_part (option_map bytes_of line.word) ++ spaced_part (option_map (λ text. escaped text.now) line.text)
+body_of line = line.verb.now ++ spaced_part (option_map bytes_of line.word)
+    ++ spaced_part (option_map (λ text. escaped text.now) line.text)
 
--- Where this is given there are parts, which say the body; else there are none.
-abbrev pub Tells : Type 0 → Bytes → Option Line → Type 0
-Tells given body None = ¬ given
-Tells given body (Some line) = given × (body_of line ≡ body)
+-- Where the command has a line there are parts, which are its body; else there are none.
+abbrev pub ReturnsLine : Type 0 → Bytes → Option Line → Type 0
+ReturnsLine has_line body None = ¬ has_line
+ReturnsLine has_line body (Some line) = has_line × (body_of line ≡ body)

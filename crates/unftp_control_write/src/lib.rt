@@ -3,14 +3,14 @@
 
 ghost use Rattle.std.specs.Prelude.{◌≡◌, ◌++◌, Ok, Err, OnOk, OnErr, IfErr};
 ghost use Rattle.unftp_control_command.specs.CommandMeaning.{command_of};
-ghost use Rattle.unftp_control_defs.specs.Canonical.{IsGiven, canonical_line};
+ghost use Rattle.unftp_control_defs.specs.Canonical.{HasLine, canonical_line};
 ghost use Rattle.unftp_control_defs.specs.Lines.{IsLine};
 ghost use Rattle.unftp_control_defs.specs.Outcome.{outcome};
 
-mod given;
 mod line;
+mod parts;
 
-use crate::given::line_of;
+use crate::parts::line_of;
 use thiserror::Error;
 use unftp_control_command::Command;
 
@@ -34,12 +34,15 @@ pub enum WriteCommandError {
 /// with a line feed in a text, and for that no memory is asked for; and with `OutOfMemory` where
 /// the buffer has to grow, which it does once at most, and can't. `buf` is then as it was.
 pub fn write_command(command: &Command, buf: &mut Vec<u8>) -> Result<(), WriteCommandError>
-    ensures ok { OnOk result (buf.new.items ≡ buf.old.items ++ canonical_line (command_of command.now)) }
+    ensures ok { OnOk result
+        (buf.new.items ≡ buf.old.items ++ canonical_line (command_of command.now)) }
     ensures line { OnOk result (IsLine (canonical_line (command_of command.now))) }
-    ensures read_back { OnOk result (outcome (canonical_line (command_of command.now)) ≡ Ok (command_of command.now)) }
+    ensures read_back { OnOk result
+        (outcome (canonical_line (command_of command.now)) ≡ Ok (command_of command.now)) }
     ensures err { OnErr result (buf.new.items ≡ buf.old.items) }
-    ensures given { IsGiven (command_of command.now) → IfErr result (λ error. error ≡ WriteCommandError.OutOfMemory) }
-    ensures no_line { ¬ IsGiven (command_of command.now) → result ≡ Err WriteCommandError.NoLine }
+    ensures has_line { HasLine (command_of command.now)
+        → IfErr result (λ error. error ≡ WriteCommandError.OutOfMemory) }
+    ensures no_line { ¬ HasLine (command_of command.now) → result ≡ Err WriteCommandError.NoLine }
 {
     let Some(line) = line_of(command) else {
         return Err(WriteCommandError::NoLine);

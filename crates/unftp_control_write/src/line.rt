@@ -65,7 +65,8 @@ impl<'a> Line<'a> {
 
     /// Appends a space and the word, if there is one.
     fn append_word(&self, buf: &mut Vec<u8>) -> Result<(), AllocError>
-        ensures ok { OnOk result (buf.new.items ≡ buf.old.items ++ spaced_part (option_map bytes_of self.now.word)) }
+        ensures ok { OnOk result
+            (buf.new.items ≡ buf.old.items ++ spaced_part (option_map bytes_of self.now.word)) }
         ensures kept { take (vec_len buf.old) buf.new.items ≡ buf.old.items }
     {
         let Some(word) = &self.word else {
@@ -77,7 +78,8 @@ impl<'a> Line<'a> {
 
     /// Appends a space and the text, if there is one.
     fn append_text(&self, buf: &mut Vec<u8>) -> Result<(), AllocError>
-        ensures ok { OnOk result (buf.new.items ≡ buf.old.items ++ spaced_part (option_map (λ text. escaped text.now) self.now.text)) }
+        ensures ok { OnOk result (buf.new.items
+            ≡ buf.old.items ++ spaced_part (option_map (λ text. escaped text.now) self.now.text)) }
         ensures kept { take (vec_len buf.old) buf.new.items ≡ buf.old.items }
     {
         let Some(text) = self.text else {

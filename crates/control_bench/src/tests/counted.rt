@@ -1,4 +1,5 @@
-//! `tools/growths` counts the growths of each test, and compares their number with that in its
+//! `tools/failed_allocations` counts the allocations of each test, and compares their number with
+//! that in its
 //! name.
 use crate::measure::{DIGIT_LINES, FEATURES, SESSION, long_line};
 use std::test::Fail;

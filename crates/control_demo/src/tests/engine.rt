@@ -64,7 +64,7 @@ fn a_failed_write_stops_the_engine(rt: HostRuntime) -> Result<(), Fail> {
 }
 
 #[test]
-fn the_handler_takes_no_event_behind_a_reply_that_is_not_written(
+fn the_handler_takes_no_event_after_a_reply_that_is_not_written(
     rt: HostRuntime,
 ) -> Result<(), Fail> {
     let mut output = Output::new(Room::with_room(rt.alloc(), 3, false));

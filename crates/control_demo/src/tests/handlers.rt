@@ -78,7 +78,11 @@ impl Handler for Recorder {
 
     ghost state = { λ _. tt };
 
-    ghost law = { record { says = λ _ _. Nothing; next = λ s _. s; may_fail = λ _ _ fault. fault ≡ out_of_memory } };
+    ghost law = { record {
+      says = λ _ _. Nothing;
+      next = λ s _. s;
+      may_fail = λ _ _ fault. fault ≡ out_of_memory;
+    } };
 
     ghost failures = { λ recorder. recorder.failures };
 
@@ -113,7 +117,8 @@ impl Handler for Failing {
     ghost law = { record {
       says = λ _ _. Nothing;
       next = λ s _. s;
-      may_fail = λ _ event fault. (event ≡ Refused fault) ⊎ (fault ≡ record { kind = IoError; source = Io });
+      may_fail = λ _ event fault.
+          (event ≡ Refused fault) ⊎ (fault ≡ record { kind = IoError; source = Io });
     } };
 
     ghost failures = { λ failing. failing.failures };

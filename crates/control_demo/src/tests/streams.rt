@@ -1,4 +1,4 @@
-//! Readers that give pieces and writers with little room, which fail when they are told to.
+//! Readers that give pieces and writers with little room, which fail when they are asked to.
 ghost use Rattle.std.specs.Prelude.{Some};
 
 use std::alloc::Global;
@@ -48,7 +48,8 @@ impl Read for Pieces<'_> {
     }
 }
 
-/// Holds what is written: `room` bytes, at most `most` in a write, and then it fails or takes nothing.
+/// Holds what is written: `room` bytes, at most `most` in a write, and then it fails or takes
+/// nothing.
 #[derive(Drop)]
 pub struct Room {
     pub held: Vec<u8>,

@@ -109,7 +109,7 @@ fn protection_is_answered_by_how_the_server_is_set_up(rt: HostRuntime) -> Result
 }
 
 #[test]
-fn the_port_of_extended_passive_mode_is_told(rt: HostRuntime) -> Result<(), Fail> {
+fn the_port_of_extended_passive_mode_is_reported(rt: HostRuntime) -> Result<(), Fail> {
     for (port, want) in [
         (2121, "229 Entering Extended Passive Mode (|||2121|)\r\n"),
         (65535, "229 Entering Extended Passive Mode (|||65535|)\r\n"),
@@ -166,7 +166,7 @@ fn modes_structures_and_options_are_answered(rt: HostRuntime) -> Result<(), Fail
 }
 
 #[test]
-fn features_are_told_where_they_are_on(rt: HostRuntime) -> Result<(), Fail> {
+fn features_are_listed_where_they_are_on(rt: HostRuntime) -> Result<(), Fail> {
     let all =
         "211-Extensions supported:\r\n AUTH TLS\r\n EPSV\r\n MDTM\r\n MLSD\r\n MLST\r\n PBSZ\r\n PROT\r\n REST STREAM\r\n SITE MD5\r\n SIZE\r\n UTF8\r\n211 END\r\n";
     let reply = Feat.reply(rt.alloc(), true, true, true)?;
@@ -198,7 +198,7 @@ fn assert_facts(
 }
 
 #[test]
-fn instants_are_told_by_their_second_of_utc(rt: HostRuntime) -> Result<(), Fail> {
+fn instants_are_written_to_the_second_of_utc(rt: HostRuntime) -> Result<(), Fail> {
     for (size, nanosecond, want) in [
         (
             1234,

@@ -1,5 +1,5 @@
-//! How much memory a call takes: `tools/growths` counts the growths of each test, and compares their number with that in
-//! its name.
+//! How much memory a call takes: `tools/failed_allocations` counts the allocations of each test, and
+//! compares their number with that in its name.
 use crate::codecs::FtpCodec;
 use crate::command::Command;
 use crate::line_parser::parse;
@@ -40,7 +40,7 @@ fn takes_1_for_a_text(rt: HostRuntime) -> Result<(), Fail> {
 }
 
 #[test]
-fn takes_1_for_a_path_behind_options(rt: HostRuntime) -> Result<(), Fail> {
+fn takes_1_for_a_path_after_options(rt: HostRuntime) -> Result<(), Fail> {
     drop(parse(rt.alloc(), b"LIST -la a.txt\r\n")?);
     Ok(())
 }

@@ -11,14 +11,18 @@ use std::test::Fail;
 
 /// What a caller knows of a line that was refused.
 fn pass_on_parse(refused: Result<(), ParseError>) -> Result<(), ControlChanError>
-    ensures { IfErr refused (λ parse. IfErr result (λ error. (error.kind ≡ converted parse) × (error.source ≡ Source.Parse parse))) }
+    ensures { IfErr refused (λ parse.
+        IfErr result (λ error.
+        (error.kind ≡ converted parse) × (error.source ≡ Source.Parse parse))) }
 {
     Ok(refused?)
 }
 
 /// What a caller knows of reading or writing that failed.
 fn pass_on_io(failed: Result<(), io::Error>) -> Result<(), ControlChanError>
-    ensures { IfErr failed (λ io. IfErr result (λ error. (error.kind ≡ ControlChanErrorKind.IoError) × (error.source ≡ Source.Io io))) }
+    ensures { IfErr failed (λ io.
+        IfErr result (λ error.
+        (error.kind ≡ ControlChanErrorKind.IoError) × (error.source ≡ Source.Io io))) }
 {
     Ok(failed?)
 }
@@ -60,7 +64,7 @@ fn converted_errors_keep_their_source(rt: HostRuntime) -> Result<(), Fail> {
 }
 
 #[test]
-fn want_of_memory_stays_so_where_it_is_converted(rt: HostRuntime) {
+fn out_of_memory_is_converted_to_itself(rt: HostRuntime) {
     let error = ControlChanError::from(ParseError::from(ParseErrorKind::OutOfMemory));
     assert_eq!(rt; error.kind(), &ControlChanErrorKind::OutOfMemory);
     assert!(rt; matches!(error.source(), Source::Parse(_)));
@@ -70,7 +74,7 @@ fn want_of_memory_stays_so_where_it_is_converted(rt: HostRuntime) {
 }
 
 #[test]
-fn ill_formed_text_is_told_as_such_by_the_parser(rt: HostRuntime) {
+fn ill_formed_text_is_invalid_utf8_to_the_parser(rt: HostRuntime) {
     let Err(utf8) = from_utf8(b"\xff") else {
         panic!(rt; "no error");
     };

@@ -93,7 +93,7 @@ fn values_hold_carriage_returns_and_line_feeds(rt: HostRuntime) -> Result<(), Fa
 }
 
 #[test]
-fn commands_that_stand_alone_are_read_in_either_case(rt: HostRuntime) -> Result<(), Fail> {
+fn commands_without_a_parameter_are_read_ignoring_case(rt: HostRuntime) -> Result<(), Fail> {
     assert_read(
         &rt,
         rt.alloc(),
@@ -137,7 +137,7 @@ fn texts_are_read(rt: HostRuntime) -> Result<(), Fail> {
 }
 
 #[test]
-fn the_path_of_list_stands_behind_its_options(rt: HostRuntime) -> Result<(), Fail> {
+fn the_path_of_list_follows_its_options(rt: HostRuntime) -> Result<(), Fail> {
     assert_read(
         &rt,
         rt.alloc(),
@@ -199,7 +199,7 @@ fn offsets_are_decimal_numbers_of_64_bits(rt: HostRuntime) -> Result<(), Fail> {
 }
 
 #[test]
-fn names_of_site_and_other_verbs_are_raised(rt: HostRuntime) -> Result<(), Fail> {
+fn site_subcommands_and_other_verbs_are_upper_cased(rt: HostRuntime) -> Result<(), Fail> {
     assert_read(
         &rt,
         rt.alloc(),

@@ -61,7 +61,7 @@ fn a_line_that_opens_no_reply_is_malformed(rt: HostRuntime) {
 }
 
 #[test]
-fn a_carriage_return_alone_belongs_to_its_line(rt: HostRuntime) -> Result<(), Fail> {
+fn a_bare_carriage_return_belongs_to_its_line(rt: HostRuntime) -> Result<(), Fail> {
     let front = read_reply(rt.alloc(), b"200 x\r\r\n")?;
     assert!(rt; is_whole(&front, 200, &[b"x\r"], 8));
     let front = read_reply(rt.alloc(), b"200 a\rb\r\n")?;

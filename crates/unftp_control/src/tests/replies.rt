@@ -5,7 +5,7 @@ use std::alloc::Global;
 use std::process::Abort;
 use std::test::Fail;
 
-/// The reply is encoded so behind what stands in the buffer, and so is a clone of it, which is equal.
+/// The reply is encoded so after what the buffer has, and so is a clone of it, which is equal.
 pub fn assert_encoded(
     rt: &impl Abort,
     alloc: Global,
@@ -58,7 +58,7 @@ fn assert_lines(
 }
 
 #[test]
-fn lines_in_front_of_the_last_are_padded(rt: HostRuntime) -> Result<(), Fail> {
+fn lines_before_the_last_are_padded(rt: HostRuntime) -> Result<(), Fail> {
     for (lines, want) in [
         (["a", "1b", "2c"].as_slice(), "211-a\r\n 1b\r\n211 2c\r\n"),
         (["9", "", "9"].as_slice(), "211- 9\r\n\r\n211 9\r\n"),
@@ -84,7 +84,7 @@ fn lines_in_front_of_the_last_are_padded(rt: HostRuntime) -> Result<(), Fail> {
 }
 
 #[test]
-fn a_line_alone_stands_behind_its_code(rt: HostRuntime) -> Result<(), Fail> {
+fn a_single_line_follows_its_code(rt: HostRuntime) -> Result<(), Fail> {
     assert_lines(&rt, rt.alloc(), ReplyCode::HelpMessage, &[], "214 \r\n")?;
     assert_lines(&rt, rt.alloc(), ReplyCode::CommandOkay, &[""], "200 \r\n")
 }
@@ -147,7 +147,7 @@ fn assert_shown(rt: &impl Abort, alloc: Global, reply: &Reply, want: &str) -> Re
 }
 
 #[test]
-fn debug_tells_the_first_of_several_lines(rt: HostRuntime) -> Result<(), Fail> {
+fn debug_shows_the_first_of_several_lines(rt: HostRuntime) -> Result<(), Fail> {
     assert_shown(&rt, rt.alloc(), &Reply::None, "None")?;
     assert_shown(
         &rt,

@@ -9,7 +9,7 @@ use std::alloc::Global;
 use std::process::Abort;
 use std::test::Fail;
 
-/// The line stands behind the bytes that the buffer had.
+/// The line comes after the bytes that the buffer had.
 fn assert_written(
     rt: &impl Abort,
     alloc: Global,
@@ -36,7 +36,8 @@ fn assert_no_line(rt: &impl Abort, alloc: Global, command: Command) -> Result<()
     Ok(())
 }
 
-/// The command of a line is written as `want`, which a new codec decodes to the same command and takes whole.
+/// The command of a line is written as `want`, which a new codec decodes to the same command, and
+/// all of which it removes.
 fn assert_rewritten(rt: &impl Abort, alloc: Global, line: &[u8], want: &[u8]) -> Result<(), Fail> {
     let command = parse(alloc, line)?;
     let mut buf = Vec::new(alloc);
@@ -151,7 +152,7 @@ fn a_path_with_a_dash_is_marked(rt: HostRuntime) -> Result<(), Fail> {
 }
 
 #[test]
-fn names_stand_before_their_arguments(rt: HostRuntime) -> Result<(), Fail> {
+fn names_come_before_their_arguments(rt: HostRuntime) -> Result<(), Fail> {
     for (name, arguments, want) in [
         ("", "", b"SITE\r\n".as_slice()),
         ("ECHO", "", b"SITE ECHO\r\n".as_slice()),
@@ -208,7 +209,7 @@ fn names_that_are_read_otherwise_have_no_line(rt: HostRuntime) -> Result<(), Fai
 }
 
 #[test]
-fn verbs_are_told_as_they_stand(rt: HostRuntime) -> Result<(), Fail> {
+fn verbs_are_matched_exactly(rt: HostRuntime) -> Result<(), Fail> {
     let verbs =
         "ABOR ACCT ALLO APPE AUTH BYE CCC CDUP CWD DELE EPSV FEAT HELP LIST MDTM MKD MLSD MLST MODE NLST NOOP OPTS PASS \
         PASV PBSZ PORT PROT PWD QUIT REST RETR RMD RNFR RNTO SITE SIZE STAT STOR STOU STRU SYST TYPE USER XCWD XMKD XPWD";

@@ -1,7 +1,7 @@
 //! Commands: the types of their fields, their lines, and which of them have one.
 ghost use Rattle.std.specs.Prelude.{◌≡◌, ◌++◌, [], ◌∷◌, true, false, Option, Some, None, codes};
 ghost use Rattle.unftp_control_defs.specs.Bytes.{Bytes};
-ghost use Rattle.unftp_control_defs.specs.Canonical.{canonical_line, IsGiven, IsName, IsNamed, IsOptional};
+ghost use Rattle.unftp_control_defs.specs.Canonical.{canonical_line, HasLine, IsName, IsNamed, IsOptional};
 ghost use Rattle.unftp_control_defs.specs.FtpCommand.{User, Pass, Acct, Syst, Stat, TypeCode, Stru, Mode, Help, Noop, Pasv, Epsv, Port, Retr, Stor, Appe, List as Listing, Nlst, Mlst, Mlsd, Feat, Pwd, Cwd, Cdup, Opts, Dele, Rmd, Quit, Mkd, Allo, Abor, Stou, Rnfr, Rnto, Auth, Ccc, Pbsz, Prot, Size, Rest, Mdtm, Md5, Site, Other, IsReal};
 ghost use Rattle.unftp_control_defs.specs.declared.parameters.AuthParam.TheVariants.{Ssl, Tls};
 ghost use Rattle.unftp_control_defs.specs.declared.parameters.ModeParam.TheVariants.{Stream, Block, Compressed};
@@ -106,7 +106,8 @@ pub fn commands_have_lines()
     ensures no_mlsd { canonical_line (Mlsd None) ≡ codes "MLSD\r\n" }
     ensures list { canonical_line (Listing None (Some (codes "a"))) ≡ codes "LIST a\r\n" }
     ensures no_list { canonical_line (Listing None None) ≡ codes "LIST\r\n" }
-    ensures list_options { canonical_line (Listing (Some (codes "-l")) (Some (codes "a"))) ≡ codes "LIST a\r\n" }
+    ensures list_options { canonical_line (Listing (Some (codes "-l")) (Some (codes "a")))
+        ≡ codes "LIST a\r\n" }
     ensures type_code { canonical_line TypeCode ≡ codes "TYPE I\r\n" }
     ensures allo { canonical_line Allo ≡ codes "ALLO 0\r\n" }
     ensures pbsz { canonical_line Pbsz ≡ codes "PBSZ 0\r\n" }
@@ -125,9 +126,11 @@ pub fn commands_have_lines()
     ensures utf8_on { canonical_line (Opts (Utf8 true)) ≡ codes "OPTS UTF8 ON\r\n" }
     ensures utf8_off { canonical_line (Opts (Utf8 false)) ≡ codes "OPTS UTF8 OFF\r\n" }
     ensures rest { canonical_line (Rest 0) ≡ codes "REST 0\r\n" }
-    ensures greatest_rest { canonical_line (Rest 18446744073709551615) ≡ codes "REST 18446744073709551615\r\n" }
+    ensures greatest_rest { canonical_line (Rest 18446744073709551615)
+        ≡ codes "REST 18446744073709551615\r\n" }
     ensures md5 { canonical_line (Md5 (codes "a")) ≡ codes "SITE MD5 a\r\n" }
-    ensures site { canonical_line (Site (codes "CHMOD") (codes "644 a")) ≡ codes "SITE CHMOD 644 a\r\n" }
+    ensures site { canonical_line (Site (codes "CHMOD") (codes "644 a"))
+        ≡ codes "SITE CHMOD 644 a\r\n" }
     ensures other { canonical_line (Other (codes "FOO") (codes "a")) ≡ codes "FOO a\r\n" }
     ensures other_only { canonical_line (Other (codes "FOO") []) ≡ codes "FOO\r\n" }
 {}
@@ -153,90 +156,97 @@ pub fn texts_fit_a_line()
 
 /// Which commands have a line.
 pub fn commands_have_lines_or_none()
-    ensures empty_user { IsGiven (User []) }
-    ensures lf_in_user { ¬ IsGiven (User (codes "\n")) }
-    ensures empty_pass { IsGiven (Pass []) }
-    ensures lf_in_pass { ¬ IsGiven (Pass (codes "\n")) }
-    ensures empty_acct { IsGiven (Acct []) }
-    ensures lf_in_acct { ¬ IsGiven (Acct (codes "\n")) }
-    ensures port { IsGiven (Port (codes "a")) }
-    ensures empty_port { ¬ IsGiven (Port []) }
-    ensures retr { IsGiven (Retr (codes "a")) }
-    ensures empty_retr { ¬ IsGiven (Retr []) }
-    ensures stor { IsGiven (Stor (codes "a")) }
-    ensures empty_stor { ¬ IsGiven (Stor []) }
-    ensures appe { IsGiven (Appe (codes "a")) }
-    ensures empty_appe { ¬ IsGiven (Appe []) }
-    ensures cwd { IsGiven (Cwd (codes "a")) }
-    ensures empty_cwd { ¬ IsGiven (Cwd []) }
-    ensures dele { IsGiven (Dele (codes "a")) }
-    ensures empty_dele { ¬ IsGiven (Dele []) }
-    ensures rmd { IsGiven (Rmd (codes "a")) }
-    ensures empty_rmd { ¬ IsGiven (Rmd []) }
-    ensures mkd { IsGiven (Mkd (codes "a")) }
-    ensures empty_mkd { ¬ IsGiven (Mkd []) }
-    ensures rnfr { IsGiven (Rnfr (codes "a")) }
-    ensures empty_rnfr { ¬ IsGiven (Rnfr []) }
-    ensures rnto { IsGiven (Rnto (codes "a")) }
-    ensures empty_rnto { ¬ IsGiven (Rnto []) }
-    ensures size { IsGiven (Size (codes "a")) }
-    ensures empty_size { ¬ IsGiven (Size []) }
-    ensures mdtm { IsGiven (Mdtm (codes "a")) }
-    ensures empty_mdtm { ¬ IsGiven (Mdtm []) }
-    ensures md5 { IsGiven (Md5 (codes "a")) }
-    ensures empty_md5 { ¬ IsGiven (Md5 []) }
-    ensures stat { IsGiven (Stat (Some (codes "a"))) }
-    ensures no_stat { IsGiven (Stat None) }
-    ensures empty_stat { ¬ IsGiven (Stat (Some [])) }
-    ensures nlst { IsGiven (Nlst (Some (codes "a"))) }
-    ensures no_nlst { IsGiven (Nlst None) }
-    ensures empty_nlst { ¬ IsGiven (Nlst (Some [])) }
-    ensures mlst { IsGiven (Mlst (Some (codes "a"))) }
-    ensures no_mlst { IsGiven (Mlst None) }
-    ensures empty_mlst { ¬ IsGiven (Mlst (Some [])) }
-    ensures mlsd { IsGiven (Mlsd (Some (codes "a"))) }
-    ensures no_mlsd { IsGiven (Mlsd None) }
-    ensures empty_mlsd { ¬ IsGiven (Mlsd (Some [])) }
-    ensures list { IsGiven (Listing None (Some (codes "-l"))) }
-    ensures no_list { IsGiven (Listing None None) }
-    ensures empty_list { ¬ IsGiven (Listing None (Some [])) }
-    ensures empty_options { ¬ IsGiven (Listing (Some []) None) }
-    ensures site { IsGiven (Site (codes "ECHO") (codes "a")) }
-    ensures empty_site { IsGiven (Site [] []) }
-    ensures lowercase_site { ¬ IsGiven (Site (codes "echo") []) }
-    ensures lf_in_site { ¬ IsGiven (Site [] (codes "\n")) }
-    ensures other { IsGiven (Other (codes "FOO") (codes "a")) }
-    ensures empty_other { IsGiven (Other [] []) }
-    ensures other_noop { ¬ IsGiven (Other (codes "NOOP") []) }
-    ensures two_words { ¬ IsGiven (Other (codes "A B") []) }
-    ensures lf_in_other { ¬ IsGiven (Other [] (codes "\n")) }
-    ensures any_rest { IsGiven (Rest 18446744073709551616) }
-    ensures noop { IsGiven Noop }
+    ensures empty_user { HasLine (User []) }
+    ensures lf_in_user { ¬ HasLine (User (codes "\n")) }
+    ensures empty_pass { HasLine (Pass []) }
+    ensures lf_in_pass { ¬ HasLine (Pass (codes "\n")) }
+    ensures empty_acct { HasLine (Acct []) }
+    ensures lf_in_acct { ¬ HasLine (Acct (codes "\n")) }
+    ensures port { HasLine (Port (codes "a")) }
+    ensures empty_port { ¬ HasLine (Port []) }
+    ensures retr { HasLine (Retr (codes "a")) }
+    ensures empty_retr { ¬ HasLine (Retr []) }
+    ensures stor { HasLine (Stor (codes "a")) }
+    ensures empty_stor { ¬ HasLine (Stor []) }
+    ensures appe { HasLine (Appe (codes "a")) }
+    ensures empty_appe { ¬ HasLine (Appe []) }
+    ensures cwd { HasLine (Cwd (codes "a")) }
+    ensures empty_cwd { ¬ HasLine (Cwd []) }
+    ensures dele { HasLine (Dele (codes "a")) }
+    ensures empty_dele { ¬ HasLine (Dele []) }
+    ensures rmd { HasLine (Rmd (codes "a")) }
+    ensures empty_rmd { ¬ HasLine (Rmd []) }
+    ensures mkd { HasLine (Mkd (codes "a")) }
+    ensures empty_mkd { ¬ HasLine (Mkd []) }
+    ensures rnfr { HasLine (Rnfr (codes "a")) }
+    ensures empty_rnfr { ¬ HasLine (Rnfr []) }
+    ensures rnto { HasLine (Rnto (codes "a")) }
+    ensures empty_rnto { ¬ HasLine (Rnto []) }
+    ensures size { HasLine (Size (codes "a")) }
+    ensures empty_size { ¬ HasLine (Size []) }
+    ensures mdtm { HasLine (Mdtm (codes "a")) }
+    ensures empty_mdtm { ¬ HasLine (Mdtm []) }
+    ensures md5 { HasLine (Md5 (codes "a")) }
+    ensures empty_md5 { ¬ HasLine (Md5 []) }
+    ensures stat { HasLine (Stat (Some (codes "a"))) }
+    ensures no_stat { HasLine (Stat None) }
+    ensures empty_stat { ¬ HasLine (Stat (Some [])) }
+    ensures nlst { HasLine (Nlst (Some (codes "a"))) }
+    ensures no_nlst { HasLine (Nlst None) }
+    ensures empty_nlst { ¬ HasLine (Nlst (Some [])) }
+    ensures mlst { HasLine (Mlst (Some (codes "a"))) }
+    ensures no_mlst { HasLine (Mlst None) }
+    ensures empty_mlst { ¬ HasLine (Mlst (Some [])) }
+    ensures mlsd { HasLine (Mlsd (Some (codes "a"))) }
+    ensures no_mlsd { HasLine (Mlsd None) }
+    ensures empty_mlsd { ¬ HasLine (Mlsd (Some [])) }
+    ensures list { HasLine (Listing None (Some (codes "-l"))) }
+    ensures no_list { HasLine (Listing None None) }
+    ensures empty_list { ¬ HasLine (Listing None (Some [])) }
+    ensures empty_options { ¬ HasLine (Listing (Some []) None) }
+    ensures site { HasLine (Site (codes "ECHO") (codes "a")) }
+    ensures empty_site { HasLine (Site [] []) }
+    ensures lowercase_site { ¬ HasLine (Site (codes "echo") []) }
+    ensures lf_in_site { ¬ HasLine (Site [] (codes "\n")) }
+    ensures other { HasLine (Other (codes "FOO") (codes "a")) }
+    ensures empty_other { HasLine (Other [] []) }
+    ensures other_noop { ¬ HasLine (Other (codes "NOOP") []) }
+    ensures two_words { ¬ HasLine (Other (codes "A B") []) }
+    ensures lf_in_other { ¬ HasLine (Other [] (codes "\n")) }
+    ensures any_rest { HasLine (Rest 18446744073709551616) }
+    ensures noop { HasLine Noop }
 {}
 
 /// Lines that are easily misread, and commands that have none.
 pub fn canonical_lines_are_so()
-    ensures cr_and_nul { canonical_line (User (codes "\r" ++ 0 ∷ [])) ≡ codes "USER \r" ++ 0 ∷ 0 ∷ codes "\r\n" }
+    ensures cr_and_nul { canonical_line (User (codes "\r" ++ 0 ∷ []))
+        ≡ codes "USER \r" ++ 0 ∷ 0 ∷ codes "\r\n" }
     ensures empty_name { canonical_line (User []) ≡ codes "USER\r\n" }
     ensures one_space { canonical_line (User (codes " ")) ≡ codes "USER  \r\n" }
-    ensures dashes_in_a_path { canonical_line (Listing None (Some (codes "-- x"))) ≡ codes "LIST -- -- x\r\n" }
-    ensures space_before_a_path { canonical_line (Listing None (Some (codes " a"))) ≡ codes "LIST  a\r\n" }
-    ensures dash_first { canonical_line (Listing None (Some (codes "-x"))) ≡ codes "LIST -- -x\r\n" }
-    ensures cr_before_the_end { canonical_line (Md5 (codes "a\r")) ≡ codes "SITE MD5 a\r" ++ 0 ∷ codes "\r\n" }
+    ensures dashes_in_a_path { canonical_line (Listing None (Some (codes "-- x")))
+        ≡ codes "LIST -- -- x\r\n" }
+    ensures space_before_a_path { canonical_line (Listing None (Some (codes " a")))
+        ≡ codes "LIST  a\r\n" }
+    ensures dash_first { canonical_line (Listing None (Some (codes "-x")))
+        ≡ codes "LIST -- -x\r\n" }
+    ensures cr_before_the_end { canonical_line (Md5 (codes "a\r"))
+        ≡ codes "SITE MD5 a\r" ++ 0 ∷ codes "\r\n" }
     ensures empty_verb { canonical_line (Other [] (codes "NOOP")) ≡ codes " NOOP\r\n" }
     ensures empty_line { canonical_line (Other [] []) ≡ codes "\r\n" }
     // the letter is U+00DF
-    ensures beyond_ascii { canonical_line (Other (codes "PA" ++ 195 ∷ 159 ∷ []) (codes "x")) ≡ codes "PA" ++ 195 ∷ 159 ∷ codes " x\r\n" }
+    ensures beyond_ascii { canonical_line (Other (codes "PA" ++ 195 ∷ 159 ∷ []) (codes "x"))
+        ≡ codes "PA" ++ 195 ∷ 159 ∷ codes " x\r\n" }
     ensures site_name { canonical_line (Site (codes "ECHO") []) ≡ codes "SITE ECHO\r\n" }
     ensures site_only { canonical_line (Site [] []) ≡ codes "SITE\r\n" }
     ensures empty_site_name { canonical_line (Site [] (codes "X")) ≡ codes "SITE  X\r\n" }
-    ensures no_empty_path { ¬ IsGiven (Retr []) }
-    ensures no_empty_stat { ¬ IsGiven (Stat (Some [])) }
-    ensures no_empty_listing { ¬ IsGiven (Nlst (Some [])) }
-    ensures no_options { (options : Bytes) (path : Option Bytes) → ¬ IsGiven (Listing (Some options) path) }
-    ensures no_lf { ¬ IsGiven (User (codes "a\nb")) }
-    ensures no_other_bye { ¬ IsGiven (Other (codes "BYE") []) }
-    ensures no_other_site { ¬ IsGiven (Other (codes "SITE") []) }
-    ensures no_lowercase_verb { ¬ IsGiven (Other (codes "foo") []) }
-    ensures no_site_md5 { ¬ IsGiven (Site (codes "MD5") []) }
+    ensures no_empty_path { ¬ HasLine (Retr []) }
+    ensures no_empty_stat { ¬ HasLine (Stat (Some [])) }
+    ensures no_empty_listing { ¬ HasLine (Nlst (Some [])) }
+    ensures no_options { (options : Bytes) (path : Option Bytes)
+        → ¬ HasLine (Listing (Some options) path) }
+    ensures no_lf { ¬ HasLine (User (codes "a\nb")) }
+    ensures no_other_bye { ¬ HasLine (Other (codes "BYE") []) }
+    ensures no_other_site { ¬ HasLine (Other (codes "SITE") []) }
+    ensures no_lowercase_verb { ¬ HasLine (Other (codes "foo") []) }
+    ensures no_site_md5 { ¬ HasLine (Site (codes "MD5") []) }
 {}

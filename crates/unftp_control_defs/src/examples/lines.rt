@@ -1,7 +1,7 @@
 //! Lines, and where a line is cut into its verb and its parameter.
 ghost use Rattle.std.specs.Prelude.{◌≡◌, [], ◌∷◌, ◌++◌, codes, false, true};
 ghost use Rattle.unftp_control_defs.specs.Bytes.{NUL, LF, CR, SP, DASH, crlf, Lacks};
-ghost use Rattle.unftp_control_defs.specs.Lines.{IsLine, Lines, lines_of, rest_of};
+ghost use Rattle.unftp_control_defs.specs.Lines.{IsLine, Lines, lines_of, incomplete_line};
 ghost use Rattle.unftp_control_defs.specs.Verbs.{Cut, is_separator, upper};
 
 /// The bytes that have names.
@@ -28,16 +28,17 @@ pub fn lines_have_one_lf()
     ensures more { ¬ IsLine (codes "A\nB") }
 {}
 
-/// An LF ends a line, and nothing else does; what none ends is the rest.
+/// An LF ends a line, and nothing else does; what none ends is the incomplete line.
 pub fn lines_end_at_lf()
     ensures lines { lines_of (codes "NOOP\r\nPWD\nNO\r") ≡ codes "NOOP\r\n" ∷ codes "PWD\n" ∷ [] }
-    ensures rest { rest_of (codes "NOOP\r\nPWD\nNO\r") ≡ codes "NO\r" }
+    ensures rest { incomplete_line (codes "NOOP\r\nPWD\nNO\r") ≡ codes "NO\r" }
 {}
 
-/// The lines of an input, and its rest.
+/// The lines of an input, and its incomplete line.
 pub fn inputs_have_lines()
     ensures nothing { Lines [] [] [] }
-    ensures lines_and_rest { Lines (codes "NOOP\r\nPWD\nNO\r") (codes "NOOP\r\n" ∷ codes "PWD\n" ∷ []) (codes "NO\r") }
+    ensures lines_and_rest { Lines (codes "NOOP\r\nPWD\nNO\r")
+        (codes "NOOP\r\n" ∷ codes "PWD\n" ∷ []) (codes "NO\r") }
     ensures byte_left_out { ¬ Lines (codes "A\nB") (codes "A\n" ∷ []) [] }
     ensures two_in_one { ¬ Lines (codes "A\nB\n") (codes "A\nB\n" ∷ []) [] }
     ensures line_in_the_rest { ¬ Lines (codes "A\n") [] (codes "A\n") }
@@ -54,7 +55,7 @@ pub fn separators_are_these()
 {}
 
 /// One separator is cut out, and the rest is the parameter.
-pub fn lines_are_cut_so()
+pub fn lines_are_split_so()
     ensures space { Cut (codes "RETR a b\r\n") (codes "RETR") (codes "a b\r\n") }
     ensures two_spaces { Cut (codes "RETR  a") (codes "RETR") (codes " a") }
     ensures cr { Cut (codes "NOOP\r\n") (codes "NOOP") (codes "\n") }

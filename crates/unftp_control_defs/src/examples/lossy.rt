@@ -31,7 +31,8 @@ pub fn bytes_begin_so()
 pub fn ill_formed_parts_are_replaced()
     ensures empty { LossyText [] [] }
     ensures text { LossyText (codes "ab") (codes "ab") }
-    ensures parts { LossyText (255 ∷ 226 ∷ 130 ∷ codes "b") (239 ∷ 191 ∷ 189 ∷ 239 ∷ 191 ∷ 189 ∷ codes "b") }
+    ensures parts { LossyText (255 ∷ 226 ∷ 130 ∷ codes "b")
+        (239 ∷ 191 ∷ 189 ∷ 239 ∷ 191 ∷ 189 ∷ codes "b") }
     ensures byte_dropped { ¬ LossyText (255 ∷ []) [] }
     ensures text_added { ¬ LossyText [] (codes "a") }
 {}

@@ -32,8 +32,11 @@ pub fn texts_have_paths()
 
 /// Which spaces belong to a path of LIST.
 pub fn paths_begin_so()
-    ensures after_an_option { outcome (codes "LIST -la  b\r\n") ≡ Ok (Listing None (Some (codes " b"))) }
-    ensures after_two_dashes { outcome (codes "LIST --  a\r\n") ≡ Ok (Listing None (Some (codes " a"))) }
-    ensures dash_first { outcome (codes "LIST -la -- -leading\r\n") ≡ Ok (Listing None (Some (codes "-leading"))) }
+    ensures after_an_option { outcome (codes "LIST -la  b\r\n")
+        ≡ Ok (Listing None (Some (codes " b"))) }
+    ensures after_two_dashes { outcome (codes "LIST --  a\r\n")
+        ≡ Ok (Listing None (Some (codes " a"))) }
+    ensures dash_first { outcome (codes "LIST -la -- -leading\r\n")
+        ≡ Ok (Listing None (Some (codes "-leading"))) }
     ensures no_path { outcome (codes "LIST -- \r\n") ≡ Ok (Listing None None) }
 {}

@@ -54,7 +54,8 @@ pub fn replies_are_read_so()
     ensures no_text { FrontReply (codes "211 \r\n") 211 ([] ∷ []) 6 }
     ensures text { FrontReply (codes "211 a\r\n") 211 (codes "a" ∷ []) 7 }
     ensures standard { FrontReply (codes "123-First line\r\nSecond line\r\n  234 A line beginning with numbers\r\n123 The last line\r\n220 x\r\n")
-        123 (codes "First line" ∷ codes "Second line" ∷ codes "  234 A line beginning with numbers" ∷ codes "The last line" ∷ []) 85 }
+        123 (codes "First line" ∷ codes "Second line" ∷ codes "  234 A line beginning with numbers"
+        ∷ codes "The last line" ∷ []) 85 }
     ensures codes_first { FrontReply (codes "211-a\r\n212 b\r\n211\r\n211-c\r\n211 d\r\n")
         211 (codes "a" ∷ codes "212 b" ∷ codes "211" ∷ codes "211-c" ∷ codes "d" ∷ []) 33 }
     ensures bare_cr_and_lf { FrontReply (codes "211 a\rb\nc\r\n") 211 (codes "a\rb\nc" ∷ []) 11 }
@@ -65,9 +66,12 @@ pub fn replies_are_not_read_so()
     ensures other_code { ¬ FrontReply (codes "211 a\r\n") 212 (codes "a" ∷ []) 7 }
     ensures code_in_the_text { ¬ FrontReply (codes "211 a\r\n") 211 (codes "211 a" ∷ []) 7 }
     ensures line_end_left { ¬ FrontReply (codes "211 a\r\n") 211 (codes "a" ∷ []) 5 }
-    ensures line_end_in_the_text { ¬ FrontReply (codes "211 a\r\n211 b\r\n") 211 (codes "a\r\n211 b" ∷ []) 14 }
-    ensures past_the_last_line { ¬ FrontReply (codes "211-a\r\n211 b\r\n211 c\r\n") 211 (codes "a" ∷ codes "211 b" ∷ codes "c" ∷ []) 21 }
-    ensures line_left_out { ¬ FrontReply (codes "211-a\r\nb\r\n211 c\r\n") 211 (codes "a" ∷ codes "c" ∷ []) 18 }
+    ensures line_end_in_the_text { ¬ FrontReply (codes "211 a\r\n211 b\r\n") 211
+        (codes "a\r\n211 b" ∷ []) 14 }
+    ensures past_the_last_line { ¬ FrontReply (codes "211-a\r\n211 b\r\n211 c\r\n") 211
+        (codes "a" ∷ codes "211 b" ∷ codes "c" ∷ []) 21 }
+    ensures line_left_out { ¬ FrontReply (codes "211-a\r\nb\r\n211 c\r\n") 211
+        (codes "a" ∷ codes "c" ∷ []) 18 }
     ensures empty { ¬ HasFront [] }
     ensures no_line_end { ¬ HasFront (codes "211 a\r") }
     ensures no_last_line { ¬ HasFront (codes "211-a\r\n212 b\r\n211\r\n") }
@@ -102,13 +106,17 @@ pub fn replies_are_malformed_so()
 pub fn replies_are_read_back_so()
     ensures none { ReadsBack [] [] }
     ensures nothing { ReadsBack [] (Nothing ∷ []) }
-    ensures two { ReadsBack (codes "200 a\r\n221\r\n") (CodeAndMsg 200 (codes "a") ∷ Nothing ∷ CodeAndMsg 221 [] ∷ []) }
+    ensures two { ReadsBack (codes "200 a\r\n221\r\n")
+        (CodeAndMsg 200 (codes "a") ∷ Nothing ∷ CodeAndMsg 221 [] ∷ []) }
     ensures not_written { ¬ ReadsBack [] (CodeAndMsg 200 [] ∷ []) }
     ensures no_reply { ¬ ReadsBack (codes "200 a\r\n") [] }
     ensures other_text { ¬ ReadsBack (codes "200 a\r\n") (CodeAndMsg 200 (codes "ab") ∷ []) }
-    ensures second_left_out { ¬ ReadsBack (codes "200 a\r\n221\r\n") (CodeAndMsg 200 (codes "a") ∷ []) }
-    ensures line_end_in_the_text { ¬ ReadsBack (codes "200 a\r\n221\r\n") (CodeAndMsg 200 (codes "a\r\n221") ∷ []) }
+    ensures second_left_out { ¬ ReadsBack (codes "200 a\r\n221\r\n")
+        (CodeAndMsg 200 (codes "a") ∷ []) }
+    ensures line_end_in_the_text { ¬ ReadsBack (codes "200 a\r\n221\r\n")
+        (CodeAndMsg 200 (codes "a\r\n221") ∷ []) }
     ensures four_digits { ¬ ReadsBack (codes "1000\r\n") (CodeAndMsg 1000 [] ∷ []) }
-    ensures all { AllReplies (codes "200 a\r\n221\r\n") ((200, codes "a" ∷ []) ∷ (221, [] ∷ []) ∷ []) }
+    ensures all { AllReplies (codes "200 a\r\n221\r\n")
+        ((200, codes "a" ∷ []) ∷ (221, [] ∷ []) ∷ []) }
     ensures all_but_one { ¬ AllReplies (codes "200 a\r\n221\r\n") ((200, codes "a" ∷ []) ∷ []) }
 {}

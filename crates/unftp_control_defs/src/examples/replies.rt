@@ -1,6 +1,6 @@
 //! Replies: their bytes, what a client sees of them, and which of them it can read back.
 ghost use Rattle.std.specs.Prelude.{◌≡◌, [], ◌∷◌, true, false, Some, None, codes};
-ghost use Rattle.unftp_control_defs.specs.FtpReply.{Nothing, CodeAndMsg, MultiLine, HasThreeDigits, IsPlain, encoded, is_positive, padded, shown};
+ghost use Rattle.unftp_control_defs.specs.FtpReply.{Nothing, CodeAndMsg, MultiLine, HasThreeDigits, IsPlain, encoded, is_positive, padded, reply_as_read};
 
 /// A line that begins with a digit gets a space.
 pub fn lines_are_padded_so()
@@ -21,12 +21,14 @@ pub fn replies_are_encoded_so()
     ensures no_lines { encoded (MultiLine 200 []) ≡ codes "200 \r\n" }
     ensures one_empty_line { encoded (MultiLine 200 ([] ∷ [])) ≡ codes "200 \r\n" }
     ensures one_line { encoded (MultiLine 200 (codes "1a" ∷ [])) ≡ codes "200 1a\r\n" }
-    ensures digits_first { encoded (MultiLine 211 (codes "a" ∷ codes "1b" ∷ codes "2c" ∷ [])) ≡ codes "211-a\r\n 1b\r\n211 2c\r\n" }
-    ensures digit_in_the_first_line { encoded (MultiLine 211 (codes "1a" ∷ codes "b" ∷ [])) ≡ codes "211- 1a\r\n211 b\r\n" }
+    ensures digits_first { encoded (MultiLine 211 (codes "a" ∷ codes "1b" ∷ codes "2c" ∷ []))
+        ≡ codes "211-a\r\n 1b\r\n211 2c\r\n" }
+    ensures digit_in_the_first_line { encoded (MultiLine 211 (codes "1a" ∷ codes "b" ∷ []))
+        ≡ codes "211- 1a\r\n211 b\r\n" }
 {}
 
 /// The example of RFC 959, section 4.2.
-pub fn the_standards_reply_is_encoded_so()
+pub fn the_reply_of_the_rfc_is_encoded_so()
     ensures { encoded (MultiLine 123 (codes "First line" ∷ codes "Second line"
         ∷ codes "  234 A line beginning with numbers" ∷ codes "The last line" ∷ []))
         ≡ codes "123-First line\r\nSecond line\r\n  234 A line beginning with numbers\r\n123 The last line\r\n" }
@@ -34,12 +36,14 @@ pub fn the_standards_reply_is_encoded_so()
 
 /// What a client sees.
 pub fn replies_are_shown_so()
-    ensures nothing { shown Nothing ≡ None }
-    ensures text { shown (CodeAndMsg 220 (codes "1a")) ≡ Some (220, codes "1a" ∷ []) }
-    ensures empty_text { shown (CodeAndMsg 200 []) ≡ Some (200, [] ∷ []) }
-    ensures no_lines { shown (MultiLine 200 []) ≡ Some (200, [] ∷ []) }
-    ensures last_line { shown (MultiLine 200 (codes "1a" ∷ [])) ≡ Some (200, codes "1a" ∷ []) }
-    ensures other_lines { shown (MultiLine 211 (codes "1a" ∷ codes "2b" ∷ codes "3c" ∷ [])) ≡ Some (211, codes " 1a" ∷ codes " 2b" ∷ codes "3c" ∷ []) }
+    ensures nothing { reply_as_read Nothing ≡ None }
+    ensures text { reply_as_read (CodeAndMsg 220 (codes "1a")) ≡ Some (220, codes "1a" ∷ []) }
+    ensures empty_text { reply_as_read (CodeAndMsg 200 []) ≡ Some (200, [] ∷ []) }
+    ensures no_lines { reply_as_read (MultiLine 200 []) ≡ Some (200, [] ∷ []) }
+    ensures last_line { reply_as_read (MultiLine 200 (codes "1a" ∷ []))
+        ≡ Some (200, codes "1a" ∷ []) }
+    ensures other_lines { reply_as_read (MultiLine 211 (codes "1a" ∷ codes "2b" ∷ codes "3c" ∷ []))
+        ≡ Some (211, codes " 1a" ∷ codes " 2b" ∷ codes "3c" ∷ []) }
 {}
 
 /// The codes 200 to 399, and no reply (RFC 959, section 4.2.1).

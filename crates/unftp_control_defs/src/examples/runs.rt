@@ -1,6 +1,6 @@
 //! Events, the texts of errors, runs of a handler, inputs in pieces, and the steps of a codec.
 ghost use Rattle.std.specs.Prelude.{◌≡◌, ◌+◌, ℕ, [], ◌∷◌, ◌++◌, Some, None, codes};
-ghost use Rattle.unftp_control_defs.specs.Cuttings.{events_in_turn};
+ghost use Rattle.unftp_control_defs.specs.Pieces.{events_in_turn};
 ghost use Rattle.unftp_control_defs.specs.Events.{Command, Refused, IoError, ParseError, InternalServerError, AuthenticationError, InternalMsgError, Utf8Error, UnknownCommand, InvalidCommand, ControlChannelTimeout, IllegalState, OutOfMemory, NoSource, Parse, events, fault_for, out_of_memory};
 ghost use Rattle.unftp_control_defs.specs.FtpCommand.{Noop, Pwd, InvalidCommand as NoCommand, InvalidUtf8, InvalidEol};
 ghost use Rattle.unftp_control_defs.specs.FtpReply.{CodeAndMsg};
@@ -10,9 +10,12 @@ ghost use Rattle.unftp_control_defs.specs.Texts.{error_text, kind_text, parse_er
 
 /// The fault that a refused line is reported as.
 pub fn refusals_are_faults()
-    ensures utf8 { fault_for InvalidUtf8 ≡ record { kind = Utf8Error; source = Parse (Some InvalidUtf8) } }
-    ensures command { fault_for NoCommand ≡ record { kind = InvalidCommand; source = Parse (Some NoCommand) } }
-    ensures line_ending { fault_for InvalidEol ≡ record { kind = InvalidCommand; source = Parse (Some InvalidEol) } }
+    ensures utf8 { fault_for InvalidUtf8
+        ≡ record { kind = Utf8Error; source = Parse (Some InvalidUtf8) } }
+    ensures command { fault_for NoCommand
+        ≡ record { kind = InvalidCommand; source = Parse (Some NoCommand) } }
+    ensures line_ending { fault_for InvalidEol
+        ≡ record { kind = InvalidCommand; source = Parse (Some InvalidEol) } }
     ensures memory { out_of_memory ≡ record { kind = OutOfMemory; source = NoSource } }
 {}
 
@@ -21,14 +24,16 @@ pub fn lines_are_events()
     ensures none { events (codes "NOOP") ≡ [] }
     ensures one { events (codes "NOOP\nPWD") ≡ Command Noop ∷ [] }
     ensures some { events (codes "PWD\r\nNOOP x\n" ++ 255 ∷ codes "\nNOOP\r\n")
-        ≡ Command Pwd ∷ Refused (fault_for NoCommand) ∷ Refused (fault_for InvalidUtf8) ∷ Command Noop ∷ [] }
+        ≡ Command Pwd ∷ Refused (fault_for NoCommand) ∷ Refused (fault_for InvalidUtf8)
+        ∷ Command Noop ∷ [] }
 {}
 
 /// The same events, however the input is split.
 pub fn pieces_have_events()
     ensures no_pieces { events_in_turn (codes "NOOP\n") [] ≡ [] }
     ensures rest_first { events_in_turn (codes "NO") (codes "OP\n" ∷ []) ≡ Command Noop ∷ [] }
-    ensures pieces { events_in_turn [] (codes "NO" ∷ codes "OP\nPW" ∷ [] ∷ codes "D\r\nNO" ∷ []) ≡ Command Noop ∷ Command Pwd ∷ [] }
+    ensures pieces { events_in_turn [] (codes "NO" ∷ codes "OP\nPW" ∷ [] ∷ codes "D\r\nNO" ∷ [])
+        ≡ Command Noop ∷ Command Pwd ∷ [] }
 {}
 
 /// The texts of errors.
@@ -36,16 +41,19 @@ pub fn errors_have_texts()
     ensures io { error_text IoError ≡ codes "control channel error: Failed to perform IO" }
     ensures parse { kind_text ParseError ≡ codes "Failed to parse command" }
     ensures server { kind_text InternalServerError ≡ codes "Internal Server Error" }
-    ensures authentication { kind_text AuthenticationError ≡ codes "Something went wrong when trying to authenticate" }
+    ensures authentication { kind_text AuthenticationError
+        ≡ codes "Something went wrong when trying to authenticate" }
     ensures message { kind_text InternalMsgError ≡ codes "Failed to map event from data channel" }
     ensures utf8 { kind_text Utf8Error ≡ codes "Non-UTF8 character in command" }
     ensures unknown { kind_text (UnknownCommand (codes "X")) ≡ codes "Unknown command: X" }
     ensures invalid { kind_text InvalidCommand ≡ codes "Invalid command (invalid parameter)" }
-    ensures timeout { kind_text ControlChannelTimeout ≡ codes "Encountered read timeout on the control channel" }
+    ensures timeout { kind_text ControlChannelTimeout
+        ≡ codes "Encountered read timeout on the control channel" }
     ensures state { kind_text IllegalState ≡ codes "Control channel in illegal state" }
     ensures memory { kind_text OutOfMemory ≡ codes "Out of memory" }
     ensures parser { parse_error_text (Some NoCommand) ≡ codes "parse error: Invalid command" }
-    ensures parser_utf8 { reading_text (Some InvalidUtf8) ≡ codes "Non-UTF8 character while parsing" }
+    ensures parser_utf8 { reading_text (Some InvalidUtf8)
+        ≡ codes "Non-UTF8 character while parsing" }
     ensures parser_line_ending { reading_text (Some InvalidEol) ≡ codes "Invalid end-of-line" }
     ensures parser_memory { reading_text None ≡ codes "Out of memory" }
 {}
@@ -54,12 +62,16 @@ pub fn errors_have_texts()
 /// command and 5yz to a refused line.
 pub fn handlers_run_so()
     ensures { let law : Law ℕ = record {
-      says = λ count event. elim event [ Command command ↦ CodeAndMsg (200 + count) [] | Refused fault ↦ CodeAndMsg (500 + count) [] ];
+      says = λ count event. elim event [
+        | Command command ↦ CodeAndMsg (200 + count) []
+        | Refused fault ↦ CodeAndMsg (500 + count) []
+      ];
       next = λ count event. count + 1;
       may_fail = λ count event kind. ⊥;
     } in
         (replies law 7 [] ≡ [])
-        × (replies law 7 (Command Noop ∷ Refused out_of_memory ∷ []) ≡ CodeAndMsg 207 [] ∷ CodeAndMsg 508 [] ∷ [])
+        × (replies law 7 (Command Noop ∷ Refused out_of_memory ∷ [])
+        ≡ CodeAndMsg 207 [] ∷ CodeAndMsg 508 [] ∷ [])
         × (last_state law 7 [] ≡ 7)
         × (last_state law 7 (Command Noop ∷ Refused out_of_memory ∷ []) ≡ 9)
         × (text_for law 0 (codes "NOOP\r\nNOOP x\nNOOP") ≡ codes "200\r\n501\r\n") }
@@ -74,12 +86,22 @@ pub fn steps_follow_so()
         (record { added = 4; tests = 4; removed = 0; place = 4 }
         ∷ record { added = 7; tests = 2; removed = 6; place = 0 }
         ∷ record { added = 0; tests = 5; removed = 5; place = 0 } ∷ []) }
-    ensures more_tests { ¬ AreSteps 0 0 (record { added = 4; tests = 5; removed = 0; place = 4 } ∷ []) }
-    ensures fewer_tests { ¬ AreSteps 0 0 (record { added = 4; tests = 3; removed = 0; place = 4 } ∷ []) }
-    ensures place_past_the_end { ¬ AreSteps 0 0 (record { added = 4; tests = 5; removed = 0; place = 5 } ∷ []) }
-    ensures removed_past_the_end { ¬ AreSteps 0 0 (record { added = 4; tests = 5; removed = 5; place = 0 } ∷ []) }
-    ensures tested_again { ¬ AreSteps 0 0 (record { added = 4; tests = 4; removed = 0; place = 4 } ∷ record { added = 1; tests = 5; removed = 5; place = 0 } ∷ []) }
-    ensures removed_again { ¬ AreSteps 0 0 (record { added = 4; tests = 4; removed = 4; place = 0 } ∷ record { added = 0; tests = 4; removed = 4; place = 0 } ∷ []) }
+    ensures more_tests { ¬ AreSteps 0 0
+        (record { added = 4; tests = 5; removed = 0; place = 4 } ∷ []) }
+    ensures fewer_tests { ¬ AreSteps 0 0
+        (record { added = 4; tests = 3; removed = 0; place = 4 } ∷ []) }
+    ensures place_past_the_end { ¬ AreSteps 0 0
+        (record { added = 4; tests = 5; removed = 0; place = 5 } ∷ []) }
+    ensures removed_past_the_end { ¬ AreSteps 0 0
+        (record { added = 4; tests = 5; removed = 5; place = 0 } ∷ []) }
+    ensures tested_again { ¬ AreSteps 0 0
+        (record { added = 4; tests = 4; removed = 0; place = 4 }
+        ∷ record { added = 1; tests = 5; removed = 5; place = 0 } ∷ []) }
+    ensures removed_again { ¬ AreSteps 0 0
+        (record { added = 4; tests = 4; removed = 4; place = 0 }
+        ∷ record { added = 0; tests = 4; removed = 4; place = 0 } ∷ []) }
     ensures first_place { last_place 3 [] ≡ 3 }
-    ensures last_place { last_place 3 (record { added = 1; tests = 1; removed = 0; place = 4 } ∷ record { added = 3; tests = 2; removed = 6; place = 0 } ∷ []) ≡ 0 }
+    ensures last_place { last_place 3
+        (record { added = 1; tests = 1; removed = 0; place = 4 }
+        ∷ record { added = 3; tests = 2; removed = 6; place = 0 } ∷ []) ≡ 0 }
 {}

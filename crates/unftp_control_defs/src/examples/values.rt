@@ -2,13 +2,14 @@
 ghost use Rattle.std.specs.Prelude.{◌≡◌, ◌++◌, [], ◌∷◌, Ok, Err, codes};
 ghost use Rattle.unftp_control_defs.specs.FtpCommand.{User, InvalidEol};
 ghost use Rattle.unftp_control_defs.specs.Outcome.{outcome};
-ghost use Rattle.unftp_control_defs.specs.Values.{Reads, BadEnd, escaped};
+ghost use Rattle.unftp_control_defs.specs.Values.{Reads, HasNoValue, escaped};
 
 /// Where a value ends, and which of its bytes are data.
 pub fn values_end_so()
     ensures bare_cr_first { outcome (codes "USER \rX\n") ≡ Ok (User (codes "\rX")) }
     ensures bare_cr_later { outcome (codes "USER a\rb\r\n") ≡ Err InvalidEol }
-    ensures cr_nul_is_a_cr { outcome (codes "USER x\r" ++ 0 ∷ codes "\r\n") ≡ Ok (User (codes "x\r")) }
+    ensures cr_nul_is_a_cr { outcome (codes "USER x\r" ++ 0 ∷ codes "\r\n")
+        ≡ Ok (User (codes "x\r")) }
     ensures cr_nul_before_lf { outcome (codes "USER x\r" ++ 0 ∷ codes "\n") ≡ Err InvalidEol }
     ensures lf_as_data { outcome (codes "USER a\n\n") ≡ Ok (User (codes "a\n")) }
     ensures bytes_after_the_end { outcome (codes "USER a\r\nzz") ≡ Ok (User (codes "a")) }
@@ -38,13 +39,13 @@ pub fn parameters_have_values()
 
 /// An invalid line ending is one that no rule reads.
 pub fn line_endings_are_invalid()
-    ensures no_end { BadEnd (codes "a") }
-    ensures cr_last { BadEnd (codes "ab\r") }
-    ensures bare_cr { BadEnd (codes "a\rb\r\n") }
-    ensures lf_after_cr_nul { BadEnd (codes "x\r" ++ 0 ∷ codes "\n") }
-    ensures empty { ¬ BadEnd [] }
-    ensures lf { ¬ BadEnd (codes "ab\n") }
-    ensures crlf { ¬ BadEnd (codes "ab\r\n") }
+    ensures no_end { HasNoValue (codes "a") }
+    ensures cr_last { HasNoValue (codes "ab\r") }
+    ensures bare_cr { HasNoValue (codes "a\rb\r\n") }
+    ensures lf_after_cr_nul { HasNoValue (codes "x\r" ++ 0 ∷ codes "\n") }
+    ensures empty { ¬ HasNoValue [] }
+    ensures lf { ¬ HasNoValue (codes "ab\n") }
+    ensures crlf { ¬ HasNoValue (codes "ab\r\n") }
 {}
 
 /// Each CR is sent as CR NUL, and any other byte as it is.

@@ -62,7 +62,8 @@ pub fn verbs_may_take_a_text()
     ensures stat_empty { outcome (codes "STAT\r\n") ≡ Ok (Stat None) }
     ensures list { outcome (codes "LIST a\r\n") ≡ Ok (Listing None (Some (codes "a"))) }
     ensures list_empty { outcome (codes "LIST\r\n") ≡ Ok (Listing None None) }
-    ensures stat_as_bytes { outcome (codes "STAT " ++ 255 ∷ codes "\r\n") ≡ Ok (Stat (Some (255 ∷ []))) }
+    ensures stat_as_bytes { outcome (codes "STAT " ++ 255 ∷ codes "\r\n")
+        ≡ Ok (Stat (Some (255 ∷ []))) }
 {}
 
 /// Verbs that take no value.
@@ -162,14 +163,20 @@ pub fn other_words_are_kept()
 /// Ill-formed UTF-8 in a text: U+FFFD for each longest part that begins a character, or else for
 /// one byte (Unicode, table 3-8).
 pub fn ill_formed_text_is_replaced()
-    ensures byte { outcome (codes "RETR " ++ 255 ∷ codes "\r\n") ≡ Ok (Retr (239 ∷ 191 ∷ 189 ∷ [])) }
-    ensures first_two_of_three { outcome (codes "RETR a" ++ 226 ∷ 130 ∷ codes "b\r\n") ≡ Ok (Retr (codes "a" ++ 239 ∷ 191 ∷ 189 ∷ codes "b")) }
-    ensures first_three_of_four { outcome (codes "RETR " ++ 240 ∷ 159 ∷ 146 ∷ codes "\r\n") ≡ Ok (Retr (239 ∷ 191 ∷ 189 ∷ [])) }
+    ensures byte { outcome (codes "RETR " ++ 255 ∷ codes "\r\n")
+        ≡ Ok (Retr (239 ∷ 191 ∷ 189 ∷ [])) }
+    ensures first_two_of_three { outcome (codes "RETR a" ++ 226 ∷ 130 ∷ codes "b\r\n")
+        ≡ Ok (Retr (codes "a" ++ 239 ∷ 191 ∷ 189 ∷ codes "b")) }
+    ensures first_three_of_four { outcome (codes "RETR " ++ 240 ∷ 159 ∷ 146 ∷ codes "\r\n")
+        ≡ Ok (Retr (239 ∷ 191 ∷ 189 ∷ [])) }
     // no character begins with these two
-    ensures overlong { outcome (codes "RETR " ++ 192 ∷ 128 ∷ codes "\r\n") ≡ Ok (Retr (239 ∷ 191 ∷ 189 ∷ 239 ∷ 191 ∷ 189 ∷ [])) }
+    ensures overlong { outcome (codes "RETR " ++ 192 ∷ 128 ∷ codes "\r\n")
+        ≡ Ok (Retr (239 ∷ 191 ∷ 189 ∷ 239 ∷ 191 ∷ 189 ∷ [])) }
     // nor with 237 160
-    ensures surrogate { outcome (codes "RETR " ++ 237 ∷ 160 ∷ 128 ∷ codes "\r\n") ≡ Ok (Retr (239 ∷ 191 ∷ 189 ∷ 239 ∷ 191 ∷ 189 ∷ 239 ∷ 191 ∷ 189 ∷ [])) }
-    ensures character { outcome (codes "RETR " ++ 226 ∷ 130 ∷ 172 ∷ codes "\r\n") ≡ Ok (Retr (226 ∷ 130 ∷ 172 ∷ [])) }
+    ensures surrogate { outcome (codes "RETR " ++ 237 ∷ 160 ∷ 128 ∷ codes "\r\n")
+        ≡ Ok (Retr (239 ∷ 191 ∷ 189 ∷ 239 ∷ 191 ∷ 189 ∷ 239 ∷ 191 ∷ 189 ∷ [])) }
+    ensures character { outcome (codes "RETR " ++ 226 ∷ 130 ∷ 172 ∷ codes "\r\n")
+        ≡ Ok (Retr (226 ∷ 130 ∷ 172 ∷ [])) }
 {}
 
 /// What ends a verb, and which letters of it are upper-cased.
@@ -178,13 +185,16 @@ pub fn verbs_end_so()
     ensures at_once { outcome (codes " NOOP\r\n") ≡ Ok (Other [] (codes "NOOP")) }
     ensures empty_line { outcome (codes "\r\n") ≡ Ok (Other [] []) }
     // the letter is U+00DF
-    ensures only_ascii { outcome (codes "pa" ++ 195 ∷ 159 ∷ codes " x\r\n") ≡ Ok (Other (codes "PA" ++ 195 ∷ 159 ∷ []) (codes "x")) }
-    ensures site_name { outcome (codes "site chmod 644 f\r\n") ≡ Ok (Site (codes "CHMOD") (codes "644 f")) }
+    ensures only_ascii { outcome (codes "pa" ++ 195 ∷ 159 ∷ codes " x\r\n")
+        ≡ Ok (Other (codes "PA" ++ 195 ∷ 159 ∷ []) (codes "x")) }
+    ensures site_name { outcome (codes "site chmod 644 f\r\n")
+        ≡ Ok (Site (codes "CHMOD") (codes "644 f")) }
 {}
 
 /// The bounds of REST.
 pub fn offsets_have_64_bits()
-    ensures greatest { outcome (codes "REST 18446744073709551615\r\n") ≡ Ok (Rest 18446744073709551615) }
+    ensures greatest { outcome (codes "REST 18446744073709551615\r\n")
+        ≡ Ok (Rest 18446744073709551615) }
     ensures too_great { outcome (codes "REST 18446744073709551616\r\n") ≡ Err InvalidCommand }
     ensures plus { outcome (codes "REST +5\r\n") ≡ Ok (Rest 5) }
     ensures minus { outcome (codes "REST -0\r\n") ≡ Err InvalidCommand }
@@ -197,9 +207,11 @@ pub fn offsets_have_64_bits()
 /// Which refusal comes first.
 pub fn refusals_come_in_order()
     ensures verb_utf8 { outcome (255 ∷ codes " a\rb\n") ≡ Err InvalidUtf8 }
-    ensures auth_length_first { outcome (codes "AUTH " ++ 255 ∷ 255 ∷ 255 ∷ 255 ∷ codes "\r\n") ≡ Err InvalidCommand }
+    ensures auth_length_first { outcome (codes "AUTH " ++ 255 ∷ 255 ∷ 255 ∷ 255 ∷ codes "\r\n")
+        ≡ Err InvalidCommand }
     ensures auth_utf8 { outcome (codes "AUTH " ++ 255 ∷ codes "\r\n") ≡ Err InvalidUtf8 }
-    ensures site_name_before_its_end { outcome (codes "SITE " ++ 255 ∷ codes " a\rb\n") ≡ Err InvalidUtf8 }
+    ensures site_name_before_its_end { outcome (codes "SITE " ++ 255 ∷ codes " a\rb\n")
+        ≡ Err InvalidUtf8 }
     ensures end_before_the_value { outcome (codes "NOOP x\ry\r\n") ≡ Err InvalidEol }
     ensures end_before_the_structure { outcome (codes "STRU x") ≡ Err InvalidEol }
 {}

@@ -1,6 +1,6 @@
 use Rattle.std.proofs.Common.{[]}
-use Rattle.unftp_control_laws.proofs.CuttingLaws.{events_in_turn-behind}
+use Rattle.unftp_control_laws.proofs.PieceLemmas.{events_in_turn-after}
 use Rattle.unftp_control_laws.proofs.any_cutting.Goals as goal
 
 pub returns : goal.returns
-returns c pieces = events_in_turn-behind [] pieces tt
+returns c pieces = events_in_turn-after [] pieces tt

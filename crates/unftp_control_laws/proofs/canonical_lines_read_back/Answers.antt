@@ -1,5 +1,5 @@
-use Rattle.unftp_control_defs.proofs.CanonicalEndLaws.{IsLine-canonical_line}
-use Rattle.unftp_control_defs.proofs.CanonicalLaws.{outcome-canonical_line}
+use Rattle.unftp_control_defs.proofs.CanonicalLineEndLemmas.{IsLine-canonical_line}
+use Rattle.unftp_control_defs.proofs.CanonicalLineLemmas.{outcome-canonical_line}
 use Rattle.unftp_control_laws.proofs.canonical_lines_read_back.Goals as goal
 
 pub returns : goal.returns

@@ -1,4 +1,4 @@
-use Rattle.unftp_control_laws.proofs.FoldLaws.{outcome-verb_case, outcome-name_case}
+use Rattle.unftp_control_laws.proofs.FoldLemmas.{outcome-verb_case, outcome-name_case}
 use Rattle.unftp_control_laws.proofs.case_folds.Goals as goal
 
 pub returns : goal.returns

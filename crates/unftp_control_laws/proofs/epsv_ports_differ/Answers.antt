@@ -1,4 +1,4 @@
-use Rattle.unftp_control_laws.proofs.EpsvLaws.{port_reply-injective}
+use Rattle.unftp_control_laws.proofs.EpsvLemmas.{port_reply-injective}
 use Rattle.unftp_control_laws.proofs.epsv_ports_differ.Goals as goal
 
 pub returns : goal.returns

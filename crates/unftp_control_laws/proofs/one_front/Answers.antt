@@ -1,5 +1,5 @@
-use Rattle.unftp_control_defs.proofs.ReaderLaws.{FrontReply-unique}
-use Rattle.unftp_control_defs.proofs.ReadingLaws.{front_within}
+use Rattle.unftp_control_defs.proofs.ReplyUniqueLemmas.{FrontReply-unique}
+use Rattle.unftp_control_defs.proofs.ReplyCasesLemmas.{front_within}
 use Rattle.unftp_control_laws.proofs.one_front.Goals as goal
 
 pub returns : goal.returns

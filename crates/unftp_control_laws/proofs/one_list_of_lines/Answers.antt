@@ -1,4 +1,4 @@
-use Rattle.unftp_control_defs.proofs.LineLaws.{Lines-lines_of, Lines-unique}
+use Rattle.unftp_control_defs.proofs.LineLemmas.{Lines-lines_of, Lines-unique}
 use Rattle.unftp_control_laws.proofs.one_list_of_lines.Goals as goal
 
 pub returns : goal.returns

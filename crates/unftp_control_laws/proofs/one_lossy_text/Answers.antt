@@ -1,6 +1,6 @@
 use Rattle.std.proofs.Common.{subst}
 use Rattle.unftp_control_defs.specs.LossyText.{LossyText}
-use Rattle.unftp_control_laws.proofs.LossyTextLaws.{LossyText-unique, LossyText-utf8_lossy, first_part-encode}
+use Rattle.unftp_control_laws.proofs.LossyTextLemmas.{LossyText-unique, LossyText-utf8_lossy, first_part-encode}
 use Rattle.unftp_control_laws.proofs.one_lossy_text.Goals as goal
 
 pub returns : goal.returns

@@ -1,6 +1,6 @@
 use Rattle.std.proofs.Common.{subst}
 use Rattle.unftp_control_defs.specs.Paths.{ListPath}
-use Rattle.unftp_control_defs.proofs.PathLaws.{path_of-ListPath, ListPath-path_of}
+use Rattle.unftp_control_defs.proofs.PathLemmas.{path_of-ListPath, ListPath-path_of}
 use Rattle.unftp_control_laws.proofs.one_path.Goals as goal
 
 pub returns : goal.returns

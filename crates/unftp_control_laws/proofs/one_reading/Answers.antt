@@ -1,4 +1,4 @@
-use Rattle.unftp_control_defs.proofs.ReadingLaws.{some_reading, front_is_whole, front_is_formed, partial_is_formed}
+use Rattle.unftp_control_defs.proofs.ReplyCasesLemmas.{some_reading, front_is_whole, front_is_formed, partial_is_formed}
 use Rattle.unftp_control_laws.proofs.one_reading.Goals as goal
 
 pub returns : goal.returns

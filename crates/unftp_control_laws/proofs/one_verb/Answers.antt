@@ -1,4 +1,4 @@
-use Rattle.unftp_control_defs.proofs.VerbLaws.{Cut-verb_of, Cut-unique}
+use Rattle.unftp_control_defs.proofs.VerbLemmas.{Cut-verb_of, Cut-unique}
 use Rattle.unftp_control_laws.proofs.one_verb.Goals as goal
 
 pub returns : goal.returns

@@ -1,4 +1,4 @@
-use Rattle.unftp_control_defs.proofs.EncodingLaws.{FrontReply-encoded, ReadsBack-encoded}
+use Rattle.unftp_control_defs.proofs.EncodingLemmas.{FrontReply-encoded, ReadsBack-encoded}
 use Rattle.unftp_control_laws.proofs.replies_read_back.Goals as goal
 
 pub returns : goal.returns

@@ -1,6 +1,6 @@
 use Rattle.std.proofs.Common.{◌∙◌}
-use Rattle.unftp_control_defs.proofs.ReaderLaws.{FrontReply-unique}
-use Rattle.unftp_control_defs.proofs.ReadingLaws.{front_is_whole, front_within, front_is_formed, partial_is_formed}
+use Rattle.unftp_control_defs.proofs.ReplyUniqueLemmas.{FrontReply-unique}
+use Rattle.unftp_control_defs.proofs.ReplyCasesLemmas.{front_is_whole, front_within, front_is_formed, partial_is_formed}
 use Rattle.unftp_control_read.proofs.read_reply.Goals as goal
 
 pub returns-in-Ok-clause-whole : goal.returns-in-Ok-clause-whole

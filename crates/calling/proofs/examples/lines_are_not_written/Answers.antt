@@ -1,5 +1,5 @@
 use Rattle.std.proofs.Common.{codes}
-use Rattle.unftp_control.proofs.LineLaws.{Lines-lines_of}
+use Rattle.unftp_control.proofs.LineLemmas.{Lines-lines_of}
 use Rattle.calling.proofs.ExampleLemmas.{lines_of-IsLine}
 use Rattle.calling.proofs.examples.lines_are_not_written.Goals as goal
 

@@ -1,6 +1,6 @@
 use Rattle.std.proofs.Common.{take, map}
 use Rattle.std.specs.List.{concat}
-use Rattle.calling.proofs.PieceLaws.{Fed}
+use Rattle.calling.proofs.PieceLemmas.{Fed}
 use Rattle.calling.proofs.pieces.answer_pieces.Given as goal
 
 abbrev pub invariant-loop-piece : goal.invariant-loop-piece

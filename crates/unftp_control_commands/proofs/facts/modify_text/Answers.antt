@@ -1,5 +1,5 @@
 use Rattle.std.proofs.Common.{rules}
-use Rattle.unftp_control_commands.proofs.Years.{time_text-none, time_text-some}
+use Rattle.unftp_control_commands.proofs.YearLemmas.{time_text-none, time_text-some}
 use Rattle.unftp_control_commands.proofs.facts.modify_text.Goals as goal
 
 pub returns-then-year-lt0 : goal.returns-then-year-lt0

@@ -1,4 +1,4 @@
-use Rattle.unftp_control_commands.proofs.OneText.{IsFacts-unique}
+use Rattle.unftp_control_commands.proofs.FactTextLemmas.{IsFacts-unique}
 use Rattle.unftp_control_commands.proofs.facts.one_text_of_facts.Goals as goal
 
 pub returns : goal.returns

@@ -15,7 +15,7 @@ use denote.Steps.{nothing}
 use mir.Syntax.{named}
 use denote.Triple.Entry.{alive}
 use denote.Triple.Walked.{Stays, walk_of, says, stay_dropped, Goes-dropped, ends_at}
-use Rattle.unftp_control_count.proofs.Walks.{sealed, count_made}
+use Rattle.unftp_control_count.proofs.CountLemmas.{sealed, count_made}
 use Rattle.unftp_control_count.specs.contracts.Count.{the_row as R}
 use Rattle.unftp_control_count.specs.contracts.Count.after as f
 use Rattle.unftp_control_count.proofs.Count.after.Statement.{statement}

@@ -10,7 +10,7 @@ use denote.Signature.{types_at}
 use denote.Steps.{nothing}
 use denote.Triple.Entry.{alive}
 use denote.Triple.Walked.{Stays, walk_of, says, ends_at}
-use Rattle.unftp_control_count.proofs.Walks.{sealed, count_made}
+use Rattle.unftp_control_count.proofs.CountLemmas.{sealed, count_made}
 use Rattle.unftp_control_count.specs.contracts.Count.new as f
 use Rattle.unftp_control_count.proofs.Count.new.Statement.{statement}
 use Rattle.unftp_control_count.proofs.Count.new.Code as code

@@ -2,7 +2,7 @@ use Rattle.std.proofs.Common.{eqb-true, sym, ◌∙◌}
 use Rattle.std.proofs.lemmas.Result.{IfOk-weaker}
 use Rattle.std.proofs.lemmas.Str.{utf8_lossy-IsUtf8}
 use Rattle.bstr.proofs.lemmas.LossyLemmas.{lossy_chars-utf8_lossy}
-use Rattle.unftp_control_line_parser.proofs.Paths.{no_text}
+use Rattle.unftp_control_line_parser.proofs.PathLemmas.{no_text}
 use Rattle.unftp_control_line_parser.proofs.fields.borrowed_text.Goals as goal
 
 pub returns-then-is_empty : goal.returns-then-is_empty

@@ -1,5 +1,5 @@
 use Rattle.std.proofs.Common.{◌≡◌, length, sym, subst, eqb-true, ◌∙◌}
-use Rattle.unftp_control_line_parser.proofs.Paths.{no_path}
+use Rattle.unftp_control_line_parser.proofs.PathLemmas.{no_path}
 use Rattle.unftp_control_line_parser.proofs.fields.list_path.Goals as goal
 
 pub returns-then-is_empty : goal.returns-then-is_empty

@@ -2,7 +2,7 @@ use Rattle.std.proofs.Common.{refl, sym, ◌∙◌, arith, ap, drop, ◌+◌}
 use Rattle.std.proofs.lemmas.Bool.{false≢true}
 use Rattle.std.proofs.lemmas.Str.{IsCharBoundary-start}
 use Rattle.unftp_control_defs.specs.Paths.{path_from}
-use Rattle.unftp_control_line_parser.proofs.Paths.{word_step, dash_step, dash_end, dash_boundary, after_space}
+use Rattle.unftp_control_line_parser.proofs.PathLemmas.{word_step, dash_step, dash_end, dash_boundary, after_space}
 use Rattle.unftp_control_line_parser.proofs.fields.path_start.Goals as goal
 use Rattle.unftp_control_line_parser.proofs.fields.path_start.Goals.{then-in_word, else-in_word+else-text-at-ne45+else-eq+else-starts_with}
 

@@ -15,18 +15,18 @@ use Rattle.unftp_control_line_parser.proofs.typed.auth.Goals.{then-eq_ignore_asc
 mechanism : (v : Bytes) → length v ≤ 3 → IsUtf8 v → auth v ≡ chosen mechanisms (upper v)
 mechanism v short utf8 = rw (le-ltb 3 (length v) short, is_utf8-from_IsUtf8 v utf8) refl
 
-pub returns-in_err-from_utf8-clause-told : goal.returns-in_err-from_utf8-clause-told
-returns-in_err-from_utf8-clause-told c = refused_utf8 c.args.value.now _ _ c.in_err-from_utf8.ensures.cases.0 (λ ill. rw (le-ltb 3 _ c.if-value-gt3.false, ill) refl) c.from_residual.ensures.1
+pub returns-in_err-from_utf8-clause-answer : goal.returns-in_err-from_utf8-clause-answer
+returns-in_err-from_utf8-clause-answer c = refused_utf8 c.args.value.now _ _ c.in_err-from_utf8.ensures.cases.0 (λ ill. rw (le-ltb 3 _ c.if-value-gt3.false, ill) refl) c.from_residual.ensures.1
 
-pub returns-else-eq_ignore_ascii_case-2-clause-told :
-    goal.returns-else-eq_ignore_ascii_case-2-clause-told
-returns-else-eq_ignore_ascii_case-2-clause-told c =
+pub returns-else-eq_ignore_ascii_case-2-clause-answer :
+    goal.returns-else-eq_ignore_ascii_case-2-clause-answer
+returns-else-eq_ignore_ascii_case-2-clause-answer c =
     let tls : bytes_eq (codes "TLS") (upper c.args.value.now) ≡ false = same_ignoring_case _ (codes "TLS") c.args.value.now c.if-eq_ignore_ascii_case.ensures.test in
     let ssl : bytes_eq (codes "SSL") (upper c.args.value.now) ≡ false = same_ignoring_case _ (codes "SSL") c.args.value.now c.if-eq_ignore_ascii_case-2.ensures.test in
     mechanism c.args.value.now c.if-value-gt3.false c.in_ok-from_utf8.ensures.cases.1 ∙ rw (tls, ssl) refl
 
-pub returns-clause-told : goal.returns-clause-told
-returns-clause-told c =
+pub returns-clause-answer : goal.returns-clause-answer
+returns-clause-answer c =
     mechanism c.args.value.now c.if-value-gt3.false c.in_ok-from_utf8.ensures.cases.1 ∙ elim c.if-eq_ignore_ascii_case.branch [
       | then-eq_ignore_ascii_case w ↦
           let tls : bytes_eq (codes "TLS") (upper c.args.value.now) ≡ true = same_ignoring_case _ (codes "TLS") c.args.value.now c.eq_ignore_ascii_case.ensures.test ∙ w.if-eq_ignore_ascii_case.true in

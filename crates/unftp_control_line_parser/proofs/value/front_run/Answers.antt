@@ -1,6 +1,6 @@
 use Rattle.std.proofs.Common.{arith, ap, sym, ◌∙◌, Some, refl}
 use Rattle.std.proofs.lemmas.Grind.{common_steps}
-use Rattle.unftp_control_line_parser.proofs.Runs.{crlf_at, nul_at}
+use Rattle.unftp_control_line_parser.proofs.RunLemmas.{crlf_at, nul_at}
 use Rattle.unftp_control_line_parser.proofs.value.front_run.Goals as goal
 
 pub returns-then-bytes-end-eq-LF-2 : goal.returns-then-bytes-end-eq-LF-2

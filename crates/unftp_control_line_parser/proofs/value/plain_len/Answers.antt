@@ -1,5 +1,5 @@
 use Rattle.std.proofs.Common.{arith}
-use Rattle.unftp_control_line_parser.proofs.Runs.{skip_nowhere}
+use Rattle.unftp_control_line_parser.proofs.RunLemmas.{skip_nowhere}
 use Rattle.unftp_control_line_parser.proofs.value.plain_len.Goals as goal
 
 pub returns-in-Some : goal.returns-in-Some

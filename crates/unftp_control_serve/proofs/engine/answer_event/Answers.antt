@@ -2,7 +2,7 @@ use Rattle.std.proofs.Common.{◌≡◌, ◌++◌, refl, ◌∙◌, ap}
 use Rattle.unftp_control_defs.specs.FtpReply.{encoded}
 use Rattle.unftp_control_reply.specs.ReplyMeaning.{reply_of}
 use Rattle.unftp_control_serve.specs.EventMeaning.{event_meant}
-use Rattle.unftp_control_serve.proofs.EndingLaws.{failed-at, answered, starved-at}
+use Rattle.unftp_control_serve.proofs.EndingLemmas.{failed-at, answered, no_memory-at}
 use Rattle.unftp_control_serve.proofs.engine.answer_event.Goals as goal
 
 pub returns-in-Err : goal.returns-in-Err
@@ -16,4 +16,4 @@ returns-in-Ok-encode g c =
     answered _ _ _ _ c.send.result c.in-Ok.ensures.next c.in-Ok.ensures.quiet (rw said at c.send.ensures)
 
 pub returns : goal.returns
-returns g c = starved-at _ _ _ _ c.in-Ok.ensures.next c.in-Ok.ensures.quiet refl
+returns g c = no_memory-at _ _ _ _ c.in-Ok.ensures.next c.in-Ok.ensures.quiet refl

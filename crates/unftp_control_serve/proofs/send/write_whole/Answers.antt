@@ -1,6 +1,6 @@
 use Rattle.std.proofs.Common.{◌≡◌, arith}
 use Rattle.std.proofs.lemmas.Grind.{common_steps}
-use Rattle.unftp_control_serve.proofs.SendLaws.{Sending-more}
+use Rattle.unftp_control_serve.proofs.SendLemmas.{Sending-more}
 use Rattle.unftp_control_serve.proofs.send.write_whole.Goals as goal
 
 pub loop-rest-preserved : goal.loop-rest-preserved

@@ -1,6 +1,6 @@
 use Rattle.std.proofs.Common.{length}
 use Rattle.unftp_control_serve.specs.Sink.{sink_of}
-use Rattle.unftp_control_serve.proofs.SendLaws.{Sending}
+use Rattle.unftp_control_serve.proofs.SendLemmas.{Sending}
 use Rattle.unftp_control_serve.proofs.send.write_whole.Given as goal
 
 abbrev pub invariant-loop-rest : goal.invariant-loop-rest

@@ -1,6 +1,6 @@
 use Rattle.std.proofs.Common.{◌<◌, ◌≤◌, refl, sym, length, arith}
 use Rattle.std.proofs.lemmas.Result.{err_from_is_err_and}
-use Rattle.unftp_control_serve.proofs.ServiceLaws.{Serving-start, Serving-next, Serving-ended, Serving-too_often, run_reads_back}
+use Rattle.unftp_control_serve.proofs.ServiceLemmas.{Serving-start, Serving-next, Serving-ended, Serving-too_often, run_reads_back}
 use Rattle.unftp_control_serve.proofs.service.serve.Goals as goal
 
 pub loop-turn-init : goal.loop-turn-init
@@ -13,16 +13,16 @@ returns-in_err-feed-clause-err g c =
     let error = err_from_is_err_and c.from_residual.result c.from_residual.ensures.1 in
     rw (error.1, error.2)
     (Serving-ended _ _ _ _ _ _ _ _ c.loop-turn.invariant.serving _ c.split_at.result.0.now _ given short
-    (c.in_err-feed.ensures.outcome c.loop-turn.invariant.serving.going))
+    (c.in_err-feed.ensures.outcome c.loop-turn.invariant.serving.running))
 
 pub loop-turn-preserved : goal.loop-turn-preserved
 loop-turn-preserved g c =
     let some : 0 < length c.split_at.result.0.now = omega (arith, c.split_at.ensures.front_len, c.if-n-eq0.false) in
     let given = rw (sym c.split_at.ensures.front) at c.in-Ok.ensures.bytes.0 in
-    let going = c.loop-turn.invariant.serving.going in
+    let running = c.loop-turn.invariant.serving.running in
     record {
       serving = Serving-next _ _ _ _ _ _ _ _ c.loop-turn.invariant.serving _ c.split_at.result.0.now c.feed.new.self given some c.in-Ok.ensures.quiet
-          (c.in_ok-feed.ensures.outcome going) (c.in_ok-feed.ensures.leaves going) c.in_ok-feed.ensures.tested;
+          (c.in_ok-feed.ensures.outcome running) (c.in_ok-feed.ensures.leaves running) c.in_ok-feed.ensures.tested;
       room = omega (arith, c.loop-turn.invariant.room, c.read.auto.buf);
     }
 

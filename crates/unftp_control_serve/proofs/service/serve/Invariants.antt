@@ -1,14 +1,14 @@
 use Rattle.std.proofs.Common.{◌≡◌, length}
-use Rattle.unftp_control_serve.specs.Endings.{moment_of}
+use Rattle.unftp_control_serve.specs.Endings.{snapshot_of}
 use Rattle.unftp_control_serve.specs.Service.{source_of}
-use Rattle.unftp_control_serve.proofs.ServiceLaws.{Serving}
+use Rattle.unftp_control_serve.proofs.ServiceLemmas.{Serving}
 use Rattle.unftp_control_serve.proofs.service.serve.Given as goal
 
 abbrev pub invariant-loop-turn : goal.invariant-loop-turn
 invariant-loop-turn g l = record {
   serving : Serving g.H.Handler.law
-      (moment_of g.H.Handler.state g.H.Handler.failures g.W.Write.contents l.fn.handler l.fn.writer)
-      (moment_of g.H.Handler.state g.H.Handler.failures g.W.Write.contents l.handler l.writer)
+      (snapshot_of g.H.Handler.state g.H.Handler.failures g.W.Write.contents l.fn.handler l.fn.writer)
+      (snapshot_of g.H.Handler.state g.H.Handler.failures g.W.Write.contents l.handler l.writer)
       (source_of g.R.Read.remaining l.fn.reader)
       (source_of g.R.Read.remaining l.reader)
       l.engine l._turn;

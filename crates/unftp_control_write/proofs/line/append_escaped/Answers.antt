@@ -1,6 +1,6 @@
 use Rattle.std.proofs.Common.{take, length, ap, ◌∙◌}
 use Rattle.unftp_control_defs.specs.Values.{escaped}
-use Rattle.unftp_control_defs.proofs.AppendLaws.{kept_start}
+use Rattle.unftp_control_defs.proofs.AppendLemmas.{kept_start}
 use Rattle.unftp_control_write.proofs.line.append_escaped.Goals as goal
 
 pub returns-in_err-append_escaped_byte-clause-kept : goal.returns-in_err-append_escaped_byte-clause-kept

@@ -1,5 +1,5 @@
 use Rattle.std.proofs.Common.{[], codes}
-use Rattle.unftp_control_defs.proofs.LineLaws.{Lines-lines_of, Lines-unique}
+use Rattle.unftp_control_defs.proofs.LineLemmas.{Lines-lines_of, Lines-unique}
 use Rattle.unftp_control_defs.proofs.examples.lines.inputs_have_lines.Goals as goal
 
 pub returns : goal.returns

@@ -1,5 +1,5 @@
 use Rattle.std.proofs.Common.{[], codes, refl}
-use Rattle.unftp_control_defs.proofs.LackLaws.{Lacks-test}
+use Rattle.unftp_control_defs.proofs.LackLemmas.{Lacks-test}
 use Rattle.unftp_control_defs.proofs.ExampleLemmas.{lines_of-IsLine}
 use Rattle.unftp_control_defs.proofs.examples.lines.lines_have_one_lf.Goals as goal
 

@@ -1,5 +1,5 @@
 use Rattle.std.proofs.Common.{codes, refl}
-use Rattle.unftp_control_defs.proofs.LackLaws.{Lacks-test}
+use Rattle.unftp_control_defs.proofs.LackLemmas.{Lacks-test}
 use Rattle.unftp_control_defs.proofs.examples.lines.texts_lack_a_byte.Goals as goal
 
 pub returns : goal.returns

@@ -1,5 +1,5 @@
 use Rattle.std.proofs.Common.{codes}
-use Rattle.unftp_control_defs.proofs.PathLaws.{ListPath-path_of, path_of-ListPath}
+use Rattle.unftp_control_defs.proofs.PathLemmas.{ListPath-path_of, path_of-ListPath}
 use Rattle.unftp_control_defs.proofs.examples.paths.texts_have_paths.Goals as goal
 
 pub returns : goal.returns

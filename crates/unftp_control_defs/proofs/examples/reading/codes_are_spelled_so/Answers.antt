@@ -1,5 +1,5 @@
 use Rattle.std.proofs.Common.{◌≡◌, ◌+◌, codes, refl, arith, lit<}
-use Rattle.unftp_control_defs.proofs.ReaderLaws.{code_length, code_unique}
+use Rattle.unftp_control_defs.proofs.ReplyUniqueLemmas.{code_length, code_unique}
 use Rattle.unftp_control_defs.proofs.examples.reading.codes_are_spelled_so.Goals as goal
 
 pub returns : goal.returns

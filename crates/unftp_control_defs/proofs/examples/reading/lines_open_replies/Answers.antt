@@ -1,5 +1,5 @@
 use Rattle.std.proofs.Common.{[], codes, refl, arith, inl, inr}
-use Rattle.unftp_control_defs.proofs.ReadingLaws.{opens_not}
+use Rattle.unftp_control_defs.proofs.ReplyCasesLemmas.{opens_not}
 use Rattle.unftp_control_defs.proofs.ReadExampleLemmas.{spells_211, length-Opens, third-Opens}
 use Rattle.unftp_control_defs.proofs.examples.reading.lines_open_replies.Goals as goal
 

@@ -1,8 +1,8 @@
 use Rattle.std.proofs.Common.{[], ◌∷◌, codes, refl, arith, inl, inr, lit<, lit≤}
 use Rattle.std.specs.Fmt.{digits}
 use Rattle.unftp_control_defs.specs.FtpReply.{CodeAndMsg}
-use Rattle.unftp_control_defs.proofs.ReadingLaws.{lacks_nil, opens_not, front_is_formed, partial_is_formed}
-use Rattle.unftp_control_defs.proofs.EncodingLaws.{FrontReply-encoded}
+use Rattle.unftp_control_defs.proofs.ReplyCasesLemmas.{lacks_nil, opens_not, front_is_formed, partial_is_formed}
+use Rattle.unftp_control_defs.proofs.EncodingLemmas.{FrontReply-encoded}
 use Rattle.unftp_control_defs.proofs.ReadExampleLemmas.{GoesOn-test, LacksCrlf-test, spells_211, length-Opens, two_digits}
 use Rattle.unftp_control_defs.proofs.examples.reading.replies_are_malformed_so.Goals as goal
 

@@ -1,10 +1,10 @@
 use Rattle.std.proofs.Common.{[], ◌∷◌, codes, refl, arith, inl, lit<, lit≤}
 use Rattle.std.specs.Fmt.{digits}
 use Rattle.unftp_control_defs.specs.FtpReply.{MultiLine}
-use Rattle.unftp_control_defs.proofs.LackLaws.{Lacks-test}
-use Rattle.unftp_control_defs.proofs.ReaderLaws.{FrontReply-unique}
-use Rattle.unftp_control_defs.proofs.ReadingLaws.{lacks_nil, front_is_whole, front_is_formed}
-use Rattle.unftp_control_defs.proofs.EncodingLaws.{FrontReply-encoded}
+use Rattle.unftp_control_defs.proofs.LackLemmas.{Lacks-test}
+use Rattle.unftp_control_defs.proofs.ReplyUniqueLemmas.{FrontReply-unique}
+use Rattle.unftp_control_defs.proofs.ReplyCasesLemmas.{lacks_nil, front_is_whole, front_is_formed}
+use Rattle.unftp_control_defs.proofs.EncodingLemmas.{FrontReply-encoded}
 use Rattle.unftp_control_defs.proofs.ReadExampleLemmas.{LacksCrlf-test, front_of_text, no_last_line, two_digits}
 use Rattle.unftp_control_defs.proofs.examples.reading.replies_are_not_read_so.Goals as goal
 

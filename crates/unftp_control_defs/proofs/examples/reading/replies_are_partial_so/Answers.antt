@@ -1,9 +1,9 @@
 use Rattle.std.proofs.Common.{[], ◌∷◌, codes, refl, arith, inl, inr, lit<, lit≤}
 use Rattle.std.specs.Fmt.{digits}
 use Rattle.unftp_control_defs.specs.FtpReply.{MultiLine}
-use Rattle.unftp_control_defs.proofs.LackLaws.{Lacks-test}
-use Rattle.unftp_control_defs.proofs.ReadingLaws.{lacks_nil, front_is_whole, partial_is_formed}
-use Rattle.unftp_control_defs.proofs.EncodingLaws.{FrontReply-encoded}
+use Rattle.unftp_control_defs.proofs.LackLemmas.{Lacks-test}
+use Rattle.unftp_control_defs.proofs.ReplyCasesLemmas.{lacks_nil, front_is_whole, partial_is_formed}
+use Rattle.unftp_control_defs.proofs.EncodingLemmas.{FrontReply-encoded}
 use Rattle.unftp_control_defs.proofs.ReadExampleLemmas.{first-Opens, LacksCrlf-test, spells_211, length-Opens, front_of_text, no_last_line}
 use Rattle.unftp_control_defs.proofs.examples.reading.replies_are_partial_so.Goals as goal
 

@@ -3,9 +3,9 @@ use Rattle.std.specs.Fmt.{digits}
 use Rattle.unftp_control_defs.specs.FtpReply.{Nothing, CodeAndMsg}
 use Rattle.unftp_control_defs.specs.ReplyReader.{AllReplies}
 use Rattle.unftp_control_defs.specs.Bytes.{Bytes}
-use Rattle.unftp_control_defs.proofs.LackLaws.{Lacks-test}
-use Rattle.unftp_control_defs.proofs.ReadingLaws.{opens_not, front_within, front_is_formed}
-use Rattle.unftp_control_defs.proofs.EncodingLaws.{ReadsBack-encoded}
+use Rattle.unftp_control_defs.proofs.LackLemmas.{Lacks-test}
+use Rattle.unftp_control_defs.proofs.ReplyCasesLemmas.{opens_not, front_within, front_is_formed}
+use Rattle.unftp_control_defs.proofs.EncodingLemmas.{ReadsBack-encoded}
 use Rattle.unftp_control_defs.proofs.ReadExampleLemmas.{LacksCrlf-test}
 use Rattle.unftp_control_defs.proofs.examples.reading.replies_are_read_back_so.Goals as goal
 

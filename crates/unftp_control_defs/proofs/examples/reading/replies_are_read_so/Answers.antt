@@ -2,8 +2,8 @@ use Rattle.std.proofs.Common.{[], ◌∷◌, codes, refl, lit<, lit≤}
 use Rattle.std.specs.Fmt.{digits}
 use Rattle.unftp_control_defs.specs.FtpReply.{CodeAndMsg, MultiLine}
 use Rattle.unftp_control_defs.specs.ReplyReader.{single, several}
-use Rattle.unftp_control_defs.proofs.LackLaws.{Lacks-test}
-use Rattle.unftp_control_defs.proofs.EncodingLaws.{FrontReply-encoded}
+use Rattle.unftp_control_defs.proofs.LackLemmas.{Lacks-test}
+use Rattle.unftp_control_defs.proofs.EncodingLemmas.{FrontReply-encoded}
 use Rattle.unftp_control_defs.proofs.ReadExampleLemmas.{GoesOn-test, LacksCrlf-test, spells_211, front_of_text}
 use Rattle.unftp_control_defs.proofs.examples.reading.replies_are_read_so.Goals as goal
 

@@ -1,5 +1,5 @@
 use Rattle.std.proofs.Common.{[], codes, refl}
-use Rattle.unftp_control_defs.proofs.ReadingLaws.{lacks_nil}
+use Rattle.unftp_control_defs.proofs.ReplyCasesLemmas.{lacks_nil}
 use Rattle.unftp_control_defs.proofs.ReadExampleLemmas.{LacksCrlf-test}
 use Rattle.unftp_control_defs.proofs.examples.reading.texts_lack_crlf.Goals as goal
 

@@ -1,5 +1,5 @@
 use Rattle.std.proofs.Common.{codes, refl, arith, lit<, lit≤}
-use Rattle.unftp_control_defs.proofs.LackLaws.{Lacks-test}
+use Rattle.unftp_control_defs.proofs.LackLemmas.{Lacks-test}
 use Rattle.unftp_control_defs.proofs.examples.replies.plain_replies_are_so.Goals as goal
 
 pub returns : goal.returns

@@ -1,5 +1,5 @@
 use Rattle.std.proofs.Common.{refl}
-use Rattle.unftp_control_defs.proofs.ValueLaws.{Reads-value_of, value_of-Reads}
+use Rattle.unftp_control_defs.proofs.ValueLemmas.{Reads-value_of, value_of-Reads}
 use Rattle.unftp_control_defs.proofs.examples.values.parameters_have_values.Goals as goal
 
 pub returns : goal.returns

@@ -1,0 +1,42 @@
+-- A text that is escaped and ended by CR LF is read back.
+use Rattle.std.proofs.Common.{◌≡◌, ◌≢◌, ℕ, true, false, [], ◌∷◌, ◌++◌, ◌⊎◌, Some, Ok, refl, ap, ◌∙◌, inl, inr, eq-eqb, ne_eqb, codes}
+use Rattle.std.specs.Str.{is_utf8, chars}
+use Rattle.std.proofs.lemmas.Bool.{cases_eq}
+use Rattle.unftp_control_defs.specs.Bytes.{Bytes, LF, CR, SP, crlf, Lacks}
+use Rattle.unftp_control_defs.specs.Values.{Fresh, Plain, later_value, value_of, escaped}
+use Rattle.unftp_control_defs.specs.FtpCommand.{User}
+use Rattle.unftp_control_defs.specs.Rules.{raw}
+use Rattle.unftp_control_defs.specs.Outcome.{outcome, by_value}
+use Rattle.unftp_control_defs.proofs.ValueLemmas.{return_step, byte_step, first_step}
+
+-- what is read of an escaped text and CR LF from some position on
+abbrev ReadsBack : Bytes → Type 0
+ReadsBack text = (later_value Fresh (escaped text ++ crlf) ≡ Some text) × (later_value Plain (escaped text ++ crlf) ≡ Some text)
+
+next_back : (b : ℕ) (text : Bytes) → b ≢ LF → ReadsBack text → (b ≡ CR) ⊎ (b ≡ CR → ⊥) → ReadsBack (b ∷ text)
+next_back b text no_lf more (inl e) =
+    rw (eq-eqb b CR e, e) (return_step true (escaped text ++ crlf) text more.0, return_step false (escaped text ++ crlf) text more.0)
+next_back b text no_lf more (inr ne) =
+    rw (ne_eqb b CR ne) (byte_step true b (escaped text ++ crlf) text ne (λ _. refl) more.1, byte_step false b (escaped text ++ crlf) text ne (λ e. absurd (no_lf e)) more.1)
+
+escaped_later : (text : Bytes) → Lacks LF text → ReadsBack text
+escaped_later [] h = (refl, refl)
+escaped_later (b ∷ text) h = next_back b text h.0 (escaped_later text h.1) (cases_eq b CR)
+
+first_back : (b : ℕ) (text : Bytes) → b ≢ LF → ReadsBack text → (b ≡ CR) ⊎ (b ≡ CR → ⊥) → value_of (escaped (b ∷ text) ++ crlf) ≡ Some (b ∷ text)
+first_back b text no_lf more (inl e) = rw (eq-eqb b CR e, e, more.0)
+first_back b text no_lf more (inr ne) =
+    rw (ne_eqb b CR ne) (first_step b (escaped text ++ crlf) text (no_lf, λ rest e. ne cc) more.0)
+
+-- the value of an escaped text
+pub value_of-escaped : (text : Bytes) → Lacks LF text → value_of (escaped text ++ crlf) ≡ Some text
+value_of-escaped [] h = refl
+value_of-escaped (b ∷ text) h = first_back b text h.0 (escaped_later text h.1) (cases_eq b CR)
+
+user_line : (parameter : Bytes) → outcome (codes "USER" ++ SP ∷ parameter) ≡ by_value (raw User) (value_of parameter)
+unfolding is_utf8 chars lib.Utf8.encode
+user_line parameter = refl
+
+-- a name that is sent so is read back
+pub outcome-escaped : (name : Bytes) → Lacks LF name → outcome (codes "USER " ++ escaped name ++ crlf) ≡ Ok (User name)
+outcome-escaped name h = user_line (escaped name ++ crlf) ∙ ap (by_value (raw User)) (value_of-escaped name h)

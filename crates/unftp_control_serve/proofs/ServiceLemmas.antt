@@ -1,0 +1,108 @@
+-- A service, piece by piece.
+use Rattle.std.proofs.Common.{◌≡◌, ℕ, ◌+◌, ◌-◌, ◌^◌, ◌<◌, ◌≤◌, false, [], ◌++◌, Option, Some, None, length, refl, sym, ◌∙◌, ap, arith, append_assoc, length-append}
+use Rattle.std.specs.List.{AllByRecursion}
+use Rattle.std.specs.Option.{IfSome}
+use Rattle.std.specs.Io.KnownBytes.{Consumes}
+use Rattle.unftp_control_defs.specs.Bytes.{Bytes}
+use Rattle.unftp_control_defs.specs.Lines.{incomplete_line}
+use Rattle.unftp_control_defs.specs.Events.{events}
+use Rattle.unftp_control_defs.specs.FtpReply.{IsPlain}
+use Rattle.unftp_control_defs.specs.ReplyReader.{ReadsBack}
+use Rattle.unftp_control_defs.specs.Run.{Law, replies, text_for}
+use Rattle.unftp_control_defs.proofs.EncodingLemmas.{ReadsBack-encoded}
+use Rattle.unftp_control_defs.proofs.LineLemmas.{events-append, incomplete_line-append}
+use Rattle.unftp_control_serve.specs.Endings.{Snapshot, AllAnswered, RunEnded}
+use Rattle.unftp_control_serve.specs.Engine.{EngineState, IsRunning, Leaves, events_with, saturating_u64}
+use Rattle.unftp_control_serve.specs.Service.{Source, Answered, EndedLate, ReadTooOften, ServeEnded}
+use Rattle.unftp_control_serve.specs.declared.error.ServeError.{ServeError}
+use Rattle.unftp_control_serve.specs.declared.error.ServeError.TheVariants.{Read, Write, WriteZero, Handler, OutOfMemory, Stopped, TooManyReads}
+use Rattle.unftp_control_serve.proofs.EndingLemmas.{AllAnswered-nothing, AllAnswered-then, RunEnded-then}
+
+Consumes-nothing : (known : Option Bytes) → Consumes known known []
+Consumes-nothing None = tt
+Consumes-nothing (Some bytes) = refl
+
+Consumes-then : (a b c : Option Bytes) (read more : Bytes) → Consumes a b read → Consumes b c more → Consumes a c (read ++ more)
+Consumes-then None b c read more p q = tt
+Consumes-then (Some a) None c read more p q = absurd p
+Consumes-then (Some a) (Some b) None read more p q = q
+Consumes-then (Some a) (Some b) (Some c) read more p q = p ∙ ap (λ z. read ++ z) q ∙ sym (append_assoc read more c)
+
+-- in the loop of `serve`: all lines of what was read are answered, and the engine holds the
+-- incomplete line
+pub record Serving {S : Type 0} (law : Law S) (m n : Snapshot S) (i j : Source) (engine : EngineState) (turn : ℕ) : Type 0 where
+  pub so_far : Answered law m n i j
+  pub running : IsRunning engine
+  pub incomplete : engine.incomplete ≡ incomplete_line so_far.read
+  pub left : engine.left ≡ saturating_u64 (length (incomplete_line so_far.read))
+  pub many : turn ≤ length so_far.read
+  pub tested : engine.tests ≡ length so_far.read
+  pub no_read_failed : j.failures ≡ i.failures
+
+module _ {S : Type 0} (law : Law S) (m : Snapshot S) (i : Source) where
+  pub Serving-start : (engine : EngineState) → engine ≡ record { incomplete = []; left = 0; failed = false; tests = 0 } → Serving law m m i i engine 0
+  Serving-start engine new = rw new record {
+    so_far = record { read = []; consumed = Consumes-nothing i.remaining; answered = AllAnswered-nothing law m };
+    running = refl;
+    incomplete = refl;
+    left = refl;
+    many = omega arith;
+    tested = omega arith;
+    no_read_failed = refl;
+  }
+
+  module _ (n : Snapshot S) (j k : Source) (engine : EngineState) (turn : ℕ) (s : Serving law m n i j engine turn) where
+    same_incomplete : (piece : Bytes) → incomplete_line (engine.incomplete ++ piece) ≡ incomplete_line (s.so_far.read ++ piece)
+    same_incomplete piece = ap (λ incomplete. incomplete_line (incomplete ++ piece)) s.incomplete ∙ sym (incomplete_line-append s.so_far.read piece)
+
+    same_events : (piece : Bytes) → events (s.so_far.read ++ piece) ≡ events s.so_far.read ++ events_with engine piece
+    same_events piece = events-append s.so_far.read piece ∙ ap (λ incomplete. events s.so_far.read ++ events (incomplete ++ piece)) (sym s.incomplete)
+
+    pub Serving-next : (after : Snapshot S) (piece : Bytes) (engine' : EngineState) → Consumes j.remaining k.remaining piece → 0 < length piece → k.failures ≡ j.failures →
+        AllAnswered law n (events_with engine piece) after → Leaves law engine piece n.state after.state engine' → engine'.tests ≡ engine.tests + length piece →
+        Serving law m after i k engine' (turn + 1)
+    Serving-next after piece engine' consumed some kept all leaves tests = record {
+      so_far = record {
+        read = s.so_far.read ++ piece;
+        consumed = Consumes-then i.remaining j.remaining k.remaining s.so_far.read piece s.so_far.consumed consumed;
+        answered = rw (same_events piece) (AllAnswered-then law m n after (events s.so_far.read) s.so_far.answered (events_with engine piece) all);
+      };
+      running = leaves.running;
+      incomplete = leaves.incomplete ∙ same_incomplete piece;
+      left = leaves.left ∙ ap (λ incomplete. saturating_u64 (length incomplete)) (same_incomplete piece);
+      many = omega (arith, s.many, length-append s.so_far.read piece);
+      tested = omega (arith, s.tested, tests, length-append s.so_far.read piece);
+      no_read_failed = kept ∙ s.no_read_failed;
+    }
+
+    late : (after : Snapshot S) (piece : Bytes) (error : ServeError) → Consumes j.remaining k.remaining piece → length piece ≤ 4096 →
+        RunEnded law n (events_with engine piece) after error → EndedLate law m after i k error
+    late after piece error consumed short ended =
+        let all = RunEnded-then law m n after (events s.so_far.read) s.so_far.answered (events (s.so_far.read ++ piece)) (events_with engine piece) error (same_events piece) ended in
+        record {
+          read = s.so_far.read;
+          piece = piece;
+          consumed = Consumes-then i.remaining j.remaining k.remaining s.so_far.read piece s.so_far.consumed consumed;
+          short = short;
+          ended = all.0;
+          late = all.1;
+        }
+
+    pub Serving-ended : (after : Snapshot S) (piece : Bytes) (error : ServeError) → Consumes j.remaining k.remaining piece → length piece ≤ 4096 →
+        RunEnded law n (events_with engine piece) after error → ServeEnded law m after i k error
+    Serving-ended after piece (Read _) consumed short ended = absurd ended
+    Serving-ended after piece (Write error) consumed short ended = late after piece (Write error) consumed short ended
+    Serving-ended after piece WriteZero consumed short ended = late after piece WriteZero consumed short ended
+    Serving-ended after piece (Handler error) consumed short ended = late after piece (Handler error) consumed short ended
+    Serving-ended after piece OutOfMemory consumed short ended = late after piece OutOfMemory consumed short ended
+    Serving-ended after piece Stopped consumed short ended = absurd ended
+    Serving-ended after piece TooManyReads consumed short ended = absurd ended
+
+  pub Serving-too_often : (n : Snapshot S) (j : Source) (engine : EngineState) (turn : ℕ) → Serving law m n i j engine turn → 2 ^ 64 - 1 ≤ turn → ReadTooOften law m n i j
+  Serving-too_often n j engine turn s many = record { answered = s.so_far; many = omega (arith, s.many) }
+
+-- the replies of a run over a known input are read back, where they are plain
+pub run_reads_back : {S : Type 0} (law : Law S) (s : S) (known : Option Bytes) →
+    IfSome known (λ input. AllByRecursion IsPlain (replies law s (events input)) → ReadsBack (text_for law s input) (replies law s (events input)))
+run_reads_back law s None = tt
+run_reads_back law s (Some input) = ReadsBack-encoded (replies law s (events input))
