@@ -1,1 +1,2 @@
 pub mod Forwarding
+pub mod NextNoop

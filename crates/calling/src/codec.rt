@@ -1,6 +1,9 @@
 //! The codec without the engine.
-ghost use Rattle.std.specs.Prelude.{◌≤◌};
+ghost use Rattle.std.specs.Prelude.{◌≡◌, ◌≤◌, ◌++◌, OnErr, OnOk, codes, if◌then◌else◌};
 ghost use Rattle.std.specs.Vec.{vec_len};
+ghost use Rattle.calling.specs.NextNoop.{IsNextNoop};
+ghost use Rattle.unftp_control.specs.Decoding.{Decoded, Decodes};
+ghost use Rattle.unftp_control.specs.FtpReply.{CodeAndMsg, encoded};
 
 use std::alloc::Global;
 use unftp_control::codecs::FtpCodec;
@@ -15,7 +18,10 @@ pub fn next_is_noop(
     buf: &mut Vec<u8>,
 ) -> Result<Option<bool>, ControlChanError>
     requires { codec.old.place ≤ vec_len buf.old }
-    ensures { codec.new.place ≤ vec_len buf.new }
+    ensures next { (answer : Decoded)
+        × Decodes codec.old codec.new buf.old.items buf.new.items answer
+        × IsNextNoop answer result }
+    ensures within { codec.new.place ≤ vec_len buf.new }
 {
     match codec.decode(alloc, buf) {
         Ok(None) => Ok(None),
@@ -33,7 +39,13 @@ pub fn answer(
     codec: &mut FtpCodec,
     is_noop: bool,
     out: &mut Vec<u8>,
-) -> Result<(), ControlChanError> {
+) -> Result<(), ControlChanError>
+    ensures ok { OnOk result (out.new.items ≡ out.old.items ++ encoded (CodeAndMsg
+        (if is_noop then 200 else 502)
+        (if is_noop then codes "OK" else codes "Not implemented"))) }
+    ensures err { OnErr result (out.new.items ≡ out.old.items) }
+    ensures codec { codec.new ≡ codec.old }
+{
     let reply = if is_noop {
         Reply::new(alloc, ReplyCode::CommandOkay, "OK")?
     } else {

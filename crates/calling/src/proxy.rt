@@ -10,7 +10,7 @@ use thiserror::Error;
 use unftp_control::line_parser::{ParseError, parse};
 use unftp_control::write::{WriteCommandError, write_command};
 
-/// Why a line is not handed on.
+/// Why a line is not forwarded.
 #[derive(Debug, Drop, Error)]
 pub enum ForwardError {
     /// It is no command, or memory ran out for the command.
@@ -22,7 +22,7 @@ pub enum ForwardError {
     Unwritten(WriteCommandError),
 }
 
-/// Hands a client's line on: appends a line that means the same, in its canonical form.
+/// Forwards a client's line: appends a line that means the same, in its canonical form.
 pub fn forward_line(alloc: Global, line: &[u8], out: &mut Vec<u8>) -> Result<(), ForwardError>
     ensures same { OnOk result ((sent : Bytes) × IsLine sent
         × (outcome sent ≡ outcome line.now) × (out.new.items ≡ out.old.items ++ sent)) }

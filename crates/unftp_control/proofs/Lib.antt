@@ -1,3 +1,3 @@
 pub use Rattle.unftp_control_defs.proofs.LineLemmas
 pub use Rattle.unftp_control_defs.proofs.RunLemmas
-pub use Rattle.unftp_control_serve.proofs.SendLemmas
+pub use Rattle.unftp_control_engine.proofs.SendLemmas

@@ -26,11 +26,11 @@ pub use Rattle.unftp_control_codecs.specs.LineFeed
 pub use Rattle.unftp_control_codecs.specs.Decoding
 pub use Rattle.unftp_control_commands.specs.Answers
 pub use Rattle.unftp_control_commands.specs.Facts
-pub use Rattle.unftp_control_serve.specs.EventMeaning
-pub use Rattle.unftp_control_serve.specs.Sink
-pub use Rattle.unftp_control_serve.specs.ErrorTexts
-pub use Rattle.unftp_control_serve.specs.Endings
-pub use Rattle.unftp_control_serve.specs.Engine
+pub use Rattle.unftp_control_engine.specs.EventMeaning
+pub use Rattle.unftp_control_engine.specs.Sink
+pub use Rattle.unftp_control_engine.specs.ErrorTexts
+pub use Rattle.unftp_control_engine.specs.Endings
+pub use Rattle.unftp_control_engine.specs.Engine
 pub use Rattle.unftp_control_serve.specs.Service
 pub use Rattle.unftp_control_read.specs.Reading
 pub use Rattle.unftp_control_write.specs.declared.WriteCommandError

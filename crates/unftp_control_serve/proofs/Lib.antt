@@ -1,5 +1,1 @@
-pub mod SendLemmas
-mod EndingLemmas
-mod LineBufferLemmas
 mod ServiceLemmas
-mod ExampleLemmas

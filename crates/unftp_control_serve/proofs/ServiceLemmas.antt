@@ -11,12 +11,12 @@ use Rattle.unftp_control_defs.specs.ReplyReader.{ReadsBack}
 use Rattle.unftp_control_defs.specs.Run.{Law, replies, text_for}
 use Rattle.unftp_control_defs.proofs.EncodingLemmas.{ReadsBack-encoded}
 use Rattle.unftp_control_defs.proofs.LineLemmas.{events-append, incomplete_line-append}
-use Rattle.unftp_control_serve.specs.Endings.{Snapshot, AllAnswered, RunEnded}
-use Rattle.unftp_control_serve.specs.Engine.{EngineState, IsRunning, Leaves, events_with, saturating_u64}
+use Rattle.unftp_control_engine.specs.Endings.{Snapshot, AllAnswered, RunEnded}
+use Rattle.unftp_control_engine.specs.Engine.{EngineState, IsRunning, Leaves, events_with, saturating_u64}
 use Rattle.unftp_control_serve.specs.Service.{Source, Answered, EndedLate, ReadTooOften, ServeEnded}
-use Rattle.unftp_control_serve.specs.declared.error.ServeError.{ServeError}
-use Rattle.unftp_control_serve.specs.declared.error.ServeError.TheVariants.{Read, Write, WriteZero, Handler, OutOfMemory, Stopped, TooManyReads}
-use Rattle.unftp_control_serve.proofs.EndingLemmas.{AllAnswered-nothing, AllAnswered-then, RunEnded-then}
+use Rattle.unftp_control_engine.specs.declared.error.ServeError.{ServeError}
+use Rattle.unftp_control_engine.specs.declared.error.ServeError.TheVariants.{Read, Write, WriteZero, Handler, OutOfMemory, Stopped, TooManyReads}
+use Rattle.unftp_control_engine.proofs.EndingLemmas.{AllAnswered-nothing, AllAnswered-then, RunEnded-then}
 
 Consumes-nothing : (known : Option Bytes) → Consumes known known []
 Consumes-nothing None = tt

@@ -1,9 +1,1 @@
--- To be read in this order.
-pub mod EventMeaning
-pub mod ErrorTexts
-pub mod Sink
-pub mod Endings
-pub mod LineBuffer
-pub mod Engine
 pub mod Service
-pub mod Examples

@@ -5,12 +5,12 @@ use Rattle.unftp_control_defs.specs.Bytes.{Bytes}
 use Rattle.unftp_control_defs.specs.Lines.{incomplete_line}
 use Rattle.unftp_control_defs.specs.Events.{events}
 use Rattle.unftp_control_defs.specs.Run.{Law}
-use Rattle.unftp_control_serve.specs.Sink.{Begins}
-use Rattle.unftp_control_serve.specs.Endings.{Snapshot, AllAnswered, RunEnded, done_of}
-use Rattle.unftp_control_serve.specs.Engine.{saturating_u64}
+use Rattle.unftp_control_engine.specs.Sink.{Begins}
+use Rattle.unftp_control_engine.specs.Endings.{Snapshot, AllAnswered, RunEnded, done_of}
+use Rattle.unftp_control_engine.specs.Engine.{saturating_u64}
 use Rattle.unftp_control_serve.specs.declared.input.Input.{Input}
-use Rattle.unftp_control_serve.specs.declared.error.ServeError.{ServeError}
-use Rattle.unftp_control_serve.specs.declared.error.ServeError.TheVariants.{Read, Write, WriteZero, Handler, OutOfMemory, TooManyReads}
+use Rattle.unftp_control_engine.specs.declared.error.ServeError.{ServeError}
+use Rattle.unftp_control_engine.specs.declared.error.ServeError.TheVariants.{Read, Write, WriteZero, Handler, OutOfMemory, TooManyReads}
 
 -- What contracts see of an input at one moment: what is left of it, where the reader's contracts
 -- say that, and how often a read failed.

@@ -1,23 +1,11 @@
-//! The engine of a control connection: pieces of its input come in, a handler answers each line's
-//! event, and the replies go out.
+//! A control connection served to its end: a reader, a writer and a handler come together over the
+//! engine.
 #![tactic(auto)]
 
-mod engine;
-mod error;
-mod event;
 pub mod examples;
-mod handler;
 mod input;
-mod line_buffer;
-mod output;
-mod send;
 mod service;
 
-pub use engine::Engine;
-pub use error::ServeError;
-pub use event::Event;
-pub use handler::Handler;
 pub use input::Input;
-pub use output::Output;
 pub use service::{Served, serve};
-pub use unftp_control_count::Count;
+pub use unftp_control_engine::{Count, Engine, Event, Handler, Output, ServeError};

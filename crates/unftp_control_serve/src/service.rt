@@ -7,18 +7,15 @@ ghost use Rattle.unftp_control_defs.specs.Run.{last_state, replies, text_for};
 ghost use Rattle.unftp_control_defs.specs.FtpReply.{IsPlain};
 ghost use Rattle.unftp_control_defs.specs.ReplyReader.{ReadsBack};
 ghost use Rattle.std.specs.List.{AllByRecursion};
-ghost use Rattle.unftp_control_serve.specs.Endings.{snapshot_of};
-ghost use Rattle.unftp_control_serve.specs.Engine.{saturating_u64};
+ghost use Rattle.unftp_control_engine.specs.Endings.{snapshot_of};
+ghost use Rattle.unftp_control_engine.specs.Engine.{saturating_u64};
 ghost use Rattle.unftp_control_serve.specs.Service.{AnsweredAll, ServeEnded, source_of};
 
-use crate::engine::Engine;
-use crate::error::ServeError;
-use crate::handler::Handler;
 use crate::input::Input;
-use crate::output::Output;
 use std::alloc::Global;
 use std::io::{Read, Write};
 use unftp_control_count::Count;
+use unftp_control_engine::{Engine, Handler, Output, ServeError};
 
 /// What `serve` returns at the end of its input.
 #[derive(Drop)]

@@ -4,6 +4,7 @@ use crate::commands::{
     ProtParam, SessionChange, Stru, StruParam, format_facts, make_epsv_reply,
 };
 use crate::tests::replies::assert_encoded;
+use crate::tests::texts::assert_text;
 use jiff::Timestamp;
 use std::alloc::Global;
 use std::process::Abort;
@@ -49,62 +50,60 @@ impl Metadata for File {
     }
 }
 
+/// AUTH is answered so, where TLS is configured or not.
+fn assert_auth(
+    rt: &impl Abort,
+    alloc: Global,
+    protocol: AuthParam,
+    is_on: bool,
+    want: &[u8],
+) -> Result<SessionChange, Fail> {
+    let (reply, change) = Auth::new(protocol).reply(alloc, is_on)?;
+    assert_encoded(rt, alloc, reply, want)?;
+    Ok(change)
+}
+
 #[test]
-fn protection_is_answered_by_how_the_server_is_set_up(rt: HostRuntime) -> Result<(), Fail> {
-    for (protocol, is_on, want, change) in [
-        (
-            AuthParam::Tls,
-            true,
-            "234 Upgrading to TLS\r\n",
-            SessionChange::SecureControlChannel,
-        ),
-        (
-            AuthParam::Ssl,
-            true,
-            "504 Auth SSL not implemented\r\n",
-            SessionChange::Nothing,
-        ),
-        (
-            AuthParam::Tls,
-            false,
-            "502 TLS/SSL not configured\r\n",
-            SessionChange::Nothing,
-        ),
-    ] {
-        let (reply, changed) = Auth::new(protocol).reply(rt.alloc(), is_on)?;
-        assert_eq!(rt; changed, change);
-        assert_encoded(&rt, rt.alloc(), reply, want.as_bytes())?;
-    }
-    for (param, is_on, want, change) in [
-        (
-            ProtParam::Clear,
-            true,
-            "200 PROT OK. Switching data channel to plaintext\r\n",
-            SessionChange::DataTls(false),
-        ),
-        (
-            ProtParam::Private,
-            true,
-            "200 PROT OK. Securing data channel\r\n",
-            SessionChange::DataTls(true),
-        ),
-        (
-            ProtParam::Safe,
-            true,
-            "504 PROT S/E not implemented\r\n",
-            SessionChange::Nothing,
-        ),
-        (
-            ProtParam::Private,
-            false,
-            "502 TLS/SSL not configured\r\n",
-            SessionChange::Nothing,
-        ),
-    ] {
-        let (reply, changed) = Prot::new(param).reply(rt.alloc(), is_on)?;
-        assert_eq!(rt; changed, change);
-        assert_encoded(&rt, rt.alloc(), reply, want.as_bytes())?;
-    }
+fn auth_is_answered_by_what_is_configured(rt: HostRuntime) -> Result<(), Fail> {
+    let want = b"234 Upgrading to TLS\r\n";
+    let change = assert_auth(&rt, rt.alloc(), AuthParam::Tls, true, want)?;
+    assert_eq!(rt; change, SessionChange::SecureControlChannel);
+    let want = b"504 Auth SSL not implemented\r\n";
+    let change = assert_auth(&rt, rt.alloc(), AuthParam::Ssl, true, want)?;
+    assert_eq!(rt; change, SessionChange::Nothing);
+    let want = b"502 TLS/SSL not configured\r\n";
+    let change = assert_auth(&rt, rt.alloc(), AuthParam::Tls, false, want)?;
+    assert_eq!(rt; change, SessionChange::Nothing);
+    Ok(())
+}
+
+/// PROT is answered so, where TLS is configured or not.
+fn assert_prot(
+    rt: &impl Abort,
+    alloc: Global,
+    param: ProtParam,
+    is_on: bool,
+    want: &[u8],
+) -> Result<SessionChange, Fail> {
+    let (reply, change) = Prot::new(param).reply(alloc, is_on)?;
+    assert_encoded(rt, alloc, reply, want)?;
+    Ok(change)
+}
+
+#[test]
+fn prot_is_answered_by_what_is_configured(rt: HostRuntime) -> Result<(), Fail> {
+    let want = b"200 PROT OK. Switching data channel to plaintext\r\n";
+    let change = assert_prot(&rt, rt.alloc(), ProtParam::Clear, true, want)?;
+    assert_eq!(rt; change, SessionChange::DataTls(false));
+    let want = b"200 PROT OK. Securing data channel\r\n";
+    let change = assert_prot(&rt, rt.alloc(), ProtParam::Private, true, want)?;
+    assert_eq!(rt; change, SessionChange::DataTls(true));
+    let want = b"504 PROT S/E not implemented\r\n";
+    let change = assert_prot(&rt, rt.alloc(), ProtParam::Safe, true, want)?;
+    assert_eq!(rt; change, SessionChange::Nothing);
+    let want = b"502 TLS/SSL not configured\r\n";
+    let change = assert_prot(&rt, rt.alloc(), ProtParam::Private, false, want)?;
+    assert_eq!(rt; change, SessionChange::Nothing);
     Ok(())
 }
 
@@ -128,41 +127,30 @@ fn the_port_of_extended_passive_mode_is_reported(rt: HostRuntime) -> Result<(), 
 }
 
 #[test]
-fn modes_structures_and_options_are_answered(rt: HostRuntime) -> Result<(), Fail> {
+fn modes_and_structures_are_answered(rt: HostRuntime) -> Result<(), Fail> {
     let alloc = rt.alloc();
-    for (reply, want) in [
-        (
-            Mode::new(ModeParam::Stream).reply(alloc)?,
-            "200 Using Stream transfer mode\r\n",
-        ),
-        (
-            Mode::new(ModeParam::Block).reply(alloc)?,
-            "504 Only Stream transfer mode is supported\r\n",
-        ),
-        (
-            Stru::new(StruParam::File).reply(alloc)?,
-            "200 In File structure mode\r\n",
-        ),
-        (
-            Stru::new(StruParam::Page).reply(alloc)?,
-            "504 Only File structure mode is supported\r\n",
-        ),
-        (
-            Opts::new(Opt::Utf8 { on: true }).reply(alloc)?,
-            "200 Always in UTF-8 mode.\r\n",
-        ),
-        (
-            Opts::new(Opt::Utf8 { on: false }).reply(alloc)?,
-            "504 Non UTF-8 mode not supported\r\n",
-        ),
-        (
-            Help.reply(alloc)?,
-            "214-Help:\r\nPowered by libunftp: 0.24.0\r\n214 View the docs at: https://unftp.rs/\r\n",
-        ),
-    ] {
-        assert_encoded(&rt, alloc, reply, want.as_bytes())?;
-    }
-    Ok(())
+    let stream = Mode::new(ModeParam::Stream).reply(alloc)?;
+    assert_encoded(&rt, alloc, stream, b"200 Using Stream transfer mode\r\n")?;
+    let block = Mode::new(ModeParam::Block).reply(alloc)?;
+    let want = b"504 Only Stream transfer mode is supported\r\n";
+    assert_encoded(&rt, alloc, block, want)?;
+    let file = Stru::new(StruParam::File).reply(alloc)?;
+    assert_encoded(&rt, alloc, file, b"200 In File structure mode\r\n")?;
+    let page = Stru::new(StruParam::Page).reply(alloc)?;
+    let want = b"504 Only File structure mode is supported\r\n";
+    assert_encoded(&rt, alloc, page, want)
+}
+
+#[test]
+fn options_and_help_are_answered(rt: HostRuntime) -> Result<(), Fail> {
+    let alloc = rt.alloc();
+    let on = Opts::new(Opt::Utf8 { on: true }).reply(alloc)?;
+    assert_encoded(&rt, alloc, on, b"200 Always in UTF-8 mode.\r\n")?;
+    let off = Opts::new(Opt::Utf8 { on: false }).reply(alloc)?;
+    assert_encoded(&rt, alloc, off, b"504 Non UTF-8 mode not supported\r\n")?;
+    let want = b"214-Help:\r\nPowered by libunftp: 0.24.0\r\n\
+        214 View the docs at: https://unftp.rs/\r\n";
+    assert_encoded(&rt, alloc, Help.reply(alloc)?, want)
 }
 
 #[test]
@@ -192,8 +180,7 @@ fn assert_facts(
         uid: 0,
         gid: 0,
     };
-    let facts = format_facts(alloc, &file)?;
-    assert_eq!(rt; facts.as_str(), want);
+    assert_text(rt, format_facts(alloc, &file)?, want);
     Ok(())
 }
 
@@ -220,7 +207,7 @@ fn instants_are_written_to_the_second_of_utc(rt: HostRuntime) -> Result<(), Fail
 }
 
 #[test]
-fn the_facts_of_a_path_are_listed(rt: HostRuntime) -> Result<(), Fail> {
+fn the_facts_of_a_directory_are_listed(rt: HostRuntime) -> Result<(), Fail> {
     let directory = File {
         is_dir: true,
         size: 0,
@@ -229,17 +216,14 @@ fn the_facts_of_a_path_are_listed(rt: HostRuntime) -> Result<(), Fail> {
         gid: 1000,
     };
     let facts = format_facts(rt.alloc(), &directory)?;
-    assert_eq!(rt;
-        facts.as_str(),
-        "type=dir;size=0;unix.uid=1000;unix.gid=1000;"
-    );
+    assert_text(&rt, facts, "type=dir;size=0;unix.uid=1000;unix.gid=1000;");
     let reply = Mlst::new(None).reply(rt.alloc(), "/pub", Ok(&directory))?;
-    assert_encoded(
-        &rt,
-        rt.alloc(),
-        reply,
-        b"250- Listing\r\n type=dir;size=0;unix.uid=1000;unix.gid=1000; /pub\r\n250 End\r\n",
-    )?;
+    let want = b"250- Listing\r\n type=dir;size=0;unix.uid=1000;unix.gid=1000; /pub\r\n250 End\r\n";
+    assert_encoded(&rt, rt.alloc(), reply, want)
+}
+
+#[test]
+fn the_facts_of_a_path_are_listed(rt: HostRuntime) -> Result<(), Fail> {
     let file = File {
         is_dir: false,
         size: 1234,
@@ -249,20 +233,19 @@ fn the_facts_of_a_path_are_listed(rt: HostRuntime) -> Result<(), Fail> {
     };
     let path = String::from_str(rt.alloc(), "/a.txt")?;
     let reply = Mlst::new(Some(path)).reply(rt.alloc(), "/pub", Ok(&file))?;
-    assert_encoded(
-        &rt,
-        rt.alloc(),
-        reply,
-        b"250- Listing\r\n type=file;size=1234;modify=20231201120000; /a.txt\r\n250 End\r\n",
-    )
+    let want = b"250- Listing\r\n type=file;size=1234;modify=20231201120000; /a.txt\r\n250 End\r\n";
+    assert_encoded(&rt, rt.alloc(), reply, want)
+}
+
+/// MLST of a path that is not found, for this reason.
+fn assert_not_found(rt: &impl Abort, alloc: Global, why: &str, want: &[u8]) -> Result<(), Fail> {
+    let found: Result<&File, &str> = Err(why);
+    let reply = Mlst::new(None).reply(alloc, "/", found)?;
+    assert_encoded(rt, alloc, reply, want)
 }
 
 #[test]
 fn a_path_that_is_not_found_is_a_fault(rt: HostRuntime) -> Result<(), Fail> {
-    for (text, want) in [("no such file", "550 no such file\r\n"), ("", "550\r\n")] {
-        let found: Result<&File, &str> = Err(text);
-        let reply = Mlst::new(None).reply(rt.alloc(), "/", found)?;
-        assert_encoded(&rt, rt.alloc(), reply, want.as_bytes())?;
-    }
-    Ok(())
+    assert_not_found(&rt, rt.alloc(), "no such file", b"550 no such file\r\n")?;
+    assert_not_found(&rt, rt.alloc(), "", b"550\r\n")
 }

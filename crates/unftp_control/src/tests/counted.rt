@@ -28,7 +28,10 @@ fn takes_0_for_lines_without_a_field(rt: HostRuntime) -> Result<(), Fail> {
 fn takes_0_for_no_line_and_no_reply(rt: HostRuntime) -> Result<(), Fail> {
     let mut codec = FtpCodec::new();
     let mut buf = Vec::new(rt.alloc());
-    assert!(rt; codec.decode(rt.alloc(), &mut buf)?.is_none());
+    let decoded = codec.decode(rt.alloc(), &mut buf)?;
+    let is_none = decoded.is_none();
+    drop(decoded);
+    assert!(rt; is_none);
     codec.encode(Reply::None, &mut buf)?;
     Ok(())
 }

@@ -11,132 +11,160 @@ use crate::error::{ControlChanError, ControlChanErrorKind};
 use crate::read::{Front, ReadReplyError, read_reply};
 use crate::reply::{Reply, ReplyCode};
 use crate::tests::commands::File;
+use crate::tests::texts::assert_text;
 use crate::write::{WriteCommandError, write_command};
 use jiff::Timestamp;
-use std::alloc::Global;
+use std::alloc::{AllocError, Global};
 use std::process::Abort;
 use std::test::Fail;
 
 /// The error is that memory ran out.
-fn assert_out_of_memory(rt: &impl Abort, error: &ControlChanError) {
+fn assert_out_of_memory(rt: &impl Abort, error: ControlChanError) {
     assert_eq!(rt; error.kind(), &ControlChanErrorKind::OutOfMemory);
+}
+
+fn not_implemented(alloc: Global) -> Result<Reply, ControlChanError> {
+    let code = ReplyCode::CommandNotImplemented;
+    Reply::new(alloc, code, "Not implemented")
+}
+
+fn two_lines(alloc: Global) -> Result<Reply, ControlChanError> {
+    Reply::new_multiline(alloc, ReplyCode::SystemStatus, ["a", "1b"])
 }
 
 #[test]
 fn replies_are_made_again(rt: HostRuntime) -> Result<(), Fail> {
-    let reply = match Reply::new(rt.alloc(), ReplyCode::CommandOkay, "OK") {
-        Ok(reply) => reply,
-        Err(error) => {
-            assert_out_of_memory(&rt, &error);
-            Reply::new(rt.alloc(), ReplyCode::CommandOkay, "OK")?
-        }
-    };
-    assert!(rt; reply != Reply::None);
-    Ok(())
-}
-
-#[test]
-fn a_failed_encoding_leaves_the_buffer(rt: HostRuntime) -> Result<(), Fail> {
-    let Ok(reply) = Reply::new(
-        rt.alloc(),
-        ReplyCode::CommandNotImplemented,
-        "Not implemented",
-    ) else {
-        return Ok(());
-    };
-    let Ok(again) = Reply::new(
-        rt.alloc(),
-        ReplyCode::CommandNotImplemented,
-        "Not implemented",
-    ) else {
-        return Ok(());
-    };
-    let Ok(mut buf) = Vec::from_slice(rt.alloc(), b"x") else {
-        return Ok(());
-    };
-    let mut codec = FtpCodec::new();
-    if let Err(error) = codec.encode(reply, &mut buf) {
-        assert_out_of_memory(&rt, &error);
-        assert_eq!(rt; buf.as_slice(), b"x".as_slice());
-        codec.encode(again, &mut buf)?;
+    if let Err(error) = not_implemented(rt.alloc()) {
+        assert_out_of_memory(&rt, error);
+        not_implemented(rt.alloc())?;
     }
-    assert_eq!(rt; buf.as_slice(), b"x502 Not implemented\r\n".as_slice());
     Ok(())
 }
 
 #[test]
-fn lines_are_made_again(rt: HostRuntime) -> Result<(), Fail> {
-    let reply = match Reply::new_multiline(rt.alloc(), ReplyCode::SystemStatus, ["a", "1b"]) {
-        Ok(reply) => reply,
-        Err(error) => {
-            assert_out_of_memory(&rt, &error);
-            Reply::new_multiline(rt.alloc(), ReplyCode::SystemStatus, ["a", "1b"])?
-        }
+fn replies_of_several_lines_are_made_again(rt: HostRuntime) -> Result<(), Fail> {
+    if let Err(error) = two_lines(rt.alloc()) {
+        assert_out_of_memory(&rt, error);
+        two_lines(rt.alloc())?;
+    }
+    Ok(())
+}
+
+#[test]
+fn a_reply_is_cloned_again(rt: HostRuntime) -> Result<(), Fail> {
+    let Ok(reply) = two_lines(rt.alloc()) else {
+        return Ok(());
     };
     let copy = match reply.clone(rt.alloc()) {
         Ok(copy) => copy,
         Err(_) => reply.clone(rt.alloc())?,
     };
     assert!(rt; copy == reply);
+    Ok(())
+}
+
+/// Encodes the reply after the `x` that the buffer has. Where an allocation fails, the buffer stays
+/// as it was, and the answer is no.
+fn is_encoded(rt: &impl Abort, reply: Reply, buf: &mut Vec<u8>) -> bool {
+    match FtpCodec::new().encode(reply, buf) {
+        Ok(()) => true,
+        Err(error) => {
+            assert_out_of_memory(rt, error);
+            assert_eq!(rt; buf.as_slice(), b"x".as_slice());
+            false
+        }
+    }
+}
+
+#[test]
+fn a_failed_encoding_leaves_the_buffer(rt: HostRuntime) -> Result<(), Fail> {
     let Ok(mut buf) = Vec::from_slice(rt.alloc(), b"x") else {
         return Ok(());
     };
-    let mut codec = FtpCodec::new();
-    if let Err(error) = codec.encode(reply, &mut buf) {
-        assert_out_of_memory(&rt, &error);
-        assert_eq!(rt; buf.as_slice(), b"x".as_slice());
-        codec.encode(copy, &mut buf)?;
+    let Ok(reply) = not_implemented(rt.alloc()) else {
+        return Ok(());
+    };
+    if !is_encoded(&rt, reply, &mut buf) {
+        FtpCodec::new().encode(not_implemented(rt.alloc())?, &mut buf)?;
+    }
+    assert_eq!(rt; buf.as_slice(), b"x502 Not implemented\r\n".as_slice());
+    Ok(())
+}
+
+#[test]
+fn a_failed_encoding_of_several_lines_leaves_the_buffer(rt: HostRuntime) -> Result<(), Fail> {
+    let Ok(mut buf) = Vec::from_slice(rt.alloc(), b"x") else {
+        return Ok(());
+    };
+    let Ok(reply) = two_lines(rt.alloc()) else {
+        return Ok(());
+    };
+    if !is_encoded(&rt, reply, &mut buf) {
+        FtpCodec::new().encode(two_lines(rt.alloc())?, &mut buf)?;
     }
     assert_eq!(rt; buf.as_slice(), b"x211-a\r\n211 1b\r\n".as_slice());
     Ok(())
 }
 
-/// The command of the line before PWD. Where an allocation for it fails, the line stays in the
-/// buffer, and is decoded again; where one for the buffer fails, there is none.
-fn first_command(rt: &impl Abort, alloc: Global, line: &[u8]) -> Result<Option<Command>, Fail> {
-    let Ok(mut buf) = Vec::from_slice(alloc, line) else {
-        return Ok(None);
-    };
+/// The command of the first line of the buffer. Where an allocation for it fails, the line stays,
+/// and is decoded again.
+fn first_command(
+    rt: &impl Abort,
+    alloc: Global,
+    line: &[u8],
+    buf: &mut Vec<u8>,
+) -> Result<Option<Command>, Fail> {
     let mut codec = FtpCodec::new();
-    let command = match codec.decode(alloc, &mut buf) {
-        Ok(command) => command,
+    match codec.decode(alloc, buf) {
+        Ok(command) => Ok(command),
         Err(error) => {
-            assert_out_of_memory(rt, &error);
-            drop(error);
+            assert_out_of_memory(rt, error);
             assert_eq!(rt; codec.place(), 0);
             assert_eq!(rt; buf.as_slice(), line);
-            assert!(rt; codec.place() <= buf.len());
-            codec.decode(alloc, &mut buf)?
+            Ok(codec.decode(alloc, buf)?)
         }
-    };
-    assert!(rt; buf.as_slice() == b"PWD\r\n".as_slice());
-    Ok(command)
+    }
 }
 
-/// A clone is equal. Where an allocation for it fails, the next one is.
-fn assert_cloned(rt: &impl Abort, alloc: Global, command: &Command) -> Result<(), Fail> {
+/// Whether a clone is equal. Where an allocation for it fails, the next one is.
+fn is_cloned(alloc: Global, command: &Command) -> Result<bool, AllocError> {
     let copy = match command.clone(alloc) {
         Ok(copy) => copy,
         Err(_) => command.clone(alloc)?,
     };
     let is_same = copy == *command;
     drop(copy);
-    assert!(rt; is_same);
-    Ok(())
+    Ok(is_same)
 }
 
-/// The line is this command, where there is memory for its text.
+/// The Debug text of the command of the first line, where there is memory for the text.
+fn command_text(
+    rt: &impl Abort,
+    alloc: Global,
+    line: &[u8],
+    buf: &mut Vec<u8>,
+) -> Result<Option<String>, Fail> {
+    let Some(command) = first_command(rt, alloc, line, buf)? else {
+        return Ok(None);
+    };
+    let cloned = is_cloned(alloc, &command);
+    let text = format!(in alloc; "{command:?}");
+    drop(command);
+    assert!(rt; matches!(cloned, Ok(true)));
+    Ok(text.ok())
+}
+
+/// The line before PWD is this command, where there is memory for its text.
 fn assert_read(rt: &impl Abort, alloc: Global, line: &[u8], want: &str) -> Result<(), Fail> {
-    let Some(command) = first_command(rt, alloc, line)? else {
+    let Ok(mut buf) = Vec::from_slice(alloc, line) else {
         return Ok(());
     };
-    let cloned = assert_cloned(rt, alloc, &command);
-    let shown = format!(in alloc; "{command:?}");
-    drop(command);
-    if let Ok(text) = shown {
-        assert_eq!(rt; text.as_str(), want);
+    let text = command_text(rt, alloc, line, &mut buf)?;
+    assert_eq!(rt; buf.as_slice(), b"PWD\r\n".as_slice());
+    if let Some(text) = text {
+        assert_text(rt, text, want);
     }
-    cloned
+    Ok(())
 }
 
 #[test]
@@ -244,8 +272,7 @@ fn replies_to_commands_are_made_again(rt: HostRuntime) -> Result<(), Fail> {
         gid: 0,
     };
     if let Err(refused) = all_replies(rt.alloc(), &file) {
-        assert_out_of_memory(&rt, &refused);
-        drop(refused);
+        assert_out_of_memory(&rt, refused);
         all_replies(rt.alloc(), &file)?;
     }
     Ok(())

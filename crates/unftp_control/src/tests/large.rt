@@ -61,26 +61,37 @@ fn a_large_line_is_decoded(rt: HostRuntime) -> Result<(), Fail> {
     Ok(())
 }
 
+/// A reply of two large lines.
+fn large_reply(alloc: Global) -> Result<Reply, Fail> {
+    let text = large_text(alloc)?;
+    let lines = [text.as_str(), text.as_str()];
+    Ok(Reply::new_multiline(alloc, ReplyCode::SystemStatus, lines)?)
+}
+
 #[test]
-fn a_large_reply_is_cloned_encoded_and_read(rt: HostRuntime) -> Result<(), Fail> {
-    let text = large_text(rt.alloc())?;
-    let reply = Reply::new_multiline(
-        rt.alloc(),
-        ReplyCode::SystemStatus,
-        [text.as_str(), text.as_str()],
-    )?;
+fn a_large_reply_is_cloned(rt: HostRuntime) -> Result<(), Fail> {
+    let reply = large_reply(rt.alloc())?;
     let again = reply.clone(rt.alloc())?;
     assert!(rt; again == reply);
-    let mut out = Vec::new(rt.alloc());
-    FtpCodec::new().encode(reply, &mut out)?;
-    match read_reply(rt.alloc(), out.as_slice())? {
+    Ok(())
+}
+
+/// Whether it is the reply of two large lines.
+fn is_large(front: &Front) -> bool {
+    match front {
         Front::Whole { code, lines, used } => {
-            assert_eq!(rt; code, 211);
-            assert_eq!(rt; lines.len(), 2);
-            assert_eq!(rt; used, 2 * (LARGE + 6));
+            *code == 211 && lines.len() == 2 && *used == 2 * (LARGE + 6)
         }
-        Front::Partial => panic!(rt; "partial"),
+        Front::Partial => false,
     }
+}
+
+#[test]
+fn a_large_reply_is_encoded_and_read(rt: HostRuntime) -> Result<(), Fail> {
+    let mut out = Vec::new(rt.alloc());
+    FtpCodec::new().encode(large_reply(rt.alloc())?, &mut out)?;
+    let front = read_reply(rt.alloc(), out.as_slice())?;
+    assert!(rt; is_large(&front));
     Ok(())
 }
 

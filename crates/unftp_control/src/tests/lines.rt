@@ -1,7 +1,7 @@
 //! Lines, and what they are read as.
 use crate::command::Command;
 use crate::line_parser::parse;
-use crate::tests::texts::{assert_debug, assert_displayed};
+use crate::tests::texts::{assert_debug, assert_displayed, assert_text};
 use bstr::ByteVec;
 use std::alloc::Global;
 use std::process::Abort;
@@ -41,8 +41,7 @@ fn assert_read(rt: &impl Abort, alloc: Global, rows: &str) -> Result<(), Fail> {
             panic!(rt; "no row: {row}");
         };
         let line = Vec::unescape_bytes(alloc, line)?;
-        let text = answer(rt, alloc, line.as_slice())?;
-        assert_eq!(rt; text.as_str(), want, "at {row}");
+        assert_text(rt, answer(rt, alloc, line.as_slice())?, want);
     }
     Ok(())
 }

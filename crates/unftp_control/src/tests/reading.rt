@@ -1,5 +1,6 @@
 //! The replies that a client reads.
 use crate::read::{Front, ReadReplyError, read_reply};
+use crate::tests::texts::assert_text;
 use std::alloc::Global;
 use std::test::Fail;
 
@@ -95,8 +96,8 @@ fn any_three_digits_are_a_code(rt: HostRuntime) -> Result<(), Fail> {
 #[test]
 fn errors_have_their_texts(rt: HostRuntime) -> Result<(), Fail> {
     let malformed = format!(in rt.alloc(); "{}", ReadReplyError::Malformed)?;
-    assert_eq!(rt; malformed.as_str(), "malformed reply");
+    assert_text(&rt, malformed, "malformed reply");
     let out_of_memory = format!(in rt.alloc(); "{}", ReadReplyError::OutOfMemory)?;
-    assert_eq!(rt; out_of_memory.as_str(), "out of memory");
+    assert_text(&rt, out_of_memory, "out of memory");
     Ok(())
 }

@@ -1,29 +1,29 @@
 //! Replies, and their bytes.
 use crate::codecs::FtpCodec;
 use crate::reply::{Reply, ReplyCode};
+use crate::tests::texts::{assert_debug, assert_twice};
 use std::alloc::Global;
 use std::process::Abort;
 use std::test::Fail;
 
-/// The reply is encoded so after what the buffer has, and so is a clone of it, which is equal.
+/// A clone of the reply, which is equal.
+fn equal_clone(rt: &impl Abort, alloc: Global, reply: &Reply) -> Result<Reply, Fail> {
+    let copy = reply.clone(alloc)?;
+    assert!(rt; copy == *reply);
+    Ok(copy)
+}
+
+/// The reply is encoded so, and so is a clone of it after it.
 pub fn assert_encoded(
     rt: &impl Abort,
     alloc: Global,
     reply: Reply,
     want: &[u8],
 ) -> Result<(), Fail> {
-    let copy = reply.clone(alloc)?;
-    assert!(rt; copy == reply);
-    let mut codec = FtpCodec::new();
-    let mut buf = Vec::from_slice(alloc, b"x")?;
-    codec.encode(reply, &mut buf)?;
-    let (front, bytes) = buf.as_slice().split_at(1);
-    assert_eq!(rt; front, b"x".as_slice());
-    assert_eq!(rt; bytes, want);
-    codec.encode(copy, &mut buf)?;
-    assert_eq!(rt; buf.len(), 1 + want.len() + want.len());
-    assert_eq!(rt; codec.place(), 0);
-    Ok(())
+    let mut buf = Vec::new(alloc);
+    FtpCodec::new().encode(equal_clone(rt, alloc, &reply)?, &mut buf)?;
+    FtpCodec::new().encode(reply, &mut buf)?;
+    assert_twice(rt, alloc, buf, want)
 }
 
 #[test]
@@ -89,16 +89,24 @@ fn a_single_line_follows_its_code(rt: HostRuntime) -> Result<(), Fail> {
     assert_lines(&rt, rt.alloc(), ReplyCode::CommandOkay, &[""], "200 \r\n")
 }
 
+/// Whether the reply is `200 OK`.
+fn is_ok(alloc: Global, reply: Reply) -> Result<bool, Fail> {
+    let ok = Reply::new(alloc, ReplyCode::CommandOkay, "OK")?;
+    Ok(ok == reply)
+}
+
 #[test]
 fn the_same_codes_and_texts_are_equal(rt: HostRuntime) -> Result<(), Fail> {
-    let done = Reply::new(rt.alloc(), ReplyCode::CommandOkay, "OK")?;
-    let same = Reply::new_with_string(ReplyCode::CommandOkay, String::from_str(rt.alloc(), "OK")?);
-    assert!(rt; done == same);
-    let line = Reply::new_multiline(rt.alloc(), ReplyCode::CommandOkay, ["OK"])?;
-    assert!(rt; done != line);
-    assert!(rt; done != Reply::new(rt.alloc(), ReplyCode::CommandOkay, "KO")?);
-    assert!(rt; done != Reply::new(rt.alloc(), ReplyCode::CommandNotImplemented, "OK")?);
-    assert!(rt; done != Reply::None);
+    let alloc = rt.alloc();
+    let text = String::from_str(alloc, "OK")?;
+    assert!(rt; is_ok(alloc, Reply::new_with_string(ReplyCode::CommandOkay, text))?);
+    let line = Reply::new_multiline(alloc, ReplyCode::CommandOkay, ["OK"])?;
+    assert!(rt; !is_ok(alloc, line)?);
+    let other_text = Reply::new(alloc, ReplyCode::CommandOkay, "KO")?;
+    assert!(rt; !is_ok(alloc, other_text)?);
+    let other_code = Reply::new(alloc, ReplyCode::CommandNotImplemented, "OK")?;
+    assert!(rt; !is_ok(alloc, other_code)?);
+    assert!(rt; !is_ok(alloc, Reply::None)?);
     Ok(())
 }
 
@@ -136,45 +144,30 @@ fn codes_from_200_to_399_are_positive(rt: HostRuntime) -> Result<(), Fail> {
 }
 
 /// Debug writes this text, whatever the flags.
-fn assert_shown(rt: &impl Abort, alloc: Global, reply: &Reply, want: &str) -> Result<(), Fail> {
-    let plain = format!(in alloc; "{reply:?}")?;
-    assert_eq!(rt; plain.as_str(), want);
-    let pretty = format!(in alloc; "{reply:#?}")?;
-    assert_eq!(rt; pretty.as_str(), want);
-    let wide = format!(in alloc; "{reply:>90?}")?;
-    assert_eq!(rt; wide.as_str(), want);
-    Ok(())
+fn assert_shown(rt: &impl Abort, alloc: Global, reply: Reply, want: &str) -> Result<(), Fail> {
+    assert_debug(rt, alloc, &reply, want, want)
+}
+
+#[test]
+fn debug_shows_a_text(rt: HostRuntime) -> Result<(), Fail> {
+    assert_shown(&rt, rt.alloc(), Reply::None, "None")?;
+    let reply = Reply::new(rt.alloc(), ReplyCode::CommandOkay, "OK")?;
+    let want = "CodeAndMsg { code: CommandOkay, msg: \"OK\" }";
+    assert_shown(&rt, rt.alloc(), reply, want)
 }
 
 #[test]
 fn debug_shows_the_first_of_several_lines(rt: HostRuntime) -> Result<(), Fail> {
-    assert_shown(&rt, rt.alloc(), &Reply::None, "None")?;
-    assert_shown(
-        &rt,
-        rt.alloc(),
-        &Reply::new(rt.alloc(), ReplyCode::CommandOkay, "OK")?,
-        "CodeAndMsg { code: CommandOkay, msg: \"OK\" }",
-    )?;
-    let no_lines = Reply::MultiLine {
+    let reply = Reply::MultiLine {
         code: ReplyCode::SystemStatus,
         lines: Vec::new(rt.alloc()),
     };
-    assert_shown(
-        &rt,
-        rt.alloc(),
-        &no_lines,
-        "MultiLine { code: SystemStatus, line: [] }",
-    )?;
-    assert_shown(
-        &rt,
-        rt.alloc(),
-        &Reply::new_multiline(rt.alloc(), ReplyCode::SystemStatus, ["a"])?,
-        "MultiLine { code: SystemStatus, line: [\"a\"] }",
-    )?;
-    assert_shown(
-        &rt,
-        rt.alloc(),
-        &Reply::new_multiline(rt.alloc(), ReplyCode::SystemStatus, ["a", "b", "c"])?,
-        "MultiLine { code: SystemStatus, 3 lines (a...) }",
-    )
+    let want = "MultiLine { code: SystemStatus, line: [] }";
+    assert_shown(&rt, rt.alloc(), reply, want)?;
+    let reply = Reply::new_multiline(rt.alloc(), ReplyCode::SystemStatus, ["a"])?;
+    let want = "MultiLine { code: SystemStatus, line: [\"a\"] }";
+    assert_shown(&rt, rt.alloc(), reply, want)?;
+    let reply = Reply::new_multiline(rt.alloc(), ReplyCode::SystemStatus, ["a", "b", "c"])?;
+    let want = "MultiLine { code: SystemStatus, 3 lines (a...) }";
+    assert_shown(&rt, rt.alloc(), reply, want)
 }

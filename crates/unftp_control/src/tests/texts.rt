@@ -1,12 +1,25 @@
-//! What a formatter writes under its flags.
+//! What texts and bytes are wanted.
 use std::alloc::Global;
 use std::fmt::{Debug, Display};
 use std::process::Abort;
 use std::test::Fail;
 
 /// The text is this one.
-fn assert_text(rt: &impl Abort, text: String, want: &str) {
+pub fn assert_text(rt: &impl Abort, text: String, want: &str) {
     assert_eq!(rt; text.as_str(), want);
+}
+
+/// The bytes are these, twice.
+pub fn assert_twice(
+    rt: &impl Abort,
+    alloc: Global,
+    bytes: Vec<u8>,
+    want: &[u8],
+) -> Result<(), Fail> {
+    let mut twice = Vec::from_slice(alloc, want)?;
+    twice.extend_from_slice(want)?;
+    assert_eq!(rt; bytes.as_slice(), twice.as_slice());
+    Ok(())
 }
 
 /// Display writes this text, whatever the flags.

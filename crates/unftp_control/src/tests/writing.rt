@@ -2,38 +2,36 @@
 use crate::codecs::FtpCodec;
 use crate::command::Command;
 use crate::line_parser::{is_verb, parse};
+use crate::tests::texts::{assert_text, assert_twice};
 use crate::write::{WriteCommandError, write_command};
 use bstr::ByteVec;
 use bytes::Bytes;
-use std::alloc::Global;
+use std::alloc::{AllocError, Global};
 use std::process::Abort;
 use std::test::Fail;
 
-/// The line comes after the bytes that the buffer had.
+/// The line of the command is this one, and comes after what the buffer has.
 fn assert_written(
     rt: &impl Abort,
     alloc: Global,
     command: Command,
     want: &[u8],
 ) -> Result<(), Fail> {
-    let mut buf = Vec::from_slice(alloc, b"x")?;
-    let written = write_command(&command, &mut buf);
+    let mut buf = Vec::new(alloc);
+    let first = write_command(&command, &mut buf);
+    let second = write_command(&command, &mut buf);
     drop(command);
-    assert!(rt; written.is_ok());
-    let mut whole = Vec::from_slice(alloc, b"x")?;
-    whole.extend_from_slice(want)?;
-    assert_eq!(rt; buf.as_slice(), whole.as_slice());
-    Ok(())
+    first?;
+    second?;
+    assert_twice(rt, alloc, buf, want)
 }
 
-/// No line gives the command, and the buffer is as it was.
-fn assert_no_line(rt: &impl Abort, alloc: Global, command: Command) -> Result<(), Fail> {
-    let mut buf = Vec::from_slice(alloc, b"x")?;
+/// No line gives the command, and none is written.
+fn assert_no_line(rt: &impl Abort, alloc: Global, command: Command) {
+    let mut buf = Vec::new(alloc);
     let written = write_command(&command, &mut buf);
     drop(command);
-    assert!(rt; matches!(written, Err(WriteCommandError::NoLine)));
-    assert_eq!(rt; buf.as_slice(), b"x".as_slice());
-    Ok(())
+    assert!(rt; matches!(written, Err(WriteCommandError::NoLine)) && buf.is_empty());
 }
 
 /// The command of a line is written as `want`, which a new codec decodes to the same command, and
@@ -151,61 +149,58 @@ fn a_path_with_a_dash_is_marked(rt: HostRuntime) -> Result<(), Fail> {
     Ok(())
 }
 
+/// SITE with this subcommand.
+fn site(alloc: Global, name: &str, arguments: &str) -> Result<Command, AllocError> {
+    Ok(Command::Site {
+        command: String::from_str(alloc, name)?,
+        arguments: String::from_str(alloc, arguments)?,
+    })
+}
+
+/// A verb without a rule of its own.
+fn other(alloc: Global, name: &str, arguments: &str) -> Result<Command, AllocError> {
+    Ok(Command::Other {
+        command_name: String::from_str(alloc, name)?,
+        arguments: String::from_str(alloc, arguments)?,
+    })
+}
+
 #[test]
 fn names_come_before_their_arguments(rt: HostRuntime) -> Result<(), Fail> {
-    for (name, arguments, want) in [
-        ("", "", b"SITE\r\n".as_slice()),
-        ("ECHO", "", b"SITE ECHO\r\n".as_slice()),
-        ("", "X", b"SITE  X\r\n".as_slice()),
-    ] {
-        let command = String::from_str(rt.alloc(), name)?;
-        let arguments = String::from_str(rt.alloc(), arguments)?;
-        let site = Command::Site { command, arguments };
-        assert_written(&rt, rt.alloc(), site, want)?;
-    }
-    for (name, arguments, want) in [
-        ("", "", b"\r\n".as_slice()),
-        ("", "NOOP", b" NOOP\r\n".as_slice()),
-        ("PA\u{df}", "x", b"PA\xc3\x9f x\r\n".as_slice()),
-    ] {
-        let other = Command::Other {
-            command_name: String::from_str(rt.alloc(), name)?,
-            arguments: String::from_str(rt.alloc(), arguments)?,
-        };
-        assert_written(&rt, rt.alloc(), other, want)?;
-    }
-    Ok(())
+    let alloc = rt.alloc();
+    assert_written(&rt, alloc, site(alloc, "", "")?, b"SITE\r\n")?;
+    assert_written(&rt, alloc, site(alloc, "ECHO", "")?, b"SITE ECHO\r\n")?;
+    assert_written(&rt, alloc, site(alloc, "", "X")?, b"SITE  X\r\n")?;
+    assert_written(&rt, alloc, other(alloc, "", "")?, b"\r\n")?;
+    assert_written(&rt, alloc, other(alloc, "", "NOOP")?, b" NOOP\r\n")?;
+    let beyond_ascii = other(alloc, "PA\u{df}", "x")?;
+    assert_written(&rt, alloc, beyond_ascii, b"PA\xc3\x9f x\r\n")
 }
 
 #[test]
 fn empty_texts_and_line_feeds_have_no_line(rt: HostRuntime) -> Result<(), Fail> {
     let path = String::new(rt.alloc());
-    assert_no_line(&rt, rt.alloc(), Command::Retr { path })?;
+    assert_no_line(&rt, rt.alloc(), Command::Retr { path });
     let path = Some(String::new(rt.alloc()));
-    assert_no_line(&rt, rt.alloc(), Command::Nlst { path })?;
+    assert_no_line(&rt, rt.alloc(), Command::Nlst { path });
     let path = Some(Bytes::copy_from_slice(rt.alloc(), b"")?);
-    assert_no_line(&rt, rt.alloc(), Command::Stat { path })?;
+    assert_no_line(&rt, rt.alloc(), Command::Stat { path });
     let username = Bytes::copy_from_slice(rt.alloc(), b"a\nb")?;
-    assert_no_line(&rt, rt.alloc(), Command::User { username })?;
-    let listing = Command::List {
-        options: Some(String::from_str(rt.alloc(), "-la")?),
-        path: None,
-    };
-    assert_no_line(&rt, rt.alloc(), listing)
+    assert_no_line(&rt, rt.alloc(), Command::User { username });
+    let options = Some(String::from_str(rt.alloc(), "-la")?);
+    let path = None;
+    assert_no_line(&rt, rt.alloc(), Command::List { options, path });
+    Ok(())
 }
 
 #[test]
 fn names_that_are_read_otherwise_have_no_line(rt: HostRuntime) -> Result<(), Fail> {
-    for name in ["BYE", "foo", "SITE"] {
-        let other = Command::Other {
-            command_name: String::from_str(rt.alloc(), name)?,
-            arguments: String::new(rt.alloc()),
-        };
-        assert_no_line(&rt, rt.alloc(), other)?;
-    }
-    let command = String::from_str(rt.alloc(), "MD5")?;
-    let arguments = String::new(rt.alloc());
-    assert_no_line(&rt, rt.alloc(), Command::Site { command, arguments })
+    let alloc = rt.alloc();
+    assert_no_line(&rt, alloc, other(alloc, "BYE", "")?);
+    assert_no_line(&rt, alloc, other(alloc, "foo", "")?);
+    assert_no_line(&rt, alloc, other(alloc, "SITE", "")?);
+    assert_no_line(&rt, alloc, site(alloc, "MD5", "")?);
+    Ok(())
 }
 
 #[test]
@@ -214,11 +209,11 @@ fn verbs_are_matched_exactly(rt: HostRuntime) -> Result<(), Fail> {
         "ABOR ACCT ALLO APPE AUTH BYE CCC CDUP CWD DELE EPSV FEAT HELP LIST MDTM MKD MLSD MLST MODE NLST NOOP OPTS PASS \
         PASV PBSZ PORT PROT PWD QUIT REST RETR RMD RNFR RNTO SITE SIZE STAT STOR STOU STRU SYST TYPE USER XCWD XMKD XPWD";
     for verb in verbs.split(' ') {
-        assert!(rt; is_verb(verb.as_bytes()), "at {verb}");
+        assert!(rt; is_verb(verb.as_bytes()));
     }
     assert_eq!(rt; verbs.split(' ').count(), 46);
     for word in ["", "noop", "NOOp", "PW", "PWDX", "MD5", "ZZZ", "XRMD"] {
-        assert!(rt; !is_verb(word.as_bytes()), "at {word}");
+        assert!(rt; !is_verb(word.as_bytes()));
     }
     Ok(())
 }
@@ -226,8 +221,8 @@ fn verbs_are_matched_exactly(rt: HostRuntime) -> Result<(), Fail> {
 #[test]
 fn errors_have_their_texts(rt: HostRuntime) -> Result<(), Fail> {
     let no_line = format!(in rt.alloc(); "{}", WriteCommandError::NoLine)?;
-    assert_eq!(rt; no_line.as_str(), "no line gives this command");
+    assert_text(&rt, no_line, "no line gives this command");
     let out_of_memory = format!(in rt.alloc(); "{}", WriteCommandError::OutOfMemory)?;
-    assert_eq!(rt; out_of_memory.as_str(), "out of memory");
+    assert_text(&rt, out_of_memory, "out of memory");
     Ok(())
 }

@@ -1,0 +1,17 @@
+-- What is made of an answer of `decode` where only NOOP is known.
+use Rattle.std.specs.Prelude.{◌≡◌, ◌≢◌, ◌⊎◌, ◌↔◌, ⊥, Bool, false, IsTrue, Option, Some, None, Result, Ok, Err}
+use Rattle.unftp_control.specs.CommandMeaning.{command_of}
+use Rattle.unftp_control.specs.Decoding.{Decoded}
+use Rattle.unftp_control.specs.ErrorMeaning.{fault_of}
+use Rattle.unftp_control.specs.ErrorParts.{Parts}
+use Rattle.unftp_control.specs.Events.{OutOfMemory}
+use Rattle.unftp_control.specs.FtpCommand.{Noop}
+
+-- No line; whether the command is NOOP; out of memory, as it is; and any other refusal is no NOOP.
+abbrev pub IsNextNoop : Decoded → Result (Option Bool) Parts → Type 0
+IsNextNoop (Ok None) result = result ≡ Ok None
+IsNextNoop (Ok (Some command)) (Ok (Some is_noop)) = IsTrue is_noop ↔ (command_of command ≡ Noop)
+IsNextNoop (Ok (Some command)) result = ⊥
+IsNextNoop (Err error) result =
+    (((fault_of error).kind ≡ OutOfMemory) × (result ≡ Err error))
+    ⊎ (((fault_of error).kind ≢ OutOfMemory) × (result ≡ Ok (Some false)))

@@ -1,0 +1,4 @@
+pub mod SendLemmas
+pub mod EndingLemmas
+mod LineBufferLemmas
+mod ExampleLemmas

@@ -1,0 +1,28 @@
+-- A handler and moments for the examples.
+use Rattle.std.specs.Prelude.{◌≡◌, ℕ, ◌+◌, Some, codes}
+use Rattle.unftp_control_defs.specs.Bytes.{Bytes}
+use Rattle.unftp_control_defs.specs.Events.{FtpEvent, Command, out_of_memory}
+use Rattle.unftp_control_defs.specs.FtpCommand.{Noop}
+use Rattle.unftp_control_defs.specs.FtpReply.{CodeAndMsg}
+use Rattle.unftp_control_defs.specs.Run.{Law}
+use Rattle.unftp_control_engine.specs.Endings.{Snapshot}
+
+-- It counts the events, and its reply to each is `200 OK`. It may fail with `OutOfMemory` only.
+abbrev pub counting : Law ℕ
+counting = record {
+  says = λ _ _. CodeAndMsg 200 (codes "OK");
+  next = λ taken _. taken + 1;
+  may_fail = λ _ _ fault. fault ≡ out_of_memory;
+}
+
+abbrev pub noop : FtpEvent
+noop = Command Noop
+
+-- The handler took so many events; these bytes were written, and so many were not flushed; nothing
+-- has failed.
+abbrev pub snapshot : ℕ → Bytes → ℕ → Snapshot ℕ
+snapshot taken written unflushed = record {
+  state = taken;
+  failures = 0;
+  output = record { written = Some written; failures = 0; unflushed = unflushed };
+}

@@ -1,0 +1,117 @@
+//! Snapshots worked out by hand: what the definitions of the clauses of `feed` say of
+//! them.
+ghost use Rattle.std.specs.Prelude.{◌≡◌, ◌+◌, ◌-◌, ◌^◌, ◌<◌, ◌≤◌, ◌⊎◌, ℕ, false, [], ◌∷◌, Some, Err, length, codes};
+ghost use Rattle.std.specs.Io.KnownBytes.{Appends};
+ghost use Rattle.unftp_control_defs.specs.Bytes.{Bytes};
+ghost use Rattle.unftp_control_defs.specs.Events.{Fault, events, out_of_memory};
+ghost use Rattle.unftp_control_error.specs.ErrorMeaning.{fault_of};
+ghost use Rattle.unftp_control_error.specs.ErrorParts.{Parts};
+ghost use Rattle.unftp_control_engine.specs.Endings.{Snapshot, AllAnswered, WriteFailed, HandlerFailed, RanOutOfMemory, RunEnded, OnWrite, OnHandler, OnMemory, ReadsNothing};
+ghost use Rattle.unftp_control_engine.specs.Engine.{EngineState, Leaves, saturating_u64};
+ghost use Rattle.unftp_control_engine.specs.Examples.{counting, noop, snapshot};
+ghost use Rattle.unftp_control_engine.specs.Sink.{Begins, Flushed};
+
+use crate::error::ServeError;
+
+/// The handler took both events, their replies were written and flushed, and nothing failed.
+pub fn all_events_are_answered()
+    ensures state { (after : Snapshot ℕ)
+        → AllAnswered counting (snapshot 3 (codes "x") 1) (noop ∷ noop ∷ []) after
+        → after.state ≡ 5 }
+    ensures written { (after : Snapshot ℕ)
+        → AllAnswered counting (snapshot 3 (codes "x") 1) (noop ∷ noop ∷ []) after
+        → Appends (Some (codes "x")) after.output.written (codes "200 OK\r\n200 OK\r\n") }
+    ensures flushed { (after : Snapshot ℕ)
+        → AllAnswered counting (snapshot 3 (codes "x") 1) (noop ∷ noop ∷ []) after
+        → after.output.unflushed ≡ 0 }
+    ensures quiet { (after : Snapshot ℕ)
+        → AllAnswered counting (snapshot 3 (codes "x") 1) (noop ∷ noop ∷ []) after
+        → (after.output.failures ≡ 0) × (after.failures ≡ 0) }
+{}
+
+/// The handler took the event. Of its reply the start was written, and only this part may not be
+/// flushed.
+pub fn a_write_failed_at_a_reply()
+    ensures written { (after : Snapshot ℕ)
+        → WriteFailed counting (snapshot 3 (codes "x") 1) (noop ∷ []) after
+        → (part : Bytes) × Begins (codes "200 OK\r\n") part
+        × Appends (Some (codes "x")) after.output.written part
+        × (after.output.unflushed ≤ 1 + length part) }
+    ensures state { (after : Snapshot ℕ)
+        → WriteFailed counting (snapshot 3 (codes "x") 1) (noop ∷ []) after → after.state ≡ 4 }
+    ensures failed { (after : Snapshot ℕ)
+        → WriteFailed counting (snapshot 3 (codes "x") 1) (noop ∷ []) after
+        → (0 < after.output.failures) × (after.failures ≡ 0) }
+{}
+
+/// The handler failed at the event, with a fault that its law allows. Nothing was written.
+pub fn the_handler_failed_at_an_event()
+    ensures fault { (after : Snapshot ℕ) (fault : Fault)
+        → HandlerFailed counting (snapshot 3 (codes "x") 1) (noop ∷ []) after fault
+        → fault ≡ out_of_memory }
+    ensures written { (after : Snapshot ℕ) (fault : Fault)
+        → HandlerFailed counting (snapshot 3 (codes "x") 1) (noop ∷ []) after fault
+        → Appends (Some (codes "x")) after.output.written [] × (after.output.unflushed ≤ 1) }
+    ensures failed { (after : Snapshot ℕ) (fault : Fault)
+        → HandlerFailed counting (snapshot 3 (codes "x") 1) (noop ∷ []) after fault
+        → (0 < after.failures) × (after.output.failures ≡ 0) }
+{}
+
+/// An allocation failed: the handler took the event or not. Without events, it is in its state as
+/// before.
+pub fn an_allocation_failed()
+    ensures state { (after : Snapshot ℕ)
+        → RanOutOfMemory counting (snapshot 3 (codes "x") 1) (noop ∷ []) after
+        → (after.state ≡ 3) ⊎ (after.state ≡ 4) }
+    ensures no_event { (after : Snapshot ℕ)
+        → RanOutOfMemory counting (snapshot 3 (codes "x") 1) [] after
+        → (after.state ≡ 3) × Appends (Some (codes "x")) after.output.written []
+        × (after.output.unflushed ≤ 1) }
+    ensures quiet { (after : Snapshot ℕ)
+        → RanOutOfMemory counting (snapshot 3 (codes "x") 1) (noop ∷ []) after
+        → (after.output.failures ≡ 0) × (after.failures ≡ 0) }
+{}
+
+/// What may be unflushed, and what a text begins with.
+pub fn flushes_and_beginnings()
+    ensures no_text { (unflushed : ℕ) → Flushed [] (codes "ab") 1 unflushed → unflushed ≤ 3 }
+    ensures a_text { (unflushed : ℕ) → Flushed (codes "x") (codes "ab") 1 unflushed
+        → unflushed ≤ 2 }
+    ensures other_bytes { Begins (codes "ab") (codes "b") → ⊥ }
+{}
+
+/// An engine at work that is fed the end of a line and the start of the next.
+pub fn an_engine_takes_a_line()
+    ensures leaves { (s : ℕ) (after : EngineState)
+        → Leaves counting (record { incomplete = codes "NO"; left = 2; failed = false; tests = 2 })
+        (codes "OP\r\nP") 3 s after
+        → (s ≡ 4) × (after.failed ≡ false) × (after.incomplete ≡ codes "P") × (after.left ≡ 1) }
+    ensures saturating_u64 { (saturating_u64 5 ≡ 5) × (saturating_u64 (2 ^ 64) ≡ 2 ^ 64 - 1) }
+{}
+
+/// Which errors `feed` returns, and what each one says.
+pub fn errors_of_feed()
+    ensures write { (before after : Snapshot ℕ) (error : _)
+        → RunEnded counting before (noop ∷ []) after (ServeError.Write error)
+        → WriteFailed counting before (noop ∷ []) after }
+    ensures write_zero { (before after : Snapshot ℕ)
+        → RunEnded counting before (noop ∷ []) after ServeError.WriteZero
+        → WriteFailed counting before (noop ∷ []) after }
+    ensures handler { (before after : Snapshot ℕ) (error : Parts)
+        → RunEnded counting before (noop ∷ []) after (ServeError.Handler error)
+        → HandlerFailed counting before (noop ∷ []) after (fault_of error) }
+    ensures memory { (before after : Snapshot ℕ)
+        → RunEnded counting before (noop ∷ []) after ServeError.OutOfMemory
+        → RanOutOfMemory counting before (noop ∷ []) after }
+    ensures stopped { (before after : Snapshot ℕ)
+        → RunEnded counting before (noop ∷ []) after ServeError.Stopped → ⊥ }
+    ensures reads { (error : _) → ReadsNothing {T = ℕ} (Err (ServeError.Read error)) → ⊥ }
+    ensures many_reads { ReadsNothing {T = ℕ} (Err ServeError.TooManyReads) → ⊥ }
+    // the clauses `write`, `handler` and `memory` of `feed` promise what they say at these errors
+    ensures on_write { (error : _) → OnWrite {T = ℕ} (Err (ServeError.Write error)) ⊥ → ⊥ }
+    ensures on_write_zero { OnWrite {T = ℕ} (Err ServeError.WriteZero) ⊥ → ⊥ }
+    ensures on_handler { (error : Parts) (fault : Fault)
+        → OnHandler {T = ℕ} (Err (ServeError.Handler error)) (λ found. found ≡ fault)
+        → fault_of error ≡ fault }
+    ensures on_memory { OnMemory {T = ℕ} (Err ServeError.OutOfMemory) ⊥ → ⊥ }
+{}
