@@ -1,2 +1,2 @@
-pub mod Forwarding
 pub mod NextNoop
+pub mod Forwarding

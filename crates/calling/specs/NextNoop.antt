@@ -1,5 +1,5 @@
 -- What is made of an answer of `decode` where only NOOP is known.
-use Rattle.std.specs.Prelude.{◌≡◌, ◌≢◌, ◌⊎◌, ◌↔◌, ⊥, Bool, false, IsTrue, Option, Some, None, Result, Ok, Err}
+use Rattle.std.specs.Prelude.{◌≡◌, ◌≢◌, ◌⊎◌, ◌↔◌, Bool, false, IsTrue, Option, Some, None, Result, Ok, Err}
 use Rattle.unftp_control.specs.CommandMeaning.{command_of}
 use Rattle.unftp_control.specs.Decoding.{Decoded}
 use Rattle.unftp_control.specs.ErrorMeaning.{fault_of}

@@ -7,7 +7,7 @@ ghost use Rattle.unftp_control.specs.FtpReply.{CodeAndMsg, encoded};
 
 use std::alloc::Global;
 use unftp_control::codecs::FtpCodec;
-use unftp_control::command::Command;
+use unftp_control::command::{Command, same_commands};
 use unftp_control::error::{ControlChanError, ControlChanErrorKind};
 use unftp_control::reply::{Reply, ReplyCode};
 
@@ -25,7 +25,13 @@ pub fn next_is_noop(
 {
     match codec.decode(alloc, buf) {
         Ok(None) => Ok(None),
-        Ok(Some(command)) => Ok(Some(command == Command::Noop)),
+        Ok(Some(command)) => {
+            // a law, for the proof: commands are equal where they mean the same
+            same_commands();
+            let is_noop = command == Command::Noop;
+            drop(command);
+            Ok(Some(is_noop))
+        }
         // the line is still in `buf`, and can be decoded once there is memory
         Err(error) if *error.kind() == ControlChanErrorKind::OutOfMemory => Err(error),
         // the line is refused, and gone

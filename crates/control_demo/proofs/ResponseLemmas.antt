@@ -10,7 +10,7 @@ use Rattle.unftp_control.specs.CommandMeaning.{command_of}
 use Rattle.unftp_control.specs.Facts.{IsFacts, IsFactsReply, facts_reply}
 use Rattle.unftp_control.specs.declared.command.Command.{Command}
 use Rattle.unftp_control.specs.declared.command.Command.TheVariants as command
-use Rattle.unftp_control_commands.proofs.OneText.{IsFacts-unique}
+use Rattle.unftp_control_commands.proofs.FactTextLemmas.{IsFacts-unique}
 use Rattle.control_demo.specs.Sample.{sample_facts, sample_text}
 use Rattle.control_demo.specs.Responses.{command_reply, not_implemented}
 
