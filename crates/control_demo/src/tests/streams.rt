@@ -41,8 +41,8 @@ impl Read for Pieces<'_> {
         }
         self.turns -= 1;
         let n = buf.len().min(self.most.max(1)).min(self.rest.len());
-        let (given, rest) = self.rest.split_at(n);
-        buf[..n].copy_from_slice(given);
+        let (taken, rest) = self.rest.split_at(n);
+        buf[..n].copy_from_slice(taken);
         self.rest = rest;
         Ok(n)
     }
@@ -104,8 +104,8 @@ impl Write for Room {
         if (n == 0 && self.fails) || (self.is_wary && self.unflushed > 0) {
             return Err(io::Error::from(ErrorKind::Other));
         }
-        let (given, _) = buf.split_at(n);
-        self.held.extend_from_slice(given)?;
+        let (taken, _) = buf.split_at(n);
+        self.held.extend_from_slice(taken)?;
         self.room -= n;
         self.most = self.most.saturating_add(self.step);
         self.unflushed = self.unflushed.saturating_add(n);
