@@ -8,8 +8,8 @@ use Rattle.unftp_control.specs.WriteCommandError.TheVariants as write
 use Rattle.calling.specs.declared.proxy.ForwardError.{ForwardError}
 use Rattle.calling.specs.declared.proxy.ForwardError.TheVariants.{Refused, Unwritten}
 
--- It is refused for that reason, or memory ran out. `NoLine` comes for no line whose one LF is its
--- last byte.
+-- It is refused for that reason, or an allocation failed. `NoLine` never comes for a line whose
+-- only LF is its last byte.
 abbrev pub IsReason : Bytes → ForwardError → Type 0
 IsReason line (Refused kind) = Refuses (outcome line) kind
 IsReason line (Unwritten write.NoLine) = ¬ IsLine line

@@ -3,12 +3,12 @@ use Rattle.std.specs.Prelude.{◌≡◌, ◌≢◌, ◌⊎◌, ◌↔◌, Bool, 
 use Rattle.unftp_control.specs.CommandMeaning.{command_of}
 use Rattle.unftp_control.specs.Decoding.{Decoded}
 use Rattle.unftp_control.specs.ErrorMeaning.{fault_of}
-use Rattle.unftp_control.specs.ErrorParts.{Parts}
+use Rattle.unftp_control.specs.ErrorParts.{KindAndSource}
 use Rattle.unftp_control.specs.Events.{OutOfMemory}
 use Rattle.unftp_control.specs.FtpCommand.{Noop}
 
 -- No line; whether the command is NOOP; out of memory, as it is; and any other refusal is no NOOP.
-abbrev pub IsNextNoop : Decoded → Result (Option Bool) Parts → Type 0
+abbrev pub IsNextNoop : Decoded → Result (Option Bool) KindAndSource → Type 0
 IsNextNoop (Ok None) result = result ≡ Ok None
 IsNextNoop (Ok (Some command)) (Ok (Some is_noop)) = IsTrue is_noop ↔ (command_of command ≡ Noop)
 IsNextNoop (Ok (Some command)) result = ⊥

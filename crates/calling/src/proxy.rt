@@ -13,11 +13,11 @@ use unftp_control::write::{WriteCommandError, write_command};
 /// Why a line is not forwarded.
 #[derive(Debug, Drop, Error)]
 pub enum ForwardError {
-    /// It is no command, or memory ran out for the command.
+    /// It is no command, or an allocation for the command failed.
     #[error("{0}")]
     Refused(ParseError),
-    /// Its command has no line, which is so for no line whose one line feed is its last byte; or
-    /// memory ran out for the line.
+    /// Its command has no line, or an allocation for the line failed. The first never happens for a
+    /// line whose only line feed is its last byte.
     #[error("{0}")]
     Unwritten(WriteCommandError),
 }

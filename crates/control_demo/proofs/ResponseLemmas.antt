@@ -35,10 +35,10 @@ other-command _ auth prot feat epsv help mode opts stru mlst noop quit site = re
 
 sample_reply : (modified : Option Timestamp) (path : Bytes) (reply : FtpReply) → IsFacts (sample_facts modified) sample_text
     → IsFactsReply (sample_facts modified) path reply → reply ≡ facts_reply sample_text path
-sample_reply modified path reply known told =
-    told.2 ∙ ap (λ facts. facts_reply facts path) (IsFacts-unique (sample_facts modified) told.0 sample_text told.1 known)
+sample_reply modified path reply known facts_of_sample =
+    facts_of_sample.2 ∙ ap (λ facts. facts_reply facts path) (IsFacts-unique (sample_facts modified) facts_of_sample.0 sample_text facts_of_sample.1 known)
 
 pub reply_of_sample : {E : Type 0} (modified : Option Timestamp) (path : Bytes) (answer : Result Reply E) → IsFacts (sample_facts modified) sample_text
     → IfOk answer (λ reply. IsFactsReply (sample_facts modified) path (reply_of reply)) → IfOk answer (λ reply. reply_of reply ≡ facts_reply sample_text path)
-reply_of_sample modified path (Ok reply) known told = sample_reply modified path (reply_of reply) known told
-reply_of_sample modified path (Err error) known told = tt
+reply_of_sample modified path (Ok reply) known facts_of_sample = sample_reply modified path (reply_of reply) known facts_of_sample
+reply_of_sample modified path (Err error) known facts_of_sample = tt

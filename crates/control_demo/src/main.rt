@@ -18,8 +18,8 @@ use std::io::{Read, Write};
 use std::process::ExitCode;
 use unftp_control::serve::{Input, Output, ServeError, Served, serve};
 
-/// Answers the lines that the reader gives, until it gives no more. Each reply is written whole and flushed before the next line is
-/// taken, and before more is read.
+/// Answers the lines that the reader gives, until it gives no more. Each reply is written whole and
+/// flushed before the next line is taken, and before more is read.
 pub fn run<R: Read, W: Write>(
     alloc: Global,
     reader: &mut Input<R>,

@@ -116,7 +116,8 @@ fn not_implemented(alloc: Global) -> Result<Reply, ControlChanError>
     Reply::new(alloc, ReplyCode::CommandNotImplemented, "Not implemented")
 }
 
-/// The response to a line that is no command: why the parser refused it, or else the kind of the error.
+/// The response to a line that is no command: why the parser refused it, or else the kind of the
+/// error.
 fn answer_refusal(alloc: Global, error: ControlChanError) -> Result<Reply, ControlChanError>
     ensures ok { IfOk result (λ reply. reply_of reply ≡ event_reply (Refused (fault_of error))) }
     ensures err { IfErr result (λ error. fault_of error ≡ out_of_memory) }

@@ -1,8 +1,8 @@
 //! The control protocol layer of an FTP server: bytes of a control connection come in, and typed
 //! commands or named refusals come out; replies go in, and their bytes come out (RFC 959).
 //!
-//! The modules are crates of their own, which this one re-exports, with the crate `bytes` of the
-//! fields that are raw bytes.
+//! The modules are crates of their own, which this one re-exports (`serve` re-exports the engine's
+//! too), with the crate `bytes` of the fields that are raw bytes.
 #![tactic(auto)]
 
 pub mod write;

@@ -2,18 +2,18 @@
 use Rattle.std.proofs.Common.{◌≡◌, ℕ, List, [], ◌∷◌, ◌++◌, map, flat_map, decimal, string_bytes, String, Global, refl, sym, ap, ◌∙◌, append_assoc}
 use Rattle.std.proofs.lemmas.List.{map-append}
 use Rattle.unftp_control_defs.specs.Bytes.{Bytes, DASH}
-use Rattle.unftp_control_defs.specs.FtpReply.{MultiLine, encoded, several, spaced_line}
+use Rattle.unftp_control_defs.specs.FtpReply.{MultiLine, encoded, lines_after_code, spaced_line}
 use Rattle.unftp_control_codecs.specs.Encoding.{padded_line, lines_before_last}
 
 abbrev ending : ℕ → Bytes → Bytes
 ending code last = decimal code ++ spaced_line last
 
 -- after the code and the dash
-several-front : (code : ℕ) (line : Bytes) (lines : List Bytes) (last : Bytes)
-    → several code line (lines ++ last ∷ []) ≡ padded_line line ++ (flat_map padded_line lines ++ ending code last)
-several-front code line [] last = refl
-several-front code line (next ∷ lines) last =
-    ap (λ t. padded_line line ++ t) (several-front code next lines last ∙ sym (append_assoc (padded_line next) (flat_map padded_line lines) (ending code last)))
+lines_after_code-front : (code : ℕ) (line : Bytes) (lines : List Bytes) (last : Bytes)
+    → lines_after_code code line (lines ++ last ∷ []) ≡ padded_line line ++ (flat_map padded_line lines ++ ending code last)
+lines_after_code-front code line [] last = refl
+lines_after_code-front code line (next ∷ lines) last =
+    ap (λ t. padded_line line ++ t) (lines_after_code-front code next lines last ∙ sym (append_assoc (padded_line next) (flat_map padded_line lines) (ending code last)))
 
 lines_before_last-back : (code : ℕ) (line : Bytes) (lines : List Bytes) (last : Bytes)
     → decimal code ++ DASH ∷ (padded_line line ++ (flat_map padded_line lines ++ ending code last)) ≡ lines_before_last code (line ∷ lines) ++ ending code last
@@ -23,8 +23,8 @@ lines_before_last-back code line lines last =
 
 encoded-lines_before_last : (code : ℕ) (front : List Bytes) (last : Bytes) → encoded (MultiLine code (front ++ last ∷ [])) ≡ lines_before_last code front ++ ending code last
 encoded-lines_before_last code [] last = refl
-encoded-lines_before_last code (line ∷ []) last = ap (λ t. decimal code ++ DASH ∷ t) (several-front code line [] last) ∙ lines_before_last-back code line [] last
-encoded-lines_before_last code (line ∷ next ∷ lines) last = ap (λ t. decimal code ++ DASH ∷ t) (several-front code line (next ∷ lines) last) ∙ lines_before_last-back code line (next ∷ lines) last
+encoded-lines_before_last code (line ∷ []) last = ap (λ t. decimal code ++ DASH ∷ t) (lines_after_code-front code line [] last) ∙ lines_before_last-back code line [] last
+encoded-lines_before_last code (line ∷ next ∷ lines) last = ap (λ t. decimal code ++ DASH ∷ t) (lines_after_code-front code line (next ∷ lines) last) ∙ lines_before_last-back code line (next ∷ lines) last
 
 abbrev Text : Type 0
 Text = String Global

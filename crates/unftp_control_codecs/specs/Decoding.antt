@@ -4,7 +4,7 @@ use Rattle.unftp_control_defs.specs.Bytes.{Bytes}
 use Rattle.unftp_control_defs.specs.Events.{FtpEvent, Command, Refused, event_of, OutOfMemory}
 use Rattle.unftp_control_command.specs.declared.Command.{Command as RustCommand}
 use Rattle.unftp_control_command.specs.CommandMeaning.{command_of}
-use Rattle.unftp_control_error.specs.ErrorParts.{Parts}
+use Rattle.unftp_control_error.specs.ErrorParts.{KindAndSource}
 use Rattle.unftp_control_error.specs.ErrorMeaning.{fault_of}
 use Rattle.unftp_control_defs.specs.Outcome.{outcome}
 use Rattle.unftp_control_line_parser.specs.Memory.{MayTakeMemory}
@@ -12,7 +12,7 @@ use Rattle.unftp_control_codecs.specs.Codec.{Codec}
 use Rattle.unftp_control_codecs.specs.LineFeed.{line_feed_from}
 
 abbrev pub Decoded : Type 0
-Decoded = Result (Option RustCommand) Parts
+Decoded = Result (Option RustCommand) KindAndSource
 
 -- the event that is returned, if any
 abbrev pub returned_event : Decoded → Option FtpEvent
@@ -26,13 +26,13 @@ IsOutOfMemory (Ok command) = ⊥
 IsOutOfMemory (Err error) = (fault_of error).kind ≡ OutOfMemory
 
 -- There is no line feed: the buffer stays, and the next search begins at its end. Each byte from
--- the place on was scanned.
+-- the scan offset on was scanned.
 pub record FindsNone (old new : Codec) (before after : Bytes) : Type 0 where
   pub kept : after ≡ before
   pub place : new.place ≡ length before
   pub tests : new.tests ≡ old.tests + (length before - old.place)
 
--- The line that ends at k leaves the front of the buffer.
+-- The line that ends at k leaves the start of the buffer.
 pub record CutsLine (k : ℕ) (old new : Codec) (before after : Bytes) : Type 0 where
   pub cut : after ≡ drop (k + 1) before
   pub place : new.place ≡ 0

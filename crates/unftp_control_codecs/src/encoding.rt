@@ -38,7 +38,7 @@ fn room_for(text: &str) -> usize {
     text.len().saturating_add(ROOM_BESIDE_TEXT)
 }
 
-/// The same of all lines of a reply.
+/// At least as many bytes as all lines of a reply have.
 fn room_for_all(lines: &[String]) -> usize {
     let mut room = ROOM_BESIDE_TEXT;
     for line in lines {

@@ -1,4 +1,4 @@
-//! Cuts lines from the front of a buffer, and appends replies to the end of one.
+//! Takes lines from the start of a buffer, and appends replies to the end of one.
 #![tactic(auto)]
 
 ghost use Rattle.std.specs.Prelude.{◌≡◌, ◌↔◌, ◌+◌, ◌≤◌, IsTrue, ◌++◌, drop, vec_len, IsOk, OnOk, OnErr, IfErr};
@@ -12,7 +12,7 @@ mod encoding;
 mod scan;
 
 use crate::encoding::append_reply;
-use crate::scan::{Scan, Tests};
+use crate::scan::{Scan, ScanCount};
 use std::alloc::Global;
 use std::marker::Model;
 use unftp_control_command::Command;
@@ -23,12 +23,12 @@ use unftp_control_reply::Reply;
 
 /// Decodes the commands of a control connection, and encodes its replies.
 ///
-/// It keeps the place in its buffer where the search for a line feed goes on, so that no byte is
-/// scanned twice.
+/// It keeps the scan offset of its buffer, where the search for a line feed goes on, so that no
+/// byte is scanned twice. `place` returns it.
 #[derive(Drop)]
 pub struct FtpCodec {
     place: usize,
-    tests: Tests,
+    tests: ScanCount,
 }
 
 impl Model for FtpCodec {
@@ -40,18 +40,19 @@ impl Model for FtpCodec {
 }
 
 impl FtpCodec {
-    /// A codec at place 0 that has scanned nothing.
+    /// A codec whose scan offset is 0 and which has scanned nothing.
     pub fn new() -> FtpCodec
         ensures place { result.place ≡ 0 }
         ensures tests { result.tests ≡ 0 }
     {
         FtpCodec {
             place: 0,
-            tests: Tests::none(),
+            tests: ScanCount::none(),
         }
     }
 
-    /// Where the next search for a line feed begins, in bytes from the front of the buffer.
+    /// The scan offset: where the next search for a line feed begins, in bytes from the start of
+    /// the buffer.
     pub fn place(&self) -> usize
         ensures { result ≡ self.now.place }
     {
@@ -65,15 +66,16 @@ impl FtpCodec {
         self.tests.count()
     }
 
-    /// Takes the first line from the front of `buf` and answers its command, or `None` while no
+    /// Takes the first line from the start of `buf` and returns its command, or `None` while no
     /// line is complete (RFC 959, section 5.3). A line ends at its line feed.
     ///
-    /// The place has to be within `buf`, as it is after each call, also where `buf` has grown at
-    /// its end since. The bytes before the place are not scanned again.
+    /// The scan offset has to be within `buf`, as it is after each call, also where `buf` has grown
+    /// at its end since. The bytes before it are not scanned again.
     ///
-    /// A line that is no command is refused, by the parser's error as source: it leaves `buf` as
-    /// any other line does, and what follows it stays. When out of memory, with the kind
-    /// `OutOfMemory`, `buf` and the place are as before.
+    /// A line that is no command is refused with `Utf8Error` (the parser's `InvalidUtf8`) or
+    /// `InvalidCommand` (its `InvalidCommand` and `InvalidEol`), with the parser's error as source:
+    /// it leaves `buf` as any other line does, and what follows it stays. When out of memory, with
+    /// the kind `OutOfMemory`, `buf` and the scan offset are as before.
     pub fn decode(
         &mut self,
         alloc: Global,
@@ -122,7 +124,7 @@ impl FtpCodec {
     }
 }
 
-/// Removes this many bytes from the front of the buffer. The rest is moved once, where `drain`
+/// Removes this many bytes from the start of the buffer. The rest is moved once, where `drain`
 /// would turn the whole buffer.
 fn remove_front(buf: &mut Vec<u8>, count: usize)
     requires { count ≤ vec_len buf.old }

@@ -9,11 +9,11 @@ const LINE_FEED: u8 = b'\n';
 
 /// How many bytes were scanned, a number that only contracts see.
 #[derive(Drop)]
-pub(crate) struct Tests {
+pub(crate) struct ScanCount {
     scanned: Count,
 }
 
-impl Model for Tests {
+impl Model for ScanCount {
     ghost use Rattle.std.specs.Prelude.{ℕ};
 
     ghost Value = { ℕ };
@@ -21,17 +21,17 @@ impl Model for Tests {
     ghost view = { λ tests. tests.scanned };
 }
 
-impl Tests {
-    /// No byte so far.
-    pub(crate) fn none() -> Tests
+impl ScanCount {
+    /// A count of 0.
+    pub(crate) fn none() -> ScanCount
         ensures { result ≡ 0 }
     {
-        Tests {
+        ScanCount {
             scanned: Count::new(),
         }
     }
 
-    /// Their number.
+    /// The number of bytes scanned.
     pub(crate) fn count(&self) -> Count
         ensures { result ≡ self.now }
     {
@@ -46,17 +46,17 @@ impl Tests {
     }
 }
 
-/// A slice that is scanned byte by byte: it is private, and each byte read from it raises the count
-/// by one.
+/// A slice that is scanned byte by byte: it is private, and each byte read from it increments the
+/// count.
 #[derive(Drop)]
 pub(crate) struct Scan<'a, 'c> {
     bytes: &'a [u8],
-    tests: &'c mut Tests,
+    tests: &'c mut ScanCount,
 }
 
 impl<'a, 'c> Scan<'a, 'c> {
     /// Scans these bytes, and counts each that it scans here.
-    pub(crate) fn over(bytes: &'a [u8], tests: &'c mut Tests) -> Scan<'a, 'c>
+    pub(crate) fn over(bytes: &'a [u8], tests: &'c mut ScanCount) -> Scan<'a, 'c>
         ensures bytes { result.bytes.now ≡ bytes.now }
         ensures tests { result.tests.now ≡ tests.old }
         ensures same_reference { result.tests.ghost_name ≡ tests.entry.ghost_name }

@@ -52,8 +52,8 @@ command_of (rust.Md5 v) = spec.Md5 (string_bytes v)
 command_of (rust.Site v0 v1) = spec.Site (string_bytes v0) (string_bytes v1)
 command_of (rust.Other v0 v1) = spec.Other (string_bytes v0) (string_bytes v1)
 
--- What Display writes of a command of PASS, whatever its password. Of the other commands nothing is
--- said.
+-- What Display writes of a command of PASS, whatever its password. The text of the other commands
+-- is not specified.
 abbrev pub displayed : Command → Option Bytes
 displayed (rust.Pass password) = Some (codes "Pass { password: Password { bytes: ******* } }")
 displayed command = None

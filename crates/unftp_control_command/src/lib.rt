@@ -11,8 +11,9 @@ use std::fmt;
 pub use unftp_control_defs::parameters::{AuthParam, ModeParam, Opt, ProtParam, StruParam};
 use unftp_control_password::Password;
 
-/// A command that a client sends on the control connection. Its texts are the client's bytes with
-/// each ill-formed part of UTF-8 replaced by U+FFFD.
+/// A command that a client sends on the control connection. `parse` fills a `String` with the bytes
+/// of the value, each ill-formed part of UTF-8 replaced by U+FFFD, and `Bytes` with the bytes as
+/// they are; CR NUL is one CR in both (RFC 854).
 #[derive(Debug, Drop, PartialEq, Eq)]
 pub enum Command {
     /// USER: who logs in (RFC 959, section 4.1.1).
@@ -55,7 +56,8 @@ pub enum Command {
     Noop,
     /// PASV: listen for the data connection (RFC 959, section 4.1.2).
     Pasv,
-    /// EPSV: the same over any protocol (RFC 2428, section 3). Its parameter is ignored.
+    /// EPSV: listen for the data connection, over IPv4 or IPv6 (RFC 2428, section 3). Its parameter
+    /// is ignored.
     Epsv,
     /// PORT: connect to the client for data (RFC 959, section 4.1.2).
     Port {
@@ -79,9 +81,9 @@ pub enum Command {
     },
     /// LIST: list a directory for people (RFC 959, section 4.1.3).
     List {
-        /// Always none: option words are dropped.
+        /// None in a command from `parse`, which drops option words.
         options: Option<String>,
-        /// What to list; never an empty path.
+        /// What to list; in a command from `parse` not empty.
         path: Option<String>,
     },
     /// NLST: list the names in a directory (RFC 959, section 4.1.3).
@@ -184,7 +186,7 @@ pub enum Command {
         /// The file; not empty.
         file: String,
     },
-    /// SITE with any other name (RFC 959, section 4.1.3).
+    /// SITE with any other subcommand (RFC 959, section 4.1.3).
     Site {
         /// The subcommand, its ASCII letters in upper case; it may be empty.
         command: String,
@@ -204,7 +206,8 @@ pub enum Command {
 macro_rules! clone_of {
     ($command:expr, $($variant:ident $({ $($field:ident),* })?),* $(,)?) => {
         match $command {
-            $(Command::$variant $({ $($field),* })? => Ok(Command::$variant $({ $($field: $field.clone()?),* })?),)*
+            $(Command::$variant $({ $($field),* })? =>
+                Ok(Command::$variant $({ $($field: $field.clone()?),* })?),)*
         }
     };
 }

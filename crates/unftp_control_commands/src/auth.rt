@@ -34,8 +34,9 @@ impl Auth {
         Auth { protocol }
     }
 
-    /// Begins TLS where it is configured and asked for. It fails only when out of memory, with the
-    /// kind `OutOfMemory`.
+    /// The reply, and what the session has to do once it is sent (RFC 4217, section 4): 234 and TLS
+    /// on the control connection where TLS is configured and asked for, 504 for SSL, and 502 where
+    /// TLS is not configured. It fails only when out of memory, with the kind `OutOfMemory`.
     pub fn reply(
         &self,
         alloc: Global,

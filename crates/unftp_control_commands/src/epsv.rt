@@ -29,7 +29,8 @@ impl Epsv {
         Epsv {}
     }
 
-    /// Names the port. It fails only when out of memory, with the kind `OutOfMemory`.
+    /// 229 with the port, or 502 where EPSV can't name one (RFC 2428, section 3). It fails only
+    /// when out of memory, with the kind `OutOfMemory`.
     pub fn reply(&self, alloc: Global, passive: Passive) -> Result<Reply, ControlChanError>
         ensures ok { IfOk result (λ reply. reply_of reply ≡ epsv_reply passive) }
         ensures err { IfErr result (λ error. fault_of error ≡ out_of_memory) }
@@ -45,8 +46,8 @@ impl Epsv {
     }
 }
 
-/// The reply that names a port that listens. It fails only when out of memory, with the kind
-/// `OutOfMemory`.
+/// 229 with a port that listens (RFC 2428, section 3). It fails only when out of memory, with the
+/// kind `OutOfMemory`.
 pub fn make_epsv_reply(alloc: Global, port: u16) -> Result<Reply, ControlChanError>
     ensures ok { IfOk result (λ reply. reply_of reply ≡ port_reply port) }
     ensures err { IfErr result (λ error. fault_of error ≡ out_of_memory) }

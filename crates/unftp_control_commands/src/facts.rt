@@ -68,7 +68,7 @@ fn modify_text(alloc: Global, instant: Timestamp) -> Result<Option<String>, Allo
     Ok(Some(text))
 }
 
-/// The same of an instant that may not be known.
+/// The second of UTC of an instant that may not be known, where its year is not before 0.
 fn modified_text(alloc: Global, modified: Option<Timestamp>) -> Result<Option<String>, AllocError>
     ensures { IfOk result (λ text. IsModified modified (option_map string_bytes text)) }
 {

@@ -15,8 +15,8 @@ use unftp_control_reply::{Reply, ReplyCode};
 pub struct Feat;
 
 impl Feat {
-    /// Lists the features, those of TLS, of restarts and of sums where they are on. It fails only
-    /// when out of memory, with the kind `OutOfMemory`.
+    /// 211 with the features (RFC 2389, section 3.2), those of TLS, REST STREAM and SITE MD5 where
+    /// they are on. It fails only when out of memory, with the kind `OutOfMemory`.
     pub fn reply(
         &self,
         alloc: Global,

@@ -15,7 +15,8 @@ use unftp_control_reply::{Reply, ReplyCode};
 pub struct Help;
 
 impl Help {
-    /// Says what the server runs on. It fails only when out of memory, with the kind `OutOfMemory`.
+    /// 214 with what the server runs on. It fails only when out of memory, with the kind
+    /// `OutOfMemory`.
     pub fn reply(&self, alloc: Global) -> Result<Reply, ControlChanError>
         ensures ok { IfOk result (λ reply. reply_of reply ≡ help_reply) }
         ensures err { IfErr result (λ error. fault_of error ≡ out_of_memory) }

@@ -45,9 +45,9 @@ impl Mlst {
         }
     }
 
-    /// Lists the facts of what was found and its path, which is the working directory where the
-    /// command has none; or the text of the fault that came in its place. It fails only when out of
-    /// memory, with the kind `OutOfMemory`.
+    /// 250 with the facts of what was found and its path, which is the working directory where the
+    /// command has none (RFC 3659, section 7); or 550 with the text of the fault that came in its
+    /// place. It fails only when out of memory, with the kind `OutOfMemory`.
     pub fn reply<M: Metadata>(
         &self,
         alloc: Global,

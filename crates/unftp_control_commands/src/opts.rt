@@ -33,7 +33,8 @@ impl Opts {
         Opts { option }
     }
 
-    /// Texts are always in UTF-8. It fails only when out of memory, with the kind `OutOfMemory`.
+    /// 200 for UTF-8 on, which it always is, and 504 for off (RFC 2389, section 4). It fails only
+    /// when out of memory, with the kind `OutOfMemory`.
     pub fn reply(&self, alloc: Global) -> Result<Reply, ControlChanError>
         ensures ok { IfOk result (λ reply. reply_of reply ≡ opts_reply self.now) }
         ensures err { IfErr result (λ error. fault_of error ≡ out_of_memory) }

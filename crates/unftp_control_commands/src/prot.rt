@@ -34,8 +34,9 @@ impl Prot {
         Prot { param }
     }
 
-    /// Switches TLS on data connections where it is configured. It fails only when out of memory,
-    /// with the kind `OutOfMemory`.
+    /// The reply, and what the session has to do once it is sent (RFC 4217, section 9): 200 and TLS
+    /// on data connections for `Private` and none for `Clear`, 504 for the other levels, and 502
+    /// where TLS is not configured. It fails only when out of memory, with the kind `OutOfMemory`.
     pub fn reply(
         &self,
         alloc: Global,

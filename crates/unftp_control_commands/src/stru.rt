@@ -33,8 +33,8 @@ impl Stru {
         Stru { params }
     }
 
-    /// Takes only the file structure. It fails only when out of memory, with the kind
-    /// `OutOfMemory`.
+    /// 200 for the file structure, and 504 for any other (RFC 959, section 4.1.2). It fails only
+    /// when out of memory, with the kind `OutOfMemory`.
     pub fn reply(&self, alloc: Global) -> Result<Reply, ControlChanError>
         ensures ok { IfOk result (λ reply. reply_of reply ≡ stru_reply self.now) }
         ensures err { IfErr result (λ error. fault_of error ≡ out_of_memory) }

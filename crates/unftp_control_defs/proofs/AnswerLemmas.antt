@@ -8,15 +8,15 @@ use Rattle.std.proofs.lemmas.Bool.{ltb-true, and_parts}
 use Rattle.unftp_control_defs.specs.Bytes.{Bytes, LF, Lacks}
 use Rattle.unftp_control_defs.specs.Paths.{path_of}
 use Rattle.unftp_control_defs.specs.Verbs.{upper}
-use Rattle.unftp_control_defs.specs.FtpCommand.{FtpCommand, Stat, List as Listing, Rest, Answer, Refusal, InvalidCommand, InvalidUtf8, IsMaybeUtf8, IsReal}
+use Rattle.unftp_control_defs.specs.FtpCommand.{FtpCommand, Stat, List as Listing, Rest, Answer, Refusal, InvalidCommand, InvalidUtf8, IsMaybeUtf8, HasTypedFields}
 use Rattle.unftp_control_defs.specs.Rules.{raw, without_parameter, any_text, some_text, maybe_text, unless_empty, chosen, mechanisms, auth, offset, listing}
-use Rattle.unftp_control_defs.specs.Canonical.{HasLine, IsNamed, IsOptional}
+use Rattle.unftp_control_defs.specs.Canonical.{HasLine, IsNonEmptyText, IsOptionalText}
 use Rattle.unftp_control_defs.proofs.LackLemmas.{Lacks-utf8_lossy, Lacks-path_of}
 use Rattle.unftp_control_defs.proofs.LossyLemmas.{IsUtf8-utf8_lossy, kept-utf8_lossy, IsUtf8-path_of}
 use Rattle.unftp_control_defs.proofs.CommandRoundTripLemmas.{some_text-some, unless_empty-some}
 
 abbrev pub IsSound : FtpCommand → Type 0
-IsSound command = HasLine command × IsReal command
+IsSound command = HasLine command × HasTypedFields command
 
 -- whatever command this makes of a value without LF is sound
 abbrev pub Gives : (Bytes → Answer) → Type 0
@@ -44,31 +44,31 @@ any_gives command each v meant h e = let text : Bytes = utf8_lossy v in sound (c
 pub without_parameter_gives : (command : FtpCommand) → IsSound command → Gives (without_parameter command)
 without_parameter_gives command is_sound v meant h e = sound command meant is_sound (passed (length v == 0) (Ok command) InvalidCommand meant e).1
 
-IsNamed-utf8_lossy : (v : Bytes) → v ≢ [] → Lacks LF v → IsNamed (utf8_lossy v)
-IsNamed-utf8_lossy v some h = (kept-utf8_lossy v some, Lacks-utf8_lossy v h)
+IsNonEmptyText-utf8_lossy : (v : Bytes) → v ≢ [] → Lacks LF v → IsNonEmptyText (utf8_lossy v)
+IsNonEmptyText-utf8_lossy v some h = (kept-utf8_lossy v some, Lacks-utf8_lossy v h)
 
 some_value : (b : ℕ) (v : Bytes) → b ∷ v ≢ []
 some_value b v e = cc
 
-pub some_gives : (command : Bytes → FtpCommand) → ((text : Bytes) → IsNamed text → IsUtf8 text → IsSound (command text)) → Gives (some_text command)
+pub some_gives : (command : Bytes → FtpCommand) → ((text : Bytes) → IsNonEmptyText text → IsUtf8 text → IsSound (command text)) → Gives (some_text command)
 some_gives command each [] meant h e = let refused : ◌≡◌ {A = Answer} (Err InvalidCommand) (Ok meant) = e in cc
 some_gives command each (b ∷ v) meant h e =
     let text : Bytes = utf8_lossy (b ∷ v) in
-    sound (command text) meant (each text (IsNamed-utf8_lossy (b ∷ v) (some_value b v) h) (IsUtf8-utf8_lossy (b ∷ v))) (sym (some_text-some command (b ∷ v) (some_value b v)) ∙ e)
+    sound (command text) meant (each text (IsNonEmptyText-utf8_lossy (b ∷ v) (some_value b v) h) (IsUtf8-utf8_lossy (b ∷ v))) (sym (some_text-some command (b ∷ v) (some_value b v)) ∙ e)
 
-IsOptional-unless_empty : (text : Bytes) → Lacks LF text → IsOptional (unless_empty text)
-IsOptional-unless_empty [] h = tt
-IsOptional-unless_empty (b ∷ text) h = subst IsOptional (sym (unless_empty-some (b ∷ text) (some_value b text))) (some_value b text, h)
+IsOptionalText-unless_empty : (text : Bytes) → Lacks LF text → IsOptionalText (unless_empty text)
+IsOptionalText-unless_empty [] h = tt
+IsOptionalText-unless_empty (b ∷ text) h = subst IsOptionalText (sym (unless_empty-some (b ∷ text) (some_value b text))) (some_value b text, h)
 
 IsMaybeUtf8-unless_empty : (text : Bytes) → IsUtf8 text → IsMaybeUtf8 (unless_empty text)
 IsMaybeUtf8-unless_empty [] utf8 = tt
 IsMaybeUtf8-unless_empty (b ∷ text) utf8 = subst IsMaybeUtf8 (sym (unless_empty-some (b ∷ text) (some_value b text))) utf8
 
-pub maybe_gives : (command : Option Bytes → FtpCommand) → ((text : Option Bytes) → IsOptional text → IsMaybeUtf8 text → IsSound (command text)) → Gives (maybe_text command)
+pub maybe_gives : (command : Option Bytes → FtpCommand) → ((text : Option Bytes) → IsOptionalText text → IsMaybeUtf8 text → IsSound (command text)) → Gives (maybe_text command)
 maybe_gives command each [] meant h e = sound (command None) meant (each None tt tt) e
 maybe_gives command each (b ∷ v) meant h e =
     let text : Bytes = utf8_lossy (b ∷ v) in
-    sound (command (Some text)) meant (each (Some text) (IsNamed-utf8_lossy (b ∷ v) (some_value b v) h) (IsUtf8-utf8_lossy (b ∷ v)))
+    sound (command (Some text)) meant (each (Some text) (IsNonEmptyText-utf8_lossy (b ∷ v) (some_value b v) h) (IsUtf8-utf8_lossy (b ∷ v)))
     (sym (ap (λ t. Ok (command (option_map utf8_lossy t))) (unless_empty-some (b ∷ v) (some_value b v))) ∙ e)
 
 -- one of a few commands
@@ -100,12 +100,12 @@ pub offset_gives : Gives (λ v. offset (utf8_lossy v))
 offset_gives v meant h e = offset_sound (utf8_lossy v) meant e
 
 pub stat_gives : Gives (λ v. Ok (Stat (unless_empty v)))
-stat_gives v meant h e = sound (Stat (unless_empty v)) meant (IsOptional-unless_empty v h, tt) e
+stat_gives v meant h e = sound (Stat (unless_empty v)) meant (IsOptionalText-unless_empty v h, tt) e
 
 pub list_gives : Gives (λ v. listing (utf8_lossy v))
 list_gives v meant h e =
     let text : Bytes = utf8_lossy v in
     let path : Bytes = path_of text in
-    let optional : IsOptional (unless_empty path) = IsOptional-unless_empty path (Lacks-path_of text (Lacks-utf8_lossy v h)) in
+    let optional : IsOptionalText (unless_empty path) = IsOptionalText-unless_empty path (Lacks-path_of text (Lacks-utf8_lossy v h)) in
     let utf8 : IsMaybeUtf8 (unless_empty path) = IsMaybeUtf8-unless_empty path (IsUtf8-path_of text (IsUtf8-utf8_lossy v)) in
     sound (Listing None (unless_empty path)) meant ((refl, optional), (tt, utf8)) e

@@ -4,14 +4,14 @@ use Rattle.unftp_control_defs.specs.Bytes.{Bytes, LF, CR, SP, Lacks}
 use Rattle.unftp_control_defs.specs.Lines.{IsLine}
 use Rattle.unftp_control_defs.specs.Values.{escaped}
 use Rattle.unftp_control_defs.specs.FtpCommand.{FtpCommand, Stru, Mode, List as Listing, Opts, Auth, Prot, Rest, Site, Other}
-use Rattle.unftp_control_defs.specs.Canonical.{spaced, spaced_unless_empty, with_optional, marked, site, canonical_body, canonical_line, HasLine, IsOptional}
+use Rattle.unftp_control_defs.specs.Canonical.{spaced, spaced_unless_empty, with_optional, with_option_end, site_body, canonical_body, canonical_line, HasLine, IsOptionalText}
 use Rattle.unftp_control_defs.specs.declared.parameters.AuthParam.TheVariants.{Ssl}
 use Rattle.unftp_control_defs.specs.declared.parameters.ModeParam.TheVariants.{Stream}
 use Rattle.unftp_control_defs.specs.declared.parameters.Opt.TheVariants.{Utf8}
 use Rattle.unftp_control_defs.specs.declared.parameters.ProtParam.TheVariants.{Clear}
 use Rattle.unftp_control_defs.specs.declared.parameters.StruParam.TheVariants.{File}
 use Rattle.unftp_control_defs.proofs.LackLemmas.{lacks, Lacks-test, Lacks-append, Lacks-escaped, Lacks-name, Lacks-decimal}
-use Rattle.unftp_control_defs.proofs.ListingLemmas.{Lacks-marked}
+use Rattle.unftp_control_defs.proofs.ListingLemmas.{Lacks-with_option_end}
 
 spaced_lacks : (word text : Bytes) → Lacks LF word → Lacks LF text → Lacks LF (spaced word text)
 spaced_lacks word text w h = Lacks-append LF word (SP ∷ escaped text) w ((λ e. omega arith), Lacks-escaped text h)
@@ -20,7 +20,7 @@ spaced_unless_empty_lacks : (word text : Bytes) → Lacks LF word → Lacks LF t
 spaced_unless_empty_lacks word [] w h = w
 spaced_unless_empty_lacks word (b ∷ text) w h = spaced_lacks word (b ∷ text) w h
 
-site_lacks : (name arguments : Bytes) → Lacks LF name → Lacks LF arguments → Lacks LF (site name arguments)
+site_lacks : (name arguments : Bytes) → Lacks LF name → Lacks LF arguments → Lacks LF (site_body name arguments)
 site_lacks [] [] n h = Lacks-test LF (codes "SITE") refl
 site_lacks [] (b ∷ arguments) n h = Lacks-append LF (codes "SITE ") (spaced_unless_empty [] (b ∷ arguments)) (Lacks-test LF (codes "SITE ") refl) (spaced_unless_empty_lacks [] (b ∷ arguments) n h)
 site_lacks (b ∷ name) arguments n h = Lacks-append LF (codes "SITE ") (spaced_unless_empty (b ∷ name) arguments) (Lacks-test LF (codes "SITE ") refl) (spaced_unless_empty_lacks (b ∷ name) arguments n h)
@@ -35,13 +35,13 @@ verb word text w h = spaced_lacks word text (Lacks-test LF word w) h
 bare : (word text : Bytes) → lacks LF word ≡ true → Lacks LF text → Lacks LF (spaced_unless_empty word text)
 bare word text w h = spaced_unless_empty_lacks word text (Lacks-test LF word w) h
 
-maybe : (word : Bytes) (text : Option Bytes) → lacks LF word ≡ true → IsOptional text → Lacks LF (with_optional word text)
+maybe : (word : Bytes) (text : Option Bytes) → lacks LF word ≡ true → IsOptionalText text → Lacks LF (with_optional word text)
 maybe word None w h = Lacks-test LF word w
 maybe word (Some text) w h = verb word text w h.1
 
-list_lacks : (options path : Option Bytes) → IsOptional path → Lacks LF (canonical_body (Listing options path))
+list_lacks : (options path : Option Bytes) → IsOptionalText path → Lacks LF (canonical_body (Listing options path))
 list_lacks options None optional = Lacks-test LF (codes "LIST") refl
-list_lacks options (Some path) named = verb (codes "LIST") (marked path) refl (Lacks-marked path named.1)
+list_lacks options (Some path) named = verb (codes "LIST") (with_option_end path) refl (Lacks-with_option_end path named.1)
 
 body_lacks : (command : FtpCommand) → HasLine command → Lacks LF (canonical_body command)
 body_lacks (Stru File) has_line = fixed (Stru File) refl

@@ -7,8 +7,8 @@ use Rattle.std.proofs.lemmas.Bool.{cases_Bool, and_from, le-leb}
 use Rattle.std.proofs.lemmas.Fmt.{decimal_digit, decimal_step}
 use Rattle.std.proofs.lemmas.Option.{same_Some, none-some}
 use Rattle.unftp_control_defs.specs.Bytes.{Bytes, LF, SP, DASH, crlf, Lacks}
-use Rattle.unftp_control_defs.specs.FtpReply.{FtpReply, Nothing, CodeAndMsg, MultiLine, padded, spaced_line, several as several_bytes, encoded, lines_as_read, reply_as_read, HasThreeDigits, IsPlain}
-use Rattle.unftp_control_defs.specs.ReplyReader.{LacksCrlf, with_crlf, SpellsCode, GoesOn, IsReply, bare, single, several, FrontReply, AllReplies, ReadsBack}
+use Rattle.unftp_control_defs.specs.FtpReply.{FtpReply, Nothing, CodeAndMsg, MultiLine, padded, spaced_line, lines_after_code as several_bytes, encoded, lines_as_read, reply_as_read, HasThreeDigits, IsPlain}
+use Rattle.unftp_control_defs.specs.ReplyReader.{LacksCrlf, with_crlf, SpellsCode, GoesOn, IsReply, code_only, single, several, FrontReply, AllReplies, ReadsBack}
 use Rattle.unftp_control_defs.proofs.LackLemmas.{Lacks-append}
 use Rattle.unftp_control_defs.proofs.ReplyUniqueLemmas.{AllReplies-unique}
 
@@ -133,7 +133,7 @@ module _ (code : ℕ) (three : HasThreeDigits code) (more : Bytes) where
 
   front_bare : FrontReply ((decimal code ++ crlf) ++ more) code ([] ∷ []) (length (decimal code ++ crlf))
   front_bare = front_from (decimal code) code (decimal code ∷ []) ([] ∷ []) (decimal code ++ crlf) more spells
-      (sym (append-nil (decimal code ++ crlf))) (no_crlf (decimal code) (lacks_digits (decimal code) code spells), tt) (bare refl refl)
+      (sym (append-nil (decimal code ++ crlf))) (no_crlf (decimal code) (lacks_digits (decimal code) code spells), tt) (code_only refl refl)
 
   front_several : (line next : Bytes) (lines : List Bytes) → AllByRecursion (Lacks LF) (line ∷ next ∷ lines)
       → FrontReply (encoded (MultiLine code (line ∷ next ∷ lines)) ++ more) code (lines_as_read (line ∷ next ∷ lines)) (length (encoded (MultiLine code (line ∷ next ∷ lines))))

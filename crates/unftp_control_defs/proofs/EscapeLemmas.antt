@@ -6,7 +6,7 @@ use Rattle.unftp_control_defs.specs.Bytes.{Bytes, LF, CR, SP, crlf, Lacks}
 use Rattle.unftp_control_defs.specs.Values.{Fresh, Plain, later_value, value_of, escaped}
 use Rattle.unftp_control_defs.specs.FtpCommand.{User}
 use Rattle.unftp_control_defs.specs.Rules.{raw}
-use Rattle.unftp_control_defs.specs.Outcome.{outcome, by_value}
+use Rattle.unftp_control_defs.specs.Outcome.{outcome, value_answer}
 use Rattle.unftp_control_defs.proofs.ValueLemmas.{return_step, byte_step, first_step}
 
 -- what is read of an escaped text and CR LF from some position on
@@ -33,10 +33,10 @@ pub value_of-escaped : (text : Bytes) → Lacks LF text → value_of (escaped te
 value_of-escaped [] h = refl
 value_of-escaped (b ∷ text) h = first_back b text h.0 (escaped_later text h.1) (cases_eq b CR)
 
-user_line : (parameter : Bytes) → outcome (codes "USER" ++ SP ∷ parameter) ≡ by_value (raw User) (value_of parameter)
+user_line : (parameter : Bytes) → outcome (codes "USER" ++ SP ∷ parameter) ≡ value_answer (raw User) (value_of parameter)
 unfolding is_utf8 chars lib.Utf8.encode
 user_line parameter = refl
 
 -- a name that is sent so is read back
 pub outcome-escaped : (name : Bytes) → Lacks LF name → outcome (codes "USER " ++ escaped name ++ crlf) ≡ Ok (User name)
-outcome-escaped name h = user_line (escaped name ++ crlf) ∙ ap (by_value (raw User)) (value_of-escaped name h)
+outcome-escaped name h = user_line (escaped name ++ crlf) ∙ ap (value_answer (raw User)) (value_of-escaped name h)

@@ -8,7 +8,7 @@ use Rattle.unftp_control_defs.specs.Bytes.{Bytes, LF, CR, SP, Lacks}
 use Rattle.unftp_control_defs.specs.Verbs.{is_separator}
 use Rattle.unftp_control_defs.specs.Values.{escaped}
 use Rattle.unftp_control_defs.specs.Paths.{path_of}
-use Rattle.unftp_control_defs.specs.Canonical.{IsName}
+use Rattle.unftp_control_defs.specs.Canonical.{IsUpperCaseName}
 use Rattle.unftp_control_defs.proofs.PathLemmas.{path_of-keeps}
 
 -- a test for texts that are written out
@@ -63,7 +63,7 @@ lacks_after_space (b ∷ front) path h = lacks_after_space front path h.1
 pub Lacks-path_of : (text : Bytes) → Lacks LF text → Lacks LF (path_of text)
 Lacks-path_of text h = path_of-keeps (Lacks LF) tt lacks_after_space text h
 
-pub Lacks-name : (name : Bytes) → IsName name → Lacks LF name
+pub Lacks-name : (name : Bytes) → IsUpperCaseName name → Lacks LF name
 Lacks-name [] h = tt
 Lacks-name (b ∷ name) h = ((λ e. false≢true (sym h.0.0 ∙ ap is_separator e)), Lacks-name name h.1)
 

@@ -4,7 +4,7 @@ use Rattle.std.specs.Bool.{⊤}
 use Rattle.unftp_control_defs.specs.Bytes.{Bytes, LF, Lacks}
 use Rattle.unftp_control_defs.specs.Lines.{IsLine}
 use Rattle.unftp_control_defs.specs.Verbs.{is_separator, verb_of, parameter_of}
-use Rattle.unftp_control_defs.specs.Values.{Piece, Return, Byte, spelled, value, End, Division, Reads, nothing, ended, ended_crlf, one_byte, divided, value_of}
+use Rattle.unftp_control_defs.specs.Values.{ValueUnit, Return, Byte, unit_bytes, unit_value, End, Division, Reads, nothing, ended, ended_crlf, one_byte, divided, value_of}
 use Rattle.unftp_control_defs.proofs.ValueLemmas.{Reads-value_of}
 use Rattle.unftp_control_defs.proofs.VerbLemmas.{Cut-verb_of}
 
@@ -36,12 +36,12 @@ some_end : (bytes end : Bytes) → end ≢ [] → bytes ++ end ≢ []
 some_end [] end some e = some e
 some_end (b ∷ bytes) end some e = cc
 
-units_lack : (units : List Piece) (end : Bytes) → end ≢ [] → EndsAtLf (flat_map spelled units ++ end) → Lacks LF (map value units)
+units_lack : (units : List ValueUnit) (end : Bytes) → end ≢ [] → EndsAtLf (flat_map unit_bytes units ++ end) → Lacks LF (map unit_value units)
 units_lack [] end some h = tt
 units_lack (Return ∷ units) end some h = ((λ e. omega arith), units_lack units end some h.1.1)
-units_lack (Byte b ∷ units) end some h = ((λ e. some_end (flat_map spelled units) end some (h.0 e)), units_lack units end some h.1)
+units_lack (Byte b ∷ units) end some h = ((λ e. some_end (flat_map unit_bytes units) end some (h.0 e)), units_lack units end some h.1)
 
-end_some : (later : List Piece) (end ignored : Bytes) → End later end → end ++ ignored ≢ []
+end_some : (later : List ValueUnit) (end ignored : Bytes) → End later end → end ++ ignored ≢ []
 end_some later [] ignored (inl p) e = cc
 end_some later [] ignored (inr p) e = let clash : [] ≡ LF ∷ [] = p.3 in cc
 end_some later (b ∷ end) ignored h e = cc
@@ -50,7 +50,7 @@ division_lacks : (parameter v : Bytes) → EndsAtLf parameter → Division param
 division_lacks parameter v h d =
     let end : Bytes = d.end ++ d.ignored in
     subst (Lacks LF) (sym d.joined)
-    (units_lack (d.first ∷ d.later) end (end_some d.later d.end d.ignored d.is_end) (subst EndsAtLf (d.whole ∙ sym (append_assoc (spelled d.first) (flat_map spelled d.later) end)) h))
+    (units_lack (d.first ∷ d.later) end (end_some d.later d.end d.ignored d.is_end) (subst EndsAtLf (d.whole ∙ sym (append_assoc (unit_bytes d.first) (flat_map unit_bytes d.later) end)) h))
 
 -- the value of parameter bytes whose one LF is the last
 pub value_of-lacks : (parameter v : Bytes) → EndsAtLf parameter → value_of parameter ≡ Some v → Lacks LF v

@@ -12,7 +12,7 @@ use Rattle.unftp_control_defs.specs.Bytes.{Bytes, LF, CR, crlf, Lacks}
 use Rattle.unftp_control_defs.specs.Values.{value_of, escaped}
 use Rattle.unftp_control_defs.specs.FtpCommand.{Rest}
 use Rattle.unftp_control_defs.specs.Rules.{offset}
-use Rattle.unftp_control_defs.specs.Outcome.{outcome, by_value}
+use Rattle.unftp_control_defs.specs.Outcome.{outcome, value_answer}
 use Rattle.unftp_control_defs.specs.Canonical.{canonical_line}
 use Rattle.unftp_control_defs.proofs.LackLemmas.{Lacks-decimal}
 use Rattle.unftp_control_defs.proofs.CommandRoundTripLemmas.{by_escaped}
@@ -36,13 +36,13 @@ module _ (n : ℕ) (fits : n < 2 ^ 64) where
       let some = lt-ltb 0 (length (decimal n)) (decimal_nonempty n fits) in
       rw (kept, plain, some, digits_decimal own n fits, digits_value-decimal own n fits, lt-ltb n (2 ^ 64) fits)
 
-rest_line : (parameter : Bytes) → outcome (codes "REST " ++ parameter) ≡ by_value (λ v. offset (utf8_lossy v)) (value_of parameter)
+rest_line : (parameter : Bytes) → outcome (codes "REST " ++ parameter) ≡ value_answer (λ v. offset (utf8_lossy v)) (value_of parameter)
 unfolding is_utf8 chars lib.Utf8.encode
 rest_line parameter = refl
 
 pub rest_back : (n : ℕ) → n < 2 ^ 64 → outcome (canonical_line (Rest n)) ≡ Ok (Rest n)
 rest_back n fits =
     rest_line (decimal n ++ crlf)
-    ∙ ap (λ t. by_value (λ v. offset (utf8_lossy v)) (value_of (t ++ crlf))) (sym (escaped_same (decimal n) (Lacks-decimal CR n (omega arith))))
+    ∙ ap (λ t. value_answer (λ v. offset (utf8_lossy v)) (value_of (t ++ crlf))) (sym (escaped_same (decimal n) (Lacks-decimal CR n (omega arith))))
     ∙ by_escaped (λ v. offset (utf8_lossy v)) (decimal n) (Lacks-decimal LF n (omega arith))
     ∙ offset-decimal n fits

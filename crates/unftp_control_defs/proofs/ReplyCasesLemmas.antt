@@ -3,7 +3,7 @@ use Rattle.std.proofs.Common.{◌≡◌, ◌≢◌, ℕ, zero, suc, ◌+◌, ◌
 use Rattle.std.proofs.lemmas.Bool.{cases_eq, cases_lt}
 use Rattle.std.specs.List.{AllByRecursion}
 use Rattle.unftp_control_defs.specs.Bytes.{Bytes, CR, LF, SP, DASH, crlf}
-use Rattle.unftp_control_defs.specs.ReplyReader.{LacksCrlf, with_crlf, SpellsCode, GoesOn, IsReply, bare, single, several, FrontReply, HasFront, Opens, IsMalformed, IsEnded, IsUnended, IsOpened, IsPartial}
+use Rattle.unftp_control_defs.specs.ReplyReader.{LacksCrlf, with_crlf, SpellsCode, GoesOn, IsReply, code_only, single, several, FrontReply, HasFront, Opens, IsMalformed, IsEnded, IsUnended, IsOpened, IsPartial}
 use Rattle.unftp_control_defs.proofs.ReplyUniqueLemmas.{first_crlf, cut_first, line_apart, same_front, no_longer, code_length}
 
 -- the first whole line of the bytes, and what follows
@@ -188,7 +188,7 @@ bare_front bytes digits rest code spells cut is_line = record {
   rest = rest;
   cut = cut ∙ sym (line_apart digits [] rest);
   each = (is_line, tt);
-  reply = bare refl refl;
+  reply = code_only refl refl;
   length_is = refl;
 }
 
@@ -270,7 +270,7 @@ line_is_first bytes k ks x h e = h k (flat_map with_crlf ks ++ x) (e ∙ line_ap
 -- the first line of a reply opens it
 reply_opens : (digits : Bytes) (code : ℕ) (whole lines : List Bytes) → SpellsCode digits code → IsReply digits whole lines
     → (k : Bytes) × (ks : List Bytes) × (whole ≡ k ∷ ks) × Opens k
-reply_opens digits code whole lines spells (bare e f) = (digits, [], e, (digits, code, spells, inl refl))
+reply_opens digits code whole lines spells (code_only e f) = (digits, [], e, (digits, code, spells, inl refl))
 reply_opens digits code whole lines spells (single text e f) = (digits ++ SP ∷ text, [], e, (digits, code, spells, inr (text, inl refl)))
 reply_opens digits code whole lines spells (several text last middle go e f) = (digits ++ DASH ∷ text, middle ++ (digits ++ SP ∷ last) ∷ [], e, (digits, code, spells, inr (text, inr refl)))
 
@@ -302,7 +302,7 @@ front_opened bytes code lines used f o = by_kind f.whole f.each f.cut f.reply
     long = code_length f.digits code f.code_is ∙ sym (code_length o.digits o.code o.code_is)
 
     by_kind : (whole : List Bytes) → AllByRecursion LacksCrlf whole → bytes ≡ flat_map with_crlf whole ++ f.rest → IsReply f.digits whole lines → ⊥
-    by_kind whole each cut (bare e g) =
+    by_kind whole each cut (code_only e g) =
         let each' = subst (AllByRecursion LacksCrlf) e each in
         let cut' = ap (λ (u : List Bytes). flat_map with_crlf u ++ f.rest) (sym e) ∙ sym cut ∙ o.cut in
         no_longer f.digits o.digits DASH o.text long (cut_first f.digits (o.digits ++ DASH ∷ o.text) [] o.middle f.rest o.rest each'.0 o.each.0 cut').0

@@ -6,7 +6,7 @@ use Rattle.std.specs.Str.{IsUtf8}
 use Rattle.unftp_control_defs.specs.Bytes.{Bytes}
 use Rattle.unftp_control_defs.specs.FtpCommand.{Other}
 use Rattle.unftp_control_defs.specs.Rules.{chosen, structures, modes, protections, options, buffer_sizes, Rule, Ignores, Takes, Splits, any_text, row_of, verbs, rule_of}
-use Rattle.unftp_control_defs.specs.Canonical.{IsName}
+use Rattle.unftp_control_defs.specs.Canonical.{IsUpperCaseName}
 use Rattle.unftp_control_defs.proofs.AnswerLemmas.{IsSound, Gives, raw_gives, any_gives, without_parameter_gives, some_gives, maybe_gives, chosen_gives, auth_gives, offset_gives, stat_gives, list_gives}
 
 -- of SITE its names decide
@@ -44,7 +44,7 @@ found P name (row ∷ rows) x each e = by_test (bytes_eq name row.0) (λ q. foun
     by_test false more q = more q
 
 -- the rule of a verb in upper case
-pub rule_gives : (verb : Bytes) → IsName verb → IsUtf8 verb → RuleGives (rule_of verb)
+pub rule_gives : (verb : Bytes) → IsUpperCaseName verb → IsUtf8 verb → RuleGives (rule_of verb)
 rule_gives verb is_name is_text = by_row (row_of verb verbs) refl
   where
     by_row : (row : Option Rule) → row_of verb verbs ≡ row → RuleGives (unwrap_or row (Takes (any_text (Other verb))))

@@ -5,7 +5,7 @@ use Rattle.std.proofs.lemmas.Bool.{cases_Bool, and_parts, and_from, false≢true
 use Rattle.std.proofs.lemmas.Option.{none-some, same_Some}
 use lib.Pointwise.{bytes_decides}
 use Rattle.unftp_control_defs.specs.Bytes.{Bytes, NUL, LF, CR, crlf}
-use Rattle.unftp_control_defs.specs.Values.{Piece, Return, Byte, spelled, value, FirstUnit, LaterUnits, End, Division, Reads, nothing, ended, ended_crlf, one_byte, divided, HasNoValue, Context, Fresh, Plain, Returning, later_value, first_value, value_of}
+use Rattle.unftp_control_defs.specs.Values.{ValueUnit, Return, Byte, unit_bytes, unit_value, FirstUnit, LaterUnits, End, Division, Reads, nothing, ended, ended_crlf, one_byte, divided, HasNoValue, Context, Fresh, Plain, Returning, later_value, first_value, value_of}
 
 -- the place where later units begin
 abbrev pub context_of : Bool → Context
@@ -13,20 +13,20 @@ context_of true = Fresh
 context_of false = Plain
 
 -- whether a lone LF after these units would be one of them
-abbrev pub last_fresh : Bool → List Piece → Bool
+abbrev pub last_fresh : Bool → List ValueUnit → Bool
 last_fresh fresh [] = fresh
 last_fresh fresh (Return ∷ units) = last_fresh true units
 last_fresh fresh (Byte b ∷ units) = last_fresh false units
 
-abbrev pub EndsAfter : Bool → List Piece → Bytes → Type 0
+abbrev pub EndsAfter : Bool → List ValueUnit → Bytes → Type 0
 EndsAfter fresh units end = (end ≡ crlf) ⊎ ((end ≡ LF ∷ []) × (last_fresh fresh units ≡ false))
 
-last_fresh_push : (fresh : Bool) (before : List Piece) (b : ℕ) → last_fresh fresh (before ++ Byte b ∷ []) ≡ false
+last_fresh_push : (fresh : Bool) (before : List ValueUnit) (b : ℕ) → last_fresh fresh (before ++ Byte b ∷ []) ≡ false
 last_fresh_push fresh [] b = refl
 last_fresh_push fresh (Return ∷ before) b = last_fresh_push true before b
 last_fresh_push fresh (Byte a ∷ before) b = last_fresh_push false before b
 
-end_after : (later : List Piece) (end : Bytes) → End later end → EndsAfter true later end
+end_after : (later : List ValueUnit) (end : Bytes) → End later end → EndsAfter true later end
 end_after later end h = ⊎_elim (λ e. inl e) (λ p. inr (p.3, subst (λ us. last_fresh true us ≡ false) (sym p.2) (last_fresh_push true p.0 p.1))) h
 
 -- A later unit at the front of what is read.
@@ -41,8 +41,8 @@ return_step true rest v h = rw h
 return_step false rest v h = rw h
 
 -- what the units after the first and the end give
-pub later_is : (fresh : Bool) (units : List Piece) (end ignored : Bytes) → LaterUnits fresh units → EndsAfter fresh units end
-    → later_value (context_of fresh) (flat_map spelled units ++ (end ++ ignored)) ≡ Some (map value units)
+pub later_is : (fresh : Bool) (units : List ValueUnit) (end ignored : Bytes) → LaterUnits fresh units → EndsAfter fresh units end
+    → later_value (context_of fresh) (flat_map unit_bytes units ++ (end ++ ignored)) ≡ Some (map unit_value units)
 later_is true [] end ignored are (inl e) = rw e
 later_is false [] end ignored are (inl e) = rw e
 later_is true [] end ignored are (inr p) = absurd (false≢true (sym p.1))
@@ -70,12 +70,12 @@ divided_is : (parameter v : Bytes) → Division parameter v → value_of paramet
 divided_is parameter v d = by_first d.first d.whole d.is_first d.joined
   where
     tail : Bytes
-    tail = flat_map spelled d.later ++ (d.end ++ d.ignored)
+    tail = flat_map unit_bytes d.later ++ (d.end ++ d.ignored)
 
-    read : later_value Fresh tail ≡ Some (map value d.later)
+    read : later_value Fresh tail ≡ Some (map unit_value d.later)
     read = later_is true d.later d.end d.ignored d.are_later (end_after d.later d.end d.is_end)
 
-    by_first : (first : Piece) → parameter ≡ spelled first ++ tail → FirstUnit parameter first → v ≡ value first ∷ map value d.later → value_of parameter ≡ Some v
+    by_first : (first : ValueUnit) → parameter ≡ unit_bytes first ++ tail → FirstUnit parameter first → v ≡ unit_value first ∷ map unit_value d.later → value_of parameter ≡ Some v
     by_first Return whole is_first joined = rw (whole, joined, read)
     by_first (Byte a) whole is_first joined = rw (whole, joined) (first_step a tail _ (subst (λ p. FirstUnit p (Byte a)) whole is_first) read)
 
@@ -98,13 +98,13 @@ chosen false x y z h = inr (refl, h)
 
 -- later units, an end and ignored bytes
 record Later (fresh : Bool) (bytes v : Bytes) : Type 0 where
-  units : List Piece
+  units : List ValueUnit
   end : Bytes
   ignored : Bytes
-  whole : bytes ≡ flat_map spelled units ++ (end ++ ignored)
+  whole : bytes ≡ flat_map unit_bytes units ++ (end ++ ignored)
   are_later : LaterUnits fresh units
   is_end : EndsAfter fresh units end
-  joined : v ≡ map value units
+  joined : v ≡ map unit_value units
 
 at_crlf : (fresh : Bool) (rest : Bytes) → Later fresh (CR ∷ LF ∷ rest) []
 at_crlf fresh rest = record { units = []; end = crlf; ignored = rest; whole = refl; are_later = tt; is_end = inl refl; joined = refl }
@@ -197,27 +197,27 @@ later_back Fresh (b ∷ bytes) v h = fresh_back b bytes v (λ context w e. later
 later_back Plain (b ∷ bytes) v h = plain_back b bytes v (λ context w e. later_back context bytes w e) h
 later_back Returning (b ∷ bytes) v h = returning_back b bytes v (λ context w e. later_back context bytes w e) h
 
-last_byte : (fresh : Bool) (units : List Piece) → last_fresh fresh units ≡ false
-    → ((units ≡ []) × (fresh ≡ false)) ⊎ ((before : List Piece) × (b : ℕ) × (units ≡ before ++ Byte b ∷ []))
+last_byte : (fresh : Bool) (units : List ValueUnit) → last_fresh fresh units ≡ false
+    → ((units ≡ []) × (fresh ≡ false)) ⊎ ((before : List ValueUnit) × (b : ℕ) × (units ≡ before ++ Byte b ∷ []))
 last_byte fresh [] h = inl (refl, h)
 last_byte fresh (Return ∷ units) h = ⊎_elim (λ p. absurd (false≢true (sym p.1))) (λ p. inr (Return ∷ p.0, p.1, ap (λ us. Return ∷ us) p.2)) (last_byte true units h)
 last_byte fresh (Byte a ∷ units) h = ⊎_elim (λ p. inr ([], a, ap (λ us. Byte a ∷ us) p.0)) (λ p. inr (Byte a ∷ p.0, p.1, ap (λ us. Byte a ∷ us) p.2)) (last_byte false units h)
 
-end_before : (later : List Piece) (end : Bytes) → EndsAfter true later end → End later end
+end_before : (later : List ValueUnit) (end : Bytes) → EndsAfter true later end → End later end
 end_before later end (inl e) = inl e
 end_before later end (inr p) = ⊎_elim (λ q. absurd (false≢true (sym q.1))) (λ q. inr (q.0, q.1, q.2, p.0)) (last_byte true later p.1)
 
-division : (first : Piece) (rest w : Bytes) → FirstUnit (spelled first ++ rest) first → Later true rest w → Division (spelled first ++ rest) (value first ∷ w)
+division : (first : ValueUnit) (rest w : Bytes) → FirstUnit (unit_bytes first ++ rest) first → Later true rest w → Division (unit_bytes first ++ rest) (unit_value first ∷ w)
 division first rest w is_first l = record {
   first = first;
   later = l.units;
   end = l.end;
   ignored = l.ignored;
-  whole = ap (λ r. spelled first ++ r) l.whole;
+  whole = ap (λ r. unit_bytes first ++ r) l.whole;
   is_first = is_first;
   are_later = l.are_later;
   is_end = end_before l.units l.end l.is_end;
-  joined = ap (λ r. value first ∷ r) l.joined;
+  joined = ap (λ r. unit_value first ∷ r) l.joined;
 }
 
 module _ (a : ℕ) (bytes v : Bytes) where
@@ -273,11 +273,11 @@ Reads-value_of (a ∷ bytes) v h = some_back a bytes v h
 
 -- there is none exactly where none is computed
 pub value_of-HasNoValue : (parameter : Bytes) → HasNoValue parameter → value_of parameter ≡ None
-value_of-HasNoValue parameter bad = by_value (value_of parameter) refl
+value_of-HasNoValue parameter bad = value_answer (value_of parameter) refl
   where
-    by_value : (o : Option Bytes) → value_of parameter ≡ o → o ≡ None
-    by_value None e = refl
-    by_value (Some v) e = absurd (bad v (Reads-value_of parameter v e))
+    value_answer : (o : Option Bytes) → value_of parameter ≡ o → o ≡ None
+    value_answer None e = refl
+    value_answer (Some v) e = absurd (bad v (Reads-value_of parameter v e))
 
 pub HasNoValue-value_of : (parameter : Bytes) → value_of parameter ≡ None → HasNoValue parameter
 HasNoValue-value_of parameter h v r = none-some v (sym h ∙ value_of-Reads parameter v r)

@@ -34,13 +34,13 @@ with_optional word None = word
 with_optional word (Some text) = spaced word text
 
 -- a path of LIST, marked as no option where it begins as one
-abbrev pub marked : Bytes → Bytes
-marked [] = []
-marked (b ∷ path) = if b == DASH then codes "-- " ++ b ∷ path else b ∷ path
+abbrev pub with_option_end : Bytes → Bytes
+with_option_end [] = []
+with_option_end (b ∷ path) = if b == DASH then codes "-- " ++ b ∷ path else b ∷ path
 
-abbrev pub site : Bytes → Bytes → Bytes
-site [] [] = codes "SITE"
-site name arguments = codes "SITE " ++ spaced_unless_empty name arguments
+abbrev pub site_body : Bytes → Bytes → Bytes
+site_body [] [] = codes "SITE"
+site_body name arguments = codes "SITE " ++ spaced_unless_empty name arguments
 
 abbrev pub structure_letter : StruParam → Bytes
 structure_letter File = codes "F"
@@ -80,7 +80,8 @@ canonical_body (Port addr) = spaced (codes "PORT") addr
 canonical_body (Retr path) = spaced (codes "RETR") path
 canonical_body (Stor path) = spaced (codes "STOR") path
 canonical_body (Appe path) = spaced (codes "APPE") path
-canonical_body (Listing options path) = with_optional (codes "LIST") (option_map marked path)
+canonical_body (Listing options path) =
+    with_optional (codes "LIST") (option_map with_option_end path)
 canonical_body (Nlst path) = with_optional (codes "NLST") path
 canonical_body (Mlst path) = with_optional (codes "MLST") path
 canonical_body (Mlsd path) = with_optional (codes "MLSD") path
@@ -107,47 +108,49 @@ canonical_body (Size file) = spaced (codes "SIZE") file
 canonical_body (Rest offset) = codes "REST " ++ decimal offset
 canonical_body (Mdtm file) = spaced (codes "MDTM") file
 canonical_body (Md5 file) = spaced (codes "SITE MD5") file
-canonical_body (Site name arguments) = site name arguments
+canonical_body (Site name arguments) = site_body name arguments
 canonical_body (Other name arguments) = spaced_unless_empty name arguments
 
 abbrev pub canonical_line : FtpCommand → Bytes
 canonical_line command = canonical_body command ++ crlf
 
 -- a text that a line has room for, and that is not read as none
-abbrev pub IsNamed : Bytes → Type 0
-IsNamed text = (text ≢ []) × Lacks LF text
+abbrev pub IsNonEmptyText : Bytes → Type 0
+IsNonEmptyText text = (text ≢ []) × Lacks LF text
 
-abbrev pub IsOptional : Option Bytes → Type 0
-IsOptional None = ⊤
-IsOptional (Some text) = IsNamed text
+abbrev pub IsOptionalText : Option Bytes → Type 0
+IsOptionalText None = ⊤
+IsOptionalText (Some text) = IsNonEmptyText text
 
 -- a name in upper case: without separators and letters `a` to `z`
-abbrev pub IsName : Bytes → Type 0
-IsName name = AllByRecursion (λ b. (is_separator b ≡ false) × (is_ascii_lowercase b ≡ false)) name
+abbrev pub IsUpperCaseName : Bytes → Type 0
+IsUpperCaseName name =
+    AllByRecursion (λ b. (is_separator b ≡ false) × (is_ascii_lowercase b ≡ false)) name
 
--- Fields that a line gives, whose one LF is its last byte.
+-- A line whose one LF is its last byte gives the command.
 abbrev pub HasLine : FtpCommand → Type 0
 HasLine (User name) = Lacks LF name
 HasLine (Pass password) = Lacks LF password
 HasLine (Acct account) = Lacks LF account
-HasLine (Stat path) = IsOptional path
-HasLine (Port addr) = IsNamed addr
-HasLine (Retr path) = IsNamed path
-HasLine (Stor path) = IsNamed path
-HasLine (Appe path) = IsNamed path
-HasLine (Listing options path) = (options ≡ None) × IsOptional path
-HasLine (Nlst path) = IsOptional path
-HasLine (Mlst path) = IsOptional path
-HasLine (Mlsd path) = IsOptional path
-HasLine (Cwd path) = IsNamed path
-HasLine (Dele path) = IsNamed path
-HasLine (Rmd path) = IsNamed path
-HasLine (Mkd path) = IsNamed path
-HasLine (Rnfr file) = IsNamed file
-HasLine (Rnto file) = IsNamed file
-HasLine (Size file) = IsNamed file
-HasLine (Mdtm file) = IsNamed file
-HasLine (Md5 file) = IsNamed file
-HasLine (Site name arguments) = IsName name × (name ≢ codes "MD5") × Lacks LF arguments
-HasLine (Other name arguments) = IsName name × (row_of name verbs ≡ None) × Lacks LF arguments
+HasLine (Stat path) = IsOptionalText path
+HasLine (Port addr) = IsNonEmptyText addr
+HasLine (Retr path) = IsNonEmptyText path
+HasLine (Stor path) = IsNonEmptyText path
+HasLine (Appe path) = IsNonEmptyText path
+HasLine (Listing options path) = (options ≡ None) × IsOptionalText path
+HasLine (Nlst path) = IsOptionalText path
+HasLine (Mlst path) = IsOptionalText path
+HasLine (Mlsd path) = IsOptionalText path
+HasLine (Cwd path) = IsNonEmptyText path
+HasLine (Dele path) = IsNonEmptyText path
+HasLine (Rmd path) = IsNonEmptyText path
+HasLine (Mkd path) = IsNonEmptyText path
+HasLine (Rnfr file) = IsNonEmptyText file
+HasLine (Rnto file) = IsNonEmptyText file
+HasLine (Size file) = IsNonEmptyText file
+HasLine (Mdtm file) = IsNonEmptyText file
+HasLine (Md5 file) = IsNonEmptyText file
+HasLine (Site name arguments) = IsUpperCaseName name × (name ≢ codes "MD5") × Lacks LF arguments
+HasLine (Other name arguments) =
+    IsUpperCaseName name × (row_of name verbs ≡ None) × Lacks LF arguments
 HasLine _ = ⊤

@@ -37,13 +37,13 @@ abbrev pub out_of_memory : Fault
 out_of_memory = record { kind = OutOfMemory; source = NoSource }
 
 -- the kind that a refused line is reported with
-abbrev pub kind_of : Refusal → FaultKind
-kind_of line.InvalidUtf8 = Utf8Error
-kind_of line.InvalidCommand = InvalidCommand
-kind_of line.InvalidEol = InvalidCommand
+abbrev pub refusal_kind : Refusal → FaultKind
+refusal_kind line.InvalidUtf8 = Utf8Error
+refusal_kind line.InvalidCommand = InvalidCommand
+refusal_kind line.InvalidEol = InvalidCommand
 
-abbrev pub fault_for : Refusal → Fault
-fault_for refusal = record { kind = kind_of refusal; source = Parse (Some refusal) }
+abbrev pub refusal_fault : Refusal → Fault
+refusal_fault refusal = record { kind = refusal_kind refusal; source = Parse (Some refusal) }
 
 pub data FtpEvent : Type 0 where
   Command : FtpCommand → FtpEvent
@@ -51,7 +51,7 @@ pub data FtpEvent : Type 0 where
 
 abbrev pub event_of : Answer → FtpEvent
 event_of (Ok command) = Command command
-event_of (Err refusal) = Refused (fault_for refusal)
+event_of (Err refusal) = Refused (refusal_fault refusal)
 
 -- one event for each line of the input, in order
 abbrev pub events : Bytes → List FtpEvent

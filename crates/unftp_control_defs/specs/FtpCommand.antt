@@ -53,7 +53,7 @@ pub data FtpCommand : Type 0 where
   Rest : ℕ → FtpCommand
   Mdtm : Bytes → FtpCommand
   Md5 : Bytes → FtpCommand
-  -- a name of SITE, and its arguments
+  -- a SITE subcommand, and its arguments
   Site : Bytes → Bytes → FtpCommand
   -- a verb with no rule of its own, and its arguments
   Other : Bytes → Bytes → FtpCommand
@@ -72,27 +72,27 @@ abbrev pub IsMaybeUtf8 : Option Bytes → Type 0
 IsMaybeUtf8 None = ⊤
 IsMaybeUtf8 (Some text) = IsUtf8 text
 
--- What the types of its fields say of a command: a text is UTF-8, and the offset has 64 bits; of
--- raw bytes nothing is said.
-abbrev pub IsReal : FtpCommand → Type 0
-IsReal (Port addr) = IsUtf8 addr
-IsReal (Retr path) = IsUtf8 path
-IsReal (Stor path) = IsUtf8 path
-IsReal (Appe path) = IsUtf8 path
-IsReal (List options path) = IsMaybeUtf8 options × IsMaybeUtf8 path
-IsReal (Nlst path) = IsMaybeUtf8 path
-IsReal (Mlst path) = IsMaybeUtf8 path
-IsReal (Mlsd path) = IsMaybeUtf8 path
-IsReal (Cwd path) = IsUtf8 path
-IsReal (Dele path) = IsUtf8 path
-IsReal (Rmd path) = IsUtf8 path
-IsReal (Mkd path) = IsUtf8 path
-IsReal (Rnfr file) = IsUtf8 file
-IsReal (Rnto file) = IsUtf8 file
-IsReal (Size file) = IsUtf8 file
-IsReal (Rest offset) = offset < 2 ^ 64
-IsReal (Mdtm file) = IsUtf8 file
-IsReal (Md5 file) = IsUtf8 file
-IsReal (Site name arguments) = IsUtf8 name × IsUtf8 arguments
-IsReal (Other name arguments) = IsUtf8 name × IsUtf8 arguments
-IsReal _ = ⊤
+-- What the types of its fields ensure: a text is UTF-8, and the offset of REST has 64 bits; raw
+-- bytes are any.
+abbrev pub HasTypedFields : FtpCommand → Type 0
+HasTypedFields (Port addr) = IsUtf8 addr
+HasTypedFields (Retr path) = IsUtf8 path
+HasTypedFields (Stor path) = IsUtf8 path
+HasTypedFields (Appe path) = IsUtf8 path
+HasTypedFields (List options path) = IsMaybeUtf8 options × IsMaybeUtf8 path
+HasTypedFields (Nlst path) = IsMaybeUtf8 path
+HasTypedFields (Mlst path) = IsMaybeUtf8 path
+HasTypedFields (Mlsd path) = IsMaybeUtf8 path
+HasTypedFields (Cwd path) = IsUtf8 path
+HasTypedFields (Dele path) = IsUtf8 path
+HasTypedFields (Rmd path) = IsUtf8 path
+HasTypedFields (Mkd path) = IsUtf8 path
+HasTypedFields (Rnfr file) = IsUtf8 file
+HasTypedFields (Rnto file) = IsUtf8 file
+HasTypedFields (Size file) = IsUtf8 file
+HasTypedFields (Rest offset) = offset < 2 ^ 64
+HasTypedFields (Mdtm file) = IsUtf8 file
+HasTypedFields (Md5 file) = IsUtf8 file
+HasTypedFields (Site name arguments) = IsUtf8 name × IsUtf8 arguments
+HasTypedFields (Other name arguments) = IsUtf8 name × IsUtf8 arguments
+HasTypedFields _ = ⊤

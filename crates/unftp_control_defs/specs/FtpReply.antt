@@ -21,11 +21,11 @@ spaced_line text = (SP ∷ text) ++ crlf
 
 -- the lines after the code and a dash, each but the last padded; the last follows the code and a
 -- space
-abbrev pub several : ℕ → Bytes → List Bytes → Bytes
-several code line [] = decimal code ++ spaced_line line
-several code line (next ∷ lines) = padded line ++ crlf ++ several code next lines
+abbrev pub lines_after_code : ℕ → Bytes → List Bytes → Bytes
+lines_after_code code line [] = decimal code ++ spaced_line line
+lines_after_code code line (next ∷ lines) = padded line ++ crlf ++ lines_after_code code next lines
 
--- The code is written without padding; a lone code, for an empty text, has no space after it.
+-- The code is written without padding; that of an empty text has no space after it.
 abbrev pub encoded : FtpReply → Bytes
 encoded Nothing = []
 encoded (CodeAndMsg code text) =
@@ -33,7 +33,7 @@ encoded (CodeAndMsg code text) =
 encoded (MultiLine code []) = decimal code ++ spaced_line []
 encoded (MultiLine code (line ∷ [])) = decimal code ++ spaced_line line
 encoded (MultiLine code (line ∷ next ∷ lines)) =
-    decimal code ++ DASH ∷ several code line (next ∷ lines)
+    decimal code ++ DASH ∷ lines_after_code code line (next ∷ lines)
 
 -- 2yz says that the command is done, and 3yz that it may go on (RFC 959, section 4.2.1); where
 -- nothing is sent, nothing failed.

@@ -15,8 +15,8 @@ pub record IsOptionWord (word : Bytes) : Type 0 where
 abbrev pub with_space : Bytes → Bytes
 with_space word = word ++ SP ∷ []
 
--- what stands after the option words: a path with no dash in front; "-- " and a path; or one more
--- word with a dash, and no path
+-- what comes after the option words: a path that does not begin with a dash; "-- " and a path; or
+-- one more word with a dash, and no path
 abbrev pub EndsInPath : Bytes → Bytes → Type 0
 EndsInPath tail path = ((tail ≡ path) × ((letters : Bytes) → path ≢ DASH ∷ letters))
     ⊎ ((tail ≡ DASH ∷ DASH ∷ SP ∷ path)

@@ -25,7 +25,7 @@ GoesOn digits line = (text : Bytes) → line ≢ digits ++ SP ∷ text
 -- text; or the digits, a dash and a text, lines that don't begin with the digits and a space, and
 -- one that does.
 pub data IsReply (digits : Bytes) (whole lines : List Bytes) : Type 0 where
-  bare : whole ≡ digits ∷ [] → lines ≡ [] ∷ [] → IsReply digits whole lines
+  code_only : whole ≡ digits ∷ [] → lines ≡ [] ∷ [] → IsReply digits whole lines
   single : (text : Bytes) → whole ≡ (digits ++ SP ∷ text) ∷ [] → lines ≡ text ∷ []
       → IsReply digits whole lines
   several : (text last : Bytes) (middle : List Bytes) → AllByRecursion (GoesOn digits) middle
@@ -82,7 +82,7 @@ pub record IsEnded (digits bytes : Bytes) : Type 0 where
   pub each : AllByRecursion LacksCrlf (middle ++ (digits ++ SP ∷ last) ∷ [])
   pub goes_on : AllByRecursion (GoesOn digits) middle
 
--- after it: lines that go on, and a rest that is no line
+-- after it: lines that go on, and an incomplete line
 pub record IsUnended (digits bytes : Bytes) : Type 0 where
   pub middle : List Bytes
   pub rest : Bytes

@@ -34,7 +34,7 @@ without_parameter command v = if length v == 0 then Ok command else Err InvalidC
 abbrev pub any_text : (Bytes → FtpCommand) → Bytes → Answer
 any_text command v = Ok (command (utf8_lossy v))
 
--- the same of a value that is not empty
+-- a value that is not empty as text, ill-formed UTF-8 replaced
 abbrev pub some_text : (Bytes → FtpCommand) → Bytes → Answer
 some_text command v = if length v == 0 then Err InvalidCommand else Ok (command (utf8_lossy v))
 
@@ -76,7 +76,7 @@ buffer_sizes = (codes "0", Pbsz) ∷ []
 abbrev pub mechanisms : List (Bytes × FtpCommand)
 mechanisms = (codes "TLS", Auth Tls) ∷ (codes "SSL", Auth Ssl) ∷ []
 
--- the value of AUTH, at most three bytes of UTF-8, in either case (RFC 2228, section 3)
+-- the value of AUTH, at most three bytes of UTF-8, ignoring ASCII case (RFC 2228, section 3)
 abbrev pub auth : Bytes → Answer
 auth v = if nat_lt 3 (length v) then Err InvalidCommand
     else (if is_utf8 v then chosen mechanisms (upper v)
@@ -148,5 +148,5 @@ abbrev pub rule_of : Bytes → Rule
 rule_of verb = unwrap_or (row_of verb verbs) (Takes (any_text (Other verb)))
 
 -- what a subcommand of SITE, in upper case, makes of the value after it
-abbrev pub by_name : Bytes → Bytes → Answer
-by_name name = if bytes_eq name (codes "MD5") then some_text Md5 else any_text (Site name)
+abbrev pub subcommand_answer : Bytes → Bytes → Answer
+subcommand_answer name = if bytes_eq name (codes "MD5") then some_text Md5 else any_text (Site name)

@@ -5,48 +5,48 @@ use Rattle.std.specs.Prelude.{◌≡◌, ◌≢◌, ℕ, Bool, true, false, IsTr
 use Rattle.unftp_control_defs.specs.Bytes.{Bytes, NUL, LF, CR, crlf}
 
 -- a carriage return, or a byte that is written as it is
-pub data Piece : Type 0 where
-  Return : Piece
-  Byte : ℕ → Piece
+pub data ValueUnit : Type 0 where
+  Return : ValueUnit
+  Byte : ℕ → ValueUnit
 
-abbrev pub spelled : Piece → Bytes
-spelled Return = CR ∷ NUL ∷ []
-spelled (Byte b) = b ∷ []
+abbrev pub unit_bytes : ValueUnit → Bytes
+unit_bytes Return = CR ∷ NUL ∷ []
+unit_bytes (Byte b) = b ∷ []
 
-abbrev pub value : Piece → ℕ
-value Return = CR
-value (Byte b) = b
+abbrev pub unit_value : ValueUnit → ℕ
+unit_value Return = CR
+unit_value (Byte b) = b
 
 -- A first unit is CR NUL, or a byte other than LF that is not a CR before a NUL. So a bare CR is
 -- kept here.
-abbrev pub FirstUnit : Bytes → Piece → Type 0
+abbrev pub FirstUnit : Bytes → ValueUnit → Type 0
 FirstUnit parameter Return = ⊤
 FirstUnit parameter (Byte b) = (b ≢ LF) × ((rest : Bytes) → parameter ≢ CR ∷ NUL ∷ rest)
 
 -- A later unit is CR NUL, or a byte other than CR; an LF only if fresh, directly after the first
 -- unit or a CR NUL.
-abbrev pub LaterUnits : Bool → List Piece → Type 0
+abbrev pub LaterUnits : Bool → List ValueUnit → Type 0
 LaterUnits fresh [] = ⊤
 LaterUnits fresh (Return ∷ units) = LaterUnits true units
 LaterUnits fresh (Byte b ∷ units) = (b ≢ CR) × (b ≡ LF → IsTrue fresh) × LaterUnits false units
 
 -- An end is CR LF, or an LF directly after a later unit of one byte.
-abbrev pub End : List Piece → Bytes → Type 0
+abbrev pub End : List ValueUnit → Bytes → Type 0
 End later end = (end ≡ crlf)
-    ⊎ ((before : List Piece) × (b : ℕ) × (later ≡ before ++ Byte b ∷ []) × (end ≡ LF ∷ []))
+    ⊎ ((before : List ValueUnit) × (b : ℕ) × (later ≡ before ++ Byte b ∷ []) × (end ≡ LF ∷ []))
 
 -- The parameter is a first unit, later units, an end, and bytes that are ignored; the value is the
 -- units' values.
 pub record Division (parameter v : Bytes) : Type 0 where
-  pub first : Piece
-  pub later : List Piece
+  pub first : ValueUnit
+  pub later : List ValueUnit
   pub end : Bytes
   pub ignored : Bytes
-  pub whole : parameter ≡ spelled first ++ (flat_map spelled later ++ (end ++ ignored))
+  pub whole : parameter ≡ unit_bytes first ++ (flat_map unit_bytes later ++ (end ++ ignored))
   pub is_first : FirstUnit parameter first
   pub are_later : LaterUnits true later
   pub is_end : End later end
-  pub joined : v ≡ value first ∷ map value later
+  pub joined : v ≡ unit_value first ∷ map unit_value later
 
 -- The parameter bytes have this value.
 pub data Reads (parameter v : Bytes) : Type 0 where

@@ -10,7 +10,7 @@ is_separator b = (b == SP) || (b == CR) || (b == LF)
 
 -- The line is just the verb; or the verb, one separator and the parameter bytes.
 pub record Cut (line verb parameter : Bytes) : Type 0 where
-  pub bare : AllByRecursion (λ b. is_separator b ≡ false) verb
+  pub no_separator : AllByRecursion (λ b. is_separator b ≡ false) verb
   pub whole : ((line ≡ verb) × (parameter ≡ []))
       ⊎ ((b : ℕ) × IsTrue (is_separator b) × (line ≡ verb ++ b ∷ parameter))
 

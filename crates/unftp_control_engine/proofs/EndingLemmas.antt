@@ -6,7 +6,7 @@ use Rattle.unftp_control_defs.specs.FtpReply.{encoded}
 use Rattle.unftp_control_defs.specs.Run.{Law, last_state, text_of}
 use Rattle.unftp_control_defs.proofs.RunLemmas.{last_state-append, text_of-append}
 use Rattle.unftp_control_error.specs.ErrorMeaning.{fault_of}
-use Rattle.unftp_control_engine.specs.Sink.{Begins, Sends, Sent, CutShort}
+use Rattle.unftp_control_engine.specs.Writing.{Begins, Sends, Sent, CutShort}
 use Rattle.unftp_control_engine.specs.Endings.{Snapshot, AllAnswered, WriteFailed, HandlerFailed, RanOutOfMemory, TookAtMostOne, RunEnded, RunOutcome, done_of}
 use Rattle.unftp_control_engine.specs.declared.error.ServeError.{ServeError}
 use Rattle.unftp_control_engine.specs.declared.error.ServeError.TheVariants.{Read, Write, WriteZero, Handler, OutOfMemory, Stopped, TooManyReads}

@@ -1,4 +1,4 @@
--- The examples' moments.
+-- The examples' snapshots.
 use Rattle.std.proofs.Common.{◌≡◌, ℕ, ◌+◌, ◌≤◌, ◌⊎◌, inl, inr, [], ◌∷◌, ◌++◌, List, Some, length, codes, refl, arith}
 use Rattle.std.specs.Fmt.{digits}
 use Rattle.std.specs.Io.KnownBytes.{Appends}
@@ -7,7 +7,7 @@ use Rattle.unftp_control_defs.specs.Events.{Fault, FtpEvent}
 use Rattle.unftp_control_defs.specs.Run.{last_state}
 use Rattle.unftp_control_engine.specs.Endings.{Snapshot, AllAnswered, WriteFailed, HandlerFailed, RanOutOfMemory, TookAtMostOne}
 use Rattle.unftp_control_engine.specs.Examples.{counting, noop, snapshot}
-use Rattle.unftp_control_engine.specs.Sink.{Begins}
+use Rattle.unftp_control_engine.specs.Writing.{Begins}
 
 -- the only event is the first
 done_nothing : (done : List FtpEvent) (event : FtpEvent) (later : List FtpEvent) → noop ∷ [] ≡ done ++ event ∷ later → done ≡ []

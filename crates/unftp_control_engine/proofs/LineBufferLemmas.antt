@@ -137,7 +137,7 @@ module _ {E : Type 0} (old new : Codec) (before after : Bytes) (answer : Decoded
     where
       by_result : (result : Result (Option Event) E) → ReturnsEvent answer result → Comes old new before after answer →
           TakesNext (pending before old.tests (length before - old.place)) result (pending after new.tests (length after - new.place))
-      by_result (Ok None) tells (inl none) = record { unended = none.unended; kept = none.kept; tested = omega (arith, none.place, ap length none.kept) }
+      by_result (Ok None) tells (inl none) = record { unended = none.unended; kept = none.kept; all_scanned = omega (arith, none.place, ap length none.kept) }
       by_result (Ok None) tells (inr (inl first)) = absurd (none-some _ (sym tells.0 ∙ first.returned))
       by_result (Ok None) tells (inr (inr no_memory)) = absurd (tells.1 no_memory.no_memory)
       by_result (Ok (Some event)) tells (inl none) = absurd (none-some _ (sym none.returned ∙ tells.0))

@@ -3,7 +3,7 @@ use Rattle.std.proofs.Common.{◌≡◌, ℕ, ◌+◌, ◌≤◌, [], ◌∷◌,
 use Rattle.std.proofs.lemmas.List.{append-nil, take-append-drop}
 use Rattle.std.specs.Io.KnownBytes.{Appends}
 use Rattle.unftp_control_defs.specs.Bytes.{Bytes}
-use Rattle.unftp_control_engine.specs.Sink.{Sink, Flushed, Wrote}
+use Rattle.unftp_control_engine.specs.Writing.{OutputState, Flushed, Wrote}
 
 pub Appends-nothing : (known : Option Bytes) → Appends known known []
 Appends-nothing None = tt
@@ -22,12 +22,12 @@ Flushed-then (a ∷ text) [] part t u v p q = omega arith
 Flushed-then (a ∷ text) (b ∷ more) part t u v p q = q
 
 -- in the loop of a sending: this much is written, and the rest is left
-pub record Sending (bytes rest : Bytes) (before now : Sink) : Type 0 where
+pub record Sending (bytes rest : Bytes) (before now : OutputState) : Type 0 where
   pub part : Bytes
   pub split : bytes ≡ part ++ rest
   pub wrote : Wrote part before now
 
-pub Sending-more : (bytes rest : Bytes) (before now after : Sink) (n : ℕ) → Sending bytes rest before now → n ≤ length rest →
+pub Sending-more : (bytes rest : Bytes) (before now after : OutputState) (n : ℕ) → Sending bytes rest before now → n ≤ length rest →
     Appends now.written after.written (take n rest) → after.failures ≡ now.failures → after.unflushed ≡ now.unflushed + n →
     Sending bytes (drop n rest) before after
 Sending-more bytes rest before now after n sending within written kept unflushed =

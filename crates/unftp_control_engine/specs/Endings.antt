@@ -6,21 +6,24 @@ use Rattle.unftp_control_defs.specs.FtpReply.{encoded}
 use Rattle.unftp_control_defs.specs.Run.{Law, last_state, text_of}
 use Rattle.unftp_control_defs.specs.Bytes.{Bytes}
 use Rattle.unftp_control_error.specs.ErrorMeaning.{fault_of}
-use Rattle.unftp_control_engine.specs.Sink.{Sink, sink_of, Begins, Flushed}
+use Rattle.unftp_control_engine.specs.Writing.{OutputState, output_state_of, Begins, Flushed}
 use Rattle.unftp_control_engine.specs.declared.output.Output.{Output}
 use Rattle.unftp_control_engine.specs.declared.error.ServeError.{ServeError}
 use Rattle.unftp_control_engine.specs.declared.error.ServeError.TheVariants.{Read, Write, WriteZero, Handler, OutOfMemory, TooManyReads}
 
--- what contracts see of a handler and an output at one moment
+-- what contracts see of a handler and an output, before or after a call
 pub record Snapshot (S : Type 0) : Type 0 where
   pub state : S
   pub failures : ℕ
-  pub output : Sink
+  pub output : OutputState
 
 abbrev pub snapshot_of : {H S W : Type 0} → (H → S) → (H → ℕ) → (W → Option Bytes) → H → Output W
     → Snapshot S
-snapshot_of state failures contents handler output =
-    record { state = state handler; failures = failures handler; output = sink_of contents output }
+snapshot_of state failures contents handler output = record {
+  state = state handler;
+  failures = failures handler;
+  output = output_state_of contents output;
+}
 
 -- The handler took all events, and its replies were written and flushed; nothing failed.
 pub record AllAnswered {S : Type 0} (law : Law S) (before : Snapshot S) (events : List FtpEvent)
@@ -122,7 +125,7 @@ abbrev pub OnMemory : {T : Type 0} → Result T ServeError → Type 0 → Type 0
 OnMemory (Err OutOfMemory) P = P
 OnMemory _ P = Unit {0}
 
--- the answer is none that only a reader gives cause for
+-- the answer is not `Read` or `TooManyReads`
 abbrev pub ReadsNothing : {T : Type 0} → Result T ServeError → Type 0
 ReadsNothing (Err (Read _)) = ⊥
 ReadsNothing (Err TooManyReads) = ⊥

@@ -6,7 +6,7 @@ use Rattle.unftp_control_defs.specs.Events.{FtpEvent, events}
 use Rattle.unftp_control_defs.specs.Run.{Law, last_state}
 
 -- the bytes after the last line feed, how many of them `left` reports, whether the engine has
--- failed, and how often a byte was tested for a line feed since it was made
+-- failed, and how many bytes were scanned for a line feed since it was made
 pub record EngineState : Type 0 where
   pub incomplete : Bytes
   pub left : ℕ

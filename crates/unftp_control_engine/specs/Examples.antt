@@ -1,4 +1,4 @@
--- A handler and moments for the examples.
+-- A handler and snapshots for the examples.
 use Rattle.std.specs.Prelude.{◌≡◌, ℕ, ◌+◌, Some, codes}
 use Rattle.unftp_control_defs.specs.Bytes.{Bytes}
 use Rattle.unftp_control_defs.specs.Events.{FtpEvent, Command, out_of_memory}

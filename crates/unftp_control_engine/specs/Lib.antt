@@ -1,7 +1,7 @@
 -- To be read in this order.
 pub mod EventMeaning
 pub mod ErrorTexts
-pub mod Sink
+pub mod Writing
 pub mod Endings
 pub mod LineBuffer
 pub mod Engine

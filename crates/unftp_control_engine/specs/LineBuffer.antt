@@ -19,7 +19,7 @@ pub record Pending : Type 0 where
 pub record HasNoLine (before after : Pending) : Type 0 where
   pub unended : Lacks LF before.bytes
   pub kept : after.bytes ≡ before.bytes
-  pub tested : after.unscanned ≡ 0
+  pub all_scanned : after.unscanned ≡ 0
 
 -- The first line is taken away, and this is its event.
 pub record TakesLine (before : Pending) (event : FtpEvent) (after : Pending) : Type 0 where

@@ -7,7 +7,7 @@ ghost use Rattle.unftp_control_defs.specs.Run.{text_of};
 ghost use Rattle.unftp_control_engine.specs.Endings.{RunOutcome, WriteFailed, HandlerFailed, RanOutOfMemory, OnWrite, OnHandler, OnMemory, ReadsNothing, snapshot_of};
 ghost use Rattle.unftp_control_engine.specs.Engine.{IsRunning, Leaves, events_with};
 ghost use Rattle.unftp_control_engine.specs.EventMeaning.{event_meant};
-ghost use Rattle.unftp_control_engine.specs.Sink.{Flushed};
+ghost use Rattle.unftp_control_engine.specs.Writing.{Flushed};
 
 use crate::error::ServeError;
 use crate::event::Event;
@@ -21,7 +21,7 @@ use std::marker::Model;
 use unftp_control_codecs::FtpCodec;
 use unftp_control_count::Count;
 
-/// Hands the event to the handler, and sends its reply.
+/// Passes the event to the handler, and sends its reply.
 fn answer_event<H: Handler, W: Write>(
     alloc: Global,
     event: Event,
@@ -150,11 +150,13 @@ impl Engine {
         self.line_buffer.tests()
     }
 
-    /// Takes the next piece of the input, and answers each line that is now complete: its event is
-    /// handed to the handler, and its reply is written and flushed, before the next line is taken.
+    /// Takes the next piece of the input, and answers each line that is now complete (RFC 959,
+    /// section 5.3): its event is passed to the handler, and its reply is written and flushed,
+    /// before the next line is taken. The bytes after the last line feed are kept.
     ///
-    /// Each error makes the engine a failed one. From then on it answers `Stopped` and does
-    /// nothing.
+    /// `Handler`, `Write`, `WriteZero` and `OutOfMemory` come where the handler, the writer or an
+    /// allocation fails: the replies to the lines before are written and flushed, and `left` stays.
+    /// Each makes the engine a failed one: from then on it returns `Stopped` and does nothing.
     pub fn feed<H: Handler, W: Write>(
         &mut self,
         piece: &[u8],
@@ -173,7 +175,8 @@ impl Engine {
             → OnOk result (Appends (W.contents output.old.writer) (W.contents output.new.writer)
             (text_of H.law (H.state handler.old) (events_with self.old piece.now))) }
         ensures flushed { IsRunning self.old
-            → OnOk result (Flushed (text_of H.law (H.state handler.old) (events_with self.old piece.now)) []
+            → OnOk result (Flushed
+            (text_of H.law (H.state handler.old) (events_with self.old piece.now)) []
             output.old.unflushed output.new.unflushed) }
         ensures leaves { IsRunning self.old
             → OnOk result (Leaves H.law self.old piece.now

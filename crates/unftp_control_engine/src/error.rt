@@ -16,8 +16,8 @@ pub enum ServeError {
     WriteZero,
     /// The handler failed at an event. The lines before its line are answered.
     Handler(ControlChanError),
-    /// Memory was refused. Some lines are answered, and the handler may have taken the event of one
-    /// more.
+    /// An allocation failed. Some lines are answered, and the handler may have taken the event of
+    /// one more.
     OutOfMemory,
     /// The engine failed in an earlier call. Nothing is written or taken.
     Stopped,

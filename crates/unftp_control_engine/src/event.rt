@@ -7,7 +7,7 @@ use unftp_control_error::ControlChanError;
 pub enum Event {
     /// A command.
     Command(Command),
-    /// A line that is no command that is read, of the kind `Utf8Error` or `InvalidCommand`, with
-    /// the parser's error as its source.
+    /// A refused line: the kind is `Utf8Error` or `InvalidCommand`, and the parser's error is the
+    /// source.
     Refused(ControlChanError),
 }

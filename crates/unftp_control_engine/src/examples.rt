@@ -5,11 +5,11 @@ ghost use Rattle.std.specs.Io.KnownBytes.{Appends};
 ghost use Rattle.unftp_control_defs.specs.Bytes.{Bytes};
 ghost use Rattle.unftp_control_defs.specs.Events.{Fault, events, out_of_memory};
 ghost use Rattle.unftp_control_error.specs.ErrorMeaning.{fault_of};
-ghost use Rattle.unftp_control_error.specs.ErrorParts.{Parts};
+ghost use Rattle.unftp_control_error.specs.ErrorParts.{KindAndSource};
 ghost use Rattle.unftp_control_engine.specs.Endings.{Snapshot, AllAnswered, WriteFailed, HandlerFailed, RanOutOfMemory, RunEnded, OnWrite, OnHandler, OnMemory, ReadsNothing};
 ghost use Rattle.unftp_control_engine.specs.Engine.{EngineState, Leaves, saturating_u64};
 ghost use Rattle.unftp_control_engine.specs.Examples.{counting, noop, snapshot};
-ghost use Rattle.unftp_control_engine.specs.Sink.{Begins, Flushed};
+ghost use Rattle.unftp_control_engine.specs.Writing.{Begins, Flushed};
 
 use crate::error::ServeError;
 
@@ -97,7 +97,7 @@ pub fn errors_of_feed()
     ensures write_zero { (before after : Snapshot ℕ)
         → RunEnded counting before (noop ∷ []) after ServeError.WriteZero
         → WriteFailed counting before (noop ∷ []) after }
-    ensures handler { (before after : Snapshot ℕ) (error : Parts)
+    ensures handler { (before after : Snapshot ℕ) (error : KindAndSource)
         → RunEnded counting before (noop ∷ []) after (ServeError.Handler error)
         → HandlerFailed counting before (noop ∷ []) after (fault_of error) }
     ensures memory { (before after : Snapshot ℕ)
@@ -110,7 +110,7 @@ pub fn errors_of_feed()
     // the clauses `write`, `handler` and `memory` of `feed` promise what they say at these errors
     ensures on_write { (error : _) → OnWrite {T = ℕ} (Err (ServeError.Write error)) ⊥ → ⊥ }
     ensures on_write_zero { OnWrite {T = ℕ} (Err ServeError.WriteZero) ⊥ → ⊥ }
-    ensures on_handler { (error : Parts) (fault : Fault)
+    ensures on_handler { (error : KindAndSource) (fault : Fault)
         → OnHandler {T = ℕ} (Err (ServeError.Handler error)) (λ found. found ≡ fault)
         → fault_of error ≡ fault }
     ensures on_memory { OnMemory {T = ℕ} (Err ServeError.OutOfMemory) ⊥ → ⊥ }

@@ -12,7 +12,7 @@ use unftp_control_reply::Reply;
 
 /// Answers the events of a connection, one after the other.
 ///
-/// It states as functions and relations of its state what it answers to an event, which state
+/// Its law states, as functions and relations of its state, the reply to an event, the state that
 /// follows, and with which errors it may fail: of which kind, and from which source. It counts its
 /// failures: the count takes no byte, and only contracts see it.
 pub trait Handler {
@@ -25,8 +25,8 @@ pub trait Handler {
 
     ghost failures: { Self → ℕ };
 
-    /// Answers an event. What it answers with an error ends the connection; of its state after its
-    /// own error nothing is promised.
+    /// Returns the reply to an event. An error has to be one that the law's `may_fail` allows: it
+    /// ends the connection, and the handler's state is unspecified after it.
     fn handle(&mut self, alloc: Global, event: Event) -> Result<Reply, ControlChanError>
         ensures says { IfOk result (λ reply.
             reply_of reply ≡ law.says (state self.old) (event_meant event)) }

@@ -10,7 +10,8 @@ use unftp_control_command::Command;
 use unftp_control_count::Count;
 use unftp_control_error::{ControlChanError, ControlChanErrorKind};
 
-/// A buffer and the codec that cuts it into lines. There is no line feed before the codec's place.
+/// A buffer and the codec that cuts it into lines. There is no line feed before the codec's scan
+/// offset.
 #[derive(Drop)]
 pub(crate) struct LineBuffer {
     codec: FtpCodec,

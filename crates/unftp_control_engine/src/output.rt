@@ -2,7 +2,7 @@
 ghost use Rattle.std.specs.Prelude.{◌≡◌, length};
 ghost use Rattle.std.specs.Io.{WritesAtMost};
 ghost use Rattle.std.specs.Io.KnownBytes.{Keeps, WriteAppends};
-ghost use Rattle.unftp_control_engine.specs.Sink.{CountsWrite, CountsFlush};
+ghost use Rattle.unftp_control_engine.specs.Writing.{CountsWrite, CountsFlush};
 
 use std::io;
 use std::io::Write;
@@ -31,7 +31,7 @@ impl<W: Write> Output<W> {
         }
     }
 
-    /// The writer, as the calls left it.
+    /// The writer, as the last call left it: bytes that were not flushed are still not.
     pub fn into_inner(self) -> W
         ensures { result ≡ self.writer }
     {

@@ -1,5 +1,5 @@
 //! Writing bytes whole.
-ghost use Rattle.unftp_control_engine.specs.Sink.{Sends, Writes, sink_of};
+ghost use Rattle.unftp_control_engine.specs.Writing.{Sends, Writes, output_state_of};
 
 use crate::error::ServeError;
 use crate::output::Output;
@@ -8,8 +8,8 @@ use std::io::Write;
 /// Writes all of the bytes, or a beginning of them where the writer fails.
 fn write_whole<W: Write>(output: &mut Output<W>, bytes: &[u8]) -> Result<(), ServeError>
     ensures { Writes result bytes.now
-        (sink_of W.contents output.old)
-        (sink_of W.contents output.new) }
+        (output_state_of W.contents output.old)
+        (output_state_of W.contents output.new) }
 {
     let mut rest = bytes;
     while !rest.is_empty() {
@@ -25,8 +25,8 @@ fn write_whole<W: Write>(output: &mut Output<W>, bytes: &[u8]) -> Result<(), Ser
 /// Writes and flushes the bytes, if there are any.
 pub(crate) fn send<W: Write>(output: &mut Output<W>, bytes: &[u8]) -> Result<(), ServeError>
     ensures { Sends result bytes.now
-        (sink_of W.contents output.old)
-        (sink_of W.contents output.new) }
+        (output_state_of W.contents output.old)
+        (output_state_of W.contents output.new) }
 {
     if bytes.is_empty() {
         return Ok(());

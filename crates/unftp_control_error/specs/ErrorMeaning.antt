@@ -9,7 +9,7 @@ use Rattle.unftp_control_error.specs.declared.ControlChanErrorKind.{ControlChanE
 use Rattle.unftp_control_error.specs.declared.ControlChanErrorKind.TheVariants as kind
 use Rattle.unftp_control_error.specs.declared.Source.{Source}
 use Rattle.unftp_control_error.specs.declared.Source.TheVariants as source
-use Rattle.unftp_control_error.specs.ErrorParts.{Parts}
+use Rattle.unftp_control_error.specs.ErrorParts.{KindAndSource}
 
 abbrev pub kind_meant : ControlChanErrorKind → FaultKind
 kind_meant kind.IoError = fault.IoError
@@ -30,7 +30,7 @@ source_meant (source.Parse error) = Parse (refusal_of error)
 source_meant (source.Utf8 error) = Utf8
 source_meant (source.Io error) = Io
 
-abbrev pub fault_of : Parts → Fault
+abbrev pub fault_of : KindAndSource → Fault
 fault_of parts = record { kind = kind_meant parts.kind; source = source_meant parts.source }
 
 -- the kind that an error of the parser becomes

@@ -2,6 +2,6 @@
 use Rattle.unftp_control_error.specs.declared.ControlChanErrorKind.{ControlChanErrorKind}
 use Rattle.unftp_control_error.specs.declared.Source.{Source}
 
-pub record Parts : Type 0 where
+pub record KindAndSource : Type 0 where
   pub kind : ControlChanErrorKind
   pub source : Source

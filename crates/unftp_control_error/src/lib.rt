@@ -35,13 +35,13 @@ pub enum ControlChanErrorKind {
         /// The command as it was sent.
         command: String,
     },
-    /// A line is no command that is read.
+    /// The parser refused a line with `InvalidCommand` or `InvalidEol`.
     InvalidCommand,
     /// The client sent nothing for too long.
     ControlChannelTimeout,
     /// The control channel is in a state in which it must not be.
     IllegalState,
-    /// Memory was refused.
+    /// An allocation failed.
     OutOfMemory,
 }
 
@@ -100,9 +100,9 @@ pub struct ControlChanError {
 }
 
 impl Model for ControlChanError {
-    ghost use Rattle.unftp_control_error.specs.ErrorParts.{Parts};
+    ghost use Rattle.unftp_control_error.specs.ErrorParts.{KindAndSource};
 
-    ghost Value = { Parts };
+    ghost Value = { KindAndSource };
 
     ghost view = { λ error. record { kind = error.kind; source = error.source } };
 }

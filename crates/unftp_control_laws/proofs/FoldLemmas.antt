@@ -1,12 +1,12 @@
--- Verbs and names of SITE are read in either case.
+-- Verbs and SITE subcommands are read ignoring ASCII case.
 use Rattle.std.proofs.Common.{◌≡◌, cond, Err, refl, sym, ap, ◌∙◌, codes}
 use Rattle.std.specs.Str.{is_utf8, chars}
 use Rattle.unftp_control_defs.specs.Bytes.{Bytes}
 use Rattle.unftp_control_defs.specs.Verbs.{Cut, upper}
 use Rattle.unftp_control_defs.specs.Values.{value_of}
 use Rattle.unftp_control_defs.specs.FtpCommand.{Answer, InvalidUtf8}
-use Rattle.unftp_control_defs.specs.Rules.{rule_of, by_name}
-use Rattle.unftp_control_defs.specs.Outcome.{answer_by, by_value, site_answer, outcome}
+use Rattle.unftp_control_defs.specs.Rules.{rule_of, subcommand_answer}
+use Rattle.unftp_control_defs.specs.Outcome.{answer_by, value_answer, site_answer, outcome}
 use Rattle.unftp_control_defs.proofs.CaseLemmas.{is_utf8-upper}
 use Rattle.unftp_control_defs.proofs.VerbLemmas.{Cut-unique}
 
@@ -15,7 +15,7 @@ abbrev meaning : Bytes → Bytes → Answer
 meaning verb parameter = cond (is_utf8 verb) (answer_by (rule_of (upper verb)) parameter) (Err InvalidUtf8)
 
 abbrev site_meaning : Bytes → Bytes → Answer
-site_meaning name arguments = cond (is_utf8 name) (by_value (by_name (upper name)) (value_of arguments)) (Err InvalidUtf8)
+site_meaning name arguments = cond (is_utf8 name) (value_answer (subcommand_answer (upper name)) (value_of arguments)) (Err InvalidUtf8)
 
 outcome-Cut : (line verb parameter : Bytes) → Cut line verb parameter → outcome line ≡ meaning verb parameter
 outcome-Cut line verb parameter cut = let same = Cut-unique line verb parameter cut in λ i. meaning (sym same.0 i) (sym same.1 i)
@@ -33,7 +33,7 @@ outcome-verb_case line other verb other_verb parameter a b e =
     ∙ sym (outcome-Cut other other_verb parameter b)
 
 site_case : (name other_name arguments : Bytes) → upper name ≡ upper other_name → site_meaning name arguments ≡ site_meaning other_name arguments
-site_case name other_name arguments e = λ i. cond (same_utf8 name other_name e i) (by_value (by_name (e i)) (value_of arguments)) (Err InvalidUtf8)
+site_case name other_name arguments e = λ i. cond (same_utf8 name other_name e i) (value_answer (subcommand_answer (e i)) (value_of arguments)) (Err InvalidUtf8)
 
 site_written : (parameter : Bytes) → meaning (codes "SITE") parameter ≡ site_answer parameter
 unfolding is_utf8 chars lib.Utf8.encode

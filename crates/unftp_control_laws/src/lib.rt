@@ -11,7 +11,7 @@ ghost use Rattle.unftp_control_defs.specs.Bytes.{Bytes, LF, crlf, Lacks};
 ghost use Rattle.unftp_control_defs.specs.Canonical.{canonical_line, HasLine};
 ghost use Rattle.unftp_control_defs.specs.Pieces.{events_in_turn};
 ghost use Rattle.unftp_control_defs.specs.Events.{events};
-ghost use Rattle.unftp_control_defs.specs.FtpCommand.{FtpCommand, User, IsReal};
+ghost use Rattle.unftp_control_defs.specs.FtpCommand.{FtpCommand, User, HasTypedFields};
 ghost use Rattle.unftp_control_defs.specs.FtpReply.{FtpReply, IsPlain, encoded, reply_as_read};
 ghost use Rattle.unftp_control_defs.specs.Lines.{IsLine, Lines, lines_of, incomplete_line};
 ghost use Rattle.unftp_control_defs.specs.LossyText.{Character, LossyText, first_part};
@@ -66,7 +66,8 @@ pub fn case_folds()
         → Cut line verb parameter → Cut other other_verb parameter
         → upper verb ≡ upper other_verb
         → outcome line ≡ outcome other }
-    ensures name { (line other verb other_verb parameter other_parameter name other_name arguments : Bytes)
+    ensures name { (line other verb other_verb parameter other_parameter : Bytes)
+        (name other_name arguments : Bytes)
         → Cut line verb parameter → Cut other other_verb other_parameter
         → upper verb ≡ codes "SITE" → upper other_verb ≡ codes "SITE"
         → Cut parameter name arguments → Cut other_parameter other_name arguments
@@ -81,18 +82,18 @@ pub fn escape_reads_back()
         → outcome (codes "USER " ++ escaped name ++ crlf) ≡ Ok (User name) }
 {}
 
-/// The canonical line of a command that has a line has one LF, its last byte, and means that command, where
-/// its fields are of their types (RFC 959, section 5.3).
+/// The canonical line of a command that has a line has one LF, its last byte, and means that
+/// command, where its fields are of their types (RFC 959, section 5.3).
 pub fn canonical_lines_read_back()
     ensures line { (command : FtpCommand) → HasLine command → IsLine (canonical_line command) }
-    ensures read_back { (command : FtpCommand) → HasLine command → IsReal command
+    ensures read_back { (command : FtpCommand) → HasLine command → HasTypedFields command
         → outcome (canonical_line command) ≡ Ok command }
 {}
 
 /// A command has a line, and fields of their types, exactly where a line whose one LF is its last
 /// byte means it (RFC 959, section 5.3).
 pub fn commands_of_lines()
-    ensures { (command : FtpCommand) → (HasLine command × IsReal command)
+    ensures { (command : FtpCommand) → (HasLine command × HasTypedFields command)
         ↔ ((line : Bytes) × IsLine line × (outcome line ≡ Ok command)) }
 {}
 

@@ -14,8 +14,8 @@ use Rattle.unftp_control_defs.specs.Bytes.{Bytes}
 use Rattle.unftp_control_defs.specs.Verbs.{upper, verb_of, parameter_of}
 use Rattle.unftp_control_defs.specs.Values.{value_of}
 use Rattle.unftp_control_defs.specs.FtpCommand.{FtpCommand, Answer, InvalidUtf8, Other}
-use Rattle.unftp_control_defs.specs.Rules.{Rule, row_of, verbs, any_text, some_text, by_name}
-use Rattle.unftp_control_defs.specs.Outcome.{site_answer, by_value, answer_by, outcome}
+use Rattle.unftp_control_defs.specs.Rules.{Rule, row_of, verbs, any_text, some_text, subcommand_answer}
+use Rattle.unftp_control_defs.specs.Outcome.{site_answer, value_answer, answer_by, outcome}
 use Rattle.unftp_control_line_parser.specs.Values.{RefusesEmpty}
 use Rattle.unftp_control_line_parser.specs.ParseAnswer.{Refuses, Returns}
 use Rattle.unftp_control_command.specs.declared.Command.{Command}
@@ -63,22 +63,22 @@ module _ (line word parameter : Bytes) (r : Result Command ParseErrorKind) (whol
       let is : outcome line ≡ answer_by rule (parameter_of line) = rw (named_utf8 (verb_of line) rule f, f) in
       subst (λ a. Returns a r) (sym is) (subst (λ p. Returns (answer_by rule p) r) rest h)
 
-  pub line_other : (name : Bytes) → row_of (upper word) verbs ≡ None → name ≡ word → is_utf8 word ≡ true → Returns (by_value (any_text (Other (upper name))) (value_of parameter)) r → Returns (outcome line) r
+  pub line_other : (name : Bytes) → row_of (upper word) verbs ≡ None → name ≡ word → is_utf8 word ≡ true → Returns (value_answer (any_text (Other (upper name))) (value_of parameter)) r → Returns (outcome line) r
   line_other name none same u h =
       let n : row_of (upper (verb_of line)) verbs ≡ None = subst (λ w. row_of (upper w) verbs ≡ None) whole none in
       let t : is_utf8 (verb_of line) ≡ true = subst (λ w. is_utf8 w ≡ true) whole u in
-      let is : outcome line ≡ by_value (any_text (Other (upper (verb_of line)))) (value_of (parameter_of line)) = rw (t, n) in
+      let is : outcome line ≡ value_answer (any_text (Other (upper (verb_of line)))) (value_of (parameter_of line)) = rw (t, n) in
       subst (λ a. Returns a r) (sym is)
-      (subst (λ w. Returns (by_value (any_text (Other (upper w))) (value_of (parameter_of line))) r) (same ∙ whole)
-      (subst (λ p. Returns (by_value (any_text (Other (upper name))) (value_of p)) r) rest h))
+      (subst (λ w. Returns (value_answer (any_text (Other (upper w))) (value_of (parameter_of line))) r) (same ∙ whole)
+      (subst (λ p. Returns (value_answer (any_text (Other (upper name))) (value_of p)) r) rest h))
 
-  pub site_named : (name : Bytes) → name ≡ word → is_utf8 word ≡ true → Returns (by_value (by_name (upper name)) (value_of parameter)) r → Returns (site_answer line) r
+  pub site_named : (name : Bytes) → name ≡ word → is_utf8 word ≡ true → Returns (value_answer (subcommand_answer (upper name)) (value_of parameter)) r → Returns (site_answer line) r
   site_named name same u h =
       let t : is_utf8 (verb_of line) ≡ true = subst (λ w. is_utf8 w ≡ true) whole u in
-      let is : site_answer line ≡ by_value (by_name (upper (verb_of line))) (value_of (parameter_of line)) = rw t in
+      let is : site_answer line ≡ value_answer (subcommand_answer (upper (verb_of line))) (value_of (parameter_of line)) = rw t in
       subst (λ a. Returns a r) (sym is)
-      (subst (λ w. Returns (by_value (by_name (upper w)) (value_of (parameter_of line))) r) (same ∙ whole)
-      (subst (λ p. Returns (by_value (by_name (upper name)) (value_of p)) r) rest h))
+      (subst (λ w. Returns (value_answer (subcommand_answer (upper w)) (value_of (parameter_of line))) r) (same ∙ whole)
+      (subst (λ p. Returns (value_answer (subcommand_answer (upper name)) (value_of p)) r) rest h))
 
 -- an error that is passed on
 pub refused : (answer : Answer) (error : ParseErrorKind) (r : Result Command ParseErrorKind) → Refuses answer error → IsErrAnd r (λ e. e ≡ error) → Returns answer r

@@ -9,31 +9,31 @@ use Rattle.unftp_control_line_parser.specs.declared.error.ParseErrorKind.{ParseE
 use Rattle.unftp_control_line_parser.specs.declared.error.ParseErrorKind.TheVariants as kind
 
 -- a command whose verb takes no value, or ignores its parameter
-abbrev pub needs_no_memory : FtpCommand → Bool
-needs_no_memory Syst = true
-needs_no_memory TypeCode = true
-needs_no_memory Help = true
-needs_no_memory Epsv = true
-needs_no_memory Allo = true
-needs_no_memory Noop = true
-needs_no_memory Pasv = true
-needs_no_memory Feat = true
-needs_no_memory Pwd = true
-needs_no_memory Cdup = true
-needs_no_memory Quit = true
-needs_no_memory Abor = true
-needs_no_memory Stou = true
-needs_no_memory Ccc = true
-needs_no_memory _ = false
+abbrev pub takes_no_memory : FtpCommand → Bool
+takes_no_memory Syst = true
+takes_no_memory TypeCode = true
+takes_no_memory Help = true
+takes_no_memory Epsv = true
+takes_no_memory Allo = true
+takes_no_memory Noop = true
+takes_no_memory Pasv = true
+takes_no_memory Feat = true
+takes_no_memory Pwd = true
+takes_no_memory Cdup = true
+takes_no_memory Quit = true
+takes_no_memory Abor = true
+takes_no_memory Stou = true
+takes_no_memory Ccc = true
+takes_no_memory _ = false
 
--- it is no such command
-abbrev pub MayNeedMemory : Answer → Type 0
-MayNeedMemory (Ok command) = needs_no_memory command ≡ false
-MayNeedMemory (Err refusal) = ⊤
+-- the answer is a refusal, or a command that may take memory
+abbrev pub AnswerMayTakeMemory : Answer → Type 0
+AnswerMayTakeMemory (Ok command) = takes_no_memory command ≡ false
+AnswerMayTakeMemory (Err refusal) = ⊤
 
--- The line's verb is UTF-8, and it is no such command.
+-- The line's verb is UTF-8, and its answer may take memory.
 abbrev pub MayTakeMemory : Bytes → Type 0
-MayTakeMemory line = (is_utf8 (verb_of line) ≡ true) × MayNeedMemory (outcome line)
+MayTakeMemory line = (is_utf8 (verb_of line) ≡ true) × AnswerMayTakeMemory (outcome line)
 
 -- where memory ran out, P
 abbrev pub IfOutOfMemory : ParseErrorKind → Type 0 → Type 0

@@ -11,13 +11,15 @@ use std::{fmt, result};
 /// Why `parse` answers no command.
 #[derive(Debug, Drop, PartialEq, Eq, Clone)]
 pub enum ParseErrorKind {
-    /// The verb doesn't take this parameter, or isn't read.
+    /// The verb doesn't take this value (RFC 959, section 4.1), or that of AUTH is longer than
+    /// three bytes.
     InvalidCommand,
     /// The verb is not UTF-8, or a part of the parameter that has to be.
     InvalidUtf8,
-    /// The parameter has no end of line, or a CR that neither LF nor NUL follows (RFC 854).
+    /// The parameter has no end of line, or a CR after its first byte that neither LF nor NUL
+    /// follows (RFC 854).
     InvalidEol,
-    /// Memory was refused; nothing is said of the line.
+    /// An allocation failed. Whether the line is a command is not known.
     OutOfMemory,
 }
 

@@ -7,11 +7,11 @@ ghost use Rattle.unftp_control_defs.specs.Canonical.{HasLine};
 ghost use Rattle.unftp_control_defs.specs.Lines.{IsLine};
 ghost use Rattle.unftp_control_defs.specs.Verbs.{is_separator, parameter_of, upper, verb_of};
 ghost use Rattle.unftp_control_defs.specs.FtpCommand.{Other};
-ghost use Rattle.unftp_control_defs.specs.Outcome.{answer_by, by_value, outcome, site_answer};
-ghost use Rattle.unftp_control_defs.specs.Rules.{without_parameter, any_text, by_name};
+ghost use Rattle.unftp_control_defs.specs.Outcome.{answer_by, value_answer, outcome, site_answer};
+ghost use Rattle.unftp_control_defs.specs.Rules.{without_parameter, any_text, subcommand_answer};
 ghost use Rattle.unftp_control_defs.specs.Values.{value_of};
 ghost use Rattle.unftp_control_line_parser.specs.Meaning.{meaning, parameter_answer, unit_command};
-ghost use Rattle.unftp_control_line_parser.specs.Memory.{MayNeedMemory, MayTakeMemory, OnOutOfMemory};
+ghost use Rattle.unftp_control_line_parser.specs.Memory.{AnswerMayTakeMemory, MayTakeMemory, OnOutOfMemory};
 ghost use Rattle.unftp_control_line_parser.specs.ParseAnswer.{Returns};
 ghost use Rattle.unftp_control_line_parser.specs.Values.{ReturnsSomeText};
 
@@ -60,10 +60,11 @@ pub fn split<'a>(line: &'a [u8]) -> (&'a [u8], &'a [u8])
 /// feed or without one; each text of the command is new memory, and nothing else is kept of the
 /// line.
 ///
-/// It is refused with `InvalidUtf8` where the verb, or the name of SITE, is not UTF-8; else with
-/// `InvalidEol` where the parameter has no end or a bare carriage return (RFC 854); else with
-/// `InvalidCommand` where the verb doesn't take the parameter, or with `InvalidUtf8` where AUTH's
-/// is not UTF-8; and with `OutOfMemory` when out of memory.
+/// It is refused with `InvalidUtf8` where the verb, or the SITE subcommand, is not UTF-8; else with
+/// `InvalidEol` where the parameter has no end or a bare carriage return after its first byte (RFC
+/// 854); else with `InvalidCommand` where the verb doesn't take the value, or with `InvalidUtf8`
+/// where AUTH's, of at most three bytes, is not UTF-8; and with `OutOfMemory` when out of memory. A
+/// verb that ignores its parameter takes any.
 pub fn parse(alloc: Global, line: &[u8]) -> Result<Command>
     ensures answer { Returns (outcome line.now) result }
     // it runs out of memory only where the line may take some
@@ -74,7 +75,7 @@ pub fn parse(alloc: Global, line: &[u8]) -> Result<Command>
     Ok(command_in(alloc, line)?)
 }
 
-/// The same, with the kind of the refusal.
+/// The command of the line, or the kind of its refusal.
 fn command_in(alloc: Global, line: &[u8]) -> Answer
     ensures answer { Returns (outcome line.now) result }
     ensures memory { OnOutOfMemory result (MayTakeMemory line.now) }
@@ -89,7 +90,8 @@ fn command_in(alloc: Global, line: &[u8]) -> Answer
 /// What the rule makes of parameter bytes.
 fn by_rule(alloc: Global, rule: Rule, parameter: &[u8]) -> Answer
     ensures answer { Returns (answer_by (meaning rule) parameter.now) result }
-    ensures memory { OnOutOfMemory result (MayNeedMemory (answer_by (meaning rule) parameter.now)) }
+    ensures memory { OnOutOfMemory result
+        (AnswerMayTakeMemory (answer_by (meaning rule) parameter.now)) }
 {
     match rule {
         Rule::Ignores(command) => Ok(command.command()),
@@ -105,7 +107,7 @@ fn by_rule(alloc: Global, rule: Rule, parameter: &[u8]) -> Answer
 fn with_value(alloc: Global, kind: ParameterKind, value: CowSlice<'_, u8>) -> Answer
     ensures answer { Returns (parameter_answer kind (cow_slice_items value.entry)) result }
     ensures memory { OnOutOfMemory result
-        (MayNeedMemory (parameter_answer kind (cow_slice_items value.entry))) }
+        (AnswerMayTakeMemory (parameter_answer kind (cow_slice_items value.entry))) }
 {
     match kind {
         ParameterKind::Empty(command) => without_value(command, value.as_slice()),
@@ -157,7 +159,8 @@ fn site(alloc: Global, parameter: &[u8]) -> Answer
 
 /// The same, of a name in UTF-8.
 fn subcommand(alloc: Global, name: &str, parameter: &[u8]) -> Answer
-    ensures { Returns (by_value (by_name (upper name.now)) (value_of parameter.now)) result }
+    ensures { Returns
+        (value_answer (subcommand_answer (upper name.now)) (value_of parameter.now)) result }
 {
     let value = parameter_value(alloc, parameter)?;
     if name.eq_ignore_ascii_case("MD5") {
@@ -174,7 +177,7 @@ fn subcommand(alloc: Global, name: &str, parameter: &[u8]) -> Answer
 /// A verb without a rule of its own, and its parameter.
 fn other(alloc: Global, name: &str, parameter: &[u8]) -> Answer
     ensures { Returns
-        (by_value (any_text (Other (upper name.now))) (value_of parameter.now)) result }
+        (value_answer (any_text (Other (upper name.now))) (value_of parameter.now)) result }
 {
     let value = parameter_value(alloc, parameter)?;
     Ok(Command::Other {

@@ -9,8 +9,8 @@ use Rattle.unftp_control_read.specs.declared.Front.{Front}
 use Rattle.unftp_control_read.specs.declared.Front.TheVariants.{Whole, Partial}
 use Rattle.unftp_control_read.specs.declared.ReadReplyError.{ReadReplyError}
 use Rattle.unftp_control_read.specs.declared.ReadReplyError.TheVariants.{Malformed, OutOfMemory}
-use Rattle.unftp_control_read.specs.declared.opening.Kind.{Kind}
-use Rattle.unftp_control_read.specs.declared.opening.Kind.TheVariants.{One, Several}
+use Rattle.unftp_control_read.specs.declared.opening.AfterCode.{AfterCode}
+use Rattle.unftp_control_read.specs.declared.opening.AfterCode.TheVariants.{One, Several}
 use Rattle.unftp_control_read.specs.declared.finding.Texts.{Texts}
 use Rattle.unftp_control_read.specs.declared.finding.Texts.TheVariants as text
 use Rattle.unftp_control_read.specs.declared.finding.Finding.{Finding}
@@ -56,13 +56,13 @@ EndsWith digits bytes middle text rest = (ended : IsEnded digits bytes)
     × (middle ≡ flat_map with_crlf ended.middle) × (text ≡ ended.last) × (rest ≡ ended.rest)
 
 -- how the line opens a reply after these digits
-abbrev pub IsKind : Bytes → Bytes → Kind → Type 0
-IsKind line digits (One text) =
+abbrev pub IsAfterCode : Bytes → Bytes → AfterCode → Type 0
+IsAfterCode line digits (One text) =
     ((line ≡ digits) × (text.now ≡ [])) ⊎ (line ≡ digits ++ SP ∷ text.now)
-IsKind line digits (Several text) = line ≡ digits ++ DASH ∷ text.now
+IsAfterCode line digits (Several text) = line ≡ digits ++ DASH ∷ text.now
 
-abbrev pub IsOpening : Bytes → ℕ → Bytes → Kind → Type 0
-IsOpening line code digits kind = SpellsCode digits code × IsKind line digits kind
+abbrev pub IsOpening : Bytes → ℕ → Bytes → AfterCode → Type 0
+IsOpening line code digits kind = SpellsCode digits code × IsAfterCode line digits kind
 
 -- the texts are these lines
 abbrev pub Holds : Texts → List Bytes → Type 0

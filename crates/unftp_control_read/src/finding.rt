@@ -2,7 +2,7 @@
 ghost use Rattle.unftp_control_read.specs.Reading.{Finds};
 
 use crate::lines::{LastLine, find_last_line, next_line};
-use crate::opening::{Kind, opening_of};
+use crate::opening::{AfterCode, opening_of};
 
 /// The texts of a reply, as parts of its bytes: the one text, or the first, the whole lines
 /// between, and the last.
@@ -40,12 +40,12 @@ pub(crate) fn find_front(bytes: &[u8]) -> Finding<'_>
     };
     let code = opening.code;
     match opening.kind {
-        Kind::One(text) => Finding::Whole {
+        AfterCode::One(text) => Finding::Whole {
             code,
             texts: Texts::One(text),
             used: bytes.len() - after.len(),
         },
-        Kind::Several(first) => match find_last_line(opening.digits, after) {
+        AfterCode::Several(first) => match find_last_line(opening.digits, after) {
             None => Finding::Partial,
             Some(LastLine { middle, text, rest }) => Finding::Whole {
                 code,

@@ -1,4 +1,4 @@
-//! Reads the reply at the front of some bytes, as a client of RFC 959 does.
+//! Reads the reply at the start of some bytes, as a client of RFC 959 does.
 #![tactic(auto)]
 
 ghost use Rattle.std.specs.Prelude.{◌≡◌, ◌↔◌, ℕ, List, IsTrue, IfOk, IfErr, MatchResult};
@@ -20,7 +20,7 @@ use thiserror::Error;
 /// What some bytes begin with.
 #[derive(Debug, PartialEq, Eq, Drop)]
 pub enum Front {
-    /// A whole reply.
+    /// A complete reply.
     Whole {
         /// Its three digits, as a number.
         code: u16,
@@ -42,17 +42,17 @@ pub enum ReadReplyError {
     /// The first line is complete and opens no reply.
     #[error("malformed reply")]
     Malformed,
-    /// Memory was refused for the lines of a whole reply.
+    /// An allocation for the lines of a complete reply failed.
     #[error("out of memory")]
     OutOfMemory,
 }
 
-/// Reads the reply at the front of `bytes` (RFC 959, section 4.2). A line ends at CR LF, and a bare
+/// Reads the reply at the start of `bytes` (RFC 959, section 4.2). A line ends at CR LF, and a bare
 /// CR or LF belongs to it.
 ///
 /// Whether there is one is decided first, in one pass and without memory; then its lines are
 /// copied. So `Partial` and `Malformed` take no memory, and `OutOfMemory` is returned only where a
-/// whole reply is there. The bytes after the reply are ignored.
+/// complete reply is there. The bytes after the reply are ignored.
 pub fn read_reply(alloc: Global, bytes: &[u8]) -> Result<Front, ReadReplyError>
     ensures front { IfOk result (λ front. ReturnsFront bytes.now front) }
     ensures refusal { IfErr result (λ refusal. ReturnsRefusal bytes.now refusal) }

@@ -28,7 +28,7 @@ fn code_of(digits: &[u8]) -> Option<u16>
 /// What follows the code: the one text, after a space or empty if nothing follows, or the first of
 /// several after a dash.
 #[derive(Drop)]
-pub(crate) enum Kind<'a> {
+pub(crate) enum AfterCode<'a> {
     /// The one text.
     One(&'a [u8]),
     /// The first of several.
@@ -40,7 +40,7 @@ pub(crate) enum Kind<'a> {
 pub(crate) struct Opening<'a> {
     pub(crate) code: u16,
     pub(crate) digits: &'a [u8],
-    pub(crate) kind: Kind<'a>,
+    pub(crate) kind: AfterCode<'a>,
 }
 
 /// How the line opens a reply.
@@ -52,9 +52,9 @@ pub(crate) fn opening_of(line: &[u8]) -> Option<Opening<'_>>
     let (digits, after) = line.split_at_checked(3)?;
     let code = code_of(digits)?;
     let kind = match after {
-        [] => Kind::One(after),
-        [b' ', text @ ..] => Kind::One(text),
-        [b'-', text @ ..] => Kind::Several(text),
+        [] => AfterCode::One(after),
+        [b' ', text @ ..] => AfterCode::One(text),
+        [b'-', text @ ..] => AfterCode::Several(text),
         _ => return None,
     };
     Some(Opening { code, digits, kind })

@@ -44,7 +44,7 @@ pub enum ReplyCode {
     ClosingDataConnection = 226,
     /// 227: the server listens for the data connection.
     EnteringPassiveMode = 227,
-    /// 229: the same over any protocol (RFC 2428).
+    /// 229: the server listens for the data connection, in extended passive mode (RFC 2428).
     EnteringExtendedPassiveMode = 229,
     /// 230: the user is logged in.
     UserLoggedIn = 230,

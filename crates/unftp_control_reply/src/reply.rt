@@ -59,7 +59,8 @@ impl Reply {
         code: ReplyCode,
         lines: I,
     ) -> Result<Reply, ControlChanError>
-        requires { IsFiniteIterable I.into_iter_gives I.IntoIter.can_next I.IntoIter.remaining lines }
+        requires { IsFiniteIterable I.into_iter_gives
+            I.IntoIter.can_next I.IntoIter.remaining lines }
         ensures ok { IfOk result (λ reply.
             (iterator : I.IntoIter) × (texts : _) × I.into_iter_gives lines iterator
             × Drains I.IntoIter.next_gives iterator texts

@@ -13,7 +13,7 @@ use Rattle.unftp_control_defs.proofs.EncodingLemmas.{ReadsBack-encoded}
 use Rattle.unftp_control_defs.proofs.LineLemmas.{events-append, incomplete_line-append}
 use Rattle.unftp_control_engine.specs.Endings.{Snapshot, AllAnswered, RunEnded}
 use Rattle.unftp_control_engine.specs.Engine.{EngineState, IsRunning, Leaves, events_with, saturating_u64}
-use Rattle.unftp_control_serve.specs.Service.{Source, Answered, EndedLate, ReadTooOften, ServeEnded}
+use Rattle.unftp_control_serve.specs.Service.{InputState, Answered, EndedLate, ReadTooOften, ServeEnded}
 use Rattle.unftp_control_engine.specs.declared.error.ServeError.{ServeError}
 use Rattle.unftp_control_engine.specs.declared.error.ServeError.TheVariants.{Read, Write, WriteZero, Handler, OutOfMemory, Stopped, TooManyReads}
 use Rattle.unftp_control_engine.proofs.EndingLemmas.{AllAnswered-nothing, AllAnswered-then, RunEnded-then}
@@ -30,7 +30,7 @@ Consumes-then (Some a) (Some b) (Some c) read more p q = p ∙ ap (λ z. read ++
 
 -- in the loop of `serve`: all lines of what was read are answered, and the engine holds the
 -- incomplete line
-pub record Serving {S : Type 0} (law : Law S) (m n : Snapshot S) (i j : Source) (engine : EngineState) (turn : ℕ) : Type 0 where
+pub record Serving {S : Type 0} (law : Law S) (m n : Snapshot S) (i j : InputState) (engine : EngineState) (turn : ℕ) : Type 0 where
   pub so_far : Answered law m n i j
   pub running : IsRunning engine
   pub incomplete : engine.incomplete ≡ incomplete_line so_far.read
@@ -39,7 +39,7 @@ pub record Serving {S : Type 0} (law : Law S) (m n : Snapshot S) (i j : Source) 
   pub tested : engine.tests ≡ length so_far.read
   pub no_read_failed : j.failures ≡ i.failures
 
-module _ {S : Type 0} (law : Law S) (m : Snapshot S) (i : Source) where
+module _ {S : Type 0} (law : Law S) (m : Snapshot S) (i : InputState) where
   pub Serving-start : (engine : EngineState) → engine ≡ record { incomplete = []; left = 0; failed = false; tests = 0 } → Serving law m m i i engine 0
   Serving-start engine new = rw new record {
     so_far = record { read = []; consumed = Consumes-nothing i.remaining; answered = AllAnswered-nothing law m };
@@ -51,7 +51,7 @@ module _ {S : Type 0} (law : Law S) (m : Snapshot S) (i : Source) where
     no_read_failed = refl;
   }
 
-  module _ (n : Snapshot S) (j k : Source) (engine : EngineState) (turn : ℕ) (s : Serving law m n i j engine turn) where
+  module _ (n : Snapshot S) (j k : InputState) (engine : EngineState) (turn : ℕ) (s : Serving law m n i j engine turn) where
     same_incomplete : (piece : Bytes) → incomplete_line (engine.incomplete ++ piece) ≡ incomplete_line (s.so_far.read ++ piece)
     same_incomplete piece = ap (λ incomplete. incomplete_line (incomplete ++ piece)) s.incomplete ∙ sym (incomplete_line-append s.so_far.read piece)
 
@@ -98,7 +98,7 @@ module _ {S : Type 0} (law : Law S) (m : Snapshot S) (i : Source) where
     Serving-ended after piece Stopped consumed short ended = absurd ended
     Serving-ended after piece TooManyReads consumed short ended = absurd ended
 
-  pub Serving-too_often : (n : Snapshot S) (j : Source) (engine : EngineState) (turn : ℕ) → Serving law m n i j engine turn → 2 ^ 64 - 1 ≤ turn → ReadTooOften law m n i j
+  pub Serving-too_often : (n : Snapshot S) (j : InputState) (engine : EngineState) (turn : ℕ) → Serving law m n i j engine turn → 2 ^ 64 - 1 ≤ turn → ReadTooOften law m n i j
   Serving-too_often n j engine turn s many = record { answered = s.so_far; many = omega (arith, s.many) }
 
 -- the replies of a run over a known input are read back, where they are plain

@@ -5,25 +5,26 @@ use Rattle.unftp_control_defs.specs.Bytes.{Bytes}
 use Rattle.unftp_control_defs.specs.Lines.{incomplete_line}
 use Rattle.unftp_control_defs.specs.Events.{events}
 use Rattle.unftp_control_defs.specs.Run.{Law}
-use Rattle.unftp_control_engine.specs.Sink.{Begins}
+use Rattle.unftp_control_engine.specs.Writing.{Begins}
 use Rattle.unftp_control_engine.specs.Endings.{Snapshot, AllAnswered, RunEnded, done_of}
 use Rattle.unftp_control_engine.specs.Engine.{saturating_u64}
 use Rattle.unftp_control_serve.specs.declared.input.Input.{Input}
 use Rattle.unftp_control_engine.specs.declared.error.ServeError.{ServeError}
 use Rattle.unftp_control_engine.specs.declared.error.ServeError.TheVariants.{Read, Write, WriteZero, Handler, OutOfMemory, TooManyReads}
 
--- What contracts see of an input at one moment: what is left of it, where the reader's contracts
--- say that, and how often a read failed.
-pub record Source : Type 0 where
+-- What contracts see of an input: the bytes that are not read yet, where the reader's contracts
+-- know them, and how often a read failed.
+pub record InputState : Type 0 where
   pub remaining : Option Bytes
   pub failures : ℕ
 
-abbrev pub source_of : {R : Type 0} → (R → Option Bytes) → Input R → Source
-source_of remaining input = record { remaining = remaining input.reader; failures = input.failures }
+abbrev pub input_state_of : {R : Type 0} → (R → Option Bytes) → Input R → InputState
+input_state_of remaining input =
+    record { remaining = remaining input.reader; failures = input.failures }
 
 -- all lines of what was read were answered
 pub record Answered {S : Type 0} (law : Law S) (before after : Snapshot S)
-    (input input' : Source) : Type 0 where
+    (input input' : InputState) : Type 0 where
   pub read : Bytes
   pub consumed : Consumes input.remaining input'.remaining read
   pub answered : AllAnswered law before (events read) after
@@ -31,7 +32,7 @@ pub record Answered {S : Type 0} (law : Law S) (before after : Snapshot S)
 -- .. which is the whole input, and so many bytes of it came after its last line feed; each byte was
 -- scanned for one exactly once
 pub record AnsweredAll {S : Type 0} (law : Law S) (before after : Snapshot S)
-    (input input' : Source) (left tests : ℕ) : Type 0 where
+    (input input' : InputState) (left tests : ℕ) : Type 0 where
   pub read : Bytes
   pub consumed : Consumes input.remaining input'.remaining read
   pub at_end : IsAtEnd input'.remaining
@@ -42,7 +43,8 @@ pub record AnsweredAll {S : Type 0} (law : Law S) (before after : Snapshot S)
 
 -- It ended at some line of what was read, and all lines of what was read before the last piece were
 -- answered.
-pub record EndedLate {S : Type 0} (law : Law S) (before after : Snapshot S) (input input' : Source)
+pub record EndedLate {S : Type 0} (law : Law S) (before after : Snapshot S)
+    (input input' : InputState)
     (error : ServeError) : Type 0 where
   pub read : Bytes
   pub piece : Bytes
@@ -52,17 +54,17 @@ pub record EndedLate {S : Type 0} (law : Law S) (before after : Snapshot S) (inp
   pub late : Begins (done_of law before (events (read ++ piece)) after error ended) (events read)
 
 pub record ReadFailed {S : Type 0} (law : Law S) (before after : Snapshot S)
-    (input input' : Source) : Type 0 where
+    (input input' : InputState) : Type 0 where
   pub answered : Answered law before after input input'
   pub read_failed : input.failures < input'.failures
 
 pub record ReadTooOften {S : Type 0} (law : Law S) (before after : Snapshot S)
-    (input input' : Source) : Type 0 where
+    (input input' : InputState) : Type 0 where
   pub answered : Answered law before after input input'
   pub many : 2 ^ 64 - 1 ≤ length answered.read
 
 -- which of them an error means
-abbrev pub ServeEnded : {S : Type 0} → Law S → Snapshot S → Snapshot S → Source → Source
+abbrev pub ServeEnded : {S : Type 0} → Law S → Snapshot S → Snapshot S → InputState → InputState
     → ServeError → Type 0
 ServeEnded law before after input input' (Read _) = ReadFailed law before after input input'
 ServeEnded law before after input input' (Write error) =

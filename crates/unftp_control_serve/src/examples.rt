@@ -2,56 +2,58 @@
 ghost use Rattle.std.specs.Prelude.{◌≡◌, ◌+◌, ◌-◌, ◌^◌, ◌<◌, ◌≤◌, ℕ, [], ◌∷◌, ◌++◌, Some, length, codes};
 ghost use Rattle.std.specs.Io.KnownBytes.{Consumes, IsAtEnd};
 ghost use Rattle.unftp_control_defs.specs.Events.{events};
-ghost use Rattle.unftp_control_error.specs.ErrorParts.{Parts};
+ghost use Rattle.unftp_control_error.specs.ErrorParts.{KindAndSource};
 ghost use Rattle.unftp_control_engine.specs.Endings.{Snapshot, AllAnswered};
 ghost use Rattle.unftp_control_engine.specs.Examples.{counting, noop};
-ghost use Rattle.unftp_control_serve.specs.Service.{Source, AnsweredAll, EndedLate, ReadFailed, ReadTooOften, ServeEnded};
-ghost use Rattle.unftp_control_engine.specs.Sink.{Begins};
+ghost use Rattle.unftp_control_serve.specs.Service.{InputState, AnsweredAll, EndedLate, ReadFailed, ReadTooOften, ServeEnded};
+ghost use Rattle.unftp_control_engine.specs.Writing.{Begins};
 
 use unftp_control_engine::ServeError;
 
 /// Which errors `serve` returns, and what each one says.
 pub fn errors_of_serve()
-    ensures read { (before after : Snapshot ℕ) (input input_after : Source) (error : _)
+    ensures read { (before after : Snapshot ℕ) (input input_after : InputState) (error : _)
         → ServeEnded counting before after input input_after (ServeError.Read error)
         → ReadFailed counting before after input input_after }
-    ensures read_failed { (before after : Snapshot ℕ) (input input_after : Source)
+    ensures read_failed { (before after : Snapshot ℕ) (input input_after : InputState)
         → ReadFailed counting before after input input_after
         → input.failures < input_after.failures }
-    ensures write { (before after : Snapshot ℕ) (input input_after : Source) (error : _)
+    ensures write { (before after : Snapshot ℕ) (input input_after : InputState) (error : _)
         → ServeEnded counting before after input input_after (ServeError.Write error)
         → EndedLate counting before after input input_after (ServeError.Write error) }
-    ensures write_zero { (before after : Snapshot ℕ) (input input_after : Source)
+    ensures write_zero { (before after : Snapshot ℕ) (input input_after : InputState)
         → ServeEnded counting before after input input_after ServeError.WriteZero
         → EndedLate counting before after input input_after ServeError.WriteZero }
-    ensures handler { (before after : Snapshot ℕ) (input input_after : Source) (error : Parts)
+    ensures handler { (before after : Snapshot ℕ) (input input_after : InputState)
+        (error : KindAndSource)
         → ServeEnded counting before after input input_after (ServeError.Handler error)
         → EndedLate counting before after input input_after (ServeError.Handler error) }
-    ensures memory { (before after : Snapshot ℕ) (input input_after : Source)
+    ensures memory { (before after : Snapshot ℕ) (input input_after : InputState)
         → ServeEnded counting before after input input_after ServeError.OutOfMemory
         → EndedLate counting before after input input_after ServeError.OutOfMemory }
-    ensures many_reads { (before after : Snapshot ℕ) (input input_after : Source)
+    ensures many_reads { (before after : Snapshot ℕ) (input input_after : InputState)
         → ServeEnded counting before after input input_after ServeError.TooManyReads
         → ReadTooOften counting before after input input_after }
-    ensures many { (before after : Snapshot ℕ) (input input_after : Source)
+    ensures many { (before after : Snapshot ℕ) (input input_after : InputState)
         (v : ReadTooOften counting before after input input_after)
         → 2 ^ 64 - 1 ≤ length v.answered.read }
-    ensures stopped { (before after : Snapshot ℕ) (input input_after : Source)
+    ensures stopped { (before after : Snapshot ℕ) (input input_after : InputState)
         → ServeEnded counting before after input input_after ServeError.Stopped → ⊥ }
     // the lines that were read before the last piece are answered
-    ensures late_write { (before after : Snapshot ℕ) (input input_after : Source) (error : _)
+    ensures late_write { (before after : Snapshot ℕ) (input input_after : InputState) (error : _)
         (v : EndedLate counting before after input input_after (ServeError.Write error))
         → Begins v.ended.done (events v.read) }
-    ensures late_write_zero { (before after : Snapshot ℕ) (input input_after : Source)
+    ensures late_write_zero { (before after : Snapshot ℕ) (input input_after : InputState)
         (v : EndedLate counting before after input input_after ServeError.WriteZero)
         → Begins v.ended.done (events v.read) }
-    ensures late_handler { (before after : Snapshot ℕ) (input input_after : Source) (error : Parts)
+    ensures late_handler { (before after : Snapshot ℕ) (input input_after : InputState)
+        (error : KindAndSource)
         (v : EndedLate counting before after input input_after (ServeError.Handler error))
         → Begins v.ended.done (events v.read) }
-    ensures late_memory { (before after : Snapshot ℕ) (input input_after : Source)
+    ensures late_memory { (before after : Snapshot ℕ) (input input_after : InputState)
         (v : EndedLate counting before after input input_after ServeError.OutOfMemory)
         → Begins v.ended.done (events v.read) }
-    ensures short { (before after : Snapshot ℕ) (input input_after : Source)
+    ensures short { (before after : Snapshot ℕ) (input input_after : InputState)
         (v : EndedLate counting before after input input_after ServeError.WriteZero)
         → Consumes input.remaining input_after.remaining (v.read ++ v.piece)
         × (length v.piece ≤ 4096) }
@@ -59,7 +61,7 @@ pub fn errors_of_serve()
 
 /// An input without its last line feed that was served whole.
 pub fn an_input_is_served()
-    ensures { (before after : Snapshot ℕ) (input : Source) (left tests : ℕ)
+    ensures { (before after : Snapshot ℕ) (input : InputState) (left tests : ℕ)
         → AnsweredAll counting before after
         (record { remaining = Some (codes "NOOP\r\nNO"); failures = 2 }) input left tests
         → AllAnswered counting before (noop ∷ []) after × IsAtEnd input.remaining × (left ≡ 2)

@@ -26,7 +26,7 @@ impl<R: Read> Input<R> {
         }
     }
 
-    /// The reader, as the calls left it.
+    /// The reader, as the last call left it.
     pub fn into_inner(self) -> R
         ensures { result ≡ self.reader }
     {

@@ -9,7 +9,7 @@ ghost use Rattle.unftp_control_defs.specs.ReplyReader.{ReadsBack};
 ghost use Rattle.std.specs.List.{AllByRecursion};
 ghost use Rattle.unftp_control_engine.specs.Endings.{snapshot_of};
 ghost use Rattle.unftp_control_engine.specs.Engine.{saturating_u64};
-ghost use Rattle.unftp_control_serve.specs.Service.{AnsweredAll, ServeEnded, source_of};
+ghost use Rattle.unftp_control_serve.specs.Service.{AnsweredAll, ServeEnded, input_state_of};
 
 use crate::input::Input;
 use std::alloc::Global;
@@ -29,9 +29,15 @@ pub struct Served {
 /// How many bytes are read at most at once.
 const PIECE: usize = 4096;
 
-/// Answers the lines that the reader gives, until it gives no more.
+/// Answers the lines that the reader gives (RFC 959, section 5.3), until it gives no more.
 ///
 /// Each reply is written whole and flushed before the next line is taken, and before more is read.
+///
+/// At `Ok` the reader has come to its end. `Read` is a failed read, after which all complete lines
+/// are answered; `Write` and `WriteZero` are a failed write or flush, after which a beginning of a
+/// reply may be written; `Handler` and `OutOfMemory` are a failed handler or allocation, after
+/// which the replies to the lines before are written and flushed; `TooManyReads` comes after 2^64 -
+/// 1 reads. It is never `Stopped`.
 pub fn serve<R: Read, W: Write, H: Handler>(
     alloc: Global,
     reader: &mut Input<R>,
@@ -61,14 +67,14 @@ pub fn serve<R: Read, W: Write, H: Handler>(
     ensures ok { IfOk result (λ served. AnsweredAll H.law
         (snapshot_of H.state H.failures W.contents handler.old writer.old)
         (snapshot_of H.state H.failures W.contents handler.new writer.new)
-        (source_of R.remaining reader.old)
-        (source_of R.remaining reader.new)
+        (input_state_of R.remaining reader.old)
+        (input_state_of R.remaining reader.new)
         served.left served.tests) }
     ensures err { IfErr result (ServeEnded H.law
         (snapshot_of H.state H.failures W.contents handler.old writer.old)
         (snapshot_of H.state H.failures W.contents handler.new writer.new)
-        (source_of R.remaining reader.old)
-        (source_of R.remaining reader.new)) }
+        (input_state_of R.remaining reader.old)
+        (input_state_of R.remaining reader.new)) }
 {
     let mut engine = Engine::new(alloc);
     let mut piece = [0u8; PIECE];
@@ -83,8 +89,8 @@ pub fn serve<R: Read, W: Write, H: Handler>(
                 tests: engine.tests(),
             });
         }
-        let (given, _) = piece.split_at(n);
-        engine.feed(given, handler, writer)?;
+        let (read, _) = piece.split_at(n);
+        engine.feed(read, handler, writer)?;
     }
     Err(ServeError::TooManyReads)
 }

@@ -20,7 +20,7 @@ pub enum WriteCommandError {
     /// No line whose one line feed is its last byte is read as this command.
     #[error("no line gives this command")]
     NoLine,
-    /// Memory was refused.
+    /// An allocation failed.
     #[error("out of memory")]
     OutOfMemory,
 }

@@ -2,8 +2,8 @@
 ghost use Rattle.std.specs.Prelude.{◌≡◌, ◌↔◌, ◌∷◌, ◌++◌, ⊤, IsTrue, decimal, option_map, string_bytes};
 ghost use Rattle.unftp_control_command.specs.CommandMeaning.{command_of};
 ghost use Rattle.unftp_control_defs.specs.Bytes.{LF, Lacks, SP};
-ghost use Rattle.unftp_control_defs.specs.Canonical.{HasLine, IsName, IsNamed, IsOptional, spaced_unless_empty, canonical_body, spaced, with_optional};
-ghost use Rattle.unftp_control_defs.specs.FtpCommand.{Auth, IsReal, List as Listing, Mode, Opts, Other, Prot, Site, Stru};
+ghost use Rattle.unftp_control_defs.specs.Canonical.{HasLine, IsUpperCaseName, IsNonEmptyText, IsOptionalText, spaced_unless_empty, canonical_body, spaced, with_optional};
+ghost use Rattle.unftp_control_defs.specs.FtpCommand.{Auth, HasTypedFields, List as Listing, Mode, Opts, Other, Prot, Site, Stru};
 ghost use Rattle.unftp_control_write.specs.Parts.{ReturnsLine, is_name_byte};
 
 use crate::line::{Line, Word};
@@ -18,7 +18,7 @@ pub(crate) fn line_of(command: &Command) -> Option<Line<'_>>
         (canonical_body (command_of command.now)) result }
 
     // Its texts are UTF-8, and its offset has 64 bits.
-    ensures real { IsReal (command_of command.now) }
+    ensures real { HasTypedFields (command_of command.now) }
 {
     match command {
         Command::User { username } => maybe_empty("USER", username.as_slice()),
@@ -106,9 +106,9 @@ fn number(verb: &str, number: u64) -> Option<Line<'_>>
 
 /// The verb and a text that is not empty.
 fn text<'a>(verb: &'a str, text: &'a [u8]) -> Option<Line<'a>>
-    ensures { ReturnsLine (IsNamed text.now) (spaced verb.now text.now) result }
+    ensures { ReturnsLine (IsNonEmptyText text.now) (spaced verb.now text.now) result }
 {
-    if !is_named(text) {
+    if !is_non_empty_text(text) {
         return None;
     }
     Some(Line {
@@ -120,7 +120,7 @@ fn text<'a>(verb: &'a str, text: &'a [u8]) -> Option<Line<'a>>
 
 /// The same, or only the verb where there is no text.
 fn optional<'a>(name: &'a str, path: &'a Option<String>) -> Option<Line<'a>>
-    ensures { ReturnsLine (IsOptional (option_map string_bytes path.now))
+    ensures { ReturnsLine (IsOptionalText (option_map string_bytes path.now))
         (with_optional name.now (option_map string_bytes path.now)) result }
 {
     match path {
@@ -131,7 +131,7 @@ fn optional<'a>(name: &'a str, path: &'a Option<String>) -> Option<Line<'a>>
 
 /// The same of bytes.
 fn optional_bytes<'a>(name: &'a str, path: &'a Option<Bytes>) -> Option<Line<'a>>
-    ensures { ReturnsLine (IsOptional path.now) (with_optional name.now path.now) result }
+    ensures { ReturnsLine (IsOptionalText path.now) (with_optional name.now path.now) result }
 {
     match path {
         None => verb(name),
@@ -171,7 +171,7 @@ fn site_line<'a>(name: &'a str, arguments: &'a [u8]) -> Option<Line<'a>>
     ensures { ReturnsLine (HasLine (Site name.now arguments.now))
         (canonical_body (Site name.now arguments.now)) result }
 {
-    if !is_name(name) || name == "MD5" {
+    if !is_upper_case_name(name) || name == "MD5" {
         return None;
     }
     match (name.is_empty(), arguments.is_empty()) {
@@ -186,7 +186,7 @@ fn other_line<'a>(name: &'a str, arguments: &'a [u8]) -> Option<Line<'a>>
     ensures { ReturnsLine (HasLine (Other name.now arguments.now))
         (canonical_body (Other name.now arguments.now)) result }
 {
-    if !is_name(name) || is_verb(name.as_bytes()) {
+    if !is_upper_case_name(name) || is_verb(name.as_bytes()) {
         return None;
     }
     maybe_empty(name, arguments)
@@ -194,9 +194,10 @@ fn other_line<'a>(name: &'a str, arguments: &'a [u8]) -> Option<Line<'a>>
 
 /// The verb and a word, followed by a text that is not empty.
 fn with_word<'a>(verb: &'a str, word: &'a str, text: &'a [u8]) -> Option<Line<'a>>
-    ensures { ReturnsLine (IsNamed text.now) (spaced (verb.now ++ SP ∷ word.now) text.now) result }
+    ensures { ReturnsLine (IsNonEmptyText text.now)
+        (spaced (verb.now ++ SP ∷ word.now) text.now) result }
 {
-    if !is_named(text) {
+    if !is_non_empty_text(text) {
         return None;
     }
     Some(Line {
@@ -207,15 +208,15 @@ fn with_word<'a>(verb: &'a str, word: &'a str, text: &'a [u8]) -> Option<Line<'a
 }
 
 /// Whether the text is not empty and has no line feed.
-fn is_named(text: &[u8]) -> bool
-    ensures { IsTrue result ↔ IsNamed text.now }
+fn is_non_empty_text(text: &[u8]) -> bool
+    ensures { IsTrue result ↔ IsNonEmptyText text.now }
 {
     !text.is_empty() && !text.contains(&b'\n')
 }
 
 /// Whether the name is upper-cased: without separators and letters `a` to `z`.
-fn is_name(name: &str) -> bool
-    ensures { IsTrue result ↔ IsName name.now }
+fn is_upper_case_name(name: &str) -> bool
+    ensures { IsTrue result ↔ IsUpperCaseName name.now }
 {
     name.as_bytes().iter().all(|byte| is_name_byte(*byte))
 }

@@ -1,5 +1,5 @@
-//! How much memory a call takes: `tools/failed_allocations` counts the allocations of each test, and
-//! compares their number with that in its name.
+//! How much memory a call takes: `tools/failed_allocations` counts the allocations of each test,
+//! and compares their number with that in its name.
 use crate::codecs::FtpCodec;
 use crate::command::Command;
 use crate::line_parser::parse;

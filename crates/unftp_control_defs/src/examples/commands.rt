@@ -1,8 +1,8 @@
 //! Commands: the types of their fields, their lines, and which of them have one.
 ghost use Rattle.std.specs.Prelude.{◌≡◌, ◌++◌, [], ◌∷◌, true, false, Option, Some, None, codes};
 ghost use Rattle.unftp_control_defs.specs.Bytes.{Bytes};
-ghost use Rattle.unftp_control_defs.specs.Canonical.{canonical_line, HasLine, IsName, IsNamed, IsOptional};
-ghost use Rattle.unftp_control_defs.specs.FtpCommand.{User, Pass, Acct, Syst, Stat, TypeCode, Stru, Mode, Help, Noop, Pasv, Epsv, Port, Retr, Stor, Appe, List as Listing, Nlst, Mlst, Mlsd, Feat, Pwd, Cwd, Cdup, Opts, Dele, Rmd, Quit, Mkd, Allo, Abor, Stou, Rnfr, Rnto, Auth, Ccc, Pbsz, Prot, Size, Rest, Mdtm, Md5, Site, Other, IsReal};
+ghost use Rattle.unftp_control_defs.specs.Canonical.{canonical_line, HasLine, IsUpperCaseName, IsNonEmptyText, IsOptionalText};
+ghost use Rattle.unftp_control_defs.specs.FtpCommand.{User, Pass, Acct, Syst, Stat, TypeCode, Stru, Mode, Help, Noop, Pasv, Epsv, Port, Retr, Stor, Appe, List as Listing, Nlst, Mlst, Mlsd, Feat, Pwd, Cwd, Cdup, Opts, Dele, Rmd, Quit, Mkd, Allo, Abor, Stou, Rnfr, Rnto, Auth, Ccc, Pbsz, Prot, Size, Rest, Mdtm, Md5, Site, Other, HasTypedFields};
 ghost use Rattle.unftp_control_defs.specs.declared.parameters.AuthParam.TheVariants.{Ssl, Tls};
 ghost use Rattle.unftp_control_defs.specs.declared.parameters.ModeParam.TheVariants.{Stream, Block, Compressed};
 ghost use Rattle.unftp_control_defs.specs.declared.parameters.Opt.TheVariants.{Utf8};
@@ -12,57 +12,57 @@ ghost use Rattle.unftp_control_defs.specs.declared.parameters.StruParam.TheVaria
 /// Texts are UTF-8, an offset has 64 bits, and of bytes nothing is asked.
 pub fn fields_are_of_their_types()
     // 195 169 is U+00E9, and no character has the byte 255
-    ensures user { IsReal (User (255 ∷ [])) }
-    ensures pass { IsReal (Pass (255 ∷ [])) }
-    ensures acct { IsReal (Acct (255 ∷ [])) }
-    ensures stat { IsReal (Stat (Some (255 ∷ []))) }
-    ensures port { IsReal (Port (195 ∷ 169 ∷ [])) }
-    ensures ill_formed_port { ¬ IsReal (Port (255 ∷ [])) }
-    ensures retr { IsReal (Retr (195 ∷ 169 ∷ [])) }
-    ensures ill_formed_retr { ¬ IsReal (Retr (255 ∷ [])) }
-    ensures stor { IsReal (Stor (195 ∷ 169 ∷ [])) }
-    ensures ill_formed_stor { ¬ IsReal (Stor (255 ∷ [])) }
-    ensures appe { IsReal (Appe (195 ∷ 169 ∷ [])) }
-    ensures ill_formed_appe { ¬ IsReal (Appe (255 ∷ [])) }
-    ensures cwd { IsReal (Cwd (195 ∷ 169 ∷ [])) }
-    ensures ill_formed_cwd { ¬ IsReal (Cwd (255 ∷ [])) }
-    ensures dele { IsReal (Dele (195 ∷ 169 ∷ [])) }
-    ensures ill_formed_dele { ¬ IsReal (Dele (255 ∷ [])) }
-    ensures rmd { IsReal (Rmd (195 ∷ 169 ∷ [])) }
-    ensures ill_formed_rmd { ¬ IsReal (Rmd (255 ∷ [])) }
-    ensures mkd { IsReal (Mkd (195 ∷ 169 ∷ [])) }
-    ensures ill_formed_mkd { ¬ IsReal (Mkd (255 ∷ [])) }
-    ensures rnfr { IsReal (Rnfr (195 ∷ 169 ∷ [])) }
-    ensures ill_formed_rnfr { ¬ IsReal (Rnfr (255 ∷ [])) }
-    ensures rnto { IsReal (Rnto (195 ∷ 169 ∷ [])) }
-    ensures ill_formed_rnto { ¬ IsReal (Rnto (255 ∷ [])) }
-    ensures size { IsReal (Size (195 ∷ 169 ∷ [])) }
-    ensures ill_formed_size { ¬ IsReal (Size (255 ∷ [])) }
-    ensures mdtm { IsReal (Mdtm (195 ∷ 169 ∷ [])) }
-    ensures ill_formed_mdtm { ¬ IsReal (Mdtm (255 ∷ [])) }
-    ensures md5 { IsReal (Md5 (195 ∷ 169 ∷ [])) }
-    ensures ill_formed_md5 { ¬ IsReal (Md5 (255 ∷ [])) }
-    ensures nlst { IsReal (Nlst (Some (195 ∷ 169 ∷ []))) }
-    ensures no_nlst { IsReal (Nlst None) }
-    ensures ill_formed_nlst { ¬ IsReal (Nlst (Some (255 ∷ []))) }
-    ensures mlst { IsReal (Mlst (Some (195 ∷ 169 ∷ []))) }
-    ensures no_mlst { IsReal (Mlst None) }
-    ensures ill_formed_mlst { ¬ IsReal (Mlst (Some (255 ∷ []))) }
-    ensures mlsd { IsReal (Mlsd (Some (195 ∷ 169 ∷ []))) }
-    ensures no_mlsd { IsReal (Mlsd None) }
-    ensures ill_formed_mlsd { ¬ IsReal (Mlsd (Some (255 ∷ []))) }
-    ensures list { IsReal (Listing (Some (195 ∷ 169 ∷ [])) (Some (195 ∷ 169 ∷ []))) }
-    ensures no_list { IsReal (Listing None None) }
-    ensures ill_formed_options { ¬ IsReal (Listing (Some (255 ∷ [])) None) }
-    ensures ill_formed_list { ¬ IsReal (Listing None (Some (255 ∷ []))) }
-    ensures greatest_rest { IsReal (Rest 18446744073709551615) }
-    ensures too_great_rest { ¬ IsReal (Rest 18446744073709551616) }
-    ensures site { IsReal (Site (195 ∷ 169 ∷ []) (195 ∷ 169 ∷ [])) }
-    ensures ill_formed_site { ¬ IsReal (Site (255 ∷ []) []) }
-    ensures ill_formed_site_arguments { ¬ IsReal (Site [] (255 ∷ [])) }
-    ensures other { IsReal (Other (195 ∷ 169 ∷ []) (195 ∷ 169 ∷ [])) }
-    ensures ill_formed_verb { ¬ IsReal (Other (255 ∷ []) []) }
-    ensures ill_formed_arguments { ¬ IsReal (Other [] (255 ∷ [])) }
+    ensures user { HasTypedFields (User (255 ∷ [])) }
+    ensures pass { HasTypedFields (Pass (255 ∷ [])) }
+    ensures acct { HasTypedFields (Acct (255 ∷ [])) }
+    ensures stat { HasTypedFields (Stat (Some (255 ∷ []))) }
+    ensures port { HasTypedFields (Port (195 ∷ 169 ∷ [])) }
+    ensures ill_formed_port { ¬ HasTypedFields (Port (255 ∷ [])) }
+    ensures retr { HasTypedFields (Retr (195 ∷ 169 ∷ [])) }
+    ensures ill_formed_retr { ¬ HasTypedFields (Retr (255 ∷ [])) }
+    ensures stor { HasTypedFields (Stor (195 ∷ 169 ∷ [])) }
+    ensures ill_formed_stor { ¬ HasTypedFields (Stor (255 ∷ [])) }
+    ensures appe { HasTypedFields (Appe (195 ∷ 169 ∷ [])) }
+    ensures ill_formed_appe { ¬ HasTypedFields (Appe (255 ∷ [])) }
+    ensures cwd { HasTypedFields (Cwd (195 ∷ 169 ∷ [])) }
+    ensures ill_formed_cwd { ¬ HasTypedFields (Cwd (255 ∷ [])) }
+    ensures dele { HasTypedFields (Dele (195 ∷ 169 ∷ [])) }
+    ensures ill_formed_dele { ¬ HasTypedFields (Dele (255 ∷ [])) }
+    ensures rmd { HasTypedFields (Rmd (195 ∷ 169 ∷ [])) }
+    ensures ill_formed_rmd { ¬ HasTypedFields (Rmd (255 ∷ [])) }
+    ensures mkd { HasTypedFields (Mkd (195 ∷ 169 ∷ [])) }
+    ensures ill_formed_mkd { ¬ HasTypedFields (Mkd (255 ∷ [])) }
+    ensures rnfr { HasTypedFields (Rnfr (195 ∷ 169 ∷ [])) }
+    ensures ill_formed_rnfr { ¬ HasTypedFields (Rnfr (255 ∷ [])) }
+    ensures rnto { HasTypedFields (Rnto (195 ∷ 169 ∷ [])) }
+    ensures ill_formed_rnto { ¬ HasTypedFields (Rnto (255 ∷ [])) }
+    ensures size { HasTypedFields (Size (195 ∷ 169 ∷ [])) }
+    ensures ill_formed_size { ¬ HasTypedFields (Size (255 ∷ [])) }
+    ensures mdtm { HasTypedFields (Mdtm (195 ∷ 169 ∷ [])) }
+    ensures ill_formed_mdtm { ¬ HasTypedFields (Mdtm (255 ∷ [])) }
+    ensures md5 { HasTypedFields (Md5 (195 ∷ 169 ∷ [])) }
+    ensures ill_formed_md5 { ¬ HasTypedFields (Md5 (255 ∷ [])) }
+    ensures nlst { HasTypedFields (Nlst (Some (195 ∷ 169 ∷ []))) }
+    ensures no_nlst { HasTypedFields (Nlst None) }
+    ensures ill_formed_nlst { ¬ HasTypedFields (Nlst (Some (255 ∷ []))) }
+    ensures mlst { HasTypedFields (Mlst (Some (195 ∷ 169 ∷ []))) }
+    ensures no_mlst { HasTypedFields (Mlst None) }
+    ensures ill_formed_mlst { ¬ HasTypedFields (Mlst (Some (255 ∷ []))) }
+    ensures mlsd { HasTypedFields (Mlsd (Some (195 ∷ 169 ∷ []))) }
+    ensures no_mlsd { HasTypedFields (Mlsd None) }
+    ensures ill_formed_mlsd { ¬ HasTypedFields (Mlsd (Some (255 ∷ []))) }
+    ensures list { HasTypedFields (Listing (Some (195 ∷ 169 ∷ [])) (Some (195 ∷ 169 ∷ []))) }
+    ensures no_list { HasTypedFields (Listing None None) }
+    ensures ill_formed_options { ¬ HasTypedFields (Listing (Some (255 ∷ [])) None) }
+    ensures ill_formed_list { ¬ HasTypedFields (Listing None (Some (255 ∷ []))) }
+    ensures greatest_rest { HasTypedFields (Rest 18446744073709551615) }
+    ensures too_great_rest { ¬ HasTypedFields (Rest 18446744073709551616) }
+    ensures site { HasTypedFields (Site (195 ∷ 169 ∷ []) (195 ∷ 169 ∷ [])) }
+    ensures ill_formed_site { ¬ HasTypedFields (Site (255 ∷ []) []) }
+    ensures ill_formed_site_arguments { ¬ HasTypedFields (Site [] (255 ∷ [])) }
+    ensures other { HasTypedFields (Other (195 ∷ 169 ∷ []) (195 ∷ 169 ∷ [])) }
+    ensures ill_formed_verb { ¬ HasTypedFields (Other (255 ∷ []) []) }
+    ensures ill_formed_arguments { ¬ HasTypedFields (Other [] (255 ∷ [])) }
 {}
 
 /// The line of each command.
@@ -137,21 +137,21 @@ pub fn commands_have_lines()
 
 /// Texts and names that a line has room for.
 pub fn texts_fit_a_line()
-    ensures text { IsNamed (codes "a\r") }
-    ensures empty_text { ¬ IsNamed [] }
-    ensures text_with_lf { ¬ IsNamed (codes "a\n") }
-    ensures no_text { IsOptional None }
-    ensures some_text { IsOptional (Some (codes "a")) }
-    ensures some_empty_text { ¬ IsOptional (Some []) }
-    ensures some_text_with_lf { ¬ IsOptional (Some (codes "\n")) }
-    ensures name { IsName (codes "AZ-9") }
-    ensures empty_name { IsName [] }
-    ensures beside_the_letters { IsName (codes "`{") }
-    ensures first_letter { ¬ IsName (codes "Aa") }
-    ensures last_letter { ¬ IsName (codes "z") }
-    ensures space { ¬ IsName (codes "A B") }
-    ensures cr { ¬ IsName (codes "\r") }
-    ensures lf { ¬ IsName (codes "A\n") }
+    ensures text { IsNonEmptyText (codes "a\r") }
+    ensures empty_text { ¬ IsNonEmptyText [] }
+    ensures text_with_lf { ¬ IsNonEmptyText (codes "a\n") }
+    ensures no_text { IsOptionalText None }
+    ensures some_text { IsOptionalText (Some (codes "a")) }
+    ensures some_empty_text { ¬ IsOptionalText (Some []) }
+    ensures some_text_with_lf { ¬ IsOptionalText (Some (codes "\n")) }
+    ensures name { IsUpperCaseName (codes "AZ-9") }
+    ensures empty_name { IsUpperCaseName [] }
+    ensures beside_the_letters { IsUpperCaseName (codes "`{") }
+    ensures first_letter { ¬ IsUpperCaseName (codes "Aa") }
+    ensures last_letter { ¬ IsUpperCaseName (codes "z") }
+    ensures space { ¬ IsUpperCaseName (codes "A B") }
+    ensures cr { ¬ IsUpperCaseName (codes "\r") }
+    ensures lf { ¬ IsUpperCaseName (codes "A\n") }
 {}
 
 /// Which commands have a line.

@@ -1,7 +1,7 @@
 //! Events, the texts of errors, runs of a handler, inputs in pieces, and the steps of a codec.
 ghost use Rattle.std.specs.Prelude.{◌≡◌, ◌+◌, ℕ, [], ◌∷◌, ◌++◌, Some, None, codes};
 ghost use Rattle.unftp_control_defs.specs.Pieces.{events_in_turn};
-ghost use Rattle.unftp_control_defs.specs.Events.{Command, Refused, IoError, ParseError, InternalServerError, AuthenticationError, InternalMsgError, Utf8Error, UnknownCommand, InvalidCommand, ControlChannelTimeout, IllegalState, OutOfMemory, NoSource, Parse, events, fault_for, out_of_memory};
+ghost use Rattle.unftp_control_defs.specs.Events.{Command, Refused, IoError, ParseError, InternalServerError, AuthenticationError, InternalMsgError, Utf8Error, UnknownCommand, InvalidCommand, ControlChannelTimeout, IllegalState, OutOfMemory, NoSource, Parse, events, refusal_fault, out_of_memory};
 ghost use Rattle.unftp_control_defs.specs.FtpCommand.{Noop, Pwd, InvalidCommand as NoCommand, InvalidUtf8, InvalidEol};
 ghost use Rattle.unftp_control_defs.specs.FtpReply.{CodeAndMsg};
 ghost use Rattle.unftp_control_defs.specs.Run.{Law, replies, last_state, text_for};
@@ -10,11 +10,11 @@ ghost use Rattle.unftp_control_defs.specs.Texts.{error_text, kind_text, parse_er
 
 /// The fault that a refused line is reported as.
 pub fn refusals_are_faults()
-    ensures utf8 { fault_for InvalidUtf8
+    ensures utf8 { refusal_fault InvalidUtf8
         ≡ record { kind = Utf8Error; source = Parse (Some InvalidUtf8) } }
-    ensures command { fault_for NoCommand
+    ensures command { refusal_fault NoCommand
         ≡ record { kind = InvalidCommand; source = Parse (Some NoCommand) } }
-    ensures line_ending { fault_for InvalidEol
+    ensures line_ending { refusal_fault InvalidEol
         ≡ record { kind = InvalidCommand; source = Parse (Some InvalidEol) } }
     ensures memory { out_of_memory ≡ record { kind = OutOfMemory; source = NoSource } }
 {}
@@ -24,7 +24,7 @@ pub fn lines_are_events()
     ensures none { events (codes "NOOP") ≡ [] }
     ensures one { events (codes "NOOP\nPWD") ≡ Command Noop ∷ [] }
     ensures some { events (codes "PWD\r\nNOOP x\n" ++ 255 ∷ codes "\nNOOP\r\n")
-        ≡ Command Pwd ∷ Refused (fault_for NoCommand) ∷ Refused (fault_for InvalidUtf8)
+        ≡ Command Pwd ∷ Refused (refusal_fault NoCommand) ∷ Refused (refusal_fault InvalidUtf8)
         ∷ Command Noop ∷ [] }
 {}
 

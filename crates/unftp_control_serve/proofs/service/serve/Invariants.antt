@@ -1,6 +1,6 @@
 use Rattle.std.proofs.Common.{◌≡◌, length}
 use Rattle.unftp_control_engine.specs.Endings.{snapshot_of}
-use Rattle.unftp_control_serve.specs.Service.{source_of}
+use Rattle.unftp_control_serve.specs.Service.{input_state_of}
 use Rattle.unftp_control_serve.proofs.ServiceLemmas.{Serving}
 use Rattle.unftp_control_serve.proofs.service.serve.Given as goal
 
@@ -9,8 +9,8 @@ invariant-loop-turn g l = record {
   serving : Serving g.H.Handler.law
       (snapshot_of g.H.Handler.state g.H.Handler.failures g.W.Write.contents l.fn.handler l.fn.writer)
       (snapshot_of g.H.Handler.state g.H.Handler.failures g.W.Write.contents l.handler l.writer)
-      (source_of g.R.Read.remaining l.fn.reader)
-      (source_of g.R.Read.remaining l.reader)
+      (input_state_of g.R.Read.remaining l.fn.reader)
+      (input_state_of g.R.Read.remaining l.reader)
       l.engine l._turn;
   room : length l.piece ≡ 4096;
 }

@@ -6,16 +6,16 @@ use Rattle.unftp_control_engine.specs.declared.output.Output.{Output}
 use Rattle.unftp_control_engine.specs.declared.error.ServeError.{ServeError}
 use Rattle.unftp_control_engine.specs.declared.error.ServeError.TheVariants.{Write, WriteZero}
 
--- What contracts see of an output at one moment: what was written, where the writer's contracts say
+-- What contracts see of an output: what was written, where the writer's contracts say
 -- it; how often it failed; and how many bytes were written since it was last flushed.
-pub record Sink : Type 0 where
+pub record OutputState : Type 0 where
   pub written : Option Bytes
   pub failures : ℕ
   pub unflushed : ℕ
 
 -- of an output over a writer with these written bytes
-abbrev pub sink_of : {W : Type 0} → (W → Option Bytes) → Output W → Sink
-sink_of contents output = record {
+abbrev pub output_state_of : {W : Type 0} → (W → Option Bytes) → Output W → OutputState
+output_state_of contents output = record {
   written = contents output.writer;
   failures = output.failures;
   unflushed = output.unflushed;
@@ -45,19 +45,19 @@ Flushed [] part unflushed unflushed' = unflushed' ≤ unflushed + length part
 Flushed (b ∷ text) part unflushed unflushed' = unflushed' ≤ length part
 
 -- the bytes were written, and not flushed
-pub record Wrote (bytes : Bytes) (before after : Sink) : Type 0 where
+pub record Wrote (bytes : Bytes) (before after : OutputState) : Type 0 where
   pub written : Appends before.written after.written bytes
   pub no_failure : after.failures ≡ before.failures
   pub unflushed : after.unflushed ≡ before.unflushed + length bytes
 
 -- the bytes were written, and flushed where there are any
-pub record Sent (bytes : Bytes) (before after : Sink) : Type 0 where
+pub record Sent (bytes : Bytes) (before after : OutputState) : Type 0 where
   pub written : Appends before.written after.written bytes
   pub no_failure : after.failures ≡ before.failures
   pub flushed : Flushed bytes [] before.unflushed after.unflushed
 
 -- a beginning of the bytes was written, and then the writer failed
-pub record CutShort (bytes : Bytes) (before after : Sink) : Type 0 where
+pub record CutShort (bytes : Bytes) (before after : OutputState) : Type 0 where
   pub part : Bytes
   pub begins : Begins bytes part
   pub written : Appends before.written after.written part
@@ -70,12 +70,12 @@ WriterFailed (Write _) P = P
 WriterFailed WriteZero P = P
 WriterFailed _ P = ⊥
 
-abbrev pub Writes : {T : Type 0} → Result T ServeError → Bytes → Sink → Sink → Type 0
+abbrev pub Writes : {T : Type 0} → Result T ServeError → Bytes → OutputState → OutputState → Type 0
 Writes result bytes before after = MatchResult result
     (λ _. Wrote bytes before after)
     (λ error. WriterFailed error (CutShort bytes before after))
 
-abbrev pub Sends : {T : Type 0} → Result T ServeError → Bytes → Sink → Sink → Type 0
+abbrev pub Sends : {T : Type 0} → Result T ServeError → Bytes → OutputState → OutputState → Type 0
 Sends result bytes before after = MatchResult result
     (λ _. Sent bytes before after)
     (λ error. WriterFailed error (CutShort bytes before after))
