@@ -61,8 +61,9 @@ fn a_connection_is_served_to_its_end(rt: HostRuntime) -> Result<(), Fail> {
     };
     let input = b"NOOP\r\nFOO\r\nQU".as_slice();
     let output = Vec::new(rt.alloc());
-    let (served, output) = serve_connection(rt.alloc(), input, output, &mut obliging);
-    assert!(rt; matches!(served, Ok(served) if served.left == 2));
+    let answer = serve_connection(rt.alloc(), input, output, &mut obliging);
+    let (served, output) = answer;
+    assert_eq!(rt; served?.left, 2);
     assert_eq!(rt; output.as_slice(), b"200 OK\r\n200 OK\r\n".as_slice());
     Ok(())
 }
