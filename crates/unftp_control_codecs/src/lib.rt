@@ -1,7 +1,7 @@
 //! Takes lines from the start of a buffer, and appends replies to the end of one.
 #![tactic(auto)]
 
-ghost use Rattle.std.specs.Prelude.{◌≡◌, ◌↔◌, ◌+◌, ◌≤◌, IsTrue, ◌++◌, drop, vec_len, IsOk, OnOk, OnErr, IfErr};
+ghost use Rattle.std.specs.Prelude.{◌≡◌, ◌↔◌, ◌+◌, ◌≤◌, IsTrue, ◌++◌, length, drop, vec_len, IsOk, OnOk, OnErr, IfErr};
 ghost use Rattle.unftp_control_defs.specs.Events.{out_of_memory};
 ghost use Rattle.unftp_control_defs.specs.FtpReply.{Nothing, encoded};
 ghost use Rattle.unftp_control_error.specs.ErrorMeaning.{fault_of};
@@ -45,8 +45,18 @@ impl FtpCodec {
         ensures place { result.place ≡ 0 }
         ensures tests { result.tests ≡ 0 }
     {
+        FtpCodec::at(0)
+    }
+
+    /// A codec with this scan offset, which has scanned nothing: for a caller that keeps of a codec
+    /// the offset alone. There should be no line feed before the offset, since `decode` and
+    /// `decode_slice` take the first line to end at or after it.
+    pub fn at(place: usize) -> FtpCodec
+        ensures place { result.place ≡ place }
+        ensures tests { result.tests ≡ 0 }
+    {
         FtpCodec {
-            place: 0,
+            place,
             tests: ScanCount::none(),
         }
     }
@@ -66,16 +76,57 @@ impl FtpCodec {
         self.tests.count()
     }
 
-    /// Takes the first line from the start of `buf` and returns its command, or `None` while no
-    /// line is complete (RFC 959, section 5.3). A line ends at its line feed.
+    /// Returns the command of the first line of `bytes`, or `None` while no line is complete
+    /// (RFC 959, section 5.3), and how many bytes the line has: a caller goes on behind them. A line
+    /// ends at its line feed.
     ///
-    /// The scan offset has to be within `buf`, as it is after each call, also where `buf` has grown
-    /// at its end since. The bytes before it are not scanned again.
+    /// This is for bytes that hold many lines: each byte is scanned once, and none is moved. The
+    /// scan offset has to be within `bytes`, as it is after each call in what follows the line, also
+    /// where bytes were added at the end since. The bytes before it are not scanned again.
     ///
     /// A line that is no command is refused with `Utf8Error` (the parser's `InvalidUtf8`) or
-    /// `InvalidCommand` (its `InvalidCommand` and `InvalidEol`), with the parser's error as source:
-    /// it leaves `buf` as any other line does, and what follows it stays. When out of memory, with
-    /// the kind `OutOfMemory`, `buf` and the scan offset are as before.
+    /// `InvalidCommand` (its `InvalidCommand` and `InvalidEol`), with the parser's error as source;
+    /// its bytes are told as those of any other line. With `None`, and when out of memory with the
+    /// kind `OutOfMemory`, the number is 0; at the latter the scan offset is as before.
+    pub fn decode_slice(
+        &mut self,
+        alloc: Global,
+        bytes: &[u8],
+    ) -> (usize, Result<Option<Command>, ControlChanError>)
+        requires { self.old.place ≤ length bytes.now }
+        ensures decodes { Decodes self.old self.new
+            bytes.now (drop result.0 bytes.now) result.1 }
+        ensures within { result.0 + self.new.place ≤ length bytes.now }
+        ensures counted { ¬ IsOutOfMemory result.1
+            → self.new.tests + self.old.place ≡ self.old.tests + self.new.place + result.0 }
+        ensures never_fewer { self.old.tests ≤ self.new.tests }
+    {
+        let mut scan = Scan::over(bytes, &mut self.tests);
+        let Some(end) = scan.find_line_feed(self.place) else {
+            self.place = bytes.len();
+            return (0, Ok(None));
+        };
+        let (line, _) = bytes.split_at(end + 1);
+        let answer = parse(alloc, line);
+        let mut taken = 0;
+        if !is_out_of_memory(&answer) {
+            taken = end + 1;
+            self.place = 0;
+        }
+        (taken, answer.map(Some).map_err(ControlChanError::from))
+    }
+
+    /// Takes the first line from the start of `buf`, as `decode_slice` finds it, and returns its
+    /// command, or `None` while no line is complete.
+    ///
+    /// This is for a buffer that holds the line or few more: what follows the line is moved to the
+    /// start of `buf`, once for each line. Where many lines lie in one buffer, `decode_slice` takes
+    /// them without moving any.
+    ///
+    /// The scan offset has to be within `buf`, as it is after each call, also where `buf` has grown
+    /// at its end since. The errors are those of `decode_slice`: a refused line leaves `buf` as any
+    /// other does, and what follows it stays; when out of memory, `buf` and the scan offset are as
+    /// before.
     pub fn decode(
         &mut self,
         alloc: Global,
@@ -89,25 +140,15 @@ impl FtpCodec {
             ≡ self.old.tests + self.new.place + vec_len buf.old }
         ensures never_fewer { self.old.tests ≤ self.new.tests }
     {
-        let mut scan = Scan::over(buf.as_slice(), &mut self.tests);
-        let Some(end) = scan.find_line_feed(self.place) else {
-            self.place = buf.len();
-            return Ok(None);
-        };
-        let (line, _) = buf.as_slice().split_at(end + 1);
-        let answer = parse(alloc, line);
-        if !is_out_of_memory(&answer) {
-            remove_front(buf, end + 1);
-            self.place = 0;
-        }
-        Ok(Some(answer?))
+        let (taken, answer) = self.decode_slice(alloc, buf.as_slice());
+        remove_front(buf, taken);
+        answer
     }
 
     /// Appends the bytes of the reply to `buf` and changes no earlier byte (RFC 959, section 4.2);
-    /// `Reply::None` has none.
+    /// `Reply::None` has none. It is `encode_reply`, and the reply is dropped.
     ///
-    /// It fails only when out of memory, with the kind `OutOfMemory`: `buf` is then as it was, and
-    /// the reply is dropped.
+    /// It fails only when out of memory, with the kind `OutOfMemory`: `buf` is then as it was.
     pub fn encode(&mut self, reply: Reply, buf: &mut Vec<u8>) -> Result<(), ControlChanError>
         ensures ok { OnOk result (buf.new.items ≡ buf.old.items ++ encoded (reply_of reply)) }
         ensures err { OnErr result (buf.new.items ≡ buf.old.items) }
@@ -115,13 +156,26 @@ impl FtpCodec {
         ensures no_memory { reply_of reply ≡ Nothing → IsOk result }
         ensures codec { self.new ≡ self.old }
     {
-        let length = buf.len();
-        if let Err(refused) = append_reply(&reply, buf) {
-            buf.truncate(length);
-            return Err(refused.into());
-        }
-        Ok(())
+        encode_reply(&reply, buf)
     }
+}
+
+/// Appends the bytes of the reply to `buf` and changes no earlier byte (RFC 959, section 4.2);
+/// `Reply::None` has none. `buf` grows once at most, and not where it has room.
+///
+/// It fails only when out of memory, with the kind `OutOfMemory`: `buf` is then as it was.
+pub fn encode_reply(reply: &Reply, buf: &mut Vec<u8>) -> Result<(), ControlChanError>
+    ensures ok { OnOk result (buf.new.items ≡ buf.old.items ++ encoded (reply_of reply.now)) }
+    ensures err { OnErr result (buf.new.items ≡ buf.old.items) }
+    ensures memory { IfErr result (λ error. fault_of error ≡ out_of_memory) }
+    ensures no_memory { reply_of reply.now ≡ Nothing → IsOk result }
+{
+    let length = buf.len();
+    if let Err(refused) = append_reply(reply, buf) {
+        buf.truncate(length);
+        return Err(refused.into());
+    }
+    Ok(())
 }
 
 /// Removes this many bytes from the start of the buffer. The rest is moved once, where `drain`
@@ -130,6 +184,9 @@ fn remove_front(buf: &mut Vec<u8>, count: usize)
     requires { count ≤ vec_len buf.old }
     ensures { buf.new.items ≡ drop count buf.old.items }
 {
+    if count == 0 {
+        return;
+    }
     let rest = buf.len() - count;
     buf.copy_within(count.., 0);
     buf.truncate(rest);

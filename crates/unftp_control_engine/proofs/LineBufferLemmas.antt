@@ -19,7 +19,7 @@ use Rattle.unftp_control_codecs.specs.Decoding.{Decoded, Decodes, FindsNone, Ans
 use Rattle.unftp_control_codecs.proofs.LineFeedLemmas.{NoLineFeed, line_feed_at, line_feed_nowhere}
 use Rattle.unftp_control_engine.specs.declared.event.Event.{Event}
 use Rattle.unftp_control_engine.specs.EventMeaning.{event_meant}
-use Rattle.unftp_control_engine.specs.LineBuffer.{Pending, HasNoLine, TakesLine, TakesNext, ReturnsEvent}
+use Rattle.unftp_control_engine.specs.LineBuffer.{IsWithin, Pending, pending_of, HasNoLine, TakesLine, TakesNext, ReturnsEvent}
 
 not_lf : (b : ℕ) → is_line_feed b ≡ false → b ≢ LF
 not_lf b h = λ e. grind (arith, common_steps)
@@ -46,10 +46,6 @@ none_before bytes place k before later j low high = by_place (cases_lt j place)
 
 lf_at : (bytes : Bytes) (k : ℕ) → k < length bytes → is_line_feed (slice_index bytes k) ≡ true → take (k + 1) bytes ≡ take k bytes ++ LF ∷ []
 lf_at bytes k within h = take_more bytes k 0 within ∙ ap (λ b. take k bytes ++ b ∷ []) (eqb-true (slice_index bytes k) LF h)
-
--- there is no line feed before the codec's place, which is within the buffer
-abbrev pub IsWithinBuffer : Codec → Bytes → Type 0
-IsWithinBuffer codec bytes = (codec.place ≤ length bytes) × Lacks LF (take codec.place bytes)
 
 -- what a call of `decode` comes to: there is no line, or the first is cut and returned, or memory
 -- runs out
@@ -78,7 +74,7 @@ module _ (old new : Codec) (before after : Bytes) (answer : Decoded) where
   abbrev DecodesAt : Option ℕ → Type 0
   DecodesAt found = MatchOption found ((returned_event answer ≡ None) × FindsNone old new before after) (λ k. AnswersLine k old new before after answer)
 
-  comes : IsWithinBuffer old before → Decodes old new before after answer → Comes old new before after answer
+  comes : IsWithin old before → Decodes old new before after answer → Comes old new before after answer
   comes well decodes = by_place (line_feed_from before old.place) refl decodes
     where
       front : NoLineFeed before 0 old.place
@@ -100,10 +96,10 @@ module _ (old new : Codec) (before after : Bytes) (answer : Decoded) where
           })
       by_place (Some k) e (inr d) = inr (inr record { no_memory = d.0; kept = d.2.kept; place = d.2.place })
 
-  pub within_buffer : IsWithinBuffer old before → Decodes old new before after answer → IsWithinBuffer new after
+  pub within_buffer : IsWithin old before → Decodes old new before after answer → IsWithin new after
   within_buffer well decodes = by_end (comes well decodes)
     where
-      by_end : Comes old new before after answer → IsWithinBuffer new after
+      by_end : Comes old new before after answer → IsWithin new after
       by_end (inl none) = rw (none.place, none.kept) (omega arith, rw take-length none.unended)
       by_end (inr (inl first)) = rw first.place (omega arith, tt)
       by_end (inr (inr no_memory)) = rw (no_memory.place, no_memory.kept) well
@@ -127,16 +123,13 @@ none_no_memory : (answer : Decoded) → returned_event answer ≡ None → IsOut
 none_no_memory (Ok command) returned no_memory = no_memory
 none_no_memory (Err error) returned no_memory = absurd (none-some _ (sym returned))
 
-abbrev pub pending : Bytes → ℕ → ℕ → Pending
-pending bytes tests unscanned = record { bytes = bytes; tests = tests; unscanned = unscanned }
-
 module _ {E : Type 0} (old new : Codec) (before after : Bytes) (answer : Decoded) where
-  pub takes_next : (result : Result (Option Event) E) → IsWithinBuffer old before → Decodes old new before after answer → ReturnsEvent answer result →
-      TakesNext (pending before old.tests (length before - old.place)) result (pending after new.tests (length after - new.place))
+  pub takes_next : (result : Result (Option Event) E) → IsWithin old before → Decodes old new before after answer → ReturnsEvent answer result →
+      TakesNext (pending_of old before) result (pending_of new after)
   takes_next result well decodes tells = by_result result tells (comes old new before after answer well decodes)
     where
       by_result : (result : Result (Option Event) E) → ReturnsEvent answer result → Comes old new before after answer →
-          TakesNext (pending before old.tests (length before - old.place)) result (pending after new.tests (length after - new.place))
+          TakesNext (pending_of old before) result (pending_of new after)
       by_result (Ok None) tells (inl none) = record { unended = none.unended; kept = none.kept; all_scanned = omega (arith, none.place, ap length none.kept) }
       by_result (Ok None) tells (inr (inl first)) = absurd (none-some _ (sym tells.0 ∙ first.returned))
       by_result (Ok None) tells (inr (inr no_memory)) = absurd (tells.1 no_memory.no_memory)

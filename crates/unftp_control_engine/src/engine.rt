@@ -18,12 +18,12 @@ use crate::send::send;
 use std::alloc::Global;
 use std::io::Write;
 use std::marker::Model;
-use unftp_control_codecs::FtpCodec;
+use unftp_control_codecs::encode_reply;
 use unftp_control_count::Count;
 
-/// Passes the event to the handler, and sends its reply.
+/// Passes the event to the handler, and sends its reply, whose bytes are held in `reply_bytes`.
 fn answer_event<H: Handler, W: Write>(
-    alloc: Global,
+    reply_bytes: &mut Vec<u8>,
     event: Event,
     handler: &mut H,
     output: &mut Output<W>,
@@ -34,13 +34,13 @@ fn answer_event<H: Handler, W: Write>(
         (snapshot_of H.state H.failures W.contents handler.new output.new)
         result }
 {
-    let reply = match handler.handle(alloc, event) {
+    let reply = match handler.handle(*reply_bytes.allocator(), event) {
         Ok(reply) => reply,
         Err(error) => return Err(ServeError::Handler(error)),
     };
-    let mut bytes = Vec::new(alloc);
-    match FtpCodec::new().encode(reply, &mut bytes) {
-        Ok(()) => send(output, bytes.as_slice()),
+    reply_bytes.clear();
+    match encode_reply(&reply, reply_bytes) {
+        Ok(()) => send(output, reply_bytes.as_slice()),
         Err(_) => Err(ServeError::OutOfMemory),
     }
 }
@@ -48,6 +48,7 @@ fn answer_event<H: Handler, W: Write>(
 /// Answers each pending line.
 fn answer_lines<H: Handler, W: Write>(
     line_buffer: &mut LineBuffer,
+    reply_bytes: &mut Vec<u8>,
     handler: &mut H,
     output: &mut Output<W>,
 ) -> Result<(), ServeError>
@@ -64,18 +65,19 @@ fn answer_lines<H: Handler, W: Write>(
         (line_buffer.new.tests ≡ line_buffer.old.tests + line_buffer.old.unscanned) }
     ensures never_fewer { line_buffer.old.tests ≤ line_buffer.new.tests }
 {
-    let alloc = line_buffer.allocator();
     loop {
         match line_buffer.next()? {
-            Some(event) => answer_event(alloc, event, handler, output)?,
+            Some(event) => answer_event(reply_bytes, event, handler, output)?,
             None => return Ok(()),
         }
     }
 }
 
-/// Answers each line of the pending bytes and a piece after them.
+/// Answers each line of the pending bytes and a piece after them, and then removes these lines from
+/// the buffer.
 fn answer_piece<H: Handler, W: Write>(
     line_buffer: &mut LineBuffer,
+    reply_bytes: &mut Vec<u8>,
     piece: &[u8],
     handler: &mut H,
     output: &mut Output<W>,
@@ -95,13 +97,16 @@ fn answer_piece<H: Handler, W: Write>(
     ensures never_fewer { line_buffer.old.tests ≤ line_buffer.new.tests }
 {
     line_buffer.append(piece)?;
-    answer_lines(line_buffer, handler, output)
+    answer_lines(line_buffer, reply_bytes, handler, output)?;
+    line_buffer.settle();
+    Ok(())
 }
 
 /// Cuts an input that comes in pieces into lines, and answers each.
 #[derive(Drop)]
 pub struct Engine {
     line_buffer: LineBuffer,
+    reply_bytes: Vec<u8>,
     left: u64,
     failed: bool,
 }
@@ -130,6 +135,7 @@ impl Engine {
     {
         Engine {
             line_buffer: LineBuffer::new(alloc),
+            reply_bytes: Vec::new(alloc),
             left: 0,
             failed: false,
         }
@@ -200,6 +206,7 @@ impl Engine {
         ensures stopped { IsErrOf result ServeError.Stopped ↔ (self.old.failed ≡ true) }
         ensures unchanged { self.old.failed ≡ true
             → (handler.new ≡ handler.old) × (output.new ≡ output.old) }
+        ensures stays { self.old.failed ≡ true → self.new ≡ self.old }
         ensures failed { self.new.failed ≡ is_err result }
         ensures kept { OnErr result (self.new.left ≡ self.old.left) }
         // At Ok each byte of the piece was scanned for a line feed exactly once; at an error at
@@ -211,7 +218,14 @@ impl Engine {
         if self.failed {
             return Err(ServeError::Stopped);
         }
-        match answer_piece(&mut self.line_buffer, piece, handler, output) {
+        let answer = answer_piece(
+            &mut self.line_buffer,
+            &mut self.reply_bytes,
+            piece,
+            handler,
+            output,
+        );
+        match answer {
             Ok(()) => {
                 self.left = self.line_buffer.len() as u64;
                 Ok(())

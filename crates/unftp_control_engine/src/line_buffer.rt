@@ -10,29 +10,27 @@ use unftp_control_command::Command;
 use unftp_control_count::Count;
 use unftp_control_error::{ControlChanError, ControlChanErrorKind};
 
-/// A buffer and the codec that cuts it into lines. There is no line feed before the codec's scan
-/// offset.
+/// A buffer, and the codec that cuts it into lines. The pending bytes begin at `start`: the lines
+/// before it are taken, and `settle` removes them at once. There is no line feed between `start` and
+/// the codec's scan offset, which counts from `start`.
 #[derive(Drop)]
 pub(crate) struct LineBuffer {
     codec: FtpCodec,
     buf: Vec<u8>,
+    start: usize,
 }
 
 impl Model for LineBuffer {
-    ghost use Rattle.std.specs.Prelude.{◌≤◌, ◌-◌, length, take};
-    ghost use Rattle.unftp_control_defs.specs.Bytes.{LF, Lacks};
-    ghost use Rattle.unftp_control_engine.specs.LineBuffer.{Pending};
+    ghost use Rattle.std.specs.Prelude.{◌≤◌, length, drop};
+    ghost use Rattle.unftp_control_engine.specs.LineBuffer.{IsWithin, Pending, pending_of};
 
     ghost Value = { Pending };
 
-    ghost view = { λ line_buffer. record {
-      bytes = line_buffer.buf.items;
-      tests = line_buffer.codec.tests;
-      unscanned = length line_buffer.buf.items - line_buffer.codec.place;
-    } };
+    ghost view = { λ line_buffer.
+        pending_of line_buffer.codec (drop line_buffer.start line_buffer.buf.items) };
 
-    ghost invariant = { λ line_buffer. (line_buffer.codec.place ≤ length line_buffer.buf.items)
-        × Lacks LF (take line_buffer.codec.place line_buffer.buf.items) };
+    ghost invariant = { λ line_buffer. (line_buffer.start ≤ length line_buffer.buf.items)
+        × IsWithin line_buffer.codec (drop line_buffer.start line_buffer.buf.items) };
 }
 
 impl LineBuffer {
@@ -43,19 +41,15 @@ impl LineBuffer {
         LineBuffer {
             codec: FtpCodec::new(),
             buf: Vec::new(alloc),
+            start: 0,
         }
-    }
-
-    /// The allocator of its buffer.
-    pub(crate) fn allocator(&self) -> Global {
-        *self.buf.allocator()
     }
 
     /// How many bytes are pending.
     pub(crate) fn len(&self) -> usize
         ensures { result ≡ length self.now.bytes }
     {
-        self.buf.len()
+        self.buf.len() - self.start
     }
 
     /// How many bytes were scanned for a line feed.
@@ -85,8 +79,23 @@ impl LineBuffer {
         ensures no_memory { OnErr result (self.new.tests ≤ self.old.tests + self.old.unscanned) }
         ensures never_fewer { self.old.tests ≤ self.new.tests }
     {
-        let alloc = self.allocator();
-        event_from(self.codec.decode(alloc, &mut self.buf))
+        let (_, pending) = self.buf.as_slice().split_at(self.start);
+        let (taken, answer) = self.codec.decode_slice(*self.buf.allocator(), pending);
+        self.start += taken;
+        event_from(answer)
+    }
+
+    /// Removes the lines that were taken: the pending bytes move to the start of the buffer.
+    pub(crate) fn settle(&mut self)
+        ensures { self.new ≡ self.old }
+    {
+        if self.start == 0 {
+            return;
+        }
+        let pending = self.len();
+        self.buf.copy_within(self.start.., 0);
+        self.buf.truncate(pending);
+        self.start = 0;
     }
 }
 

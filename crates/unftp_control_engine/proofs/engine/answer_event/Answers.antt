@@ -8,10 +8,10 @@ use Rattle.unftp_control_engine.proofs.engine.answer_event.Goals as goal
 pub returns-in-Err : goal.returns-in-Err
 returns-in-Err g c = failed-at _ _ _ _ _ c.in-Err.ensures.may_fail refl c.in-Err.ensures.counted
 
-pub returns-in-Ok-encode : goal.returns-in-Ok-encode
-returns-in-Ok-encode g c =
+pub returns-in-Ok-encode_reply : goal.returns-in-Ok-encode_reply
+returns-in-Ok-encode_reply g c =
     let said : c.as_slice.result.now ≡ encoded (g.H.Handler.law.says (g.H.Handler.state c.args.handler.now) (event_meant c.args.event)) =
-    c.as_slice.ensures.value ∙ c.in-Ok-encode.ensures.ok ∙ ap (λ z. z ++ encoded (reply_of c.in-Ok.reply)) c.new-bytes.ensures.items
+    c.as_slice.ensures.value ∙ c.in-Ok-encode_reply.ensures.ok ∙ ap (λ z. z ++ encoded (reply_of c.in-Ok.reply)) c.clear.ensures.items
     ∙ ap encoded c.in-Ok.ensures.says in
     answered _ _ _ _ c.send.result c.in-Ok.ensures.next c.in-Ok.ensures.quiet (rw said at c.send.ensures)
 
