@@ -1,4 +1,5 @@
 //! What is measured.
+use crate::served::{Discarding, Okay};
 use std::alloc::Global;
 use std::fmt::{Display, Formatter, Write};
 use std::time::Instant;
@@ -7,6 +8,7 @@ use unftp_control::codecs::FtpCodec;
 use unftp_control::line_parser::parse;
 use unftp_control::read::read_reply;
 use unftp_control::reply::{Reply, ReplyCode};
+use unftp_control::serve::{Engine, Output};
 
 /// Lines of a session, about as long as those that clients send.
 pub const SESSION: &[&[u8]] = &[
@@ -32,11 +34,11 @@ pub const SESSION: &[&[u8]] = &[
     b"QUIT\r\n",
 ];
 
-/// How often the session is repeated, so that there are 1,000 lines.
-const REPEATS: usize = 50;
-
-/// The lines, or replies, that one figure is of.
+/// The lines, or replies, that most figures are of.
 const LINES: usize = 1000;
+
+/// How often the session is repeated for so many lines.
+const REPEATS: usize = LINES / SESSION.len();
 
 /// The lines of a reply to FEAT.
 pub const FEATURES: [&str; 13] = [
@@ -65,6 +67,10 @@ const READ_LINES: usize = 10_000;
 #[derive(Clone, Copy)]
 pub enum Measure {
     Decode,
+    /// Of so many lines.
+    DecodeSlice(usize),
+    /// Of so many bytes.
+    Feed(usize),
     Parse,
     LongParameter,
     ReplyOfOneLine,
@@ -77,6 +83,12 @@ pub enum Measure {
 impl Display for Measure {
     fn fmt<W: Write>(&self, f: &mut Formatter<W>) -> fmt::Result {
         f.write_str(match self {
+            Measure::DecodeSlice(lines) => {
+                return write!(f, "a line of {lines} in one slice, decoded");
+            }
+            Measure::Feed(bytes) => {
+                return write!(f, "a line of {bytes} bytes in one piece, fed and answered");
+            }
             Measure::Decode => "a line of 1,000 in one buffer, decoded",
             Measure::Parse => "the same lines, each parsed where it lies",
             Measure::LongParameter => "a line with a parameter of 4,096 bytes, parsed",
@@ -91,8 +103,14 @@ impl Display for Measure {
 
 impl Measure {
     /// All of them.
-    pub const ALL: [Measure; 8] = [
+    pub const ALL: [Measure; 14] = [
         Measure::Decode,
+        Measure::DecodeSlice(1_000),
+        Measure::DecodeSlice(10_000),
+        Measure::DecodeSlice(100_000),
+        Measure::Feed(4 << 10),
+        Measure::Feed(64 << 10),
+        Measure::Feed(1 << 20),
         Measure::Parse,
         Measure::LongParameter,
         Measure::ReplyOfOneLine,
@@ -106,6 +124,8 @@ impl Measure {
     pub fn nanoseconds(self, rt: &HostRuntime) -> io::Result<u128> {
         match self {
             Measure::Decode => decode_session(rt),
+            Measure::DecodeSlice(lines) => decode_slice(rt, lines / SESSION.len()),
+            Measure::Feed(bytes) => feed_piece(rt, bytes),
             Measure::Parse => parse_session(rt),
             Measure::LongParameter => parse_long_lines(rt),
             Measure::ReplyOfOneLine => encode_one_line(rt),
@@ -127,23 +147,23 @@ fn no_memory() -> io::Error {
     io::ErrorKind::OutOfMemory.into()
 }
 
-/// Nanoseconds a line or reply since the start of a round.
-fn a_line(rt: &HostRuntime, start: Instant) -> io::Result<u128> {
-    Ok(start.elapsed(rt)?.as_nanos() / LINES as u128)
+/// Nanoseconds for each of so many lines or replies since the start of a round.
+fn a_line(rt: &HostRuntime, start: Instant, lines: usize) -> io::Result<u128> {
+    Ok(start.elapsed(rt)?.as_nanos() / lines.max(1) as u128)
 }
 
-/// A buffer that holds all the lines.
-fn session_repeated(alloc: Global) -> io::Result<Vec<u8>> {
+/// The lines of so many sessions.
+fn sessions(alloc: Global, repeats: usize) -> io::Result<Vec<u8>> {
     let session = SESSION.concat(alloc)?;
     let mut buf = Vec::new(alloc);
-    for _ in 0..REPEATS {
+    for _ in 0..repeats {
         buf.extend_from_slice(session.as_slice())?;
     }
     Ok(buf)
 }
 
 fn decode_session(rt: &HostRuntime) -> io::Result<u128> {
-    let mut buf = session_repeated(rt.alloc())?;
+    let mut buf = sessions(rt.alloc(), REPEATS)?;
     let mut codec = FtpCodec::new();
     let start = Instant::now(rt)?;
     for _ in 0..LINES {
@@ -153,7 +173,39 @@ fn decode_session(rt: &HostRuntime) -> io::Result<u128> {
             Err(_) => return Err(no_command()),
         }
     }
-    a_line(rt, start)
+    a_line(rt, start, LINES)
+}
+
+fn decode_slice(rt: &HostRuntime, repeats: usize) -> io::Result<u128> {
+    let lines = repeats.saturating_mul(SESSION.len());
+    let bytes = sessions(rt.alloc(), repeats)?;
+    let mut rest = bytes.as_slice();
+    let mut codec = FtpCodec::new();
+    let start = Instant::now(rt)?;
+    for _ in 0..lines {
+        let (taken, answer) = codec.decode_slice(rt.alloc(), rest);
+        match answer {
+            Ok(Some(command)) => drop(command),
+            Ok(None) => return Err(no_command()),
+            Err(_) => return Err(no_command()),
+        }
+        rest = rest.split_at(taken).1;
+    }
+    a_line(rt, start, lines)
+}
+
+/// The lines of the sessions that so many bytes hold, fed in one piece.
+fn feed_piece(rt: &HostRuntime, most: usize) -> io::Result<u128> {
+    let session = SESSION.concat(rt.alloc())?;
+    let repeats = most / session.len().max(1);
+    let piece = sessions(rt.alloc(), repeats)?;
+    let mut engine = Engine::new(rt.alloc());
+    let mut output = Output::new(Discarding);
+    let start = Instant::now(rt)?;
+    match engine.feed(piece.as_slice(), &mut Okay::new(), &mut output) {
+        Ok(()) => a_line(rt, start, repeats.saturating_mul(SESSION.len())),
+        Err(_) => Err(no_memory()),
+    }
 }
 
 fn parse_session(rt: &HostRuntime) -> io::Result<u128> {
@@ -165,7 +217,7 @@ fn parse_session(rt: &HostRuntime) -> io::Result<u128> {
             }
         }
     }
-    a_line(rt, start)
+    a_line(rt, start, LINES)
 }
 
 fn parse_long_lines(rt: &HostRuntime) -> io::Result<u128> {
@@ -176,7 +228,7 @@ fn parse_long_lines(rt: &HostRuntime) -> io::Result<u128> {
             return Err(no_command());
         }
     }
-    a_line(rt, start)
+    a_line(rt, start, LINES)
 }
 
 /// A line with a parameter of 4,096 bytes.
@@ -207,7 +259,7 @@ fn encode_one_line(rt: &HostRuntime) -> io::Result<u128> {
         };
         encode(&mut codec, reply, &mut buf)?;
     }
-    a_line(rt, start)
+    a_line(rt, start, LINES)
 }
 
 fn encode_lines(rt: &HostRuntime, lines: &[&'static str]) -> io::Result<u128> {
@@ -221,7 +273,7 @@ fn encode_lines(rt: &HostRuntime, lines: &[&'static str]) -> io::Result<u128> {
         };
         encode(&mut codec, reply, &mut buf)?;
     }
-    a_line(rt, start)
+    a_line(rt, start, LINES)
 }
 
 /// The bytes of a reply of so many lines, two at least.
