@@ -9,6 +9,7 @@ mod large;
 mod lines;
 mod reading;
 mod replies;
+mod slices;
 mod texts;
 mod writing;
 

@@ -79,6 +79,29 @@ fn a_line_in_pieces_is_one_event(rt: HostRuntime) -> Result<(), Fail> {
     Ok(())
 }
 
+/// So many lines in one piece get as many replies, and what follows them is left.
+fn assert_many_answered(rt: &impl Abort, alloc: Global, lines: u32) -> Result<(), Fail> {
+    let mut piece = Vec::new(alloc);
+    let mut want = Vec::new(alloc);
+    for _ in 0..lines {
+        piece.extend_from_slice(b"NOOP\r\n")?;
+        want.extend_from_slice(b"200 OK\r\n")?;
+    }
+    piece.extend_from_slice(b"NO")?;
+    let mut engine = Engine::new(alloc);
+    let mut output = Output::new(Room::ample(alloc));
+    engine.feed(piece.as_slice(), &mut Counting::new(u32::MAX), &mut output)?;
+    assert_eq!(rt; engine.left(), 2);
+    assert!(rt; output.into_inner().held == want);
+    Ok(())
+}
+
+#[test]
+fn many_lines_are_answered_in_one_piece(rt: HostRuntime) -> Result<(), Fail> {
+    assert_many_answered(&rt, rt.alloc(), 1_000)?;
+    assert_many_answered(&rt, rt.alloc(), 20_000)
+}
+
 #[test]
 fn no_reply_is_neither_written_nor_flushed(rt: HostRuntime) -> Result<(), Fail> {
     let mut recorder = Recorder::new(rt.alloc());

@@ -1,6 +1,6 @@
 //! How much memory a call takes: `tools/failed_allocations` counts the allocations of each test,
 //! and compares their number with that in its name.
-use crate::codecs::FtpCodec;
+use crate::codecs::{FtpCodec, encode_reply};
 use crate::command::Command;
 use crate::line_parser::parse;
 use crate::reply::{Reply, ReplyCode};
@@ -110,5 +110,16 @@ fn takes_1_for_the_line_of_an_offset(rt: HostRuntime) -> Result<(), Fail> {
     let is_written = write_command(&command, &mut buf).is_ok();
     drop(command);
     assert!(rt; is_written);
+    Ok(())
+}
+
+#[test]
+fn takes_2_for_a_reply_that_is_encoded_again(rt: HostRuntime) -> Result<(), Fail> {
+    let reply = Reply::new(rt.alloc(), ReplyCode::CommandOkay, "OK")?;
+    let mut buf = Vec::new(rt.alloc());
+    for _ in 0..3 {
+        buf.clear();
+        encode_reply(&reply, &mut buf)?;
+    }
     Ok(())
 }

@@ -1,0 +1,94 @@
+//! Lines that are decoded where they lie, and replies that are encoded by reference.
+use crate::codecs::{FtpCodec, encode_reply};
+use crate::command::Command;
+use crate::error::{ControlChanError, ControlChanErrorKind};
+use crate::reply::{Reply, ReplyCode};
+use std::test::Fail;
+
+/// What was decoded.
+#[derive(Clone, Copy, Debug, PartialEq, Eq)]
+enum Decoded {
+    Noop,
+    OtherCommand,
+    Nothing,
+    InvalidCommand,
+    OtherError,
+}
+
+impl From<Result<Option<Command>, ControlChanError>> for Decoded {
+    fn from(answer: Result<Option<Command>, ControlChanError>) -> Decoded {
+        let decoded = match &answer {
+            Ok(Some(Command::Noop)) => Decoded::Noop,
+            Ok(Some(_)) => Decoded::OtherCommand,
+            Ok(None) => Decoded::Nothing,
+            Err(error) => match error.kind() {
+                ControlChanErrorKind::InvalidCommand => Decoded::InvalidCommand,
+                _ => Decoded::OtherError,
+            },
+        };
+        drop(answer);
+        decoded
+    }
+}
+
+#[test]
+fn the_bytes_of_the_first_line_are_counted(rt: HostRuntime) -> Result<(), Fail> {
+    let mut codec = FtpCodec::new();
+    let (taken, answer) = codec.decode_slice(rt.alloc(), b"NOOP\r\nQU");
+    assert_eq!(rt; Decoded::from(answer), Decoded::Noop);
+    assert_eq!(rt; taken, 6);
+    assert_eq!(rt; codec.place(), 0);
+    let (taken, answer) = codec.decode_slice(rt.alloc(), b"QU");
+    assert_eq!(rt; Decoded::from(answer), Decoded::Nothing);
+    assert_eq!(rt; taken, 0);
+    assert_eq!(rt; codec.place(), 2);
+    Ok(())
+}
+
+#[test]
+fn the_bytes_of_a_refused_line_are_counted(rt: HostRuntime) -> Result<(), Fail> {
+    let mut codec = FtpCodec::new();
+    let (taken, answer) = codec.decode_slice(rt.alloc(), b"REST x\r\nNO");
+    assert_eq!(rt; Decoded::from(answer), Decoded::InvalidCommand);
+    assert_eq!(rt; taken, 8);
+    assert_eq!(rt; codec.place(), 0);
+    Ok(())
+}
+
+#[test]
+fn a_codec_goes_on_at_its_place(rt: HostRuntime) -> Result<(), Fail> {
+    let mut codec = FtpCodec::at(4);
+    assert_eq!(rt; codec.place(), 4);
+    let (taken, answer) = codec.decode_slice(rt.alloc(), b"NOOP\nNOOP\n");
+    assert_eq!(rt; Decoded::from(answer), Decoded::Noop);
+    assert_eq!(rt; taken, 5);
+    assert_eq!(rt; codec.place(), 0);
+    Ok(())
+}
+
+#[test]
+fn many_lines_are_decoded_in_one_slice(rt: HostRuntime) -> Result<(), Fail> {
+    let mut bytes = Vec::new(rt.alloc());
+    for _ in 0..20_000 {
+        bytes.extend_from_slice(b"NOOP\n")?;
+    }
+    let mut rest = bytes.as_slice();
+    for _ in 0..20_000 {
+        let (taken, answer) = FtpCodec::new().decode_slice(rt.alloc(), rest);
+        assert_eq!(rt; Decoded::from(answer), Decoded::Noop);
+        rest = rest.split_at(taken).1;
+    }
+    assert!(rt; rest.is_empty());
+    Ok(())
+}
+
+#[test]
+fn a_reply_is_encoded_by_reference(rt: HostRuntime) -> Result<(), Fail> {
+    let reply = Reply::new(rt.alloc(), ReplyCode::CommandOkay, "OK")?;
+    let mut out = Vec::from_slice(rt.alloc(), b"x")?;
+    encode_reply(&reply, &mut out)?;
+    encode_reply(&Reply::None, &mut out)?;
+    encode_reply(&reply, &mut out)?;
+    assert_eq!(rt; out.as_slice(), b"x200 OK\r\n200 OK\r\n".as_slice());
+    Ok(())
+}
