@@ -1,10 +1,10 @@
 -- What the codec does to a buffer with no line feed before its place.
-use Rattle.std.proofs.Common.{◌≡◌, ◌≢◌, ℕ, zero, suc, ◌+◌, ◌-◌, ◌<◌, ◌≤◌, true, false, [], ◌∷◌, ◌++◌, ◌⊎◌, length, take, Option, Some, None, Result, Ok, Err, refl, sym, ap, ◌∙◌, inl, inr, arith, append_assoc, ne_eqb, eqb-true}
+use Rattle.std.proofs.Common.{◌≡◌, ◌≢◌, ℕ, zero, suc, ◌+◌, ◌-◌, ◌<◌, ◌≤◌, true, false, [], ◌∷◌, ◌++◌, ◌⊎◌, length, take, drop, Option, Some, None, Result, Ok, Err, refl, sym, ap, ◌∙◌, inl, inr, arith, append_assoc, ne_eqb, eqb-true}
 use Rattle.std.specs.Prelude.{slice_index}
 use Rattle.std.specs.Option.{MatchOption}
 use Rattle.std.proofs.lemmas.Bool.{cases_lt}
 use Rattle.std.proofs.lemmas.Grind.{common_steps}
-use Rattle.std.proofs.lemmas.List.{take_more, take-append-drop}
+use Rattle.std.proofs.lemmas.List.{drop-drop, take_more, take-append-drop}
 use Rattle.std.proofs.Math.Seq.{take-length}
 use Rattle.std.proofs.lemmas.Option.{none-some, same_Some}
 use Rattle.unftp_control_defs.specs.Bytes.{Bytes, LF, Lacks}
@@ -96,7 +96,7 @@ module _ (old new : Codec) (before after : Bytes) (answer : Decoded) where
           })
       by_place (Some k) e (inr d) = inr (inr record { no_memory = d.0; kept = d.2.kept; place = d.2.place })
 
-  pub within_buffer : IsWithin old before → Decodes old new before after answer → IsWithin new after
+  within_buffer : IsWithin old before → Decodes old new before after answer → IsWithin new after
   within_buffer well decodes = by_end (comes well decodes)
     where
       by_end : Comes old new before after answer → IsWithin new after
@@ -124,7 +124,7 @@ none_no_memory (Ok command) returned no_memory = no_memory
 none_no_memory (Err error) returned no_memory = absurd (none-some _ (sym returned))
 
 module _ {E : Type 0} (old new : Codec) (before after : Bytes) (answer : Decoded) where
-  pub takes_next : (result : Result (Option Event) E) → IsWithin old before → Decodes old new before after answer → ReturnsEvent answer result →
+  takes_next : (result : Result (Option Event) E) → IsWithin old before → Decodes old new before after answer → ReturnsEvent answer result →
       TakesNext (pending_of old before) result (pending_of new after)
   takes_next result well decodes tells = by_result result tells (comes old new before after answer well decodes)
     where
@@ -144,6 +144,19 @@ module _ {E : Type 0} (old new : Codec) (before after : Bytes) (answer : Decoded
       by_result (Err error) tells (inl none) = absurd (none_no_memory answer none.returned tells)
       by_result (Err error) tells (inr (inl first)) = absurd (line_no_memory first.line answer first.returned tells)
       by_result (Err error) tells (inr (inr no_memory)) = no_memory.kept
+
+-- the same of the bytes of a buffer from a place on, where the codec takes the first of them
+module _ (old new : Codec) (buf pending : Bytes) (start taken : ℕ) (answer : Decoded) (from_start : pending ≡ drop start buf)
+    (well : IsWithin old (drop start buf)) (decodes : Decodes old new pending (drop taken pending) answer) where
+  of_the_rest : Decodes old new (drop start buf) (drop (start + taken) buf) answer
+  of_the_rest = rw (sym (drop-drop taken start buf)) (rw from_start at decodes)
+
+  pub within_buffer-from : IsWithin new (drop (start + taken) buf)
+  within_buffer-from = within_buffer old new (drop start buf) (drop (start + taken) buf) answer well of_the_rest
+
+  pub takes_next-from : {E : Type 0} (result : Result (Option Event) E) → ReturnsEvent answer result →
+      TakesNext (pending_of old (drop start buf)) result (pending_of new (drop (start + taken) buf))
+  takes_next-from result tells = takes_next old new (drop start buf) (drop (start + taken) buf) answer result well of_the_rest tells
 
 -- a buffer with no line has no events, and one with a line has that of the line before the others
 module _ (p q : Pending) where

@@ -2,8 +2,10 @@
 ghost use Rattle.std.specs.Prelude.{◌≡◌, ◌≤◌, ◌+◌, ◌↔◌, ◌∷◌, ◌++◌, [], OnOk, OnErr, IsErrOf, is_err, true, false, length};
 ghost use Rattle.std.specs.Io.KnownBytes.{Appends};
 ghost use Rattle.unftp_control_defs.specs.Events.{events};
+ghost use Rattle.unftp_control_defs.specs.FtpReply.{encoded};
 ghost use Rattle.unftp_control_defs.specs.Lines.{incomplete_line};
 ghost use Rattle.unftp_control_defs.specs.Run.{text_of};
+ghost use Rattle.unftp_control_reply.specs.ReplyMeaning.{reply_of};
 ghost use Rattle.unftp_control_engine.specs.Endings.{RunOutcome, WriteFailed, HandlerFailed, RanOutOfMemory, OnWrite, OnHandler, OnMemory, ReadsNothing, snapshot_of};
 ghost use Rattle.unftp_control_engine.specs.Engine.{IsRunning, Leaves, events_with};
 ghost use Rattle.unftp_control_engine.specs.EventMeaning.{event_meant};
@@ -20,6 +22,16 @@ use std::io::Write;
 use std::marker::Model;
 use unftp_control_codecs::encode_reply;
 use unftp_control_count::Count;
+use unftp_control_error::ControlChanError;
+use unftp_control_reply::Reply;
+
+/// Encodes the reply into a buffer that is used again.
+fn encode_into(reply: &Reply, reply_bytes: &mut Vec<u8>) -> Result<(), ControlChanError>
+    ensures { OnOk result (reply_bytes.new.items ≡ encoded (reply_of reply.now)) }
+{
+    reply_bytes.clear();
+    encode_reply(reply, reply_bytes)
+}
 
 /// Passes the event to the handler, and sends its reply, whose bytes are held in `reply_bytes`.
 fn answer_event<H: Handler, W: Write>(
@@ -38,8 +50,7 @@ fn answer_event<H: Handler, W: Write>(
         Ok(reply) => reply,
         Err(error) => return Err(ServeError::Handler(error)),
     };
-    reply_bytes.clear();
-    match encode_reply(&reply, reply_bytes) {
+    match encode_into(&reply, reply_bytes) {
         Ok(()) => send(output, reply_bytes.as_slice()),
         Err(_) => Err(ServeError::OutOfMemory),
     }

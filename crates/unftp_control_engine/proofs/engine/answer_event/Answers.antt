@@ -1,6 +1,5 @@
-use Rattle.std.proofs.Common.{◌≡◌, ◌++◌, refl, ◌∙◌, ap}
+use Rattle.std.proofs.Common.{◌≡◌, refl, ◌∙◌, ap}
 use Rattle.unftp_control_defs.specs.FtpReply.{encoded}
-use Rattle.unftp_control_reply.specs.ReplyMeaning.{reply_of}
 use Rattle.unftp_control_engine.specs.EventMeaning.{event_meant}
 use Rattle.unftp_control_engine.proofs.EndingLemmas.{failed-at, answered, no_memory-at}
 use Rattle.unftp_control_engine.proofs.engine.answer_event.Goals as goal
@@ -8,11 +7,10 @@ use Rattle.unftp_control_engine.proofs.engine.answer_event.Goals as goal
 pub returns-in-Err : goal.returns-in-Err
 returns-in-Err g c = failed-at _ _ _ _ _ c.in-Err.ensures.may_fail refl c.in-Err.ensures.counted
 
-pub returns-in-Ok-encode_reply : goal.returns-in-Ok-encode_reply
-returns-in-Ok-encode_reply g c =
+pub returns-in-Ok-encode_into : goal.returns-in-Ok-encode_into
+returns-in-Ok-encode_into g c =
     let said : c.as_slice.result.now ≡ encoded (g.H.Handler.law.says (g.H.Handler.state c.args.handler.now) (event_meant c.args.event)) =
-    c.as_slice.ensures.value ∙ c.in-Ok-encode_reply.ensures.ok ∙ ap (λ z. z ++ encoded (reply_of c.in-Ok.reply)) c.clear.ensures.items
-    ∙ ap encoded c.in-Ok.ensures.says in
+    c.as_slice.ensures.value ∙ c.in-Ok-encode_into.ensures ∙ ap encoded c.in-Ok.ensures.says in
     answered _ _ _ _ c.send.result c.in-Ok.ensures.next c.in-Ok.ensures.quiet (rw said at c.send.ensures)
 
 pub returns : goal.returns
