@@ -1,5 +1,5 @@
 //! The codec without the engine.
-ghost use Rattle.std.specs.Prelude.{◌≡◌, ◌≤◌, ◌++◌, OnErr, OnOk, codes, if◌then◌else◌};
+ghost use Rattle.std.specs.Prelude.{◌≡◌, ◌+◌, ◌≤◌, ◌++◌, length, drop, OnErr, OnOk, codes, if◌then◌else◌};
 ghost use Rattle.std.specs.Vec.{vec_len};
 ghost use Rattle.calling.specs.NextNoop.{IsNextNoop};
 ghost use Rattle.unftp_control.specs.Decoding.{Decoded, Decodes};
@@ -11,7 +11,30 @@ use unftp_control::command::{Command, same_commands};
 use unftp_control::error::{ControlChanError, ControlChanErrorKind};
 use unftp_control::reply::{Reply, ReplyCode};
 
-/// Whether the next line of `buf` is NOOP: `None` while no line is complete.
+/// Whether the line that the codec returned is NOOP: `None` while no line is complete.
+fn is_noop(
+    answer: Result<Option<Command>, ControlChanError>,
+) -> Result<Option<bool>, ControlChanError>
+    ensures { IsNextNoop answer result }
+{
+    match answer {
+        Ok(None) => Ok(None),
+        Ok(Some(command)) => {
+            // a law, for the proof: commands are equal where they mean the same
+            same_commands();
+            let is_noop = command == Command::Noop;
+            drop(command);
+            Ok(Some(is_noop))
+        }
+        // the line is still there, and can be decoded once there is memory
+        Err(error) if *error.kind() == ControlChanErrorKind::OutOfMemory => Err(error),
+        // the line is refused, and gone
+        Err(_) => Ok(Some(false)),
+    }
+}
+
+/// Whether the next line of `buf` is NOOP. It leaves `buf`, whose other bytes are moved to its
+/// start.
 pub fn next_is_noop(
     alloc: Global,
     codec: &mut FtpCodec,
@@ -23,20 +46,24 @@ pub fn next_is_noop(
         × IsNextNoop answer result }
     ensures within { codec.new.place ≤ vec_len buf.new }
 {
-    match codec.decode(alloc, buf) {
-        Ok(None) => Ok(None),
-        Ok(Some(command)) => {
-            // a law, for the proof: commands are equal where they mean the same
-            same_commands();
-            let is_noop = command == Command::Noop;
-            drop(command);
-            Ok(Some(is_noop))
-        }
-        // the line is still in `buf`, and can be decoded once there is memory
-        Err(error) if *error.kind() == ControlChanErrorKind::OutOfMemory => Err(error),
-        // the line is refused, and gone
-        Err(_) => Ok(Some(false)),
-    }
+    is_noop(codec.decode(alloc, buf))
+}
+
+/// Whether the first line of `bytes` is NOOP, and how many bytes it has: where many lines lie one
+/// after another, the next call takes the bytes after it, and none is moved.
+pub fn first_is_noop(
+    alloc: Global,
+    codec: &mut FtpCodec,
+    bytes: &[u8],
+) -> (usize, Result<Option<bool>, ControlChanError>)
+    requires { codec.old.place ≤ length bytes.now }
+    ensures first { (answer : Decoded)
+        × Decodes codec.old codec.new bytes.now (drop result.0 bytes.now) answer
+        × IsNextNoop answer result.1 }
+    ensures within { result.0 + codec.new.place ≤ length bytes.now }
+{
+    let (taken, answer) = codec.decode_slice(alloc, bytes);
+    (taken, is_noop(answer))
 }
 
 /// Appends the reply to a line.

@@ -1,6 +1,6 @@
 //! The snippets over inputs and outputs in memory.
 use crate::client::first_code;
-use crate::codec::{answer, next_is_noop};
+use crate::codec::{answer, first_is_noop, next_is_noop};
 use crate::handler::Obliging;
 use crate::lines::line_text;
 use crate::pieces::answer_pieces;
@@ -41,6 +41,23 @@ fn a_codec_answers_line_by_line(rt: HostRuntime) -> Result<(), Fail> {
     }
     let want = b"200 OK\r\n502 Not implemented\r\n502 Not implemented\r\n";
     assert_eq!(rt; out.as_slice(), want.as_slice());
+    Ok(())
+}
+
+#[test]
+fn lines_of_one_slice_are_told_apart(rt: HostRuntime) -> Result<(), Fail> {
+    let mut codec = FtpCodec::new();
+    let (taken, is_noop) = first_is_noop(rt.alloc(), &mut codec, b"NOOP\r\nPWD\r\nNO");
+    assert!(rt; is_noop? == Some(true));
+    assert_eq!(rt; taken, 6);
+    assert_eq!(rt; codec.place(), 0);
+    let (taken, is_noop) = first_is_noop(rt.alloc(), &mut codec, b"PWD\r\nNO");
+    assert!(rt; is_noop? == Some(false));
+    assert_eq!(rt; taken, 5);
+    assert_eq!(rt; codec.place(), 0);
+    let (taken, is_noop) = first_is_noop(rt.alloc(), &mut codec, b"NO");
+    assert!(rt; is_noop?.is_none());
+    assert_eq!(rt; taken, 0);
     Ok(())
 }
 
