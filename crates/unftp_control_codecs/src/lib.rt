@@ -1,10 +1,11 @@
 //! Takes lines from the start of a buffer, and appends replies to the end of one.
 #![tactic(auto)]
 
-ghost use Rattle.std.specs.Prelude.{◌≡◌, ◌↔◌, ◌+◌, ◌≤◌, IsTrue, ◌++◌, length, drop, vec_len, IsOk, OnOk, OnErr, IfErr};
+ghost use Rattle.std.specs.Prelude.{◌≡◌, ◌↔◌, ◌+◌, ◌≤◌, IsTrue, ◌++◌, length, drop, vec_len, Some, Ok, Err, MatchResult, IsOk, OnOk, OnErr, IfErr};
 ghost use Rattle.unftp_control_defs.specs.Events.{out_of_memory};
 ghost use Rattle.unftp_control_defs.specs.FtpReply.{Nothing, encoded};
-ghost use Rattle.unftp_control_error.specs.ErrorMeaning.{fault_of};
+ghost use Rattle.unftp_control_error.specs.ErrorMeaning.{converted, fault_of};
+ghost use Rattle.unftp_control_error.specs.declared.Source.TheVariants.{Parse};
 ghost use Rattle.unftp_control_reply.specs.ReplyMeaning.{reply_of};
 ghost use Rattle.unftp_control_codecs.specs.Decoding.{Decodes, IsOutOfMemory};
 
@@ -113,7 +114,7 @@ impl FtpCodec {
             taken = end + 1;
             self.place = 0;
         }
-        (taken, answer.map(Some).map_err(ControlChanError::from))
+        (taken, decoded(answer))
     }
 
     /// Takes the first line from the start of `buf`, as `decode_slice` finds it, and returns its
@@ -176,6 +177,18 @@ pub fn encode_reply(reply: &Reply, buf: &mut Vec<u8>) -> Result<(), ControlChanE
         return Err(refused.into());
     }
     Ok(())
+}
+
+/// The codec's answer for a line that the parser answered so.
+fn decoded(answer: Result<Command, ParseError>) -> Result<Option<Command>, ControlChanError>
+    ensures { MatchResult answer
+        (λ command. result ≡ Ok (Some command))
+        (λ error. result ≡ Err (record { kind = converted error; source = Parse error })) }
+{
+    match answer {
+        Ok(command) => Ok(Some(command)),
+        Err(error) => Err(error.into()),
+    }
 }
 
 /// Removes this many bytes from the start of the buffer. The rest is moved once, where `drain`
