@@ -9,9 +9,11 @@ use std::test::Fail;
 #[derive(Clone, Copy, Debug, PartialEq, Eq)]
 enum Decoded {
     Noop,
+    UserAbc,
     OtherCommand,
     Nothing,
     InvalidCommand,
+    OutOfMemory,
     OtherError,
 }
 
@@ -19,10 +21,14 @@ impl From<Result<Option<Command>, ControlChanError>> for Decoded {
     fn from(answer: Result<Option<Command>, ControlChanError>) -> Decoded {
         let decoded = match &answer {
             Ok(Some(Command::Noop)) => Decoded::Noop,
+            Ok(Some(Command::User { username })) if username.as_slice() == b"abc".as_slice() => {
+                Decoded::UserAbc
+            }
             Ok(Some(_)) => Decoded::OtherCommand,
             Ok(None) => Decoded::Nothing,
             Err(error) => match error.kind() {
                 ControlChanErrorKind::InvalidCommand => Decoded::InvalidCommand,
+                ControlChanErrorKind::OutOfMemory => Decoded::OutOfMemory,
                 _ => Decoded::OtherError,
             },
         };
@@ -53,6 +59,31 @@ fn the_bytes_of_a_refused_line_are_counted(rt: HostRuntime) -> Result<(), Fail> 
     assert_eq!(rt; taken, 8);
     assert_eq!(rt; codec.place(), 0);
     Ok(())
+}
+
+mod failed_allocations {
+    use super::Decoded;
+    use crate::codecs::FtpCodec;
+    use std::test::Fail;
+
+    // where an allocation fails, the codec is as before, and decodes the line again
+    #[test]
+    fn a_line_of_a_slice_is_decoded(rt: HostRuntime) -> Result<(), Fail> {
+        let bytes = b"USER abc\r\nPWD\r\n";
+        let mut codec = FtpCodec::at(4);
+        let (mut taken, answer) = codec.decode_slice(rt.alloc(), bytes);
+        let mut decoded = Decoded::from(answer);
+        if decoded == Decoded::OutOfMemory {
+            assert_eq!(rt; taken, 0);
+            assert_eq!(rt; codec.place(), 4);
+            let (again, answer) = codec.decode_slice(rt.alloc(), bytes);
+            taken = again;
+            decoded = Decoded::from(answer);
+        }
+        assert_eq!(rt; taken, 10);
+        assert_eq!(rt; decoded, Decoded::UserAbc);
+        Ok(())
+    }
 }
 
 #[test]
