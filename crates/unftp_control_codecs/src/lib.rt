@@ -49,9 +49,9 @@ impl FtpCodec {
         FtpCodec::at(0)
     }
 
-    /// A codec with this scan offset, which has scanned nothing: for a caller that keeps of a codec
-    /// the offset alone. There should be no line feed before the offset, since `decode` and
-    /// `decode_slice` take the first line to end at or after it.
+    /// A codec with this scan offset, which has scanned nothing: for a caller that keeps only the
+    /// offset. The first line then ends at the first line feed at or after it, so there should be
+    /// none before it.
     pub fn at(place: usize) -> FtpCodec
         ensures place { result.place ≡ place }
         ensures tests { result.tests ≡ 0 }
@@ -77,18 +77,19 @@ impl FtpCodec {
         self.tests.count()
     }
 
-    /// Returns the command of the first line of `bytes`, or `None` while no line is complete
-    /// (RFC 959, section 5.3), and how many bytes the line has: a caller goes on behind them. A line
-    /// ends at its line feed.
+    /// Decodes the first line of `bytes`: returns its length in bytes, and its command (RFC 959,
+    /// section 5.3). While no line is complete, these are 0 and `None`. A line ends at its line
+    /// feed.
     ///
-    /// This is for bytes that hold many lines: each byte is scanned once, and none is moved. The
-    /// scan offset has to be within `bytes`, as it is after each call in what follows the line, also
-    /// where bytes were added at the end since. The bytes before it are not scanned again.
+    /// It is for bytes that hold many lines: the next call gets the bytes after the line, and
+    /// nothing is moved. The scan offset has to be within `bytes`, as it is after each call: within
+    /// the bytes after the line, or the same bytes with more at their end. The bytes before it are
+    /// not scanned again.
     ///
     /// A line that is no command is refused with `Utf8Error` (the parser's `InvalidUtf8`) or
     /// `InvalidCommand` (its `InvalidCommand` and `InvalidEol`), with the parser's error as source;
-    /// its bytes are told as those of any other line. With `None`, and when out of memory with the
-    /// kind `OutOfMemory`, the number is 0; at the latter the scan offset is as before.
+    /// the length is that of the refused line. When out of memory, with the kind `OutOfMemory`, the
+    /// length is 0, and the scan offset is as before.
     pub fn decode_slice(
         &mut self,
         alloc: Global,
@@ -117,12 +118,12 @@ impl FtpCodec {
         (taken, decoded(answer))
     }
 
-    /// Takes the first line from the start of `buf`, as `decode_slice` finds it, and returns its
-    /// command, or `None` while no line is complete.
+    /// Takes the first line from the start of `buf` and returns its command, or `None` while no
+    /// line is complete: it is `decode_slice`, and then the line is removed.
     ///
-    /// This is for a buffer that holds the line or few more: what follows the line is moved to the
-    /// start of `buf`, once for each line. Where many lines lie in one buffer, `decode_slice` takes
-    /// them without moving any.
+    /// It is for a buffer that holds one line or a few. What follows the line is moved to the start
+    /// of `buf`, so the time grows with what `buf` holds: many lines in one buffer are faster
+    /// decoded by `decode_slice`.
     ///
     /// The scan offset has to be within `buf`, as it is after each call, also where `buf` has grown
     /// at its end since. The errors are those of `decode_slice`: a refused line leaves `buf` as any
