@@ -1,19 +1,20 @@
 -- A service, piece by piece.
-use Rattle.std.proofs.Common.{◌≡◌, ℕ, ◌+◌, ◌-◌, ◌^◌, ◌<◌, ◌≤◌, false, [], ◌++◌, Option, Some, None, length, refl, sym, ◌∙◌, ap, arith, append_assoc, length-append}
+use Rattle.std.proofs.Common.{◌≡◌, ℕ, ◌+◌, ◌-◌, ◌^◌, ◌<◌, ◌≤◌, false, [], ◌++◌, take, Option, Some, None, length, refl, sym, ◌∙◌, ap, arith, append_assoc, length-append}
+use Rattle.std.proofs.lemmas.List.{append-nil}
 use Rattle.std.specs.List.{AllByRecursion}
 use Rattle.std.specs.Option.{IfSome}
-use Rattle.std.specs.Io.KnownBytes.{Consumes}
+use Rattle.std.specs.Io.KnownBytes.{Appends, Consumes, IsAtEnd, Keeps}
 use Rattle.unftp_control_defs.specs.Bytes.{Bytes}
 use Rattle.unftp_control_defs.specs.Lines.{incomplete_line}
 use Rattle.unftp_control_defs.specs.Events.{events}
 use Rattle.unftp_control_defs.specs.FtpReply.{IsPlain}
 use Rattle.unftp_control_defs.specs.ReplyReader.{ReadsBack}
-use Rattle.unftp_control_defs.specs.Run.{Law, replies, text_for}
+use Rattle.unftp_control_defs.specs.Run.{Law, last_state, replies, text_for}
 use Rattle.unftp_control_defs.proofs.EncodingLemmas.{ReadsBack-encoded}
 use Rattle.unftp_control_defs.proofs.LineLemmas.{events-append, incomplete_line-append}
 use Rattle.unftp_control_engine.specs.Endings.{Snapshot, AllAnswered, RunEnded}
 use Rattle.unftp_control_engine.specs.Engine.{EngineState, IsRunning, Leaves, events_with, saturating_u64}
-use Rattle.unftp_control_serve.specs.Service.{InputState, Answered, EndedLate, ReadTooOften, ServeEnded}
+use Rattle.unftp_control_serve.specs.Service.{InputState, Answered, AnsweredAll, EndedLate, ReadFailed, ReadTooOften, ServeEnded}
 use Rattle.unftp_control_engine.specs.declared.error.ServeError.{ServeError}
 use Rattle.unftp_control_engine.specs.declared.error.ServeError.TheVariants.{Read, Write, WriteZero, Handler, OutOfMemory, Stopped, TooManyReads}
 use Rattle.unftp_control_engine.proofs.EndingLemmas.{AllAnswered-nothing, AllAnswered-then, RunEnded-then}
@@ -27,6 +28,21 @@ Consumes-then None b c read more p q = tt
 Consumes-then (Some a) None c read more p q = absurd p
 Consumes-then (Some a) (Some b) None read more p q = q
 Consumes-then (Some a) (Some b) (Some c) read more p q = p ∙ ap (λ z. read ++ z) q ∙ sym (append_assoc read more c)
+
+Consumes-kept : (a b c : Option Bytes) (read : Bytes) → Consumes a b read → Keeps b c →
+    Consumes a c read
+Consumes-kept None b c read p q = tt
+Consumes-kept (Some a) None c read p q = absurd p
+Consumes-kept (Some a) (Some b) None read p q = q
+Consumes-kept (Some a) (Some b) (Some c) read p q = rw q p
+
+-- what is so of the bytes read is so of a known input that was read to its end
+whole : (P : Bytes → Type 0) (a b : Option Bytes) (read : Bytes) → Consumes a b read → IsAtEnd b →
+    P read → IfSome a P
+whole P None b read p q it = tt
+whole P (Some a) None read p q it = absurd p
+whole P (Some a) (Some b) read p q it =
+    rw (p ∙ ap (λ z. read ++ z) q ∙ append-nil read) it
 
 -- in the loop of `serve`: all lines of what was read are answered, and the engine holds the
 -- incomplete line
@@ -97,6 +113,61 @@ module _ {S : Type 0} (law : Law S) (m : Snapshot S) (i : InputState) where
     Serving-ended after piece OutOfMemory consumed short ended = late after piece OutOfMemory consumed short ended
     Serving-ended after piece Stopped consumed short ended = absurd ended
     Serving-ended after piece TooManyReads consumed short ended = absurd ended
+
+    pub Serving-all : (piece : Bytes) (count : ℕ) → count ≡ 0 →
+        Consumes j.remaining k.remaining (take count piece) → IsAtEnd k.remaining →
+        k.failures ≡ j.failures → AnsweredAll law m n i k engine.left engine.tests
+    Serving-all piece count zero given at_end kept =
+        let known = Consumes-then i.remaining j.remaining k.remaining s.so_far.read in
+        let nothing : Consumes j.remaining k.remaining [] = rw zero at given in
+        record {
+          read = s.so_far.read;
+          consumed = rw (sym (append-nil s.so_far.read)) (known [] s.so_far.consumed nothing);
+          at_end = at_end;
+          answered = s.so_far.answered;
+          left_reported = s.left;
+          tested = s.tested;
+          no_read_failed = kept ∙ s.no_read_failed;
+        }
+
+    pub Serving-read_failed : Keeps j.remaining k.remaining → k.failures ≡ j.failures + 1 →
+        ReadFailed law m n i k
+    Serving-read_failed kept counted =
+        let known = Consumes-kept i.remaining j.remaining k.remaining s.so_far.read in
+        record {
+          answered = record {
+            read = s.so_far.read;
+            consumed = known s.so_far.consumed kept;
+            answered = s.so_far.answered;
+          };
+          read_failed = omega (arith, counted, s.no_read_failed);
+        }
+
+  -- what is so of a known input that is served whole
+  module _ (n : Snapshot S) (k : InputState) (left tests : ℕ)
+      (all : AnsweredAll law m n i k left tests) where
+    of_input : (P : Bytes → Type 0) → P all.read → IfSome i.remaining P
+    of_input P = whole P i.remaining k.remaining all.read all.consumed all.at_end
+
+    pub AnsweredAll-headline : IfSome i.remaining (λ input.
+        Appends m.output.written n.output.written (text_for law m.state input))
+    AnsweredAll-headline = of_input
+        (λ input. Appends m.output.written n.output.written (text_for law m.state input))
+        all.answered.written
+
+    pub AnsweredAll-state : IfSome i.remaining (λ input.
+        n.state ≡ last_state law m.state (events input))
+    AnsweredAll-state =
+        of_input (λ input. n.state ≡ last_state law m.state (events input)) all.answered.state
+
+    pub AnsweredAll-tested : IfSome i.remaining (λ input. tests ≡ length input)
+    AnsweredAll-tested = of_input (λ input. tests ≡ length input) all.tested
+
+    pub AnsweredAll-left : IfSome i.remaining (λ input.
+        left ≡ saturating_u64 (length (incomplete_line input)))
+    AnsweredAll-left = of_input
+        (λ input. left ≡ saturating_u64 (length (incomplete_line input)))
+        all.left_reported
 
   pub Serving-too_often : (n : Snapshot S) (j : InputState) (engine : EngineState) (turn : ℕ) → Serving law m n i j engine turn → 2 ^ 64 - 1 ≤ turn → ReadTooOften law m n i j
   Serving-too_often n j engine turn s many = record { answered = s.so_far; many = omega (arith, s.many) }
