@@ -5,22 +5,26 @@ use crate::tests::texts::{assert_debug, assert_displayed, assert_text};
 use bstr::ByteVec;
 use std::alloc::Global;
 use std::process::Abort;
-use std::test::Fail;
 
-/// The Debug text of a command, of which Display writes the same and a clone is equal.
-fn text_of(rt: &impl Abort, alloc: Global, command: &Command) -> Result<String, Fail> {
-    let copy = command.clone(alloc)?;
+/// A clone of the command is equal.
+fn assert_cloned(rt: &impl Abort, alloc: Global, command: &Command) {
+    let copy = command.clone(alloc).expect(rt, "memory");
     let is_same = copy == *command;
     drop(copy);
     assert!(rt; is_same);
-    let text = format!(in alloc; "{command:?}")?;
-    let display = format!(in alloc; "{command}")?;
-    assert_eq!(rt; display, text);
-    Ok(text)
+}
+
+/// The Debug text of a command, of which Display writes the same and a clone is equal.
+fn text_of(rt: &impl Abort, alloc: Global, command: &Command) -> String {
+    assert_cloned(rt, alloc, command);
+    let display = format!(in alloc; "{command}").expect(rt, "memory");
+    let text = format!(in alloc; "{command:?}").expect(rt, "memory");
+    assert_text(rt, display, text.as_str());
+    text
 }
 
 /// What a line is read as: the text of its command, or of the kind of its refusal.
-fn answer(rt: &impl Abort, alloc: Global, line: &[u8]) -> Result<String, Fail> {
+fn answer(rt: &impl Abort, alloc: Global, line: &[u8]) -> String {
     match parse(alloc, line) {
         Ok(command) => {
             let text = text_of(rt, alloc, &command);
@@ -29,25 +33,28 @@ fn answer(rt: &impl Abort, alloc: Global, line: &[u8]) -> Result<String, Fail> {
         }
         Err(error) => {
             let kind = error.kind();
-            Ok(format!(in alloc; "{kind:?}")?)
+            format!(in alloc; "{kind:?}").expect(rt, "memory")
         }
     }
 }
 
-/// Each row is a line, its bytes escaped as in a byte string, ` => ` and what it is read as.
-fn assert_read(rt: &impl Abort, alloc: Global, rows: &str) -> Result<(), Fail> {
+/// The row is a line, its bytes escaped as in a byte string, ` => ` and what it is read as.
+fn assert_row(rt: &impl Abort, alloc: Global, row: &str) {
+    let (line, want) = row.split_once(" => ").expect(rt, "a row");
+    let line = Vec::unescape_bytes(alloc, line).expect(rt, "memory");
+    let text = answer(rt, alloc, line.as_slice());
+    assert_text(rt, text, want);
+}
+
+/// Each line of these is a row.
+fn assert_read(rt: &impl Abort, alloc: Global, rows: &str) {
     for row in rows.trim().lines() {
-        let Some((line, want)) = row.trim().split_once(" => ") else {
-            panic!(rt; "no row: {row}");
-        };
-        let line = Vec::unescape_bytes(alloc, line)?;
-        assert_text(rt, answer(rt, alloc, line.as_slice())?, want);
+        assert_row(rt, alloc, row.trim());
     }
-    Ok(())
 }
 
 #[test]
-fn values_are_read_up_to_their_end(rt: HostRuntime) -> Result<(), Fail> {
+fn values_are_read_up_to_their_end(rt: HostRuntime) {
     assert_read(
         &rt,
         rt.alloc(),
@@ -67,11 +74,11 @@ fn values_are_read_up_to_their_end(rt: HostRuntime) -> Result<(), Fail> {
         NOOP x\r\n => InvalidCommand
         RETR \r\n => InvalidCommand
         "#,
-    )
+    );
 }
 
 #[test]
-fn values_hold_carriage_returns_and_line_feeds(rt: HostRuntime) -> Result<(), Fail> {
+fn values_hold_carriage_returns_and_line_feeds(rt: HostRuntime) {
     assert_read(
         &rt,
         rt.alloc(),
@@ -88,11 +95,11 @@ fn values_hold_carriage_returns_and_line_feeds(rt: HostRuntime) -> Result<(), Fa
         USER \r\0\n => InvalidEol
         USER \r\0 => InvalidEol
         "#,
-    )
+    );
 }
 
 #[test]
-fn commands_without_a_parameter_are_read_ignoring_case(rt: HostRuntime) -> Result<(), Fail> {
+fn commands_without_a_parameter_are_read_ignoring_case(rt: HostRuntime) {
     assert_read(
         &rt,
         rt.alloc(),
@@ -111,11 +118,11 @@ fn commands_without_a_parameter_are_read_ignoring_case(rt: HostRuntime) -> Resul
         TYPE \xff\n => TypeCode
         ALLO 1\r2 => Allo
         "#,
-    )
+    );
 }
 
 #[test]
-fn texts_are_read(rt: HostRuntime) -> Result<(), Fail> {
+fn texts_are_read(rt: HostRuntime) {
     assert_read(
         &rt,
         rt.alloc(),
@@ -132,11 +139,11 @@ fn texts_are_read(rt: HostRuntime) -> Result<(), Fail> {
         XCWD d\r\n => Cwd { path: "d" }
         PORT 1,2,3,4,5,6\r\n => Port { addr: "1,2,3,4,5,6" }
         "#,
-    )
+    );
 }
 
 #[test]
-fn the_path_of_list_follows_its_options(rt: HostRuntime) -> Result<(), Fail> {
+fn the_path_of_list_follows_its_options(rt: HostRuntime) {
     assert_read(
         &rt,
         rt.alloc(),
@@ -152,11 +159,11 @@ fn the_path_of_list_follows_its_options(rt: HostRuntime) -> Result<(), Fail> {
         LIST -la\r\n => List { options: None, path: None }
         LIST -la \r\n => List { options: None, path: None }
         "#,
-    )
+    );
 }
 
 #[test]
-fn values_of_a_few_choices_are_read(rt: HostRuntime) -> Result<(), Fail> {
+fn values_of_a_few_choices_are_read(rt: HostRuntime) {
     assert_read(
         &rt,
         rt.alloc(),
@@ -176,11 +183,11 @@ fn values_of_a_few_choices_are_read(rt: HostRuntime) -> Result<(), Fail> {
         PROT CC\r\n => InvalidCommand
         STRU f\r\n => InvalidCommand
         "#,
-    )
+    );
 }
 
 #[test]
-fn offsets_are_decimal_numbers_of_64_bits(rt: HostRuntime) -> Result<(), Fail> {
+fn offsets_are_decimal_numbers_of_64_bits(rt: HostRuntime) {
     assert_read(
         &rt,
         rt.alloc(),
@@ -194,11 +201,11 @@ fn offsets_are_decimal_numbers_of_64_bits(rt: HostRuntime) -> Result<(), Fail> {
         REST 5 \r\n => InvalidCommand
         REST\r\n => InvalidCommand
         "#,
-    )
+    );
 }
 
 #[test]
-fn site_subcommands_and_other_verbs_are_upper_cased(rt: HostRuntime) -> Result<(), Fail> {
+fn site_subcommands_and_other_verbs_are_upper_cased(rt: HostRuntime) {
     assert_read(
         &rt,
         rt.alloc(),
@@ -222,29 +229,26 @@ fn site_subcommands_and_other_verbs_are_upper_cased(rt: HostRuntime) -> Result<(
         ZZZ\r\n => Other { command_name: "ZZZ", arguments: "" }
         \xff\xf4\xff\xf2ABOR\r\n => InvalidUtf8
         "#,
-    )
+    );
 }
 
 /// A command of PASS and its password print these texts, whatever the flags.
-fn assert_hidden(rt: &impl Abort, alloc: Global, command: &Command) -> Result<(), Fail> {
+fn assert_hidden(rt: &impl Abort, alloc: Global, command: &Command) {
     let whole = "Pass { password: Password { bytes: ******* } }";
-    assert_displayed(rt, alloc, command, whole)?;
+    assert_displayed(rt, alloc, command, whole);
     let lines = "Pass {\n    password: Password { bytes: ******* },\n}";
-    assert_debug(rt, alloc, command, whole, lines)?;
+    assert_debug(rt, alloc, command, whole, lines);
     let Command::Pass { password } = command else {
         panic!(rt; "another command");
     };
-    assert_displayed(rt, alloc, password, "*******")?;
+    assert_displayed(rt, alloc, password, "*******");
     let held = "Password { bytes: ******* }";
-    assert_debug(rt, alloc, password, held, held)
+    assert_debug(rt, alloc, password, held, held);
 }
 
 #[test]
-fn no_flag_shows_a_password(rt: HostRuntime) -> Result<(), Fail> {
-    let Ok(command) = parse(rt.alloc(), b"PASS hunter2\r\n") else {
-        panic!(rt; "no command");
-    };
-    let hidden = assert_hidden(&rt, rt.alloc(), &command);
+fn no_flag_shows_a_password(rt: HostRuntime) {
+    let command = parse(rt.alloc(), b"PASS hunter2\r\n").expect(&rt, "a command");
+    assert_hidden(&rt, rt.alloc(), &command);
     drop(command);
-    hidden
 }

@@ -4,170 +4,169 @@ use crate::reply::{Reply, ReplyCode};
 use crate::tests::texts::{assert_debug, assert_twice};
 use std::alloc::Global;
 use std::process::Abort;
-use std::test::Fail;
 
 /// A clone of the reply, which is equal.
-fn equal_clone(rt: &impl Abort, alloc: Global, reply: &Reply) -> Result<Reply, Fail> {
-    let copy = reply.clone(alloc)?;
+fn equal_clone(rt: &impl Abort, alloc: Global, reply: &Reply) -> Reply {
+    let copy = reply.clone(alloc).expect(rt, "memory");
     assert!(rt; copy == *reply);
-    Ok(copy)
+    copy
 }
 
 /// The reply is encoded so, and so is a clone of it after it.
-pub fn assert_encoded(
-    rt: &impl Abort,
-    alloc: Global,
-    reply: Reply,
-    want: &[u8],
-) -> Result<(), Fail> {
+pub fn assert_encoded(rt: &impl Abort, alloc: Global, reply: Reply, want: &[u8]) {
+    let copy = equal_clone(rt, alloc, &reply);
     let mut buf = Vec::new(alloc);
-    FtpCodec::new().encode(equal_clone(rt, alloc, &reply)?, &mut buf)?;
-    FtpCodec::new().encode(reply, &mut buf)?;
-    assert_twice(rt, alloc, buf, want)
+    FtpCodec::new().encode(copy, &mut buf).expect(rt, "memory");
+    FtpCodec::new().encode(reply, &mut buf).expect(rt, "memory");
+    assert_twice(rt, alloc, buf, want);
+}
+
+/// A reply of one line.
+fn line(rt: &impl Abort, alloc: Global, code: ReplyCode, text: &str) -> Reply {
+    Reply::new(alloc, code, text).expect(rt, "memory")
+}
+
+/// A reply of this line is encoded so.
+fn assert_line(rt: &impl Abort, alloc: Global, code: ReplyCode, text: &str, want: &[u8]) {
+    assert_encoded(rt, alloc, line(rt, alloc, code, text), want);
 }
 
 #[test]
-fn replies_of_one_line_are_encoded(rt: HostRuntime) -> Result<(), Fail> {
-    assert_encoded(&rt, rt.alloc(), Reply::none(), b"")?;
-    for (code, text, want) in [
-        (ReplyCode::CommandOkay, "OK", "200 OK\r\n"),
-        (ReplyCode::CommandOkay, "", "200\r\n"),
-        (ReplyCode::NoReply, "x", "0 x\r\n"),
-        (ReplyCode::BadFileName, "1", "553 1\r\n"),
-    ] {
-        let reply = Reply::new(rt.alloc(), code, text)?;
-        assert_encoded(&rt, rt.alloc(), reply, want.as_bytes())?;
-    }
-    Ok(())
+fn replies_of_one_line_are_encoded(rt: HostRuntime) {
+    let alloc = rt.alloc();
+    assert_encoded(&rt, alloc, Reply::none(), b"");
+    assert_line(&rt, alloc, ReplyCode::CommandOkay, "OK", b"200 OK\r\n");
+    assert_line(&rt, alloc, ReplyCode::CommandOkay, "", b"200\r\n");
+    assert_line(&rt, alloc, ReplyCode::NoReply, "x", b"0 x\r\n");
+    assert_line(&rt, alloc, ReplyCode::BadFileName, "1", b"553 1\r\n");
 }
 
 /// A reply of these lines is encoded so.
-fn assert_lines(
-    rt: &impl Abort,
-    alloc: Global,
-    code: ReplyCode,
-    lines: &[&str],
-    want: &str,
-) -> Result<(), Fail> {
+fn assert_lines(rt: &impl Abort, alloc: Global, code: ReplyCode, lines: &[&str], want: &str) {
     let mut owned = Vec::new(alloc);
     for line in lines {
-        owned.push(String::from_str(alloc, line)?)?;
+        let line = String::from_str(alloc, line).expect(rt, "memory");
+        owned.push(line).expect(rt, "memory");
     }
     let reply = Reply::MultiLine { code, lines: owned };
-    assert_encoded(rt, alloc, reply, want.as_bytes())
+    assert_encoded(rt, alloc, reply, want.as_bytes());
 }
 
 #[test]
-fn lines_before_the_last_are_padded(rt: HostRuntime) -> Result<(), Fail> {
-    for (lines, want) in [
-        (["a", "1b", "2c"].as_slice(), "211-a\r\n 1b\r\n211 2c\r\n"),
-        (["9", "", "9"].as_slice(), "211- 9\r\n\r\n211 9\r\n"),
-        (["", ""].as_slice(), "211-\r\n211 \r\n"),
-        (["\u{663}", "x"].as_slice(), "211-\u{663}\r\n211 x\r\n"),
-    ] {
-        assert_lines(&rt, rt.alloc(), ReplyCode::SystemStatus, lines, want)?;
-    }
+fn lines_before_the_last_are_padded(rt: HostRuntime) {
+    let alloc = rt.alloc();
+    let code = ReplyCode::SystemStatus;
+    let want = "211-a\r\n 1b\r\n211 2c\r\n";
+    assert_lines(&rt, alloc, code, &["a", "1b", "2c"], want);
+    assert_lines(&rt, alloc, code, &["9", "", "9"], "211- 9\r\n\r\n211 9\r\n");
+    assert_lines(&rt, alloc, code, &["", ""], "211-\r\n211 \r\n");
     assert_lines(
         &rt,
-        rt.alloc(),
-        ReplyCode::HelpMessage,
-        &["Usage: foo", "", "Options:"],
-        "214-Usage: foo\r\n\r\n214 Options:\r\n",
-    )?;
-    assert_lines(
-        &rt,
-        rt.alloc(),
-        ReplyCode::GroupPreliminaryReply,
-        &["a", "b"],
-        "1-a\r\n1 b\r\n",
-    )
+        alloc,
+        code,
+        &["\u{663}", "x"],
+        "211-\u{663}\r\n211 x\r\n",
+    );
+    let lines = ["Usage: foo", "", "Options:"];
+    let want = "214-Usage: foo\r\n\r\n214 Options:\r\n";
+    assert_lines(&rt, alloc, ReplyCode::HelpMessage, &lines, want);
+    let code = ReplyCode::GroupPreliminaryReply;
+    assert_lines(&rt, alloc, code, &["a", "b"], "1-a\r\n1 b\r\n");
 }
 
 #[test]
-fn a_single_line_follows_its_code(rt: HostRuntime) -> Result<(), Fail> {
-    assert_lines(&rt, rt.alloc(), ReplyCode::HelpMessage, &[], "214 \r\n")?;
-    assert_lines(&rt, rt.alloc(), ReplyCode::CommandOkay, &[""], "200 \r\n")
+fn a_single_line_follows_its_code(rt: HostRuntime) {
+    assert_lines(&rt, rt.alloc(), ReplyCode::HelpMessage, &[], "214 \r\n");
+    assert_lines(&rt, rt.alloc(), ReplyCode::CommandOkay, &[""], "200 \r\n");
 }
 
 /// Whether the reply is `200 OK`.
-fn is_ok(alloc: Global, reply: Reply) -> Result<bool, Fail> {
-    let ok = Reply::new(alloc, ReplyCode::CommandOkay, "OK")?;
-    Ok(ok == reply)
+fn is_ok(rt: &impl Abort, alloc: Global, reply: Reply) -> bool {
+    line(rt, alloc, ReplyCode::CommandOkay, "OK") == reply
 }
 
 #[test]
-fn the_same_codes_and_texts_are_equal(rt: HostRuntime) -> Result<(), Fail> {
+fn the_same_codes_and_texts_are_equal(rt: HostRuntime) {
     let alloc = rt.alloc();
-    let text = String::from_str(alloc, "OK")?;
-    assert!(rt; is_ok(alloc, Reply::new_with_string(ReplyCode::CommandOkay, text))?);
-    let line = Reply::new_multiline(alloc, ReplyCode::CommandOkay, ["OK"])?;
-    assert!(rt; !is_ok(alloc, line)?);
-    let other_text = Reply::new(alloc, ReplyCode::CommandOkay, "KO")?;
-    assert!(rt; !is_ok(alloc, other_text)?);
-    let other_code = Reply::new(alloc, ReplyCode::CommandNotImplemented, "OK")?;
-    assert!(rt; !is_ok(alloc, other_code)?);
-    assert!(rt; !is_ok(alloc, Reply::None)?);
-    Ok(())
+    let text = String::from_str(alloc, "OK").expect(&rt, "memory");
+    let same = is_ok(
+        &rt,
+        alloc,
+        Reply::new_with_string(ReplyCode::CommandOkay, text),
+    );
+    assert!(rt; same);
+    let lines = Reply::new_multiline(alloc, ReplyCode::CommandOkay, ["OK"]);
+    let same = is_ok(&rt, alloc, lines.expect(&rt, "memory"));
+    assert!(rt; !same);
+    let same = is_ok(&rt, alloc, line(&rt, alloc, ReplyCode::CommandOkay, "KO"));
+    assert!(rt; !same);
+    let same = is_ok(
+        &rt,
+        alloc,
+        line(&rt, alloc, ReplyCode::CommandNotImplemented, "OK"),
+    );
+    assert!(rt; !same);
+    let same = is_ok(&rt, alloc, Reply::None);
+    assert!(rt; !same);
+}
+
+/// The code of this number.
+fn assert_code(rt: &impl Abort, number: u32, want: Option<ReplyCode>) {
+    assert_eq!(rt; ReplyCode::from_number(number), want);
 }
 
 #[test]
-fn codes_are_found_by_their_numbers(rt: HostRuntime) -> Result<(), Fail> {
-    for (number, want) in [
-        (0, Some(ReplyCode::NoReply)),
-        (110, Some(ReplyCode::RestartMarker)),
-        (229, Some(ReplyCode::EnteringExtendedPassiveMode)),
-        (553, Some(ReplyCode::BadFileName)),
-        (3, None),
-        (100, None),
-        (554, None),
-        (1000, None),
-    ] {
-        assert_eq!(rt; ReplyCode::from_number(number), want);
-    }
-    Ok(())
+fn codes_are_found_by_their_numbers(rt: HostRuntime) {
+    assert_code(&rt, 0, Some(ReplyCode::NoReply));
+    assert_code(&rt, 110, Some(ReplyCode::RestartMarker));
+    assert_code(&rt, 229, Some(ReplyCode::EnteringExtendedPassiveMode));
+    assert_code(&rt, 553, Some(ReplyCode::BadFileName));
+    assert_code(&rt, 3, None);
+    assert_code(&rt, 100, None);
+    assert_code(&rt, 554, None);
+    assert_code(&rt, 1000, None);
+}
+
+/// Whether a reply of this code is positive.
+fn is_positive(rt: &impl Abort, alloc: Global, code: ReplyCode) -> bool {
+    line(rt, alloc, code, "").is_positive()
 }
 
 #[test]
-fn codes_from_200_to_399_are_positive(rt: HostRuntime) -> Result<(), Fail> {
+fn codes_from_200_to_399_are_positive(rt: HostRuntime) {
+    let alloc = rt.alloc();
     assert!(rt; Reply::none().is_positive());
-    for (code, want) in [
-        (ReplyCode::GroupPositiveCompletion, false),
-        (ReplyCode::FileStatusOkay, false),
-        (ReplyCode::CommandOkay, true),
-        (ReplyCode::FileActionPending, true),
-        (ReplyCode::ServiceNotAvailable, false),
-    ] {
-        let reply = Reply::new(rt.alloc(), code, "")?;
-        assert_eq!(rt; reply.is_positive(), want);
-    }
-    Ok(())
+    assert!(rt; !is_positive(&rt, alloc, ReplyCode::GroupPositiveCompletion));
+    assert!(rt; !is_positive(&rt, alloc, ReplyCode::FileStatusOkay));
+    assert!(rt; is_positive(&rt, alloc, ReplyCode::CommandOkay));
+    assert!(rt; is_positive(&rt, alloc, ReplyCode::FileActionPending));
+    assert!(rt; !is_positive(&rt, alloc, ReplyCode::ServiceNotAvailable));
 }
 
 /// Debug writes this text, whatever the flags.
-fn assert_shown(rt: &impl Abort, alloc: Global, reply: Reply, want: &str) -> Result<(), Fail> {
-    assert_debug(rt, alloc, &reply, want, want)
+fn assert_shown(rt: &impl Abort, alloc: Global, reply: Reply, want: &str) {
+    assert_debug(rt, alloc, &reply, want, want);
 }
 
 #[test]
-fn debug_shows_a_text(rt: HostRuntime) -> Result<(), Fail> {
-    assert_shown(&rt, rt.alloc(), Reply::None, "None")?;
-    let reply = Reply::new(rt.alloc(), ReplyCode::CommandOkay, "OK")?;
+fn debug_shows_a_text(rt: HostRuntime) {
+    assert_shown(&rt, rt.alloc(), Reply::None, "None");
+    let reply = line(&rt, rt.alloc(), ReplyCode::CommandOkay, "OK");
     let want = "CodeAndMsg { code: CommandOkay, msg: \"OK\" }";
-    assert_shown(&rt, rt.alloc(), reply, want)
+    assert_shown(&rt, rt.alloc(), reply, want);
 }
 
 #[test]
-fn debug_shows_the_first_of_several_lines(rt: HostRuntime) -> Result<(), Fail> {
-    let reply = Reply::MultiLine {
-        code: ReplyCode::SystemStatus,
-        lines: Vec::new(rt.alloc()),
-    };
+fn debug_shows_the_first_of_several_lines(rt: HostRuntime) {
+    let alloc = rt.alloc();
+    let code = ReplyCode::SystemStatus;
+    let lines = Vec::new(alloc);
     let want = "MultiLine { code: SystemStatus, line: [] }";
-    assert_shown(&rt, rt.alloc(), reply, want)?;
-    let reply = Reply::new_multiline(rt.alloc(), ReplyCode::SystemStatus, ["a"])?;
+    assert_shown(&rt, alloc, Reply::MultiLine { code, lines }, want);
+    let reply = Reply::new_multiline(alloc, code, ["a"]).expect(&rt, "memory");
     let want = "MultiLine { code: SystemStatus, line: [\"a\"] }";
-    assert_shown(&rt, rt.alloc(), reply, want)?;
-    let reply = Reply::new_multiline(rt.alloc(), ReplyCode::SystemStatus, ["a", "b", "c"])?;
+    assert_shown(&rt, alloc, reply, want);
+    let reply = Reply::new_multiline(alloc, code, ["a", "b", "c"]).expect(&rt, "memory");
     let want = "MultiLine { code: SystemStatus, 3 lines (a...) }";
-    assert_shown(&rt, rt.alloc(), reply, want)
+    assert_shown(&rt, alloc, reply, want);
 }
