@@ -9,100 +9,113 @@ use crate::run;
 use crate::tests::streams::{Pieces, Room};
 use std::alloc::Global;
 use std::process::Abort;
-use std::test::Fail;
 use unftp_control::serve::{Input, Output, ServeError};
 
-/// However the input is cut, the program writes this, and so many bytes are left.
-fn assert_answered(
-    rt: &impl Abort,
-    alloc: Global,
-    input: &[u8],
-    want: &[u8],
-    left: u64,
-) -> Result<(), Fail> {
+/// The bytes are these.
+fn assert_bytes(rt: &impl Abort, bytes: &[u8], want: &[u8]) {
+    assert_eq!(rt; bytes, want);
+}
+
+/// The writer holds these bytes.
+fn assert_held(rt: &impl Abort, room: Room, want: &[u8]) {
+    assert_bytes(rt, room.held.as_slice(), want);
+}
+
+/// The program writes this to an input of which it reads at most `most` bytes at a time, and so
+/// many bytes are left.
+fn assert_run(rt: &impl Abort, alloc: Global, input: &[u8], most: usize, want: &[u8], left: u64) {
+    let mut reader = Input::new(Pieces::new(input, most));
+    let mut writer = Output::new(Room::ample(alloc));
+    let served = run(alloc, &mut reader, &mut writer).expect(rt, "an answer");
+    assert_eq!(rt; served.left, left);
+    assert_held(rt, writer.into_inner(), want);
+    assert!(rt; reader.into_inner().rest.is_empty());
+}
+
+/// However the input is split, the program writes this, and so many bytes are left.
+fn assert_answered(rt: &impl Abort, alloc: Global, input: &[u8], want: &[u8], left: u64) {
     for most in [1, 2, 7, 4096] {
-        let mut reader = Input::new(Pieces::new(input, most));
-        let mut writer = Output::new(Room::ample(alloc));
-        let served = run(alloc, &mut reader, &mut writer)?;
-        assert_eq!(rt; served.left, left);
-        assert_eq!(rt; writer.into_inner().held.as_slice(), want);
-        assert!(rt; reader.into_inner().rest.is_empty());
+        assert_run(rt, alloc, input, most, want, left);
     }
-    Ok(())
 }
 
 #[test]
-fn each_line_is_answered(rt: HostRuntime) -> Result<(), Fail> {
-    assert_answered(&rt, rt.alloc(), b"", b"", 0)?;
-    assert_answered(&rt, rt.alloc(), b"NOOP\r\nNO", b"200 OK\r\n", 2)?;
+fn each_line_is_answered(rt: HostRuntime) {
+    assert_answered(&rt, rt.alloc(), b"", b"", 0);
+    assert_answered(&rt, rt.alloc(), b"NOOP\r\nNO", b"200 OK\r\n", 2);
     assert_answered(
         &rt,
         rt.alloc(),
         b"NOOP\r\nnoop\nNOOP \r\nNO",
         b"200 OK\r\n200 OK\r\n200 OK\r\n",
         2,
-    )?;
+    );
     assert_answered(
         &rt,
         rt.alloc(),
         b"PWD\r\n\r\nNOOP\r\n",
         b"502 Not implemented\r\n502 Not implemented\r\n200 OK\r\n",
         0,
-    )
+    );
 }
 
 #[test]
-fn refused_lines_get_the_reason(rt: HostRuntime) -> Result<(), Fail> {
+fn refused_lines_get_the_reason(rt: HostRuntime) {
     assert_answered(
         &rt,
         rt.alloc(),
         b"site echo lower case\r\nFOO\r\nAUTH \xff\r\nUSER a\rb\r\nNOOP x\r\nHELP\r\n",
         b"200 lower case\r\n502 Not implemented\r\n500 Non-UTF8 character while parsing\r\n500 Invalid end-of-line\r\n500 Invalid command\r\n214-Help:\r\nPowered by libunftp: 0.24.0\r\n214 View the docs at: https://unftp.rs/\r\n",
         0,
-    )
+    );
 }
 
 #[test]
-fn single_commands_have_their_replies(rt: HostRuntime) -> Result<(), Fail> {
+fn single_commands_have_their_replies(rt: HostRuntime) {
     assert_answered(
         &rt,
         rt.alloc(),
         b"QUIT\r\nNOOP\r\n",
         b"221 Bye\r\n200 OK\r\n",
         0,
-    )?;
+    );
     assert_answered(
         &rt,
         rt.alloc(),
         b"AUTH TLS\r\nPROT P\r\nEPSV\r\nMODE S\r\nOPTS UTF8 ON\r\nSTRU R\r\nSITE CHMOD x\r\n",
         b"502 TLS/SSL not configured\r\n502 TLS/SSL not configured\r\n229 Entering Extended Passive Mode (|||2121|)\r\n200 Using Stream transfer mode\r\n200 Always in UTF-8 mode.\r\n504 Only File structure mode is supported\r\n502 Not implemented\r\n",
         0,
-    )?;
+    );
     assert_answered(
         &rt,
         rt.alloc(),
         b"FEAT\r\nMLST /a.txt\r\nMLST\r\n",
         b"211-Extensions supported:\r\n EPSV\r\n MDTM\r\n MLSD\r\n MLST\r\n SIZE\r\n UTF8\r\n211 END\r\n250- Listing\r\n type=file;size=1234;modify=20231201120000; /a.txt\r\n250 End\r\n250- Listing\r\n type=file;size=1234;modify=20231201120000; /\r\n250 End\r\n",
         0,
-    )
+    );
 }
 
 #[test]
-fn a_reply_is_flushed_before_the_next_line_is_taken(rt: HostRuntime) -> Result<(), Fail> {
+fn a_reply_is_flushed_before_the_next_line_is_taken(rt: HostRuntime) {
     // the writer fails at its first write, and the second line is still unread
     let mut reader = Input::new(Pieces::new(b"NOOP\r\nNOOP\r\n", 6));
     let mut writer = Output::new(Room::with_room(rt.alloc(), 0, true));
     let broken = run(rt.alloc(), &mut reader, &mut writer);
-    assert!(rt; matches!(&broken, Err(ServeError::Write(_))));
+    let is_broken = matches!(&broken, Err(ServeError::Write(_)));
     drop(broken);
-    assert_eq!(rt; reader.into_inner().rest, b"NOOP\r\n".as_slice());
-    assert!(rt; writer.into_inner().held.is_empty());
+    assert!(rt; is_broken);
+    assert_bytes(&rt, reader.into_inner().rest, b"NOOP\r\n");
+    assert_held(&rt, writer.into_inner(), b"");
+}
+
+#[test]
+fn each_reply_is_flushed_before_the_next(rt: HostRuntime) {
     // a writer that takes no second reply before the first is flushed takes both
     let mut reader = Input::new(Pieces::new(b"NOOP\r\nNOOP\r\n", 4096));
     let mut writer = Output::new(Room::wary(rt.alloc()));
-    run(rt.alloc(), &mut reader, &mut writer)?;
+    let served = run(rt.alloc(), &mut reader, &mut writer);
+    assert!(rt; served.is_ok());
     let room = writer.into_inner();
-    assert_eq!(rt; room.held.as_slice(), b"200 OK\r\n200 OK\r\n".as_slice());
     assert_eq!(rt; room.flushes, 2);
-    Ok(())
+    assert_held(&rt, room, b"200 OK\r\n200 OK\r\n");
 }

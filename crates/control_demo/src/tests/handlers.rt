@@ -6,6 +6,7 @@ ghost use Rattle.unftp_control.specs.FtpReply.{CodeAndMsg, Nothing};
 use std::alloc::Global;
 use std::io;
 use std::io::ErrorKind;
+use unftp_control::command::Command;
 use unftp_control::error::{ControlChanError, ControlChanErrorKind};
 use unftp_control::reply::{Reply, ReplyCode};
 use unftp_control::serve::{Count, Event, Handler};
@@ -57,19 +58,32 @@ impl Handler for Counting {
     }
 }
 
-/// Keeps the events, and answers none.
+/// Counts the events and the commands USER, keeps the last user name, and answers none.
 #[derive(Drop)]
 pub struct Recorder {
-    pub events: Vec<Event>,
+    pub taken: u32,
+    pub users: u32,
+    pub username: Vec<u8>,
     failures: Count,
 }
 
 impl Recorder {
     pub fn new(alloc: Global) -> Recorder {
         Recorder {
-            events: Vec::new(alloc),
+            taken: 0,
+            users: 0,
+            username: Vec::new(alloc),
             failures: Count::new(),
         }
+    }
+
+    /// Keeps the user name. The answer is no where there is no memory for it.
+    fn keep(&mut self, username: &[u8]) -> bool
+        ensures { self.new.failures ≡ self.old.failures }
+    {
+        self.users = self.users.saturating_add(1);
+        self.username.clear();
+        self.username.extend_from_slice(username).is_ok()
     }
 }
 
@@ -87,7 +101,13 @@ impl Handler for Recorder {
     ghost failures = { λ recorder. recorder.failures };
 
     fn handle(&mut self, _alloc: Global, event: Event) -> Result<Reply, ControlChanError> {
-        if self.events.push(event).is_err() {
+        self.taken = self.taken.saturating_add(1);
+        let is_kept = match &event {
+            Event::Command(Command::User { username }) => self.keep(username.as_slice()),
+            _ => true,
+        };
+        drop(event);
+        if !is_kept {
             self.failures.raise();
             return Err(ControlChanError::new(ControlChanErrorKind::OutOfMemory));
         }
