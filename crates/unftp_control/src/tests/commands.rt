@@ -182,14 +182,14 @@ fn options_and_help_are_answered(rt: HostRuntime) {
 
 #[test]
 fn features_are_listed_where_they_are_on(rt: HostRuntime) {
-    let all =
-        "211-Extensions supported:\r\n AUTH TLS\r\n EPSV\r\n MDTM\r\n MLSD\r\n MLST\r\n PBSZ\r\n PROT\r\n REST STREAM\r\n SITE MD5\r\n SIZE\r\n UTF8\r\n211 END\r\n";
+    let all = "211-Extensions supported:\r\n AUTH TLS\r\n EPSV\r\n MDTM\r\n MLSD\r\n MLST\r\n PBSZ\
+            \r\n PROT\r\n REST STREAM\r\n SITE MD5\r\n SIZE\r\n UTF8\r\n211 END\r\n";
     let reply = Feat
         .reply(rt.alloc(), true, true, true)
         .expect(&rt, "memory");
     assert_encoded(&rt, rt.alloc(), reply, all.as_bytes());
-    let none =
-        "211-Extensions supported:\r\n EPSV\r\n MDTM\r\n MLSD\r\n MLST\r\n SIZE\r\n UTF8\r\n211 END\r\n";
+    let none = "211-Extensions supported:\r\n EPSV\r\n MDTM\r\n MLSD\r\n MLST\r\n SIZE\r\n UTF8\
+            \r\n211 END\r\n";
     let reply = Feat
         .reply(rt.alloc(), false, false, false)
         .expect(&rt, "memory");

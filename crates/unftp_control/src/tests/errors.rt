@@ -103,7 +103,9 @@ fn out_of_memory_is_converted_to_itself(rt: HostRuntime) {
 
 #[test]
 fn ill_formed_text_is_invalid_utf8_to_the_parser(rt: HostRuntime) {
-    let utf8 = from_utf8(b"\xff").map(drop).expect_err(&rt, "an error");
+    let Err(utf8) = from_utf8(b"\xff") else {
+        panic!(rt; "no error");
+    };
     assert_eq!(rt; ParseError::from(utf8), ParseErrorKind::InvalidUtf8.into());
 }
 

@@ -4,7 +4,31 @@ use crate::tests::texts::{assert_bytes, assert_text};
 use std::alloc::Global;
 use std::process::Abort;
 
-/// The bytes begin with a whole reply of this code and these lines, and so many of them are used.
+/// The lines are these.
+fn assert_lines(rt: &impl Abort, lines: &[Vec<u8>], want: &[&[u8]]) {
+    assert_eq!(rt; lines.len(), want.len());
+    for i in 0..lines.len() {
+        assert_bytes(rt, lines[i].as_slice(), want[i]);
+    }
+}
+
+/// It is a whole reply of this code and these lines, and takes so many bytes.
+fn assert_front(rt: &impl Abort, front: &Front, code: u16, lines: &[&[u8]], used: usize) {
+    match front {
+        Front::Whole {
+            code: found,
+            lines: read,
+            used: taken,
+        } => {
+            assert_eq!(rt; *found, code);
+            assert_eq!(rt; *taken, used);
+            assert_lines(rt, read.as_slice(), lines);
+        }
+        Front::Partial => panic!(rt; "a partial reply"),
+    }
+}
+
+/// The bytes begin with a whole reply of this code and these lines, which takes so many of them.
 fn assert_whole(
     rt: &impl Abort,
     alloc: Global,
@@ -13,20 +37,8 @@ fn assert_whole(
     lines: &[&[u8]],
     used: usize,
 ) {
-    let Front::Whole {
-        code: found,
-        lines: read,
-        used: taken,
-    } = read_reply(alloc, bytes).expect(rt, "a reply")
-    else {
-        panic!(rt; "a partial reply");
-    };
-    assert_eq!(rt; found, code);
-    assert_eq!(rt; taken, used);
-    assert_eq!(rt; read.len(), lines.len());
-    for (line, want) in read.iter().zip(lines) {
-        assert_bytes(rt, line.as_slice(), want);
-    }
+    let front = read_reply(alloc, bytes).expect(rt, "a reply");
+    assert_front(rt, &front, code, lines, used);
 }
 
 /// The bytes are the beginning of a reply.

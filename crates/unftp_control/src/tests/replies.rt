@@ -80,34 +80,29 @@ fn a_single_line_follows_its_code(rt: HostRuntime) {
     assert_lines(&rt, rt.alloc(), ReplyCode::CommandOkay, &[""], "200 \r\n");
 }
 
-/// Whether the reply is `200 OK`.
-fn is_ok(rt: &impl Abort, alloc: Global, reply: Reply) -> bool {
-    line(rt, alloc, ReplyCode::CommandOkay, "OK") == reply
+/// The reply is `200 OK`, or it isn't.
+fn assert_ok(rt: &impl Abort, alloc: Global, reply: Reply, want: bool) {
+    let is_ok = line(rt, alloc, ReplyCode::CommandOkay, "OK") == reply;
+    assert_eq!(rt; is_ok, want);
 }
 
 #[test]
 fn the_same_codes_and_texts_are_equal(rt: HostRuntime) {
     let alloc = rt.alloc();
     let text = String::from_str(alloc, "OK").expect(&rt, "memory");
-    let same = is_ok(
-        &rt,
-        alloc,
-        Reply::new_with_string(ReplyCode::CommandOkay, text),
-    );
-    assert!(rt; same);
+    let same = Reply::new_with_string(ReplyCode::CommandOkay, text);
+    assert_ok(&rt, alloc, same, true);
     let lines = Reply::new_multiline(alloc, ReplyCode::CommandOkay, ["OK"]);
-    let same = is_ok(&rt, alloc, lines.expect(&rt, "memory"));
-    assert!(rt; !same);
-    let same = is_ok(&rt, alloc, line(&rt, alloc, ReplyCode::CommandOkay, "KO"));
-    assert!(rt; !same);
-    let same = is_ok(
+    assert_ok(&rt, alloc, lines.expect(&rt, "memory"), false);
+    assert_ok(
         &rt,
         alloc,
-        line(&rt, alloc, ReplyCode::CommandNotImplemented, "OK"),
+        line(&rt, alloc, ReplyCode::CommandOkay, "KO"),
+        false,
     );
-    assert!(rt; !same);
-    let same = is_ok(&rt, alloc, Reply::None);
-    assert!(rt; !same);
+    let other_code = line(&rt, alloc, ReplyCode::CommandNotImplemented, "OK");
+    assert_ok(&rt, alloc, other_code, false);
+    assert_ok(&rt, alloc, Reply::None, false);
 }
 
 /// The code of this number.
@@ -127,20 +122,21 @@ fn codes_are_found_by_their_numbers(rt: HostRuntime) {
     assert_code(&rt, 1000, None);
 }
 
-/// Whether a reply of this code is positive.
-fn is_positive(rt: &impl Abort, alloc: Global, code: ReplyCode) -> bool {
-    line(rt, alloc, code, "").is_positive()
+/// A reply of this code is positive, or it isn't.
+fn assert_positive(rt: &impl Abort, alloc: Global, code: ReplyCode, want: bool) {
+    let is_positive = line(rt, alloc, code, "").is_positive();
+    assert_eq!(rt; is_positive, want);
 }
 
 #[test]
 fn codes_from_200_to_399_are_positive(rt: HostRuntime) {
     let alloc = rt.alloc();
     assert!(rt; Reply::none().is_positive());
-    assert!(rt; !is_positive(&rt, alloc, ReplyCode::GroupPositiveCompletion));
-    assert!(rt; !is_positive(&rt, alloc, ReplyCode::FileStatusOkay));
-    assert!(rt; is_positive(&rt, alloc, ReplyCode::CommandOkay));
-    assert!(rt; is_positive(&rt, alloc, ReplyCode::FileActionPending));
-    assert!(rt; !is_positive(&rt, alloc, ReplyCode::ServiceNotAvailable));
+    assert_positive(&rt, alloc, ReplyCode::GroupPositiveCompletion, false);
+    assert_positive(&rt, alloc, ReplyCode::FileStatusOkay, false);
+    assert_positive(&rt, alloc, ReplyCode::CommandOkay, true);
+    assert_positive(&rt, alloc, ReplyCode::FileActionPending, true);
+    assert_positive(&rt, alloc, ReplyCode::ServiceNotAvailable, false);
 }
 
 /// Debug writes this text, whatever the flags.

@@ -212,22 +212,24 @@ fn names_that_are_read_otherwise_have_no_line(rt: HostRuntime) {
     assert_no_line(&rt, alloc, site(&rt, alloc, "MD5", ""));
 }
 
-/// Whether each of the words, between which are spaces, is a verb.
-fn assert_verbs(rt: &impl Abort, words: &str, want: bool) {
+/// Whether each of the words is a verb. They have spaces between them, and are so many.
+fn assert_verbs(rt: &impl Abort, words: &str, count: usize, want: bool) {
+    let mut found: usize = 0;
     for word in words.split(' ') {
         assert_eq!(rt; is_verb(word.as_bytes()), want);
+        found = found.saturating_add(1);
     }
+    assert_eq!(rt; found, count);
 }
 
 #[test]
 fn verbs_are_matched_exactly(rt: HostRuntime) {
-    let verbs =
-        "ABOR ACCT ALLO APPE AUTH BYE CCC CDUP CWD DELE EPSV FEAT HELP LIST MDTM MKD MLSD MLST MODE NLST NOOP OPTS PASS \
-        PASV PBSZ PORT PROT PWD QUIT REST RETR RMD RNFR RNTO SITE SIZE STAT STOR STOU STRU SYST TYPE USER XCWD XMKD XPWD";
-    assert_verbs(&rt, verbs, true);
-    assert_eq!(rt; verbs.split(' ').count(), 46);
+    let verbs = "ABOR ACCT ALLO APPE AUTH BYE CCC CDUP CWD DELE EPSV FEAT HELP LIST MDTM MKD MLSD \
+        MLST MODE NLST NOOP OPTS PASS PASV PBSZ PORT PROT PWD QUIT REST RETR RMD RNFR RNTO SITE \
+        SIZE STAT STOR STOU STRU SYST TYPE USER XCWD XMKD XPWD";
+    assert_verbs(&rt, verbs, 46, true);
     // the first is empty
-    assert_verbs(&rt, " noop NOOp PW PWDX MD5 ZZZ XRMD", false);
+    assert_verbs(&rt, " noop NOOp PW PWDX MD5 ZZZ XRMD", 8, false);
 }
 
 #[test]
