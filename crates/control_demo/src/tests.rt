@@ -65,7 +65,9 @@ fn refused_lines_get_the_reason(rt: HostRuntime) {
         &rt,
         rt.alloc(),
         b"site echo lower case\r\nFOO\r\nAUTH \xff\r\nUSER a\rb\r\nNOOP x\r\nHELP\r\n",
-        b"200 lower case\r\n502 Not implemented\r\n500 Non-UTF8 character while parsing\r\n500 Invalid end-of-line\r\n500 Invalid command\r\n214-Help:\r\nPowered by libunftp: 0.24.0\r\n214 View the docs at: https://unftp.rs/\r\n",
+        b"200 lower case\r\n502 Not implemented\r\n500 Non-UTF8 character while parsing\
+            \r\n500 Invalid end-of-line\r\n500 Invalid command\r\n214-Help:\
+            \r\nPowered by libunftp: 0.24.0\r\n214 View the docs at: https://unftp.rs/\r\n",
         0,
     );
 }
@@ -83,14 +85,20 @@ fn single_commands_have_their_replies(rt: HostRuntime) {
         &rt,
         rt.alloc(),
         b"AUTH TLS\r\nPROT P\r\nEPSV\r\nMODE S\r\nOPTS UTF8 ON\r\nSTRU R\r\nSITE CHMOD x\r\n",
-        b"502 TLS/SSL not configured\r\n502 TLS/SSL not configured\r\n229 Entering Extended Passive Mode (|||2121|)\r\n200 Using Stream transfer mode\r\n200 Always in UTF-8 mode.\r\n504 Only File structure mode is supported\r\n502 Not implemented\r\n",
+        b"502 TLS/SSL not configured\r\n502 TLS/SSL not configured\
+            \r\n229 Entering Extended Passive Mode (|||2121|)\r\n200 Using Stream transfer mode\
+            \r\n200 Always in UTF-8 mode.\r\n504 Only File structure mode is supported\
+            \r\n502 Not implemented\r\n",
         0,
     );
     assert_answered(
         &rt,
         rt.alloc(),
         b"FEAT\r\nMLST /a.txt\r\nMLST\r\n",
-        b"211-Extensions supported:\r\n EPSV\r\n MDTM\r\n MLSD\r\n MLST\r\n SIZE\r\n UTF8\r\n211 END\r\n250- Listing\r\n type=file;size=1234;modify=20231201120000; /a.txt\r\n250 End\r\n250- Listing\r\n type=file;size=1234;modify=20231201120000; /\r\n250 End\r\n",
+        b"211-Extensions supported:\r\n EPSV\r\n MDTM\r\n MLSD\r\n MLST\r\n SIZE\r\n UTF8\
+            \r\n211 END\r\n250- Listing\r\n type=file;size=1234;modify=20231201120000; /a.txt\
+            \r\n250 End\r\n250- Listing\r\n type=file;size=1234;modify=20231201120000; /\
+            \r\n250 End\r\n",
         0,
     );
 }
