@@ -6,6 +6,7 @@ use crate::tests::{assert_bytes, assert_held};
 use std::alloc::Global;
 use std::io::ErrorKind;
 use std::process::Abort;
+use std::test::Fail;
 use unftp_control::error::{ControlChanError, ControlChanErrorKind, Source};
 use unftp_control::line_parser::ParseErrorKind;
 use unftp_control::serve::{Engine, Input, Output, ServeError, Served, serve};
