@@ -3,7 +3,6 @@ use crate::codecs::{FtpCodec, encode_reply};
 use crate::command::Command;
 use crate::error::{ControlChanError, ControlChanErrorKind};
 use crate::reply::{Reply, ReplyCode};
-use std::test::Fail;
 
 /// What was decoded.
 #[derive(Clone, Copy, Debug, PartialEq, Eq)]
@@ -38,7 +37,7 @@ impl From<Result<Option<Command>, ControlChanError>> for Decoded {
 }
 
 #[test]
-fn the_bytes_of_the_first_line_are_counted(rt: HostRuntime) -> Result<(), Fail> {
+fn the_bytes_of_the_first_line_are_counted(rt: HostRuntime) {
     let mut codec = FtpCodec::new();
     let (taken, answer) = codec.decode_slice(rt.alloc(), b"NOOP\r\nQU");
     assert_eq!(rt; Decoded::from(answer), Decoded::Noop);
@@ -48,27 +47,24 @@ fn the_bytes_of_the_first_line_are_counted(rt: HostRuntime) -> Result<(), Fail> 
     assert_eq!(rt; Decoded::from(answer), Decoded::Nothing);
     assert_eq!(rt; taken, 0);
     assert_eq!(rt; codec.place(), 2);
-    Ok(())
 }
 
 #[test]
-fn the_bytes_of_a_refused_line_are_counted(rt: HostRuntime) -> Result<(), Fail> {
+fn the_bytes_of_a_refused_line_are_counted(rt: HostRuntime) {
     let mut codec = FtpCodec::new();
     let (taken, answer) = codec.decode_slice(rt.alloc(), b"REST x\r\nNO");
     assert_eq!(rt; Decoded::from(answer), Decoded::InvalidCommand);
     assert_eq!(rt; taken, 8);
     assert_eq!(rt; codec.place(), 0);
-    Ok(())
 }
 
 mod failed_allocations {
     use super::Decoded;
     use crate::codecs::FtpCodec;
-    use std::test::Fail;
 
     // where an allocation fails, the codec is as before, and decodes the line again
     #[test]
-    fn a_line_of_a_slice_is_decoded(rt: HostRuntime) -> Result<(), Fail> {
+    fn a_line_of_a_slice_is_decoded(rt: HostRuntime) {
         let bytes = b"USER abc\r\nPWD\r\n";
         let mut codec = FtpCodec::at(4);
         let (mut taken, answer) = codec.decode_slice(rt.alloc(), bytes);
@@ -82,26 +78,24 @@ mod failed_allocations {
         }
         assert_eq!(rt; taken, 10);
         assert_eq!(rt; decoded, Decoded::UserAbc);
-        Ok(())
     }
 }
 
 #[test]
-fn a_codec_goes_on_at_its_place(rt: HostRuntime) -> Result<(), Fail> {
+fn a_codec_goes_on_at_its_place(rt: HostRuntime) {
     let mut codec = FtpCodec::at(4);
     assert_eq!(rt; codec.place(), 4);
     let (taken, answer) = codec.decode_slice(rt.alloc(), b"NOOP\nNOOP\n");
     assert_eq!(rt; Decoded::from(answer), Decoded::Noop);
     assert_eq!(rt; taken, 5);
     assert_eq!(rt; codec.place(), 0);
-    Ok(())
 }
 
 #[test]
-fn many_lines_are_decoded_in_one_slice(rt: HostRuntime) -> Result<(), Fail> {
+fn many_lines_are_decoded_in_one_slice(rt: HostRuntime) {
     let mut bytes = Vec::new(rt.alloc());
     for _ in 0..20_000 {
-        bytes.extend_from_slice(b"NOOP\n")?;
+        bytes.extend_from_slice(b"NOOP\n").expect(&rt, "memory");
     }
     let mut rest = bytes.as_slice();
     for _ in 0..20_000 {
@@ -110,16 +104,14 @@ fn many_lines_are_decoded_in_one_slice(rt: HostRuntime) -> Result<(), Fail> {
         rest = rest.split_at(taken).1;
     }
     assert!(rt; rest.is_empty());
-    Ok(())
 }
 
 #[test]
-fn a_reply_is_encoded_by_reference(rt: HostRuntime) -> Result<(), Fail> {
-    let reply = Reply::new(rt.alloc(), ReplyCode::CommandOkay, "OK")?;
-    let mut out = Vec::from_slice(rt.alloc(), b"x")?;
-    encode_reply(&reply, &mut out)?;
-    encode_reply(&Reply::None, &mut out)?;
-    encode_reply(&reply, &mut out)?;
+fn a_reply_is_encoded_by_reference(rt: HostRuntime) {
+    let reply = Reply::new(rt.alloc(), ReplyCode::CommandOkay, "OK").expect(&rt, "memory");
+    let mut out = Vec::from_slice(rt.alloc(), b"x").expect(&rt, "memory");
+    encode_reply(&reply, &mut out).expect(&rt, "memory");
+    encode_reply(&Reply::None, &mut out).expect(&rt, "memory");
+    encode_reply(&reply, &mut out).expect(&rt, "memory");
     assert_eq!(rt; out.as_slice(), b"x200 OK\r\n200 OK\r\n".as_slice());
-    Ok(())
 }
