@@ -33,8 +33,8 @@ fn is_noop(
     }
 }
 
-/// Whether the next line of `buf` is NOOP. It leaves `buf`, whose other bytes are moved to its
-/// start.
+/// Whether the next line of `buf` is NOOP: `None` while no line is complete. The line leaves
+/// `buf`, and what follows it is moved to the start.
 pub fn next_is_noop(
     alloc: Global,
     codec: &mut FtpCodec,
@@ -49,8 +49,8 @@ pub fn next_is_noop(
     is_noop(codec.decode(alloc, buf))
 }
 
-/// Whether the first line of `bytes` is NOOP, and how many bytes it has: where many lines lie one
-/// after another, the next call takes the bytes after it, and none is moved.
+/// Whether the first line of `bytes` is NOOP, and how many bytes it has: 0 and `None` while no line
+/// is complete. The next call gets the bytes after the line, and nothing is moved.
 pub fn first_is_noop(
     alloc: Global,
     codec: &mut FtpCodec,

@@ -163,7 +163,7 @@ impl FtpCodec {
 }
 
 /// Appends the bytes of the reply to `buf` and changes no earlier byte (RFC 959, section 4.2);
-/// `Reply::None` has none. `buf` grows once at most, and not where it has room.
+/// `Reply::None` has none. `buf` grows once at most.
 ///
 /// It fails only when out of memory, with the kind `OutOfMemory`: `buf` is then as it was.
 pub fn encode_reply(reply: &Reply, buf: &mut Vec<u8>) -> Result<(), ControlChanError>
