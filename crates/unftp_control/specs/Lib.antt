@@ -13,6 +13,7 @@ pub use Rattle.unftp_control_defs.specs.ReplyReader
 pub use Rattle.unftp_control_defs.specs.Events
 pub use Rattle.unftp_control_defs.specs.Texts
 pub use Rattle.unftp_control_defs.specs.Run
+pub use Rattle.unftp_control_defs.specs.LineLimit
 pub use Rattle.unftp_control_defs.specs.Pieces
 pub use Rattle.unftp_control_defs.specs.Steps
 pub use Rattle.unftp_control_command.specs.CommandMeaning

@@ -1,12 +1,13 @@
 //! Takes lines from the start of a buffer, and appends replies to the end of one.
 #![tactic(auto)]
 
-ghost use Rattle.std.specs.Prelude.{◌≡◌, ◌↔◌, ◌+◌, ◌≤◌, IsTrue, ◌++◌, length, drop, vec_len, Some, Ok, Err, MatchResult, IsOk, OnOk, OnErr, IfErr};
+ghost use Rattle.std.specs.Prelude.{◌≡◌, ◌↔◌, ◌+◌, ◌-◌, ◌≤◌, if◌then◌else◌, false, None, IsTrue, ◌++◌, length, drop, vec_len, Some, Ok, Err, MatchResult, IsOk, OnOk, OnErr, IfErr};
 ghost use Rattle.unftp_control_defs.specs.Events.{out_of_memory};
 ghost use Rattle.unftp_control_defs.specs.FtpReply.{Nothing, encoded};
 ghost use Rattle.unftp_control_error.specs.ErrorMeaning.{converted, fault_of};
 ghost use Rattle.unftp_control_error.specs.declared.Source.TheVariants.{Parse};
 ghost use Rattle.unftp_control_reply.specs.ReplyMeaning.{reply_of};
+ghost use Rattle.unftp_control_codecs.specs.Codec.{is_too_long};
 ghost use Rattle.unftp_control_codecs.specs.Decoding.{Decodes, IsOutOfMemory};
 
 mod encoding;
@@ -18,48 +19,84 @@ use std::alloc::Global;
 use std::marker::Model;
 use unftp_control_command::Command;
 use unftp_control_count::Count;
-use unftp_control_error::ControlChanError;
-use unftp_control_line_parser::{ParseError, ParseErrorKind, parse};
+use unftp_control_error::{ControlChanError, ControlChanErrorKind};
+use unftp_control_line_parser::{ParseError, parse};
 use unftp_control_reply::Reply;
 
 /// Decodes the commands of a control connection, and encodes its replies.
 ///
 /// It keeps the scan offset of its buffer, where the search for a line feed goes on, so that no
 /// byte is scanned twice. `place` returns it.
+///
+/// With a limit it keeps no line that is longer: the bytes of such a line leave the buffer as they
+/// come, and `skipping` tells that some did. While it is skipping, the scan offset is 0.
 #[derive(Drop)]
 pub struct FtpCodec {
     place: usize,
     tests: ScanCount,
+    limit: Option<usize>,
+    skipping: bool,
 }
 
 impl Model for FtpCodec {
+    ghost use Rattle.std.specs.Prelude.{◌≡◌, IsTrue};
     ghost use Rattle.unftp_control_codecs.specs.Codec.{Codec};
 
     ghost Value = { Codec };
 
-    ghost view = { λ codec. record { place = codec.place; tests = codec.tests } };
+    ghost view = { λ codec. record {
+      place = codec.place;
+      tests = codec.tests;
+      limit = codec.limit;
+      skipping = codec.skipping;
+    } };
+
+    ghost invariant = { λ codec. IsTrue codec.skipping → codec.place ≡ 0 };
 }
 
 impl FtpCodec {
-    /// A codec whose scan offset is 0 and which has scanned nothing.
+    /// A codec whose scan offset is 0 and which has scanned nothing. A line may have any length.
     pub fn new() -> FtpCodec
-        ensures place { result.place ≡ 0 }
-        ensures tests { result.tests ≡ 0 }
+        ensures { result ≡ record { place = 0; tests = 0; limit = None; skipping = false } }
     {
         FtpCodec::at(0)
     }
 
+    /// A codec whose scan offset is 0 and which has scanned nothing. A line of more than `limit`
+    /// bytes, its line feed counted, is refused, whatever it holds (RFC 959 names no limit).
+    pub fn with_limit(limit: usize) -> FtpCodec
+        requires { 1 ≤ limit }
+        ensures { result ≡ record { place = 0; tests = 0; limit = Some limit; skipping = false } }
+    {
+        FtpCodec {
+            place: 0,
+            tests: ScanCount::none(),
+            limit: Some(limit),
+            skipping: false,
+        }
+    }
+
     /// A codec with this scan offset, which has scanned nothing: for a caller that keeps only the
     /// offset. The first line then ends at the first line feed at or after it, so there should be
-    /// none before it.
+    /// none before it. A line may have any length.
     pub fn at(place: usize) -> FtpCodec
-        ensures place { result.place ≡ place }
-        ensures tests { result.tests ≡ 0 }
+        ensures { result ≡ record { place = place; tests = 0; limit = None; skipping = false } }
     {
         FtpCodec {
             place,
             tests: ScanCount::none(),
+            limit: None,
+            skipping: false,
         }
+    }
+
+    /// Whether the bytes so far of a line that is longer than the limit were dropped. The rest of
+    /// it is dropped too, and at its line feed it is refused.
+    pub fn skipping(&self) -> bool
+        ensures skipping { result ≡ self.now.skipping }
+        ensures place { IsTrue result → self.now.place ≡ 0 }
+    {
+        self.skipping
     }
 
     /// The scan offset: where the next search for a line feed begins, in bytes from the start of
@@ -99,23 +136,55 @@ impl FtpCodec {
         ensures decodes { Decodes self.old self.new
             bytes.now (drop result.0 bytes.now) result.1 }
         ensures within { result.0 + self.new.place ≤ length bytes.now }
+        ensures limit { self.new.limit ≡ self.old.limit }
         ensures counted { ¬ IsOutOfMemory result.1
             → self.new.tests + self.old.place ≡ self.old.tests + self.new.place + result.0 }
         ensures never_fewer { self.old.tests ≤ self.new.tests }
     {
         let mut scan = Scan::over(bytes, &mut self.tests);
         let Some(end) = scan.find_line_feed(self.place) else {
-            self.place = bytes.len();
-            return (0, Ok(None));
+            return (self.drop_or_wait(bytes.len()), Ok(None));
         };
-        let (line, _) = bytes.split_at(end + 1);
-        let answer = parse(alloc, line);
-        let mut taken = 0;
-        if !is_out_of_memory(&answer) {
-            taken = end + 1;
-            self.place = 0;
+        let answer = if self.is_too_long(end) {
+            Err(ControlChanErrorKind::LineTooLong.into())
+        } else {
+            let (line, _) = bytes.split_at(end + 1);
+            decoded(parse(alloc, line))
+        };
+        if is_out_of_memory(&answer) {
+            return (0, answer);
         }
-        (taken, decoded(answer))
+        self.place = 0;
+        self.skipping = false;
+        (end + 1, answer)
+    }
+
+    /// Whether the first line is too long, where so many bytes come before its line feed.
+    fn is_too_long(&self, length: usize) -> bool
+        ensures { result ≡ is_too_long self.now (length + 1) }
+    {
+        match self.limit {
+            _ if self.skipping => true,
+            Some(limit) => limit <= length,
+            None => false,
+        }
+    }
+
+    /// Goes on after so many bytes without a line feed: returns how many of them are dropped, which
+    /// is all of them where the line is too long already.
+    fn drop_or_wait(&mut self, length: usize) -> usize
+        ensures dropped { self.new ≡ record {
+          place = length - result;
+          tests = self.old.tests;
+          limit = self.old.limit;
+          skipping = is_too_long self.old (length + 1);
+        } }
+        ensures all { result ≡ if is_too_long self.old (length + 1) then length else 0 }
+    {
+        self.skipping = self.is_too_long(length);
+        let dropped = if self.skipping { length } else { 0 };
+        self.place = length - dropped;
+        dropped
     }
 
     /// Takes the first line from the start of `buf` and returns its command, or `None` while no
@@ -137,6 +206,7 @@ impl FtpCodec {
         requires { self.old.place ≤ vec_len buf.old }
         ensures decodes { Decodes self.old self.new buf.old.items buf.new.items result }
         ensures within { self.new.place ≤ vec_len buf.new }
+        ensures limit { self.new.limit ≡ self.old.limit }
         ensures counted { ¬ IsOutOfMemory result
             → self.new.tests + self.old.place + vec_len buf.new
             ≡ self.old.tests + self.new.place + vec_len buf.old }
@@ -207,11 +277,11 @@ fn remove_front(buf: &mut Vec<u8>, count: usize)
 }
 
 /// Whether the answer is that memory ran out.
-fn is_out_of_memory(answer: &Result<Command, ParseError>) -> bool
-    ensures { IsTrue result ↔ (answer.now ≡ Err ParseErrorKind.OutOfMemory) }
+fn is_out_of_memory(answer: &Result<Option<Command>, ControlChanError>) -> bool
+    ensures { IsTrue result ↔ IsOutOfMemory answer.now }
 {
     match answer {
         Ok(_) => false,
-        Err(error) => *error.kind() == ParseErrorKind::OutOfMemory,
+        Err(error) => matches!(error.kind(), ControlChanErrorKind::OutOfMemory),
     }
 }

@@ -1,8 +1,12 @@
-//! A count that only contracts see: it takes no byte, and its methods do nothing at run time.
+//! A count, and a list of bytes, that only contracts see: they take no byte, and their methods do
+//! nothing at run time.
 #![tactic(auto)]
 
 ghost use Rattle.std.specs.Prelude.{◌≡◌, ℕ, ◌+◌, max};
 
+mod trace;
+
+pub use crate::trace::Trace;
 use std::marker::Model;
 
 /// A number without a greatest value that contracts know and no code can read. Only this crate can
@@ -89,10 +93,11 @@ impl Count {
 
 #[cfg(test)]
 mod tests {
-    use super::Count;
+    use super::{Count, Trace};
     use std::mem::size_of;
 
     const _: () = prove!(size_of::<Count>() == 0);
+    const _: () = prove!(size_of::<Trace>() == 0);
 
     #[test]
     fn counts_without_a_byte(rt: HostRuntime) {
@@ -104,5 +109,13 @@ mod tests {
         count.reset();
         assert_eq!(rt; size_of::<Count>(), 0);
         drop(again);
+    }
+    #[test]
+    fn keeps_bytes_without_a_byte(rt: HostRuntime) {
+        let mut trace = Trace::new();
+        trace.extend(b"NOOP".as_slice());
+        trace.reset();
+        trace.extend([].as_slice());
+        assert_eq!(rt; size_of::<Trace>(), 0);
     }
 }

@@ -1,12 +1,12 @@
 -- An input has one list of lines and one incomplete line: `lines_of` and `incomplete_line`.
-use Rattle.std.proofs.Common.{◌≡◌, ◌≢◌, ℕ, Bool, true, false, cond, map, ◌==◌, List, [], ◌∷◌, ◌++◌, ◌⊎◌, refl, sym, ap, ◌∙◌, inl, inr, append_assoc, eq-eqb, ne_eqb}
+use Rattle.std.proofs.Common.{◌≡◌, ◌≢◌, ◌≤◌, ℕ, Bool, true, false, cond, ltb, map, length, ◌==◌, List, [], ◌∷◌, ◌++◌, Option, None, Some, ◌⊎◌, refl, sym, ap, ◌∙◌, inl, inr, append_assoc, eq-eqb, ne_eqb}
 use Rattle.std.specs.List.{AllByRecursion, concat}
-use Rattle.std.proofs.lemmas.Bool.{cases_eq}
+use Rattle.std.proofs.lemmas.Bool.{cases_eq, le-ltb}
 use Rattle.std.proofs.lemmas.List.{map-append}
 use Rattle.unftp_control_defs.specs.Bytes.{Bytes, LF, Lacks}
 use Rattle.unftp_control_defs.specs.Lines.{IsLine, Lines, onto_line, onto_incomplete_line, lines_of, incomplete_line}
-use Rattle.unftp_control_defs.specs.Events.{events, event_of}
-use Rattle.unftp_control_defs.specs.Outcome.{outcome}
+use Rattle.unftp_control_defs.specs.Events.{events}
+use Rattle.unftp_control_defs.specs.LineLimit.{event_with_limit, events_with_limit}
 
 lf_alone : IsLine (LF ∷ [])
 lf_alone = record { body = []; whole = refl; one_end = tt }
@@ -97,14 +97,29 @@ incomplete_line-append (b ∷ bytes) more =
     incomplete-with_byte b (b == LF) (lines_of bytes) (incomplete_line bytes) (lines_of (bytes ++ more)) (incomplete_line (bytes ++ more))
     (λ r. lines_of (r ++ more)) (λ r. incomplete_line (r ++ more)) (λ r. refl) (lines_of-append bytes more) (incomplete_line-append bytes more)
 
-pub events-append : (bytes more : Bytes) → events (bytes ++ more) ≡ events bytes ++ events (incomplete_line bytes ++ more)
-events-append bytes more =
-    ap (map (λ line. event_of (outcome line))) (lines_of-append bytes more)
-    ∙ map-append (λ line. event_of (outcome line)) (lines_of bytes) (lines_of (incomplete_line bytes ++ more))
+-- Events, with a limit or without one.
+pub events_with_limit-append : (limit : Option ℕ) (bytes more : Bytes) →
+    events_with_limit limit (bytes ++ more) ≡ events_with_limit limit bytes ++ events_with_limit limit (incomplete_line bytes ++ more)
+events_with_limit-append limit bytes more =
+    ap (map (event_with_limit limit)) (lines_of-append bytes more)
+    ∙ map-append (event_with_limit limit) (lines_of bytes) (lines_of (incomplete_line bytes ++ more))
 
 -- the first line, and bytes without one
-pub events-line : (body more : Bytes) → Lacks LF body → events (body ++ LF ∷ more) ≡ event_of (outcome (body ++ LF ∷ [])) ∷ events more
-events-line body more h = ap (map (λ line. event_of (outcome line))) (lines_of-line body more h)
+pub events_with_limit-line : (limit : Option ℕ) (body more : Bytes) → Lacks LF body →
+    events_with_limit limit (body ++ LF ∷ more) ≡ event_with_limit limit (body ++ LF ∷ []) ∷ events_with_limit limit more
+events_with_limit-line limit body more h = ap (map (event_with_limit limit)) (lines_of-line body more h)
 
-pub events-incomplete : (incomplete : Bytes) → Lacks LF incomplete → events incomplete ≡ []
-events-incomplete incomplete h = ap (map (λ line. event_of (outcome line))) (lines_of-incomplete incomplete h)
+pub events_with_limit-incomplete : (limit : Option ℕ) (incomplete : Bytes) → Lacks LF incomplete → events_with_limit limit incomplete ≡ []
+events_with_limit-incomplete limit incomplete h = ap (map (event_with_limit limit)) (lines_of-incomplete incomplete h)
+
+-- no line is longer than the limit
+within : (limit : ℕ) (lines : List Bytes) → AllByRecursion (λ line. length line ≤ limit) lines →
+    map (event_with_limit (Some limit)) lines ≡ map (event_with_limit None) lines
+within limit [] each = refl
+within limit (line ∷ lines) each =
+    let short : ltb limit (length line) ≡ false = le-ltb limit (length line) each.0 in
+    rw (short, within limit lines each.1) refl
+
+pub events_with_limit-within : (limit : ℕ) (input : Bytes) → AllByRecursion (λ line. length line ≤ limit) (lines_of input) →
+    events_with_limit (Some limit) input ≡ events input
+events_with_limit-within limit input each = within limit (lines_of input) each

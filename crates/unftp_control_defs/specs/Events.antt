@@ -19,6 +19,7 @@ pub data FaultKind : Type 0 where
   ControlChannelTimeout : FaultKind
   IllegalState : FaultKind
   OutOfMemory : FaultKind
+  LineTooLong : FaultKind
 
 -- what such an error comes from: nothing else; the reading of a line, which refused it, or which
 -- had no memory; ill-formed UTF-8; the system

@@ -13,6 +13,7 @@ pub mod ReplyReader
 pub mod Events
 pub mod Texts
 pub mod Run
+pub mod LineLimit
 pub mod Pieces
 pub mod Steps
 pub mod LossyText

@@ -3,7 +3,7 @@ use Rattle.std.specs.Prelude.{◌++◌, Option, Some, None, codes}
 use Rattle.unftp_control_defs.specs.Bytes.{Bytes}
 use Rattle.unftp_control_defs.specs.FtpCommand as line
 use Rattle.unftp_control_defs.specs.FtpCommand.{Refusal}
-use Rattle.unftp_control_defs.specs.Events.{FaultKind, IoError, ParseError, InternalServerError, AuthenticationError, InternalMsgError, Utf8Error, UnknownCommand, InvalidCommand, ControlChannelTimeout, IllegalState, OutOfMemory}
+use Rattle.unftp_control_defs.specs.Events.{FaultKind, IoError, ParseError, InternalServerError, AuthenticationError, InternalMsgError, Utf8Error, UnknownCommand, InvalidCommand, ControlChannelTimeout, IllegalState, OutOfMemory, LineTooLong}
 
 -- why a line was not read: it was refused, or there was no memory
 abbrev pub reading_text : Option Refusal → Bytes
@@ -24,6 +24,7 @@ kind_text InvalidCommand = codes "Invalid command (invalid parameter)"
 kind_text ControlChannelTimeout = codes "Encountered read timeout on the control channel"
 kind_text IllegalState = codes "Control channel in illegal state"
 kind_text OutOfMemory = codes "Out of memory"
+kind_text LineTooLong = codes "Line too long"
 
 -- the whole texts of the two errors
 abbrev pub parse_error_text : Option Refusal → Bytes

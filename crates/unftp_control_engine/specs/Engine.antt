@@ -1,17 +1,36 @@
 -- What contracts see of an engine.
-use Rattle.std.specs.Prelude.{◌≡◌, ℕ, ◌-◌, ◌^◌, Bool, false, List, ◌++◌, length, min}
+use Rattle.std.specs.Prelude.{◌≡◌, ℕ, ◌-◌, ◌^◌, Bool, false, List, [], ◌++◌, length, min, Option}
 use Rattle.unftp_control_defs.specs.Bytes.{Bytes}
 use Rattle.unftp_control_defs.specs.Lines.{incomplete_line}
-use Rattle.unftp_control_defs.specs.Events.{FtpEvent, events}
+use Rattle.unftp_control_defs.specs.Events.{FtpEvent}
+use Rattle.unftp_control_defs.specs.LineLimit.{events_with_limit}
 use Rattle.unftp_control_defs.specs.Run.{Law, last_state}
 
--- the bytes after the last line feed, how many of them `left` reports, whether the engine has
--- failed, and how many bytes were scanned for a line feed since it was made
 pub record EngineState : Type 0 where
+  -- the bytes after the last line feed, and how many of them `left` reports
   pub incomplete : Bytes
   pub left : ℕ
+  -- whether the engine has failed
   pub failed : Bool
+  -- how many bytes were scanned for a line feed since it was made
   pub tests : ℕ
+  -- how many bytes a line may have, its LF counted, if that is limited
+  pub limit : Option ℕ
+  -- how many bytes the buffer holds, and the most that it has held since the engine was made
+  pub buffered : ℕ
+  pub held : ℕ
+
+-- of an engine that was fed nothing
+abbrev pub fresh : Option ℕ → EngineState
+fresh limit = record {
+  incomplete = [];
+  left = 0;
+  failed = false;
+  tests = 0;
+  limit = limit;
+  buffered = 0;
+  held = 0;
+}
 
 -- a number as 64 bits hold it, the greatest for each greater one
 abbrev pub saturating_u64 : ℕ → ℕ
@@ -26,10 +45,10 @@ abbrev pub bytes_with : EngineState → Bytes → Bytes
 bytes_with engine piece = engine.incomplete ++ piece
 
 abbrev pub events_with : EngineState → Bytes → List FtpEvent
-events_with engine piece = events (bytes_with engine piece)
+events_with engine piece = events_with_limit engine.limit (bytes_with engine piece)
 
 -- All lines of these bytes are taken: the handler is in the last state of its run, and the engine
--- goes on and holds the incomplete line.
+-- goes on after the incomplete line.
 pub record Leaves {S : Type 0} (law : Law S) (before : EngineState) (piece : Bytes) (s s' : S)
     (after : EngineState) : Type 0 where
   pub state : s' ≡ last_state law s (events_with before piece)

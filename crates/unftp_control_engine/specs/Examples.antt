@@ -1,11 +1,12 @@
 -- A handler and snapshots for the examples.
-use Rattle.std.specs.Prelude.{◌≡◌, ℕ, ◌+◌, Some, codes}
+use Rattle.std.specs.Prelude.{◌≡◌, ℕ, ◌+◌, false, Option, Some, codes}
 use Rattle.unftp_control_defs.specs.Bytes.{Bytes}
 use Rattle.unftp_control_defs.specs.Events.{FtpEvent, Command, out_of_memory}
 use Rattle.unftp_control_defs.specs.FtpCommand.{Noop}
 use Rattle.unftp_control_defs.specs.FtpReply.{CodeAndMsg}
 use Rattle.unftp_control_defs.specs.Run.{Law}
 use Rattle.unftp_control_engine.specs.Endings.{Snapshot}
+use Rattle.unftp_control_engine.specs.Engine.{EngineState}
 
 -- It counts the events, and its reply to each is `200 OK`. It may fail with `OutOfMemory` only.
 abbrev pub counting : Law ℕ
@@ -25,4 +26,16 @@ snapshot taken written unflushed = record {
   state = taken;
   failures = 0;
   output = record { written = Some written; failures = 0; unflushed = unflushed };
+}
+
+-- an engine that was fed the start of a line
+abbrev pub waiting : Option ℕ → EngineState
+waiting limit = record {
+  incomplete = codes "NO";
+  left = 2;
+  failed = false;
+  tests = 2;
+  limit = limit;
+  buffered = 2;
+  held = 2;
 }

@@ -3,6 +3,6 @@ pub mod EventMeaning
 pub mod ErrorTexts
 pub mod Writing
 pub mod Endings
-pub mod LineBuffer
 pub mod Engine
+pub mod LineBuffer
 pub mod Examples

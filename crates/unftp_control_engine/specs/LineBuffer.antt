@@ -1,11 +1,11 @@
 -- The pending bytes, whose line is not complete.
-use Rattle.std.specs.Prelude.{◌≡◌, ℕ, ◌-◌, ◌≤◌, ◌++◌, length, take, Option, Result, MatchResult, MatchOption, option_map}
+use Rattle.std.specs.Prelude.{◌≡◌, ℕ, ◌+◌, ◌-◌, ◌<◌, ◌≤◌, Bool, true, if◌then◌else◌, [], ◌++◌, length, take, drop, Option, Result, MatchResult, MatchOption, IfSome, option_map}
 use Rattle.unftp_control_defs.specs.Bytes.{Bytes, LF, Lacks}
-use Rattle.unftp_control_defs.specs.Events.{FtpEvent, event_of}
-use Rattle.unftp_control_defs.specs.Outcome.{outcome}
+use Rattle.unftp_control_defs.specs.Events.{FtpEvent}
+use Rattle.unftp_control_defs.specs.LineLimit.{exceeds, event_with_limit}
 use Rattle.unftp_control_defs.specs.Lines.{IsLine}
 use Rattle.unftp_control_codecs.specs.Codec.{Codec}
-use Rattle.unftp_control_codecs.specs.Decoding.{Decoded, IsOutOfMemory, returned_event}
+use Rattle.unftp_control_codecs.specs.Decoding.{Decoded, IsOutOfMemory, IfTooLong, returned_event}
 use Rattle.unftp_control_engine.specs.declared.event.Event.{Event}
 use Rattle.unftp_control_engine.specs.EventMeaning.{event_meant}
 
@@ -13,33 +13,90 @@ use Rattle.unftp_control_engine.specs.EventMeaning.{event_meant}
 abbrev pub IsWithin : Codec → Bytes → Type 0
 IsWithin codec bytes = (codec.place ≤ length bytes) × Lacks LF (take codec.place bytes)
 
--- the bytes, how many were scanned for a line feed since the buffer was made, and how many of them
--- have not been
+-- The bytes that were dropped begin a line that is too long; while the codec is not skipping, there
+-- are none.
+pub record IsDropped (codec : Codec) (dropped : Bytes) : Type 0 where
+  pub unended : Lacks LF dropped
+  pub too_long : IfTooLong codec.skipping
+      (exceeds codec.limit (length dropped + 1) ≡ true)
+      (dropped ≡ [])
+
+-- those, after the codec took some bytes and is skipping, or is not
+abbrev pub dropped_after : Bool → Bytes → Bytes → Bytes
+dropped_after skipping dropped bytes = if skipping then dropped ++ bytes else []
+
+-- What is so of a line buffer: the lines before `start` are taken.
+pub record IsLineBuffer (codec : Codec) (dropped buf : Bytes) (start held : ℕ) : Type 0 where
+  pub start_within : start ≤ length buf
+  pub place_within : IsWithin codec (drop start buf)
+  pub dropped_well : IsDropped codec dropped
+  pub limited : IfSome codec.limit (λ limit. 1 ≤ limit)
+  pub no_more : length buf ≤ held
+
 pub record Pending : Type 0 where
+  -- the bytes after the last line feed, and how many of them are kept: those before them were
+  -- dropped, since their line is longer than the limit
   pub bytes : Bytes
+  pub kept : ℕ
+  pub limit : Option ℕ
+  -- how many bytes were scanned for a line feed since the buffer was made, and how many of those
+  -- that are kept have not been
   pub tests : ℕ
   pub unscanned : ℕ
+  -- how many bytes the buffer holds, with those of the lines that are taken, and the most that it
+  -- has held
+  pub buffered : ℕ
+  pub held : ℕ
 
--- of these bytes, which the codec scanned up to its scan offset
-abbrev pub pending_of : Codec → Bytes → Pending
-pending_of codec bytes = record {
-  bytes = bytes;
-  tests = codec.tests;
-  unscanned = length bytes - codec.place;
+-- no bytes so far
+abbrev pub no_lines : Option ℕ → Pending
+no_lines limit = record {
+  bytes = [];
+  kept = 0;
+  limit = limit;
+  tests = 0;
+  unscanned = 0;
+  buffered = 0;
+  held = 0;
 }
 
--- There is no line, and all bytes are scanned.
+-- of these bytes, which the codec scanned up to its scan offset, after those that were dropped
+abbrev pub pending_of : Codec → Bytes → Bytes → ℕ → ℕ → Pending
+pending_of codec dropped bytes buffered held = record {
+  bytes = dropped ++ bytes;
+  kept = length bytes;
+  limit = codec.limit;
+  tests = codec.tests;
+  unscanned = length bytes - codec.place;
+  buffered = buffered;
+  held = held;
+}
+
+-- The lines that were taken have left the buffer.
+abbrev pub settled : Pending → Pending
+settled pending = record {
+  bytes = pending.bytes;
+  kept = pending.kept;
+  limit = pending.limit;
+  tests = pending.tests;
+  unscanned = pending.unscanned;
+  buffered = pending.kept;
+  held = pending.held;
+}
+
+-- There is no line, and all bytes are scanned; fewer are kept than a line may have.
 pub record HasNoLine (before after : Pending) : Type 0 where
   pub unended : Lacks LF before.bytes
-  pub kept : after.bytes ≡ before.bytes
+  pub same : after.bytes ≡ before.bytes
   pub all_scanned : after.unscanned ≡ 0
+  pub short : IfSome before.limit (λ limit. after.kept < limit)
 
 -- The first line is taken away, and this is its event.
 pub record TakesLine (before : Pending) (event : FtpEvent) (after : Pending) : Type 0 where
   pub line : Bytes
   pub is_line : IsLine line
   pub whole : before.bytes ≡ line ++ after.bytes
-  pub meaning : event ≡ event_of (outcome line)
+  pub meaning : event ≡ event_with_limit before.limit line
 
 abbrev pub TakesNext : {E : Type 0} → Pending → Result (Option Event) E → Pending → Type 0
 TakesNext before result after = MatchResult result

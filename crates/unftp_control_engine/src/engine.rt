@@ -1,14 +1,15 @@
 //! The engine: lines in, replies out.
-ghost use Rattle.std.specs.Prelude.{◌≡◌, ◌≤◌, ◌+◌, ◌↔◌, ◌∷◌, ◌++◌, [], OnOk, OnErr, IsErrOf, is_err, true, false, length};
+ghost use Rattle.std.specs.Prelude.{◌≡◌, ◌<◌, ◌≤◌, ◌+◌, ◌↔◌, ◌∷◌, ◌++◌, [], max, None, Some, IfSome, OnOk, OnErr, IsErrOf, is_err, true, false, length};
 ghost use Rattle.std.specs.Io.KnownBytes.{Appends};
-ghost use Rattle.unftp_control_defs.specs.Events.{events};
 ghost use Rattle.unftp_control_defs.specs.FtpReply.{encoded};
+ghost use Rattle.unftp_control_defs.specs.LineLimit.{events_with_limit};
 ghost use Rattle.unftp_control_defs.specs.Lines.{incomplete_line};
 ghost use Rattle.unftp_control_defs.specs.Run.{text_of};
 ghost use Rattle.unftp_control_reply.specs.ReplyMeaning.{reply_of};
 ghost use Rattle.unftp_control_engine.specs.Endings.{RunOutcome, WriteFailed, HandlerFailed, RanOutOfMemory, OnWrite, OnHandler, OnMemory, ReadsNothing, snapshot_of};
-ghost use Rattle.unftp_control_engine.specs.Engine.{IsRunning, Leaves, events_with};
+ghost use Rattle.unftp_control_engine.specs.Engine.{IsRunning, Leaves, events_with, fresh};
 ghost use Rattle.unftp_control_engine.specs.EventMeaning.{event_meant};
+ghost use Rattle.unftp_control_engine.specs.LineBuffer.{no_lines};
 ghost use Rattle.unftp_control_engine.specs.Writing.{Flushed};
 
 use crate::error::ServeError;
@@ -65,12 +66,16 @@ fn answer_lines<H: Handler, W: Write>(
 ) -> Result<(), ServeError>
     ensures outcome { RunOutcome H.law
         (snapshot_of H.state H.failures W.contents handler.old output.old)
-        (events line_buffer.old.bytes)
+        (events_with_limit line_buffer.old.limit line_buffer.old.bytes)
         (snapshot_of H.state H.failures W.contents handler.new output.new)
         result }
     ensures incomplete { OnOk result
         (line_buffer.new.bytes ≡ incomplete_line line_buffer.old.bytes) }
     ensures unscanned { OnOk result (line_buffer.new.unscanned ≡ 0) }
+    ensures room { OnOk result
+        (IfSome line_buffer.old.limit (λ limit. line_buffer.new.kept < limit)) }
+    ensures limit { line_buffer.new.limit ≡ line_buffer.old.limit }
+    ensures held { line_buffer.new.held ≡ line_buffer.old.held }
     ensures tests { line_buffer.new.tests ≤ line_buffer.old.tests + line_buffer.old.unscanned }
     ensures tested { OnOk result
         (line_buffer.new.tests ≡ line_buffer.old.tests + line_buffer.old.unscanned) }
@@ -95,12 +100,19 @@ fn answer_piece<H: Handler, W: Write>(
 ) -> Result<(), ServeError>
     ensures outcome { RunOutcome H.law
         (snapshot_of H.state H.failures W.contents handler.old output.old)
-        (events (line_buffer.old.bytes ++ piece.now))
+        (events_with_limit line_buffer.old.limit (line_buffer.old.bytes ++ piece.now))
         (snapshot_of H.state H.failures W.contents handler.new output.new)
         result }
     ensures incomplete { OnOk result
         (line_buffer.new.bytes ≡ incomplete_line (line_buffer.old.bytes ++ piece.now)) }
     ensures unscanned { OnOk result (line_buffer.new.unscanned ≡ 0) }
+    ensures room { OnOk result
+        (IfSome line_buffer.old.limit (λ limit. line_buffer.new.buffered < limit)) }
+    ensures limit { line_buffer.new.limit ≡ line_buffer.old.limit }
+    ensures held { OnOk result (line_buffer.new.held
+        ≡ max line_buffer.old.held (line_buffer.old.buffered + length piece.now)) }
+    ensures no_more_held { line_buffer.new.held
+        ≤ max line_buffer.old.held (line_buffer.old.buffered + length piece.now) }
     ensures tests { line_buffer.new.tests
         ≤ line_buffer.old.tests + line_buffer.old.unscanned + length piece.now }
     ensures tested { OnOk result (line_buffer.new.tests
@@ -123,7 +135,7 @@ pub struct Engine {
 }
 
 impl Model for Engine {
-    ghost use Rattle.std.specs.Prelude.{◌≡◌, false, length};
+    ghost use Rattle.std.specs.Prelude.{◌≡◌, ◌<◌, false, length, IfSome};
     ghost use Rattle.unftp_control_engine.specs.Engine.{EngineState, saturating_u64};
 
     ghost Value = { EngineState };
@@ -133,19 +145,42 @@ impl Model for Engine {
       left = engine.left;
       failed = engine.failed;
       tests = engine.line_buffer.tests;
+      limit = engine.line_buffer.limit;
+      buffered = engine.line_buffer.buffered;
+      held = engine.line_buffer.held;
     } };
 
     ghost invariant = { λ engine. engine.failed ≡ false → (engine.line_buffer.unscanned ≡ 0)
-        × (engine.left ≡ saturating_u64 (length engine.line_buffer.bytes)) };
+        × (engine.left ≡ saturating_u64 (length engine.line_buffer.bytes))
+        × IfSome engine.line_buffer.limit (λ limit. engine.line_buffer.buffered < limit) };
 }
 
 impl Engine {
-    /// An engine that was fed nothing.
+    /// An engine that was fed nothing. A line may have any length, and all its bytes are kept until
+    /// its line feed comes: for input that is not trusted, set a limit.
     pub fn new(alloc: Global) -> Engine
-        ensures { result ≡ record { incomplete = []; left = 0; failed = false; tests = 0 } }
+        ensures { result ≡ fresh None }
+    {
+        Engine::over(LineBuffer::new(alloc, None), alloc)
+    }
+
+    /// An engine that was fed nothing. A line of more than `limit` bytes, its line feed counted, is
+    /// one event, a refusal with `LineTooLong`, and none of its bytes are kept once they are too
+    /// many (RFC 959 names no limit).
+    pub fn with_limit(alloc: Global, limit: usize) -> Engine
+        requires { 1 ≤ limit }
+        ensures { result ≡ fresh (Some limit) }
+    {
+        Engine::over(LineBuffer::new(alloc, Some(limit)), alloc)
+    }
+
+    /// An engine over an empty line buffer.
+    fn over(line_buffer: LineBuffer, alloc: Global) -> Engine
+        requires { line_buffer ≡ no_lines line_buffer.limit }
+        ensures { result ≡ fresh line_buffer.limit }
     {
         Engine {
-            line_buffer: LineBuffer::new(alloc),
+            line_buffer,
             reply_bytes: Vec::new(alloc),
             left: 0,
             failed: false,
@@ -165,6 +200,13 @@ impl Engine {
         ensures { result ≡ self.now.tests }
     {
         self.line_buffer.tests()
+    }
+
+    /// The most bytes that its buffer has held. Only contracts see it.
+    pub fn held(&self) -> Count
+        ensures { result ≡ self.now.held }
+    {
+        self.line_buffer.held()
     }
 
     /// Takes the next piece of the input, and answers each line that is now complete (RFC 959,
@@ -225,6 +267,14 @@ impl Engine {
         ensures tests { self.new.tests ≤ self.old.tests + length piece.now }
         ensures tested { OnOk result (self.new.tests ≡ self.old.tests + length piece.now) }
         ensures never_fewer { self.old.tests ≤ self.new.tests }
+        // With a limit, the buffer never holds more than the limit and the piece together, and at
+        // Ok it holds fewer bytes than the limit.
+        ensures bound { IfSome self.old.limit (λ limit.
+            self.new.held ≤ max self.old.held (limit + length piece.now)) }
+        ensures room { OnOk result (IfSome self.old.limit (λ limit. self.new.buffered < limit)) }
+        ensures held { OnOk result
+            (self.new.held ≡ max self.old.held (self.old.buffered + length piece.now)) }
+        ensures limit { self.new.limit ≡ self.old.limit }
     {
         if self.failed {
             return Err(ServeError::Stopped);
@@ -238,7 +288,7 @@ impl Engine {
         );
         match answer {
             Ok(()) => {
-                self.left = self.line_buffer.len() as u64;
+                self.left = self.line_buffer.len();
                 Ok(())
             }
             Err(error) => {

@@ -1,14 +1,15 @@
 //! Snapshots worked out by hand: what the definitions of the clauses of `feed` say of
 //! them.
-ghost use Rattle.std.specs.Prelude.{◌≡◌, ◌+◌, ◌-◌, ◌^◌, ◌<◌, ◌≤◌, ◌⊎◌, ℕ, false, [], ◌∷◌, Some, Err, length, codes};
+ghost use Rattle.std.specs.Prelude.{◌≡◌, ◌+◌, ◌-◌, ◌^◌, ◌<◌, ◌≤◌, ◌⊎◌, ℕ, false, [], ◌∷◌, None, Some, Err, length, codes};
 ghost use Rattle.std.specs.Io.KnownBytes.{Appends};
 ghost use Rattle.unftp_control_defs.specs.Bytes.{Bytes};
-ghost use Rattle.unftp_control_defs.specs.Events.{Fault, events, out_of_memory};
+ghost use Rattle.unftp_control_defs.specs.Events.{Fault, Refused, events, out_of_memory};
+ghost use Rattle.unftp_control_defs.specs.LineLimit.{line_too_long};
 ghost use Rattle.unftp_control_error.specs.ErrorMeaning.{fault_of};
 ghost use Rattle.unftp_control_error.specs.ErrorParts.{KindAndSource};
 ghost use Rattle.unftp_control_engine.specs.Endings.{Snapshot, AllAnswered, WriteFailed, HandlerFailed, RanOutOfMemory, RunEnded, OnWrite, OnHandler, OnMemory, ReadsNothing};
-ghost use Rattle.unftp_control_engine.specs.Engine.{EngineState, Leaves, saturating_u64};
-ghost use Rattle.unftp_control_engine.specs.Examples.{counting, noop, snapshot};
+ghost use Rattle.unftp_control_engine.specs.Engine.{EngineState, Leaves, events_with, saturating_u64};
+ghost use Rattle.unftp_control_engine.specs.Examples.{counting, noop, snapshot, waiting};
 ghost use Rattle.unftp_control_engine.specs.Writing.{Begins, Flushed};
 
 use crate::error::ServeError;
@@ -83,9 +84,10 @@ pub fn flushes_and_beginnings()
 /// An engine at work that is fed the end of a line and the start of the next.
 pub fn an_engine_takes_a_line()
     ensures leaves { (s : ℕ) (after : EngineState)
-        → Leaves counting (record { incomplete = codes "NO"; left = 2; failed = false; tests = 2 })
-        (codes "OP\r\nP") 3 s after
+        → Leaves counting (waiting None) (codes "OP\r\nP") 3 s after
         → (s ≡ 4) × (after.failed ≡ false) × (after.incomplete ≡ codes "P") × (after.left ≡ 1) }
+    ensures too_long { events_with (waiting (Some 5)) (codes "OP\r\nP")
+        ≡ Refused line_too_long ∷ [] }
     ensures saturating_u64 { (saturating_u64 5 ≡ 5) × (saturating_u64 (2 ^ 64) ≡ 2 ^ 64 - 1) }
 {}
 

@@ -10,6 +10,7 @@ mod handler;
 mod line_buffer;
 mod output;
 mod send;
+mod skipped;
 
 pub use engine::Engine;
 pub use error::ServeError;

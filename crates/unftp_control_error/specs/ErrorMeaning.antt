@@ -23,6 +23,7 @@ kind_meant kind.InvalidCommand = fault.InvalidCommand
 kind_meant kind.ControlChannelTimeout = fault.ControlChannelTimeout
 kind_meant kind.IllegalState = fault.IllegalState
 kind_meant kind.OutOfMemory = fault.OutOfMemory
+kind_meant kind.LineTooLong = fault.LineTooLong
 
 abbrev pub source_meant : Source → FaultSource
 source_meant source.None = NoSource

@@ -14,8 +14,8 @@ use unftp_control_line_parser::{ParseError, ParseErrorKind};
 
 /// What went wrong on the control channel.
 ///
-/// This library itself returns `Utf8Error`, `InvalidCommand` and `OutOfMemory`, and makes an
-/// `IoError` of std's; the other kinds are there for the server that uses it.
+/// This library itself returns `Utf8Error`, `InvalidCommand`, `OutOfMemory` and `LineTooLong`, and
+/// makes an `IoError` of std's; the other kinds are there for the server that uses it.
 #[derive(Debug, Drop, PartialEq, Eq)]
 pub enum ControlChanErrorKind {
     /// Reading or writing failed.
@@ -43,6 +43,8 @@ pub enum ControlChanErrorKind {
     IllegalState,
     /// An allocation failed.
     OutOfMemory,
+    /// A line is longer than the limit.
+    LineTooLong,
 }
 
 /// The text of the kind, the same under all flags of the formatter.
@@ -75,6 +77,7 @@ impl fmt::Display for ControlChanErrorKind {
             }
             ControlChanErrorKind::IllegalState => "Control channel in illegal state",
             ControlChanErrorKind::OutOfMemory => "Out of memory",
+            ControlChanErrorKind::LineTooLong => "Line too long",
         })
     }
 }

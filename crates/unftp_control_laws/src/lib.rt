@@ -9,10 +9,11 @@ ghost use Rattle.std.specs.Str.Lossy.{utf8_lossy};
 ghost use Rattle.unftp_control_commands.specs.Answers.{port_reply};
 ghost use Rattle.unftp_control_defs.specs.Bytes.{Bytes, LF, crlf, Lacks};
 ghost use Rattle.unftp_control_defs.specs.Canonical.{canonical_line, HasLine};
-ghost use Rattle.unftp_control_defs.specs.Pieces.{events_in_turn};
-ghost use Rattle.unftp_control_defs.specs.Events.{events};
+ghost use Rattle.unftp_control_defs.specs.Pieces.{events_in_turn, events_in_turn_with_limit};
+ghost use Rattle.unftp_control_defs.specs.Events.{Refused, events};
 ghost use Rattle.unftp_control_defs.specs.FtpCommand.{FtpCommand, User, HasTypedFields};
 ghost use Rattle.unftp_control_defs.specs.FtpReply.{FtpReply, IsPlain, encoded, reply_as_read};
+ghost use Rattle.unftp_control_defs.specs.LineLimit.{line_too_long, event_with_limit, events_with_limit};
 ghost use Rattle.unftp_control_defs.specs.Lines.{IsLine, Lines, lines_of, incomplete_line};
 ghost use Rattle.unftp_control_defs.specs.LossyText.{Character, LossyText, first_part};
 ghost use Rattle.unftp_control_defs.specs.Outcome.{outcome};
@@ -105,7 +106,20 @@ pub fn epsv_ports_differ()
 
 /// The pieces that an input comes in give its events, however it is split.
 pub fn any_cutting()
-    ensures { (pieces : List Bytes) → events_in_turn [] pieces ≡ events (concat pieces) }
+    ensures any_line { (pieces : List Bytes) → events_in_turn [] pieces ≡ events (concat pieces) }
+    ensures limited { (limit : ℕ) (pieces : List Bytes)
+        → events_in_turn_with_limit (Some limit) [] pieces
+        ≡ events_with_limit (Some limit) (concat pieces) }
+{}
+
+/// A limit changes nothing for an input whose lines are within it; and of a line that is longer,
+/// the content makes no difference.
+pub fn limit_refuses_long_lines()
+    ensures within { (limit : ℕ) (input : Bytes)
+        → AllByRecursion (λ line. length line ≤ limit) (lines_of input)
+        → events_with_limit (Some limit) input ≡ events input }
+    ensures longer { (limit : ℕ) (line : Bytes) → limit < length line
+        → event_with_limit (Some limit) line ≡ Refused line_too_long }
 {}
 
 /// Step by step from an empty buffer, a codec scans as many bytes as leave it and its place moves

@@ -1,20 +1,23 @@
 -- A service, piece by piece.
-use Rattle.std.proofs.Common.{◌≡◌, ℕ, ◌+◌, ◌-◌, ◌^◌, ◌<◌, ◌≤◌, false, [], ◌++◌, take, Option, Some, None, length, refl, sym, ◌∙◌, ap, arith, append_assoc, length-append}
+use Rattle.std.proofs.Common.{◌≡◌, ℕ, max, ◌+◌, ◌-◌, ◌^◌, ◌<◌, ◌≤◌, false, [], ◌++◌, take, Option, Some, None, Result, length, refl, sym, ◌∙◌, ap, arith, append_assoc, length-append, subst}
 use Rattle.std.proofs.lemmas.List.{append-nil}
 use Rattle.std.specs.List.{AllByRecursion}
 use Rattle.std.specs.Option.{IfSome}
+use Rattle.std.specs.Result.{IfOk, OnOk}
+use Rattle.std.proofs.lemmas.Result.{IfOk-weaker}
 use Rattle.std.specs.Io.KnownBytes.{Appends, Consumes, IsAtEnd, Keeps}
 use Rattle.unftp_control_defs.specs.Bytes.{Bytes}
 use Rattle.unftp_control_defs.specs.Lines.{incomplete_line}
-use Rattle.unftp_control_defs.specs.Events.{events}
+use Rattle.unftp_control_defs.specs.LineLimit.{events_with_limit, text_with_limit}
 use Rattle.unftp_control_defs.specs.FtpReply.{IsPlain}
 use Rattle.unftp_control_defs.specs.ReplyReader.{ReadsBack}
-use Rattle.unftp_control_defs.specs.Run.{Law, last_state, replies, text_for}
+use Rattle.unftp_control_defs.specs.Run.{Law, last_state, replies}
 use Rattle.unftp_control_defs.proofs.EncodingLemmas.{ReadsBack-encoded}
-use Rattle.unftp_control_defs.proofs.LineLemmas.{events-append, incomplete_line-append}
+use Rattle.unftp_control_defs.proofs.LineLemmas.{events_with_limit-append, incomplete_line-append}
 use Rattle.unftp_control_engine.specs.Endings.{Snapshot, AllAnswered, RunEnded}
-use Rattle.unftp_control_engine.specs.Engine.{EngineState, IsRunning, Leaves, events_with, saturating_u64}
-use Rattle.unftp_control_serve.specs.Service.{InputState, Answered, AnsweredAll, EndedLate, ReadFailed, ReadTooOften, ServeEnded}
+use Rattle.unftp_control_engine.specs.Engine.{EngineState, IsRunning, Leaves, bytes_with, events_with, fresh, saturating_u64}
+use Rattle.unftp_control_serve.specs.Service.{InputState, Answered, AnsweredAllWithLimit, EndedLate, ReadFailed, ReadTooOften, ServeEndedWithLimit}
+use Rattle.unftp_control_serve.specs.declared.service.Served.{Served}
 use Rattle.unftp_control_engine.specs.declared.error.ServeError.{ServeError}
 use Rattle.unftp_control_engine.specs.declared.error.ServeError.TheVariants.{Read, Write, WriteZero, Handler, OutOfMemory, Stopped, TooManyReads}
 use Rattle.unftp_control_engine.proofs.EndingLemmas.{AllAnswered-nothing, AllAnswered-then, RunEnded-then}
@@ -46,17 +49,28 @@ whole P (Some a) (Some b) read p q it =
 
 -- in the loop of `serve`: all lines of what was read are answered, and the engine holds the
 -- incomplete line
-pub record Serving {S : Type 0} (law : Law S) (m n : Snapshot S) (i j : InputState) (engine : EngineState) (turn : ℕ) : Type 0 where
-  pub so_far : Answered law m n i j
+pub record Serving (limit : Option ℕ) {S : Type 0} (law : Law S) (m n : Snapshot S) (i j : InputState) (engine : EngineState) (turn : ℕ) : Type 0 where
+  pub so_far : Answered limit law m n i j
   pub running : IsRunning engine
   pub incomplete : engine.incomplete ≡ incomplete_line so_far.read
   pub left : engine.left ≡ saturating_u64 (length (incomplete_line so_far.read))
   pub many : turn ≤ length so_far.read
   pub tested : engine.tests ≡ length so_far.read
   pub no_read_failed : j.failures ≡ i.failures
+  pub limited : engine.limit ≡ limit
+  pub bounded : IfSome limit (λ limit. engine.held ≤ limit + 4096)
 
-module _ {S : Type 0} (law : Law S) (m : Snapshot S) (i : InputState) where
-  pub Serving-start : (engine : EngineState) → engine ≡ record { incomplete = []; left = 0; failed = false; tests = 0 } → Serving law m m i i engine 0
+bounded_at_first : (limit : Option ℕ) → IfSome limit (λ limit. 0 ≤ limit + 4096)
+bounded_at_first None = tt
+bounded_at_first (Some limit) = omega arith
+
+bounded_after : (limit : Option ℕ) (held held' piece : ℕ) → piece ≤ 4096 → IfSome limit (λ limit. held ≤ limit + 4096) →
+    IfSome limit (λ limit. held' ≤ max held (limit + piece)) → IfSome limit (λ limit. held' ≤ limit + 4096)
+bounded_after None held held' piece short so_far next = tt
+bounded_after (Some limit) held held' piece short so_far next = omega (arith, short, so_far, next)
+
+module _ (limit : Option ℕ) {S : Type 0} (law : Law S) (m : Snapshot S) (i : InputState) where
+  pub Serving-start : (engine : EngineState) → engine ≡ fresh limit → Serving limit law m m i i engine 0
   Serving-start engine new = rw new record {
     so_far = record { read = []; consumed = Consumes-nothing i.remaining; answered = AllAnswered-nothing law m };
     running = refl;
@@ -65,23 +79,27 @@ module _ {S : Type 0} (law : Law S) (m : Snapshot S) (i : InputState) where
     many = omega arith;
     tested = omega arith;
     no_read_failed = refl;
+    limited = refl;
+    bounded = bounded_at_first limit;
   }
 
-  module _ (n : Snapshot S) (j k : InputState) (engine : EngineState) (turn : ℕ) (s : Serving law m n i j engine turn) where
+  module _ (n : Snapshot S) (j k : InputState) (engine : EngineState) (turn : ℕ) (s : Serving limit law m n i j engine turn) where
     same_incomplete : (piece : Bytes) → incomplete_line (engine.incomplete ++ piece) ≡ incomplete_line (s.so_far.read ++ piece)
     same_incomplete piece = ap (λ incomplete. incomplete_line (incomplete ++ piece)) s.incomplete ∙ sym (incomplete_line-append s.so_far.read piece)
 
-    same_events : (piece : Bytes) → events (s.so_far.read ++ piece) ≡ events s.so_far.read ++ events_with engine piece
-    same_events piece = events-append s.so_far.read piece ∙ ap (λ incomplete. events s.so_far.read ++ events (incomplete ++ piece)) (sym s.incomplete)
+    same_events : (piece : Bytes) → events_with_limit limit (s.so_far.read ++ piece) ≡ events_with_limit limit s.so_far.read ++ events_with engine piece
+    same_events piece = events_with_limit-append limit s.so_far.read piece ∙ ap (λ z. events_with_limit limit s.so_far.read ++ events_with_limit limit (z ++ piece)) (sym s.incomplete)
+        ∙ ap (λ z. events_with_limit limit s.so_far.read ++ events_with_limit z (bytes_with engine piece)) (sym s.limited)
 
     pub Serving-next : (after : Snapshot S) (piece : Bytes) (engine' : EngineState) → Consumes j.remaining k.remaining piece → 0 < length piece → k.failures ≡ j.failures →
         AllAnswered law n (events_with engine piece) after → Leaves law engine piece n.state after.state engine' → engine'.tests ≡ engine.tests + length piece →
-        Serving law m after i k engine' (turn + 1)
-    Serving-next after piece engine' consumed some kept all leaves tests = record {
+        length piece ≤ 4096 → engine'.limit ≡ engine.limit → IfSome engine.limit (λ limit. engine'.held ≤ max engine.held (limit + length piece)) →
+        Serving limit law m after i k engine' (turn + 1)
+    Serving-next after piece engine' consumed some kept all leaves tests short same_limit bound = record {
       so_far = record {
         read = s.so_far.read ++ piece;
         consumed = Consumes-then i.remaining j.remaining k.remaining s.so_far.read piece s.so_far.consumed consumed;
-        answered = rw (same_events piece) (AllAnswered-then law m n after (events s.so_far.read) s.so_far.answered (events_with engine piece) all);
+        answered = rw (same_events piece) (AllAnswered-then law m n after (events_with_limit limit s.so_far.read) s.so_far.answered (events_with engine piece) all);
       };
       running = leaves.running;
       incomplete = leaves.incomplete ∙ same_incomplete piece;
@@ -89,12 +107,15 @@ module _ {S : Type 0} (law : Law S) (m : Snapshot S) (i : InputState) where
       many = omega (arith, s.many, length-append s.so_far.read piece);
       tested = omega (arith, s.tested, tests, length-append s.so_far.read piece);
       no_read_failed = kept ∙ s.no_read_failed;
+      limited = same_limit ∙ s.limited;
+      bounded = bounded_after limit engine.held engine'.held (length piece) short s.bounded
+          (subst (λ z. IfSome z (λ limit. engine'.held ≤ max engine.held (limit + length piece))) s.limited bound);
     }
 
     late : (after : Snapshot S) (piece : Bytes) (error : ServeError) → Consumes j.remaining k.remaining piece → length piece ≤ 4096 →
-        RunEnded law n (events_with engine piece) after error → EndedLate law m after i k error
+        RunEnded law n (events_with engine piece) after error → EndedLate limit law m after i k error
     late after piece error consumed short ended =
-        let all = RunEnded-then law m n after (events s.so_far.read) s.so_far.answered (events (s.so_far.read ++ piece)) (events_with engine piece) error (same_events piece) ended in
+        let all = RunEnded-then law m n after (events_with_limit limit s.so_far.read) s.so_far.answered (events_with_limit limit (s.so_far.read ++ piece)) (events_with engine piece) error (same_events piece) ended in
         record {
           read = s.so_far.read;
           piece = piece;
@@ -105,7 +126,7 @@ module _ {S : Type 0} (law : Law S) (m : Snapshot S) (i : InputState) where
         }
 
     pub Serving-ended : (after : Snapshot S) (piece : Bytes) (error : ServeError) → Consumes j.remaining k.remaining piece → length piece ≤ 4096 →
-        RunEnded law n (events_with engine piece) after error → ServeEnded law m after i k error
+        RunEnded law n (events_with engine piece) after error → ServeEndedWithLimit limit law m after i k error
     Serving-ended after piece (Read _) consumed short ended = absurd ended
     Serving-ended after piece (Write error) consumed short ended = late after piece (Write error) consumed short ended
     Serving-ended after piece WriteZero consumed short ended = late after piece WriteZero consumed short ended
@@ -116,7 +137,7 @@ module _ {S : Type 0} (law : Law S) (m : Snapshot S) (i : InputState) where
 
     pub Serving-all : (piece : Bytes) (count : ℕ) → count ≡ 0 →
         Consumes j.remaining k.remaining (take count piece) → IsAtEnd k.remaining →
-        k.failures ≡ j.failures → AnsweredAll law m n i k engine.left engine.tests
+        k.failures ≡ j.failures → AnsweredAllWithLimit limit law m n i k engine.left engine.tests
     Serving-all piece count zero given at_end kept =
         let known = Consumes-then i.remaining j.remaining k.remaining s.so_far.read in
         let nothing : Consumes j.remaining k.remaining [] = rw zero at given in
@@ -131,7 +152,7 @@ module _ {S : Type 0} (law : Law S) (m : Snapshot S) (i : InputState) where
         }
 
     pub Serving-read_failed : Keeps j.remaining k.remaining → k.failures ≡ j.failures + 1 →
-        ReadFailed law m n i k
+        ReadFailed limit law m n i k
     Serving-read_failed kept counted =
         let known = Consumes-kept i.remaining j.remaining k.remaining s.so_far.read in
         record {
@@ -145,20 +166,20 @@ module _ {S : Type 0} (law : Law S) (m : Snapshot S) (i : InputState) where
 
   -- what is so of a known input that is served whole
   module _ (n : Snapshot S) (k : InputState) (left tests : ℕ)
-      (all : AnsweredAll law m n i k left tests) where
+      (all : AnsweredAllWithLimit limit law m n i k left tests) where
     of_input : (P : Bytes → Type 0) → P all.read → IfSome i.remaining P
     of_input P = whole P i.remaining k.remaining all.read all.consumed all.at_end
 
     pub AnsweredAll-headline : IfSome i.remaining (λ input.
-        Appends m.output.written n.output.written (text_for law m.state input))
+        Appends m.output.written n.output.written (text_with_limit limit law m.state input))
     AnsweredAll-headline = of_input
-        (λ input. Appends m.output.written n.output.written (text_for law m.state input))
+        (λ input. Appends m.output.written n.output.written (text_with_limit limit law m.state input))
         all.answered.written
 
     pub AnsweredAll-state : IfSome i.remaining (λ input.
-        n.state ≡ last_state law m.state (events input))
+        n.state ≡ last_state law m.state (events_with_limit limit input))
     AnsweredAll-state =
-        of_input (λ input. n.state ≡ last_state law m.state (events input)) all.answered.state
+        of_input (λ input. n.state ≡ last_state law m.state (events_with_limit limit input)) all.answered.state
 
     pub AnsweredAll-tested : IfSome i.remaining (λ input. tests ≡ length input)
     AnsweredAll-tested = of_input (λ input. tests ≡ length input) all.tested
@@ -169,11 +190,34 @@ module _ {S : Type 0} (law : Law S) (m : Snapshot S) (i : InputState) where
         (λ input. left ≡ saturating_u64 (length (incomplete_line input)))
         all.left_reported
 
-  pub Serving-too_often : (n : Snapshot S) (j : InputState) (engine : EngineState) (turn : ℕ) → Serving law m n i j engine turn → 2 ^ 64 - 1 ≤ turn → ReadTooOften law m n i j
+  pub Serving-too_often : (n : Snapshot S) (j : InputState) (engine : EngineState) (turn : ℕ) → Serving limit law m n i j engine turn → 2 ^ 64 - 1 ≤ turn → ReadTooOften limit law m n i j
   Serving-too_often n j engine turn s many = record { answered = s.so_far; many = omega (arith, s.many) }
 
 -- the replies of a run over a known input are read back, where they are plain
-pub run_reads_back : {S : Type 0} (law : Law S) (s : S) (known : Option Bytes) →
-    IfSome known (λ input. AllByRecursion IsPlain (replies law s (events input)) → ReadsBack (text_for law s input) (replies law s (events input)))
-run_reads_back law s None = tt
-run_reads_back law s (Some input) = ReadsBack-encoded (replies law s (events input))
+pub run_reads_back : (limit : Option ℕ) {S : Type 0} (law : Law S) (s : S) (known : Option Bytes) →
+    IfSome known (λ input. AllByRecursion IsPlain (replies law s (events_with_limit limit input))
+    → ReadsBack (text_with_limit limit law s input) (replies law s (events_with_limit limit input)))
+run_reads_back limit law s None = tt
+run_reads_back limit law s (Some input) = ReadsBack-encoded (replies law s (events_with_limit limit input))
+
+-- the same of the answer of a service
+module _ (limit : Option ℕ) {S : Type 0} (law : Law S) (m n : Snapshot S) (i k : InputState) {E : Type 0} (result : Result Served E)
+    (ok : IfOk result (λ served. AnsweredAllWithLimit limit law m n i k served.left served.tests)) where
+  with_all : (P : Served → Type 0) → ((served : Served) → AnsweredAllWithLimit limit law m n i k served.left served.tests → P served) → IfOk result P
+  with_all P it = IfOk-weaker result (λ served. AnsweredAllWithLimit limit law m n i k served.left served.tests) P it ok
+
+  pub Served-headline : OnOk result (IfSome i.remaining (λ input. Appends m.output.written n.output.written (text_with_limit limit law m.state input)))
+  Served-headline = with_all _ (λ served all. AnsweredAll-headline limit law m i n k served.left served.tests all)
+
+  pub Served-state : OnOk result (IfSome i.remaining (λ input. n.state ≡ last_state law m.state (events_with_limit limit input)))
+  Served-state = with_all _ (λ served all. AnsweredAll-state limit law m i n k served.left served.tests all)
+
+  pub Served-tested : IfOk result (λ served. IfSome i.remaining (λ input. served.tests ≡ length input))
+  Served-tested = with_all _ (λ served all. AnsweredAll-tested limit law m i n k served.left served.tests all)
+
+  pub Served-left : IfOk result (λ served. IfSome i.remaining (λ input. served.left ≡ saturating_u64 (length (incomplete_line input))))
+  Served-left = with_all _ (λ served all. AnsweredAll-left limit law m i n k served.left served.tests all)
+
+  pub Served-read_back : OnOk result (IfSome i.remaining (λ input. AllByRecursion IsPlain (replies law m.state (events_with_limit limit input))
+      → ReadsBack (text_with_limit limit law m.state input) (replies law m.state (events_with_limit limit input))))
+  Served-read_back = with_all _ (λ served all. run_reads_back limit law m.state i.remaining)

@@ -1,9 +1,9 @@
 -- What a whole service comes to.
-use Rattle.std.specs.Prelude.{◌≡◌, ℕ, ◌-◌, ◌^◌, ◌<◌, ◌≤◌, ◌++◌, length, Option}
+use Rattle.std.specs.Prelude.{◌≡◌, ℕ, ◌-◌, ◌^◌, ◌<◌, ◌≤◌, ◌++◌, length, Option, None}
 use Rattle.std.specs.Io.KnownBytes.{Consumes, IsAtEnd}
 use Rattle.unftp_control_defs.specs.Bytes.{Bytes}
+use Rattle.unftp_control_defs.specs.LineLimit.{events_with_limit}
 use Rattle.unftp_control_defs.specs.Lines.{incomplete_line}
-use Rattle.unftp_control_defs.specs.Events.{events}
 use Rattle.unftp_control_defs.specs.Run.{Law}
 use Rattle.unftp_control_engine.specs.Writing.{Begins}
 use Rattle.unftp_control_engine.specs.Endings.{Snapshot, AllAnswered, RunEnded, done_of}
@@ -22,58 +22,63 @@ abbrev pub input_state_of : {R : Type 0} → (R → Option Bytes) → Input R �
 input_state_of remaining input =
     record { remaining = remaining input.reader; failures = input.failures }
 
--- all lines of what was read were answered
-pub record Answered {S : Type 0} (law : Law S) (before after : Snapshot S)
-    (input input' : InputState) : Type 0 where
-  pub read : Bytes
-  pub consumed : Consumes input.remaining input'.remaining read
-  pub answered : AllAnswered law before (events read) after
+-- What a service under a limit on the length of a line comes to.
+module _ (limit : Option ℕ) {S : Type 0} (law : Law S) (before after : Snapshot S)
+    (input input' : InputState) where
+  -- all lines of what was read were answered
+  pub record Answered : Type 0 where
+    pub read : Bytes
+    pub consumed : Consumes input.remaining input'.remaining read
+    pub answered : AllAnswered law before (events_with_limit limit read) after
 
--- .. which is the whole input, and so many bytes of it came after its last line feed; each byte was
--- scanned for one exactly once
-pub record AnsweredAll {S : Type 0} (law : Law S) (before after : Snapshot S)
-    (input input' : InputState) (left tests : ℕ) : Type 0 where
-  pub read : Bytes
-  pub consumed : Consumes input.remaining input'.remaining read
-  pub at_end : IsAtEnd input'.remaining
-  pub answered : AllAnswered law before (events read) after
-  pub left_reported : left ≡ saturating_u64 (length (incomplete_line read))
-  pub tested : tests ≡ length read
-  pub no_read_failed : input'.failures ≡ input.failures
+  -- .. which is the whole input, and so many bytes of it came after its last line feed; each byte
+  -- was scanned for one exactly once
+  pub record AnsweredAllWithLimit (left tests : ℕ) : Type 0 where
+    pub read : Bytes
+    pub consumed : Consumes input.remaining input'.remaining read
+    pub at_end : IsAtEnd input'.remaining
+    pub answered : AllAnswered law before (events_with_limit limit read) after
+    pub left_reported : left ≡ saturating_u64 (length (incomplete_line read))
+    pub tested : tests ≡ length read
+    pub no_read_failed : input'.failures ≡ input.failures
 
--- It ended at some line of what was read, and all lines of what was read before the last piece were
--- answered.
-pub record EndedLate {S : Type 0} (law : Law S) (before after : Snapshot S)
-    (input input' : InputState)
-    (error : ServeError) : Type 0 where
-  pub read : Bytes
-  pub piece : Bytes
-  pub consumed : Consumes input.remaining input'.remaining (read ++ piece)
-  pub short : length piece ≤ 4096
-  pub ended : RunEnded law before (events (read ++ piece)) after error
-  pub late : Begins (done_of law before (events (read ++ piece)) after error ended) (events read)
+  -- It ended at some line of what was read, and all lines of what was read before the last piece
+  -- were answered.
+  pub record EndedLate (error : ServeError) : Type 0 where
+    pub read : Bytes
+    pub piece : Bytes
+    pub consumed : Consumes input.remaining input'.remaining (read ++ piece)
+    pub short : length piece ≤ 4096
+    pub ended : RunEnded law before (events_with_limit limit (read ++ piece)) after error
+    pub late : Begins
+        (done_of law before (events_with_limit limit (read ++ piece)) after error ended)
+        (events_with_limit limit read)
 
-pub record ReadFailed {S : Type 0} (law : Law S) (before after : Snapshot S)
-    (input input' : InputState) : Type 0 where
-  pub answered : Answered law before after input input'
-  pub read_failed : input.failures < input'.failures
+  pub record ReadFailed : Type 0 where
+    pub answered : Answered
+    pub read_failed : input.failures < input'.failures
 
-pub record ReadTooOften {S : Type 0} (law : Law S) (before after : Snapshot S)
-    (input input' : InputState) : Type 0 where
-  pub answered : Answered law before after input input'
-  pub many : 2 ^ 64 - 1 ≤ length answered.read
+  pub record ReadTooOften : Type 0 where
+    pub answered : Answered
+    pub many : 2 ^ 64 - 1 ≤ length answered.read
 
--- which of them an error means
+  -- which of them an error means
+  abbrev pub ServeEndedWithLimit : ServeError → Type 0
+  ServeEndedWithLimit (Read _) = ReadFailed
+  ServeEndedWithLimit (Write error) = EndedLate (Write error)
+  ServeEndedWithLimit WriteZero = EndedLate WriteZero
+  ServeEndedWithLimit (Handler error) = EndedLate (Handler error)
+  ServeEndedWithLimit OutOfMemory = EndedLate OutOfMemory
+  ServeEndedWithLimit TooManyReads = ReadTooOften
+  ServeEndedWithLimit _ = ⊥
+
+-- the same without a limit
+abbrev pub AnsweredAll : {S : Type 0} → Law S → Snapshot S → Snapshot S → InputState → InputState
+    → ℕ → ℕ → Type 0
+AnsweredAll law before after input input' left tests =
+    AnsweredAllWithLimit None law before after input input' left tests
+
 abbrev pub ServeEnded : {S : Type 0} → Law S → Snapshot S → Snapshot S → InputState → InputState
     → ServeError → Type 0
-ServeEnded law before after input input' (Read _) = ReadFailed law before after input input'
-ServeEnded law before after input input' (Write error) =
-    EndedLate law before after input input' (Write error)
-ServeEnded law before after input input' WriteZero =
-    EndedLate law before after input input' WriteZero
-ServeEnded law before after input input' (Handler error) =
-    EndedLate law before after input input' (Handler error)
-ServeEnded law before after input input' OutOfMemory =
-    EndedLate law before after input input' OutOfMemory
-ServeEnded law before after input input' TooManyReads = ReadTooOften law before after input input'
-ServeEnded law before after input input' _ = ⊥
+ServeEnded law before after input input' error =
+    ServeEndedWithLimit None law before after input input' error

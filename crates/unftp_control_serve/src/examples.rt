@@ -1,5 +1,5 @@
 //! Snapshots worked out by hand: what the definitions of the clauses of `serve` say of them.
-ghost use Rattle.std.specs.Prelude.{◌≡◌, ◌+◌, ◌-◌, ◌^◌, ◌<◌, ◌≤◌, ℕ, [], ◌∷◌, ◌++◌, Some, length, codes};
+ghost use Rattle.std.specs.Prelude.{◌≡◌, ◌+◌, ◌-◌, ◌^◌, ◌<◌, ◌≤◌, ℕ, [], ◌∷◌, ◌++◌, None, Some, length, codes};
 ghost use Rattle.std.specs.Io.KnownBytes.{Consumes, IsAtEnd};
 ghost use Rattle.unftp_control_defs.specs.Events.{events};
 ghost use Rattle.unftp_control_error.specs.ErrorParts.{KindAndSource};
@@ -14,47 +14,47 @@ use unftp_control_engine::ServeError;
 pub fn errors_of_serve()
     ensures read { (before after : Snapshot ℕ) (input input_after : InputState) (error : _)
         → ServeEnded counting before after input input_after (ServeError.Read error)
-        → ReadFailed counting before after input input_after }
+        → ReadFailed None counting before after input input_after }
     ensures read_failed { (before after : Snapshot ℕ) (input input_after : InputState)
-        → ReadFailed counting before after input input_after
+        → ReadFailed None counting before after input input_after
         → input.failures < input_after.failures }
     ensures write { (before after : Snapshot ℕ) (input input_after : InputState) (error : _)
         → ServeEnded counting before after input input_after (ServeError.Write error)
-        → EndedLate counting before after input input_after (ServeError.Write error) }
+        → EndedLate None counting before after input input_after (ServeError.Write error) }
     ensures write_zero { (before after : Snapshot ℕ) (input input_after : InputState)
         → ServeEnded counting before after input input_after ServeError.WriteZero
-        → EndedLate counting before after input input_after ServeError.WriteZero }
+        → EndedLate None counting before after input input_after ServeError.WriteZero }
     ensures handler { (before after : Snapshot ℕ) (input input_after : InputState)
         (error : KindAndSource)
         → ServeEnded counting before after input input_after (ServeError.Handler error)
-        → EndedLate counting before after input input_after (ServeError.Handler error) }
+        → EndedLate None counting before after input input_after (ServeError.Handler error) }
     ensures memory { (before after : Snapshot ℕ) (input input_after : InputState)
         → ServeEnded counting before after input input_after ServeError.OutOfMemory
-        → EndedLate counting before after input input_after ServeError.OutOfMemory }
+        → EndedLate None counting before after input input_after ServeError.OutOfMemory }
     ensures many_reads { (before after : Snapshot ℕ) (input input_after : InputState)
         → ServeEnded counting before after input input_after ServeError.TooManyReads
-        → ReadTooOften counting before after input input_after }
+        → ReadTooOften None counting before after input input_after }
     ensures many { (before after : Snapshot ℕ) (input input_after : InputState)
-        (v : ReadTooOften counting before after input input_after)
+        (v : ReadTooOften None counting before after input input_after)
         → 2 ^ 64 - 1 ≤ length v.answered.read }
     ensures stopped { (before after : Snapshot ℕ) (input input_after : InputState)
         → ServeEnded counting before after input input_after ServeError.Stopped → ⊥ }
     // the lines that were read before the last piece are answered
     ensures late_write { (before after : Snapshot ℕ) (input input_after : InputState) (error : _)
-        (v : EndedLate counting before after input input_after (ServeError.Write error))
+        (v : EndedLate None counting before after input input_after (ServeError.Write error))
         → Begins v.ended.done (events v.read) }
     ensures late_write_zero { (before after : Snapshot ℕ) (input input_after : InputState)
-        (v : EndedLate counting before after input input_after ServeError.WriteZero)
+        (v : EndedLate None counting before after input input_after ServeError.WriteZero)
         → Begins v.ended.done (events v.read) }
     ensures late_handler { (before after : Snapshot ℕ) (input input_after : InputState)
         (error : KindAndSource)
-        (v : EndedLate counting before after input input_after (ServeError.Handler error))
+        (v : EndedLate None counting before after input input_after (ServeError.Handler error))
         → Begins v.ended.done (events v.read) }
     ensures late_memory { (before after : Snapshot ℕ) (input input_after : InputState)
-        (v : EndedLate counting before after input input_after ServeError.OutOfMemory)
+        (v : EndedLate None counting before after input input_after ServeError.OutOfMemory)
         → Begins v.ended.done (events v.read) }
     ensures short { (before after : Snapshot ℕ) (input input_after : InputState)
-        (v : EndedLate counting before after input input_after ServeError.WriteZero)
+        (v : EndedLate None counting before after input input_after ServeError.WriteZero)
         → Consumes input.remaining input_after.remaining (v.read ++ v.piece)
         × (length v.piece ≤ 4096) }
 {}

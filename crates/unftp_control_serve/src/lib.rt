@@ -7,5 +7,5 @@ mod input;
 mod service;
 
 pub use input::Input;
-pub use service::{Served, serve};
+pub use service::{Served, serve, serve_with_limit};
 pub use unftp_control_engine::{Count, Engine, Event, Handler, Output, ServeError};

@@ -1,15 +1,16 @@
 //! A whole connection, from the first read to the end of the input.
-ghost use Rattle.std.specs.Prelude.{◌≡◌, ◌≤◌, IfOk, IfErr, IfSome, OnOk, length};
+ghost use Rattle.std.specs.Prelude.{◌≡◌, ◌≤◌, ◌+◌, None, Some, IfOk, IfErr, IfSome, OnOk, length};
 ghost use Rattle.std.specs.Io.KnownBytes.{Appends};
 ghost use Rattle.unftp_control_defs.specs.Events.{events};
+ghost use Rattle.unftp_control_defs.specs.LineLimit.{events_with_limit, text_with_limit};
 ghost use Rattle.unftp_control_defs.specs.Lines.{incomplete_line};
 ghost use Rattle.unftp_control_defs.specs.Run.{last_state, replies, text_for};
 ghost use Rattle.unftp_control_defs.specs.FtpReply.{IsPlain};
 ghost use Rattle.unftp_control_defs.specs.ReplyReader.{ReadsBack};
 ghost use Rattle.std.specs.List.{AllByRecursion};
 ghost use Rattle.unftp_control_engine.specs.Endings.{snapshot_of};
-ghost use Rattle.unftp_control_engine.specs.Engine.{saturating_u64};
-ghost use Rattle.unftp_control_serve.specs.Service.{AnsweredAll, ServeEnded, input_state_of};
+ghost use Rattle.unftp_control_engine.specs.Engine.{fresh, saturating_u64};
+ghost use Rattle.unftp_control_serve.specs.Service.{AnsweredAll, AnsweredAllWithLimit, ServeEnded, ServeEndedWithLimit, input_state_of};
 
 use crate::input::Input;
 use std::alloc::Global;
@@ -24,6 +25,8 @@ pub struct Served {
     pub left: u64,
     /// How many bytes were scanned for a line feed. Only contracts see it.
     pub tests: Count,
+    /// The most bytes that were held in the buffer. Only contracts see it.
+    pub held: Count,
 }
 
 /// How many bytes are read at most at once.
@@ -38,6 +41,9 @@ const PIECE: usize = 4096;
 /// reply may be written; `Handler` and `OutOfMemory` are a failed handler or allocation, after
 /// which the replies to the lines before are written and flushed; `TooManyReads` comes after 2^64 -
 /// 1 reads. It is never `Stopped`.
+///
+/// A line may have any length, and all its bytes are kept until its line feed comes: for input that
+/// is not trusted, use `serve_with_limit`.
 pub fn serve<R: Read, W: Write, H: Handler>(
     alloc: Global,
     reader: &mut Input<R>,
@@ -76,7 +82,83 @@ pub fn serve<R: Read, W: Write, H: Handler>(
         (input_state_of R.remaining reader.old)
         (input_state_of R.remaining reader.new)) }
 {
-    let mut engine = Engine::new(alloc);
+    serve_lines(alloc, None, reader, writer, handler)
+}
+
+/// As `serve`, with a limit: a line of more than `limit` bytes, its line feed counted, is answered
+/// as one event, a refusal with `LineTooLong`, whatever it holds (RFC 959 names no limit). Its bytes
+/// are dropped once they are too many, so at most `limit` and 4,096 bytes of the input are held.
+///
+/// `left` counts the dropped bytes too. The errors are those of `serve`.
+pub fn serve_with_limit<R: Read, W: Write, H: Handler>(
+    alloc: Global,
+    limit: usize,
+    reader: &mut Input<R>,
+    writer: &mut Output<W>,
+    handler: &mut H,
+) -> Result<Served, ServeError>
+    requires { 1 ≤ limit }
+    // Whatever pieces the input comes in, at Ok exactly the replies to its lines are written,
+    ensures headline { OnOk result (IfSome (R.remaining reader.old.reader) (λ input.
+        Appends (W.contents writer.old.writer) (W.contents writer.new.writer)
+        (text_with_limit (Some limit) H.law (H.state handler.old) input))) }
+    // the handler is in the last state of its run over them, and each byte was scanned for a line
+    // feed exactly once.
+    ensures state { OnOk result (IfSome (R.remaining reader.old.reader) (λ input.
+        H.state handler.new ≡ last_state H.law (H.state handler.old) (events_with_limit (Some limit) input))) }
+    ensures tested { IfOk result (λ served.
+        IfSome (R.remaining reader.old.reader) (λ input. served.tests ≡ length input)) }
+    ensures left { IfOk result (λ served.
+        IfSome (R.remaining reader.old.reader) (λ input.
+        served.left ≡ saturating_u64 (length (incomplete_line input)))) }
+    // The buffer never holds more than the limit and one piece.
+    ensures bound { IfOk result (λ served. served.held ≤ limit + 4096) }
+    // What is written is read as what the replies show, and as nothing else, where each of them is
+    // plain.
+    ensures read_back { OnOk result (IfSome (R.remaining reader.old.reader) (λ input.
+        AllByRecursion IsPlain (replies H.law (H.state handler.old) (events_with_limit (Some limit) input))
+        → ReadsBack (text_with_limit (Some limit) H.law (H.state handler.old) input)
+        (replies H.law (H.state handler.old) (events_with_limit (Some limit) input)))) }
+    // The same of any reader, with what was flushed and what failed; and what is so at each error.
+    ensures ok { IfOk result (λ served. AnsweredAllWithLimit (Some limit) H.law
+        (snapshot_of H.state H.failures W.contents handler.old writer.old)
+        (snapshot_of H.state H.failures W.contents handler.new writer.new)
+        (input_state_of R.remaining reader.old)
+        (input_state_of R.remaining reader.new)
+        served.left served.tests) }
+    ensures err { IfErr result (ServeEndedWithLimit (Some limit) H.law
+        (snapshot_of H.state H.failures W.contents handler.old writer.old)
+        (snapshot_of H.state H.failures W.contents handler.new writer.new)
+        (input_state_of R.remaining reader.old)
+        (input_state_of R.remaining reader.new)) }
+{
+    serve_lines(alloc, Some(limit), reader, writer, handler)
+}
+
+/// Answers the lines that the reader gives. A line may have so many bytes, its line feed counted, if
+/// that is limited.
+fn serve_lines<R: Read, W: Write, H: Handler>(
+    alloc: Global,
+    limit: Option<usize>,
+    reader: &mut Input<R>,
+    writer: &mut Output<W>,
+    handler: &mut H,
+) -> Result<Served, ServeError>
+    requires { IfSome limit (λ limit. 1 ≤ limit) }
+    ensures ok { IfOk result (λ served. AnsweredAllWithLimit limit H.law
+        (snapshot_of H.state H.failures W.contents handler.old writer.old)
+        (snapshot_of H.state H.failures W.contents handler.new writer.new)
+        (input_state_of R.remaining reader.old)
+        (input_state_of R.remaining reader.new)
+        served.left served.tests) }
+    ensures err { IfErr result (ServeEndedWithLimit limit H.law
+        (snapshot_of H.state H.failures W.contents handler.old writer.old)
+        (snapshot_of H.state H.failures W.contents handler.new writer.new)
+        (input_state_of R.remaining reader.old)
+        (input_state_of R.remaining reader.new)) }
+    ensures bound { IfOk result (λ served. IfSome limit (λ limit. served.held ≤ limit + 4096)) }
+{
+    let mut engine = engine_for(alloc, limit);
     let mut piece = [0u8; PIECE];
     for _turn in 0..u64::MAX {
         let n = match reader.read(&mut piece) {
@@ -87,10 +169,22 @@ pub fn serve<R: Read, W: Write, H: Handler>(
             return Ok(Served {
                 left: engine.left(),
                 tests: engine.tests(),
+                held: engine.held(),
             });
         }
         let (read, _) = piece.split_at(n);
         engine.feed(read, handler, writer)?;
     }
     Err(ServeError::TooManyReads)
+}
+
+/// An engine for lines of so many bytes at most, or of any length.
+fn engine_for(alloc: Global, limit: Option<usize>) -> Engine
+    requires { IfSome limit (λ limit. 1 ≤ limit) }
+    ensures { result ≡ fresh limit }
+{
+    match limit {
+        Some(limit) => Engine::with_limit(alloc, limit),
+        None => Engine::new(alloc),
+    }
 }

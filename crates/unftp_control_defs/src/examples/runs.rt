@@ -1,9 +1,10 @@
 //! Events, the texts of errors, runs of a handler, inputs in pieces, and the steps of a codec.
 ghost use Rattle.std.specs.Prelude.{◌≡◌, ◌+◌, ℕ, [], ◌∷◌, ◌++◌, Some, None, codes};
-ghost use Rattle.unftp_control_defs.specs.Pieces.{events_in_turn};
-ghost use Rattle.unftp_control_defs.specs.Events.{Command, Refused, IoError, ParseError, InternalServerError, AuthenticationError, InternalMsgError, Utf8Error, UnknownCommand, InvalidCommand, ControlChannelTimeout, IllegalState, OutOfMemory, NoSource, Parse, events, refusal_fault, out_of_memory};
+ghost use Rattle.unftp_control_defs.specs.Events.{Command, Refused, IoError, ParseError, InternalServerError, AuthenticationError, InternalMsgError, Utf8Error, UnknownCommand, InvalidCommand, ControlChannelTimeout, IllegalState, OutOfMemory, LineTooLong, NoSource, Parse, events, refusal_fault, out_of_memory};
 ghost use Rattle.unftp_control_defs.specs.FtpCommand.{Noop, Pwd, InvalidCommand as NoCommand, InvalidUtf8, InvalidEol};
 ghost use Rattle.unftp_control_defs.specs.FtpReply.{CodeAndMsg};
+ghost use Rattle.unftp_control_defs.specs.LineLimit.{line_too_long, event_with_limit, events_with_limit};
+ghost use Rattle.unftp_control_defs.specs.Pieces.{events_in_turn, events_in_turn_with_limit};
 ghost use Rattle.unftp_control_defs.specs.Run.{Law, replies, last_state, text_for};
 ghost use Rattle.unftp_control_defs.specs.Steps.{AreSteps, last_place};
 ghost use Rattle.unftp_control_defs.specs.Texts.{error_text, kind_text, parse_error_text, reading_text};
@@ -26,6 +27,21 @@ pub fn lines_are_events()
     ensures some { events (codes "PWD\r\nNOOP x\n" ++ 255 ∷ codes "\nNOOP\r\n")
         ≡ Command Pwd ∷ Refused (refusal_fault NoCommand) ∷ Refused (refusal_fault InvalidUtf8)
         ∷ Command Noop ∷ [] }
+{}
+
+/// A line with more bytes than the limit, its line feed counted, is refused alone, whatever it
+/// holds.
+pub fn long_lines_are_refused()
+    ensures fault { line_too_long ≡ record { kind = LineTooLong; source = NoSource } }
+    ensures at_the_limit { event_with_limit (Some 6) (codes "NOOP\r\n") ≡ Command Noop }
+    ensures over_the_limit { event_with_limit (Some 5) (codes "NOOP\r\n")
+        ≡ Refused line_too_long }
+    ensures no_limit { event_with_limit None (codes "NOOP\r\n") ≡ Command Noop }
+    ensures alone { events_with_limit (Some 6)
+        (codes "NOOP\r\n" ++ 255 ∷ codes "UVWXYZ\nPWD\r\nUVWXYZ")
+        ≡ Command Noop ∷ Refused line_too_long ∷ Command Pwd ∷ [] }
+    ensures in_pieces { events_in_turn_with_limit (Some 4) [] (codes "NO" ∷ codes "OP\nPWD" ∷ [])
+        ≡ Refused line_too_long ∷ [] }
 {}
 
 /// The same events, however the input is split.
@@ -51,6 +67,7 @@ pub fn errors_have_texts()
         ≡ codes "Encountered read timeout on the control channel" }
     ensures state { kind_text IllegalState ≡ codes "Control channel in illegal state" }
     ensures memory { kind_text OutOfMemory ≡ codes "Out of memory" }
+    ensures too_long { kind_text LineTooLong ≡ codes "Line too long" }
     ensures parser { parse_error_text (Some NoCommand) ≡ codes "parse error: Invalid command" }
     ensures parser_utf8 { reading_text (Some InvalidUtf8)
         ≡ codes "Non-UTF8 character while parsing" }

@@ -14,6 +14,7 @@ returns c = record {
   timeout = refl;
   state = refl;
   memory = refl;
+  too_long = refl;
   parser = refl;
   parser_utf8 = refl;
   parser_line_ending = refl;

@@ -2,11 +2,11 @@ use Rattle.std.proofs.Common.{◌≡◌, length}
 use Rattle.unftp_control_engine.specs.Endings.{snapshot_of}
 use Rattle.unftp_control_serve.specs.Service.{input_state_of}
 use Rattle.unftp_control_serve.proofs.ServiceLemmas.{Serving}
-use Rattle.unftp_control_serve.proofs.service.serve.Given as goal
+use Rattle.unftp_control_serve.proofs.service.serve_lines.Given as goal
 
 abbrev pub invariant-loop-turn : goal.invariant-loop-turn
 invariant-loop-turn g l = record {
-  serving : Serving g.H.Handler.law
+  serving : Serving l.fn.limit g.H.Handler.law
       (snapshot_of g.H.Handler.state g.H.Handler.failures g.W.Write.contents l.fn.handler l.fn.writer)
       (snapshot_of g.H.Handler.state g.H.Handler.failures g.W.Write.contents l.handler l.writer)
       (input_state_of g.R.Read.remaining l.fn.reader)

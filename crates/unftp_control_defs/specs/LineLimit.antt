@@ -1,0 +1,29 @@
+-- A limit on the length of a line, in bytes, its LF counted. RFC 959 names none: a server sets it, to
+-- bound what it keeps of a line that doesn't end.
+use Rattle.std.specs.Prelude.{ℕ, Bool, false, nat_lt, if◌then◌else◌, List, map, length, Option, None, Some}
+use Rattle.unftp_control_defs.specs.Bytes.{Bytes}
+use Rattle.unftp_control_defs.specs.Lines.{lines_of}
+use Rattle.unftp_control_defs.specs.Outcome.{outcome}
+use Rattle.unftp_control_defs.specs.Events.{Fault, LineTooLong, NoSource, FtpEvent, Refused, event_of}
+use Rattle.unftp_control_defs.specs.Run.{Law, text_of}
+
+-- so many bytes are more than a line may have; without a limit, never
+abbrev pub exceeds : Option ℕ → ℕ → Bool
+exceeds None n = false
+exceeds (Some limit) n = nat_lt limit n
+
+abbrev pub line_too_long : Fault
+line_too_long = record { kind = LineTooLong; source = NoSource }
+
+-- the event of a line: that of one that is too long is the same, whatever it holds
+abbrev pub event_with_limit : Option ℕ → Bytes → FtpEvent
+event_with_limit limit line =
+    if exceeds limit (length line) then Refused line_too_long else event_of (outcome line)
+
+-- one event for each line of the input, in order; without a limit, they are `events`
+abbrev pub events_with_limit : Option ℕ → Bytes → List FtpEvent
+events_with_limit limit input = map (event_with_limit limit) (lines_of input)
+
+-- what is written for an input; without a limit, it is `text_for`
+abbrev pub text_with_limit : {S : Type 0} → Option ℕ → Law S → S → Bytes → Bytes
+text_with_limit limit law s input = text_of law s (events_with_limit limit input)

@@ -1,0 +1,39 @@
+use Rattle.std.proofs.Common.{Some}
+use Rattle.unftp_control_engine.specs.Endings.{Snapshot, snapshot_of}
+use Rattle.unftp_control_serve.specs.Service.{InputState, input_state_of}
+use Rattle.unftp_control_serve.proofs.ServiceLemmas.{Served-headline, Served-state, Served-tested, Served-left, Served-read_back}
+use Rattle.unftp_control_serve.proofs.service.serve_with_limit.Given
+use Rattle.unftp_control_serve.proofs.service.serve_with_limit.Goals as goal
+
+module _ (g : Given.Over) (c : goal.After-serve_lines g) where
+  abbrev before : Snapshot g.H.Handler.State
+  before = snapshot_of g.H.Handler.state g.H.Handler.failures g.W.Write.contents c.args.handler.now c.args.writer.now
+
+  abbrev after : Snapshot g.H.Handler.State
+  after = snapshot_of g.H.Handler.state g.H.Handler.failures g.W.Write.contents c.serve_lines.new.handler c.serve_lines.new.writer
+
+  abbrev input : InputState
+  input = input_state_of g.R.Read.remaining c.args.reader.now
+
+  abbrev input' : InputState
+  input' = input_state_of g.R.Read.remaining c.serve_lines.new.reader
+
+pub returns-clause-headline : goal.returns-clause-headline
+returns-clause-headline g c =
+    Served-headline (Some c.args.limit) g.H.Handler.law (before g c) (after g c) (input g c) (input' g c) c.serve_lines.result c.serve_lines.ensures.ok
+
+pub returns-clause-state : goal.returns-clause-state
+returns-clause-state g c =
+    Served-state (Some c.args.limit) g.H.Handler.law (before g c) (after g c) (input g c) (input' g c) c.serve_lines.result c.serve_lines.ensures.ok
+
+pub returns-clause-tested : goal.returns-clause-tested
+returns-clause-tested g c =
+    Served-tested (Some c.args.limit) g.H.Handler.law (before g c) (after g c) (input g c) (input' g c) c.serve_lines.result c.serve_lines.ensures.ok
+
+pub returns-clause-left : goal.returns-clause-left
+returns-clause-left g c =
+    Served-left (Some c.args.limit) g.H.Handler.law (before g c) (after g c) (input g c) (input' g c) c.serve_lines.result c.serve_lines.ensures.ok
+
+pub returns-clause-read_back : goal.returns-clause-read_back
+returns-clause-read_back g c =
+    Served-read_back (Some c.args.limit) g.H.Handler.law (before g c) (after g c) (input g c) (input' g c) c.serve_lines.result c.serve_lines.ensures.ok
