@@ -1,4 +1,6 @@
 //! What is measured.
+ghost use Rattle.std.specs.Prelude.{◌≡◌};
+
 use crate::served::{Discarding, Okay};
 use std::alloc::Global;
 use std::fmt::{Display, Formatter, Write};
@@ -40,6 +42,9 @@ const LINES: usize = 1000;
 /// How often the session is repeated for so many lines.
 const REPEATS: usize = LINES / SESSION.len();
 
+/// The most bytes of a line, where that is limited.
+const LIMIT: usize = 4096;
+
 /// The lines of a reply to FEAT.
 pub const FEATURES: [&str; 13] = [
     "Extensions supported:",
@@ -69,6 +74,8 @@ pub enum Measure {
     Decode,
     /// Of so many lines.
     DecodeSlice(usize),
+    /// Of so many lines, with a limit.
+    DecodeLimited(usize),
     /// Of so many bytes.
     Feed(usize),
     Parse,
@@ -85,6 +92,9 @@ impl Display for Measure {
         f.write_str(match self {
             Measure::DecodeSlice(lines) => {
                 return write!(f, "a line of {lines} in one slice, decoded");
+            }
+            Measure::DecodeLimited(lines) => {
+                return write!(f, "a line of {lines} in one slice, decoded with a limit");
             }
             Measure::Feed(bytes) => {
                 return write!(f, "a line of {bytes} bytes in one piece, fed and answered");
@@ -103,9 +113,10 @@ impl Display for Measure {
 
 impl Measure {
     /// All of them.
-    pub const ALL: [Measure; 14] = [
+    pub const ALL: [Measure; 15] = [
         Measure::Decode,
         Measure::DecodeSlice(1_000),
+        Measure::DecodeLimited(1_000),
         Measure::DecodeSlice(10_000),
         Measure::DecodeSlice(100_000),
         Measure::Feed(4 << 10),
@@ -124,7 +135,12 @@ impl Measure {
     pub fn nanoseconds(self, rt: &HostRuntime) -> io::Result<u128> {
         match self {
             Measure::Decode => decode_session(rt),
-            Measure::DecodeSlice(lines) => decode_slice(rt, lines / SESSION.len()),
+            Measure::DecodeSlice(lines) => {
+                decode_slice(rt, lines / SESSION.len(), FtpCodec::new())
+            }
+            Measure::DecodeLimited(lines) => {
+                decode_slice(rt, lines / SESSION.len(), FtpCodec::with_limit(LIMIT))
+            }
             Measure::Feed(bytes) => feed_piece(rt, bytes),
             Measure::Parse => parse_session(rt),
             Measure::LongParameter => parse_long_lines(rt),
@@ -176,11 +192,12 @@ fn decode_session(rt: &HostRuntime) -> io::Result<u128> {
     a_line(rt, start, LINES)
 }
 
-fn decode_slice(rt: &HostRuntime, repeats: usize) -> io::Result<u128> {
+fn decode_slice(rt: &HostRuntime, repeats: usize, mut codec: FtpCodec) -> io::Result<u128>
+    requires { codec.place ≡ 0 }
+{
     let lines = repeats.saturating_mul(SESSION.len());
     let bytes = sessions(rt.alloc(), repeats)?;
     let mut rest = bytes.as_slice();
-    let mut codec = FtpCodec::new();
     let start = Instant::now(rt)?;
     for _ in 0..lines {
         let (taken, answer) = codec.decode_slice(rt.alloc(), rest);

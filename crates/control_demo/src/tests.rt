@@ -3,6 +3,8 @@ mod counted;
 mod engine;
 mod failed_allocations;
 mod handlers;
+mod limits;
+mod resident;
 mod streams;
 
 use crate::run;

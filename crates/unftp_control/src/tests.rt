@@ -6,6 +6,7 @@ mod counted;
 mod errors;
 mod failed_allocations;
 mod large;
+mod limits;
 mod lines;
 mod reading;
 mod replies;
@@ -21,12 +22,13 @@ use std::process::Abort;
 
 /// The kinds of the error and of its source.
 fn refusal_text(rt: &impl Abort, alloc: Global, error: &ControlChanError) -> String {
+    let kind = error.kind();
     let text = match error.source() {
         Source::Parse(source) => {
-            let (kind, source) = (error.kind(), source.kind());
+            let source = source.kind();
             format!(in alloc; "{kind:?} of {source:?}")
         }
-        source => format!(in alloc; "{source:?}"),
+        source => format!(in alloc; "{kind:?} of {source:?}"),
     };
     text.expect(rt, "memory")
 }

@@ -97,6 +97,7 @@ mod tests {
     use std::mem::size_of;
 
     const _: () = prove!(size_of::<Count>() == 0);
+
     const _: () = prove!(size_of::<Trace>() == 0);
 
     #[test]
@@ -110,6 +111,7 @@ mod tests {
         assert_eq!(rt; size_of::<Count>(), 0);
         drop(again);
     }
+
     #[test]
     fn keeps_bytes_without_a_byte(rt: HostRuntime) {
         let mut trace = Trace::new();

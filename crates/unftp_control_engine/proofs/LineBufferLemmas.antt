@@ -20,6 +20,7 @@ use Rattle.unftp_control_codecs.specs.LineFeed.{is_line_feed, line_feed_from}
 use Rattle.unftp_control_codecs.specs.Decoding.{Decoded, Decodes, FindsNone, SkipsAll, CutsLine, KeepsLine, IfTooLong, AnswersNone, AnswersLine, IsOutOfMemory, returned_event}
 use Rattle.unftp_control_codecs.proofs.LineFeedLemmas.{NoLineFeed, line_feed_at, line_feed_nowhere}
 use Rattle.unftp_control_engine.specs.declared.event.Event.{Event}
+use Rattle.unftp_control_engine.specs.Engine.{kept_length}
 use Rattle.unftp_control_engine.specs.EventMeaning.{event_meant}
 use Rattle.unftp_control_engine.specs.LineBuffer.{IsWithin, IsDropped, IsLineBuffer, dropped_after, Pending, pending_of, HasNoLine, TakesLine, TakesNext, ReturnsEvent}
 
@@ -237,6 +238,12 @@ module _ (old new : Codec) (dropped before : Bytes) (taken : ℕ) (answer : Deco
     none_short true long skips = rw skips.dropped (room_for_none old.limit limited)
     none_short false short waits = rw waits.kept (within_limit old.limit (length before) (unskipped old.skipping (exceeds old.limit (length before + 1)) short).1)
 
+    none_kept : (too_long : Bool) → is_too_long old (length before + 1) ≡ too_long →
+        IfTooLong too_long (SkipsAll old new before after) (FindsNone old new before after) → length after ≡ kept_length old.limit (dropped ++ before)
+    none_kept true long skips = rw (skips.dropped, still_too_long old.skipping old.limit dropped before long lost.too_long) refl
+    none_kept false short waits =
+        rw (waits.kept, wait_unskipped short, (unskipped old.skipping (exceeds old.limit (length before + 1)) short).1) refl
+
   within-after : IsWithin new after
   within-after = by_end came
     where
@@ -265,6 +272,7 @@ module _ (old new : Codec) (dropped before : Bytes) (taken : ℕ) (answer : Deco
         unended = Lacks-append LF dropped before lost.unended none.unended;
         same = none_same none (is_too_long old (length before + 1)) refl none.leaves;
         all_scanned = none_scanned none (is_too_long old (length before + 1)) none.leaves;
+        kept = none_kept none (is_too_long old (length before + 1)) refl none.leaves;
         short = none_short none (is_too_long old (length before + 1)) refl none.leaves;
       }
       by_result (Ok None) tells (inr (inl first)) = absurd (none-some _ (sym tells.0 ∙ first.returned))

@@ -1,9 +1,9 @@
 -- What contracts see of an engine.
-use Rattle.std.specs.Prelude.{◌≡◌, ℕ, ◌-◌, ◌^◌, Bool, false, List, [], ◌++◌, length, min, Option}
+use Rattle.std.specs.Prelude.{◌≡◌, ℕ, ◌+◌, ◌-◌, ◌^◌, Bool, false, if◌then◌else◌, List, [], ◌++◌, length, min, Option}
 use Rattle.unftp_control_defs.specs.Bytes.{Bytes}
 use Rattle.unftp_control_defs.specs.Lines.{incomplete_line}
 use Rattle.unftp_control_defs.specs.Events.{FtpEvent}
-use Rattle.unftp_control_defs.specs.LineLimit.{events_with_limit}
+use Rattle.unftp_control_defs.specs.LineLimit.{exceeds, events_with_limit}
 use Rattle.unftp_control_defs.specs.Run.{Law, last_state}
 
 pub record EngineState : Type 0 where
@@ -39,6 +39,11 @@ saturating_u64 n = min n (2 ^ 64 - 1)
 -- it goes on with what it is fed
 abbrev pub IsRunning : EngineState → Type 0
 IsRunning engine = engine.failed ≡ false
+
+-- how many bytes of an incomplete line are kept: none of one that is too long already
+abbrev pub kept_length : Option ℕ → Bytes → ℕ
+kept_length limit incomplete =
+    if exceeds limit (length incomplete + 1) then 0 else length incomplete
 
 -- the pending bytes and a piece after them, and their events
 abbrev pub bytes_with : EngineState → Bytes → Bytes

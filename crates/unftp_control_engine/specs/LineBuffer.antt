@@ -7,6 +7,7 @@ use Rattle.unftp_control_defs.specs.Lines.{IsLine}
 use Rattle.unftp_control_codecs.specs.Codec.{Codec}
 use Rattle.unftp_control_codecs.specs.Decoding.{Decoded, IsOutOfMemory, IfTooLong, returned_event}
 use Rattle.unftp_control_engine.specs.declared.event.Event.{Event}
+use Rattle.unftp_control_engine.specs.Engine.{kept_length}
 use Rattle.unftp_control_engine.specs.EventMeaning.{event_meant}
 
 -- there is no line feed before the codec's scan offset, which is within the bytes
@@ -84,11 +85,12 @@ settled pending = record {
   held = pending.held;
 }
 
--- There is no line, and all bytes are scanned; fewer are kept than a line may have.
+-- There is no line, and all bytes are scanned; those that are kept are fewer than a line may have.
 pub record HasNoLine (before after : Pending) : Type 0 where
   pub unended : Lacks LF before.bytes
   pub same : after.bytes ≡ before.bytes
   pub all_scanned : after.unscanned ≡ 0
+  pub kept : after.kept ≡ kept_length before.limit before.bytes
   pub short : IfSome before.limit (λ limit. after.kept < limit)
 
 -- The first line is taken away, and this is its event.

@@ -7,7 +7,7 @@ ghost use Rattle.unftp_control_defs.specs.Lines.{incomplete_line};
 ghost use Rattle.unftp_control_defs.specs.Run.{text_of};
 ghost use Rattle.unftp_control_reply.specs.ReplyMeaning.{reply_of};
 ghost use Rattle.unftp_control_engine.specs.Endings.{RunOutcome, WriteFailed, HandlerFailed, RanOutOfMemory, OnWrite, OnHandler, OnMemory, ReadsNothing, snapshot_of};
-ghost use Rattle.unftp_control_engine.specs.Engine.{IsRunning, Leaves, events_with, fresh};
+ghost use Rattle.unftp_control_engine.specs.Engine.{IsRunning, Leaves, events_with, fresh, kept_length};
 ghost use Rattle.unftp_control_engine.specs.EventMeaning.{event_meant};
 ghost use Rattle.unftp_control_engine.specs.LineBuffer.{no_lines};
 ghost use Rattle.unftp_control_engine.specs.Writing.{Flushed};
@@ -72,6 +72,8 @@ fn answer_lines<H: Handler, W: Write>(
     ensures incomplete { OnOk result
         (line_buffer.new.bytes ≡ incomplete_line line_buffer.old.bytes) }
     ensures unscanned { OnOk result (line_buffer.new.unscanned ≡ 0) }
+    ensures kept { OnOk result
+        (line_buffer.new.kept ≡ kept_length line_buffer.old.limit line_buffer.new.bytes) }
     ensures room { OnOk result
         (IfSome line_buffer.old.limit (λ limit. line_buffer.new.kept < limit)) }
     ensures limit { line_buffer.new.limit ≡ line_buffer.old.limit }
@@ -106,6 +108,8 @@ fn answer_piece<H: Handler, W: Write>(
     ensures incomplete { OnOk result
         (line_buffer.new.bytes ≡ incomplete_line (line_buffer.old.bytes ++ piece.now)) }
     ensures unscanned { OnOk result (line_buffer.new.unscanned ≡ 0) }
+    ensures kept { OnOk result
+        (line_buffer.new.buffered ≡ kept_length line_buffer.old.limit line_buffer.new.bytes) }
     ensures room { OnOk result
         (IfSome line_buffer.old.limit (λ limit. line_buffer.new.buffered < limit)) }
     ensures limit { line_buffer.new.limit ≡ line_buffer.old.limit }
@@ -136,7 +140,7 @@ pub struct Engine {
 
 impl Model for Engine {
     ghost use Rattle.std.specs.Prelude.{◌≡◌, ◌<◌, false, length, IfSome};
-    ghost use Rattle.unftp_control_engine.specs.Engine.{EngineState, saturating_u64};
+    ghost use Rattle.unftp_control_engine.specs.Engine.{EngineState, kept_length, saturating_u64};
 
     ghost Value = { EngineState };
 
@@ -152,6 +156,8 @@ impl Model for Engine {
 
     ghost invariant = { λ engine. engine.failed ≡ false → (engine.line_buffer.unscanned ≡ 0)
         × (engine.left ≡ saturating_u64 (length engine.line_buffer.bytes))
+        × (engine.line_buffer.buffered
+        ≡ kept_length engine.line_buffer.limit engine.line_buffer.bytes)
         × IfSome engine.line_buffer.limit (λ limit. engine.line_buffer.buffered < limit) };
 }
 
@@ -272,6 +278,9 @@ impl Engine {
         ensures bound { IfSome self.old.limit (λ limit.
             self.new.held ≤ max self.old.held (limit + length piece.now)) }
         ensures room { OnOk result (IfSome self.old.limit (λ limit. self.new.buffered < limit)) }
+        // At Ok it holds the incomplete line alone, or nothing of one that is too long.
+        ensures buffered { OnOk result
+            (self.new.buffered ≡ kept_length self.new.limit self.new.incomplete) }
         ensures held { OnOk result
             (self.new.held ≡ max self.old.held (self.old.buffered + length piece.now)) }
         ensures limit { self.new.limit ≡ self.old.limit }

@@ -8,7 +8,7 @@ ghost use Rattle.unftp_control_defs.specs.LineLimit.{line_too_long};
 ghost use Rattle.unftp_control_error.specs.ErrorMeaning.{fault_of};
 ghost use Rattle.unftp_control_error.specs.ErrorParts.{KindAndSource};
 ghost use Rattle.unftp_control_engine.specs.Endings.{Snapshot, AllAnswered, WriteFailed, HandlerFailed, RanOutOfMemory, RunEnded, OnWrite, OnHandler, OnMemory, ReadsNothing};
-ghost use Rattle.unftp_control_engine.specs.Engine.{EngineState, Leaves, events_with, saturating_u64};
+ghost use Rattle.unftp_control_engine.specs.Engine.{EngineState, Leaves, events_with, kept_length, saturating_u64};
 ghost use Rattle.unftp_control_engine.specs.Examples.{counting, noop, snapshot, waiting};
 ghost use Rattle.unftp_control_engine.specs.Writing.{Begins, Flushed};
 
@@ -88,6 +88,8 @@ pub fn an_engine_takes_a_line()
         → (s ≡ 4) × (after.failed ≡ false) × (after.incomplete ≡ codes "P") × (after.left ≡ 1) }
     ensures too_long { events_with (waiting (Some 5)) (codes "OP\r\nP")
         ≡ Refused line_too_long ∷ [] }
+    ensures kept { (kept_length None (codes "NOOP") ≡ 4) × (kept_length (Some 5) (codes "NOOP") ≡ 4)
+        × (kept_length (Some 4) (codes "NOOP") ≡ 0) }
     ensures saturating_u64 { (saturating_u64 5 ≡ 5) × (saturating_u64 (2 ^ 64) ≡ 2 ^ 64 - 1) }
 {}
 

@@ -1,5 +1,6 @@
 -- What a whole service comes to.
-use Rattle.std.specs.Prelude.{◌≡◌, ℕ, ◌-◌, ◌^◌, ◌<◌, ◌≤◌, ◌++◌, length, Option, None}
+use Rattle.std.specs.Prelude.{◌≡◌, ℕ, ◌+◌, ◌-◌, ◌^◌, ◌<◌, ◌≤◌, max, List, [], ◌∷◌, ◌++◌, length, Option, None}
+use Rattle.std.specs.List.{AllByRecursion, concat}
 use Rattle.std.specs.Io.KnownBytes.{Consumes, IsAtEnd}
 use Rattle.unftp_control_defs.specs.Bytes.{Bytes}
 use Rattle.unftp_control_defs.specs.LineLimit.{events_with_limit}
@@ -7,7 +8,7 @@ use Rattle.unftp_control_defs.specs.Lines.{incomplete_line}
 use Rattle.unftp_control_defs.specs.Run.{Law}
 use Rattle.unftp_control_engine.specs.Writing.{Begins}
 use Rattle.unftp_control_engine.specs.Endings.{Snapshot, AllAnswered, RunEnded, done_of}
-use Rattle.unftp_control_engine.specs.Engine.{saturating_u64}
+use Rattle.unftp_control_engine.specs.Engine.{kept_length, saturating_u64}
 use Rattle.unftp_control_serve.specs.declared.input.Input.{Input}
 use Rattle.unftp_control_engine.specs.declared.error.ServeError.{ServeError}
 use Rattle.unftp_control_engine.specs.declared.error.ServeError.TheVariants.{Read, Write, WriteZero, Handler, OutOfMemory, TooManyReads}
@@ -21,6 +22,21 @@ pub record InputState : Type 0 where
 abbrev pub input_state_of : {R : Type 0} → (R → Option Bytes) → Input R → InputState
 input_state_of remaining input =
     record { remaining = remaining input.reader; failures = input.failures }
+
+-- the most bytes that are held at once of an input that comes in these pieces: what is kept of the
+-- incomplete line, and the piece after it
+abbrev pub most_held : Option ℕ → Bytes → List Bytes → ℕ
+most_held limit incomplete [] = 0
+most_held limit incomplete (piece ∷ pieces) = max
+    (kept_length limit incomplete + length piece)
+    (most_held limit (incomplete_line (incomplete ++ piece)) pieces)
+
+-- the input came in some pieces of at most 4,096 bytes, and so many bytes were held at once
+pub record HeldInPieces (limit : Option ℕ) (input : Bytes) (held : ℕ) : Type 0 where
+  pub pieces : List Bytes
+  pub whole : input ≡ concat pieces
+  pub short : AllByRecursion (λ piece. length piece ≤ 4096) pieces
+  pub most : held ≡ most_held limit [] pieces
 
 -- What a service under a limit on the length of a line comes to.
 module _ (limit : Option ℕ) {S : Type 0} (law : Law S) (before after : Snapshot S)
@@ -71,6 +87,11 @@ module _ (limit : Option ℕ) {S : Type 0} (law : Law S) (before after : Snapsho
   ServeEndedWithLimit OutOfMemory = EndedLate OutOfMemory
   ServeEndedWithLimit TooManyReads = ReadTooOften
   ServeEndedWithLimit _ = ⊥
+
+  -- .. and so many bytes of it were held at most
+  pub record ServedWhole (left tests held : ℕ) : Type 0 where
+    pub all : AnsweredAllWithLimit left tests
+    pub held_of : HeldInPieces limit all.read held
 
 -- the same without a limit
 abbrev pub AnsweredAll : {S : Type 0} → Law S → Snapshot S → Snapshot S → InputState → InputState

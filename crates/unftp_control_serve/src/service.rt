@@ -10,7 +10,7 @@ ghost use Rattle.unftp_control_defs.specs.ReplyReader.{ReadsBack};
 ghost use Rattle.std.specs.List.{AllByRecursion};
 ghost use Rattle.unftp_control_engine.specs.Endings.{snapshot_of};
 ghost use Rattle.unftp_control_engine.specs.Engine.{fresh, saturating_u64};
-ghost use Rattle.unftp_control_serve.specs.Service.{AnsweredAll, AnsweredAllWithLimit, ServeEnded, ServeEndedWithLimit, input_state_of};
+ghost use Rattle.unftp_control_serve.specs.Service.{AnsweredAll, AnsweredAllWithLimit, HeldInPieces, ServeEnded, ServeEndedWithLimit, ServedWhole, input_state_of};
 
 use crate::input::Input;
 use std::alloc::Global;
@@ -63,6 +63,9 @@ pub fn serve<R: Read, W: Write, H: Handler>(
     ensures left { IfOk result (λ served.
         IfSome (R.remaining reader.old.reader) (λ input.
         served.left ≡ saturating_u64 (length (incomplete_line input)))) }
+    // The most bytes that were held at once are as the pieces make it.
+    ensures held { IfOk result (λ served.
+        IfSome (R.remaining reader.old.reader) (λ input. HeldInPieces None input served.held)) }
     // What is written is read as what the replies show, and as nothing else, where each of them is
     // plain.
     ensures read_back { OnOk result (IfSome (R.remaining reader.old.reader) (λ input.
@@ -113,6 +116,9 @@ pub fn serve_with_limit<R: Read, W: Write, H: Handler>(
         served.left ≡ saturating_u64 (length (incomplete_line input)))) }
     // The buffer never holds more than the limit and one piece.
     ensures bound { IfOk result (λ served. served.held ≤ limit + 4096) }
+    // The most bytes that were held at once are as the pieces make it.
+    ensures held { IfOk result (λ served.
+        IfSome (R.remaining reader.old.reader) (λ input. HeldInPieces (Some limit) input served.held)) }
     // What is written is read as what the replies show, and as nothing else, where each of them is
     // plain.
     ensures read_back { OnOk result (IfSome (R.remaining reader.old.reader) (λ input.
@@ -145,18 +151,17 @@ fn serve_lines<R: Read, W: Write, H: Handler>(
     handler: &mut H,
 ) -> Result<Served, ServeError>
     requires { IfSome limit (λ limit. 1 ≤ limit) }
-    ensures ok { IfOk result (λ served. AnsweredAllWithLimit limit H.law
+    ensures ok { IfOk result (λ served. ServedWhole limit H.law
         (snapshot_of H.state H.failures W.contents handler.old writer.old)
         (snapshot_of H.state H.failures W.contents handler.new writer.new)
         (input_state_of R.remaining reader.old)
         (input_state_of R.remaining reader.new)
-        served.left served.tests) }
+        served.left served.tests served.held) }
     ensures err { IfErr result (ServeEndedWithLimit limit H.law
         (snapshot_of H.state H.failures W.contents handler.old writer.old)
         (snapshot_of H.state H.failures W.contents handler.new writer.new)
         (input_state_of R.remaining reader.old)
         (input_state_of R.remaining reader.new)) }
-    ensures bound { IfOk result (λ served. IfSome limit (λ limit. served.held ≤ limit + 4096)) }
 {
     let mut engine = engine_for(alloc, limit);
     let mut piece = [0u8; PIECE];

@@ -6,4 +6,4 @@ pub loop-piece-preserved : goal.loop-piece-preserved
 loop-piece-preserved g c =
     let running = c.loop-piece.invariant.running in
     rw (sent-more c.args.pieces.now c.loop-piece.piece-index record { ref_ptr = (0, 0); now = [] } c.loop-piece-test.true)
-    (Fed-more _ _ _ _ _ _ _ c.loop-piece.invariant _ c.feed.new.self _ _ (c.in_ok-feed.ensures.leaves running) (c.in_ok-feed.ensures.written running))
+    (Fed-more _ _ _ _ _ _ _ c.loop-piece.invariant _ c.feed.new.self _ _ (c.in_ok-feed.ensures.leaves running) c.in_ok-feed.ensures.limit (c.in_ok-feed.ensures.written running))

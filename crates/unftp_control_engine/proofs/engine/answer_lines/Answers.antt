@@ -1,5 +1,6 @@
-use Rattle.std.proofs.Common.{◌∙◌, sym, arith}
+use Rattle.std.proofs.Common.{◌∙◌, sym, ap, arith}
 use Rattle.std.proofs.lemmas.Result.{err_from_is_err_and}
+use Rattle.unftp_control_engine.specs.Engine.{kept_length}
 use Rattle.unftp_control_engine.proofs.EndingLemmas.{Answering-next, Answering-end, Answering-ended}
 use Rattle.unftp_control_engine.proofs.LineBufferLemmas.{no_line-events, no_line-incomplete, first_line-events, first_line-incomplete}
 use Rattle.unftp_control_engine.proofs.engine.answer_lines.Goals as goal
@@ -38,3 +39,9 @@ pub returns-in-None-clause-room : goal.returns-in-None-clause-room
 returns-in-None-clause-room g c =
     let none = rw c.in-None.is at c.in_ok-event.ensures.takes_next in
     rw c.loop-event.invariant.limit at none.short
+
+pub returns-in-None-clause-kept : goal.returns-in-None-clause-kept
+returns-in-None-clause-kept g c =
+    let none = rw c.in-None.is at c.in_ok-event.ensures.takes_next in
+    none.kept ∙ ap (λ limit. kept_length limit c.loop-event.line_buffer.bytes) c.loop-event.invariant.limit
+    ∙ ap (kept_length c.args.line_buffer.now.limit) (sym none.same)

@@ -24,7 +24,7 @@ loop-turn-preserved g c =
     record {
       serving = Serving-next _ _ _ _ _ _ _ _ _ c.loop-turn.invariant.serving _ c.split_at.result.0.now c.feed.new.self given some c.in-Ok.ensures.quiet
           (c.in_ok-feed.ensures.outcome running) (c.in_ok-feed.ensures.leaves running) c.in_ok-feed.ensures.tested
-          short c.in_ok-feed.ensures.limit c.in_ok-feed.ensures.bound;
+          short c.in_ok-feed.ensures.limit c.in_ok-feed.ensures.buffered c.in_ok-feed.ensures.held;
       room = omega (arith, c.loop-turn.invariant.room, c.read.auto.buf);
     }
 
@@ -41,6 +41,6 @@ returns-then-n-eq0-clause-ok g c =
     let room : 0 < length c.read.new.buf =
     omega (arith, c.loop-turn.invariant.room, c.read.auto.buf) in
     let given = c.in-Ok.ensures.bytes in
-    rw (c.left.ensures, c.tests.ensures)
+    rw (c.left.ensures, c.tests.ensures, c.held.ensures)
     (Serving-all _ _ _ _ _ _ _ _ _ c.loop-turn.invariant.serving c.read.new.buf _ c.if-n-eq0.true
     given.0 (given.1 c.if-n-eq0.true room) c.in-Ok.ensures.quiet)

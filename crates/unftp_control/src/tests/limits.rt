@@ -1,0 +1,188 @@
+//! Lines that are longer than a limit.
+ghost use Rattle.std.specs.Prelude.{◌≤◌, vec_len};
+
+use crate::codecs::FtpCodec;
+use crate::command::Command;
+use crate::error::{ControlChanError, ControlChanErrorKind};
+use crate::tests::assert_decoded;
+use std::alloc::Global;
+use std::process::Abort;
+
+const TOO_LONG: &str = "LineTooLong of None";
+
+/// These bytes come, `decode` returns this, and leaves this scan offset and these bytes.
+fn assert_next(
+    rt: &impl Abort,
+    alloc: Global,
+    codec: &mut FtpCodec,
+    buf: &mut Vec<u8>,
+    more: &[u8],
+    want: &str,
+    left: &[u8],
+)
+    requires { codec.old.place ≤ vec_len buf.old }
+    ensures { codec.new.place ≤ vec_len buf.new }
+{
+    buf.extend_from_slice(more).expect(rt, "memory");
+    let place = if want == "None" { left.len() } else { 0 };
+    assert_decoded(rt, alloc, codec, buf, want, place, left);
+}
+
+#[test]
+fn the_start_of_a_long_line_is_skipped(rt: HostRuntime) {
+    let alloc = rt.alloc();
+    let mut codec = FtpCodec::with_limit(6);
+    let mut buf = Vec::new(alloc);
+    assert!(rt; !codec.skipping());
+    assert_next(&rt, alloc, &mut codec, &mut buf, b"NOOP X", "None", b"");
+    assert!(rt; codec.skipping());
+    assert_next(
+        &rt,
+        alloc,
+        &mut codec,
+        &mut buf,
+        b"Y\r\nNOOP\n",
+        TOO_LONG,
+        b"NOOP\n",
+    );
+    assert!(rt; !codec.skipping());
+    assert_next(&rt, alloc, &mut codec, &mut buf, b"", "Some(Noop)", b"");
+}
+
+#[test]
+fn a_line_at_the_limit_is_read(rt: HostRuntime) {
+    let alloc = rt.alloc();
+    let mut codec = FtpCodec::with_limit(6);
+    let mut buf = Vec::new(alloc);
+    assert_next(&rt, alloc, &mut codec, &mut buf, b"NOOP ", "None", b"NOOP ");
+    assert_next(&rt, alloc, &mut codec, &mut buf, b"\n", "Some(Noop)", b"");
+}
+
+#[test]
+fn the_least_limit_lets_an_empty_line_through(rt: HostRuntime) {
+    let alloc = rt.alloc();
+    let mut codec = FtpCodec::with_limit(1);
+    let mut buf = Vec::new(alloc);
+    let empty = "Some(Other { command_name: \"\", arguments: \"\" })";
+    assert_next(&rt, alloc, &mut codec, &mut buf, b"\n", empty, b"");
+    assert_next(&rt, alloc, &mut codec, &mut buf, b"\r\n", TOO_LONG, b"");
+}
+
+#[test]
+fn a_long_line_may_hold_any_bytes(rt: HostRuntime) {
+    let alloc = rt.alloc();
+    let mut codec = FtpCodec::with_limit(6);
+    let mut buf = Vec::new(alloc);
+    let line = b"\xff\xff\xff\xff\xff\xff\n";
+    assert_next(&rt, alloc, &mut codec, &mut buf, line, TOO_LONG, b"");
+}
+
+/// What was decoded of the lines NOOP, a long one, and PWD.
+#[derive(Clone, Copy, Debug, PartialEq, Eq)]
+enum Decoded {
+    Noop,
+    Pwd,
+    TooLong,
+    Nothing,
+    Another,
+}
+
+impl From<Result<Option<Command>, ControlChanError>> for Decoded {
+    fn from(answer: Result<Option<Command>, ControlChanError>) -> Decoded {
+        let decoded = match &answer {
+            Ok(Some(Command::Noop)) => Decoded::Noop,
+            Ok(Some(Command::Pwd)) => Decoded::Pwd,
+            Ok(Some(_)) => Decoded::Another,
+            Ok(None) => Decoded::Nothing,
+            Err(error) => match error.kind() {
+                ControlChanErrorKind::LineTooLong => Decoded::TooLong,
+                _ => Decoded::Another,
+            },
+        };
+        drop(answer);
+        decoded
+    }
+}
+
+/// Decodes the lines of the buffer, after these that were decoded before.
+fn decode_lines(
+    alloc: Global,
+    codec: &mut FtpCodec,
+    buf: &mut Vec<u8>,
+    mut lines: [Decoded; 4],
+    mut count: usize,
+) -> ([Decoded; 4], usize)
+    requires { codec.old.place ≤ vec_len buf.old }
+    ensures { codec.new.place ≤ vec_len buf.new }
+{
+    for _ in 0..4 {
+        let decoded = Decoded::from(codec.decode(alloc, buf));
+        if decoded != Decoded::Nothing && count < 4 {
+            lines[count] = decoded;
+            count += 1;
+        }
+    }
+    (lines, count)
+}
+
+#[test]
+fn a_long_line_costs_only_itself_wherever_the_input_is_cut(rt: HostRuntime) {
+    let alloc = rt.alloc();
+    let input = b"NOOP\r\nUVWXYZUVWXYZ\nPWD\r\n";
+    for at in 0..input.len() {
+        let (front, rest) = input.split_at(at);
+        let mut codec = FtpCodec::with_limit(6);
+        let mut buf = Vec::from_slice(alloc, front).expect(&rt, "memory");
+        let lines = [Decoded::Nothing; 4];
+        let (lines, count) = decode_lines(alloc, &mut codec, &mut buf, lines, 0);
+        assert!(rt; buf.len() < 6);
+        buf.extend_from_slice(rest).expect(&rt, "memory");
+        let (lines, count) = decode_lines(alloc, &mut codec, &mut buf, lines, count);
+        assert_eq!(rt; count, 3);
+        let want = [
+            Decoded::Noop,
+            Decoded::TooLong,
+            Decoded::Pwd,
+            Decoded::Nothing,
+        ];
+        assert!(rt; lines == want);
+        assert!(rt; buf.is_empty());
+    }
+}
+
+#[test]
+fn the_skipped_bytes_of_a_slice_are_counted(rt: HostRuntime) {
+    let mut codec = FtpCodec::with_limit(6);
+    let (taken, answer) = codec.decode_slice(rt.alloc(), b"NOOP X");
+    assert_eq!(rt; Decoded::from(answer), Decoded::Nothing);
+    assert_eq!(rt; taken, 6);
+    let (taken, answer) = codec.decode_slice(rt.alloc(), b"YZ");
+    assert_eq!(rt; Decoded::from(answer), Decoded::Nothing);
+    assert_eq!(rt; taken, 2);
+    assert!(rt; codec.skipping());
+    let (taken, answer) = codec.decode_slice(rt.alloc(), b"\r\nNOOP\n");
+    assert_eq!(rt; Decoded::from(answer), Decoded::TooLong);
+    assert_eq!(rt; taken, 2);
+    let (taken, answer) = codec.decode_slice(rt.alloc(), b"NOOP\n");
+    assert_eq!(rt; Decoded::from(answer), Decoded::Noop);
+    assert_eq!(rt; taken, 5);
+}
+
+#[test]
+fn a_hundred_kilobytes_are_skipped(rt: HostRuntime) {
+    let mut codec = FtpCodec::with_limit(4096);
+    let piece = [b'a'; 1000];
+    let mut buf = Vec::new(rt.alloc());
+    for _ in 0..100 {
+        buf.extend_from_slice(&piece).expect(&rt, "memory");
+        let answer = codec.decode(rt.alloc(), &mut buf);
+        assert_eq!(rt; Decoded::from(answer), Decoded::Nothing);
+        assert!(rt; buf.len() < 4096);
+    }
+    assert!(rt; codec.skipping());
+    buf.extend_from_slice(b"\nPWD\n").expect(&rt, "memory");
+    let answer = codec.decode(rt.alloc(), &mut buf);
+    assert_eq!(rt; Decoded::from(answer), Decoded::TooLong);
+    let answer = codec.decode(rt.alloc(), &mut buf);
+    assert_eq!(rt; Decoded::from(answer), Decoded::Pwd);
+}
