@@ -1,12 +1,13 @@
 //! A connection served to its end.
-ghost use Rattle.std.specs.Prelude.{◌≡◌, IfSome, OnOk};
+ghost use Rattle.std.specs.Prelude.{◌≡◌, ◌+◌, ◌≤◌, Some, IfOk, IfSome, OnOk};
 ghost use Rattle.std.specs.Io.KnownBytes.{Appends};
 ghost use Rattle.unftp_control.specs.Events.{events};
+ghost use Rattle.unftp_control.specs.LineLimit.{text_with_limit};
 ghost use Rattle.unftp_control.specs.Run.{last_state, text_for};
 
 use std::alloc::Global;
 use std::io::{Read, Write};
-use unftp_control::serve::{Handler, Input, Output, ServeError, Served, serve};
+use unftp_control::serve::{Handler, Input, Output, ServeError, Served, serve, serve_with_limit};
 
 /// Answers the lines of a connection to its end, and gives the writer back.
 pub fn serve_connection<R: Read + Drop, W: Write, H: Handler>(
@@ -24,5 +25,27 @@ pub fn serve_connection<R: Read + Drop, W: Write, H: Handler>(
     let mut input = Input::new(stream_in);
     let mut output = Output::new(stream_out);
     let served = serve(alloc, &mut input, &mut output, handler);
+    (served, output.into_inner())
+}
+
+/// The most bytes of a line, its line feed counted: enough for a verb and a path of 4,096 bytes.
+const LINE_LIMIT: usize = 8192;
+
+/// Answers the lines of a client that is not trusted: a longer line is refused as one, and its bytes
+/// are not kept.
+pub fn serve_stranger<R: Read + Drop, W: Write, H: Handler>(
+    alloc: Global,
+    stream_in: R,
+    stream_out: W,
+    handler: &mut H,
+) -> (Result<Served, ServeError>, W)
+    ensures written { OnOk result.0 (IfSome (R.remaining stream_in) (λ input.
+        Appends (W.contents stream_out) (W.contents result.1)
+        (text_with_limit (Some 8192) H.law (H.state handler.old) input))) }
+    ensures bound { IfOk result.0 (λ served. served.held ≤ 8192 + 4096) }
+{
+    let mut input = Input::new(stream_in);
+    let mut output = Output::new(stream_out);
+    let served = serve_with_limit(alloc, LINE_LIMIT, &mut input, &mut output, handler);
     (served, output.into_inner())
 }

@@ -5,7 +5,7 @@ use crate::handler::Obliging;
 use crate::lines::line_text;
 use crate::pieces::answer_pieces;
 use crate::proxy::{ForwardError, forward_line};
-use crate::serving::serve_connection;
+use crate::serving::{serve_connection, serve_stranger};
 use std::alloc::Global;
 use std::process::Abort;
 use unftp_control::codecs::FtpCodec;
@@ -85,6 +85,20 @@ fn a_connection_is_served_to_its_end(rt: HostRuntime) {
     let left = served.expect(&rt, "an answer").left;
     assert_eq!(rt; left, 2);
     assert_bytes(&rt, output.as_slice(), b"200 OK\r\n200 OK\r\n");
+}
+
+#[test]
+fn a_stranger_is_served_with_a_limit(rt: HostRuntime) {
+    let mut obliging = Obliging {
+        failures: Count::new(),
+    };
+    let mut input = Vec::from_slice(rt.alloc(), b"NOOP\r\n").expect(&rt, "memory");
+    input.resize(100_000, b'a').expect(&rt, "memory");
+    let output = Vec::new(rt.alloc());
+    let (served, output) = serve_stranger(rt.alloc(), input.as_slice(), output, &mut obliging);
+    let left = served.expect(&rt, "an answer").left;
+    assert_eq!(rt; left, 99_994);
+    assert_bytes(&rt, output.as_slice(), b"200 OK\r\n");
 }
 
 #[test]

@@ -1,12 +1,12 @@
 -- An input has one list of lines and one incomplete line: `lines_of` and `incomplete_line`.
-use Rattle.std.proofs.Common.{◌≡◌, ◌≢◌, ◌≤◌, ℕ, Bool, true, false, cond, ltb, map, length, ◌==◌, List, [], ◌∷◌, ◌++◌, Option, None, Some, ◌⊎◌, refl, sym, ap, ◌∙◌, inl, inr, append_assoc, eq-eqb, ne_eqb}
+use Rattle.std.proofs.Common.{◌≡◌, ◌≢◌, ◌≤◌, ℕ, Bool, true, false, cond, map, length, ◌==◌, List, [], ◌∷◌, ◌++◌, Option, None, Some, ◌⊎◌, refl, sym, ap, ◌∙◌, inl, inr, append_assoc, eq-eqb, ne_eqb}
 use Rattle.std.specs.List.{AllByRecursion, concat}
 use Rattle.std.proofs.lemmas.Bool.{cases_eq, le-ltb}
 use Rattle.std.proofs.lemmas.List.{map-append}
 use Rattle.unftp_control_defs.specs.Bytes.{Bytes, LF, Lacks}
 use Rattle.unftp_control_defs.specs.Lines.{IsLine, Lines, onto_line, onto_incomplete_line, lines_of, incomplete_line}
 use Rattle.unftp_control_defs.specs.Events.{events}
-use Rattle.unftp_control_defs.specs.LineLimit.{event_with_limit, events_with_limit}
+use Rattle.unftp_control_defs.specs.LineLimit.{exceeds, event_with_limit, events_with_limit}
 
 lf_alone : IsLine (LF ∷ [])
 lf_alone = record { body = []; whole = refl; one_end = tt }
@@ -112,13 +112,14 @@ events_with_limit-line limit body more h = ap (map (event_with_limit limit)) (li
 pub events_with_limit-incomplete : (limit : Option ℕ) (incomplete : Bytes) → Lacks LF incomplete → events_with_limit limit incomplete ≡ []
 events_with_limit-incomplete limit incomplete h = ap (map (event_with_limit limit)) (lines_of-incomplete incomplete h)
 
+not_exceeding : (limit n : ℕ) → n ≤ limit → exceeds (Some limit) n ≡ false
+not_exceeding limit n h = le-ltb limit n h
+
 -- no line is longer than the limit
 within : (limit : ℕ) (lines : List Bytes) → AllByRecursion (λ line. length line ≤ limit) lines →
     map (event_with_limit (Some limit)) lines ≡ map (event_with_limit None) lines
 within limit [] each = refl
-within limit (line ∷ lines) each =
-    let short : ltb limit (length line) ≡ false = le-ltb limit (length line) each.0 in
-    rw (short, within limit lines each.1) refl
+within limit (line ∷ lines) each = rw (not_exceeding limit (length line) each.0, within limit lines each.1) refl
 
 pub events_with_limit-within : (limit : ℕ) (input : Bytes) → AllByRecursion (λ line. length line ≤ limit) (lines_of input) →
     events_with_limit (Some limit) input ≡ events input

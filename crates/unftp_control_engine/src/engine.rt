@@ -217,7 +217,8 @@ impl Engine {
 
     /// Takes the next piece of the input, and answers each line that is now complete (RFC 959,
     /// section 5.3): its event is passed to the handler, and its reply is written and flushed,
-    /// before the next line is taken. The bytes after the last line feed are kept.
+    /// before the next line is taken. The bytes after the last line feed are kept; with a limit,
+    /// those of a line that is too long are dropped, and `left` still counts them.
     ///
     /// `Handler`, `Write`, `WriteZero` and `OutOfMemory` come where the handler, the writer or an
     /// allocation fails: the replies to the lines before are written and flushed, and `left` stays.
@@ -278,7 +279,7 @@ impl Engine {
         ensures bound { IfSome self.old.limit (λ limit.
             self.new.held ≤ max self.old.held (limit + length piece.now)) }
         ensures room { OnOk result (IfSome self.old.limit (λ limit. self.new.buffered < limit)) }
-        // At Ok it holds the incomplete line alone, or nothing of one that is too long.
+        // At Ok it holds only the incomplete line, or nothing of one that is too long.
         ensures buffered { OnOk result
             (self.new.buffered ≡ kept_length self.new.limit self.new.incomplete) }
         ensures held { OnOk result

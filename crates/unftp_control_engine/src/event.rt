@@ -8,6 +8,7 @@ pub enum Event {
     /// A command.
     Command(Command),
     /// A refused line: the kind is `Utf8Error` or `InvalidCommand`, and the parser's error is the
-    /// source.
+    /// source; or the kind is `LineTooLong`, of a line that is longer than the limit, and there is
+    /// no source.
     Refused(ControlChanError),
 }

@@ -5,7 +5,7 @@ ghost use Rattle.unftp_control_defs.specs.Events.{events};
 ghost use Rattle.unftp_control_error.specs.ErrorParts.{KindAndSource};
 ghost use Rattle.unftp_control_engine.specs.Endings.{Snapshot, AllAnswered};
 ghost use Rattle.unftp_control_engine.specs.Examples.{counting, noop};
-ghost use Rattle.unftp_control_serve.specs.Service.{InputState, AnsweredAll, EndedLate, ReadFailed, ReadTooOften, ServeEnded};
+ghost use Rattle.unftp_control_serve.specs.Service.{InputState, AnsweredAll, EndedLate, ReadFailed, ReadTooOften, ServeEnded, most_held};
 ghost use Rattle.unftp_control_engine.specs.Writing.{Begins};
 
 use unftp_control_engine::ServeError;
@@ -66,4 +66,12 @@ pub fn an_input_is_served()
         (record { remaining = Some (codes "NOOP\r\nNO"); failures = 2 }) input left tests
         → AllAnswered counting before (noop ∷ []) after × IsAtEnd input.remaining × (left ≡ 2)
         × (tests ≡ 8) × (input.failures ≡ 2) }
+{}
+
+/// What is held of pieces: of a line that is too long nothing is kept after its piece.
+pub fn pieces_are_held_so()
+    ensures nothing { most_held (Some 6) [] [] ≡ 0 }
+    ensures limited { most_held (Some 6) [] (codes "NOOP" ∷ codes " XY" ∷ codes "Z\n" ∷ []) ≡ 7 }
+    ensures at_the_limit { most_held (Some 8) [] (codes "NOOP" ∷ codes " XY" ∷ codes "\n" ∷ []) ≡ 8 }
+    ensures no_limit { most_held None [] (codes "NOOP" ∷ codes " XY" ∷ codes "Z\n" ∷ []) ≡ 9 }
 {}

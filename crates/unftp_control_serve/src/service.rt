@@ -63,15 +63,16 @@ pub fn serve<R: Read, W: Write, H: Handler>(
     ensures left { IfOk result (λ served.
         IfSome (R.remaining reader.old.reader) (λ input.
         served.left ≡ saturating_u64 (length (incomplete_line input)))) }
-    // The most bytes that were held at once are as the pieces make it.
-    ensures held { IfOk result (λ served.
-        IfSome (R.remaining reader.old.reader) (λ input. HeldInPieces None input served.held)) }
     // What is written is read as what the replies show, and as nothing else, where each of them is
     // plain.
     ensures read_back { OnOk result (IfSome (R.remaining reader.old.reader) (λ input.
         AllByRecursion IsPlain (replies H.law (H.state handler.old) (events input))
         → ReadsBack (text_for H.law (H.state handler.old) input)
         (replies H.law (H.state handler.old) (events input)))) }
+    // The most bytes that were held at once, as the pieces make it.
+    ensures held { IfOk result (λ served.
+        IfSome (R.remaining reader.old.reader) (λ input.
+        HeldInPieces None input served.held)) }
     // The same of any reader, with what was flushed and what failed; and what is so at each error.
     ensures ok { IfOk result (λ served. AnsweredAll H.law
         (snapshot_of H.state H.failures W.contents handler.old writer.old)
@@ -108,23 +109,26 @@ pub fn serve_with_limit<R: Read, W: Write, H: Handler>(
     // the handler is in the last state of its run over them, and each byte was scanned for a line
     // feed exactly once.
     ensures state { OnOk result (IfSome (R.remaining reader.old.reader) (λ input.
-        H.state handler.new ≡ last_state H.law (H.state handler.old) (events_with_limit (Some limit) input))) }
+        H.state handler.new
+        ≡ last_state H.law (H.state handler.old) (events_with_limit (Some limit) input))) }
     ensures tested { IfOk result (λ served.
         IfSome (R.remaining reader.old.reader) (λ input. served.tests ≡ length input)) }
     ensures left { IfOk result (λ served.
         IfSome (R.remaining reader.old.reader) (λ input.
         served.left ≡ saturating_u64 (length (incomplete_line input)))) }
-    // The buffer never holds more than the limit and one piece.
-    ensures bound { IfOk result (λ served. served.held ≤ limit + 4096) }
-    // The most bytes that were held at once are as the pieces make it.
-    ensures held { IfOk result (λ served.
-        IfSome (R.remaining reader.old.reader) (λ input. HeldInPieces (Some limit) input served.held)) }
     // What is written is read as what the replies show, and as nothing else, where each of them is
     // plain.
     ensures read_back { OnOk result (IfSome (R.remaining reader.old.reader) (λ input.
-        AllByRecursion IsPlain (replies H.law (H.state handler.old) (events_with_limit (Some limit) input))
+        AllByRecursion IsPlain
+        (replies H.law (H.state handler.old) (events_with_limit (Some limit) input))
         → ReadsBack (text_with_limit (Some limit) H.law (H.state handler.old) input)
         (replies H.law (H.state handler.old) (events_with_limit (Some limit) input)))) }
+    // The buffer never holds more than the limit and one piece.
+    ensures bound { IfOk result (λ served. served.held ≤ limit + 4096) }
+    // The most bytes that were held at once, as the pieces make it.
+    ensures held { IfOk result (λ served.
+        IfSome (R.remaining reader.old.reader) (λ input.
+        HeldInPieces (Some limit) input served.held)) }
     // The same of any reader, with what was flushed and what failed; and what is so at each error.
     ensures ok { IfOk result (λ served. AnsweredAllWithLimit (Some limit) H.law
         (snapshot_of H.state H.failures W.contents handler.old writer.old)

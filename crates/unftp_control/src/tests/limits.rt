@@ -106,16 +106,15 @@ impl From<Result<Option<Command>, ControlChanError>> for Decoded {
 
 /// Decodes the lines of the buffer, after these that were decoded before.
 fn decode_lines(
+    rt: &impl Abort,
     alloc: Global,
     codec: &mut FtpCodec,
     buf: &mut Vec<u8>,
     mut lines: [Decoded; 4],
     mut count: usize,
-) -> ([Decoded; 4], usize)
-    requires { codec.old.place ≤ vec_len buf.old }
-    ensures { codec.new.place ≤ vec_len buf.new }
-{
+) -> ([Decoded; 4], usize) {
     for _ in 0..4 {
+        assert!(rt; codec.place() <= buf.len());
         let decoded = Decoded::from(codec.decode(alloc, buf));
         if decoded != Decoded::Nothing && count < 4 {
             lines[count] = decoded;
@@ -134,10 +133,10 @@ fn a_long_line_costs_only_itself_wherever_the_input_is_cut(rt: HostRuntime) {
         let mut codec = FtpCodec::with_limit(6);
         let mut buf = Vec::from_slice(alloc, front).expect(&rt, "memory");
         let lines = [Decoded::Nothing; 4];
-        let (lines, count) = decode_lines(alloc, &mut codec, &mut buf, lines, 0);
+        let (lines, count) = decode_lines(&rt, alloc, &mut codec, &mut buf, lines, 0);
         assert!(rt; buf.len() < 6);
         buf.extend_from_slice(rest).expect(&rt, "memory");
-        let (lines, count) = decode_lines(alloc, &mut codec, &mut buf, lines, count);
+        let (lines, count) = decode_lines(&rt, alloc, &mut codec, &mut buf, lines, count);
         assert_eq!(rt; count, 3);
         let want = [
             Decoded::Noop,
@@ -175,12 +174,14 @@ fn a_hundred_kilobytes_are_skipped(rt: HostRuntime) {
     let mut buf = Vec::new(rt.alloc());
     for _ in 0..100 {
         buf.extend_from_slice(&piece).expect(&rt, "memory");
+        assert!(rt; codec.place() <= buf.len());
         let answer = codec.decode(rt.alloc(), &mut buf);
         assert_eq!(rt; Decoded::from(answer), Decoded::Nothing);
         assert!(rt; buf.len() < 4096);
     }
     assert!(rt; codec.skipping());
     buf.extend_from_slice(b"\nPWD\n").expect(&rt, "memory");
+    assert!(rt; codec.place() <= buf.len());
     let answer = codec.decode(rt.alloc(), &mut buf);
     assert_eq!(rt; Decoded::from(answer), Decoded::TooLong);
     let answer = codec.decode(rt.alloc(), &mut buf);
