@@ -29,7 +29,7 @@ use unftp_control_reply::Reply;
 /// byte is scanned twice. `place` returns it.
 ///
 /// With a limit it keeps no line that is longer: the bytes of such a line leave the buffer as they
-/// come, and `skipping` tells that some did. While it is skipping, the scan offset is 0.
+/// come, and `skipping` returns whether some did. The scan offset is then 0.
 #[derive(Drop)]
 pub struct FtpCodec {
     place: usize,

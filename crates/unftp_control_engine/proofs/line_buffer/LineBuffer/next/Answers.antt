@@ -1,4 +1,4 @@
-use Rattle.std.proofs.Common.{◌∙◌, sym, ap, drop, take}
+use Rattle.std.proofs.Common.{◌∙◌, sym, ap, drop}
 use Rattle.unftp_control_engine.proofs.LineBufferLemmas.{line_buffer-after, takes_next-after}
 use Rattle.unftp_control_engine.proofs.line_buffer.LineBuffer.next.Goals as goal
 
