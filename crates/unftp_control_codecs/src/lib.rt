@@ -147,7 +147,7 @@ impl FtpCodec {
     {
         let mut scan = Scan::over(bytes, &mut self.tests);
         let Some(end) = scan.find_line_feed(self.place) else {
-            return (self.drop_or_wait(bytes.len()), Ok(None));
+            return (self.drop_or_keep(bytes.len()), Ok(None));
         };
         let answer = if self.is_too_long(end) {
             Err(ControlChanErrorKind::LineTooLong.into())
@@ -176,7 +176,7 @@ impl FtpCodec {
 
     /// Goes on after so many bytes without a line feed: returns how many of them are dropped, which
     /// is all of them where the line is too long already.
-    fn drop_or_wait(&mut self, length: usize) -> usize
+    fn drop_or_keep(&mut self, length: usize) -> usize
         ensures dropped { self.new ≡ record {
           place = length - result;
           tests = self.old.tests;

@@ -203,17 +203,17 @@ module _ (old new : Codec) (dropped before : Bytes) (taken : ℕ) (answer : Deco
   unskipped_now : new.skipping ≡ false → dropped' ≡ []
   unskipped_now off = rw off refl
 
-  -- where there is no line, they are dropped, or wait
+  -- where there is no line, they are dropped, or kept
   module _ (none : NoLine old new before after answer) where
     all_taken : SkipsAll old new before after → take taken before ≡ before
     all_taken skips = take_all taken before (omega (arith, ap length skips.dropped, length-drop taken before))
 
-    wait_unskipped : is_too_long old (length before + 1) ≡ false → dropped ≡ []
-    wait_unskipped short = dropped_none old dropped lost (unskipped old.skipping (exceeds old.limit (length before + 1)) short).0
+    keep_unskipped : is_too_long old (length before + 1) ≡ false → dropped ≡ []
+    keep_unskipped short = dropped_none old dropped lost (unskipped old.skipping (exceeds old.limit (length before + 1)) short).0
 
     none_within : (too_long : Bool) → IfTooLong too_long (SkipsAll old new before after) (FindsNone old new before after) → IsWithin new after
     none_within true skips = rw skips.place (omega arith, tt)
-    none_within false waits = rw (waits.place, waits.kept) (omega arith, rw take-length none.unended)
+    none_within false keeps = rw (keeps.place, keeps.kept) (omega arith, rw take-length none.unended)
 
     none_dropped-after : (too_long : Bool) → is_too_long old (length before + 1) ≡ too_long →
         IfTooLong too_long (SkipsAll old new before after) (FindsNone old new before after) → IsDropped new dropped'
@@ -222,27 +222,27 @@ module _ (old new : Codec) (dropped before : Bytes) (taken : ℕ) (answer : Deco
         some_dropped new dropped' skips.skipping
         (rw all (Lacks-append LF dropped before lost.unended none.unended))
         (rw (limit, all) (still_too_long old.skipping old.limit dropped before long lost.too_long))
-    none_dropped-after false short waits = none_dropped new dropped' waits.skipping (unskipped_now waits.skipping)
+    none_dropped-after false short keeps = none_dropped new dropped' keeps.skipping (unskipped_now keeps.skipping)
 
     none_same : (too_long : Bool) → is_too_long old (length before + 1) ≡ too_long →
         IfTooLong too_long (SkipsAll old new before after) (FindsNone old new before after) → dropped' ++ after ≡ dropped ++ before
     none_same true long skips = rw skips.skipping (append_assoc dropped (take taken before) after ∙ ap (λ z. dropped ++ z) (take-append-drop taken before))
-    none_same false short waits = rw (unskipped_now waits.skipping, wait_unskipped short) waits.kept
+    none_same false short keeps = rw (unskipped_now keeps.skipping, keep_unskipped short) keeps.kept
 
     none_scanned : (too_long : Bool) → IfTooLong too_long (SkipsAll old new before after) (FindsNone old new before after) → length after - new.place ≡ 0
     none_scanned true skips = omega (arith, ap length skips.dropped)
-    none_scanned false waits = omega (arith, waits.place, ap length waits.kept)
+    none_scanned false keeps = omega (arith, keeps.place, ap length keeps.kept)
 
     none_short : (too_long : Bool) → is_too_long old (length before + 1) ≡ too_long →
         IfTooLong too_long (SkipsAll old new before after) (FindsNone old new before after) → IfSome old.limit (λ limit. length after < limit)
     none_short true long skips = rw skips.dropped (room_for_none old.limit limited)
-    none_short false short waits = rw waits.kept (within_limit old.limit (length before) (unskipped old.skipping (exceeds old.limit (length before + 1)) short).1)
+    none_short false short keeps = rw keeps.kept (within_limit old.limit (length before) (unskipped old.skipping (exceeds old.limit (length before + 1)) short).1)
 
     none_kept : (too_long : Bool) → is_too_long old (length before + 1) ≡ too_long →
         IfTooLong too_long (SkipsAll old new before after) (FindsNone old new before after) → length after ≡ kept_length old.limit (dropped ++ before)
     none_kept true long skips = rw (skips.dropped, still_too_long old.skipping old.limit dropped before long lost.too_long) refl
-    none_kept false short waits =
-        rw (waits.kept, wait_unskipped short, (unskipped old.skipping (exceeds old.limit (length before + 1)) short).1) refl
+    none_kept false short keeps =
+        rw (keeps.kept, keep_unskipped short, (unskipped old.skipping (exceeds old.limit (length before + 1)) short).1) refl
 
   within-after : IsWithin new after
   within-after = by_end came

@@ -29,8 +29,8 @@ pub fn lines_are_events()
         ∷ Command Noop ∷ [] }
 {}
 
-/// A line with more bytes than the limit, its line feed counted, is refused alone, whatever it
-/// holds.
+/// A line with more bytes than the limit, its line feed counted, is refused, whatever it holds, and
+/// no other line.
 pub fn long_lines_are_refused()
     ensures fault { line_too_long ≡ record { kind = LineTooLong; source = NoSource } }
     ensures at_the_limit { event_with_limit (Some 6) (codes "NOOP\r\n") ≡ Command Noop }
