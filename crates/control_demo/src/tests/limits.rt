@@ -3,12 +3,10 @@ ghost use Rattle.std.specs.Prelude.{◌≤◌};
 
 use crate::responses::Responses;
 use crate::tests::assert_held;
-use crate::tests::handlers::{Counting, Failing};
 use crate::tests::streams::{Pieces, Room};
 use std::alloc::Global;
 use std::process::Abort;
-use unftp_control::error::{ControlChanErrorKind, Source};
-use unftp_control::serve::{Engine, Input, Output, ServeError, serve_with_limit};
+use unftp_control::serve::{Engine, Input, Output, serve_with_limit};
 
 /// To an input of which at most `most` bytes are read at a time, under this limit, the responses of
 /// the program are these, and so many bytes are left.
@@ -49,69 +47,58 @@ fn skipped_bytes_are_left(rt: HostRuntime) {
     assert_limited(&rt, rt.alloc(), 6, b"NOOP XY", 1, b"", 7);
 }
 
+/// The engine takes the piece.
+fn feed(
+    rt: &impl Abort,
+    engine: &mut Engine,
+    piece: &[u8],
+    responses: &mut Responses,
+    output: &mut Output<Room>,
+) {
+    let answer = engine.feed(piece, responses, output);
+    answer.expect(rt, "an answer");
+}
+
+/// The engine takes the piece, after which so many bytes are left.
+fn assert_fed(
+    rt: &impl Abort,
+    engine: &mut Engine,
+    piece: &[u8],
+    responses: &mut Responses,
+    output: &mut Output<Room>,
+    left: u64,
+) {
+    feed(rt, engine, piece, responses, output);
+    assert_eq!(rt; engine.left(), left);
+}
+
 #[test]
 fn long_lines_are_answered_alone_wherever_the_input_is_cut(rt: HostRuntime) {
-    let alloc = rt.alloc();
     for at in 0..LONG_LINES.len() {
         let (front, rest) = LONG_LINES.split_at(at);
-        let mut engine = Engine::with_limit(alloc, 6);
+        let mut engine = Engine::with_limit(rt.alloc(), 6);
         let mut responses = Responses::new();
-        let mut output = Output::new(Room::ample(alloc));
-        let answer = engine.feed(front, &mut responses, &mut output);
-        answer.expect(&rt, "an answer");
-        let answer = engine.feed(rest, &mut responses, &mut output);
-        answer.expect(&rt, "an answer");
+        let mut output = Output::new(Room::ample(rt.alloc()));
+        feed(&rt, &mut engine, front, &mut responses, &mut output);
+        feed(&rt, &mut engine, rest, &mut responses, &mut output);
         assert_eq!(rt; engine.left(), 0);
         assert_held(&rt, output.into_inner(), RESPONSES);
     }
 }
 
-/// The engine takes the piece, after which so many bytes are left and so many events were taken.
-fn assert_fed(
-    rt: &impl Abort,
-    engine: &mut Engine,
-    piece: &[u8],
-    counting: &mut Counting,
-    output: &mut Output<Room>,
-    left: u64,
-    taken: u32,
-) {
-    let answer = engine.feed(piece, counting, output);
-    answer.expect(rt, "an answer");
-    assert_eq!(rt; engine.left(), left);
-    assert_eq!(rt; counting.taken, taken);
-}
-
 #[test]
 fn a_long_line_is_one_event_when_it_ends(rt: HostRuntime) {
     let mut engine = Engine::with_limit(rt.alloc(), 6);
-    let mut counting = Counting::new(u32::MAX);
+    let mut responses = Responses::new();
     let mut output = Output::new(Room::ample(rt.alloc()));
-    assert_fed(&rt, &mut engine, b"NOOP", &mut counting, &mut output, 4, 0);
-    assert_fed(&rt, &mut engine, b" X", &mut counting, &mut output, 6, 0);
-    assert_fed(&rt, &mut engine, b"", &mut counting, &mut output, 6, 0);
-    assert_fed(&rt, &mut engine, b"Y\r", &mut counting, &mut output, 8, 0);
-    assert_fed(&rt, &mut engine, b"\nNO", &mut counting, &mut output, 2, 1);
-    assert_fed(&rt, &mut engine, b"OP\n", &mut counting, &mut output, 0, 2);
-}
-
-#[test]
-fn a_long_line_is_refused_without_a_source(rt: HostRuntime) {
-    let mut output = Output::new(Room::ample(rt.alloc()));
-    let mut input = Input::new(Pieces::new(b"NOOP\r\n", 4096));
-    let mut failing = Failing::new();
-    let answer = serve_with_limit(rt.alloc(), 5, &mut input, &mut output, &mut failing);
-    let is_too_long = match &answer {
-        Err(ServeError::Handler(error)) => *error.kind() == ControlChanErrorKind::LineTooLong,
-        _ => false,
-    };
-    let is_alone = match &answer {
-        Err(ServeError::Handler(error)) => matches!(error.source(), Source::None),
-        _ => false,
-    };
-    drop(answer);
-    assert!(rt; is_too_long);
-    assert!(rt; is_alone);
+    assert_fed(&rt, &mut engine, b"NOOP", &mut responses, &mut output, 4);
+    assert_fed(&rt, &mut engine, b" X", &mut responses, &mut output, 6);
+    assert_fed(&rt, &mut engine, b"", &mut responses, &mut output, 6);
+    assert_fed(&rt, &mut engine, b"Y\r", &mut responses, &mut output, 8);
+    assert_fed(&rt, &mut engine, b"\nNO", &mut responses, &mut output, 2);
+    assert_fed(&rt, &mut engine, b"OP\n", &mut responses, &mut output, 0);
+    let want = b"500 Line too long\r\n200 OK\r\n";
+    assert_held(&rt, output.into_inner(), want);
 }
 
 #[test]

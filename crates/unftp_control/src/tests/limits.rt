@@ -2,9 +2,8 @@
 ghost use Rattle.std.specs.Prelude.{◌≤◌, vec_len};
 
 use crate::codecs::FtpCodec;
-use crate::command::Command;
-use crate::error::{ControlChanError, ControlChanErrorKind};
 use crate::tests::assert_decoded;
+use crate::tests::slices::Decoded;
 use std::alloc::Global;
 use std::process::Abort;
 
@@ -77,74 +76,34 @@ fn a_long_line_may_hold_any_bytes(rt: HostRuntime) {
     assert_next(&rt, alloc, &mut codec, &mut buf, line, TOO_LONG, b"");
 }
 
-/// What was decoded of the lines NOOP, a long one, and PWD.
-#[derive(Clone, Copy, Debug, PartialEq, Eq)]
-enum Decoded {
-    Noop,
-    Pwd,
-    TooLong,
-    Nothing,
-    Another,
-}
-
-impl From<Result<Option<Command>, ControlChanError>> for Decoded {
-    fn from(answer: Result<Option<Command>, ControlChanError>) -> Decoded {
-        let decoded = match &answer {
-            Ok(Some(Command::Noop)) => Decoded::Noop,
-            Ok(Some(Command::Pwd)) => Decoded::Pwd,
-            Ok(Some(_)) => Decoded::Another,
-            Ok(None) => Decoded::Nothing,
-            Err(error) => match error.kind() {
-                ControlChanErrorKind::LineTooLong => Decoded::TooLong,
-                _ => Decoded::Another,
-            },
-        };
-        drop(answer);
-        decoded
-    }
-}
-
-/// Decodes the lines of the buffer, after these that were decoded before.
+/// Decodes the lines of the buffer: a digit for each, after those of the lines before.
 fn decode_lines(
     rt: &impl Abort,
     alloc: Global,
     codec: &mut FtpCodec,
     buf: &mut Vec<u8>,
-    mut lines: [Decoded; 4],
-    mut count: usize,
-) -> ([Decoded; 4], usize) {
+    mut digits: u32,
+) -> u32 {
     for _ in 0..4 {
         assert!(rt; codec.place() <= buf.len());
-        let decoded = Decoded::from(codec.decode(alloc, buf));
-        if decoded != Decoded::Nothing && count < 4 {
-            lines[count] = decoded;
-            count += 1;
-        }
+        digits = Decoded::from(codec.decode(alloc, buf)).digit_after(digits);
     }
-    (lines, count)
+    digits
 }
 
 #[test]
 fn a_long_line_costs_only_itself_wherever_the_input_is_cut(rt: HostRuntime) {
-    let alloc = rt.alloc();
-    let input = b"NOOP\r\nUVWXYZUVWXYZ\nPWD\r\n";
+    let input = b"NOOP\r\nUVWXYZUVWXYZ\nUSER abc\n";
     for at in 0..input.len() {
         let (front, rest) = input.split_at(at);
-        let mut codec = FtpCodec::with_limit(6);
-        let mut buf = Vec::from_slice(alloc, front).expect(&rt, "memory");
-        let lines = [Decoded::Nothing; 4];
-        let (lines, count) = decode_lines(&rt, alloc, &mut codec, &mut buf, lines, 0);
-        assert!(rt; buf.len() < 6);
+        let mut codec = FtpCodec::with_limit(9);
+        let mut buf = Vec::from_slice(rt.alloc(), front).expect(&rt, "memory");
+        let digits = decode_lines(&rt, rt.alloc(), &mut codec, &mut buf, 0);
+        assert!(rt; buf.len() < 9);
         buf.extend_from_slice(rest).expect(&rt, "memory");
-        let (lines, count) = decode_lines(&rt, alloc, &mut codec, &mut buf, lines, count);
-        assert_eq!(rt; count, 3);
-        let want = [
-            Decoded::Noop,
-            Decoded::TooLong,
-            Decoded::Pwd,
-            Decoded::Nothing,
-        ];
-        assert!(rt; lines == want);
+        let digits = decode_lines(&rt, rt.alloc(), &mut codec, &mut buf, digits);
+        // NOOP, a line that is too long, and USER
+        assert_eq!(rt; digits, 132);
         assert!(rt; buf.is_empty());
     }
 }
@@ -180,10 +139,10 @@ fn a_hundred_kilobytes_are_skipped(rt: HostRuntime) {
         assert!(rt; buf.len() < 4096);
     }
     assert!(rt; codec.skipping());
-    buf.extend_from_slice(b"\nPWD\n").expect(&rt, "memory");
+    buf.extend_from_slice(b"\nNOOP\n").expect(&rt, "memory");
     assert!(rt; codec.place() <= buf.len());
     let answer = codec.decode(rt.alloc(), &mut buf);
     assert_eq!(rt; Decoded::from(answer), Decoded::TooLong);
     let answer = codec.decode(rt.alloc(), &mut buf);
-    assert_eq!(rt; Decoded::from(answer), Decoded::Pwd);
+    assert_eq!(rt; Decoded::from(answer), Decoded::Noop);
 }

@@ -6,11 +6,12 @@ use crate::reply::{Reply, ReplyCode};
 
 /// What was decoded.
 #[derive(Clone, Copy, Debug, PartialEq, Eq)]
-enum Decoded {
+pub enum Decoded {
     Noop,
     UserAbc,
     OtherCommand,
     Nothing,
+    TooLong,
     InvalidCommand,
     OutOfMemory,
     OtherError,
@@ -28,11 +29,27 @@ impl From<Result<Option<Command>, ControlChanError>> for Decoded {
             Err(error) => match error.kind() {
                 ControlChanErrorKind::InvalidCommand => Decoded::InvalidCommand,
                 ControlChanErrorKind::OutOfMemory => Decoded::OutOfMemory,
+                ControlChanErrorKind::LineTooLong => Decoded::TooLong,
                 _ => Decoded::OtherError,
             },
         };
         drop(answer);
         decoded
+    }
+}
+
+impl Decoded {
+    /// These digits and one more, 1 for NOOP, 2 for USER and 3 for a line that is too long; the
+    /// same where no line is complete.
+    pub fn digit_after(self, digits: u32) -> u32 {
+        let digit = match self {
+            Decoded::Nothing => return digits,
+            Decoded::Noop => 1,
+            Decoded::UserAbc => 2,
+            Decoded::TooLong => 3,
+            _ => 9,
+        };
+        digits.saturating_mul(10).saturating_add(digit)
     }
 }
 
