@@ -118,9 +118,10 @@ impl FtpCodec {
     /// section 5.3). While no line is complete, these are 0 and `None`. A line ends at its line
     /// feed.
     ///
-    /// With a limit, a line that is longer is refused with `LineTooLong`, without a source, and
-    /// nothing of it is read as a command. Where its line feed hasn't come yet, all bytes are
-    /// dropped: their number is returned with `None`, and they are not kept by the caller.
+    /// With a limit, a line that is longer is refused with `LineTooLong`, without a source, whatever
+    /// it holds. Its bytes are dropped before it ends: where `bytes` has no line feed, and holds
+    /// `limit` bytes or more or goes on with a line of which some were dropped, the length of all of
+    /// `bytes` is returned with `None`, and the caller goes on after them.
     ///
     /// It is for bytes that hold many lines: the next call gets the bytes after the line, and
     /// nothing is moved. The scan offset has to be within `bytes`, as it is after each call: within
@@ -201,8 +202,7 @@ impl FtpCodec {
     /// The scan offset has to be within `buf`, as it is after each call, also where `buf` has grown
     /// at its end since. The errors are those of `decode_slice`: a refused line leaves `buf` as any
     /// other does, and what follows it stays; when out of memory, `buf` and the scan offset are as
-    /// before. With a limit, `buf` is emptied where it holds too many bytes for a line and no line
-    /// feed, and so it is until that line ends.
+    /// before. With a limit, `buf` is emptied where `decode_slice` drops all bytes.
     pub fn decode(
         &mut self,
         alloc: Global,

@@ -1,5 +1,5 @@
-//! A count, and a list of bytes, that only contracts see: they take no byte, and their methods do
-//! nothing at run time.
+//! A count, and a list of bytes, that only contracts see: they take no byte, and their methods give
+//! nothing that code could read.
 #![tactic(auto)]
 
 ghost use Rattle.std.specs.Prelude.{◌≡◌, ℕ, ◌+◌, max};
