@@ -47,7 +47,7 @@ pub incomplete_line-line : (body more : Bytes) → Lacks LF body → incomplete_
 incomplete_line-line [] more h = refl
 incomplete_line-line (b ∷ body) more h = rw (ne_eqb b LF h.0, lines_of-line body more h.1, incomplete_line-line body more h.1)
 
-line_first : (line more : Bytes) → IsLine line → (lines_of (line ++ more) ≡ line ∷ lines_of more) × (incomplete_line (line ++ more) ≡ incomplete_line more)
+pub line_first : (line more : Bytes) → IsLine line → (lines_of (line ++ more) ≡ line ∷ lines_of more) × (incomplete_line (line ++ more) ≡ incomplete_line more)
 line_first line more l =
     let joined : line ++ more ≡ l.body ++ LF ∷ more = ap (λ t. t ++ more) l.whole ∙ append_assoc l.body (LF ∷ []) more in (
       ap lines_of joined ∙ lines_of-line l.body more l.one_end ∙ ap (λ t. t ∷ lines_of more) (sym l.whole),

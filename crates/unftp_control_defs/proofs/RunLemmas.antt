@@ -1,8 +1,18 @@
--- Runs over events that are put together.
-use Rattle.std.proofs.Common.{◌≡◌, List, [], ◌∷◌, ◌++◌, refl, sym, ap, ◌∙◌, append_assoc}
+-- Runs over events and inputs that are put together.
+use Rattle.std.proofs.Common.{◌≡◌, ◌≤◌, ℕ, Bool, true, false, ◌||◌, ◌+◌, List, [], ◌∷◌, ◌++◌, Option, length, map, drop, refl, sym, ap, ◌∙◌, arith, append_assoc, length-append}
+use Rattle.std.specs.Prelude.{if◌then◌else◌}
+use Rattle.std.specs.List.{concat}
+use Rattle.std.proofs.lemmas.List.{append-nil, drop-append-le, drop_all, length-map}
+use Rattle.std.proofs.lemmas.List.Folds.{concat-append}
+use Rattle.std.proofs.Math.Seq.{drop-append-add}
+use Rattle.unftp_control_defs.specs.Bytes.{Bytes, LF, Lacks}
 use Rattle.unftp_control_defs.specs.Events.{FtpEvent}
-use Rattle.unftp_control_defs.specs.FtpReply.{encoded}
-use Rattle.unftp_control_defs.specs.Run.{Law, last_state, text_of}
+use Rattle.unftp_control_defs.specs.FtpReply.{FtpReply, encoded}
+use Rattle.unftp_control_defs.specs.Lines.{IsLine, lines_of, incomplete_line}
+use Rattle.unftp_control_defs.specs.LineLimit.{event_with_limit, events_with_limit, run_with_limit, ends_with_limit, unread, after_end}
+use Rattle.unftp_control_defs.specs.Pieces.{replies_in_turn}
+use Rattle.unftp_control_defs.specs.Run.{Law, run_of, ends, replies, last_state, text_of}
+use Rattle.unftp_control_defs.proofs.LineLemmas.{Lines-lines_of, lines_of-append, lines_of-incomplete, incomplete_line-append, incomplete_line-incomplete, line_first, events_with_limit-append, events_with_limit-incomplete}
 
 pub last_state-append : {S : Type 0} (law : Law S) (s : S) (events more : List FtpEvent) → last_state law s (events ++ more) ≡ last_state law (last_state law s events) more
 last_state-append law s [] more = refl
@@ -14,3 +24,188 @@ text_of-append law s [] more = refl
 text_of-append law s (event ∷ events) more =
     ap (λ text. encoded (law.says s event) ++ text) (text_of-append law (law.next s event) events more)
     ∙ sym (append_assoc (encoded (law.says s event)) (text_of law (law.next s event) events) (text_of law (last_state law (law.next s event) events) more))
+
+pub replies-append : {S : Type 0} (law : Law S) (s : S) (events more : List FtpEvent) →
+    replies law s (events ++ more) ≡ replies law s events ++ replies law (last_state law s events) more
+replies-append law s [] more = refl
+replies-append law s (event ∷ events) more = ap (λ later. law.says s event ∷ later) (replies-append law (law.next s event) events more)
+
+module _ {S : Type 0} (law : Law S) where
+  -- one event first, after which the handler is done or goes on
+  run_of-done : (s : S) (event : FtpEvent) (events : List FtpEvent) → law.done (law.next s event) ≡ true →
+      (run_of law s (event ∷ events) ≡ event ∷ []) × (ends law s (event ∷ events) ≡ true)
+  run_of-done s event events done = rw (done) (refl, refl)
+
+  run_of-on : (s : S) (event : FtpEvent) (events : List FtpEvent) → law.done (law.next s event) ≡ false →
+      (run_of law s (event ∷ events) ≡ event ∷ run_of law (law.next s event) events) × (ends law s (event ∷ events) ≡ ends law (law.next s event) events)
+  run_of-on s event events on = rw (on) (refl, refl)
+
+  -- a run that doesn't end takes all events, and goes on over more of them
+  on-first : (done later : Bool) → (done || later) ≡ false → (done ≡ false) × (later ≡ false)
+  on-first true later h = absurd (cc)
+  on-first false later h = (refl, h)
+
+  pub run_of-all : (s : S) (events : List FtpEvent) → ends law s events ≡ false → run_of law s events ≡ events
+  run_of-all s [] h = refl
+  run_of-all s (event ∷ events) h =
+      let on = on-first (law.done (law.next s event)) (ends law (law.next s event) events) h in
+      (run_of-on s event events on.0).0 ∙ ap (λ later. event ∷ later) (run_of-all (law.next s event) events on.1)
+
+  pub run_of-append : (s : S) (events more : List FtpEvent) → ends law s events ≡ false →
+      (run_of law s (events ++ more) ≡ events ++ run_of law (last_state law s events) more)
+      × (ends law s (events ++ more) ≡ ends law (last_state law s events) more)
+  run_of-append s [] more h = (refl, refl)
+  run_of-append s (event ∷ events) more h =
+      let on = on-first (law.done (law.next s event)) (ends law (law.next s event) events) h in
+      let first = run_of-on s event (events ++ more) on.0 in
+      let later = run_of-append (law.next s event) events more on.1 in
+      (first.0 ∙ ap (λ later. event ∷ later) later.0, first.1 ∙ later.1)
+
+  -- one that ended takes none of them
+  ended-first : (s : S) (event : FtpEvent) (events more : List FtpEvent) → ends law s (event ∷ events) ≡ true →
+      (ends law (law.next s event) events ≡ true → (run_of law (law.next s event) (events ++ more) ≡ run_of law (law.next s event) events) × (ends law (law.next s event) (events ++ more) ≡ true)) →
+      (done : Bool) → law.done (law.next s event) ≡ done →
+      (run_of law s (event ∷ (events ++ more)) ≡ run_of law s (event ∷ events)) × (ends law s (event ∷ (events ++ more)) ≡ true)
+  ended-first s event events more h later true done =
+      let both = run_of-done s event (events ++ more) done in
+      (both.0 ∙ sym (run_of-done s event events done).0, both.1)
+  ended-first s event events more h later false on =
+      let first = run_of-on s event events on in
+      let both = run_of-on s event (events ++ more) on in
+      let rest = later (sym first.1 ∙ h) in
+      (both.0 ∙ ap (λ run. event ∷ run) rest.0 ∙ sym first.0, both.1 ∙ rest.1)
+
+  pub run_of-ended : (s : S) (events more : List FtpEvent) → ends law s events ≡ true →
+      (run_of law s (events ++ more) ≡ run_of law s events) × (ends law s (events ++ more) ≡ true)
+  run_of-ended s [] more h = absurd (cc)
+  run_of-ended s (event ∷ events) more h =
+      ended-first s event events more h (λ later. run_of-ended (law.next s event) events more later) (law.done (law.next s event)) refl
+
+  -- a run has no more events than there are
+  length-first : (s : S) (event : FtpEvent) (events : List FtpEvent) → length (run_of law (law.next s event) events) ≤ length events →
+      (done : Bool) → law.done (law.next s event) ≡ done → length (run_of law s (event ∷ events)) ≤ length (event ∷ events)
+  length-first s event events later true done = omega (arith, ap length (run_of-done s event events done).0)
+  length-first s event events later false on = omega (arith, ap length (run_of-on s event events on).0, later)
+
+  pub run_of-length : (s : S) (events : List FtpEvent) → length (run_of law s events) ≤ length events
+  run_of-length s [] = omega arith
+  run_of-length s (event ∷ events) = length-first s event events (run_of-length (law.next s event) events) (law.done (law.next s event)) refl
+
+  -- a handler that is never done takes all events
+  pub never_ends : ((s : S) → law.done s ≡ false) → (s : S) (events : List FtpEvent) → ends law s events ≡ false
+  never_ends never s [] = refl
+  never_ends never s (event ∷ events) = (run_of-on s event events (never (law.next s event))).1 ∙ never_ends never (law.next s event) events
+
+  -- Inputs, with a limit or without one.
+  module _ (limit : Option ℕ) where
+    -- one line first
+    module _ (s s' : S) (line more : Bytes) (is_line : IsLine line) (next : s' ≡ law.next s (event_with_limit limit line)) where
+      first_event : events_with_limit limit (line ++ more) ≡ event_with_limit limit line ∷ events_with_limit limit more
+      first_event = ap (map (event_with_limit limit)) (line_first line more is_line).0
+
+      pub ended-line : law.done s' ≡ true → (ends_with_limit limit law s (line ++ more) ≡ true) × (unread limit law s (line ++ more) ≡ more)
+          × (run_with_limit limit law s (line ++ more) ≡ event_with_limit limit line ∷ [])
+      ended-line done =
+          let both = run_of-done s (event_with_limit limit line) (events_with_limit limit more) (ap law.done (sym next) ∙ done) in
+          let run : run_with_limit limit law s (line ++ more) ≡ event_with_limit limit line ∷ [] = ap (run_of law s) first_event ∙ both.0 in
+          (
+            ap (ends law s) first_event ∙ both.1,
+            ap (λ taken. concat (drop (length taken) (lines_of (line ++ more))) ++ incomplete_line (line ++ more)) run
+            ∙ ap (λ lines. concat (drop 1 lines) ++ incomplete_line (line ++ more)) (line_first line more is_line).0
+            ∙ ap (λ incomplete. concat (lines_of more) ++ incomplete) (line_first line more is_line).1
+            ∙ sym (Lines-lines_of more).whole,
+            run,
+          )
+
+      pub on-line : law.done s' ≡ false → (ends_with_limit limit law s (line ++ more) ≡ ends_with_limit limit law s' more)
+          × (unread limit law s (line ++ more) ≡ unread limit law s' more)
+          × (run_with_limit limit law s (line ++ more) ≡ event_with_limit limit line ∷ run_with_limit limit law s' more)
+      on-line on =
+          let both = run_of-on s (event_with_limit limit line) (events_with_limit limit more) (ap law.done (sym next) ∙ on) in
+          let run : run_with_limit limit law s (line ++ more) ≡ event_with_limit limit line ∷ run_with_limit limit law s' more =
+          ap (run_of law s) first_event ∙ both.0 ∙ ap (λ z. event_with_limit limit line ∷ run_with_limit limit law z more) (sym next) in
+          (
+            ap (ends law s) first_event ∙ both.1 ∙ ap (λ z. ends_with_limit limit law z more) (sym next),
+            ap (λ taken. concat (drop (length taken) (lines_of (line ++ more))) ++ incomplete_line (line ++ more)) run
+            ∙ ap (λ lines. concat (drop (length (event_with_limit limit line ∷ run_with_limit limit law s' more)) lines) ++ incomplete_line (line ++ more)) (line_first line more is_line).0
+            ∙ ap (λ incomplete. concat (drop (length (run_with_limit limit law s' more)) (lines_of more)) ++ incomplete) (line_first line more is_line).1,
+            run,
+          )
+
+    pub unread-incomplete : (s : S) (incomplete : Bytes) → Lacks LF incomplete → unread limit law s incomplete ≡ incomplete
+    unread-incomplete s incomplete unended =
+        ap (λ lines. concat (drop (length (run_of law s (map (event_with_limit limit) lines))) lines) ++ incomplete_line incomplete) (lines_of-incomplete incomplete unended)
+        ∙ incomplete_line-incomplete incomplete unended
+
+    -- a run that doesn't end leaves the incomplete line, and goes on over more bytes
+    pub unread-on : (s : S) (input : Bytes) → ends_with_limit limit law s input ≡ false → unread limit law s input ≡ incomplete_line input
+    unread-on s input on =
+        let all : length (run_with_limit limit law s input) ≡ length (lines_of input) = ap length (run_of-all s (events_with_limit limit input) on) ∙ length-map (lines_of input) (event_with_limit limit) in
+        ap (λ lines. concat lines ++ incomplete_line input) (drop_all (length (run_with_limit limit law s input)) (lines_of input) (omega (arith, all)))
+
+    module _ (s : S) (input more : Bytes) where
+      pub run-append : ends_with_limit limit law s input ≡ false →
+          (run_with_limit limit law s (input ++ more) ≡ events_with_limit limit input ++ run_with_limit limit law (last_state law s (events_with_limit limit input)) (incomplete_line input ++ more))
+          × (ends_with_limit limit law s (input ++ more) ≡ ends_with_limit limit law (last_state law s (events_with_limit limit input)) (incomplete_line input ++ more))
+      run-append on =
+          let both = run_of-append s (events_with_limit limit input) (events_with_limit limit (incomplete_line input ++ more)) on in
+          (ap (run_of law s) (events_with_limit-append limit input more) ∙ both.0, ap (ends law s) (events_with_limit-append limit input more) ∙ both.1)
+
+      pub unread-append : ends_with_limit limit law s input ≡ false →
+          unread limit law s (input ++ more) ≡ unread limit law (last_state law s (events_with_limit limit input)) (incomplete_line input ++ more)
+      unread-append on =
+          let later : List FtpEvent = run_with_limit limit law (last_state law s (events_with_limit limit input)) (incomplete_line input ++ more) in
+          let taken : length (run_with_limit limit law s (input ++ more)) ≡ length (lines_of input) + length later =
+          ap length (run-append on).0 ∙ length-append (events_with_limit limit input) later ∙ ap (λ n. n + length later) (length-map (lines_of input) (event_with_limit limit)) in
+          ap (λ n. concat (drop n (lines_of (input ++ more))) ++ incomplete_line (input ++ more)) taken
+          ∙ ap (λ lines. concat (drop (length (lines_of input) + length later) lines) ++ incomplete_line (input ++ more)) (lines_of-append input more)
+          ∙ ap (λ lines. concat lines ++ incomplete_line (input ++ more)) (drop-append-add (lines_of input) (lines_of (incomplete_line input ++ more)) (length later))
+          ∙ ap (λ incomplete. concat (drop (length later) (lines_of (incomplete_line input ++ more))) ++ incomplete) (incomplete_line-append input more)
+
+      -- one that ended takes none of them
+      pub run-ended : ends_with_limit limit law s input ≡ true →
+          (run_with_limit limit law s (input ++ more) ≡ run_with_limit limit law s input) × (ends_with_limit limit law s (input ++ more) ≡ true)
+      run-ended ended =
+          let both = run_of-ended s (events_with_limit limit input) (events_with_limit limit (incomplete_line input ++ more)) ended in
+          (ap (run_of law s) (events_with_limit-append limit input more) ∙ both.0, ap (ends law s) (events_with_limit-append limit input more) ∙ both.1)
+
+      pub unread-ended : ends_with_limit limit law s input ≡ true → unread limit law s (input ++ more) ≡ unread limit law s input ++ more
+      unread-ended ended =
+          let run : List FtpEvent = run_with_limit limit law s input in
+          let few : length run ≤ length (lines_of input) = omega (arith, run_of-length s (events_with_limit limit input), length-map (lines_of input) (event_with_limit limit)) in
+          let left : Bytes = concat (drop (length run) (lines_of input)) in
+          let next : List Bytes = lines_of (incomplete_line input ++ more) in
+          ap (λ taken. concat (drop (length taken) (lines_of (input ++ more))) ++ incomplete_line (input ++ more)) (run-ended ended).0
+          ∙ ap (λ lines. concat (drop (length run) lines) ++ incomplete_line (input ++ more)) (lines_of-append input more)
+          ∙ ap (λ lines. concat lines ++ incomplete_line (input ++ more)) (drop-append-le (length run) (lines_of input) next few)
+          ∙ ap (λ bytes. bytes ++ incomplete_line (input ++ more)) (concat-append (drop (length run) (lines_of input)) next)
+          ∙ append_assoc left (concat next) (incomplete_line (input ++ more))
+          ∙ ap (λ incomplete. left ++ (concat next ++ incomplete)) (incomplete_line-append input more)
+          ∙ ap (λ bytes. left ++ bytes) (sym (Lines-lines_of (incomplete_line input ++ more)).whole)
+          ∙ sym (append_assoc left (incomplete_line input) more)
+
+    -- the replies of pieces: those of the first one, and later ones where the run goes on
+    in_turn-first : (s : S) (first more : Bytes) (later : List FtpReply) →
+        later ≡ replies law (last_state law s (events_with_limit limit first)) (run_with_limit limit law (last_state law s (events_with_limit limit first)) (incomplete_line first ++ more)) →
+        (ended : Bool) → ends_with_limit limit law s first ≡ ended →
+        replies law s (run_with_limit limit law s first) ++ (if ended then [] else later) ≡ replies law s (run_with_limit limit law s (first ++ more))
+    in_turn-first s first more later is true ended = append-nil (replies law s (run_with_limit limit law s first)) ∙ sym (ap (replies law s) (run-ended s first more ended).0)
+    in_turn-first s first more later is false on =
+        let s' : S = last_state law s (events_with_limit limit first) in
+        ap (λ run. replies law s run ++ later) (run_of-all s (events_with_limit limit first) on)
+        ∙ ap (λ later. replies law s (events_with_limit limit first) ++ later) is
+        ∙ sym (replies-append law s (events_with_limit limit first) (run_with_limit limit law s' (incomplete_line first ++ more)))
+        ∙ sym (ap (replies law s) (run-append s first more on).0)
+
+    in_turn : (s : S) (incomplete : Bytes) (pieces : List Bytes) → Lacks LF incomplete →
+        replies_in_turn limit law s incomplete pieces ≡ replies law s (run_with_limit limit law s (incomplete ++ concat pieces))
+    in_turn s incomplete [] unended = sym (ap (λ events. replies law s (run_of law s events)) (ap (events_with_limit limit) (append-nil incomplete) ∙ events_with_limit-incomplete limit incomplete unended))
+    in_turn s incomplete (piece ∷ pieces) unended =
+        let first : Bytes = incomplete ++ piece in
+        let s' : S = last_state law s (events_with_limit limit first) in
+        in_turn-first s first (concat pieces) (replies_in_turn limit law s' (incomplete_line first) pieces)
+        (in_turn s' (incomplete_line first) pieces (Lines-lines_of first).unended) (ends_with_limit limit law s first) refl
+        ∙ ap (λ input. replies law s (run_with_limit limit law s input)) (append_assoc incomplete piece (concat pieces))
+
+    pub replies_in_turn-joined : (s : S) (pieces : List Bytes) → replies_in_turn limit law s [] pieces ≡ replies law s (run_with_limit limit law s (concat pieces))
+    replies_in_turn-joined s pieces = in_turn s [] pieces tt

@@ -1,4 +1,5 @@
 pub mod SendLemmas
 pub mod EndingLemmas
 mod LineBufferLemmas
+mod LineRunLemmas
 mod ExampleLemmas

@@ -289,6 +289,7 @@ module _ (old new : Codec) (dropped before : Bytes) (taken : ℕ) (answer : Deco
         meaning =
             same_Some (event_meant event) (first_event old first.line) (sym tells.0 ∙ first.returned)
             ∙ whole_event old dropped first.line old.skipping refl lost (line_some first.line first.is_line);
+        none_scanned = rw (unskipped_now first.skipping) (omega (arith, first.place));
       }
       by_result (Ok (Some event)) tells (inr (inr no_memory)) = absurd (tells.1 no_memory.no_memory)
       by_result (Err error) tells (inl none) = absurd (none_no_memory answer none.returned tells)
@@ -327,23 +328,25 @@ module _ (old new : Codec) (dropped dropped' buf pending front : Bytes) (start t
       rw (← drop-drop taken start buf, dropped_of_the_rest)
       (takes_next old new dropped rest taken answer well.place_within well.dropped_well well.limited limit within_the_rest of_the_rest (length buf) held result tells)
 
--- a buffer with no line has no events, and one with a line has that of the line before the others
-module _ (p q : Pending) where
-  pub no_line-events : HasNoLine p q → events_with_limit p.limit p.bytes ≡ []
-  no_line-events none = events_with_limit-incomplete p.limit p.bytes none.unended
+-- right after a line was taken, nothing is dropped or scanned, so that the buffer may be emptied
+module _ (codec : Codec) (dropped buf : Bytes) (start held : ℕ) (well : IsLineBuffer codec dropped buf start held)
+    (unscanned : length (drop start buf) - codec.place ≡ length (dropped ++ drop start buf)) where
+  pub none_dropped-cleared : dropped ≡ []
+  none_dropped-cleared = no_bytes dropped (omega (arith, unscanned, length-append dropped (drop start buf)))
+    where
+      no_bytes : (bytes : Bytes) → length bytes ≡ 0 → bytes ≡ []
+      no_bytes [] h = refl
+      no_bytes (b ∷ bytes) h = absurd (omega (arith, h))
 
-  pub no_line-incomplete : HasNoLine p q → q.bytes ≡ incomplete_line p.bytes
-  no_line-incomplete none = none.same ∙ sym (incomplete_line-incomplete p.bytes none.unended)
-
-  module _ (event : FtpEvent) (first : TakesLine p event q) where
-    at_its_end : p.bytes ≡ first.is_line.body ++ LF ∷ q.bytes
-    at_its_end = first.whole ∙ ap (λ line. line ++ q.bytes) first.is_line.whole ∙ append_assoc first.is_line.body (LF ∷ []) q.bytes
-
-    pub first_line-events : events_with_limit p.limit p.bytes ≡ event ∷ events_with_limit p.limit q.bytes
-    first_line-events =
-        ap (events_with_limit p.limit) at_its_end ∙ events_with_limit-line p.limit first.is_line.body q.bytes first.is_line.one_end
-        ∙ ap (λ line. event_with_limit p.limit line ∷ events_with_limit p.limit q.bytes) (sym first.is_line.whole)
-        ∙ ap (λ e. e ∷ events_with_limit p.limit q.bytes) (sym first.meaning)
-
-    pub first_line-incomplete : incomplete_line p.bytes ≡ incomplete_line q.bytes
-    first_line-incomplete = ap incomplete_line at_its_end ∙ incomplete_line-line first.is_line.body q.bytes first.is_line.one_end
+  pub line_buffer-cleared : IsLineBuffer codec dropped [] 0 held
+  line_buffer-cleared = record {
+    start_within = omega arith;
+    place_within = (omega (arith, unscanned, length-append dropped (drop start buf), well.place_within.0), Lacks-take codec.place);
+    dropped_well = well.dropped_well;
+    limited = well.limited;
+    no_more = omega arith;
+  }
+    where
+      Lacks-take : (n : ℕ) → Lacks LF (take n [])
+      Lacks-take zero = tt
+      Lacks-take (suc n) = tt

@@ -1,17 +1,21 @@
 -- What contracts see of an engine.
-use Rattle.std.specs.Prelude.{◌≡◌, ℕ, ◌+◌, ◌-◌, ◌^◌, Bool, false, if◌then◌else◌, List, [], ◌++◌, length, min, Option}
+use Rattle.std.specs.Prelude.{◌≡◌, ℕ, ◌+◌, ◌-◌, ◌^◌, Bool, true, false, if◌then◌else◌, List, [], ◌++◌, length, min, Option}
 use Rattle.unftp_control_defs.specs.Bytes.{Bytes}
 use Rattle.unftp_control_defs.specs.Lines.{incomplete_line}
 use Rattle.unftp_control_defs.specs.Events.{FtpEvent}
-use Rattle.unftp_control_defs.specs.LineLimit.{exceeds, events_with_limit}
+use Rattle.unftp_control_defs.specs.LineLimit.{exceeds, events_with_limit, run_with_limit, ends_with_limit, unread}
 use Rattle.unftp_control_defs.specs.Run.{Law, last_state}
+use Rattle.unftp_control_engine.specs.declared.engine.Phase.{Phase}
+use Rattle.unftp_control_engine.specs.declared.engine.Phase.TheVariants as phase
 
 pub record EngineState : Type 0 where
-  -- the bytes after the last line feed, and how many of them `left` reports
+  -- the bytes after the last line feed; none once the run has ended
   pub incomplete : Bytes
+  -- how many bytes `left` reports
   pub left : ℕ
-  -- whether the engine has failed
+  -- whether the engine has failed, and whether the run has ended: never both
   pub failed : Bool
+  pub finished : Bool
   -- how many bytes were scanned for a line feed since it was made
   pub tests : ℕ
   -- how many bytes a line may have, its LF counted, if that is limited
@@ -26,6 +30,7 @@ fresh limit = record {
   incomplete = [];
   left = 0;
   failed = false;
+  finished = false;
   tests = 0;
   limit = limit;
   buffered = 0;
@@ -36,9 +41,18 @@ fresh limit = record {
 abbrev pub saturating_u64 : ℕ → ℕ
 saturating_u64 n = min n (2 ^ 64 - 1)
 
--- it goes on with what it is fed
+-- in which phase an engine has failed, and in which its run has ended
+abbrev pub has_failed : Phase → Bool
+has_failed phase.Failed = true
+has_failed _ = false
+
+abbrev pub has_finished : Phase → Bool
+has_finished phase.Finished = true
+has_finished _ = false
+
+-- it takes the lines of what it is fed
 abbrev pub IsRunning : EngineState → Type 0
-IsRunning engine = engine.failed ≡ false
+IsRunning engine = (engine.failed ≡ false) × (engine.finished ≡ false)
 
 -- how many bytes of an incomplete line are kept: none of one that is too long already
 abbrev pub kept_length : Option ℕ → Bytes → ℕ
@@ -52,11 +66,27 @@ bytes_with engine piece = engine.incomplete ++ piece
 abbrev pub events_with : EngineState → Bytes → List FtpEvent
 events_with engine piece = events_with_limit engine.limit (bytes_with engine piece)
 
--- All lines of these bytes are taken: the handler is in the last state of its run, and the engine
--- goes on after the incomplete line.
+-- the run of a handler over these, and the bytes after its last line
+abbrev pub run_with : {S : Type 0} → EngineState → Law S → S → Bytes → List FtpEvent
+run_with engine law s piece = run_with_limit engine.limit law s (bytes_with engine piece)
+
+abbrev pub ends_with : {S : Type 0} → EngineState → Law S → S → Bytes → Bool
+ends_with engine law s piece = ends_with_limit engine.limit law s (bytes_with engine piece)
+
+abbrev pub unread_with : {S : Type 0} → EngineState → Law S → S → Bytes → Bytes
+unread_with engine law s piece = unread engine.limit law s (bytes_with engine piece)
+
+-- a piece that comes after the end of the run is counted
+abbrev pub more_left : EngineState → Bytes → EngineState
+more_left engine piece = record engine { left = saturating_u64 (engine.left + length piece) }
+
+-- The lines of the run are taken: the handler is in its last state, and either the run has ended, or
+-- the engine goes on after the incomplete line.
 pub record Leaves {S : Type 0} (law : Law S) (before : EngineState) (piece : Bytes) (s s' : S)
     (after : EngineState) : Type 0 where
-  pub state : s' ≡ last_state law s (events_with before piece)
-  pub running : IsRunning after
-  pub incomplete : after.incomplete ≡ incomplete_line (bytes_with before piece)
-  pub left : after.left ≡ saturating_u64 (length (incomplete_line (bytes_with before piece)))
+  pub state : s' ≡ last_state law s (run_with before law s piece)
+  pub no_failure : after.failed ≡ false
+  pub finished : after.finished ≡ ends_with before law s piece
+  pub incomplete : after.incomplete
+      ≡ (if after.finished then [] else incomplete_line (bytes_with before piece))
+  pub left : after.left ≡ saturating_u64 (length (unread_with before law s piece))

@@ -1,5 +1,5 @@
 -- A handler and snapshots for the examples.
-use Rattle.std.specs.Prelude.{◌≡◌, ℕ, ◌+◌, false, Option, Some, codes}
+use Rattle.std.specs.Prelude.{◌≡◌, ℕ, ◌+◌, ◌==◌, false, Option, Some, codes}
 use Rattle.unftp_control_defs.specs.Bytes.{Bytes}
 use Rattle.unftp_control_defs.specs.Events.{FtpEvent, Command, out_of_memory}
 use Rattle.unftp_control_defs.specs.FtpCommand.{Noop}
@@ -14,6 +14,16 @@ counting = record {
   says = λ _ _. CodeAndMsg 200 (codes "OK");
   next = λ taken _. taken + 1;
   may_fail = λ _ _ fault. fault ≡ out_of_memory;
+  done = λ _. false;
+}
+
+-- The same, which is done once it has taken five events.
+abbrev pub counting_to_five : Law ℕ
+counting_to_five = record {
+  says = counting.says;
+  next = counting.next;
+  may_fail = counting.may_fail;
+  done = λ taken. taken == 5;
 }
 
 abbrev pub noop : FtpEvent
@@ -34,6 +44,7 @@ waiting limit = record {
   incomplete = codes "NO";
   left = 2;
   failed = false;
+  finished = false;
   tests = 2;
   limit = limit;
   buffered = 2;

@@ -85,6 +85,18 @@ settled pending = record {
   held = pending.held;
 }
 
+-- The pending bytes have left the buffer too.
+abbrev pub cleared : Pending → Pending
+cleared pending = record {
+  bytes = [];
+  kept = 0;
+  limit = pending.limit;
+  tests = pending.tests;
+  unscanned = 0;
+  buffered = 0;
+  held = pending.held;
+}
+
 -- There is no line, and all bytes are scanned; those that are kept are fewer than a line may have.
 pub record HasNoLine (before after : Pending) : Type 0 where
   pub unended : Lacks LF before.bytes
@@ -93,12 +105,13 @@ pub record HasNoLine (before after : Pending) : Type 0 where
   pub kept : after.kept ≡ kept_length before.limit before.bytes
   pub short : IfSome before.limit (λ limit. after.kept < limit)
 
--- The first line is taken away, and this is its event.
+-- The first line is taken away, and this is its event. No byte after it is scanned.
 pub record TakesLine (before : Pending) (event : FtpEvent) (after : Pending) : Type 0 where
   pub line : Bytes
   pub is_line : IsLine line
   pub whole : before.bytes ≡ line ++ after.bytes
   pub meaning : event ≡ event_with_limit before.limit line
+  pub none_scanned : after.unscanned ≡ length after.bytes
 
 abbrev pub TakesNext : {E : Type 0} → Pending → Result (Option Event) E → Pending → Type 0
 TakesNext before result after = MatchResult result

@@ -1,13 +1,13 @@
 //! The engine: lines in, replies out.
-ghost use Rattle.std.specs.Prelude.{◌≡◌, ◌<◌, ◌≤◌, ◌+◌, ◌↔◌, ◌∷◌, ◌++◌, [], max, None, Some, IfSome, OnOk, OnErr, IsErrOf, is_err, true, false, length};
+ghost use Rattle.std.specs.Prelude.{◌≡◌, ◌<◌, ◌≤◌, ◌+◌, ◌↔◌, ◌∷◌, ◌++◌, [], max, None, Some, IfSome, IfOk, OnOk, OnErr, IsErrOf, IsTrue, is_ok, is_err, if◌then◌else◌, true, false, length};
 ghost use Rattle.std.specs.Io.KnownBytes.{Appends};
 ghost use Rattle.unftp_control_defs.specs.FtpReply.{encoded};
-ghost use Rattle.unftp_control_defs.specs.LineLimit.{events_with_limit};
+ghost use Rattle.unftp_control_defs.specs.LineLimit.{run_with_limit, ends_with_limit, unread, after_end};
 ghost use Rattle.unftp_control_defs.specs.Lines.{incomplete_line};
 ghost use Rattle.unftp_control_defs.specs.Run.{text_of};
 ghost use Rattle.unftp_control_reply.specs.ReplyMeaning.{reply_of};
 ghost use Rattle.unftp_control_engine.specs.Endings.{RunOutcome, WriteFailed, HandlerFailed, RanOutOfMemory, OnWrite, OnHandler, OnMemory, ReadsNothing, snapshot_of};
-ghost use Rattle.unftp_control_engine.specs.Engine.{IsRunning, Leaves, events_with, fresh, kept_length};
+ghost use Rattle.unftp_control_engine.specs.Engine.{IsRunning, Leaves, bytes_with, run_with, fresh, kept_length, more_left, saturating_u64};
 ghost use Rattle.unftp_control_engine.specs.EventMeaning.{event_meant};
 ghost use Rattle.unftp_control_engine.specs.LineBuffer.{no_lines};
 ghost use Rattle.unftp_control_engine.specs.Writing.{Flushed};
@@ -57,56 +57,80 @@ fn answer_event<H: Handler, W: Write>(
     }
 }
 
-/// Answers each pending line.
+/// Answers each pending line, up to the one that leaves the handler done: returns whether there was
+/// one.
 fn answer_lines<H: Handler, W: Write>(
     line_buffer: &mut LineBuffer,
     reply_bytes: &mut Vec<u8>,
     handler: &mut H,
     output: &mut Output<W>,
-) -> Result<(), ServeError>
+) -> Result<bool, ServeError>
     ensures outcome { RunOutcome H.law
         (snapshot_of H.state H.failures W.contents handler.old output.old)
-        (events_with_limit line_buffer.old.limit line_buffer.old.bytes)
+        (run_with_limit line_buffer.old.limit H.law (H.state handler.old) line_buffer.old.bytes)
         (snapshot_of H.state H.failures W.contents handler.new output.new)
         result }
-    ensures incomplete { OnOk result
-        (line_buffer.new.bytes ≡ incomplete_line line_buffer.old.bytes) }
-    ensures unscanned { OnOk result (line_buffer.new.unscanned ≡ 0) }
-    ensures kept { OnOk result
-        (line_buffer.new.kept ≡ kept_length line_buffer.old.limit line_buffer.new.bytes) }
-    ensures room { OnOk result
-        (IfSome line_buffer.old.limit (λ limit. line_buffer.new.kept < limit)) }
+    ensures ended { IfOk result (λ ended. ended
+        ≡ ends_with_limit line_buffer.old.limit H.law (H.state handler.old) line_buffer.old.bytes) }
+    ensures unread { OnOk result (line_buffer.new.bytes
+        ≡ unread line_buffer.old.limit H.law (H.state handler.old) line_buffer.old.bytes) }
+    ensures unscanned { IfOk result (λ ended. line_buffer.new.unscanned
+        ≡ (if ended then length line_buffer.new.bytes else 0)) }
+    ensures kept { IfOk result (λ ended. ended ≡ false
+        → line_buffer.new.kept ≡ kept_length line_buffer.old.limit line_buffer.new.bytes) }
+    ensures room { IfOk result (λ ended. ended ≡ false
+        → IfSome line_buffer.old.limit (λ limit. line_buffer.new.kept < limit)) }
     ensures limit { line_buffer.new.limit ≡ line_buffer.old.limit }
     ensures held { line_buffer.new.held ≡ line_buffer.old.held }
     ensures tests { line_buffer.new.tests ≤ line_buffer.old.tests + line_buffer.old.unscanned }
-    ensures tested { OnOk result
-        (line_buffer.new.tests ≡ line_buffer.old.tests + line_buffer.old.unscanned) }
+    ensures tested { OnOk result (line_buffer.new.tests + line_buffer.new.unscanned
+        ≡ line_buffer.old.tests + line_buffer.old.unscanned) }
     ensures never_fewer { line_buffer.old.tests ≤ line_buffer.new.tests }
 {
     loop {
-        match line_buffer.next()? {
-            Some(event) => answer_event(reply_bytes, event, handler, output)?,
-            None => return Ok(()),
+        let event = match line_buffer.next()? {
+            Some(event) => event,
+            None => return Ok(false),
+        };
+        answer_event(reply_bytes, event, handler, output)?;
+        if handler.done() {
+            return Ok(true);
         }
     }
 }
 
-/// Answers each line of the pending bytes and a piece after them, and then removes these lines from
-/// the buffer.
+/// What a piece leaves.
+#[derive(Drop)]
+struct Answered {
+    /// How many bytes came after the last line of the run, or `u64::MAX` where there are more.
+    left: u64,
+    /// Whether the run has ended.
+    ended: bool,
+}
+
+/// Answers the lines of the pending bytes and a piece after them, and then removes them from the
+/// buffer: once the run has ended, all bytes.
 fn answer_piece<H: Handler, W: Write>(
     line_buffer: &mut LineBuffer,
     reply_bytes: &mut Vec<u8>,
     piece: &[u8],
     handler: &mut H,
     output: &mut Output<W>,
-) -> Result<(), ServeError>
+) -> Result<Answered, ServeError>
     ensures outcome { RunOutcome H.law
         (snapshot_of H.state H.failures W.contents handler.old output.old)
-        (events_with_limit line_buffer.old.limit (line_buffer.old.bytes ++ piece.now))
+        (run_with_limit line_buffer.old.limit H.law (H.state handler.old)
+        (line_buffer.old.bytes ++ piece.now))
         (snapshot_of H.state H.failures W.contents handler.new output.new)
         result }
-    ensures incomplete { OnOk result
-        (line_buffer.new.bytes ≡ incomplete_line (line_buffer.old.bytes ++ piece.now)) }
+    ensures ended { IfOk result (λ answered. answered.ended
+        ≡ ends_with_limit line_buffer.old.limit H.law (H.state handler.old)
+        (line_buffer.old.bytes ++ piece.now)) }
+    ensures left { IfOk result (λ answered. answered.left
+        ≡ saturating_u64 (length (unread line_buffer.old.limit H.law (H.state handler.old)
+        (line_buffer.old.bytes ++ piece.now)))) }
+    ensures incomplete { IfOk result (λ answered. line_buffer.new.bytes
+        ≡ (if answered.ended then [] else incomplete_line (line_buffer.old.bytes ++ piece.now))) }
     ensures unscanned { OnOk result (line_buffer.new.unscanned ≡ 0) }
     ensures kept { OnOk result
         (line_buffer.new.buffered ≡ kept_length line_buffer.old.limit line_buffer.new.bytes) }
@@ -120,13 +144,31 @@ fn answer_piece<H: Handler, W: Write>(
     ensures tests { line_buffer.new.tests
         ≤ line_buffer.old.tests + line_buffer.old.unscanned + length piece.now }
     ensures tested { OnOk result (line_buffer.new.tests
+        + length (after_end line_buffer.old.limit H.law (H.state handler.old)
+        (line_buffer.old.bytes ++ piece.now))
         ≡ line_buffer.old.tests + line_buffer.old.unscanned + length piece.now) }
     ensures never_fewer { line_buffer.old.tests ≤ line_buffer.new.tests }
 {
     line_buffer.append(piece)?;
-    answer_lines(line_buffer, reply_bytes, handler, output)?;
-    line_buffer.settle();
-    Ok(())
+    let ended = answer_lines(line_buffer, reply_bytes, handler, output)?;
+    let left = line_buffer.len();
+    if ended {
+        line_buffer.clear();
+    } else {
+        line_buffer.settle();
+    }
+    Ok(Answered { left, ended })
+}
+
+/// Where an engine stands.
+#[derive(Drop)]
+enum Phase {
+    /// It takes the lines of what it is fed.
+    Running,
+    /// The handler has ended the session: no byte is read as a line any more.
+    Finished,
+    /// A call of `feed` returned an error.
+    Failed,
 }
 
 /// Cuts an input that comes in pieces into lines, and answers each.
@@ -135,27 +177,28 @@ pub struct Engine {
     line_buffer: LineBuffer,
     reply_bytes: Vec<u8>,
     left: u64,
-    failed: bool,
+    phase: Phase,
 }
 
 impl Model for Engine {
-    ghost use Rattle.std.specs.Prelude.{◌≡◌, ◌<◌, false, length, IfSome};
-    ghost use Rattle.unftp_control_engine.specs.Engine.{EngineState, kept_length, saturating_u64};
+    ghost use Rattle.std.specs.Prelude.{◌≡◌, ◌<◌, false, IfSome};
+    ghost use Rattle.unftp_control_engine.specs.Engine.{EngineState, has_failed, has_finished, kept_length};
 
     ghost Value = { EngineState };
 
     ghost view = { λ engine. record {
       incomplete = engine.line_buffer.bytes;
       left = engine.left;
-      failed = engine.failed;
+      failed = has_failed engine.phase;
+      finished = has_finished engine.phase;
       tests = engine.line_buffer.tests;
       limit = engine.line_buffer.limit;
       buffered = engine.line_buffer.buffered;
       held = engine.line_buffer.held;
     } };
 
-    ghost invariant = { λ engine. engine.failed ≡ false → (engine.line_buffer.unscanned ≡ 0)
-        × (engine.left ≡ saturating_u64 (length engine.line_buffer.bytes))
+    ghost invariant = { λ engine. has_failed engine.phase ≡ false
+        → (engine.line_buffer.unscanned ≡ 0)
         × (engine.line_buffer.buffered
         ≡ kept_length engine.line_buffer.limit engine.line_buffer.bytes)
         × IfSome engine.line_buffer.limit (λ limit. engine.line_buffer.buffered < limit) };
@@ -189,16 +232,25 @@ impl Engine {
             line_buffer,
             reply_bytes: Vec::new(alloc),
             left: 0,
-            failed: false,
+            phase: Phase::Running,
         }
     }
 
-    /// How many bytes came after the last line feed of what was fed by calls that returned `Ok`, or
+    /// How many bytes came after the last line that was taken, of what was fed by calls that returned
+    /// `Ok`: after the last line feed, or, once the run has ended, after the line that ended it; or
     /// `u64::MAX` where there are more.
     pub fn left(&self) -> u64
         ensures { result ≡ self.now.left }
     {
         self.left
+    }
+
+    /// Whether the handler has ended the session: from then on no byte is read as a line. An engine
+    /// that failed isn't finished.
+    pub fn finished(&self) -> bool
+        ensures { result ≡ self.now.finished }
+    {
+        matches!(self.phase, Phase::Finished)
     }
 
     /// How many bytes were scanned for a line feed. Only contracts see it.
@@ -220,6 +272,10 @@ impl Engine {
     /// before the next line is taken. The bytes after the last line feed are kept; with a limit,
     /// those of a line that is too long are dropped, and `left` still counts them.
     ///
+    /// Where an event leaves the handler done, the engine is finished: its reply is the last, and
+    /// the bytes after its line are dropped. From then on a piece is counted by `left`, and nothing
+    /// else is done with it, at `Ok`.
+    ///
     /// `Handler`, `Write`, `WriteZero` and `OutOfMemory` come where the handler, the writer or an
     /// allocation fails: the replies to the lines before are written and flushed, and `left` stays.
     /// Each makes the engine a failed one: from then on it returns `Stopped` and does nothing.
@@ -229,20 +285,22 @@ impl Engine {
         handler: &mut H,
         output: &mut Output<W>,
     ) -> Result<(), ServeError>
-        // What was written and taken at each answer, over the lines of the pending bytes and the
-        // piece.
+        // What was written and taken at each answer, over the run of the handler over the lines of
+        // the pending bytes and the piece.
         ensures outcome { IsRunning self.old → RunOutcome H.law
             (snapshot_of H.state H.failures W.contents handler.old output.old)
-            (events_with self.old piece.now)
+            (run_with self.old H.law (H.state handler.old) piece.now)
             (snapshot_of H.state H.failures W.contents handler.new output.new)
             result }
         // The same, answer by answer.
         ensures written { IsRunning self.old
             → OnOk result (Appends (W.contents output.old.writer) (W.contents output.new.writer)
-            (text_of H.law (H.state handler.old) (events_with self.old piece.now))) }
+            (text_of H.law (H.state handler.old)
+            (run_with self.old H.law (H.state handler.old) piece.now))) }
         ensures flushed { IsRunning self.old
             → OnOk result (Flushed
-            (text_of H.law (H.state handler.old) (events_with self.old piece.now)) []
+            (text_of H.law (H.state handler.old)
+            (run_with self.old H.law (H.state handler.old) piece.now)) []
             output.old.unflushed output.new.unflushed) }
         ensures leaves { IsRunning self.old
             → OnOk result (Leaves H.law self.old piece.now
@@ -251,28 +309,36 @@ impl Engine {
             × (H.failures handler.new ≡ H.failures handler.old)) }
         ensures write { OnWrite result (WriteFailed H.law
             (snapshot_of H.state H.failures W.contents handler.old output.old)
-            (events_with self.old piece.now)
+            (run_with self.old H.law (H.state handler.old) piece.now)
             (snapshot_of H.state H.failures W.contents handler.new output.new)) }
         ensures handler { OnHandler result (HandlerFailed H.law
             (snapshot_of H.state H.failures W.contents handler.old output.old)
-            (events_with self.old piece.now)
+            (run_with self.old H.law (H.state handler.old) piece.now)
             (snapshot_of H.state H.failures W.contents handler.new output.new)) }
         ensures memory { OnMemory result (RanOutOfMemory H.law
             (snapshot_of H.state H.failures W.contents handler.old output.old)
-            (events_with self.old piece.now)
+            (run_with self.old H.law (H.state handler.old) piece.now)
             (snapshot_of H.state H.failures W.contents handler.new output.new)) }
         ensures never { ReadsNothing result }
+        // An engine whose run has ended counts the piece, and does nothing else.
+        ensures over { self.old.finished ≡ true → IsTrue (is_ok result)
+            × (handler.new ≡ handler.old) × (output.new ≡ output.old)
+            × (self.new ≡ more_left self.old piece.now) }
         // An engine that failed does nothing, and each error makes it one.
         ensures stopped { IsErrOf result ServeError.Stopped ↔ (self.old.failed ≡ true) }
         ensures unchanged { self.old.failed ≡ true
             → (handler.new ≡ handler.old) × (output.new ≡ output.old) }
         ensures stays { self.old.failed ≡ true → self.new ≡ self.old }
         ensures failed { self.new.failed ≡ is_err result }
-        ensures kept { OnErr result (self.new.left ≡ self.old.left) }
-        // At Ok each byte of the piece was scanned for a line feed exactly once; at an error at
-        // most once, and the count does not fall.
+        ensures kept { OnErr result ((self.new.left ≡ self.old.left)
+            × (self.new.finished ≡ false)) }
+        // At Ok each byte of the piece was scanned for a line feed exactly once, but those after
+        // the line that ended the run; at an error at most once, and the count does not fall.
         ensures tests { self.new.tests ≤ self.old.tests + length piece.now }
-        ensures tested { OnOk result (self.new.tests ≡ self.old.tests + length piece.now) }
+        ensures tested { IsRunning self.old → OnOk result (self.new.tests
+            + length (after_end self.old.limit H.law (H.state handler.old)
+            (bytes_with self.old piece.now))
+            ≡ self.old.tests + length piece.now) }
         ensures never_fewer { self.old.tests ≤ self.new.tests }
         // With a limit, the buffer never holds more than the limit and the piece together, and at
         // Ok it holds fewer bytes than the limit.
@@ -282,12 +348,17 @@ impl Engine {
         // At Ok it holds only the incomplete line, or nothing of one that is too long.
         ensures buffered { OnOk result
             (self.new.buffered ≡ kept_length self.new.limit self.new.incomplete) }
-        ensures held { OnOk result
+        ensures held { IsRunning self.old → OnOk result
             (self.new.held ≡ max self.old.held (self.old.buffered + length piece.now)) }
         ensures limit { self.new.limit ≡ self.old.limit }
     {
-        if self.failed {
-            return Err(ServeError::Stopped);
+        match self.phase {
+            Phase::Failed => return Err(ServeError::Stopped),
+            Phase::Finished => {
+                self.left = self.left.saturating_add(piece.len() as u64);
+                return Ok(());
+            }
+            Phase::Running => {}
         }
         let answer = answer_piece(
             &mut self.line_buffer,
@@ -297,12 +368,17 @@ impl Engine {
             output,
         );
         match answer {
-            Ok(()) => {
-                self.left = self.line_buffer.len();
+            Ok(answered) => {
+                self.left = answered.left;
+                self.phase = if answered.ended {
+                    Phase::Finished
+                } else {
+                    Phase::Running
+                };
                 Ok(())
             }
             Err(error) => {
-                self.failed = true;
+                self.phase = Phase::Failed;
                 Err(error)
             }
         }

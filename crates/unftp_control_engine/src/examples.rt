@@ -1,6 +1,6 @@
 //! Snapshots worked out by hand: what the definitions of the clauses of `feed` say of
 //! them.
-ghost use Rattle.std.specs.Prelude.{◌≡◌, ◌+◌, ◌-◌, ◌^◌, ◌<◌, ◌≤◌, ◌⊎◌, ℕ, false, [], ◌∷◌, None, Some, Err, length, codes};
+ghost use Rattle.std.specs.Prelude.{◌≡◌, ◌+◌, ◌-◌, ◌^◌, ◌<◌, ◌≤◌, ◌⊎◌, ℕ, true, false, [], ◌∷◌, None, Some, Err, length, codes};
 ghost use Rattle.std.specs.Io.KnownBytes.{Appends};
 ghost use Rattle.unftp_control_defs.specs.Bytes.{Bytes};
 ghost use Rattle.unftp_control_defs.specs.Events.{Fault, Refused, events, out_of_memory};
@@ -8,8 +8,9 @@ ghost use Rattle.unftp_control_defs.specs.LineLimit.{line_too_long};
 ghost use Rattle.unftp_control_error.specs.ErrorMeaning.{fault_of};
 ghost use Rattle.unftp_control_error.specs.ErrorParts.{KindAndSource};
 ghost use Rattle.unftp_control_engine.specs.Endings.{Snapshot, AllAnswered, WriteFailed, HandlerFailed, RanOutOfMemory, RunEnded, OnWrite, OnHandler, OnMemory, ReadsNothing};
-ghost use Rattle.unftp_control_engine.specs.Engine.{EngineState, Leaves, events_with, kept_length, saturating_u64};
-ghost use Rattle.unftp_control_engine.specs.Examples.{counting, noop, snapshot, waiting};
+ghost use Rattle.unftp_control_engine.specs.Engine.{EngineState, IsRunning, Leaves, events_with, has_failed, has_finished, kept_length, more_left, saturating_u64};
+ghost use Rattle.unftp_control_engine.specs.Examples.{counting, counting_to_five, noop, snapshot, waiting};
+ghost use Rattle.unftp_control_engine.specs.declared.engine.Phase.TheVariants.{Running, Finished, Failed};
 ghost use Rattle.unftp_control_engine.specs.Writing.{Begins, Flushed};
 
 use crate::error::ServeError;
@@ -85,7 +86,14 @@ pub fn flushes_and_beginnings()
 pub fn an_engine_takes_a_line()
     ensures leaves { (s : ℕ) (after : EngineState)
         → Leaves counting (waiting None) (codes "OP\r\nP") 3 s after
-        → (s ≡ 4) × (after.failed ≡ false) × (after.incomplete ≡ codes "P") × (after.left ≡ 1) }
+        → (s ≡ 4) × IsRunning after × (after.incomplete ≡ codes "P") × (after.left ≡ 1) }
+    ensures ended { (s : ℕ) (after : EngineState)
+        → Leaves counting_to_five (waiting None) (codes "OP\r\nPWD\r\n") 4 s after
+        → (s ≡ 5) × (after.finished ≡ true) × (after.failed ≡ false) × (after.incomplete ≡ [])
+        × (after.left ≡ 5) }
+    ensures more_left { (more_left (waiting None) (codes "OP")).left ≡ 4 }
+    ensures phases { (has_failed Failed ≡ true) × (has_failed Finished ≡ false)
+        × (has_finished Finished ≡ true) × (has_finished Running ≡ false) }
     ensures too_long { events_with (waiting (Some 5)) (codes "OP\r\nP")
         ≡ Refused line_too_long ∷ [] }
     ensures kept { (kept_length None (codes "NOOP") ≡ 4) × (kept_length (Some 5) (codes "NOOP") ≡ 4)

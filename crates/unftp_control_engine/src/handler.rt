@@ -13,8 +13,8 @@ use unftp_control_reply::Reply;
 /// Answers the events of a connection, one after the other.
 ///
 /// Its law states, as functions and relations of its state, the reply to an event, the state that
-/// follows, and with which errors it may fail: of which kind, and from which source. It counts its
-/// failures: the count takes no byte, and only contracts see it.
+/// follows, with which errors it may fail, of which kind and from which source, and in which states
+/// it is done. It counts its failures: the count takes no byte, and only contracts see it.
 pub trait Handler {
     // What contracts see of it.
     ghost State: { Type 0 };
@@ -36,4 +36,10 @@ pub trait Handler {
         ensures may_fail { IfErr result (λ error.
             law.may_fail (state self.old) (event_meant event) (fault_of error)) }
         ensures counted { OnErr result (failures self.new ≡ failures self.old + 1) };
+
+    /// Whether the session ends here: it is asked after each event, once its reply is sent, and
+    /// never before the first. Where it says `true`, no later byte is read as a line. A handler
+    /// that never ends a session says `false`.
+    fn done(&self) -> bool
+        ensures { result ≡ law.done (state self.now) };
 }

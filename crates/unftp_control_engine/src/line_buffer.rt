@@ -1,7 +1,7 @@
 //! The pending bytes, whose line is not complete.
 ghost use Rattle.std.specs.Prelude.{◌≡◌, ◌≤◌, ◌+◌, ◌++◌, max, IfSome, OnOk, OnErr, length};
 ghost use Rattle.unftp_control_engine.specs.Engine.{saturating_u64};
-ghost use Rattle.unftp_control_engine.specs.LineBuffer.{TakesNext, ReturnsEvent, no_lines, settled};
+ghost use Rattle.unftp_control_engine.specs.LineBuffer.{TakesNext, ReturnsEvent, cleared, no_lines, settled};
 
 use crate::event::Event;
 use crate::skipped::Skipped;
@@ -126,6 +126,16 @@ impl LineBuffer {
         let kept = self.buf.len() - self.start;
         self.buf.copy_within(self.start.., 0);
         self.buf.truncate(kept);
+        self.start = 0;
+    }
+
+    /// Drops the pending bytes, right after a line was taken.
+    pub(crate) fn clear(&mut self)
+        requires { self.now.unscanned ≡ length self.now.bytes }
+        ensures cleared { self.new ≡ cleared self.old }
+        ensures room { IfSome self.new.limit (λ limit. 1 ≤ limit) }
+    {
+        self.buf.clear();
         self.start = 0;
     }
 }

@@ -1,5 +1,6 @@
 mod FoldLemmas
 mod EpsvLemmas
 mod PieceLemmas
+mod RunEndLemmas
 mod StepLemmas
 mod LossyTextLemmas

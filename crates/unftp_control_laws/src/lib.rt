@@ -2,26 +2,29 @@
 //! that is computed to the relation that a reader believes.
 #![tactic(auto)]
 
-ghost use Rattle.std.specs.Prelude.{◌≡◌, ◌↔◌, ◌⊎◌, ◌<◌, ◌≤◌, ◌+◌, ◌^◌, ℕ, List, [], ◌++◌, length, flat_map, Some, None, Ok, codes};
+ghost use Rattle.std.specs.Prelude.{◌≡◌, ◌↔◌, ◌⊎◌, ◌<◌, ◌≤◌, ◌+◌, ◌^◌, ℕ, Option, true, false, List, [], ◌++◌, length, flat_map, Some, None, Ok, codes};
 ghost use Rattle.std.specs.Char.{IsScalar, encode_utf8};
 ghost use Rattle.std.specs.List.{AllByRecursion, concat, sum_by};
 ghost use Rattle.std.specs.Str.Lossy.{utf8_lossy};
 ghost use Rattle.unftp_control_commands.specs.Answers.{port_reply};
 ghost use Rattle.unftp_control_defs.specs.Bytes.{Bytes, LF, crlf, Lacks};
 ghost use Rattle.unftp_control_defs.specs.Canonical.{canonical_line, HasLine};
-ghost use Rattle.unftp_control_defs.specs.Pieces.{events_in_turn, events_in_turn_with_limit};
+ghost use Rattle.unftp_control_defs.specs.Pieces.{events_in_turn, events_in_turn_with_limit, replies_in_turn};
 ghost use Rattle.unftp_control_defs.specs.Events.{Refused, events};
 ghost use Rattle.unftp_control_defs.specs.FtpCommand.{FtpCommand, User, HasTypedFields};
 ghost use Rattle.unftp_control_defs.specs.FtpReply.{FtpReply, IsPlain, encoded, reply_as_read};
-ghost use Rattle.unftp_control_defs.specs.LineLimit.{line_too_long, event_with_limit, events_with_limit};
+ghost use Rattle.unftp_control_defs.specs.LineLimit.{line_too_long, event_with_limit, events_with_limit, run_with_limit, ends_with_limit, text_with_limit, unread, after_end};
 ghost use Rattle.unftp_control_defs.specs.Lines.{IsLine, Lines, lines_of, incomplete_line};
 ghost use Rattle.unftp_control_defs.specs.LossyText.{Character, LossyText, first_part};
 ghost use Rattle.unftp_control_defs.specs.Outcome.{outcome};
 ghost use Rattle.unftp_control_defs.specs.Paths.{ListPath, path_of};
 ghost use Rattle.unftp_control_defs.specs.ReplyReader.{FrontReply, HasFront, IsMalformed, IsPartial, ReadsBack};
+ghost use Rattle.unftp_control_defs.specs.Run.{last_state, replies};
 ghost use Rattle.unftp_control_defs.specs.Steps.{AreSteps, Step, last_place};
 ghost use Rattle.unftp_control_defs.specs.Values.{Reads, HasNoValue, value_of, escaped};
 ghost use Rattle.unftp_control_defs.specs.Verbs.{Cut, verb_of, parameter_of, upper};
+
+use unftp_control_engine::Handler;
 
 /// An input has one list of lines and one incomplete line, `lines_of` and `incomplete_line` (RFC
 /// 959, section 5.3).
@@ -104,12 +107,46 @@ pub fn epsv_ports_differ()
         → port ≡ other }
 {}
 
-/// The pieces that an input comes in give its events, however it is split.
-pub fn any_cutting()
+/// The pieces that an input comes in give its events and the replies to them, however it is split;
+/// the pieces after the one in which the handler ends the session give no reply.
+pub fn any_cutting<H: Handler>()
     ensures any_line { (pieces : List Bytes) → events_in_turn [] pieces ≡ events (concat pieces) }
     ensures limited { (limit : ℕ) (pieces : List Bytes)
         → events_in_turn_with_limit (Some limit) [] pieces
         ≡ events_with_limit (Some limit) (concat pieces) }
+    ensures replies { (limit : Option ℕ) (s : H.State) (pieces : List Bytes)
+        → replies_in_turn limit H.law s [] pieces
+        ≡ replies H.law s (run_with_limit limit H.law s (concat pieces)) }
+{}
+
+/// No byte after the line that ended the session has an influence on what is written, on the
+/// handler's state, or on which bytes are scanned.
+pub fn nothing_after_the_end<H: Handler>()
+    ensures text { (limit : Option ℕ) (s : H.State) (input more other : Bytes)
+        → ends_with_limit limit H.law s input ≡ true
+        → text_with_limit limit H.law s (input ++ more)
+        ≡ text_with_limit limit H.law s (input ++ other) }
+    ensures state { (limit : Option ℕ) (s : H.State) (input more other : Bytes)
+        → ends_with_limit limit H.law s input ≡ true
+        → last_state H.law s (run_with_limit limit H.law s (input ++ more))
+        ≡ last_state H.law s (run_with_limit limit H.law s (input ++ other)) }
+    ensures unread { (limit : Option ℕ) (s : H.State) (input more : Bytes)
+        → ends_with_limit limit H.law s input ≡ true
+        → after_end limit H.law s (input ++ more) ≡ after_end limit H.law s input ++ more }
+{}
+
+/// The run of a handler that is never done has all events, and leaves the incomplete line.
+pub fn never_done<H: Handler>()
+    ensures run { ((s : H.State) → H.law.done s ≡ false)
+        → (limit : Option ℕ) (s : H.State) (input : Bytes)
+        → run_with_limit limit H.law s input ≡ events_with_limit limit input }
+    ensures end { ((s : H.State) → H.law.done s ≡ false)
+        → (limit : Option ℕ) (s : H.State) (input : Bytes)
+        → ends_with_limit limit H.law s input ≡ false }
+    ensures unread { ((s : H.State) → H.law.done s ≡ false)
+        → (limit : Option ℕ) (s : H.State) (input : Bytes)
+        → (unread limit H.law s input ≡ incomplete_line input)
+        × (after_end limit H.law s input ≡ []) }
 {}
 
 /// A limit changes nothing for an input whose lines are within it; and of a line that is longer,

@@ -1,9 +1,9 @@
 -- What a whole service comes to.
-use Rattle.std.specs.Prelude.{◌≡◌, ℕ, ◌+◌, ◌-◌, ◌^◌, ◌<◌, ◌≤◌, max, List, [], ◌∷◌, ◌++◌, length, Option, None}
+use Rattle.std.specs.Prelude.{◌≡◌, ℕ, ◌+◌, ◌-◌, ◌^◌, ◌<◌, ◌≤◌, max, Bool, true, false, List, [], ◌∷◌, ◌++◌, length, Option, None}
 use Rattle.std.specs.List.{AllByRecursion, concat}
 use Rattle.std.specs.Io.KnownBytes.{Consumes, IsAtEnd}
 use Rattle.unftp_control_defs.specs.Bytes.{Bytes}
-use Rattle.unftp_control_defs.specs.LineLimit.{events_with_limit}
+use Rattle.unftp_control_defs.specs.LineLimit.{events_with_limit, run_with_limit, ends_with_limit, unread, after_end}
 use Rattle.unftp_control_defs.specs.Lines.{incomplete_line}
 use Rattle.unftp_control_defs.specs.Run.{Law}
 use Rattle.unftp_control_engine.specs.Writing.{Begins}
@@ -41,33 +41,48 @@ pub record HeldInPieces (limit : Option ℕ) (input : Bytes) (held : ℕ) : Type
 -- What a service under a limit on the length of a line comes to.
 module _ (limit : Option ℕ) {S : Type 0} (law : Law S) (before after : Snapshot S)
     (input input' : InputState) where
-  -- all lines of what was read were answered
+  -- all lines of what was read were answered, and the run goes on
   pub record Answered : Type 0 where
     pub read : Bytes
     pub consumed : Consumes input.remaining input'.remaining read
     pub answered : AllAnswered law before (events_with_limit limit read) after
+    pub goes_on : ends_with_limit limit law before.state read ≡ false
 
-  -- .. which is the whole input, and so many bytes of it came after its last line feed; each byte
-  -- was scanned for one exactly once
-  pub record AnsweredAllWithLimit (left tests : ℕ) : Type 0 where
+  -- The run did not end before the last piece that was read.
+  pub record EndsInLastPiece (read : Bytes) : Type 0 where
+    pub first : Bytes
+    pub piece : Bytes
+    pub whole : read ≡ first ++ piece
+    pub short : length piece ≤ 4096
+    pub goes_on : ends_with_limit limit law before.state first ≡ false
+
+  -- The lines of the run over what was read were answered. Either the run ended, in the last piece,
+  -- or what was read is the whole input. So many bytes came after its last line; each byte that did
+  -- not come after the end was scanned exactly once; and so many were held at once.
+  pub record AnsweredAllWithLimit (left tests held : ℕ) (done : Bool) : Type 0 where
     pub read : Bytes
     pub consumed : Consumes input.remaining input'.remaining read
-    pub at_end : IsAtEnd input'.remaining
-    pub answered : AllAnswered law before (events_with_limit limit read) after
-    pub left_reported : left ≡ saturating_u64 (length (incomplete_line read))
-    pub tested : tests ≡ length read
+    pub ended : done ≡ ends_with_limit limit law before.state read
+    pub in_last_piece : done ≡ true → EndsInLastPiece read
+    pub at_end : done ≡ false → IsAtEnd input'.remaining
+    pub answered : AllAnswered law before (run_with_limit limit law before.state read) after
+    pub left_reported : left ≡ saturating_u64 (length (unread limit law before.state read))
+    pub tested : tests + length (after_end limit law before.state read) ≡ length read
+    pub held_of : HeldInPieces limit read held
     pub no_read_failed : input'.failures ≡ input.failures
 
-  -- It ended at some line of what was read, and all lines of what was read before the last piece
+  -- It failed at some line of what was read, and all lines of what was read before the last piece
   -- were answered.
   pub record EndedLate (error : ServeError) : Type 0 where
     pub read : Bytes
     pub piece : Bytes
     pub consumed : Consumes input.remaining input'.remaining (read ++ piece)
     pub short : length piece ≤ 4096
-    pub ended : RunEnded law before (events_with_limit limit (read ++ piece)) after error
+    pub ended : RunEnded law before
+        (run_with_limit limit law before.state (read ++ piece)) after error
     pub late : Begins
-        (done_of law before (events_with_limit limit (read ++ piece)) after error ended)
+        (done_of law before (run_with_limit limit law before.state (read ++ piece)) after error
+        ended)
         (events_with_limit limit read)
 
   pub record ReadFailed : Type 0 where
@@ -88,16 +103,11 @@ module _ (limit : Option ℕ) {S : Type 0} (law : Law S) (before after : Snapsho
   ServeEndedWithLimit TooManyReads = ReadTooOften
   ServeEndedWithLimit _ = ⊥
 
-  -- .. and so many bytes of it were held at most
-  pub record ServedWhole (left tests held : ℕ) : Type 0 where
-    pub all : AnsweredAllWithLimit left tests
-    pub held_of : HeldInPieces limit all.read held
-
 -- the same without a limit
 abbrev pub AnsweredAll : {S : Type 0} → Law S → Snapshot S → Snapshot S → InputState → InputState
-    → ℕ → ℕ → Type 0
-AnsweredAll law before after input input' left tests =
-    AnsweredAllWithLimit None law before after input input' left tests
+    → ℕ → ℕ → ℕ → Bool → Type 0
+AnsweredAll law before after input input' left tests held done =
+    AnsweredAllWithLimit None law before after input input' left tests held done
 
 abbrev pub ServeEnded : {S : Type 0} → Law S → Snapshot S → Snapshot S → InputState → InputState
     → ServeError → Type 0

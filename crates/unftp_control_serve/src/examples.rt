@@ -1,11 +1,12 @@
 //! Snapshots worked out by hand: what the definitions of the clauses of `serve` say of them.
-ghost use Rattle.std.specs.Prelude.{◌≡◌, ◌+◌, ◌-◌, ◌^◌, ◌<◌, ◌≤◌, ℕ, [], ◌∷◌, ◌++◌, None, Some, length, codes};
+ghost use Rattle.std.specs.Prelude.{◌≡◌, ◌+◌, ◌-◌, ◌^◌, ◌<◌, ◌≤◌, ℕ, true, false, [], ◌∷◌, ◌++◌, None, Some, length, codes};
 ghost use Rattle.std.specs.Io.KnownBytes.{Consumes, IsAtEnd};
+ghost use Rattle.unftp_control_defs.specs.Bytes.{Bytes};
 ghost use Rattle.unftp_control_defs.specs.Events.{events};
 ghost use Rattle.unftp_control_error.specs.ErrorParts.{KindAndSource};
 ghost use Rattle.unftp_control_engine.specs.Endings.{Snapshot, AllAnswered};
-ghost use Rattle.unftp_control_engine.specs.Examples.{counting, noop};
-ghost use Rattle.unftp_control_serve.specs.Service.{InputState, AnsweredAll, EndedLate, ReadFailed, ReadTooOften, ServeEnded, most_held};
+ghost use Rattle.unftp_control_engine.specs.Examples.{counting, counting_to_five, noop, snapshot};
+ghost use Rattle.unftp_control_serve.specs.Service.{InputState, AnsweredAll, EndsInLastPiece, EndedLate, ReadFailed, ReadTooOften, ServeEnded, most_held};
 ghost use Rattle.unftp_control_engine.specs.Writing.{Begins};
 
 use unftp_control_engine::ServeError;
@@ -61,11 +62,29 @@ pub fn errors_of_serve()
 
 /// An input without its last line feed that was served whole.
 pub fn an_input_is_served()
-    ensures { (before after : Snapshot ℕ) (input : InputState) (left tests : ℕ)
+    ensures { (before after : Snapshot ℕ) (input : InputState) (left tests held : ℕ)
         → AnsweredAll counting before after
-        (record { remaining = Some (codes "NOOP\r\nNO"); failures = 2 }) input left tests
+        (record { remaining = Some (codes "NOOP\r\nNO"); failures = 2 }) input left tests held false
         → AllAnswered counting before (noop ∷ []) after × IsAtEnd input.remaining × (left ≡ 2)
         × (tests ≡ 8) × (input.failures ≡ 2) }
+{}
+
+/// A session that the handler ended, and some bytes after its end that were read with it.
+pub fn a_session_is_ended()
+    ensures answered { (after : Snapshot ℕ) (input input_after : InputState) (left tests held : ℕ)
+        (all : AnsweredAll counting_to_five (snapshot 4 (codes "x") 0) after input input_after
+        left tests held true)
+        → all.read ≡ codes "NOOP\r\nNOOP\r\nNO"
+        → AllAnswered counting_to_five (snapshot 4 (codes "x") 0) (noop ∷ []) after
+        × (left ≡ 8) × (tests ≡ 6) }
+    ensures going_on { (after : Snapshot ℕ) (input input_after : InputState) (left tests held : ℕ)
+        (all : AnsweredAll counting_to_five (snapshot 4 (codes "x") 0) after input input_after
+        left tests held true)
+        → all.read ≡ codes "NOOP" → ⊥ }
+    ensures in_last_piece { (after : Snapshot ℕ) (input input_after : InputState) (read : Bytes)
+        (v : EndsInLastPiece None counting_to_five (snapshot 4 (codes "x") 0) after input
+        input_after read)
+        → v.first ≡ codes "NOOP\r\n" → ⊥ }
 {}
 
 /// What is held of pieces: of a line that is too long nothing is kept after its piece.

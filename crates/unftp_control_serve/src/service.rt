@@ -1,16 +1,15 @@
 //! A whole connection, from the first read to the end of the input.
-ghost use Rattle.std.specs.Prelude.{◌≡◌, ◌≤◌, ◌+◌, None, Some, IfOk, IfErr, IfSome, OnOk, length};
+ghost use Rattle.std.specs.Prelude.{◌≡◌, ◌≤◌, ◌+◌, ◌-◌, None, Some, IfOk, IfErr, IfSome, OnOk, length};
 ghost use Rattle.std.specs.Io.KnownBytes.{Appends};
 ghost use Rattle.unftp_control_defs.specs.Events.{events};
-ghost use Rattle.unftp_control_defs.specs.LineLimit.{events_with_limit, text_with_limit};
-ghost use Rattle.unftp_control_defs.specs.Lines.{incomplete_line};
-ghost use Rattle.unftp_control_defs.specs.Run.{last_state, replies, text_for};
+ghost use Rattle.unftp_control_defs.specs.LineLimit.{run_with_limit, ends_with_limit, text_with_limit, unread, after_end};
+ghost use Rattle.unftp_control_defs.specs.Run.{run_of, ends, last_state, replies, text_for};
 ghost use Rattle.unftp_control_defs.specs.FtpReply.{IsPlain};
 ghost use Rattle.unftp_control_defs.specs.ReplyReader.{ReadsBack};
 ghost use Rattle.std.specs.List.{AllByRecursion};
 ghost use Rattle.unftp_control_engine.specs.Endings.{snapshot_of};
 ghost use Rattle.unftp_control_engine.specs.Engine.{fresh, saturating_u64};
-ghost use Rattle.unftp_control_serve.specs.Service.{AnsweredAll, AnsweredAllWithLimit, HeldInPieces, ServeEnded, ServeEndedWithLimit, ServedWhole, input_state_of};
+ghost use Rattle.unftp_control_serve.specs.Service.{AnsweredAll, AnsweredAllWithLimit, ServeEnded, ServeEndedWithLimit, input_state_of};
 
 use crate::input::Input;
 use std::alloc::Global;
@@ -18,11 +17,14 @@ use std::io::{Read, Write};
 use unftp_control_count::Count;
 use unftp_control_engine::{Engine, Handler, Output, ServeError};
 
-/// What `serve` returns at the end of its input.
+/// What `serve` returns at the end of its input, or of the session.
 #[derive(Drop)]
 pub struct Served {
-    /// How many bytes came after the last line feed, or `u64::MAX` where there are more.
+    /// How many bytes came after the last line feed; where the handler ended the session, how many
+    /// of those after the line that ended it were read. `u64::MAX` where there are more.
     pub left: u64,
+    /// Whether the handler ended the session, and not the input.
+    pub done: bool,
     /// How many bytes were scanned for a line feed. Only contracts see it.
     pub tests: Count,
     /// The most bytes that were held in the buffer. Only contracts see it.
@@ -32,11 +34,14 @@ pub struct Served {
 /// How many bytes are read at most at once.
 const PIECE: usize = 4096;
 
-/// Answers the lines that the reader gives (RFC 959, section 5.3), until it gives no more.
+/// Answers the lines that the reader gives (RFC 959, section 5.3), until it gives no more or the
+/// handler is done.
 ///
 /// Each reply is written whole and flushed before the next line is taken, and before more is read.
+/// After the first event that leaves the handler done, no later byte is taken as a line, and nothing
+/// more is read.
 ///
-/// At `Ok` the reader has come to its end. `Read` is a failed read, after which all complete lines
+/// At `Ok` the reader has come to its end, or the handler is done. `Read` is a failed read, after which all complete lines
 /// are answered; `Write` and `WriteZero` are a failed write or flush, after which a beginning of a
 /// reply may be written; `Handler` and `OutOfMemory` are a failed handler or allocation, after
 /// which the replies to the lines before are written and flushed; `TooManyReads` comes after 2^64 -
@@ -54,32 +59,38 @@ pub fn serve<R: Read, W: Write, H: Handler>(
     ensures headline { OnOk result (IfSome (R.remaining reader.old.reader) (λ input.
         Appends (W.contents writer.old.writer) (W.contents writer.new.writer)
         (text_for H.law (H.state handler.old) input))) }
-    // the handler is in the last state of its run over them, and each byte was scanned for a line
-    // feed exactly once.
+    // up to the line that leaves the handler done; it is in the last state of this run,
     ensures state { OnOk result (IfSome (R.remaining reader.old.reader) (λ input.
-        H.state handler.new ≡ last_state H.law (H.state handler.old) (events input))) }
+        H.state handler.new ≡ last_state H.law (H.state handler.old)
+        (run_of H.law (H.state handler.old) (events input)))) }
+    ensures done { IfOk result (λ served.
+        IfSome (R.remaining reader.old.reader) (λ input.
+        served.done ≡ ends H.law (H.state handler.old) (events input))) }
+    // and each byte was scanned for a line feed exactly once, but those after that line.
     ensures tested { IfOk result (λ served.
-        IfSome (R.remaining reader.old.reader) (λ input. served.tests ≡ length input)) }
+        IfSome (R.remaining reader.old.reader) (λ input.
+        served.tests + length (after_end None H.law (H.state handler.old) input)
+        ≡ length input)) }
     ensures left { IfOk result (λ served.
         IfSome (R.remaining reader.old.reader) (λ input.
-        served.left ≡ saturating_u64 (length (incomplete_line input)))) }
+        IfSome (R.remaining reader.new.reader) (λ rest.
+        served.left ≡ saturating_u64
+        (length (unread None H.law (H.state handler.old) input) - length rest)))) }
     // What is written is read as what the replies show, and as nothing else, where each of them is
     // plain.
     ensures read_back { OnOk result (IfSome (R.remaining reader.old.reader) (λ input.
-        AllByRecursion IsPlain (replies H.law (H.state handler.old) (events input))
+        let run = run_of H.law (H.state handler.old) (events input) in
+        AllByRecursion IsPlain (replies H.law (H.state handler.old) run)
         → ReadsBack (text_for H.law (H.state handler.old) input)
-        (replies H.law (H.state handler.old) (events input)))) }
-    // The most bytes that were held at once, as the pieces make it.
-    ensures held { IfOk result (λ served.
-        IfSome (R.remaining reader.old.reader) (λ input.
-        HeldInPieces None input served.held)) }
-    // The same of any reader, with what was flushed and what failed; and what is so at each error.
+        (replies H.law (H.state handler.old) run))) }
+    // The same of any reader, with what was flushed and what failed, and how much was held; and
+    // what is so at each error.
     ensures ok { IfOk result (λ served. AnsweredAll H.law
         (snapshot_of H.state H.failures W.contents handler.old writer.old)
         (snapshot_of H.state H.failures W.contents handler.new writer.new)
         (input_state_of R.remaining reader.old)
         (input_state_of R.remaining reader.new)
-        served.left served.tests) }
+        served.left served.tests served.held served.done) }
     ensures err { IfErr result (ServeEnded H.law
         (snapshot_of H.state H.failures W.contents handler.old writer.old)
         (snapshot_of H.state H.failures W.contents handler.new writer.new)
@@ -106,36 +117,40 @@ pub fn serve_with_limit<R: Read, W: Write, H: Handler>(
     ensures headline { OnOk result (IfSome (R.remaining reader.old.reader) (λ input.
         Appends (W.contents writer.old.writer) (W.contents writer.new.writer)
         (text_with_limit (Some limit) H.law (H.state handler.old) input))) }
-    // the handler is in the last state of its run over them, and each byte was scanned for a line
-    // feed exactly once.
+    // up to the line that leaves the handler done; it is in the last state of this run,
     ensures state { OnOk result (IfSome (R.remaining reader.old.reader) (λ input.
-        H.state handler.new
-        ≡ last_state H.law (H.state handler.old) (events_with_limit (Some limit) input))) }
+        H.state handler.new ≡ last_state H.law (H.state handler.old)
+        (run_with_limit (Some limit) H.law (H.state handler.old) input))) }
+    ensures done { IfOk result (λ served.
+        IfSome (R.remaining reader.old.reader) (λ input.
+        served.done ≡ ends_with_limit (Some limit) H.law (H.state handler.old) input)) }
+    // and each byte was scanned for a line feed exactly once, but those after that line.
     ensures tested { IfOk result (λ served.
-        IfSome (R.remaining reader.old.reader) (λ input. served.tests ≡ length input)) }
+        IfSome (R.remaining reader.old.reader) (λ input.
+        served.tests + length (after_end (Some limit) H.law (H.state handler.old) input)
+        ≡ length input)) }
     ensures left { IfOk result (λ served.
         IfSome (R.remaining reader.old.reader) (λ input.
-        served.left ≡ saturating_u64 (length (incomplete_line input)))) }
+        IfSome (R.remaining reader.new.reader) (λ rest.
+        served.left ≡ saturating_u64
+        (length (unread (Some limit) H.law (H.state handler.old) input) - length rest)))) }
     // What is written is read as what the replies show, and as nothing else, where each of them is
     // plain.
     ensures read_back { OnOk result (IfSome (R.remaining reader.old.reader) (λ input.
-        AllByRecursion IsPlain
-        (replies H.law (H.state handler.old) (events_with_limit (Some limit) input))
+        let run = run_with_limit (Some limit) H.law (H.state handler.old) input in
+        AllByRecursion IsPlain (replies H.law (H.state handler.old) run)
         → ReadsBack (text_with_limit (Some limit) H.law (H.state handler.old) input)
-        (replies H.law (H.state handler.old) (events_with_limit (Some limit) input)))) }
+        (replies H.law (H.state handler.old) run))) }
     // The buffer never holds more than the limit and one piece.
     ensures bound { IfOk result (λ served. served.held ≤ limit + 4096) }
-    // The most bytes that were held at once, as the pieces make it.
-    ensures held { IfOk result (λ served.
-        IfSome (R.remaining reader.old.reader) (λ input.
-        HeldInPieces (Some limit) input served.held)) }
-    // The same of any reader, with what was flushed and what failed; and what is so at each error.
+    // The same of any reader, with what was flushed and what failed, and how much was held; and
+    // what is so at each error.
     ensures ok { IfOk result (λ served. AnsweredAllWithLimit (Some limit) H.law
         (snapshot_of H.state H.failures W.contents handler.old writer.old)
         (snapshot_of H.state H.failures W.contents handler.new writer.new)
         (input_state_of R.remaining reader.old)
         (input_state_of R.remaining reader.new)
-        served.left served.tests) }
+        served.left served.tests served.held served.done) }
     ensures err { IfErr result (ServeEndedWithLimit (Some limit) H.law
         (snapshot_of H.state H.failures W.contents handler.old writer.old)
         (snapshot_of H.state H.failures W.contents handler.new writer.new)
@@ -155,12 +170,12 @@ fn serve_lines<R: Read, W: Write, H: Handler>(
     handler: &mut H,
 ) -> Result<Served, ServeError>
     requires { IfSome limit (λ limit. 1 ≤ limit) }
-    ensures ok { IfOk result (λ served. ServedWhole limit H.law
+    ensures ok { IfOk result (λ served. AnsweredAllWithLimit limit H.law
         (snapshot_of H.state H.failures W.contents handler.old writer.old)
         (snapshot_of H.state H.failures W.contents handler.new writer.new)
         (input_state_of R.remaining reader.old)
         (input_state_of R.remaining reader.new)
-        served.left served.tests served.held) }
+        served.left served.tests served.held served.done) }
     ensures err { IfErr result (ServeEndedWithLimit limit H.law
         (snapshot_of H.state H.failures W.contents handler.old writer.old)
         (snapshot_of H.state H.failures W.contents handler.new writer.new)
@@ -175,16 +190,30 @@ fn serve_lines<R: Read, W: Write, H: Handler>(
             Err(error) => return Err(ServeError::Read(error)),
         };
         if n == 0 {
-            return Ok(Served {
-                left: engine.left(),
-                tests: engine.tests(),
-                held: engine.held(),
-            });
+            return Ok(served_by(&engine));
         }
         let (read, _) = piece.split_at(n);
         engine.feed(read, handler, writer)?;
+        if engine.finished() {
+            return Ok(served_by(&engine));
+        }
     }
     Err(ServeError::TooManyReads)
+}
+
+/// What an engine says of the service.
+fn served_by(engine: &Engine) -> Served
+    ensures left { result.left ≡ engine.now.left }
+    ensures done { result.done ≡ engine.now.finished }
+    ensures tests { result.tests ≡ engine.now.tests }
+    ensures held { result.held ≡ engine.now.held }
+{
+    Served {
+        left: engine.left(),
+        done: engine.finished(),
+        tests: engine.tests(),
+        held: engine.held(),
+    }
 }
 
 /// An engine for lines of so many bytes at most, or of any length.

@@ -1,11 +1,11 @@
 //! Events, the texts of errors, runs of a handler, inputs in pieces, and the steps of a codec.
-ghost use Rattle.std.specs.Prelude.{◌≡◌, ◌+◌, ℕ, [], ◌∷◌, ◌++◌, Some, None, codes};
-ghost use Rattle.unftp_control_defs.specs.Events.{Command, Refused, IoError, ParseError, InternalServerError, AuthenticationError, InternalMsgError, Utf8Error, UnknownCommand, InvalidCommand, ControlChannelTimeout, IllegalState, OutOfMemory, LineTooLong, NoSource, Parse, events, refusal_fault, out_of_memory};
+ghost use Rattle.std.specs.Prelude.{◌≡◌, ◌+◌, ◌==◌, ℕ, true, false, [], ◌∷◌, ◌++◌, Some, None, codes};
+ghost use Rattle.unftp_control_defs.specs.Events.{FtpEvent, Command, Refused, IoError, ParseError, InternalServerError, AuthenticationError, InternalMsgError, Utf8Error, UnknownCommand, InvalidCommand, ControlChannelTimeout, IllegalState, OutOfMemory, LineTooLong, NoSource, Parse, events, refusal_fault, out_of_memory};
 ghost use Rattle.unftp_control_defs.specs.FtpCommand.{Noop, Pwd, InvalidCommand as NoCommand, InvalidUtf8, InvalidEol};
 ghost use Rattle.unftp_control_defs.specs.FtpReply.{CodeAndMsg};
-ghost use Rattle.unftp_control_defs.specs.LineLimit.{line_too_long, event_with_limit, events_with_limit};
-ghost use Rattle.unftp_control_defs.specs.Pieces.{events_in_turn, events_in_turn_with_limit};
-ghost use Rattle.unftp_control_defs.specs.Run.{Law, replies, last_state, text_for};
+ghost use Rattle.unftp_control_defs.specs.LineLimit.{line_too_long, event_with_limit, events_with_limit, unread, after_end};
+ghost use Rattle.unftp_control_defs.specs.Pieces.{events_in_turn, events_in_turn_with_limit, replies_in_turn};
+ghost use Rattle.unftp_control_defs.specs.Run.{Law, run_of, ends, replies, last_state, text_for};
 ghost use Rattle.unftp_control_defs.specs.Steps.{AreSteps, last_place};
 ghost use Rattle.unftp_control_defs.specs.Texts.{error_text, kind_text, parse_error_text, reading_text};
 
@@ -85,6 +85,7 @@ pub fn handlers_run_so()
       ];
       next = λ count event. count + 1;
       may_fail = λ count event kind. ⊥;
+      done = λ count. false;
     } in
         (replies law 7 [] ≡ [])
         × (replies law 7 (Command Noop ∷ Refused out_of_memory ∷ [])
@@ -92,6 +93,32 @@ pub fn handlers_run_so()
         × (last_state law 7 [] ≡ 7)
         × (last_state law 7 (Command Noop ∷ Refused out_of_memory ∷ []) ≡ 9)
         × (text_for law 0 (codes "NOOP\r\nNOOP x\nNOOP") ≡ codes "200\r\n501\r\n") }
+{}
+
+/// A handler that puts the count of its events into the code of its reply, and is done once there
+/// are two. It is not asked before the first event.
+pub fn runs_end_so()
+    ensures { let law : Law ℕ = record {
+      says = λ count _. CodeAndMsg (200 + count) [];
+      next = λ count _. count + 1;
+      may_fail = λ _ _ _. ⊥;
+      done = λ count. count == 2;
+    } in
+        let noop : FtpEvent = Command Noop in
+        (run_of law 0 (noop ∷ noop ∷ noop ∷ []) ≡ noop ∷ noop ∷ [])
+        × (run_of law 2 (noop ∷ noop ∷ []) ≡ noop ∷ noop ∷ [])
+        × (ends law 0 (noop ∷ []) ≡ false)
+        × (ends law 0 (noop ∷ noop ∷ []) ≡ true)
+        × (ends law 0 (noop ∷ noop ∷ noop ∷ []) ≡ true)
+        × (ends law 2 (noop ∷ noop ∷ []) ≡ false)
+        × (text_for law 0 (codes "NOOP\r\nNOOP\nNOOP\n") ≡ codes "200\r\n201\r\n")
+        × (unread None law 0 (codes "NOOP\nNOOP\nNOOP\nNO") ≡ codes "NOOP\nNO")
+        × (unread None law 0 (codes "NOOP\nNO") ≡ codes "NO")
+        × (after_end None law 0 (codes "NOOP\nNOOP\nNO") ≡ codes "NO")
+        × (after_end None law 0 (codes "NOOP\nNO") ≡ [])
+        × (replies_in_turn None law 0 []
+        (codes "NO" ∷ codes "OP\nNOOP\nNO" ∷ codes "OP\n" ∷ [])
+        ≡ CodeAndMsg 200 [] ∷ CodeAndMsg 201 [] ∷ []) }
 {}
 
 /// Steps of a codec.

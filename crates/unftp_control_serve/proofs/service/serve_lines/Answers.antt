@@ -1,6 +1,6 @@
-use Rattle.std.proofs.Common.{◌<◌, ◌≤◌, refl, sym, length, arith}
+use Rattle.std.proofs.Common.{◌<◌, ◌≤◌, refl, sym, ◌∙◌, length, arith}
 use Rattle.std.proofs.lemmas.Result.{err_from_is_err_and}
-use Rattle.unftp_control_serve.proofs.ServiceLemmas.{Serving-start, Serving-next, Serving-ended, Serving-all, Serving-read_failed, Serving-too_often}
+use Rattle.unftp_control_serve.proofs.ServiceLemmas.{Serving-start, Serving-next, Serving-done, Serving-ended, Serving-all, Serving-read_failed, Serving-too_often}
 use Rattle.unftp_control_serve.proofs.service.serve_lines.Goals as goal
 
 pub loop-turn-init : goal.loop-turn-init
@@ -21,12 +21,24 @@ loop-turn-preserved g c =
     let some : 0 < length c.split_at.result.0.now = omega (arith, c.split_at.ensures.front_len, c.if-n-eq0.false) in
     let given = rw (sym c.split_at.ensures.front) at c.in-Ok.ensures.bytes.0 in
     let running = c.loop-turn.invariant.serving.running in
+    let fed = c.in_ok-feed.ensures in
     record {
-      serving = Serving-next _ _ _ _ _ _ _ _ _ c.loop-turn.invariant.serving _ c.split_at.result.0.now c.feed.new.self given some c.in-Ok.ensures.quiet
-          (c.in_ok-feed.ensures.outcome running) (c.in_ok-feed.ensures.leaves running) c.in_ok-feed.ensures.tested
-          short c.in_ok-feed.ensures.limit c.in_ok-feed.ensures.buffered c.in_ok-feed.ensures.held;
+      serving = Serving-next _ _ _ _ _ _ _ _ _ c.loop-turn.invariant.serving c.split_at.result.0.now _ c.feed.new.self given short c.in-Ok.ensures.quiet
+          (fed.outcome running) (fed.leaves running) (fed.tested running) (fed.held running) some (sym c.finished.ensures ∙ c.if-finished.false) fed.limit fed.buffered;
       room = omega (arith, c.loop-turn.invariant.room, c.read.auto.buf);
     }
+
+pub returns-then-finished-clause-ok : goal.returns-then-finished-clause-ok
+returns-then-finished-clause-ok g c =
+    let short : length c.split_at.result.0.now ≤ 4096 = omega (arith, c.loop-turn.invariant.room, c.read.auto.buf, c.split_at.ensures.front_len, c.in-Ok.ensures.bound.0) in
+    let given = rw (sym c.split_at.ensures.front) at c.in-Ok.ensures.bytes.0 in
+    let running = c.loop-turn.invariant.serving.running in
+    let fed = c.in_ok-feed.ensures in
+    let finished = sym c.finished.ensures ∙ c.if-finished.true in
+    let served = c.served_by-then-finished.ensures in
+    rw (served.left, served.done, served.tests, served.held, finished)
+    (Serving-done _ _ _ _ _ _ _ _ _ c.loop-turn.invariant.serving c.split_at.result.0.now _ c.feed.new.self given short c.in-Ok.ensures.quiet
+    (fed.outcome running) (fed.leaves running) (fed.tested running) (fed.held running) finished)
 
 pub returns-clause-err : goal.returns-clause-err
 returns-clause-err g c = Serving-too_often _ _ _ _ _ _ _ _ c.loop-turn.invariant.serving (omega (arith, c.loop-turn-test.false))
@@ -41,6 +53,7 @@ returns-then-n-eq0-clause-ok g c =
     let room : 0 < length c.read.new.buf =
     omega (arith, c.loop-turn.invariant.room, c.read.auto.buf) in
     let given = c.in-Ok.ensures.bytes in
-    rw (c.left.ensures, c.tests.ensures, c.held.ensures)
+    let served = c.served_by.ensures in
+    rw (served.left, served.done, served.tests, served.held, c.loop-turn.invariant.serving.running.1)
     (Serving-all _ _ _ _ _ _ _ _ _ c.loop-turn.invariant.serving c.read.new.buf _ c.if-n-eq0.true
     given.0 (given.1 c.if-n-eq0.true room) c.in-Ok.ensures.quiet)

@@ -1,7 +1,7 @@
 use Rattle.std.proofs.Common.{Some}
 use Rattle.unftp_control_engine.specs.Endings.{Snapshot, snapshot_of}
 use Rattle.unftp_control_serve.specs.Service.{InputState, input_state_of}
-use Rattle.unftp_control_serve.proofs.ServiceLemmas.{Served-all, Served-headline, Served-state, Served-tested, Served-left, Served-held, Served-read_back, Served-bound}
+use Rattle.unftp_control_serve.proofs.ServiceLemmas.{Served-headline, Served-state, Served-done, Served-tested, Served-left, Served-read_back, Served-bound}
 use Rattle.unftp_control_serve.proofs.service.serve_with_limit.Given
 use Rattle.unftp_control_serve.proofs.service.serve_with_limit.Goals as goal
 
@@ -26,6 +26,10 @@ pub returns-clause-state : goal.returns-clause-state
 returns-clause-state g c =
     Served-state (Some c.args.limit) g.H.Handler.law (before g c) (after g c) (input g c) (input' g c) c.serve_lines.result c.serve_lines.ensures.ok
 
+pub returns-clause-done : goal.returns-clause-done
+returns-clause-done g c =
+    Served-done (Some c.args.limit) g.H.Handler.law (before g c) (after g c) (input g c) (input' g c) c.serve_lines.result c.serve_lines.ensures.ok
+
 pub returns-clause-tested : goal.returns-clause-tested
 returns-clause-tested g c =
     Served-tested (Some c.args.limit) g.H.Handler.law (before g c) (after g c) (input g c) (input' g c) c.serve_lines.result c.serve_lines.ensures.ok
@@ -37,14 +41,6 @@ returns-clause-left g c =
 pub returns-clause-read_back : goal.returns-clause-read_back
 returns-clause-read_back g c =
     Served-read_back (Some c.args.limit) g.H.Handler.law (before g c) (after g c) (input g c) (input' g c) c.serve_lines.result c.serve_lines.ensures.ok
-
-pub returns-clause-ok : goal.returns-clause-ok
-returns-clause-ok g c =
-    Served-all (Some c.args.limit) g.H.Handler.law (before g c) (after g c) (input g c) (input' g c) c.serve_lines.result c.serve_lines.ensures.ok
-
-pub returns-clause-held : goal.returns-clause-held
-returns-clause-held g c =
-    Served-held (Some c.args.limit) g.H.Handler.law (before g c) (after g c) (input g c) (input' g c) c.serve_lines.result c.serve_lines.ensures.ok
 
 pub returns-clause-bound : goal.returns-clause-bound
 returns-clause-bound g c =

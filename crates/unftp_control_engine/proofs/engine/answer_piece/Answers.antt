@@ -1,0 +1,15 @@
+use Rattle.std.proofs.Common.{◌∙◌, sym, ap}
+use Rattle.unftp_control_defs.specs.Lines.{incomplete_line}
+use Rattle.unftp_control_defs.proofs.RunLemmas.{unread-on}
+use Rattle.unftp_control_engine.proofs.engine.answer_piece.Goals.{then-ended, else-ended}
+use Rattle.unftp_control_engine.proofs.engine.answer_piece.Goals as goal
+
+pub returns-clause-incomplete : goal.returns-clause-incomplete
+returns-clause-incomplete g c = elim c.if-ended.branch [
+  | then-ended w ↦ rw (w.if-ended.true) (ap (λ pending. pending.bytes) w.line_buffer-is ∙ ap (λ pending. pending.bytes) w.clear.ensures.cleared)
+  | else-ended w ↦
+      let lines = c.in_ok-ended.ensures in
+      rw (w.if-ended.false)
+      (ap (λ pending. pending.bytes) w.line_buffer-is ∙ ap (λ pending. pending.bytes) w.settle.ensures ∙ lines.unread
+      ∙ unread-on g.H.Handler.law c.append.new.self.limit (g.H.Handler.state c.args.handler.now) c.append.new.self.bytes (sym lines.ended ∙ w.if-ended.false) ∙ ap incomplete_line c.in_ok-append.ensures.bytes)
+]
