@@ -1,2 +1,3 @@
 pub mod NextNoop
 pub mod Forwarding
+pub mod UntilTls

@@ -1,5 +1,5 @@
 //! A handler with its law.
-ghost use Rattle.std.specs.Prelude.{◌≡◌, codes};
+ghost use Rattle.std.specs.Prelude.{◌≡◌, false, codes};
 ghost use Rattle.unftp_control.specs.Events.{out_of_memory};
 ghost use Rattle.unftp_control.specs.FtpReply.{CodeAndMsg};
 
@@ -25,6 +25,7 @@ impl Handler for Obliging {
       says = λ _ _. CodeAndMsg 200 (codes "OK");
       next = λ state _. state;
       may_fail = λ _ _ fault. fault ≡ out_of_memory;
+      done = λ _. false;
     } };
 
     ghost failures = { λ obliging. obliging.failures };
@@ -36,5 +37,9 @@ impl Handler for Obliging {
             self.failures.raise();
         }
         answer
+    }
+
+    fn done(&self) -> bool {
+        false
     }
 }

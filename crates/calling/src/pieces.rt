@@ -1,17 +1,17 @@
 //! A server's own loop over the engine.
-ghost use Rattle.std.specs.Prelude.{◌≡◌, map, IfOk, OnOk, length};
+ghost use Rattle.std.specs.Prelude.{◌≡◌, None, map, IfOk, OnOk, length};
 ghost use Rattle.std.specs.List.{concat};
 ghost use Rattle.std.specs.Io.KnownBytes.{Appends};
 ghost use Rattle.unftp_control.specs.Engine.{saturating_u64};
-ghost use Rattle.unftp_control.specs.Lines.{incomplete_line};
+ghost use Rattle.unftp_control.specs.LineLimit.{unread};
 ghost use Rattle.unftp_control.specs.Run.{text_for};
 
 use std::alloc::Global;
 use std::io::Write;
 use unftp_control::serve::{Engine, Handler, Output, ServeError};
 
-/// Answers what a client sent, piece by piece, and returns how many bytes come after its last line
-/// feed.
+/// Answers what a client sent, piece by piece, and returns how many bytes come after the last line
+/// that was answered: the start of a line, or what came after the end of the session.
 pub fn answer_pieces<H: Handler, W: Write>(
     alloc: Global,
     pieces: &[&[u8]],
@@ -22,8 +22,8 @@ pub fn answer_pieces<H: Handler, W: Write>(
         (Appends (W.contents output.old.writer) (W.contents output.new.writer)
         (text_for H.law (H.state handler.old) (concat (map (λ piece. piece.now) pieces.now)))) }
     ensures left { IfOk result (λ left.
-        left ≡ saturating_u64
-        (length (incomplete_line (concat (map (λ piece. piece.now) pieces.now))))) }
+        left ≡ saturating_u64 (length (unread None H.law (H.state handler.old)
+        (concat (map (λ piece. piece.now) pieces.now))))) }
 {
     let mut engine = Engine::new(alloc);
     for piece in pieces {

@@ -3,7 +3,7 @@ ghost use Rattle.std.specs.Prelude.{◌≡◌, ◌+◌, ◌≤◌, Some, IfOk, I
 ghost use Rattle.std.specs.Io.KnownBytes.{Appends};
 ghost use Rattle.unftp_control.specs.Events.{events};
 ghost use Rattle.unftp_control.specs.LineLimit.{text_with_limit};
-ghost use Rattle.unftp_control.specs.Run.{last_state, text_for};
+ghost use Rattle.unftp_control.specs.Run.{run_of, last_state, text_for};
 
 use std::alloc::Global;
 use std::io::{Read, Write};
@@ -20,7 +20,8 @@ pub fn serve_connection<R: Read + Drop, W: Write, H: Handler>(
         Appends (W.contents stream_out) (W.contents result.1)
         (text_for H.law (H.state handler.old) input))) }
     ensures state { OnOk result.0 (IfSome (R.remaining stream_in) (λ input.
-        H.state handler.new ≡ last_state H.law (H.state handler.old) (events input))) }
+        H.state handler.new ≡ last_state H.law (H.state handler.old)
+        (run_of H.law (H.state handler.old) (events input)))) }
 {
     let mut input = Input::new(stream_in);
     let mut output = Output::new(stream_out);

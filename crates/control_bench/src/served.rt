@@ -1,5 +1,5 @@
 //! The handler and the writer of the lines that are fed.
-ghost use Rattle.std.specs.Prelude.{◌≡◌, codes};
+ghost use Rattle.std.specs.Prelude.{◌≡◌, false, codes};
 ghost use Rattle.unftp_control.specs.Events.{out_of_memory};
 ghost use Rattle.unftp_control.specs.FtpReply.{CodeAndMsg};
 
@@ -34,6 +34,7 @@ impl Handler for Okay {
       says = λ _ _. CodeAndMsg 200 (codes "OK");
       next = λ s _. s;
       may_fail = λ _ _ fault. fault ≡ out_of_memory;
+      done = λ _. false;
     } };
 
     ghost failures = { λ okay. okay.failures };
@@ -45,6 +46,10 @@ impl Handler for Okay {
             self.failures.raise();
         }
         answer
+    }
+
+    fn done(&self) -> bool {
+        false
     }
 }
 

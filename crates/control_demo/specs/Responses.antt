@@ -1,5 +1,5 @@
--- What the program answers. It keeps nothing from one line to the next.
-use Rattle.std.specs.Prelude.{◌≡◌, bytes_eq, if◌then◌else◌, false, unwrap_or, codes}
+-- What the program answers, and when it ends.
+use Rattle.std.specs.Prelude.{◌≡◌, ◌||◌, bytes_eq, if◌then◌else◌, Bool, true, false, unwrap_or, codes}
 use Rattle.unftp_control.specs.Bytes.{Bytes}
 use Rattle.unftp_control.specs.FtpCommand.{FtpCommand, Auth, Prot, Feat, Epsv, Help, Mode, Opts, Stru, Mlst, Noop, Quit, Site}
 use Rattle.unftp_control.specs.Events.{FaultKind, FaultSource, FtpEvent, Command, Refused, Parse, out_of_memory}
@@ -44,10 +44,16 @@ abbrev pub event_reply : FtpEvent → FtpReply
 event_reply (Command command) = command_reply command
 event_reply (Refused fault) = CodeAndMsg 500 (refusal_text fault.kind fault.source)
 
--- It may fail with `OutOfMemory` only, without a source.
-abbrev pub program_law : Law (Unit {0})
+abbrev pub is_quit : FtpEvent → Bool
+is_quit (Command Quit) = true
+is_quit _ = false
+
+-- Its state is whether QUIT came, and then it is done. It may fail with `OutOfMemory` only, without
+-- a source.
+abbrev pub program_law : Law Bool
 program_law = record {
   says = λ _ event. event_reply event;
-  next = λ s _. s;
+  next = λ quit event. quit || is_quit event;
   may_fail = λ _ _ fault. fault ≡ out_of_memory;
+  done = λ quit. quit;
 }

@@ -1,8 +1,8 @@
 //! Serves one control connection over standard input and output: each line is answered when it is
-//! complete.
+//! complete, up to QUIT.
 #![tactic(auto)]
 
-ghost use Rattle.std.specs.Prelude.{IfSome, OnOk};
+ghost use Rattle.std.specs.Prelude.{false, IfSome, OnOk};
 ghost use Rattle.std.specs.Io.KnownBytes.{Appends};
 ghost use Rattle.unftp_control.specs.Run.{text_for};
 ghost use Rattle.control_demo.specs.Responses.{program_law};
@@ -18,8 +18,8 @@ use std::io::{Read, Write};
 use std::process::ExitCode;
 use unftp_control::serve::{Input, Output, ServeError, Served, serve};
 
-/// Answers the lines that the reader gives, until it gives no more. Each reply is written whole and
-/// flushed before the next line is taken, and before more is read.
+/// Answers the lines that the reader gives, until it gives no more or QUIT is answered. Each reply is
+/// written whole and flushed before the next line is taken, and before more is read.
 pub fn run<R: Read, W: Write>(
     alloc: Global,
     reader: &mut Input<R>,
@@ -27,7 +27,7 @@ pub fn run<R: Read, W: Write>(
 ) -> Result<Served, ServeError>
     ensures { OnOk result (IfSome (R.remaining reader.old.reader) (λ input.
         Appends (W.contents writer.old.writer) (W.contents writer.new.writer)
-        (text_for program_law tt input))) }
+        (text_for program_law false input))) }
 {
     serve(alloc, reader, writer, &mut Responses::new())
 }

@@ -1,12 +1,12 @@
 //! What the program answers.
-ghost use Rattle.std.specs.Prelude.{◌≡◌, IfOk, IfErr, option_map, string_bytes};
+ghost use Rattle.std.specs.Prelude.{◌≡◌, Bool, false, IfOk, IfErr, option_map, string_bytes};
 ghost use Rattle.unftp_control.specs.CommandMeaning.{command_of};
 ghost use Rattle.unftp_control.specs.Events.{out_of_memory, Refused};
 ghost use Rattle.unftp_control.specs.FtpCommand.{Mlst as FtpMlst, Site as FtpSite};
 ghost use Rattle.unftp_control.specs.ErrorMeaning.{fault_of};
 ghost use Rattle.unftp_control.specs.ReplyMeaning.{reply_of};
 ghost use Rattle.unftp_control.specs.EventMeaning.{event_meant};
-ghost use Rattle.control_demo.specs.Responses.{command_reply, event_reply, not_implemented, program_law};
+ghost use Rattle.control_demo.specs.Responses.{command_reply, event_reply, is_quit, not_implemented, program_law};
 
 use crate::sample::Sample;
 use std::alloc::Global;
@@ -19,39 +19,54 @@ use unftp_control::serve::{Count, Event, Handler};
 /// The port that EPSV reports. It is not opened.
 const PORT: u16 = 2121;
 
-/// Answers each event by itself, and keeps nothing.
+/// Answers each event by itself, and is done once QUIT came.
 #[derive(Drop)]
 pub struct Responses {
+    quit: bool,
     failures: Count,
 }
 
 impl Responses {
-    /// A handler that has not failed so far.
+    /// A handler to which no QUIT came, and which has not failed so far.
     pub fn new() -> Responses
-        ensures { result.failures ≡ 0 }
+        ensures quit { result.quit ≡ false }
+        ensures failures { result.failures ≡ 0 }
     {
         Responses {
+            quit: false,
             failures: Count::new(),
         }
     }
 }
 
 impl Handler for Responses {
-    ghost State = { Unit {0} };
+    ghost State = { Bool };
 
-    ghost state = { λ _. tt };
+    ghost state = { λ responses. responses.quit };
 
     ghost law = { program_law };
 
     ghost failures = { λ responses. responses.failures };
 
     fn handle(&mut self, alloc: Global, event: Event) -> Result<Reply, ControlChanError> {
+        self.quit = self.quit || is_quit(&event);
         let answer = answer_event(alloc, event);
         if answer.is_err() {
             self.failures.raise();
         }
         answer
     }
+
+    fn done(&self) -> bool {
+        self.quit
+    }
+}
+
+/// Whether the event is QUIT.
+fn is_quit(event: &Event) -> bool
+    ensures { result ≡ is_quit (event_meant event.now) }
+{
+    matches!(event, Event::Command(Command::Quit))
 }
 
 /// The response to an event. It fails only when out of memory.

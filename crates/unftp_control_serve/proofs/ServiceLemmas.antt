@@ -344,6 +344,20 @@ module _ (limit : Option ℕ) {S : Type 0} (law : Law S) (m n : Snapshot S) (i k
       omega (arith, ap length alike.more_unread, length-append (unread limit law m.state all.read) rest) in
       all.left_reported ∙ ap saturating_u64 some)
 
+  none_left : left ≡ 0 → length (unread limit law m.state all.read) ≡ 0
+  none_left none = omega (arith, none, all.left_reported)
+
+  -- where the run ended and nothing is left, what was not read is all that follows its end
+  pub AnsweredAll-behind : done ≡ true → left ≡ 0 → IfSome i.remaining (λ input. IfSome k.remaining (λ rest. after_end limit law m.state input ≡ rest))
+  AnsweredAll-behind is_done none = of_bytes _ (λ input rest whole alike.
+      let nothing : after_end limit law m.state all.read ≡ [] =
+      ap (λ ended. if ended then unread limit law m.state all.read else []) (sym all.ended ∙ is_done) ∙ no_bytes (unread limit law m.state all.read) (none_left none) in
+      alike.more_after_end ∙ ap (λ bytes. bytes ++ rest) nothing)
+    where
+      no_bytes : (bytes : Bytes) → length bytes ≡ 0 → bytes ≡ []
+      no_bytes [] h = refl
+      no_bytes (b ∷ bytes) h = absurd (omega (arith, h))
+
 -- the replies of a run over a known input are read back, where they are plain
 pub run_reads_back : (limit : Option ℕ) {S : Type 0} (law : Law S) (s : S) (known : Option Bytes) →
     IfSome known (λ input. AllByRecursion IsPlain (replies law s (run_with_limit limit law s input))
@@ -371,6 +385,10 @@ module _ (limit : Option ℕ) {S : Type 0} (law : Law S) (m n : Snapshot S) (i k
 
   pub Served-left : IfOk result (λ served. IfSome i.remaining (λ input. IfSome k.remaining (λ rest. served.left ≡ saturating_u64 (length (unread limit law m.state input) - length rest))))
   Served-left = of_served _ (λ served all. AnsweredAll-left limit law m n i k served.left served.tests served.held served.done all)
+
+  pub Served-behind : IfOk result (λ served. served.done ≡ true → served.left ≡ 0
+      → IfSome i.remaining (λ input. IfSome k.remaining (λ rest. after_end limit law m.state input ≡ rest)))
+  Served-behind = of_served _ (λ served all. AnsweredAll-behind limit law m n i k served.left served.tests served.held served.done all)
 
   pub Served-read_back : OnOk result (IfSome i.remaining (λ input. AllByRecursion IsPlain (replies law m.state (run_with_limit limit law m.state input))
       → ReadsBack (text_with_limit limit law m.state input) (replies law m.state (run_with_limit limit law m.state input))))

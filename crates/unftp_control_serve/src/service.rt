@@ -1,5 +1,5 @@
 //! A whole connection, from the first read to the end of the input.
-ghost use Rattle.std.specs.Prelude.{◌≡◌, ◌≤◌, ◌+◌, ◌-◌, None, Some, IfOk, IfErr, IfSome, OnOk, length};
+ghost use Rattle.std.specs.Prelude.{◌≡◌, ◌≤◌, ◌+◌, ◌-◌, true, None, Some, IfOk, IfErr, IfSome, OnOk, length};
 ghost use Rattle.std.specs.Io.KnownBytes.{Appends};
 ghost use Rattle.unftp_control_defs.specs.Events.{events};
 ghost use Rattle.unftp_control_defs.specs.LineLimit.{run_with_limit, ends_with_limit, text_with_limit, unread, after_end};
@@ -76,6 +76,12 @@ pub fn serve<R: Read, W: Write, H: Handler>(
         IfSome (R.remaining reader.new.reader) (λ rest.
         served.left ≡ saturating_u64
         (length (unread None H.law (H.state handler.old) input) - length rest)))) }
+    // Where the handler ended the session and no byte is left, the reader stands right behind the
+    // line that ended it.
+    ensures behind { IfOk result (λ served. served.done ≡ true → served.left ≡ 0
+        → IfSome (R.remaining reader.old.reader) (λ input.
+        IfSome (R.remaining reader.new.reader) (λ rest.
+        after_end None H.law (H.state handler.old) input ≡ rest))) }
     // What is written is read as what the replies show, and as nothing else, where each of them is
     // plain.
     ensures read_back { OnOk result (IfSome (R.remaining reader.old.reader) (λ input.
@@ -134,6 +140,12 @@ pub fn serve_with_limit<R: Read, W: Write, H: Handler>(
         IfSome (R.remaining reader.new.reader) (λ rest.
         served.left ≡ saturating_u64
         (length (unread (Some limit) H.law (H.state handler.old) input) - length rest)))) }
+    // Where the handler ended the session and no byte is left, the reader stands right behind the
+    // line that ended it.
+    ensures behind { IfOk result (λ served. served.done ≡ true → served.left ≡ 0
+        → IfSome (R.remaining reader.old.reader) (λ input.
+        IfSome (R.remaining reader.new.reader) (λ rest.
+        after_end (Some limit) H.law (H.state handler.old) input ≡ rest))) }
     // What is written is read as what the replies show, and as nothing else, where each of them is
     // plain.
     ensures read_back { OnOk result (IfSome (R.remaining reader.old.reader) (λ input.

@@ -1,5 +1,5 @@
 //! Other handlers.
-ghost use Rattle.std.specs.Prelude.{◌≡◌, ◌⊎◌, codes};
+ghost use Rattle.std.specs.Prelude.{◌≡◌, ◌⊎◌, false, codes};
 ghost use Rattle.unftp_control.specs.Events.{Io, IoError, IllegalState, Refused, out_of_memory};
 ghost use Rattle.unftp_control.specs.FtpReply.{CodeAndMsg, Nothing};
 
@@ -38,6 +38,7 @@ impl Handler for Counting {
       says = λ _ _. CodeAndMsg 200 (codes "OK");
       next = λ s _. s;
       may_fail = λ _ _ fault. (fault.kind ≡ IllegalState) ⊎ (fault ≡ out_of_memory);
+      done = λ _. false;
     } };
 
     ghost failures = { λ counting. counting.failures };
@@ -55,6 +56,10 @@ impl Handler for Counting {
             self.failures.raise();
         }
         answer
+    }
+
+    fn done(&self) -> bool {
+        false
     }
 }
 
@@ -96,6 +101,7 @@ impl Handler for Recorder {
       says = λ _ _. Nothing;
       next = λ s _. s;
       may_fail = λ _ _ fault. fault ≡ out_of_memory;
+      done = λ _. false;
     } };
 
     ghost failures = { λ recorder. recorder.failures };
@@ -112,6 +118,10 @@ impl Handler for Recorder {
             return Err(ControlChanError::new(ControlChanErrorKind::OutOfMemory));
         }
         Ok(Reply::None)
+    }
+
+    fn done(&self) -> bool {
+        false
     }
 }
 
@@ -139,6 +149,7 @@ impl Handler for Failing {
       next = λ s _. s;
       may_fail = λ _ event fault.
           (event ≡ Refused fault) ⊎ (fault ≡ record { kind = IoError; source = Io });
+      done = λ _. false;
     } };
 
     ghost failures = { λ failing. failing.failures };
@@ -152,5 +163,9 @@ impl Handler for Failing {
                 Err(io::Error::from(ErrorKind::TimedOut).into())
             }
         }
+    }
+
+    fn done(&self) -> bool {
+        false
     }
 }
