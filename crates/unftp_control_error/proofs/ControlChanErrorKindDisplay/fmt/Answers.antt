@@ -8,3 +8,6 @@ returns-in-UnknownCommand-clause-styled g c flush ok =
     let second = c.write_str-in-UnknownCommand.ensures.styled first.flush ok in
     let both = styled_texts-append g.W.Write.write_str_gives _ _ _ _ _ first second in
     search rules
+
+pub returns-clause-styled : goal.returns-clause-styled
+returns-clause-styled g c = search rules
