@@ -1,3 +1,4 @@
+use Rattle.std.proofs.Common.{rules}
 use Rattle.unftp_control_command.specs.CommandMeaning.{command_of}
 use Rattle.unftp_control_defs.proofs.CanonicalLineEndLemmas.{IsLine-canonical_line}
 use Rattle.unftp_control_defs.proofs.CanonicalLineLemmas.{outcome-canonical_line}
@@ -8,3 +9,6 @@ returns-clause-line c = IsLine-canonical_line (command_of c.args.command.now) c.
 
 pub returns-clause-read_back : goal.returns-clause-read_back
 returns-clause-read_back c = outcome-canonical_line (command_of c.args.command.now) c.in-Some.ensures.line.0 c.line_of.ensures.real
+
+pub returns-then-is_err-clause-err : goal.returns-then-is_err-clause-err
+returns-then-is_err-clause-err c = search rules
