@@ -2,6 +2,7 @@
 use hex::FromHexError;
 use std::alloc::Global;
 use std::io;
+use std::str::Split;
 use unftp_control::reply::{Reply, ReplyCode};
 
 /// The error of a case that is none.
@@ -43,6 +44,15 @@ fn read_text(alloc: Global, word: &str) -> io::Result<String> {
     }
 }
 
+/// The texts that the next words have.
+fn read_lines<'a>(alloc: Global, words: Split<'a, char>) -> io::Result<Vec<String>> {
+    let mut lines = Vec::new(alloc);
+    for word in words {
+        lines.push(read_text(alloc, word)?)?;
+    }
+    Ok(lines)
+}
+
 /// The reply of a case.
 pub fn read_reply(alloc: Global, case: &str) -> io::Result<Reply> {
     let mut words = case.split(' ');
@@ -57,11 +67,10 @@ pub fn read_reply(alloc: Global, case: &str) -> io::Result<Reply> {
         }
         Some("multi") => {
             let code = read_code(words.next())?;
-            let mut lines = Vec::new(alloc);
-            for word in words {
-                lines.push(read_text(alloc, word)?)?;
-            }
-            Ok(Reply::MultiLine { code, lines })
+            Ok(Reply::MultiLine {
+                code,
+                lines: read_lines(alloc, words)?,
+            })
         }
         _ => Err(no_case()),
     }

@@ -13,6 +13,7 @@ use std::io::Write;
 use std::process::ExitCode;
 use std::{env, io};
 use unftp_control::codecs::FtpCodec;
+use unftp_control::command::Command;
 use unftp_control::error::{ControlChanError, ControlChanErrorKind, Source};
 use unftp_control::line_parser::{ParseErrorKind, parse};
 use unftp_control::read::{Front, ReadReplyError, read_reply as read_front};
@@ -66,26 +67,37 @@ fn write_refusal<W: Write>(error: &ControlChanError, out: &mut W) -> io::Result<
     }
 }
 
+/// Writes a command that was decoded, or the refusal of a line; `false` where no line is complete.
+fn write_decoded<W: Write>(
+    decoded: Result<Option<Command>, ControlChanError>,
+    out: &mut W,
+) -> io::Result<bool> {
+    let written = match decoded {
+        Ok(None) => return Ok(false),
+        Ok(Some(command)) => {
+            let written = write!(out, "ok {} | ", Shown(&command));
+            drop(command);
+            written
+        }
+        Err(error) => {
+            let written = write_refusal(&error, out);
+            drop(error);
+            written
+        }
+    };
+    written?;
+    Ok(true)
+}
+
 /// Writes what a new codec makes of an input.
 fn answer_decode<W: Write>(alloc: Global, input: Vec<u8>, out: &mut W) -> io::Result<()> {
     let mut codec = FtpCodec::new();
     let mut buf = input;
     // a line has at least one byte, so the last call finds none
     for _ in 0..=buf.len() {
-        let written = match codec.decode(alloc, &mut buf) {
-            Ok(None) => break,
-            Ok(Some(command)) => {
-                let written = write!(out, "ok {} | ", Shown(&command));
-                drop(command);
-                written
-            }
-            Err(error) => {
-                let written = write_refusal(&error, out);
-                drop(error);
-                written
-            }
-        };
-        written?;
+        if !write_decoded(codec.decode(alloc, &mut buf), out)? {
+            break;
+        }
     }
     write!(out, "left={}", buf.len())
 }
@@ -99,9 +111,8 @@ fn answer_encode<W: Write>(alloc: Global, reply: Reply, out: &mut W) -> io::Resu
     }
 }
 
-/// Writes a reply that was read.
-fn write_front<W: Write>(code: u16, lines: &[Vec<u8>], out: &mut W) -> io::Result<()> {
-    write!(out, "{code:03}:")?;
+/// Writes the lines of a reply that was read.
+fn write_lines<W: Write>(lines: &[Vec<u8>], out: &mut W) -> io::Result<()> {
     for (at, line) in lines.iter().enumerate() {
         if at > 0 {
             write!(out, ",")?;
@@ -111,6 +122,18 @@ fn write_front<W: Write>(code: u16, lines: &[Vec<u8>], out: &mut W) -> io::Resul
     Ok(())
 }
 
+/// Writes a reply that was read, after a semicolon where it is not the first.
+fn write_front<W: Write>(
+    is_first: bool,
+    code: u16,
+    lines: &[Vec<u8>],
+    out: &mut W,
+) -> io::Result<()> {
+    let separator = if is_first { "" } else { ";" };
+    write!(out, "{separator}{code:03}:")?;
+    write_lines(lines, out)
+}
+
 /// Writes the replies in what a server sent, and how much is left.
 fn answer_read<W: Write>(alloc: Global, stream: &[u8], out: &mut W) -> io::Result<()> {
     let mut rest = stream;
@@ -118,10 +141,9 @@ fn answer_read<W: Write>(alloc: Global, stream: &[u8], out: &mut W) -> io::Resul
     for turn in 0..=stream.len() {
         match read_front(alloc, rest) {
             Ok(Front::Whole { code, lines, used }) => {
-                if turn > 0 {
-                    write!(out, ";")?;
-                }
-                write_front(code, lines.as_slice(), out)?;
+                let written = write_front(turn == 0, code, lines.as_slice(), out);
+                drop(lines);
+                written?;
                 rest = rest.split_at(used).1;
             }
             Ok(Front::Partial) => return write!(out, " rest={}", rest.len()),

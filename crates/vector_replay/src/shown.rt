@@ -1,6 +1,6 @@
 //! Commands as the vector files write them.
 use std::fmt;
-use std::fmt::{Display, Formatter, Write};
+use std::fmt::{Debug, Display, Formatter, Write};
 use unftp_control::command::{Command, Opt};
 
 /// Bytes as lower-case hex.
@@ -68,6 +68,66 @@ fn one_path(command: &Command) -> Option<(&'static str, Option<&[u8]>)> {
     })
 }
 
+/// Writes a field of a type of its own after its name.
+fn write_value<W: Write, T: Debug>(f: &mut Formatter<W>, name: &str, value: &T) -> fmt::Result {
+    write!(f, "{name}={value:?}")
+}
+
+/// Writes the fields of LIST.
+fn write_list<W: Write>(
+    f: &mut Formatter<W>,
+    options: Option<&[u8]>,
+    path: Option<&[u8]>,
+) -> fmt::Result {
+    let options = OptionalHex(options);
+    write!(f, "List options={options} path={}", OptionalHex(path))
+}
+
+/// Writes a name and arguments, after the name of the first.
+fn write_texts<W: Write>(
+    f: &mut Formatter<W>,
+    field: &str,
+    name: &[u8],
+    arguments: &[u8],
+) -> fmt::Result {
+    write!(f, "{field}={} arguments={}", Hex(name), Hex(arguments))
+}
+
+/// Writes a command that has neither one field of bytes nor one path.
+fn write_other<W: Write>(command: &Command, f: &mut Formatter<W>) -> fmt::Result {
+    match command {
+        Command::List { options, path } => write_list(f, bytes_of(options), bytes_of(path)),
+        Command::Site { command, arguments } => {
+            write_texts(f, "Site command", command.as_bytes(), arguments.as_bytes())
+        }
+        Command::Other {
+            command_name,
+            arguments,
+        } => write_texts(
+            f,
+            "Other command_name",
+            command_name.as_bytes(),
+            arguments.as_bytes(),
+        ),
+        command => write_typed(command, f),
+    }
+}
+
+/// Writes a command with a field of a type of its own, or without a field.
+fn write_typed<W: Write>(command: &Command, f: &mut Formatter<W>) -> fmt::Result {
+    match command {
+        Command::Stru { structure } => write_value(f, "Stru structure", structure),
+        Command::Mode { mode } => write_value(f, "Mode mode", mode),
+        Command::Opts {
+            option: Opt::Utf8 { on },
+        } => write_value(f, "Opts option=Utf8 on", on),
+        Command::Auth { protocol } => write_value(f, "Auth protocol", protocol),
+        Command::Prot { param } => write_value(f, "Prot param", param),
+        Command::Rest { offset } => write_value(f, "Rest offset", offset),
+        command => Debug::fmt(command, f),
+    }
+}
+
 /// A command as its variant and its fields, texts in hex.
 #[derive(Clone, Copy)]
 pub struct Shown<'a>(pub &'a Command);
@@ -80,34 +140,6 @@ impl Display for Shown<'_> {
         if let Some((variant, path)) = one_path(self.0) {
             return write!(f, "{variant} path={}", OptionalHex(path));
         }
-        match self.0 {
-            Command::List { options, path } => {
-                let options = OptionalHex(bytes_of(options));
-                let path = OptionalHex(bytes_of(path));
-                write!(f, "List options={options} path={path}")
-            }
-            Command::Stru { structure } => write!(f, "Stru structure={structure:?}"),
-            Command::Mode { mode } => write!(f, "Mode mode={mode:?}"),
-            Command::Opts {
-                option: Opt::Utf8 { on },
-            } => write!(f, "Opts option=Utf8 on={on}"),
-            Command::Auth { protocol } => write!(f, "Auth protocol={protocol:?}"),
-            Command::Prot { param } => write!(f, "Prot param={param:?}"),
-            Command::Rest { offset } => write!(f, "Rest offset={offset}"),
-            Command::Site { command, arguments } => {
-                let command = Hex(command.as_bytes());
-                let arguments = Hex(arguments.as_bytes());
-                write!(f, "Site command={command} arguments={arguments}")
-            }
-            Command::Other {
-                command_name,
-                arguments,
-            } => {
-                let name = Hex(command_name.as_bytes());
-                let arguments = Hex(arguments.as_bytes());
-                write!(f, "Other command_name={name} arguments={arguments}")
-            }
-            command => write!(f, "{command:?}"),
-        }
+        write_other(self.0, f)
     }
 }
