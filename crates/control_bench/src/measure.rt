@@ -1,5 +1,5 @@
 //! What is measured.
-ghost use Rattle.std.specs.Prelude.{◌≡◌};
+ghost use Rattle.std.specs.Prelude.{◌≡◌, IfOk};
 
 use crate::served::{Discarding, Okay};
 use std::alloc::Global;
@@ -7,8 +7,11 @@ use std::fmt::{Display, Formatter, Write};
 use std::time::Instant;
 use std::{fmt, io};
 use unftp_control::codecs::FtpCodec;
+use unftp_control::command::Command;
+use unftp_control::error::ControlChanError;
+use unftp_control::line_parser;
 use unftp_control::line_parser::parse;
-use unftp_control::read::read_reply;
+use unftp_control::read::{Front, ReadReplyError, read_reply};
 use unftp_control::reply::{Reply, ReplyCode};
 use unftp_control::serve::{Engine, Output};
 
@@ -178,16 +181,61 @@ fn sessions(alloc: Global, repeats: usize) -> io::Result<Vec<u8>> {
     Ok(buf)
 }
 
+/// Drops the command that was decoded; it is an error that there is none.
+fn drop_decoded(decoded: Result<Option<Command>, ControlChanError>) -> io::Result<()> {
+    match decoded {
+        Ok(Some(command)) => {
+            drop(command);
+            Ok(())
+        }
+        Ok(None) => Err(no_command()),
+        Err(error) => {
+            drop(error);
+            Err(no_command())
+        }
+    }
+}
+
+/// How many bytes were taken; the command is dropped, and it is an error that there is none.
+fn taken(answer: (usize, Result<Option<Command>, ControlChanError>)) -> io::Result<usize>
+    ensures { IfOk result (λ taken. taken ≡ answer.0) }
+{
+    let (taken, decoded) = answer;
+    drop_decoded(decoded)?;
+    Ok(taken)
+}
+
+/// Drops the command that was parsed; it is an error that there is none.
+fn drop_parsed(parsed: line_parser::Result<Command>) -> io::Result<()> {
+    match parsed {
+        Ok(command) => {
+            drop(command);
+            Ok(())
+        }
+        Err(error) => {
+            drop(error);
+            Err(no_command())
+        }
+    }
+}
+
+/// The reply that was made.
+fn made(reply: Result<Reply, ControlChanError>) -> io::Result<Reply> {
+    match reply {
+        Ok(reply) => Ok(reply),
+        Err(error) => {
+            drop(error);
+            Err(no_memory())
+        }
+    }
+}
+
 fn decode_session(rt: &HostRuntime) -> io::Result<u128> {
     let mut buf = sessions(rt.alloc(), REPEATS)?;
     let mut codec = FtpCodec::new();
     let start = Instant::now(rt)?;
     for _ in 0..LINES {
-        match codec.decode(rt.alloc(), &mut buf) {
-            Ok(Some(command)) => drop(command),
-            Ok(None) => return Err(no_command()),
-            Err(_) => return Err(no_command()),
-        }
+        drop_decoded(codec.decode(rt.alloc(), &mut buf))?;
     }
     a_line(rt, start, LINES)
 }
@@ -200,12 +248,7 @@ fn decode_slice(rt: &HostRuntime, repeats: usize, mut codec: FtpCodec) -> io::Re
     let mut rest = bytes.as_slice();
     let start = Instant::now(rt)?;
     for _ in 0..lines {
-        let (taken, answer) = codec.decode_slice(rt.alloc(), rest);
-        match answer {
-            Ok(Some(command)) => drop(command),
-            Ok(None) => return Err(no_command()),
-            Err(_) => return Err(no_command()),
-        }
+        let taken = taken(codec.decode_slice(rt.alloc(), rest))?;
         rest = rest.split_at(taken).1;
     }
     a_line(rt, start, lines)
@@ -213,15 +256,22 @@ fn decode_slice(rt: &HostRuntime, repeats: usize, mut codec: FtpCodec) -> io::Re
 
 /// The lines of the sessions that so many bytes hold, fed in one piece.
 fn feed_piece(rt: &HostRuntime, most: usize) -> io::Result<u128> {
-    let session = SESSION.concat(rt.alloc())?;
-    let repeats = most / session.len().max(1);
+    let repeats = most / SESSION.concat(rt.alloc())?.len().max(1);
     let piece = sessions(rt.alloc(), repeats)?;
+    feed_lines(rt, piece.as_slice(), repeats.saturating_mul(SESSION.len()))
+}
+
+/// Nanoseconds for each of so many lines, fed in one piece.
+fn feed_lines(rt: &HostRuntime, piece: &[u8], lines: usize) -> io::Result<u128> {
     let mut engine = Engine::new(rt.alloc());
     let mut output = Output::new(Discarding);
     let start = Instant::now(rt)?;
-    match engine.feed(piece.as_slice(), &mut Okay::new(), &mut output) {
-        Ok(()) => a_line(rt, start, repeats.saturating_mul(SESSION.len())),
-        Err(_) => Err(no_memory()),
+    match engine.feed(piece, &mut Okay::new(), &mut output) {
+        Ok(()) => a_line(rt, start, lines),
+        Err(error) => {
+            drop(error);
+            Err(no_memory())
+        }
     }
 }
 
@@ -229,9 +279,7 @@ fn parse_session(rt: &HostRuntime) -> io::Result<u128> {
     let start = Instant::now(rt)?;
     for _ in 0..REPEATS {
         for line in SESSION {
-            if parse(rt.alloc(), line).is_err() {
-                return Err(no_command());
-            }
+            drop_parsed(parse(rt.alloc(), line))?;
         }
     }
     a_line(rt, start, LINES)
@@ -241,9 +289,7 @@ fn parse_long_lines(rt: &HostRuntime) -> io::Result<u128> {
     let line = long_line(rt.alloc())?;
     let start = Instant::now(rt)?;
     for _ in 0..LINES {
-        if parse(rt.alloc(), line.as_slice()).is_err() {
-            return Err(no_command());
-        }
+        drop_parsed(parse(rt.alloc(), line.as_slice()))?;
     }
     a_line(rt, start, LINES)
 }
@@ -271,10 +317,8 @@ fn encode_one_line(rt: &HostRuntime) -> io::Result<u128> {
     let mut buf = Vec::new(rt.alloc());
     let start = Instant::now(rt)?;
     for _ in 0..LINES {
-        let Ok(reply) = Reply::new(rt.alloc(), ReplyCode::CommandOkay, "OK") else {
-            return Err(no_memory());
-        };
-        encode(&mut codec, reply, &mut buf)?;
+        let reply = Reply::new(rt.alloc(), ReplyCode::CommandOkay, "OK");
+        encode(&mut codec, made(reply)?, &mut buf)?;
     }
     a_line(rt, start, LINES)
 }
@@ -285,10 +329,8 @@ fn encode_lines(rt: &HostRuntime, lines: &[&'static str]) -> io::Result<u128> {
     let start = Instant::now(rt)?;
     for _ in 0..LINES {
         let lines = lines.iter().copied();
-        let Ok(reply) = Reply::new_multiline(rt.alloc(), ReplyCode::SystemStatus, lines) else {
-            return Err(no_memory());
-        };
-        encode(&mut codec, reply, &mut buf)?;
+        let reply = Reply::new_multiline(rt.alloc(), ReplyCode::SystemStatus, lines);
+        encode(&mut codec, made(reply)?, &mut buf)?;
     }
     a_line(rt, start, LINES)
 }
@@ -303,14 +345,26 @@ fn reply_of(alloc: Global, lines: usize) -> io::Result<Vec<u8>> {
     Ok(bytes)
 }
 
+/// Drops the reply that was read; it is an error that there is none.
+fn drop_read(read: Result<Front, ReadReplyError>) -> io::Result<()> {
+    match read {
+        Ok(front) => {
+            drop(front);
+            Ok(())
+        }
+        Err(error) => {
+            drop(error);
+            Err(no_memory())
+        }
+    }
+}
+
 /// Nanoseconds a line, where this many replies of so many lines are read.
 fn read_replies(rt: &HostRuntime, replies: usize, lines: usize) -> io::Result<u128> {
     let bytes = reply_of(rt.alloc(), lines)?;
     let start = Instant::now(rt)?;
     for _ in 0..replies {
-        if read_reply(rt.alloc(), bytes.as_slice()).is_err() {
-            return Err(no_memory());
-        }
+        drop_read(read_reply(rt.alloc(), bytes.as_slice()))?;
     }
     Ok(start.elapsed(rt)?.as_nanos() / READ_LINES as u128)
 }
