@@ -4,7 +4,7 @@ use Rattle.unftp_control.specs.Events.{FtpEvent, Command, out_of_memory}
 use Rattle.unftp_control.specs.FtpCommand.{Auth}
 use Rattle.unftp_control.specs.FtpReply.{CodeAndMsg}
 use Rattle.unftp_control.specs.Run.{Law}
-use Rattle.unftp_control.specs.declared.parameters.AuthParam.TheVariants.{Tls}
+use Rattle.unftp_control.specs.declared.commands.AuthParam.TheVariants.{Tls}
 
 abbrev pub is_auth_tls : FtpEvent → Bool
 is_auth_tls (Command (Auth Tls)) = true

@@ -1,4 +1,6 @@
 //! The snippets over inputs and outputs in memory.
+ghost use Rattle.std.specs.Prelude.{◌++◌, Some};
+
 use crate::client::first_code;
 use crate::codec::{answer, first_is_noop, next_is_noop};
 use crate::handler::Obliging;
@@ -6,7 +8,10 @@ use crate::lines::line_text;
 use crate::pieces::answer_pieces;
 use crate::proxy::{ForwardError, forward_line};
 use crate::serving::{serve_connection, serve_stranger};
+use crate::upgrading::serve_until_tls;
 use std::alloc::Global;
+use std::io;
+use std::io::Read;
 use std::process::Abort;
 use unftp_control::codecs::FtpCodec;
 use unftp_control::serve::{Count, Output};
@@ -99,6 +104,46 @@ fn a_stranger_is_served_with_a_limit(rt: HostRuntime) {
     let left = served.expect(&rt, "an answer").left;
     assert_eq!(rt; left, 99_994);
     assert_bytes(&rt, output.as_slice(), b"200 OK\r\n");
+}
+
+/// Gives the first bytes in one read, and then the others.
+#[derive(Drop)]
+struct TwoPieces<'a> {
+    first: &'a [u8],
+    second: &'a [u8],
+}
+
+impl Read for TwoPieces<'_> {
+    ghost remaining = { λ pieces. Some (pieces.first.now ++ pieces.second.now) };
+
+    fn read(&mut self, buf: &mut [u8]) -> io::Result<usize> {
+        if self.first.is_empty() {
+            return self.second.read(buf);
+        }
+        self.first.read(buf)
+    }
+}
+
+/// Served in clear text up to AUTH TLS, the session gets `234`, and TLS begins, or not.
+fn assert_until_tls(rt: &impl Abort, alloc: Global, first: &[u8], second: &[u8], begins: bool) {
+    let pieces = TwoPieces { first, second };
+    let (next, output) = serve_until_tls(alloc, pieces, Vec::new(alloc));
+    match next.expect(rt, "an answer") {
+        Some(stream) => {
+            assert!(rt; begins);
+            assert_bytes(rt, stream.first, b"");
+            assert_bytes(rt, stream.second, second);
+        }
+        None => assert!(rt; !begins),
+    }
+    assert_bytes(rt, output.as_slice(), b"234 Upgrading to TLS\r\n");
+}
+
+#[test]
+fn tls_begins_right_after_auth_or_not_at_all(rt: HostRuntime) {
+    assert_until_tls(&rt, rt.alloc(), b"AUTH TLS\r\n", b"\x16\x03\x01", true);
+    assert_until_tls(&rt, rt.alloc(), b"AUTH TLS\r\nUSER x\r\n", b"", false);
+    assert_until_tls(&rt, rt.alloc(), b"AUTH TLS\r\nUSER x\r\n", b"\x16", false);
 }
 
 #[test]

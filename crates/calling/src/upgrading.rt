@@ -8,8 +8,8 @@ ghost use Rattle.unftp_control.specs.LineLimit.{after_end, ends_with_limit, text
 use std::alloc::Global;
 use std::io::{Read, Write};
 use unftp_control::command::Command;
+use unftp_control::commands::AuthParam;
 use unftp_control::error::ControlChanError;
-use unftp_control::line_parser::AuthParam;
 use unftp_control::reply::{Reply, ReplyCode};
 use unftp_control::serve::{Count, Event, Handler, Input, Output, ServeError, serve_with_limit};
 
@@ -66,8 +66,8 @@ const LINE_LIMIT: usize = 512;
 /// Serves a connection in clear text up to AUTH TLS, and returns the stream from which TLS has to be
 /// read, if the client came so far. The session under TLS is a new engine's.
 ///
-/// Bytes that came behind AUTH in clear text must not be taken for commands under TLS: with such
-/// bytes there is no stream, and the connection has to be closed.
+/// Bytes that came after AUTH in clear text must not be taken for commands under TLS: where there
+/// are any, the answer is `None`, and the connection has to be closed.
 pub fn serve_until_tls<R: Read + Drop, W: Write>(
     alloc: Global,
     stream_in: R,

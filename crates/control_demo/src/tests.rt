@@ -1,5 +1,6 @@
 //! The program over inputs and outputs in memory, and the engine over other handlers.
 mod counted;
+mod ending;
 mod engine;
 mod failed_allocations;
 mod handlers;
@@ -76,13 +77,6 @@ fn refused_lines_get_the_reason(rt: HostRuntime) {
 
 #[test]
 fn single_commands_have_their_replies(rt: HostRuntime) {
-    assert_answered(
-        &rt,
-        rt.alloc(),
-        b"QUIT\r\nNOOP\r\n",
-        b"221 Bye\r\n200 OK\r\n",
-        0,
-    );
     assert_answered(
         &rt,
         rt.alloc(),

@@ -196,8 +196,8 @@ module _ (limit : Option ℕ) {S : Type 0} (law : Law S) (m : Snapshot S) (i : I
             nothing_after on = ap (λ ended. if ended then unread limit law m.state (s.so_far.read ++ piece) else []) on
 
         -- with which it ended
-        pub Serving-done : engine'.finished ≡ true → AnsweredAllWithLimit limit law m after i k engine'.left engine'.tests engine'.held true
-        Serving-done done = record {
+        pub Serving-done : engine'.finished ≡ true → AnsweredAllWithLimit limit law m after i k engine'.left engine'.tests engine'.held engine'.finished
+        Serving-done done = rw done record {
           read = s.so_far.read ++ piece;
           consumed = consumed_so;
           ended = sym (ends_so ∙ done);
@@ -236,12 +236,12 @@ module _ (limit : Option ℕ) {S : Type 0} (law : Law S) (m : Snapshot S) (i : I
 
     pub Serving-all : (piece : Bytes) (count : ℕ) → count ≡ 0 →
         Consumes j.remaining k.remaining (take count piece) → IsAtEnd k.remaining →
-        k.failures ≡ j.failures → AnsweredAllWithLimit limit law m n i k engine.left engine.tests engine.held false
+        k.failures ≡ j.failures → AnsweredAllWithLimit limit law m n i k engine.left engine.tests engine.held engine.finished
     Serving-all piece count zero given at_end kept =
         let known = Consumes-then i.remaining j.remaining k.remaining s.so_far.read in
         let nothing : Consumes j.remaining k.remaining [] = rw zero at given in
         let nothing_after : after_end limit law m.state s.so_far.read ≡ [] = ap (λ ended. if ended then unread limit law m.state s.so_far.read else []) s.so_far.goes_on in
-        record {
+        rw (s.running.1) record {
           read = s.so_far.read;
           consumed = rw (sym (append-nil s.so_far.read)) (known [] s.so_far.consumed nothing);
           ended = sym s.so_far.goes_on;
@@ -348,8 +348,8 @@ module _ (limit : Option ℕ) {S : Type 0} (law : Law S) (m n : Snapshot S) (i k
   none_left none = omega (arith, none, all.left_reported)
 
   -- where the run ended and nothing is left, what was not read is all that follows its end
-  pub AnsweredAll-behind : done ≡ true → left ≡ 0 → IfSome i.remaining (λ input. IfSome k.remaining (λ rest. after_end limit law m.state input ≡ rest))
-  AnsweredAll-behind is_done none = of_bytes _ (λ input rest whole alike.
+  pub AnsweredAll-not_read : done ≡ true → left ≡ 0 → IfSome i.remaining (λ input. IfSome k.remaining (λ rest. after_end limit law m.state input ≡ rest))
+  AnsweredAll-not_read is_done none = of_bytes _ (λ input rest whole alike.
       let nothing : after_end limit law m.state all.read ≡ [] =
       ap (λ ended. if ended then unread limit law m.state all.read else []) (sym all.ended ∙ is_done) ∙ no_bytes (unread limit law m.state all.read) (none_left none) in
       alike.more_after_end ∙ ap (λ bytes. bytes ++ rest) nothing)
@@ -386,9 +386,9 @@ module _ (limit : Option ℕ) {S : Type 0} (law : Law S) (m n : Snapshot S) (i k
   pub Served-left : IfOk result (λ served. IfSome i.remaining (λ input. IfSome k.remaining (λ rest. served.left ≡ saturating_u64 (length (unread limit law m.state input) - length rest))))
   Served-left = of_served _ (λ served all. AnsweredAll-left limit law m n i k served.left served.tests served.held served.done all)
 
-  pub Served-behind : IfOk result (λ served. served.done ≡ true → served.left ≡ 0
+  pub Served-not_read : IfOk result (λ served. served.done ≡ true → served.left ≡ 0
       → IfSome i.remaining (λ input. IfSome k.remaining (λ rest. after_end limit law m.state input ≡ rest)))
-  Served-behind = of_served _ (λ served all. AnsweredAll-behind limit law m n i k served.left served.tests served.held served.done all)
+  Served-not_read = of_served _ (λ served all. AnsweredAll-not_read limit law m n i k served.left served.tests served.held served.done all)
 
   pub Served-read_back : OnOk result (IfSome i.remaining (λ input. AllByRecursion IsPlain (replies law m.state (run_with_limit limit law m.state input))
       → ReadsBack (text_with_limit limit law m.state input) (replies law m.state (run_with_limit limit law m.state input))))

@@ -76,9 +76,9 @@ pub fn serve<R: Read, W: Write, H: Handler>(
         IfSome (R.remaining reader.new.reader) (λ rest.
         served.left ≡ saturating_u64
         (length (unread None H.law (H.state handler.old) input) - length rest)))) }
-    // Where the handler ended the session and no byte is left, the reader stands right behind the
-    // line that ended it.
-    ensures behind { IfOk result (λ served. served.done ≡ true → served.left ≡ 0
+    // Where the handler ended the session and no byte is left, the reader has yet to give all bytes
+    // after the line that ended it.
+    ensures not_read { IfOk result (λ served. served.done ≡ true → served.left ≡ 0
         → IfSome (R.remaining reader.old.reader) (λ input.
         IfSome (R.remaining reader.new.reader) (λ rest.
         after_end None H.law (H.state handler.old) input ≡ rest))) }
@@ -140,9 +140,9 @@ pub fn serve_with_limit<R: Read, W: Write, H: Handler>(
         IfSome (R.remaining reader.new.reader) (λ rest.
         served.left ≡ saturating_u64
         (length (unread (Some limit) H.law (H.state handler.old) input) - length rest)))) }
-    // Where the handler ended the session and no byte is left, the reader stands right behind the
-    // line that ended it.
-    ensures behind { IfOk result (λ served. served.done ≡ true → served.left ≡ 0
+    // Where the handler ended the session and no byte is left, the reader has yet to give all bytes
+    // after the line that ended it.
+    ensures not_read { IfOk result (λ served. served.done ≡ true → served.left ≡ 0
         → IfSome (R.remaining reader.old.reader) (λ input.
         IfSome (R.remaining reader.new.reader) (λ rest.
         after_end (Some limit) H.law (H.state handler.old) input ≡ rest))) }

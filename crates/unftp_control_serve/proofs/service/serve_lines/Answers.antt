@@ -36,7 +36,7 @@ returns-then-finished-clause-ok g c =
     let fed = c.in_ok-feed.ensures in
     let finished = sym c.finished.ensures ∙ c.if-finished.true in
     let served = c.served_by-then-finished.ensures in
-    rw (served.left, served.done, served.tests, served.held, finished)
+    rw (served.left, served.done, served.tests, served.held)
     (Serving-done _ _ _ _ _ _ _ _ _ c.loop-turn.invariant.serving c.split_at.result.0.now _ c.feed.new.self given short c.in-Ok.ensures.quiet
     (fed.outcome running) (fed.leaves running) (fed.tested running) (fed.held running) finished)
 
@@ -54,6 +54,6 @@ returns-then-n-eq0-clause-ok g c =
     omega (arith, c.loop-turn.invariant.room, c.read.auto.buf) in
     let given = c.in-Ok.ensures.bytes in
     let served = c.served_by.ensures in
-    rw (served.left, served.done, served.tests, served.held, c.loop-turn.invariant.serving.running.1)
+    rw (served.left, served.done, served.tests, served.held)
     (Serving-all _ _ _ _ _ _ _ _ _ c.loop-turn.invariant.serving c.read.new.buf _ c.if-n-eq0.true
     given.0 (given.1 c.if-n-eq0.true room) c.in-Ok.ensures.quiet)

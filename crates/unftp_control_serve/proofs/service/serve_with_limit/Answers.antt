@@ -1,7 +1,7 @@
 use Rattle.std.proofs.Common.{Some}
 use Rattle.unftp_control_engine.specs.Endings.{Snapshot, snapshot_of}
 use Rattle.unftp_control_serve.specs.Service.{InputState, input_state_of}
-use Rattle.unftp_control_serve.proofs.ServiceLemmas.{Served-headline, Served-state, Served-done, Served-tested, Served-left, Served-behind, Served-read_back, Served-bound}
+use Rattle.unftp_control_serve.proofs.ServiceLemmas.{Served-headline, Served-state, Served-done, Served-tested, Served-left, Served-not_read, Served-read_back, Served-bound}
 use Rattle.unftp_control_serve.proofs.service.serve_with_limit.Given
 use Rattle.unftp_control_serve.proofs.service.serve_with_limit.Goals as goal
 
@@ -38,9 +38,9 @@ pub returns-clause-left : goal.returns-clause-left
 returns-clause-left g c =
     Served-left (Some c.args.limit) g.H.Handler.law (before g c) (after g c) (input g c) (input' g c) c.serve_lines.result c.serve_lines.ensures.ok
 
-pub returns-clause-behind : goal.returns-clause-behind
-returns-clause-behind g c =
-    Served-behind (Some c.args.limit) g.H.Handler.law (before g c) (after g c) (input g c) (input' g c) c.serve_lines.result c.serve_lines.ensures.ok
+pub returns-clause-not_read : goal.returns-clause-not_read
+returns-clause-not_read g c =
+    Served-not_read (Some c.args.limit) g.H.Handler.law (before g c) (after g c) (input g c) (input' g c) c.serve_lines.result c.serve_lines.ensures.ok
 
 pub returns-clause-read_back : goal.returns-clause-read_back
 returns-clause-read_back g c =
