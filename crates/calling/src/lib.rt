@@ -9,6 +9,6 @@ pub mod lines;
 pub mod pieces;
 pub mod proxy;
 pub mod serving;
-pub mod upgrading;
 #[cfg(test)]
 mod tests;
+pub mod upgrading;

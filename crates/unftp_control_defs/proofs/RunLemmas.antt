@@ -9,7 +9,7 @@ use Rattle.unftp_control_defs.specs.Bytes.{Bytes, LF, Lacks}
 use Rattle.unftp_control_defs.specs.Events.{FtpEvent}
 use Rattle.unftp_control_defs.specs.FtpReply.{FtpReply, encoded}
 use Rattle.unftp_control_defs.specs.Lines.{IsLine, lines_of, incomplete_line}
-use Rattle.unftp_control_defs.specs.LineLimit.{event_with_limit, events_with_limit, run_with_limit, ends_with_limit, unread, after_end}
+use Rattle.unftp_control_defs.specs.LineLimit.{event_with_limit, events_with_limit, run_with_limit, ends_with_limit, unread}
 use Rattle.unftp_control_defs.specs.Pieces.{replies_in_turn}
 use Rattle.unftp_control_defs.specs.Run.{Law, run_of, ends, replies, last_state, text_of}
 use Rattle.unftp_control_defs.proofs.LineLemmas.{Lines-lines_of, lines_of-append, lines_of-incomplete, incomplete_line-append, incomplete_line-incomplete, line_first, events_with_limit-append, events_with_limit-incomplete}
@@ -107,13 +107,12 @@ module _ {S : Type 0} (law : Law S) where
           × (run_with_limit limit law s (line ++ more) ≡ event_with_limit limit line ∷ [])
       ended-line done =
           let both = run_of-done s (event_with_limit limit line) (events_with_limit limit more) (ap law.done (sym next) ∙ done) in
-          let run : run_with_limit limit law s (line ++ more) ≡ event_with_limit limit line ∷ [] = ap (run_of law s) first_event ∙ both.0 in
-          (
+          let run : run_with_limit limit law s (line ++ more) ≡ event_with_limit limit line ∷ [] = ap (run_of law s) first_event ∙ both.0 in (
             ap (ends law s) first_event ∙ both.1,
             ap (λ taken. concat (drop (length taken) (lines_of (line ++ more))) ++ incomplete_line (line ++ more)) run
-            ∙ ap (λ lines. concat (drop 1 lines) ++ incomplete_line (line ++ more)) (line_first line more is_line).0
-            ∙ ap (λ incomplete. concat (lines_of more) ++ incomplete) (line_first line more is_line).1
-            ∙ sym (Lines-lines_of more).whole,
+                ∙ ap (λ lines. concat (drop 1 lines) ++ incomplete_line (line ++ more)) (line_first line more is_line).0
+                ∙ ap (λ incomplete. concat (lines_of more) ++ incomplete) (line_first line more is_line).1
+                ∙ sym (Lines-lines_of more).whole,
             run,
           )
 
@@ -123,12 +122,11 @@ module _ {S : Type 0} (law : Law S) where
       on-line on =
           let both = run_of-on s (event_with_limit limit line) (events_with_limit limit more) (ap law.done (sym next) ∙ on) in
           let run : run_with_limit limit law s (line ++ more) ≡ event_with_limit limit line ∷ run_with_limit limit law s' more =
-          ap (run_of law s) first_event ∙ both.0 ∙ ap (λ z. event_with_limit limit line ∷ run_with_limit limit law z more) (sym next) in
-          (
+          ap (run_of law s) first_event ∙ both.0 ∙ ap (λ z. event_with_limit limit line ∷ run_with_limit limit law z more) (sym next) in (
             ap (ends law s) first_event ∙ both.1 ∙ ap (λ z. ends_with_limit limit law z more) (sym next),
             ap (λ taken. concat (drop (length taken) (lines_of (line ++ more))) ++ incomplete_line (line ++ more)) run
-            ∙ ap (λ lines. concat (drop (length (event_with_limit limit line ∷ run_with_limit limit law s' more)) lines) ++ incomplete_line (line ++ more)) (line_first line more is_line).0
-            ∙ ap (λ incomplete. concat (drop (length (run_with_limit limit law s' more)) (lines_of more)) ++ incomplete) (line_first line more is_line).1,
+                ∙ ap (λ lines. concat (drop (length (event_with_limit limit line ∷ run_with_limit limit law s' more)) lines) ++ incomplete_line (line ++ more)) (line_first line more is_line).0
+                ∙ ap (λ incomplete. concat (drop (length (run_with_limit limit law s' more)) (lines_of more)) ++ incomplete) (line_first line more is_line).1,
             run,
           )
 

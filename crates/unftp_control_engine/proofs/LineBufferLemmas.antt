@@ -8,13 +8,12 @@ use Rattle.std.proofs.lemmas.List.{drop-drop, take_all, take_more, take-append-d
 use Rattle.std.proofs.Math.Seq.{take-length}
 use Rattle.std.proofs.lemmas.Option.{none-some, same_Some}
 use Rattle.unftp_control_defs.specs.Bytes.{Bytes, LF, Lacks}
-use Rattle.unftp_control_defs.specs.Lines.{IsLine, incomplete_line}
+use Rattle.unftp_control_defs.specs.Lines.{IsLine}
 use Rattle.unftp_control_defs.specs.Events.{FtpEvent, Command, Refused, FaultKind, IoError, OutOfMemory, event_of}
 use Rattle.unftp_control_defs.specs.FtpCommand.{Answer, InvalidUtf8, InvalidCommand, InvalidEol}
-use Rattle.unftp_control_defs.specs.LineLimit.{exceeds, line_too_long, event_with_limit, events_with_limit}
+use Rattle.unftp_control_defs.specs.LineLimit.{exceeds, line_too_long, event_with_limit}
 use Rattle.unftp_control_defs.specs.Outcome.{outcome}
 use Rattle.unftp_control_defs.proofs.LackLemmas.{Lacks-append}
-use Rattle.unftp_control_defs.proofs.LineLemmas.{events_with_limit-line, events_with_limit-incomplete, incomplete_line-line, incomplete_line-incomplete}
 use Rattle.unftp_control_codecs.specs.Codec.{Codec, is_too_long}
 use Rattle.unftp_control_codecs.specs.LineFeed.{is_line_feed, line_feed_from}
 use Rattle.unftp_control_codecs.specs.Decoding.{Decoded, Decodes, FindsNone, SkipsAll, CutsLine, KeepsLine, IfTooLong, AnswersNone, AnswersLine, IsOutOfMemory, returned_event}
@@ -22,7 +21,7 @@ use Rattle.unftp_control_codecs.proofs.LineFeedLemmas.{NoLineFeed, line_feed_at,
 use Rattle.unftp_control_engine.specs.declared.event.Event.{Event}
 use Rattle.unftp_control_engine.specs.Engine.{kept_length}
 use Rattle.unftp_control_engine.specs.EventMeaning.{event_meant}
-use Rattle.unftp_control_engine.specs.LineBuffer.{IsWithin, IsDropped, IsLineBuffer, dropped_after, Pending, pending_of, HasNoLine, TakesLine, TakesNext, ReturnsEvent}
+use Rattle.unftp_control_engine.specs.LineBuffer.{IsWithin, IsDropped, IsLineBuffer, dropped_after, pending_of, TakesNext, ReturnsEvent}
 
 not_lf : (b : ℕ) → is_line_feed b ≡ false → b ≢ LF
 not_lf b h = λ e. grind (arith, common_steps)
@@ -327,26 +326,3 @@ module _ (old new : Codec) (dropped dropped' buf pending front : Bytes) (start t
   takes_next-after result tells =
       rw (← drop-drop taken start buf, dropped_of_the_rest)
       (takes_next old new dropped rest taken answer well.place_within well.dropped_well well.limited limit within_the_rest of_the_rest (length buf) held result tells)
-
--- right after a line was taken, nothing is dropped or scanned, so that the buffer may be emptied
-module _ (codec : Codec) (dropped buf : Bytes) (start held : ℕ) (well : IsLineBuffer codec dropped buf start held)
-    (unscanned : length (drop start buf) - codec.place ≡ length (dropped ++ drop start buf)) where
-  pub none_dropped-cleared : dropped ≡ []
-  none_dropped-cleared = no_bytes dropped (omega (arith, unscanned, length-append dropped (drop start buf)))
-    where
-      no_bytes : (bytes : Bytes) → length bytes ≡ 0 → bytes ≡ []
-      no_bytes [] h = refl
-      no_bytes (b ∷ bytes) h = absurd (omega (arith, h))
-
-  pub line_buffer-cleared : IsLineBuffer codec dropped [] 0 held
-  line_buffer-cleared = record {
-    start_within = omega arith;
-    place_within = (omega (arith, unscanned, length-append dropped (drop start buf), well.place_within.0), Lacks-take codec.place);
-    dropped_well = well.dropped_well;
-    limited = well.limited;
-    no_more = omega arith;
-  }
-    where
-      Lacks-take : (n : ℕ) → Lacks LF (take n [])
-      Lacks-take zero = tt
-      Lacks-take (suc n) = tt

@@ -1,5 +1,5 @@
 -- The run over the pending bytes, line by line.
-use Rattle.std.proofs.Common.{◌≡◌, ℕ, true, false, List, Option, [], ◌∷◌, ◌++◌, map, refl, sym, ap, ◌∙◌}
+use Rattle.std.proofs.Common.{◌≡◌, ℕ, true, false, List, Option, [], ◌∷◌, map, refl, sym, ap, ◌∙◌}
 use Rattle.std.specs.Prelude.{if◌then◌else◌}
 use Rattle.unftp_control_defs.specs.Bytes.{Bytes}
 use Rattle.unftp_control_defs.specs.Events.{FtpEvent}

@@ -41,11 +41,11 @@ const PIECE: usize = 4096;
 /// After the first event that leaves the handler done, no later byte is taken as a line, and nothing
 /// more is read.
 ///
-/// At `Ok` the reader has come to its end, or the handler is done. `Read` is a failed read, after which all complete lines
-/// are answered; `Write` and `WriteZero` are a failed write or flush, after which a beginning of a
-/// reply may be written; `Handler` and `OutOfMemory` are a failed handler or allocation, after
-/// which the replies to the lines before are written and flushed; `TooManyReads` comes after 2^64 -
-/// 1 reads. It is never `Stopped`.
+/// At `Ok` the reader has come to its end, or the handler is done. `Read` is a failed read, after
+/// which all complete lines are answered; `Write` and `WriteZero` are a failed write or flush, after
+/// which a beginning of a reply may be written; `Handler` and `OutOfMemory` are a failed handler or
+/// allocation, after which the replies to the lines before are written and flushed; `TooManyReads`
+/// comes after 2^64 - 1 reads. It is never `Stopped`.
 ///
 /// A line may have any length, and all its bytes are kept until its line feed comes: for input that
 /// is not trusted, use `serve_with_limit`.
@@ -71,6 +71,7 @@ pub fn serve<R: Read, W: Write, H: Handler>(
         IfSome (R.remaining reader.old.reader) (λ input.
         served.tests + length (after_end None H.law (H.state handler.old) input)
         ≡ length input)) }
+    // `left` is how many of the bytes after the last line of the run were read.
     ensures left { IfOk result (λ served.
         IfSome (R.remaining reader.old.reader) (λ input.
         IfSome (R.remaining reader.new.reader) (λ rest.
@@ -135,6 +136,7 @@ pub fn serve_with_limit<R: Read, W: Write, H: Handler>(
         IfSome (R.remaining reader.old.reader) (λ input.
         served.tests + length (after_end (Some limit) H.law (H.state handler.old) input)
         ≡ length input)) }
+    // `left` is how many of the bytes after the last line of the run were read.
     ensures left { IfOk result (λ served.
         IfSome (R.remaining reader.old.reader) (λ input.
         IfSome (R.remaining reader.new.reader) (λ rest.

@@ -81,13 +81,45 @@ fn a_finished_engine_counts_what_it_is_fed(rt: HostRuntime) {
     let mut engine = Engine::new(rt.alloc());
     let mut responses = Responses::new();
     let mut output = Output::new(Room::ample(rt.alloc()));
-    assert_fed(&rt, &mut engine, b"BY", &mut responses, &mut output, 2, false);
-    assert_fed(&rt, &mut engine, b"E\r\n", &mut responses, &mut output, 0, true);
-    assert_fed(&rt, &mut engine, b"NOOP\r\n", &mut responses, &mut output, 6, true);
+    assert_fed(
+        &rt,
+        &mut engine,
+        b"BY",
+        &mut responses,
+        &mut output,
+        2,
+        false,
+    );
+    assert_fed(
+        &rt,
+        &mut engine,
+        b"E\r\n",
+        &mut responses,
+        &mut output,
+        0,
+        true,
+    );
+    assert_fed(
+        &rt,
+        &mut engine,
+        b"NOOP\r\n",
+        &mut responses,
+        &mut output,
+        6,
+        true,
+    );
     let mut long = Vec::new(rt.alloc());
     long.resize(100_000, b'a').expect(&rt, "memory");
     let long = long.as_slice();
-    assert_fed(&rt, &mut engine, long, &mut responses, &mut output, 100_006, true);
+    assert_fed(
+        &rt,
+        &mut engine,
+        long,
+        &mut responses,
+        &mut output,
+        100_006,
+        true,
+    );
     assert_held(&rt, output.into_inner(), b"221 Bye\r\n");
 }
 
