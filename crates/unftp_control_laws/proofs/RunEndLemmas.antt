@@ -1,5 +1,5 @@
 -- Inputs that are longer than their run.
-use Rattle.std.proofs.Common.{◌≡◌, Bool, true, false, [], ◌++◌, Option, ℕ, ap, sym, ◌∙◌}
+use Rattle.std.proofs.Common.{◌≡◌, true, false, [], ◌++◌, Option, ℕ, ap, sym, ◌∙◌}
 use Rattle.std.specs.Prelude.{if◌then◌else◌}
 use Rattle.unftp_control_defs.specs.Bytes.{Bytes}
 use Rattle.unftp_control_defs.specs.LineLimit.{run_with_limit, ends_with_limit, unread, after_end}
