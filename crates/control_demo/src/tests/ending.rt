@@ -49,15 +49,22 @@ fn bytes_after_quit_are_left_or_not_read(rt: HostRuntime) {
     assert_bytes(&rt, unread, b"NOOP\r\n");
 }
 
+/// However the input is split, the program writes `want`, the session doesn't end, and so many bytes
+/// are left.
+fn assert_not_ended(rt: &impl Abort, alloc: Global, input: &[u8], want: &[u8], left: u64) {
+    for most in 1..=input.len() {
+        let (served, unread) = served(rt, alloc, input, most, want);
+        assert!(rt; !served.done);
+        assert_eq!(rt; served.left, left);
+        assert_bytes(rt, unread, b"");
+    }
+}
+
 #[test]
 fn a_refused_or_unfinished_quit_ends_nothing(rt: HostRuntime) {
     let want = b"500 Invalid command\r\n200 OK\r\n";
-    let (refused, _) = served(&rt, rt.alloc(), b"QUIT x\r\nNOOP\r\n", 4096, want);
-    assert!(rt; !refused.done);
-    assert_eq!(rt; refused.left, 0);
-    let (unfinished, _) = served(&rt, rt.alloc(), b"QUIT", 4096, b"");
-    assert!(rt; !unfinished.done);
-    assert_eq!(rt; unfinished.left, 4);
+    assert_not_ended(&rt, rt.alloc(), b"QUIT x\r\nNOOP\r\n", want, 0);
+    assert_not_ended(&rt, rt.alloc(), b"QUIT", b"", 4);
 }
 
 /// The engine takes the piece, after which so many bytes are left and it is finished or not.
