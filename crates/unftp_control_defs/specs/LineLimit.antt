@@ -25,7 +25,7 @@ event_with_limit limit line =
 abbrev pub events_with_limit : Option ℕ → Bytes → List FtpEvent
 events_with_limit limit input = map (event_with_limit limit) (lines_of input)
 
--- The run over an input, and whether it ends before the input does.
+-- the run over an input, and whether the handler ends it
 abbrev pub run_with_limit : {S : Type 0} → Option ℕ → Law S → S → Bytes → List FtpEvent
 run_with_limit limit law s input = run_of law s (events_with_limit limit input)
 
