@@ -3,9 +3,11 @@ mod counted;
 mod ending;
 mod engine;
 mod failed_allocations;
+mod faults;
 mod handlers;
 mod limits;
 mod resident;
+mod splits;
 mod streams;
 
 use crate::run;
@@ -13,6 +15,16 @@ use crate::tests::streams::{Pieces, Room};
 use std::alloc::Global;
 use std::process::Abort;
 use unftp_control::serve::{Input, Output, ServeError};
+
+/// Lines that are no command of the program's, most of them refused.
+const REFUSED_LINES: &[u8] =
+    b"site echo lower case\r\nFOO\r\nAUTH \xff\r\nUSER a\rb\r\nNOOP x\r\nHELP\r\n";
+
+/// The replies to these lines.
+const REFUSALS: &[u8] =
+    b"200 lower case\r\n502 Not implemented\r\n500 Non-UTF8 character while parsing\
+    \r\n500 Invalid end-of-line\r\n500 Invalid command\r\n214-Help:\
+    \r\nPowered by libunftp: 0.24.0\r\n214 View the docs at: https://unftp.rs/\r\n";
 
 /// The bytes are these.
 fn assert_bytes(rt: &impl Abort, bytes: &[u8], want: &[u8]) {
@@ -64,15 +76,9 @@ fn each_line_is_answered(rt: HostRuntime) {
 
 #[test]
 fn refused_lines_get_the_reason(rt: HostRuntime) {
-    assert_answered(
-        &rt,
-        rt.alloc(),
-        b"site echo lower case\r\nFOO\r\nAUTH \xff\r\nUSER a\rb\r\nNOOP x\r\nHELP\r\n",
-        b"200 lower case\r\n502 Not implemented\r\n500 Non-UTF8 character while parsing\
-            \r\n500 Invalid end-of-line\r\n500 Invalid command\r\n214-Help:\
-            \r\nPowered by libunftp: 0.24.0\r\n214 View the docs at: https://unftp.rs/\r\n",
-        0,
-    );
+    for most in 1..=64 {
+        assert_run(&rt, rt.alloc(), REFUSED_LINES, most, REFUSALS, 0);
+    }
 }
 
 #[test]

@@ -11,6 +11,7 @@ mod lines;
 mod reading;
 mod replies;
 mod slices;
+mod stray;
 mod texts;
 mod writing;
 

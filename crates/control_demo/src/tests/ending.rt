@@ -7,7 +7,7 @@ use std::alloc::Global;
 use std::process::Abort;
 use unftp_control::serve::{Engine, Input, Output, ServeError, Served};
 
-const SESSION: &[u8] = b"NOOP\r\nQUIT\r\nNOOP\r\n";
+pub const SESSION: &[u8] = b"NOOP\r\nQUIT\r\nNOOP\r\n";
 
 /// Serves an input of which at most `most` bytes are read at a time. The program writes `want`.
 /// Returns what it says, and what is not read.
@@ -128,20 +128,6 @@ fn a_finished_engine_counts_what_it_is_fed(rt: HostRuntime) {
         true,
     );
     assert_held(&rt, output.into_inner(), b"221 Bye\r\n");
-}
-
-#[test]
-fn a_session_ends_at_quit_wherever_it_is_cut(rt: HostRuntime) {
-    for at in 0..SESSION.len() {
-        let (front, rest) = SESSION.split_at(at);
-        let mut engine = Engine::new(rt.alloc());
-        let mut responses = Responses::new();
-        let mut output = Output::new(Room::ample(rt.alloc()));
-        let answer = engine.feed(front, &mut responses, &mut output);
-        answer.expect(&rt, "an answer");
-        assert_fed(&rt, &mut engine, rest, &mut responses, &mut output, 6, true);
-        assert_held(&rt, output.into_inner(), b"200 OK\r\n221 Bye\r\n");
-    }
 }
 
 /// Whether the answer is `Write`; whether it is `Stopped`.

@@ -13,11 +13,13 @@ use unftp_control::serve::{Engine, Input, Output, ServeError, Served, serve};
 
 /// How serving ended: with how many bytes left, or with which error.
 #[derive(Clone, Copy, Debug, PartialEq, Eq)]
-enum End {
+pub enum End {
     Left(u64),
     Read,
     Write,
     WriteZero,
+    /// The handler failed with this kind.
+    IllegalState,
     Handler,
     OutOfMemory,
     Stopped,
@@ -30,7 +32,10 @@ impl From<ServeError> for End {
             ServeError::Read(_) => End::Read,
             ServeError::Write(_) => End::Write,
             ServeError::WriteZero => End::WriteZero,
-            ServeError::Handler(_) => End::Handler,
+            ServeError::Handler(refused) => match refused.kind() {
+                ControlChanErrorKind::IllegalState => End::IllegalState,
+                _ => End::Handler,
+            },
             ServeError::OutOfMemory => End::OutOfMemory,
             ServeError::Stopped => End::Stopped,
             ServeError::TooManyReads => End::TooManyReads,
@@ -41,7 +46,7 @@ impl From<ServeError> for End {
 }
 
 /// How `serve` ended.
-fn end_of(answer: Result<Served, ServeError>) -> End {
+pub fn end_of(answer: Result<Served, ServeError>) -> End {
     match answer {
         Ok(served) => End::Left(served.left),
         Err(error) => error.into(),
@@ -49,7 +54,7 @@ fn end_of(answer: Result<Served, ServeError>) -> End {
 }
 
 /// How `feed` ended, after which so many bytes are left.
-fn end_of_feed(answer: Result<(), ServeError>, left: u64) -> End {
+pub fn end_of_feed(answer: Result<(), ServeError>, left: u64) -> End {
     match answer {
         Ok(()) => End::Left(left),
         Err(error) => error.into(),
@@ -174,24 +179,24 @@ fn the_handler_takes_no_event_after_a_reply_that_is_not_written(rt: HostRuntime)
 #[test]
 fn a_failed_flush_is_a_failed_write(rt: HostRuntime) {
     let mut room = Room::ample(rt.alloc());
-    room.failing_flush = 1;
-    let pieces = Pieces::new(b"NOOP\r\nNOOP\r\nNOOP\r\n", 4096);
-    let room = served_room(&rt, rt.alloc(), pieces, room, u32::MAX, End::Write, 2);
-    assert_held(&rt, room, b"200 OK\r\n200 OK\r\n");
+    room.failing_flush = 0;
+    let pieces = Pieces::new(b"NOOP\r\nNOOP\r\n", 4096);
+    let room = served_room(&rt, rt.alloc(), pieces, room, u32::MAX, End::Write, 1);
+    assert_held(&rt, room, b"200 OK\r\n");
 }
 
 #[test]
 fn the_lines_before_a_failed_handler_are_answered(rt: HostRuntime) {
     let room = Room::ample(rt.alloc());
     let pieces = Pieces::new(b"NOOP\r\nPWD\r\nNOOP\r\n", 4096);
-    let room = served_room(&rt, rt.alloc(), pieces, room, 1, End::Handler, 2);
+    let room = served_room(&rt, rt.alloc(), pieces, room, 1, End::IllegalState, 2);
     assert_held(&rt, room, b"200 OK\r\n");
 }
 
 #[test]
 fn the_lines_before_a_failed_read_are_answered(rt: HostRuntime) {
     let room = Room::ample(rt.alloc());
-    let mut pieces = Pieces::new(b"NOOP\r\nNOOP\r\n", 8);
+    let mut pieces = Pieces::new(b"NOOP\r\nNO", 8);
     pieces.turns = 1;
     let room = served_room(&rt, rt.alloc(), pieces, room, u32::MAX, End::Read, 1);
     assert_held(&rt, room, b"200 OK\r\n");
@@ -213,6 +218,15 @@ fn a_failed_read_is_returned_at_once(rt: HostRuntime) {
     assert_eq!(rt; end, End::Left(2));
     assert_eq!(rt; counting.taken, 2);
     assert_held(&rt, output.into_inner(), b"200 OK\r\n200 OK\r\n");
+}
+
+#[test]
+fn a_byte_a_write_goes_on(rt: HostRuntime) {
+    let mut room = Room::ample(rt.alloc());
+    room.most = 1;
+    let pieces = Pieces::new(b"NOOP\r\nNOOP\r\n", 4096);
+    let room = served_room(&rt, rt.alloc(), pieces, room, u32::MAX, End::Left(0), 2);
+    assert_held(&rt, room, b"200 OK\r\n200 OK\r\n");
 }
 
 #[test]
@@ -317,7 +331,7 @@ fn a_hundred_kilobytes_are_fed(rt: HostRuntime) {
 }
 
 /// The input is served whole, with so many flushes and so many bytes written.
-fn assert_served(rt: &impl Abort, alloc: Global, input: &[u8], flushes: u32, written: usize) {
+fn assert_served(rt: &impl Abort, alloc: Global, input: &[u8], flushes: usize, written: usize) {
     let mut responses = Responses::new();
     let mut reader = Input::new(Pieces::new(input, usize::MAX));
     let mut output = Output::new(Room::ample(alloc));

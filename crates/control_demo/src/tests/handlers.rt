@@ -1,8 +1,10 @@
 //! Other handlers.
-ghost use Rattle.std.specs.Prelude.{◌≡◌, ◌⊎◌, false, codes};
+ghost use Rattle.std.specs.Prelude.{◌≡◌, ◌⊎◌, Bool, false, codes};
+ghost use Rattle.control_demo.specs.Responses.{program_law};
 ghost use Rattle.unftp_control.specs.Events.{Io, IoError, IllegalState, Refused, out_of_memory};
 ghost use Rattle.unftp_control.specs.FtpReply.{CodeAndMsg, Nothing};
 
+use crate::responses::Responses;
 use std::alloc::Global;
 use std::io;
 use std::io::ErrorKind;
@@ -60,6 +62,41 @@ impl Handler for Counting {
 
     fn done(&self) -> bool {
         false
+    }
+}
+
+/// The program's handler, with the number of events that it has taken.
+#[derive(Drop)]
+pub struct Counted {
+    pub taken: u32,
+    responses: Responses,
+}
+
+impl Counted {
+    pub fn new() -> Counted {
+        Counted {
+            taken: 0,
+            responses: Responses::new(),
+        }
+    }
+}
+
+impl Handler for Counted {
+    ghost State = { Bool };
+
+    ghost state = { λ counted. counted.responses.quit };
+
+    ghost law = { program_law };
+
+    ghost failures = { λ counted. counted.responses.failures };
+
+    fn handle(&mut self, alloc: Global, event: Event) -> Result<Reply, ControlChanError> {
+        self.taken = self.taken.saturating_add(1);
+        self.responses.handle(alloc, event)
+    }
+
+    fn done(&self) -> bool {
+        self.responses.done()
     }
 }
 

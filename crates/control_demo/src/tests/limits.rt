@@ -30,9 +30,9 @@ fn assert_limited(
     assert_held(rt, writer.into_inner(), want);
 }
 
-const LONG_LINES: &[u8] = b"NOOP\r\nNOOP \r\nXXXXXXXXXX\nPWD\r\n";
+pub const LONG_LINES: &[u8] = b"NOOP\r\nNOOP \r\nXXXXXXXXXX\nPWD\r\n";
 
-const RESPONSES: &[u8] =
+pub const RESPONSES: &[u8] =
     b"200 OK\r\n500 Line too long\r\n500 Line too long\r\n502 Not implemented\r\n";
 
 #[test]
@@ -70,20 +70,6 @@ fn assert_fed(
 ) {
     feed(rt, engine, piece, responses, output);
     assert_eq!(rt; engine.left(), left);
-}
-
-#[test]
-fn long_lines_are_answered_alone_wherever_the_input_is_cut(rt: HostRuntime) {
-    for at in 0..LONG_LINES.len() {
-        let (front, rest) = LONG_LINES.split_at(at);
-        let mut engine = Engine::with_limit(rt.alloc(), 6);
-        let mut responses = Responses::new();
-        let mut output = Output::new(Room::ample(rt.alloc()));
-        feed(&rt, &mut engine, front, &mut responses, &mut output);
-        feed(&rt, &mut engine, rest, &mut responses, &mut output);
-        assert_eq!(rt; engine.left(), 0);
-        assert_held(&rt, output.into_inner(), RESPONSES);
-    }
 }
 
 #[test]

@@ -1,20 +1,24 @@
-//! Readers that give pieces and writers with little room, which fail when they are asked to.
+//! Readers that give pieces and writers with little room, which fail when they are asked to. Each
+//! failure is `Interrupted`, which is an error like any other: nothing is tried again.
 ghost use Rattle.std.specs.Prelude.{Some};
 
 use std::alloc::Global;
 use std::io;
 use std::io::{ErrorKind, Read, Write};
 
-/// Gives at most `most` bytes a read, and fails once no turn is left.
+/// Gives at most `most` bytes a read, in the first two reads at most `first` and `second`, and fails
+/// once no turn is left.
 #[derive(Drop)]
 pub struct Pieces<'a> {
     pub rest: &'a [u8],
+    first: usize,
+    second: usize,
     pub most: usize,
     pub turns: u32,
     /// How many reads were made.
-    pub reads: u32,
+    pub reads: usize,
     /// The read that fails, counted from 0.
-    pub failing_read: u32,
+    pub failing_read: usize,
 }
 
 impl<'a> Pieces<'a> {
@@ -22,10 +26,29 @@ impl<'a> Pieces<'a> {
     pub fn new(input: &'a [u8], most: usize) -> Pieces<'a> {
         Pieces {
             rest: input,
+            first: most,
+            second: most,
             most,
             turns: u32::MAX,
             reads: 0,
-            failing_read: u32::MAX,
+            failing_read: usize::MAX,
+        }
+    }
+
+    /// A reader that gives so many bytes, then so many, and then the rest.
+    pub fn cut(input: &'a [u8], first: usize, second: usize) -> Pieces<'a> {
+        let mut pieces = Pieces::new(input, usize::MAX);
+        pieces.first = first;
+        pieces.second = second;
+        pieces
+    }
+
+    /// How many bytes the next read gives at most.
+    fn next_size(&self) -> usize {
+        match self.reads {
+            0 => self.first,
+            1 => self.second,
+            _ => self.most,
         }
     }
 }
@@ -35,12 +58,13 @@ impl Read for Pieces<'_> {
 
     fn read(&mut self, buf: &mut [u8]) -> io::Result<usize> {
         let is_failing = self.reads == self.failing_read;
+        let most = self.next_size().max(1);
         self.reads = self.reads.saturating_add(1);
         if is_failing || self.turns == 0 {
             return Err(io::Error::from(ErrorKind::Interrupted));
         }
         self.turns -= 1;
-        let n = buf.len().min(self.most.max(1)).min(self.rest.len());
+        let n = buf.len().min(most).min(self.rest.len());
         let (taken, rest) = self.rest.split_at(n);
         buf[..n].copy_from_slice(taken);
         self.rest = rest;
@@ -62,9 +86,9 @@ pub struct Room {
     /// Whether it fails at a write while bytes of the write before are unflushed.
     pub is_wary: bool,
     pub unflushed: usize,
-    pub flushes: u32,
+    pub flushes: usize,
     /// The flush that fails, counted from 0.
-    pub failing_flush: u32,
+    pub failing_flush: usize,
 }
 
 impl Room {
@@ -84,7 +108,7 @@ impl Room {
             is_wary: false,
             unflushed: 0,
             flushes: 0,
-            failing_flush: u32::MAX,
+            failing_flush: usize::MAX,
         }
     }
 
@@ -102,7 +126,7 @@ impl Write for Room {
     fn write(&mut self, buf: &[u8]) -> io::Result<usize> {
         let n = buf.len().min(self.room).min(self.most);
         if (n == 0 && self.fails) || (self.is_wary && self.unflushed > 0) {
-            return Err(io::Error::from(ErrorKind::Other));
+            return Err(io::Error::from(ErrorKind::Interrupted));
         }
         let (taken, _) = buf.split_at(n);
         self.held.extend_from_slice(taken)?;
@@ -114,7 +138,7 @@ impl Write for Room {
 
     fn flush(&mut self) -> io::Result<()> {
         if self.flushes == self.failing_flush {
-            return Err(io::Error::from(ErrorKind::Other));
+            return Err(io::Error::from(ErrorKind::Interrupted));
         }
         self.flushes = self.flushes.saturating_add(1);
         self.unflushed = 0;

@@ -5,13 +5,16 @@ use crate::codecs::FtpCodec;
 use crate::command::Command;
 use crate::commands::{
     Auth, AuthParam, Epsv, Feat, Help, Mlst, Mode, ModeParam, Opt, Opts, Passive, Prot, ProtParam,
-    Stru, StruParam,
+    Stru, StruParam, format_facts, make_epsv_reply,
 };
 use crate::error::{ControlChanError, ControlChanErrorKind};
-use crate::read::{Front, ReadReplyError, read_reply};
+use crate::line_parser::{ParseErrorKind, parse};
+use crate::read::{ReadReplyError, read_reply};
 use crate::reply::{Reply, ReplyCode};
 use crate::tests::commands::File;
 use crate::tests::errors::assert_kind;
+use crate::tests::reading::assert_front;
+use crate::tests::slices::Decoded;
 use crate::tests::texts::{assert_bytes, assert_text};
 use crate::write::{WriteCommandError, write_command};
 use jiff::Timestamp;
@@ -28,14 +31,17 @@ fn assert_out_of_memory(rt: &impl Abort, error: ControlChanError) {
 #[derive(Clone, Copy)]
 enum Lines {
     One,
-    Two,
+    Three,
 }
 
 /// A reply of so many lines.
 fn reply_of(alloc: Global, lines: Lines) -> Result<Reply, ControlChanError> {
     match lines {
         Lines::One => Reply::new(alloc, ReplyCode::CommandNotImplemented, "Not implemented"),
-        Lines::Two => Reply::new_multiline(alloc, ReplyCode::SystemStatus, ["a", "1b"]),
+        Lines::Three => {
+            let lines = ["Usage: foo", "", "Options:"];
+            Reply::new_multiline(alloc, ReplyCode::HelpMessage, lines)
+        }
     }
 }
 
@@ -55,12 +61,12 @@ fn replies_are_made_again(rt: HostRuntime) {
 
 #[test]
 fn replies_of_several_lines_are_made_again(rt: HostRuntime) {
-    assert_made(&rt, rt.alloc(), Lines::Two);
+    assert_made(&rt, rt.alloc(), Lines::Three);
 }
 
 #[test]
 fn a_reply_is_cloned_again(rt: HostRuntime) {
-    let Ok(reply) = reply_of(rt.alloc(), Lines::Two) else {
+    let Ok(reply) = reply_of(rt.alloc(), Lines::Three) else {
         return;
     };
     let copy = match reply.clone(rt.alloc()) {
@@ -106,26 +112,94 @@ fn a_failed_encoding_leaves_the_buffer(rt: HostRuntime) {
 
 #[test]
 fn a_failed_encoding_of_several_lines_leaves_the_buffer(rt: HostRuntime) {
-    assert_encoded(&rt, rt.alloc(), Lines::Two, b"x211-a\r\n211 1b\r\n");
+    assert_encoded(
+        &rt,
+        rt.alloc(),
+        Lines::Three,
+        b"x214-Usage: foo\r\n\r\n214 Options:\r\n",
+    );
 }
 
-/// The command of the first line of the buffer. Where an allocation for it fails, the line stays,
-/// and is decoded again.
-fn first_command(
-    rt: &impl Abort,
-    alloc: Global,
-    line: &[u8],
-    buf: &mut Vec<u8>,
-) -> Option<Command> {
+/// The call that reads a line.
+#[derive(Clone, Copy)]
+enum Call {
+    Parse,
+    Decode,
+    DecodeSlice,
+}
+
+/// How many bytes of a line are scanned before all of it is there.
+const SCANNED: usize = 4;
+
+/// What `parse` makes of the line; once more, where an allocation fails.
+fn parsed(rt: &impl Abort, alloc: Global, line: &[u8]) -> Command {
+    match parse(alloc, line) {
+        Ok(command) => command,
+        Err(error) => {
+            assert_eq!(rt; error.kind(), &ParseErrorKind::OutOfMemory);
+            parse(alloc, line).expect(rt, "a command")
+        }
+    }
+}
+
+/// What `decode` makes of the line, whose first bytes it has scanned. Where an allocation fails, the
+/// buffer and the scan offset stay, and the line is decoded once more.
+fn decoded(rt: &impl Abort, alloc: Global, line: &[u8], buf: &mut Vec<u8>) -> Option<Command> {
+    let (front, rest) = line.split_at(line.len().min(SCANNED));
     let mut codec = FtpCodec::new();
+    buf.extend_from_slice(front).ok()?;
+    assert_eq!(rt; Decoded::from(codec.decode(alloc, buf)), Decoded::Nothing);
+    buf.extend_from_slice(rest).ok()?;
     match codec.decode(alloc, buf) {
         Ok(command) => command,
         Err(error) => {
             assert_out_of_memory(rt, error);
-            assert_eq!(rt; codec.place(), 0);
+            assert_eq!(rt; codec.place(), SCANNED);
             assert_bytes(rt, buf.as_slice(), line);
             codec.decode(alloc, buf).expect(rt, "a command")
         }
+    }
+}
+
+/// The command of the first line, which is decoded in a buffer, after which PWD is left.
+fn decoded_in_a_buffer(rt: &impl Abort, alloc: Global, line: &[u8]) -> Option<Command> {
+    let mut buf = Vec::new(alloc);
+    let command = decoded(rt, alloc, line, &mut buf)?;
+    assert_bytes(rt, buf.as_slice(), b"PWD\r\n");
+    Some(command)
+}
+
+/// What follows so many bytes of the line is PWD.
+fn assert_pwd_follows(rt: &impl Abort, line: &[u8], taken: usize) {
+    let (_, rest) = line.split_at(line.len().min(taken));
+    assert_bytes(rt, rest, b"PWD\r\n");
+}
+
+/// What `decode_slice` makes of the line, whose first bytes it has scanned. Where an allocation
+/// fails, it takes no byte, its scan offset stays, and the line is decoded once more.
+fn decoded_in_a_slice(rt: &impl Abort, alloc: Global, line: &[u8]) -> Option<Command> {
+    let (front, _) = line.split_at(line.len().min(SCANNED));
+    let mut codec = FtpCodec::new();
+    let (_, nothing) = codec.decode_slice(alloc, front);
+    assert_eq!(rt; Decoded::from(nothing), Decoded::Nothing);
+    let (mut taken, mut answer) = codec.decode_slice(alloc, line);
+    if let Err(error) = answer {
+        assert_out_of_memory(rt, error);
+        assert_eq!(rt; taken, 0);
+        assert_eq!(rt; codec.place(), SCANNED);
+        (taken, answer) = codec.decode_slice(alloc, line);
+    }
+    let command = answer.expect(rt, "a command");
+    assert_pwd_follows(rt, line, taken);
+    command
+}
+
+/// The command of the line, where there is memory for the set-up.
+fn command_by(rt: &impl Abort, alloc: Global, call: Call, line: &[u8]) -> Option<Command> {
+    match call {
+        Call::Parse => Some(parsed(rt, alloc, line)),
+        Call::Decode => decoded_in_a_buffer(rt, alloc, line),
+        Call::DecodeSlice => decoded_in_a_slice(rt, alloc, line),
     }
 }
 
@@ -140,46 +214,56 @@ fn is_cloned(rt: &impl Abort, alloc: Global, command: &Command) -> bool {
     is_same
 }
 
-/// The Debug text of the command of the first line, where there is memory for the text.
-fn command_text(rt: &impl Abort, alloc: Global, line: &[u8], buf: &mut Vec<u8>) -> Option<String> {
-    let command = first_command(rt, alloc, line, buf)?;
+/// The command is equal to its clone, and is this one, where there is memory for its text.
+fn assert_command(rt: &impl Abort, alloc: Global, command: Command, want: &str) {
     let is_same = is_cloned(rt, alloc, &command);
     let text = format!(in alloc; "{command:?}");
     drop(command);
     assert!(rt; is_same);
-    text.ok()
-}
-
-/// The line before PWD is this command, where there is memory for its text.
-fn assert_read(rt: &impl Abort, alloc: Global, line: &[u8], want: &str) {
-    let Ok(mut buf) = Vec::from_slice(alloc, line) else {
-        return;
-    };
-    let text = command_text(rt, alloc, line, &mut buf);
-    assert_bytes(rt, buf.as_slice(), b"PWD\r\n");
-    if let Some(text) = text {
+    if let Ok(text) = text {
         assert_text(rt, text, want);
     }
 }
 
-#[test]
-fn a_line_out_of_memory_stays_in_the_buffer(rt: HostRuntime) {
-    let alloc = rt.alloc();
+/// The line before PWD is this command.
+fn assert_read(rt: &impl Abort, alloc: Global, call: Call, line: &[u8], want: &str) {
+    if let Some(command) = command_by(rt, alloc, call, line) {
+        assert_command(rt, alloc, command, want);
+    }
+}
+
+/// Lines whose fields take memory are read as their commands.
+fn assert_lines_read(rt: &impl Abort, alloc: Global, call: Call) {
     let want = "User { username: b\"abc\" }";
-    assert_read(&rt, alloc, b"USER abc\r\nPWD\r\n", want);
+    assert_read(rt, alloc, call, b"USER abc\r\nPWD\r\n", want);
     let want = "User { username: b\"a\\rb\" }";
-    assert_read(&rt, alloc, b"USER a\r\0b\r\nPWD\r\n", want);
+    assert_read(rt, alloc, call, b"USER a\r\0b\r\nPWD\r\n", want);
     let want = "Pass { password: Password { bytes: ******* } }";
-    assert_read(&rt, alloc, b"PASS abc\r\nPWD\r\n", want);
+    assert_read(rt, alloc, call, b"PASS abc\r\nPWD\r\n", want);
     let want = "Retr { path: \"abc\" }";
-    assert_read(&rt, alloc, b"RETR abc\r\nPWD\r\n", want);
+    assert_read(rt, alloc, call, b"RETR abc\r\nPWD\r\n", want);
     let want = "List { options: None, path: Some(\"abc\") }";
-    assert_read(&rt, alloc, b"LIST -la abc\r\nPWD\r\n", want);
+    assert_read(rt, alloc, call, b"LIST -la abc\r\nPWD\r\n", want);
     let want = "Site { command: \"ECHO\", arguments: \"a b\" }";
-    assert_read(&rt, alloc, b"site echo a b\r\nPWD\r\n", want);
+    assert_read(rt, alloc, call, b"site echo a b\r\nPWD\r\n", want);
     // ill-formed UTF-8 is replaced in an allocation of its own
     let want = "Retr { path: \"a\u{fffd}b\" }";
-    assert_read(&rt, alloc, b"RETR a\xffb\r\nPWD\r\n", want);
+    assert_read(rt, alloc, call, b"RETR a\xffb\r\nPWD\r\n", want);
+}
+
+#[test]
+fn a_line_out_of_memory_is_parsed_again(rt: HostRuntime) {
+    assert_lines_read(&rt, rt.alloc(), Call::Parse);
+}
+
+#[test]
+fn a_line_out_of_memory_stays_in_the_buffer(rt: HostRuntime) {
+    assert_lines_read(&rt, rt.alloc(), Call::Decode);
+}
+
+#[test]
+fn a_line_out_of_memory_stays_in_the_slice(rt: HostRuntime) {
+    assert_lines_read(&rt, rt.alloc(), Call::DecodeSlice);
 }
 
 /// The line of the command comes after what the buffer had. Where an allocation fails, the buffer
@@ -213,6 +297,22 @@ fn a_written_line_out_of_memory_leaves_the_buffer(rt: HostRuntime) {
 }
 
 #[test]
+fn a_written_path_out_of_memory_leaves_the_buffer(rt: HostRuntime) {
+    let Ok(path) = String::from_str(rt.alloc(), "-x") else {
+        return;
+    };
+    let Ok(mut buf) = Vec::from_slice(rt.alloc(), b"x") else {
+        return;
+    };
+    let command = Command::List {
+        options: None,
+        path: Some(path),
+    };
+    assert_line(&rt, &command, &mut buf, b"xLIST -- -x\r\n");
+    drop(command);
+}
+
+#[test]
 fn a_reply_out_of_memory_is_read_again(rt: HostRuntime) {
     let bytes = b"211-a\r\n 1b\r\n211 2c\r\n";
     let front = match read_reply(rt.alloc(), bytes) {
@@ -222,10 +322,10 @@ fn a_reply_out_of_memory_is_read_again(rt: HostRuntime) {
             read_reply(rt.alloc(), bytes).expect(&rt, "a reply")
         }
     };
-    assert!(rt; front != Front::Partial);
+    assert_front(&rt, &front, 211, &[b"a", b" 1b", b"2c"], 20);
 }
 
-/// The replies to the nine commands that are answered here, with the facts of the file.
+/// The replies to the nine commands that are answered here, and the facts of the file.
 fn all_replies(alloc: Global, file: &File) -> Result<(), ControlChanError> {
     Auth::new(AuthParam::Tls).reply(alloc, true)?;
     Prot::new(ProtParam::Private).reply(alloc, true)?;
@@ -236,6 +336,9 @@ fn all_replies(alloc: Global, file: &File) -> Result<(), ControlChanError> {
     Opts::new(Opt::Utf8 { on: true }).reply(alloc)?;
     Stru::new(StruParam::File).reply(alloc)?;
     Mlst::new(None).reply(alloc, "/", Ok(file))?;
+    Mlst::new(None).reply::<File>(alloc, "/", Err("no such file"))?;
+    make_epsv_reply(alloc, 2121)?;
+    format_facts(alloc, file)?;
     Ok(())
 }
 

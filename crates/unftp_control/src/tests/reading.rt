@@ -13,7 +13,7 @@ fn assert_lines(rt: &impl Abort, lines: &[Vec<u8>], want: &[&[u8]]) {
 }
 
 /// It is a whole reply of this code and these lines, and takes so many bytes.
-fn assert_front(rt: &impl Abort, front: &Front, code: u16, lines: &[&[u8]], used: usize) {
+pub fn assert_front(rt: &impl Abort, front: &Front, code: u16, lines: &[&[u8]], used: usize) {
     match front {
         Front::Whole {
             code: found,
@@ -70,6 +70,10 @@ fn an_unfinished_reply_is_partial(rt: HostRuntime) {
     assert_partial(&rt, rt.alloc(), b"hello");
     assert_partial(&rt, rt.alloc(), b"");
     assert_partial(&rt, rt.alloc(), b"211-a\r\nb\r\n211");
+    let reply = b"211-a\r\n 1b\r\n211 2c\r\n";
+    for length in 0..reply.len() {
+        assert_partial(&rt, rt.alloc(), &reply[..length]);
+    }
 }
 
 #[test]

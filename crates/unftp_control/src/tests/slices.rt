@@ -75,29 +75,6 @@ fn the_bytes_of_a_refused_line_are_counted(rt: HostRuntime) {
     assert_eq!(rt; codec.place(), 0);
 }
 
-mod failed_allocations {
-    use super::Decoded;
-    use crate::codecs::FtpCodec;
-
-    // where an allocation fails, the codec is as before, and decodes the line again
-    #[test]
-    fn a_line_of_a_slice_is_decoded(rt: HostRuntime) {
-        let bytes = b"USER abc\r\nPWD\r\n";
-        let mut codec = FtpCodec::at(4);
-        let (mut taken, answer) = codec.decode_slice(rt.alloc(), bytes);
-        let mut decoded = Decoded::from(answer);
-        if decoded == Decoded::OutOfMemory {
-            assert_eq!(rt; taken, 0);
-            assert_eq!(rt; codec.place(), 4);
-            let (again, answer) = codec.decode_slice(rt.alloc(), bytes);
-            taken = again;
-            decoded = Decoded::from(answer);
-        }
-        assert_eq!(rt; taken, 10);
-        assert_eq!(rt; decoded, Decoded::UserAbc);
-    }
-}
-
 #[test]
 fn a_codec_goes_on_at_its_place(rt: HostRuntime) {
     let mut codec = FtpCodec::at(4);
