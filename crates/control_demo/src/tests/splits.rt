@@ -1,12 +1,12 @@
-//! Sessions that are cut in three at each two places, fed and served: the replies are those to the
-//! whole, whatever the cut goes through.
+//! Sessions that are fed byte by byte, and fed and served cut in three at each two places: the
+//! replies are those to the whole, whatever a cut goes through.
 use crate::responses::Responses;
 use crate::run;
 use crate::tests::ending::SESSION;
 use crate::tests::limits::{LONG_LINES, RESPONSES};
 use crate::tests::streams::{Pieces, Room};
 use crate::tests::{REFUSALS, REFUSED_LINES, assert_held};
-use std::alloc::Global;
+use std::alloc::{AllocError, Global};
 use std::process::Abort;
 use unftp_control::serve::{Engine, Input, Output, ServeError, Served, serve_with_limit};
 
@@ -37,7 +37,7 @@ fn new_engine(alloc: Global, limit: usize) -> Engine {
 }
 
 /// An engine answers the pieces as the session says.
-fn assert_fed(rt: &impl Abort, alloc: Global, session: &Session, pieces: [&[u8]; 3]) {
+fn assert_fed(rt: &impl Abort, alloc: Global, session: &Session, pieces: &[&[u8]]) {
     let mut engine = new_engine(alloc, session.limit);
     let mut responses = Responses::new();
     let mut output = Output::new(Room::ample(alloc));
@@ -74,11 +74,13 @@ fn assert_served(rt: &impl Abort, alloc: Global, session: &Session, first: usize
     assert_held(rt, writer.into_inner(), session.replies);
 }
 
-/// Wherever the session is cut in three, it is answered as it says.
+/// The session is answered as it says, byte by byte and wherever it is cut in three.
 fn assert_answered(rt: &impl Abort, alloc: Global, session: &Session) {
+    let bytes: Result<Vec<&[u8]>, AllocError> = session.input.chunks(1).collect(alloc);
+    assert_fed(rt, alloc, session, bytes.expect(rt, "memory").as_slice());
     for first in 0..=session.input.len() {
         for second in first..=session.input.len() {
-            assert_fed(rt, alloc, session, in_three(session.input, first, second));
+            assert_fed(rt, alloc, session, &in_three(session.input, first, second));
             assert_served(rt, alloc, session, first, second.saturating_sub(first));
         }
     }
