@@ -124,26 +124,25 @@ fn the_reader_fails_at_each_turn(rt: HostRuntime) {
     }
 }
 
-#[test]
-fn the_writer_fails_after_each_byte(rt: HostRuntime) {
+/// After each byte of the replies, a writer that takes no more ends the session so.
+fn assert_stopped_after_each_byte(rt: &impl Abort, alloc: Global, fails: bool, end: End) {
     for bytes in 0..REFUSALS.len() {
-        let room = Room::with_room(rt.alloc(), bytes, true);
-        let want = Outcome::after_writing(bytes, End::Write);
-        assert_served(&rt, rt.alloc(), Pieces::new(REFUSED_LINES, 7), room, want);
-        let room = Room::with_room(rt.alloc(), bytes, true);
-        assert_fed(&rt, rt.alloc(), room, want);
+        let room = Room::with_room(alloc, bytes, fails);
+        let want = Outcome::after_writing(bytes, end);
+        assert_served(rt, alloc, Pieces::new(REFUSED_LINES, 7), room, want);
+        let room = Room::with_room(alloc, bytes, fails);
+        assert_fed(rt, alloc, room, want);
     }
 }
 
 #[test]
+fn the_writer_fails_after_each_byte(rt: HostRuntime) {
+    assert_stopped_after_each_byte(&rt, rt.alloc(), true, End::Write);
+}
+
+#[test]
 fn the_writer_takes_nothing_after_each_byte(rt: HostRuntime) {
-    for bytes in 0..REFUSALS.len() {
-        let room = Room::with_room(rt.alloc(), bytes, false);
-        let want = Outcome::after_writing(bytes, End::WriteZero);
-        assert_served(&rt, rt.alloc(), Pieces::new(REFUSED_LINES, 7), room, want);
-        let room = Room::with_room(rt.alloc(), bytes, false);
-        assert_fed(&rt, rt.alloc(), room, want);
-    }
+    assert_stopped_after_each_byte(&rt, rt.alloc(), false, End::WriteZero);
 }
 
 /// A writer whose flush of this reply fails.
