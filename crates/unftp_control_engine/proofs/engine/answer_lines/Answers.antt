@@ -1,4 +1,5 @@
 use Rattle.std.proofs.Common.{◌∙◌, refl, sym, ap, arith}
+use Rattle.std.proofs.lemmas.Bool.{false≢true}
 use Rattle.std.proofs.lemmas.Result.{err_from_is_err_and}
 use Rattle.unftp_control_engine.specs.Engine.{kept_length}
 use Rattle.unftp_control_engine.proofs.LineRunLemmas.{Halfway-start, Halfway-next, no_line-answered, no_line-not_ended, no_line-all_unread, line-failed, last_line-answered, last_line-ended, last_line-unread}
@@ -44,6 +45,17 @@ returns-then-done-clause-unread g c =
     let first = rw c.in-Some.is at c.in_ok-event.ensures.takes_next in
     last_line-unread _ _ _ _ _ _ _ before.halfway before.limit _ first _ c.in_ok-answer_event.ensures (sym c.done.ensures ∙ c.if-done.true)
 
+pub returns-then-done-clause-unscanned : goal.returns-then-done-clause-unscanned
+returns-then-done-clause-unscanned g c =
+    let first = rw c.in-Some.is at c.in_ok-event.ensures.takes_next in
+    first.none_scanned
+
+pub returns-then-done-clause-kept : goal.returns-then-done-clause-kept
+returns-then-done-clause-kept g c = λ on. absurd (false≢true (sym on))
+
+pub returns-then-done-clause-room : goal.returns-then-done-clause-room
+returns-then-done-clause-room g c = λ on. absurd (false≢true (sym on))
+
 pub returns-in-None-clause-outcome : goal.returns-in-None-clause-outcome
 returns-in-None-clause-outcome g c =
     let none = rw c.in-None.is at c.in_ok-event.ensures.takes_next in
@@ -58,6 +70,11 @@ pub returns-in-None-clause-unread : goal.returns-in-None-clause-unread
 returns-in-None-clause-unread g c =
     let none = rw c.in-None.is at c.in_ok-event.ensures.takes_next in
     no_line-all_unread _ _ _ _ _ _ _ c.loop-event.invariant.halfway none
+
+pub returns-in-None-clause-unscanned : goal.returns-in-None-clause-unscanned
+returns-in-None-clause-unscanned g c =
+    let none = rw c.in-None.is at c.in_ok-event.ensures.takes_next in
+    none.all_scanned
 
 pub returns-in-None-clause-room : goal.returns-in-None-clause-room
 returns-in-None-clause-room g c =

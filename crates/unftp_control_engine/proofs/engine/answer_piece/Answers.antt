@@ -1,8 +1,11 @@
-use Rattle.std.proofs.Common.{◌∙◌, sym, ap}
+use Rattle.std.proofs.Common.{◌∙◌, sym, ap, rules}
 use Rattle.unftp_control_defs.specs.Lines.{incomplete_line}
 use Rattle.unftp_control_defs.proofs.RunLemmas.{unread-on}
 use Rattle.unftp_control_engine.proofs.engine.answer_piece.Goals.{then-ended, else-ended}
 use Rattle.unftp_control_engine.proofs.engine.answer_piece.Goals as goal
+
+pub returns-clause-outcome : goal.returns-clause-outcome
+returns-clause-outcome g c = rw (← c.in_ok-append.ensures.bytes, ← c.in_ok-append.ensures.limit) c.in_ok-ended.ensures.outcome
 
 pub returns-clause-incomplete : goal.returns-clause-incomplete
 returns-clause-incomplete g c = elim c.if-ended.branch [
@@ -13,3 +16,9 @@ returns-clause-incomplete g c = elim c.if-ended.branch [
       (ap (λ pending. pending.bytes) w.line_buffer-is ∙ ap (λ pending. pending.bytes) w.settle.ensures ∙ lines.unread
       ∙ unread-on g.H.Handler.law c.append.new.self.limit (g.H.Handler.state c.args.handler.now) c.append.new.self.bytes (sym lines.ended ∙ w.if-ended.false) ∙ ap incomplete_line c.in_ok-append.ensures.bytes)
 ]
+
+pub returns-clause-kept : goal.returns-clause-kept
+returns-clause-kept g c = search rules
+
+pub returns-clause-room : goal.returns-clause-room
+returns-clause-room g c = search rules
