@@ -99,6 +99,19 @@ impl FtpCodec {
         self.skipping
     }
 
+    /// Forgets the line that it has begun: its scan offset is 0, and it drops no bytes. The limit and
+    /// the count of scanned bytes stay.
+    pub fn reset(&mut self)
+        ensures { self.new ≡ record {
+          place = 0;
+          tests = self.old.tests;
+          limit = self.old.limit;
+          skipping = false;
+        } }
+    {
+        (self.place, self.skipping) = (0, false);
+    }
+
     /// The scan offset: where the next search for a line feed begins, in bytes from the start of
     /// the buffer.
     pub fn place(&self) -> usize

@@ -1,5 +1,4 @@
 pub mod SendLemmas
 pub mod EndingLemmas
-mod LineBufferLemmas
 mod LineRunLemmas
 mod ExampleLemmas

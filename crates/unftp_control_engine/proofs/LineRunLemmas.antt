@@ -8,7 +8,7 @@ use Rattle.unftp_control_defs.specs.Run.{Law, run_of, ends}
 use Rattle.unftp_control_defs.proofs.LineLemmas.{line_first, events_with_limit-incomplete}
 use Rattle.unftp_control_defs.proofs.RunLemmas.{on-line, ended-line, unread-incomplete}
 use Rattle.unftp_control_engine.specs.Endings.{Snapshot, AllAnswered, RunEnded}
-use Rattle.unftp_control_engine.specs.LineBuffer.{Pending, HasNoLine, TakesLine}
+use Rattle.unftp_control_events.specs.Decoder.{Pending, HasNoLine, TakesLine}
 use Rattle.unftp_control_engine.specs.declared.error.ServeError.{ServeError}
 use Rattle.unftp_control_engine.proofs.EndingLemmas.{Answering, Answering-next, Answering-end, Answering-ended, AllAnswered-nothing}
 

@@ -1,10 +1,11 @@
 -- What contracts see of an engine.
-use Rattle.std.specs.Prelude.{◌≡◌, ℕ, ◌+◌, ◌-◌, ◌^◌, Bool, true, false, if◌then◌else◌, List, [], ◌++◌, length, min, Option}
+use Rattle.std.specs.Prelude.{◌≡◌, ℕ, ◌+◌, Bool, true, false, if◌then◌else◌, List, [], ◌++◌, length, Option}
 use Rattle.unftp_control_defs.specs.Bytes.{Bytes}
 use Rattle.unftp_control_defs.specs.Lines.{incomplete_line}
 use Rattle.unftp_control_defs.specs.Events.{FtpEvent}
-use Rattle.unftp_control_defs.specs.LineLimit.{exceeds, events_with_limit, run_with_limit, ends_with_limit, unread}
+use Rattle.unftp_control_defs.specs.LineLimit.{events_with_limit, run_with_limit, ends_with_limit, unread}
 use Rattle.unftp_control_defs.specs.Run.{Law, last_state}
+use Rattle.unftp_control_events.specs.Decoder.{saturating_u64}
 use Rattle.unftp_control_engine.specs.declared.engine.Phase.{Phase}
 use Rattle.unftp_control_engine.specs.declared.engine.Phase.TheVariants as phase
 
@@ -37,10 +38,6 @@ fresh limit = record {
   held = 0;
 }
 
--- a number as 64 bits hold it, the greatest for each greater one
-abbrev pub saturating_u64 : ℕ → ℕ
-saturating_u64 n = min n (2 ^ 64 - 1)
-
 -- in which phase an engine has failed, and in which its run has ended
 abbrev pub has_failed : Phase → Bool
 has_failed phase.Failed = true
@@ -53,11 +50,6 @@ has_finished _ = false
 -- it takes the lines of what it is fed
 abbrev pub IsRunning : EngineState → Type 0
 IsRunning engine = (engine.failed ≡ false) × (engine.finished ≡ false)
-
--- how many bytes of an incomplete line are kept: none of one that is too long already
-abbrev pub kept_length : Option ℕ → Bytes → ℕ
-kept_length limit incomplete =
-    if exceeds limit (length incomplete + 1) then 0 else length incomplete
 
 -- the pending bytes and a piece after them, and their events
 abbrev pub bytes_with : EngineState → Bytes → Bytes

@@ -7,15 +7,13 @@ ghost use Rattle.unftp_control_defs.specs.Lines.{incomplete_line};
 ghost use Rattle.unftp_control_defs.specs.Run.{text_of};
 ghost use Rattle.unftp_control_reply.specs.ReplyMeaning.{reply_of};
 ghost use Rattle.unftp_control_engine.specs.Endings.{RunOutcome, WriteFailed, HandlerFailed, RanOutOfMemory, OnWrite, OnHandler, OnMemory, ReadsNothing, snapshot_of};
-ghost use Rattle.unftp_control_engine.specs.Engine.{IsRunning, Leaves, bytes_with, run_with, fresh, kept_length, more_left, saturating_u64};
-ghost use Rattle.unftp_control_engine.specs.EventMeaning.{event_meant};
-ghost use Rattle.unftp_control_engine.specs.LineBuffer.{no_lines};
+ghost use Rattle.unftp_control_events.specs.Decoder.{kept_length, no_bytes, saturating_u64};
+ghost use Rattle.unftp_control_events.specs.EventMeaning.{event_meant};
+ghost use Rattle.unftp_control_engine.specs.Engine.{IsRunning, Leaves, bytes_with, run_with, fresh, more_left};
 ghost use Rattle.unftp_control_engine.specs.Writing.{Flushed};
 
 use crate::error::ServeError;
-use crate::event::Event;
 use crate::handler::Handler;
-use crate::line_buffer::LineBuffer;
 use crate::output::Output;
 use crate::send::send;
 use std::alloc::Global;
@@ -24,6 +22,7 @@ use std::marker::Model;
 use unftp_control_codecs::encode_reply;
 use unftp_control_count::Count;
 use unftp_control_error::ControlChanError;
+use unftp_control_events::{Event, EventDecoder};
 use unftp_control_reply::Reply;
 
 /// Encodes the reply into a buffer that is used again.
@@ -60,35 +59,35 @@ fn answer_event<H: Handler, W: Write>(
 /// Answers each pending line, up to the one that leaves the handler done: returns whether there was
 /// one.
 fn answer_lines<H: Handler, W: Write>(
-    line_buffer: &mut LineBuffer,
+    decoder: &mut EventDecoder,
     reply_bytes: &mut Vec<u8>,
     handler: &mut H,
     output: &mut Output<W>,
 ) -> Result<bool, ServeError>
     ensures outcome { RunOutcome H.law
         (snapshot_of H.state H.failures W.contents handler.old output.old)
-        (run_with_limit line_buffer.old.limit H.law (H.state handler.old) line_buffer.old.bytes)
+        (run_with_limit decoder.old.limit H.law (H.state handler.old) decoder.old.bytes)
         (snapshot_of H.state H.failures W.contents handler.new output.new)
         result }
     ensures ended { IfOk result (λ ended. ended
-        ≡ ends_with_limit line_buffer.old.limit H.law (H.state handler.old) line_buffer.old.bytes) }
-    ensures unread { OnOk result (line_buffer.new.bytes
-        ≡ unread line_buffer.old.limit H.law (H.state handler.old) line_buffer.old.bytes) }
-    ensures unscanned { IfOk result (λ ended. line_buffer.new.unscanned
-        ≡ (if ended then length line_buffer.new.bytes else 0)) }
+        ≡ ends_with_limit decoder.old.limit H.law (H.state handler.old) decoder.old.bytes) }
+    ensures unread { OnOk result (decoder.new.bytes
+        ≡ unread decoder.old.limit H.law (H.state handler.old) decoder.old.bytes) }
+    ensures unscanned { IfOk result (λ ended. decoder.new.unscanned
+        ≡ (if ended then length decoder.new.bytes else 0)) }
     ensures kept { IfOk result (λ ended. ended ≡ false
-        → line_buffer.new.kept ≡ kept_length line_buffer.old.limit line_buffer.new.bytes) }
+        → decoder.new.buffered ≡ kept_length decoder.old.limit decoder.new.bytes) }
     ensures room { IfOk result (λ ended. ended ≡ false
-        → IfSome line_buffer.old.limit (λ limit. line_buffer.new.kept < limit)) }
-    ensures limit { line_buffer.new.limit ≡ line_buffer.old.limit }
-    ensures held { line_buffer.new.held ≡ line_buffer.old.held }
-    ensures tests { line_buffer.new.tests ≤ line_buffer.old.tests + line_buffer.old.unscanned }
-    ensures tested { OnOk result (line_buffer.new.tests + line_buffer.new.unscanned
-        ≡ line_buffer.old.tests + line_buffer.old.unscanned) }
-    ensures never_fewer { line_buffer.old.tests ≤ line_buffer.new.tests }
+        → IfSome decoder.old.limit (λ limit. decoder.new.buffered < limit)) }
+    ensures limit { decoder.new.limit ≡ decoder.old.limit }
+    ensures held { decoder.new.held ≡ decoder.old.held }
+    ensures tests { decoder.new.tests ≤ decoder.old.tests + decoder.old.unscanned }
+    ensures tested { OnOk result (decoder.new.tests + decoder.new.unscanned
+        ≡ decoder.old.tests + decoder.old.unscanned) }
+    ensures never_fewer { decoder.old.tests ≤ decoder.new.tests }
 {
     loop {
-        let event = match line_buffer.next()? {
+        let event = match decoder.next_event()? {
             Some(event) => event,
             None => return Ok(false),
         };
@@ -108,10 +107,10 @@ struct Answered {
     ended: bool,
 }
 
-/// Answers the lines of the pending bytes and a piece after them, and then removes them from the
-/// buffer: once the run has ended, all bytes.
+/// Answers the lines of the pending bytes and a piece after them. Once the run has ended, the bytes
+/// after its last line are dropped.
 fn answer_piece<H: Handler, W: Write>(
-    line_buffer: &mut LineBuffer,
+    decoder: &mut EventDecoder,
     reply_bytes: &mut Vec<u8>,
     piece: &[u8],
     handler: &mut H,
@@ -119,43 +118,41 @@ fn answer_piece<H: Handler, W: Write>(
 ) -> Result<Answered, ServeError>
     ensures outcome { RunOutcome H.law
         (snapshot_of H.state H.failures W.contents handler.old output.old)
-        (run_with_limit line_buffer.old.limit H.law (H.state handler.old)
-        (line_buffer.old.bytes ++ piece.now))
+        (run_with_limit decoder.old.limit H.law (H.state handler.old)
+        (decoder.old.bytes ++ piece.now))
         (snapshot_of H.state H.failures W.contents handler.new output.new)
         result }
     ensures ended { IfOk result (λ answered. answered.ended
-        ≡ ends_with_limit line_buffer.old.limit H.law (H.state handler.old)
-        (line_buffer.old.bytes ++ piece.now)) }
+        ≡ ends_with_limit decoder.old.limit H.law (H.state handler.old)
+        (decoder.old.bytes ++ piece.now)) }
     ensures left { IfOk result (λ answered. answered.left
-        ≡ saturating_u64 (length (unread line_buffer.old.limit H.law (H.state handler.old)
-        (line_buffer.old.bytes ++ piece.now)))) }
-    ensures incomplete { IfOk result (λ answered. line_buffer.new.bytes
-        ≡ (if answered.ended then [] else incomplete_line (line_buffer.old.bytes ++ piece.now))) }
-    ensures unscanned { OnOk result (line_buffer.new.unscanned ≡ 0) }
+        ≡ saturating_u64 (length (unread decoder.old.limit H.law (H.state handler.old)
+        (decoder.old.bytes ++ piece.now)))) }
+    ensures incomplete { IfOk result (λ answered. decoder.new.bytes
+        ≡ (if answered.ended then [] else incomplete_line (decoder.old.bytes ++ piece.now))) }
+    ensures unscanned { OnOk result (decoder.new.unscanned ≡ 0) }
     ensures kept { OnOk result
-        (line_buffer.new.buffered ≡ kept_length line_buffer.old.limit line_buffer.new.bytes) }
+        (decoder.new.buffered ≡ kept_length decoder.old.limit decoder.new.bytes) }
     ensures room { OnOk result
-        (IfSome line_buffer.old.limit (λ limit. line_buffer.new.buffered < limit)) }
-    ensures limit { line_buffer.new.limit ≡ line_buffer.old.limit }
-    ensures held { OnOk result (line_buffer.new.held
-        ≡ max line_buffer.old.held (line_buffer.old.buffered + length piece.now)) }
-    ensures no_more_held { line_buffer.new.held
-        ≤ max line_buffer.old.held (line_buffer.old.buffered + length piece.now) }
-    ensures tests { line_buffer.new.tests
-        ≤ line_buffer.old.tests + line_buffer.old.unscanned + length piece.now }
-    ensures tested { OnOk result (line_buffer.new.tests
-        + length (after_end line_buffer.old.limit H.law (H.state handler.old)
-        (line_buffer.old.bytes ++ piece.now))
-        ≡ line_buffer.old.tests + line_buffer.old.unscanned + length piece.now) }
-    ensures never_fewer { line_buffer.old.tests ≤ line_buffer.new.tests }
+        (IfSome decoder.old.limit (λ limit. decoder.new.buffered < limit)) }
+    ensures limit { decoder.new.limit ≡ decoder.old.limit }
+    ensures held { OnOk result (decoder.new.held
+        ≡ max decoder.old.held (decoder.old.buffered + length piece.now)) }
+    ensures no_more_held { decoder.new.held
+        ≤ max decoder.old.held (decoder.old.buffered + length piece.now) }
+    ensures tests { decoder.new.tests
+        ≤ decoder.old.tests + decoder.old.unscanned + length piece.now }
+    ensures tested { OnOk result (decoder.new.tests
+        + length (after_end decoder.old.limit H.law (H.state handler.old)
+        (decoder.old.bytes ++ piece.now))
+        ≡ decoder.old.tests + decoder.old.unscanned + length piece.now) }
+    ensures never_fewer { decoder.old.tests ≤ decoder.new.tests }
 {
-    line_buffer.append(piece)?;
-    let ended = answer_lines(line_buffer, reply_bytes, handler, output)?;
-    let left = line_buffer.len();
+    decoder.push(piece)?;
+    let ended = answer_lines(decoder, reply_bytes, handler, output)?;
+    let left = decoder.left();
     if ended {
-        line_buffer.clear();
-    } else {
-        line_buffer.settle();
+        decoder.clear();
     }
     Ok(Answered { left, ended })
 }
@@ -174,7 +171,7 @@ enum Phase {
 /// Cuts an input that comes in pieces into lines, and answers each.
 #[derive(Drop)]
 pub struct Engine {
-    line_buffer: LineBuffer,
+    decoder: EventDecoder,
     reply_bytes: Vec<u8>,
     left: u64,
     phase: Phase,
@@ -182,26 +179,27 @@ pub struct Engine {
 
 impl Model for Engine {
     ghost use Rattle.std.specs.Prelude.{◌≡◌, ◌<◌, false, IfSome};
-    ghost use Rattle.unftp_control_engine.specs.Engine.{EngineState, has_failed, has_finished, kept_length};
+    ghost use Rattle.unftp_control_events.specs.Decoder.{kept_length};
+    ghost use Rattle.unftp_control_engine.specs.Engine.{EngineState, has_failed, has_finished};
 
     ghost Value = { EngineState };
 
     ghost view = { λ engine. record {
-      incomplete = engine.line_buffer.bytes;
+      incomplete = engine.decoder.bytes;
       left = engine.left;
       failed = has_failed engine.phase;
       finished = has_finished engine.phase;
-      tests = engine.line_buffer.tests;
-      limit = engine.line_buffer.limit;
-      buffered = engine.line_buffer.buffered;
-      held = engine.line_buffer.held;
+      tests = engine.decoder.tests;
+      limit = engine.decoder.limit;
+      buffered = engine.decoder.buffered;
+      held = engine.decoder.held;
     } };
 
     ghost invariant = { λ engine. has_failed engine.phase ≡ false
-        → (engine.line_buffer.unscanned ≡ 0)
-        × (engine.line_buffer.buffered
-        ≡ kept_length engine.line_buffer.limit engine.line_buffer.bytes)
-        × IfSome engine.line_buffer.limit (λ limit. engine.line_buffer.buffered < limit) };
+        → (engine.decoder.unscanned ≡ 0)
+        × (engine.decoder.buffered
+        ≡ kept_length engine.decoder.limit engine.decoder.bytes)
+        × IfSome engine.decoder.limit (λ limit. engine.decoder.buffered < limit) };
 }
 
 impl Engine {
@@ -210,7 +208,7 @@ impl Engine {
     pub fn new(alloc: Global) -> Engine
         ensures { result ≡ fresh None }
     {
-        Engine::over(LineBuffer::new(alloc, None), alloc)
+        Engine::over(EventDecoder::new(alloc), alloc)
     }
 
     /// An engine that was fed nothing. A line of more than `limit` bytes, its line feed counted, is
@@ -220,16 +218,16 @@ impl Engine {
         requires { 1 ≤ limit }
         ensures { result ≡ fresh (Some limit) }
     {
-        Engine::over(LineBuffer::new(alloc, Some(limit)), alloc)
+        Engine::over(EventDecoder::with_limit(alloc, limit), alloc)
     }
 
-    /// An engine over an empty line buffer.
-    fn over(line_buffer: LineBuffer, alloc: Global) -> Engine
-        requires { line_buffer ≡ no_lines line_buffer.limit }
-        ensures { result ≡ fresh line_buffer.limit }
+    /// An engine over a decoder that was pushed nothing.
+    fn over(decoder: EventDecoder, alloc: Global) -> Engine
+        requires { decoder ≡ no_bytes decoder.limit }
+        ensures { result ≡ fresh decoder.limit }
     {
         Engine {
-            line_buffer,
+            decoder,
             reply_bytes: Vec::new(alloc),
             left: 0,
             phase: Phase::Running,
@@ -257,14 +255,14 @@ impl Engine {
     pub fn tests(&self) -> Count
         ensures { result ≡ self.now.tests }
     {
-        self.line_buffer.tests()
+        self.decoder.tests()
     }
 
     /// The most bytes that its buffer has held. Only contracts see it.
     pub fn held(&self) -> Count
         ensures { result ≡ self.now.held }
     {
-        self.line_buffer.held()
+        self.decoder.held()
     }
 
     /// Takes the next piece of the input, and answers each line that is now complete (RFC 959,
@@ -361,7 +359,7 @@ impl Engine {
             Phase::Running => {}
         }
         let answer = answer_piece(
-            &mut self.line_buffer,
+            &mut self.decoder,
             &mut self.reply_bytes,
             piece,
             handler,

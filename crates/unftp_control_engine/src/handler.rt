@@ -3,11 +3,11 @@ ghost use Rattle.std.specs.Prelude.{◌≡◌, ◌+◌, ℕ, IfOk, IfErr, OnOk, 
 ghost use Rattle.unftp_control_defs.specs.Run.{Law};
 ghost use Rattle.unftp_control_error.specs.ErrorMeaning.{fault_of};
 ghost use Rattle.unftp_control_reply.specs.ReplyMeaning.{reply_of};
-ghost use Rattle.unftp_control_engine.specs.EventMeaning.{event_meant};
+ghost use Rattle.unftp_control_events.specs.EventMeaning.{event_meant};
 
-use crate::event::Event;
 use std::alloc::Global;
 use unftp_control_error::ControlChanError;
+use unftp_control_events::Event;
 use unftp_control_reply::Reply;
 
 /// Answers the events of a connection, one after the other.

@@ -4,17 +4,14 @@
 
 mod engine;
 mod error;
-mod event;
 pub mod examples;
 mod handler;
-mod line_buffer;
 mod output;
 mod send;
-mod skipped;
 
 pub use engine::Engine;
 pub use error::ServeError;
-pub use event::Event;
 pub use handler::Handler;
 pub use output::Output;
 pub use unftp_control_count::Count;
+pub use unftp_control_events::{Event, EventDecoder};

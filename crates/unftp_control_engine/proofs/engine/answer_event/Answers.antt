@@ -1,6 +1,6 @@
 use Rattle.std.proofs.Common.{◌≡◌, refl, ◌∙◌, ap}
 use Rattle.unftp_control_defs.specs.FtpReply.{encoded}
-use Rattle.unftp_control_engine.specs.EventMeaning.{event_meant}
+use Rattle.unftp_control_events.specs.EventMeaning.{event_meant}
 use Rattle.unftp_control_engine.proofs.EndingLemmas.{failed-at, answered, no_memory-at}
 use Rattle.unftp_control_engine.proofs.engine.answer_event.Goals as goal
 

@@ -1,7 +1,7 @@
 use Rattle.std.proofs.Common.{◌∙◌, refl, sym, ap, arith}
 use Rattle.std.proofs.lemmas.Bool.{false≢true}
 use Rattle.std.proofs.lemmas.Result.{err_from_is_err_and}
-use Rattle.unftp_control_engine.specs.Engine.{kept_length}
+use Rattle.unftp_control_events.specs.Decoder.{kept_length}
 use Rattle.unftp_control_engine.proofs.LineRunLemmas.{Halfway-start, Halfway-next, no_line-answered, no_line-not_ended, no_line-all_unread, line-failed, last_line-answered, last_line-ended, last_line-unread}
 use Rattle.unftp_control_engine.proofs.engine.answer_lines.Goals as goal
 
@@ -79,10 +79,12 @@ returns-in-None-clause-unscanned g c =
 pub returns-in-None-clause-room : goal.returns-in-None-clause-room
 returns-in-None-clause-room g c =
     let none = rw c.in-None.is at c.in_ok-event.ensures.takes_next in
-    λ on. rw c.loop-event.invariant.limit at none.short
+    let kept = rw c.in-None.is at c.in_ok-event.ensures.buffered in
+    λ on. rw (kept) (rw c.loop-event.invariant.limit at none.short)
 
 pub returns-in-None-clause-kept : goal.returns-in-None-clause-kept
 returns-in-None-clause-kept g c =
     let none = rw c.in-None.is at c.in_ok-event.ensures.takes_next in
-    λ on. none.kept ∙ ap (λ limit. kept_length limit c.loop-event.line_buffer.bytes) c.loop-event.invariant.limit
-    ∙ ap (kept_length c.args.line_buffer.now.limit) (sym none.same)
+    let kept = rw c.in-None.is at c.in_ok-event.ensures.buffered in
+    λ on. kept ∙ none.kept ∙ ap (λ limit. kept_length limit c.loop-event.decoder.bytes) c.loop-event.invariant.limit
+    ∙ ap (kept_length c.args.decoder.now.limit) (sym none.same)

@@ -5,15 +5,15 @@ use Rattle.unftp_control_engine.proofs.engine.answer_lines.Given as goal
 
 abbrev pub invariant-loop-event : goal.invariant-loop-event
 invariant-loop-event g l = record {
-  halfway : Halfway g.H.Handler.law l.fn.line_buffer.limit
+  halfway : Halfway g.H.Handler.law l.fn.decoder.limit
       (snapshot_of g.H.Handler.state g.H.Handler.failures g.W.Write.contents l.fn.handler l.fn.output)
       (snapshot_of g.H.Handler.state g.H.Handler.failures g.W.Write.contents l.handler l.output)
-      l.fn.line_buffer.bytes l.line_buffer.bytes;
-  tests : l.line_buffer.tests + l.line_buffer.unscanned ≡ l.fn.line_buffer.tests + l.fn.line_buffer.unscanned;
-  limit : l.line_buffer.limit ≡ l.fn.line_buffer.limit;
-  held : l.line_buffer.held ≡ l.fn.line_buffer.held;
-  never_fewer : l.fn.line_buffer.tests ≤ l.line_buffer.tests;
+      l.fn.decoder.bytes l.decoder.bytes;
+  tests : l.decoder.tests + l.decoder.unscanned ≡ l.fn.decoder.tests + l.fn.decoder.unscanned;
+  limit : l.decoder.limit ≡ l.fn.decoder.limit;
+  held : l.decoder.held ≡ l.fn.decoder.held;
+  never_fewer : l.fn.decoder.tests ≤ l.decoder.tests;
 }
 
 abbrev pub decreases-loop-event : goal.decreases-loop-event
-decreases-loop-event g l = length l.line_buffer.bytes
+decreases-loop-event g l = length l.decoder.bytes

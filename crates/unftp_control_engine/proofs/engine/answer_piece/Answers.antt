@@ -5,16 +5,17 @@ use Rattle.unftp_control_engine.proofs.engine.answer_piece.Goals.{then-ended, el
 use Rattle.unftp_control_engine.proofs.engine.answer_piece.Goals as goal
 
 pub returns-clause-outcome : goal.returns-clause-outcome
-returns-clause-outcome g c = rw (← c.in_ok-append.ensures.bytes, ← c.in_ok-append.ensures.limit) c.in_ok-ended.ensures.outcome
+returns-clause-outcome g c = rw (c.in_ok-push.ensures.ok) at (c.in_ok-ended.ensures.outcome)
 
 pub returns-clause-incomplete : goal.returns-clause-incomplete
 returns-clause-incomplete g c = elim c.if-ended.branch [
-  | then-ended w ↦ rw (w.if-ended.true) (ap (λ pending. pending.bytes) w.line_buffer-is ∙ ap (λ pending. pending.bytes) w.clear.ensures.cleared)
+  | then-ended w ↦ rw (w.if-ended.true) (ap (λ pending. pending.bytes) w.decoder-is ∙ ap (λ pending. pending.bytes) w.clear.ensures.cleared)
   | else-ended w ↦
       let lines = c.in_ok-ended.ensures in
       rw (w.if-ended.false)
-      (ap (λ pending. pending.bytes) w.line_buffer-is ∙ ap (λ pending. pending.bytes) w.settle.ensures ∙ lines.unread
-      ∙ unread-on g.H.Handler.law c.append.new.self.limit (g.H.Handler.state c.args.handler.now) c.append.new.self.bytes (sym lines.ended ∙ w.if-ended.false) ∙ ap incomplete_line c.in_ok-append.ensures.bytes)
+      (ap (λ pending. pending.bytes) w.decoder-is ∙ lines.unread
+      ∙ unread-on g.H.Handler.law c.push.new.self.limit (g.H.Handler.state c.args.handler.now) c.push.new.self.bytes (sym lines.ended ∙ w.if-ended.false)
+      ∙ ap (λ pending. incomplete_line pending.bytes) c.in_ok-push.ensures.ok)
 ]
 
 pub returns-clause-kept : goal.returns-clause-kept
