@@ -9,7 +9,8 @@ use Rattle.unftp_control.specs.Events.{events}
 use Rattle.unftp_control.specs.LineLimit.{run_with_limit, ends_with_limit, unread}
 use Rattle.unftp_control.specs.Lines.{incomplete_line}
 use Rattle.unftp_control.specs.Run.{Law, run_of, ends, last_state, text_of, text_for}
-use Rattle.unftp_control.specs.Engine.{EngineState, IsRunning, Leaves, bytes_with, run_with, more_left, saturating_u64}
+use Rattle.unftp_control.specs.Decoder.{saturating_u64}
+use Rattle.unftp_control.specs.Engine.{EngineState, IsRunning, Leaves, bytes_with, run_with, more_left}
 use Rattle.unftp_control.proofs.LineLemmas.{incomplete_line-append}
 use Rattle.unftp_control.proofs.RunLemmas.{last_state-append, text_of-append, run_of-all, run-append, run-ended, unread-append, unread-ended}
 use Rattle.unftp_control.proofs.SendLemmas.{Appends-then}

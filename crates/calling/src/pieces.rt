@@ -2,7 +2,7 @@
 ghost use Rattle.std.specs.Prelude.{◌≡◌, None, map, IfOk, OnOk, length};
 ghost use Rattle.std.specs.List.{concat};
 ghost use Rattle.std.specs.Io.KnownBytes.{Appends};
-ghost use Rattle.unftp_control.specs.Engine.{saturating_u64};
+ghost use Rattle.unftp_control.specs.Decoder.{saturating_u64};
 ghost use Rattle.unftp_control.specs.LineLimit.{unread};
 ghost use Rattle.unftp_control.specs.Run.{text_for};
 

@@ -27,7 +27,8 @@ pub use Rattle.unftp_control_codecs.specs.LineFeed
 pub use Rattle.unftp_control_codecs.specs.Decoding
 pub use Rattle.unftp_control_commands.specs.Answers
 pub use Rattle.unftp_control_commands.specs.Facts
-pub use Rattle.unftp_control_engine.specs.EventMeaning
+pub use Rattle.unftp_control_events.specs.EventMeaning
+pub use Rattle.unftp_control_events.specs.Decoder
 pub use Rattle.unftp_control_engine.specs.Writing
 pub use Rattle.unftp_control_engine.specs.ErrorTexts
 pub use Rattle.unftp_control_engine.specs.Endings

@@ -8,7 +8,7 @@ use Rattle.unftp_control_defs.specs.Lines.{incomplete_line}
 use Rattle.unftp_control_defs.specs.Run.{Law}
 use Rattle.unftp_control_engine.specs.Writing.{Begins}
 use Rattle.unftp_control_engine.specs.Endings.{Snapshot, AllAnswered, RunEnded, done_of}
-use Rattle.unftp_control_engine.specs.Engine.{kept_length, saturating_u64}
+use Rattle.unftp_control_events.specs.Decoder.{kept_length, saturating_u64}
 use Rattle.unftp_control_serve.specs.declared.input.Input.{Input}
 use Rattle.unftp_control_engine.specs.declared.error.ServeError.{ServeError}
 use Rattle.unftp_control_engine.specs.declared.error.ServeError.TheVariants.{Read, Write, WriteZero, Handler, OutOfMemory, TooManyReads}

@@ -8,7 +8,8 @@ ghost use Rattle.unftp_control_defs.specs.FtpReply.{IsPlain};
 ghost use Rattle.unftp_control_defs.specs.ReplyReader.{ReadsBack};
 ghost use Rattle.std.specs.List.{AllByRecursion};
 ghost use Rattle.unftp_control_engine.specs.Endings.{snapshot_of};
-ghost use Rattle.unftp_control_engine.specs.Engine.{fresh, saturating_u64};
+ghost use Rattle.unftp_control_events.specs.Decoder.{saturating_u64};
+ghost use Rattle.unftp_control_engine.specs.Engine.{fresh};
 ghost use Rattle.unftp_control_serve.specs.Service.{AnsweredAll, AnsweredAllWithLimit, ServeEnded, ServeEndedWithLimit, input_state_of};
 
 use crate::input::Input;
