@@ -6,6 +6,7 @@ pub mod PathLemmas
 pub mod RunLemmas
 pub mod ReplyUniqueLemmas
 pub mod ReplyCasesLemmas
+pub mod ReplyAppendLemmas
 pub mod EncodingLemmas
 pub mod UpperLemmas
 pub mod CaseLemmas

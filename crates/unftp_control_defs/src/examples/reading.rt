@@ -2,6 +2,7 @@
 ghost use Rattle.std.specs.Prelude.{◌≡◌, [], ◌∷◌, codes};
 ghost use Rattle.unftp_control_defs.specs.FtpReply.{Nothing, CodeAndMsg};
 ghost use Rattle.unftp_control_defs.specs.ReplyReader.{LacksCrlf, SpellsCode, GoesOn, FrontReply, HasFront, Opens, IsMalformed, IsPartial, AllReplies, ReadsBack};
+ghost use Rattle.unftp_control_defs.specs.ReplySteps.{TakesReply, AreReplies, Pushed, Taken, AreReplySteps, pushed_bytes, taken_replies};
 
 /// Where a text has no CR LF.
 pub fn texts_lack_crlf()
@@ -119,4 +120,32 @@ pub fn replies_are_read_back_so()
     ensures all { AllReplies (codes "200 a\r\n221\r\n")
         ((200, codes "a" ∷ []) ∷ (221, [] ∷ []) ∷ []) }
     ensures all_but_one { ¬ AllReplies (codes "200 a\r\n221\r\n") ((200, codes "a" ∷ []) ∷ []) }
+{}
+
+/// Which bytes are these replies and then others.
+pub fn replies_follow_one_another_so()
+    ensures first { TakesReply (codes "211 a\r\n22") (211, codes "a" ∷ []) (codes "22") }
+    ensures byte_left_out { ¬ TakesReply (codes "211 a\r\n22") (211, codes "a" ∷ []) (codes "2") }
+    ensures other_text { ¬ TakesReply (codes "211 a\r\n22") (211, codes "ab" ∷ []) (codes "22") }
+    ensures none { AreReplies (codes "211") [] (codes "211") }
+    ensures one { AreReplies (codes "211 a\r\n22") ((211, codes "a" ∷ []) ∷ []) (codes "22") }
+    ensures reply_left_out { ¬ AreReplies (codes "211 a\r\n22") [] (codes "22") }
+    ensures no_reply { ¬ AreReplies [] ((211, codes "a" ∷ []) ∷ []) [] }
+{}
+
+/// Which steps of a client lead from no bytes to these.
+pub fn replies_are_taken_so()
+    ensures two_pieces { AreReplySteps []
+        (Pushed (codes "211 a\r") ∷ Pushed (codes "\n22") ∷ Taken (211, codes "a" ∷ []) ∷ [])
+        (codes "22") }
+    ensures not_complete { ¬ AreReplySteps []
+        (Pushed (codes "211 a\r") ∷ Taken (211, codes "a" ∷ []) ∷ Pushed (codes "\n22") ∷ [])
+        (codes "22") }
+    ensures piece_forgotten { ¬ AreReplySteps [] (Pushed (codes "22") ∷ []) [] }
+    ensures input { pushed_bytes
+        (Pushed (codes "211 a\r") ∷ Pushed (codes "\n22") ∷ Taken (211, codes "a" ∷ []) ∷ [])
+        ≡ codes "211 a\r\n22" }
+    ensures replies { taken_replies
+        (Pushed (codes "211 a\r\n") ∷ Taken (211, codes "a" ∷ []) ∷ Pushed (codes "22") ∷ [])
+        ≡ (211, codes "a" ∷ []) ∷ [] }
 {}
