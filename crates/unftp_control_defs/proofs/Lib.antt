@@ -1,5 +1,6 @@
 pub mod AppendLemmas
 pub mod LineLemmas
+pub mod TakenEventLemmas
 pub mod VerbLemmas
 pub mod ValueLemmas
 pub mod PathLemmas

@@ -16,5 +16,6 @@ pub mod Texts
 pub mod Run
 pub mod LineLimit
 pub mod Pieces
+pub mod EventSteps
 pub mod Steps
 pub mod LossyText

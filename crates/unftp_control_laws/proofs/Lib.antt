@@ -4,3 +4,4 @@ mod PieceLemmas
 mod RunEndLemmas
 mod StepLemmas
 mod LossyTextLemmas
+mod EventStepLemmas

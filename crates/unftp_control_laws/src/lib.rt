@@ -9,6 +9,7 @@ ghost use Rattle.std.specs.Str.Lossy.{utf8_lossy};
 ghost use Rattle.unftp_control_commands.specs.Answers.{port_reply};
 ghost use Rattle.unftp_control_defs.specs.Bytes.{Bytes, LF, crlf, Lacks};
 ghost use Rattle.unftp_control_defs.specs.Canonical.{canonical_line, HasLine};
+ghost use Rattle.unftp_control_defs.specs.EventSteps.{EventStep, AreEventSteps, input_of_steps, taken_events};
 ghost use Rattle.unftp_control_defs.specs.Pieces.{events_in_turn, events_in_turn_with_limit, replies_in_turn};
 ghost use Rattle.unftp_control_defs.specs.Events.{Refused, events};
 ghost use Rattle.unftp_control_defs.specs.FtpCommand.{FtpCommand, User, HasTypedFields};
@@ -117,6 +118,23 @@ pub fn any_cutting<H: Handler>()
     ensures replies { (limit : Option ℕ) (s : H.State) (pieces : List Bytes)
         → replies_in_turn limit H.law s [] pieces
         ≡ replies H.law s (run_with_limit limit H.law s (concat pieces)) }
+{}
+
+/// Whatever the pieces, and whenever an event is taken: the events that a server takes, and then those
+/// of the pending bytes, are the events of the input; and where no line is pending, they are all of
+/// them, and the incomplete line is pending.
+pub fn events_taken_in_steps()
+    ensures events { (limit : Option ℕ) (steps : List EventStep) (pending : Bytes)
+        → AreEventSteps limit [] steps pending
+        → taken_events steps ++ events_with_limit limit pending
+        ≡ events_with_limit limit (input_of_steps steps) }
+    ensures incomplete { (limit : Option ℕ) (steps : List EventStep) (pending : Bytes)
+        → AreEventSteps limit [] steps pending
+        → incomplete_line pending ≡ incomplete_line (input_of_steps steps) }
+    ensures all { (limit : Option ℕ) (steps : List EventStep) (pending : Bytes)
+        → AreEventSteps limit [] steps pending → Lacks LF pending
+        → (taken_events steps ≡ events_with_limit limit (input_of_steps steps))
+        × (pending ≡ incomplete_line (input_of_steps steps)) }
 {}
 
 /// No byte after the line that ended the session has an influence on what is written, on the

@@ -1,10 +1,11 @@
 //! Events, the texts of errors, runs of a handler, inputs in pieces, and the steps of a codec.
 ghost use Rattle.std.specs.Prelude.{◌≡◌, ◌+◌, ◌==◌, ℕ, true, false, [], ◌∷◌, ◌++◌, Some, None, codes};
 ghost use Rattle.unftp_control_defs.specs.Events.{FtpEvent, Command, Refused, IoError, ParseError, InternalServerError, AuthenticationError, InternalMsgError, Utf8Error, UnknownCommand, InvalidCommand, ControlChannelTimeout, IllegalState, OutOfMemory, LineTooLong, NoSource, Parse, events, refusal_fault, out_of_memory};
-ghost use Rattle.unftp_control_defs.specs.FtpCommand.{Noop, Pwd, InvalidCommand as NoCommand, InvalidUtf8, InvalidEol};
+ghost use Rattle.unftp_control_defs.specs.FtpCommand.{Noop, Pwd, Quit, InvalidCommand as NoCommand, InvalidUtf8, InvalidEol};
 ghost use Rattle.unftp_control_defs.specs.FtpReply.{CodeAndMsg};
 ghost use Rattle.unftp_control_defs.specs.LineLimit.{line_too_long, event_with_limit, events_with_limit, unread, after_end};
 ghost use Rattle.unftp_control_defs.specs.Pieces.{events_in_turn, events_in_turn_with_limit, replies_in_turn};
+ghost use Rattle.unftp_control_defs.specs.EventSteps.{TakesEvent, PiecePushed, EventTaken, AreEventSteps, input_of_steps, taken_events};
 ghost use Rattle.unftp_control_defs.specs.Run.{Law, run_of, ends, replies, last_state, text_for};
 ghost use Rattle.unftp_control_defs.specs.Steps.{AreSteps, last_place};
 ghost use Rattle.unftp_control_defs.specs.Texts.{error_text, kind_text, parse_error_text, reading_text};
@@ -148,4 +149,32 @@ pub fn steps_follow_so()
     ensures last_place { last_place 3
         (record { added = 1; tests = 1; removed = 0; place = 4 }
         ∷ record { added = 3; tests = 2; removed = 6; place = 0 } ∷ []) ≡ 0 }
+{}
+
+/// Which event the first line of pending bytes is, and which bytes are pending after it.
+pub fn events_are_taken_so()
+    ensures first { TakesEvent None (codes "NOOP\nNO") (Command Noop) (codes "NO") }
+    ensures other_event { ¬ TakesEvent None (codes "NOOP\nNO") (Command Quit) (codes "NO") }
+    ensures byte_left_out { ¬ TakesEvent None (codes "NOOP\nNO") (Command Noop) (codes "O") }
+    ensures no_line { ¬ TakesEvent None (codes "NOOP") (Command Noop) [] }
+    ensures two_lines { ¬ TakesEvent None (codes "NOOP\nNOOP\n") (Command Noop) [] }
+    ensures too_long { TakesEvent (Some 4) (codes "NOOP\nNO") (Refused line_too_long)
+        (codes "NO") }
+{}
+
+/// Which steps of a server lead from no bytes to these.
+pub fn event_steps_are_so()
+    ensures two_pieces { AreEventSteps None []
+        (PiecePushed (codes "NOOP") ∷ PiecePushed (codes "\nNO") ∷ EventTaken (Command Noop) ∷ [])
+        (codes "NO") }
+    ensures not_complete { ¬ AreEventSteps None []
+        (PiecePushed (codes "NOOP") ∷ EventTaken (Command Noop) ∷ PiecePushed (codes "\nNO") ∷ [])
+        (codes "\nNO") }
+    ensures piece_forgotten { ¬ AreEventSteps None [] (PiecePushed (codes "NO") ∷ []) [] }
+    ensures input { input_of_steps
+        (PiecePushed (codes "NOOP") ∷ PiecePushed (codes "\nNO") ∷ EventTaken (Command Noop) ∷ [])
+        ≡ codes "NOOP\nNO" }
+    ensures events { taken_events
+        (PiecePushed (codes "NOOP\n") ∷ EventTaken (Command Noop) ∷ PiecePushed (codes "NO") ∷ [])
+        ≡ Command Noop ∷ [] }
 {}
