@@ -1,3 +1,4 @@
 pub mod NextNoop
 pub mod Forwarding
 pub mod UntilTls
+pub mod EventLoop

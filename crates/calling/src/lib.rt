@@ -3,6 +3,7 @@
 
 pub mod client;
 pub mod codec;
+pub mod event_loop;
 pub mod examples;
 pub mod handler;
 pub mod lines;

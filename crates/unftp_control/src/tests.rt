@@ -4,6 +4,7 @@ ghost use Rattle.std.specs.Prelude.{◌≤◌, vec_len};
 mod commands;
 mod counted;
 mod errors;
+mod events;
 mod failed_allocations;
 mod large;
 mod limits;

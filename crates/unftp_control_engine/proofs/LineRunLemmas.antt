@@ -25,8 +25,8 @@ module _ {S : Type 0} (law : Law S) (limit : Option ℕ) (p q : Pending) (s : S)
     no_line-unread = unread-incomplete law limit s p.bytes none.unended ∙ sym none.same
 
   module _ (same : p.limit ≡ limit) (event : FtpEvent) (first : TakesLine p event q) where
-    meant : event ≡ event_with_limit limit first.line
-    meant = first.meaning ∙ ap (λ limit. event_with_limit limit first.line) same
+    meant : event ≡ event_with_limit limit first.takes.line
+    meant = first.takes.meaning ∙ ap (λ limit. event_with_limit limit first.takes.line) same
 
     -- a line: its event, and then the run over the other lines, if the handler isn't done
     abbrev run_after : List FtpEvent
@@ -34,37 +34,37 @@ module _ {S : Type 0} (law : Law S) (limit : Option ℕ) (p q : Pending) (s : S)
 
     first_line-run : run_with_limit limit law s p.bytes ≡ event ∷ run_after
     first_line-run =
-        ap (run_with_limit limit law s) first.whole
-        ∙ ap (run_of law s) (ap (map (event_with_limit limit)) (line_first first.line q.bytes first.is_line).0)
+        ap (run_with_limit limit law s) first.takes.whole
+        ∙ ap (run_of law s) (ap (map (event_with_limit limit)) (line_first first.takes.line q.bytes first.takes.is_line).0)
         ∙ ap (λ e. run_of law s (e ∷ events_with_limit limit q.bytes)) (sym meant)
 
     module _ (s' : S) (next : s' ≡ law.next s event) where
-      next_state : s' ≡ law.next s (event_with_limit limit first.line)
+      next_state : s' ≡ law.next s (event_with_limit limit first.takes.line)
       next_state = next ∙ ap (law.next s) meant
 
       module _ (on : law.done s' ≡ false) where
         first_line-on : run_with_limit limit law s p.bytes ≡ event ∷ run_with_limit limit law s' q.bytes
         first_line-on =
-            ap (run_with_limit limit law s) first.whole ∙ (on-line law limit s s' first.line q.bytes first.is_line next_state on).2
+            ap (run_with_limit limit law s) first.takes.whole ∙ (on-line law limit s s' first.takes.line q.bytes first.takes.is_line next_state on).2
             ∙ ap (λ e. e ∷ run_with_limit limit law s' q.bytes) (sym meant)
 
         first_line-same_end : ends_with_limit limit law s p.bytes ≡ ends_with_limit limit law s' q.bytes
-        first_line-same_end = ap (ends_with_limit limit law s) first.whole ∙ (on-line law limit s s' first.line q.bytes first.is_line next_state on).0
+        first_line-same_end = ap (ends_with_limit limit law s) first.takes.whole ∙ (on-line law limit s s' first.takes.line q.bytes first.takes.is_line next_state on).0
 
         first_line-same_unread : unread limit law s p.bytes ≡ unread limit law s' q.bytes
-        first_line-same_unread = ap (unread limit law s) first.whole ∙ (on-line law limit s s' first.line q.bytes first.is_line next_state on).1
+        first_line-same_unread = ap (unread limit law s) first.takes.whole ∙ (on-line law limit s s' first.takes.line q.bytes first.takes.is_line next_state on).1
 
       module _ (done : law.done s' ≡ true) where
         first_line-last : run_with_limit limit law s p.bytes ≡ event ∷ []
         first_line-last =
-            ap (run_with_limit limit law s) first.whole ∙ (ended-line law limit s s' first.line q.bytes first.is_line next_state done).2
+            ap (run_with_limit limit law s) first.takes.whole ∙ (ended-line law limit s s' first.takes.line q.bytes first.takes.is_line next_state done).2
             ∙ ap (λ e. e ∷ []) (sym meant)
 
         first_line-ends : ends_with_limit limit law s p.bytes ≡ true
-        first_line-ends = ap (ends_with_limit limit law s) first.whole ∙ (ended-line law limit s s' first.line q.bytes first.is_line next_state done).0
+        first_line-ends = ap (ends_with_limit limit law s) first.takes.whole ∙ (ended-line law limit s s' first.takes.line q.bytes first.takes.is_line next_state done).0
 
         first_line-unread : unread limit law s p.bytes ≡ q.bytes
-        first_line-unread = ap (unread limit law s) first.whole ∙ (ended-line law limit s s' first.line q.bytes first.is_line next_state done).1
+        first_line-unread = ap (unread limit law s) first.takes.whole ∙ (ended-line law limit s s' first.takes.line q.bytes first.takes.is_line next_state done).1
 
 -- in the loop over the lines of some bytes: the run over them goes on over those that are pending
 pub record Halfway {S : Type 0} (law : Law S) (limit : Option ℕ) (m n : Snapshot S) (bytes pending : Bytes) : Type 0 where

@@ -278,16 +278,18 @@ module _ (old new : Codec) (dropped before : Bytes) (taken : ℕ) (answer : Deco
       by_result (Ok None) tells (inr (inr no_memory)) = absurd (tells.1 no_memory.no_memory)
       by_result (Ok (Some event)) tells (inl none) = absurd (none-some _ (sym none.returned ∙ tells.0))
       by_result (Ok (Some event)) tells (inr (inl first)) = record {
-        line = dropped ++ first.line;
-        is_line = record {
-          body = dropped ++ first.is_line.body;
-          whole = ap (λ z. dropped ++ z) first.is_line.whole ∙ sym (append_assoc dropped first.is_line.body (LF ∷ []));
-          one_end = Lacks-append LF dropped first.is_line.body lost.unended first.is_line.one_end;
+        takes = record {
+          line = dropped ++ first.line;
+          is_line = record {
+            body = dropped ++ first.is_line.body;
+            whole = ap (λ z. dropped ++ z) first.is_line.whole ∙ sym (append_assoc dropped first.is_line.body (LF ∷ []));
+            one_end = Lacks-append LF dropped first.is_line.body lost.unended first.is_line.one_end;
+          };
+          whole = rw (unskipped_now first.skipping) (ap (λ z. dropped ++ z) first.whole ∙ sym (append_assoc dropped first.line after));
+          meaning =
+              same_Some (event_meant event) (first_event old first.line) (sym tells.0 ∙ first.returned)
+              ∙ whole_event old dropped first.line old.skipping refl lost (line_some first.line first.is_line);
         };
-        whole = rw (unskipped_now first.skipping) (ap (λ z. dropped ++ z) first.whole ∙ sym (append_assoc dropped first.line after));
-        meaning =
-            same_Some (event_meant event) (first_event old first.line) (sym tells.0 ∙ first.returned)
-            ∙ whole_event old dropped first.line old.skipping refl lost (line_some first.line first.is_line);
         none_scanned = rw (unskipped_now first.skipping) (omega (arith, first.place));
       }
       by_result (Ok (Some event)) tells (inr (inr no_memory)) = absurd (tells.1 no_memory.no_memory)

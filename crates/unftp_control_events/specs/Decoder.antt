@@ -2,8 +2,8 @@
 use Rattle.std.specs.Prelude.{◌≡◌, ℕ, ◌+◌, ◌-◌, ◌^◌, ◌<◌, ◌≤◌, Bool, true, if◌then◌else◌, [], ◌++◌, length, min, max, take, drop, Option, Some, None, Result, Ok, Err, MatchResult, MatchOption, IfSome, option_map, nat_lt}
 use Rattle.unftp_control_defs.specs.Bytes.{Bytes, LF, Lacks}
 use Rattle.unftp_control_defs.specs.Events.{FtpEvent}
-use Rattle.unftp_control_defs.specs.LineLimit.{exceeds, event_with_limit}
-use Rattle.unftp_control_defs.specs.Lines.{IsLine}
+use Rattle.unftp_control_defs.specs.EventSteps.{TakesEvent}
+use Rattle.unftp_control_defs.specs.LineLimit.{exceeds}
 use Rattle.unftp_control_codecs.specs.Codec.{Codec}
 use Rattle.unftp_control_codecs.specs.Decoding.{Decoded, IsOutOfMemory, IfTooLong, returned_event}
 use Rattle.unftp_control_events.specs.declared.event.Event.{Event}
@@ -133,10 +133,7 @@ pub record HasNoLine (before after : Pending) : Type 0 where
 
 -- The first line is taken away, and this is its event. No byte after it is scanned.
 pub record TakesLine (before : Pending) (event : FtpEvent) (after : Pending) : Type 0 where
-  pub line : Bytes
-  pub is_line : IsLine line
-  pub whole : before.bytes ≡ line ++ after.bytes
-  pub meaning : event ≡ event_with_limit before.limit line
+  pub takes : TakesEvent before.limit before.bytes event after.bytes
   pub none_scanned : after.unscanned ≡ length after.bytes
 
 abbrev pub TakesNext : {E : Type 0} → Pending → Result (Option Event) E → Pending → Type 0
