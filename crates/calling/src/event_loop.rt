@@ -2,7 +2,7 @@
 //! and sends what it likes before it takes the next.
 ghost use Rattle.std.specs.Prelude.{◌≡◌, ◌++◌, [], true, length, IfOk, OnErr};
 ghost use Rattle.unftp_control.specs.Decoder.{HasNoLine};
-ghost use Rattle.calling.specs.EventLoop.{ends};
+ghost use Rattle.calling.specs.EventLoop.{ends_connection};
 ghost use Rattle.calling.specs.declared.event_loop.Turn.TheVariants.{Read};
 
 use std::alloc::Global;
@@ -47,7 +47,7 @@ pub fn answer_next(
     // where the server reads on, no line is pending
     ensures read { IfOk result (λ turn. turn ≡ Read → HasNoLine decoder.old decoder.new) }
     // where it closes the connection or begins TLS, nothing is
-    ensures ends { IfOk result (λ turn. ends turn ≡ true → decoder.new.bytes ≡ []) }
+    ensures ends { IfOk result (λ turn. ends_connection turn ≡ true → decoder.new.bytes ≡ []) }
 {
     let Some(event) = decoder.next_event()? else {
         return Ok(Turn::Read);
@@ -63,14 +63,26 @@ pub fn answer_next(
             reply(alloc, out, ReplyCode::ClosingControlConnection, "Bye")?;
             Ok(Turn::Close)
         }
-        Event::Command(Command::Auth {
-            protocol: AuthParam::Tls,
-        }) if decoder.left() == 0 => {
-            reply(alloc, out, ReplyCode::AuthOkayNoDataNeeded, "Upgrading to TLS")?;
+        Event::Command(
+            Command::Auth {
+                protocol: AuthParam::Tls,
+            },
+        ) if decoder.left() == 0 => {
+            reply(
+                alloc,
+                out,
+                ReplyCode::AuthOkayNoDataNeeded,
+                "Upgrading to TLS",
+            )?;
             Ok(Turn::StartTls)
         }
         Event::Command(_) => {
-            reply(alloc, out, ReplyCode::CommandNotImplemented, "Not implemented")?;
+            reply(
+                alloc,
+                out,
+                ReplyCode::CommandNotImplemented,
+                "Not implemented",
+            )?;
             Ok(Turn::GoOn)
         }
         Event::Refused(_) => {
