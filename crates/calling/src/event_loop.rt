@@ -8,7 +8,7 @@ ghost use Rattle.calling.specs.declared.event_loop.Turn.TheVariants.{Read};
 use std::alloc::Global;
 use unftp_control::codecs::encode_reply;
 use unftp_control::command::Command;
-use unftp_control::commands::AuthParam;
+use unftp_control::commands::AuthParam::Tls;
 use unftp_control::error::ControlChanError;
 use unftp_control::reply::{Reply, ReplyCode};
 use unftp_control::serve::{Event, EventDecoder};
@@ -63,26 +63,12 @@ pub fn answer_next(
             reply(alloc, out, ReplyCode::ClosingControlConnection, "Bye")?;
             Ok(Turn::Close)
         }
-        Event::Command(
-            Command::Auth {
-                protocol: AuthParam::Tls,
-            },
-        ) if decoder.left() == 0 => {
-            reply(
-                alloc,
-                out,
-                ReplyCode::AuthOkayNoDataNeeded,
-                "Upgrading to TLS",
-            )?;
+        Event::Command(Command::Auth { protocol: Tls }) if decoder.left() == 0 => {
+            reply(alloc, out, ReplyCode::AuthOkayNoDataNeeded, "Begin TLS")?;
             Ok(Turn::StartTls)
         }
         Event::Command(_) => {
-            reply(
-                alloc,
-                out,
-                ReplyCode::CommandNotImplemented,
-                "Not implemented",
-            )?;
+            reply(alloc, out, ReplyCode::CommandNotImplemented, "Not here")?;
             Ok(Turn::GoOn)
         }
         Event::Refused(_) => {
