@@ -3,6 +3,7 @@ ghost use Rattle.std.specs.Prelude.{◌++◌, Some};
 
 use crate::client::first_code;
 use crate::codec::{answer, first_is_noop, next_is_noop};
+use crate::event_loop::{Turn, answer_next};
 use crate::handler::Obliging;
 use crate::lines::line_text;
 use crate::pieces::answer_pieces;
@@ -14,7 +15,7 @@ use std::io;
 use std::io::Read;
 use std::process::Abort;
 use unftp_control::codecs::FtpCodec;
-use unftp_control::serve::{Count, Output};
+use unftp_control::serve::{Count, EventDecoder, Output};
 
 /// The text of the line is this one.
 fn assert_text(rt: &impl Abort, alloc: Global, line: &[u8], want: &str) {
@@ -189,4 +190,41 @@ fn lines_are_forwarded_in_canonical_form(rt: HostRuntime) {
     assert!(rt; is_refused(alloc, b"RETR\r\n", &mut out));
     let want = b"RETR a b\r\nLIST -- -x\r\nPWD\r\n";
     assert_bytes(&rt, out.as_slice(), want);
+}
+
+/// What the server does after each of so many turns is this, and it has to send these bytes.
+fn assert_turns(rt: &impl Abort, alloc: Global, input: &[u8], turns: &[Turn], want: &[u8]) {
+    let mut decoder = EventDecoder::new(alloc);
+    let mut out = Vec::new(alloc);
+    decoder.push(input).expect(rt, "memory");
+    for turn in turns {
+        let next = answer_next(alloc, &mut decoder, &mut out).expect(rt, "memory");
+        assert_eq!(rt; next, *turn);
+    }
+    assert_eq!(rt; out.as_slice(), want);
+}
+
+#[test]
+fn an_event_loop_sends_what_it_likes(rt: HostRuntime) {
+    // AUTH begins TLS only where nothing is pending after it
+    assert_turns(
+        &rt,
+        rt.alloc(),
+        b"RETR a\r\nAUTH TLS\r\nNOOP x\r\nAUTH TLS\r\n",
+        &[
+            Turn::GoOn,
+            Turn::GoOn,
+            Turn::GoOn,
+            Turn::StartTls,
+            Turn::Read,
+        ],
+        b"150 Sending data\r\n226 Sent\r\n502 Not here\r\n500 Not understood\r\n234 Begin TLS\r\n",
+    );
+    assert_turns(
+        &rt,
+        rt.alloc(),
+        b"QUIT\r\nNOOP\r\n",
+        &[Turn::Close, Turn::Read],
+        b"221 Bye\r\n",
+    );
 }
