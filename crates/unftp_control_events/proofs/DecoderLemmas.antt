@@ -290,13 +290,17 @@ module _ (old new : Codec) (dropped before : Bytes) (taken : ℕ) (answer : Deco
               same_Some (event_meant event) (first_event old first.line) (sym tells.0 ∙ first.returned)
               ∙ whole_event old dropped first.line old.skipping refl lost (line_some first.line first.is_line);
         };
+        all_kept = rw (unskipped_now first.skipping) refl;
         none_scanned = rw (unskipped_now first.skipping) (omega (arith, first.place));
       }
       by_result (Ok (Some event)) tells (inr (inr no_memory)) = absurd (tells.1 no_memory.no_memory)
       by_result (Err error) tells (inl none) = absurd (none_no_memory answer none.returned tells)
       by_result (Err error) tells (inr (inl first)) = absurd (line_no_memory old first.line answer first.returned tells)
-      by_result (Err error) tells (inr (inr no_memory)) =
-          rw (unskipped_now (no_memory.skipping ∙ no_memory.unskipped), dropped_none old dropped lost no_memory.unskipped) no_memory.kept
+      by_result (Err error) tells (inr (inr no_memory)) = record {
+        same = rw (unskipped_now (no_memory.skipping ∙ no_memory.unskipped), dropped_none old dropped lost no_memory.unskipped) no_memory.kept;
+        kept = ap length no_memory.kept;
+        unscanned = rw (no_memory.kept, no_memory.place) refl;
+      }
 
 -- the same of the bytes of a buffer from a place on
 module _ (old new : Codec) (dropped dropped' buf pending front : Bytes) (start taken held : ℕ) (skipping : Bool) (answer : Decoded) (well : IsDecoder old dropped buf start held)

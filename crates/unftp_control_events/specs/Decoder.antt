@@ -134,14 +134,21 @@ pub record HasNoLine (before after : Pending) : Type 0 where
 -- The first line is taken away, and this is its event. No byte after it is scanned.
 pub record TakesLine (before : Pending) (event : FtpEvent) (after : Pending) : Type 0 where
   pub takes : TakesEvent before.limit before.bytes event after.bytes
+  pub all_kept : after.kept ≡ length after.bytes
   pub none_scanned : after.unscanned ≡ length after.bytes
+
+-- The same bytes are pending, and as many of them are kept and not scanned yet.
+pub record StaysPending (before after : Pending) : Type 0 where
+  pub same : after.bytes ≡ before.bytes
+  pub kept : after.kept ≡ before.kept
+  pub unscanned : after.unscanned ≡ before.unscanned
 
 abbrev pub TakesNext : {E : Type 0} → Pending → Result (Option Event) E → Pending → Type 0
 TakesNext before result after = MatchResult result
     (λ next. MatchOption next
     (HasNoLine before after)
     (λ event. TakesLine before (event_meant event) after))
-    (λ _. after.bytes ≡ before.bytes)
+    (λ _. StaysPending before after)
 
 -- how many bytes the buffer holds then: those that are kept, where there is no line
 abbrev pub buffered_after : {E : Type 0} → Pending → Result (Option Event) E → Pending → ℕ
