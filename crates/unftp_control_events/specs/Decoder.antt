@@ -1,4 +1,4 @@
--- The pending bytes, whose line is not complete.
+-- The pending bytes of a decoder.
 use Rattle.std.specs.Prelude.{◌≡◌, ℕ, ◌+◌, ◌-◌, ◌^◌, ◌<◌, ◌≤◌, Bool, true, if◌then◌else◌, [], ◌++◌, length, min, max, take, drop, Option, Some, None, Result, Ok, Err, MatchResult, MatchOption, IfSome, option_map, nat_lt}
 use Rattle.unftp_control_defs.specs.Bytes.{Bytes, LF, Lacks}
 use Rattle.unftp_control_defs.specs.Events.{FtpEvent}
@@ -43,8 +43,8 @@ pub record IsDecoder (codec : Codec) (dropped buf : Bytes) (start held : ℕ) : 
   pub no_more : length buf ≤ held
 
 pub record Pending : Type 0 where
-  -- the bytes after the last line feed, and how many of them are kept: those before them were
-  -- dropped, since their line is longer than the limit
+  -- the bytes after the last line that was taken, and how many of them are kept: those before them
+  -- were dropped, since their line is longer than the limit
   pub bytes : Bytes
   pub kept : ℕ
   pub limit : Option ℕ
