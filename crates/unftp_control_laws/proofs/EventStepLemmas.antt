@@ -32,6 +32,6 @@ module _ (limit : Option ℕ) where
       → (taken_events steps ≡ events_with_limit limit (input_of_steps steps)) × (after ≡ incomplete_line (input_of_steps steps))
   steps-all steps after are unended = (
     sym (append-nil (taken_events steps)) ∙ ap (λ events. taken_events steps ++ events) (sym (events_with_limit-incomplete limit after unended))
-    ∙ steps-events [] steps after are,
+        ∙ steps-events [] steps after are,
     sym (incomplete_line-incomplete after unended) ∙ steps-incomplete [] steps after are,
   )

@@ -81,7 +81,12 @@ fn events_are_the_same_wherever_the_input_is_cut(rt: HostRuntime) {
         let mut decoder = EventDecoder::new(rt.alloc());
         push(&rt, &mut decoder, front);
         push(&rt, &mut decoder, rest);
-        assert_next(&rt, &mut decoder, Taken::Noop, b"REST x\r\nUSER a\r\0b\r\nNO");
+        assert_next(
+            &rt,
+            &mut decoder,
+            Taken::Noop,
+            b"REST x\r\nUSER a\r\0b\r\nNO",
+        );
         assert_next(&rt, &mut decoder, Taken::Refused, b"USER a\r\0b\r\nNO");
         assert_next(&rt, &mut decoder, Taken::User, b"NO");
         assert_next(&rt, &mut decoder, Taken::Nothing, b"NO");
