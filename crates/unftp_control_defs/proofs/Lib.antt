@@ -8,7 +8,9 @@ pub mod RunLemmas
 pub mod ReplyUniqueLemmas
 pub mod ReplyCasesLemmas
 pub mod ReplyAppendLemmas
+pub mod ReplyLimitLemmas
 pub mod EncodingLemmas
+pub mod ReplyPlaceLemmas
 pub mod UpperLemmas
 pub mod CaseLemmas
 pub mod LackLemmas
@@ -24,5 +26,6 @@ pub mod LineEndLemmas
 pub mod AnswerLemmas
 pub mod RuleLemmas
 pub mod CommandLineLemmas
+pub mod LineEventLemmas
 mod ExampleLemmas
 mod ReadExampleLemmas

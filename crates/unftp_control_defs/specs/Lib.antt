@@ -10,6 +10,7 @@ pub mod Outcome
 pub mod Canonical
 pub mod FtpReply
 pub mod ReplyReader
+pub mod ReplyLimit
 pub mod ReplySteps
 pub mod Events
 pub mod Texts

@@ -1,6 +1,7 @@
 //! Replies as a client reads them.
-ghost use Rattle.std.specs.Prelude.{◌≡◌, [], ◌∷◌, codes};
+ghost use Rattle.std.specs.Prelude.{◌≡◌, [], ◌∷◌, None, Some, codes};
 ghost use Rattle.unftp_control_defs.specs.FtpReply.{Nothing, CodeAndMsg};
+ghost use Rattle.unftp_control_defs.specs.ReplyLimit.{IsTooLongReply};
 ghost use Rattle.unftp_control_defs.specs.ReplyReader.{LacksCrlf, SpellsCode, GoesOn, FrontReply, HasFront, Opens, IsMalformed, IsPartial, AllReplies, ReadsBack};
 ghost use Rattle.unftp_control_defs.specs.ReplySteps.{TakesReply, AreReplies, Pushed, Taken, AreReplySteps, pushed_bytes, taken_replies};
 
@@ -101,6 +102,27 @@ pub fn replies_are_malformed_so()
     ensures code_only { ¬ IsMalformed (codes "211\r\n") }
     ensures second_line { ¬ IsMalformed (codes "211\r\nx\r\n") }
     ensures no_last_line { ¬ IsMalformed (codes "211-a\r\nx\r\n") }
+{}
+
+/// A reply is too long where it has more bytes than the limit, its line ends counted, and a part of
+/// one where it has at least as many.
+pub fn replies_are_too_long_so()
+    ensures no_bytes_allowed { IsTooLongReply (Some 0) [] }
+    ensures one_byte_allowed { ¬ IsTooLongReply (Some 1) [] }
+    ensures text { IsTooLongReply (Some 6) (codes "211 a\r\n") }
+    ensures text_at_the_limit { ¬ IsTooLongReply (Some 7) (codes "211 a\r\n") }
+    ensures text_below_the_limit { ¬ IsTooLongReply (Some 8) (codes "211 a\r\n") }
+    ensures next_reply_at_the_limit { ¬ IsTooLongReply (Some 7) (codes "211 a\r\n22") }
+    ensures next_reply_past_the_limit { ¬ IsTooLongReply (Some 8) (codes "211 a\r\n22") }
+    ensures part_at_the_limit { IsTooLongReply (Some 6) (codes "211 a\r") }
+    ensures part_below_the_limit { ¬ IsTooLongReply (Some 7) (codes "211 a\r") }
+    ensures part_past_the_limit { IsTooLongReply (Some 5) (codes "211 a\r") }
+    ensures several { IsTooLongReply (Some 13) (codes "211-a\r\n211 b\r\n") }
+    ensures several_at_the_limit { ¬ IsTooLongReply (Some 14) (codes "211-a\r\n211 b\r\n") }
+    ensures no_last_line { IsTooLongReply (Some 7) (codes "211-a\r\n") }
+    ensures malformed { IsTooLongReply (Some 5) (codes "21 a\r\n") }
+    ensures malformed_at_the_limit { ¬ IsTooLongReply (Some 6) (codes "21 a\r\n") }
+    ensures no_limit { ¬ IsTooLongReply None (codes "211 a\r") }
 {}
 
 /// Which bytes are read as what these replies show, and as nothing else.

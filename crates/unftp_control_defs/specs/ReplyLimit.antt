@@ -1,0 +1,10 @@
+-- A limit on the length of a reply, in bytes, its line ends counted. RFC 959 names none: a client
+-- sets it, to bound what it keeps of a reply that a server doesn't end.
+use Rattle.std.specs.Prelude.{ℕ, ◌≤◌, length, take, Option, None, Some}
+use Rattle.unftp_control_defs.specs.Bytes.{Bytes}
+use Rattle.unftp_control_defs.specs.ReplyReader.{IsPartial}
+
+-- the first `limit` bytes are only a part of a reply; without a limit, never
+abbrev pub IsTooLongReply : Option ℕ → Bytes → Type 0
+IsTooLongReply None bytes = ⊥
+IsTooLongReply (Some limit) bytes = (limit ≤ length bytes) × IsPartial (take limit bytes)
