@@ -1,12 +1,15 @@
--- A code is known by its number, and `==` of replies compares what they say.
-use Rattle.std.proofs.Common.{◌≡◌, List, map, refl, sym, ap, ◌&&◌, string_bytes, String, Global, nat_eq, arith}
+-- A code is known by its number, and `==` of replies compares what they say. A reply's lines lack a
+-- line feed where each text in memory does.
+use Rattle.std.proofs.Common.{◌≡◌, ◌↔◌, List, [], ◌∷◌, map, refl, sym, ap, ◌&&◌, string_bytes, String, Global, nat_eq, arith}
 use Rattle.std.specs.Bool.{Decides}
+use Rattle.std.specs.List.{AllByRecursion}
 use Rattle.std.specs.String.{string_eq}
 use Rattle.std.specs.Cmp.Lexicographic.{pointwise}
 use Rattle.std.specs.Cmp.Derive.Mapped.{pointwise-map}
 use Rattle.std.proofs.lemmas.Bool.Decides.{Decides-and, Decides-like}
 use Rattle.std.proofs.lemmas.Slice.Eq.{slice_eq-Decides, bytes_eq-Decides}
 use denote.Enum.Bare.{sameb, same_true, true_same}
+use Rattle.unftp_control_defs.specs.Bytes.{LF, Lacks}
 use Rattle.unftp_control_defs.specs.FtpReply as spec
 use Rattle.unftp_control_reply.specs.ReplyMeaning.{number_of, reply_of}
 use Rattle.unftp_control_reply.specs.contracts.code.ReplyCode.{the_type}
@@ -51,3 +54,8 @@ reply-Decides nothing nothing = (λ t. refl, λ e. refl)
 reply-Decides (CodeAndMsg f x) (CodeAndMsg g y) = one-Decides f g x y
 reply-Decides (MultiLine f x) (MultiLine g y) = many-Decides f g x.items y.items
 reply-Decides _ _ = (λ t. cc, λ e. cc)
+
+pub are_lines-map : (xs : List (String Global)) →
+    AllByRecursion (λ line. Lacks LF (string_bytes line)) xs ↔ AllByRecursion (Lacks LF) (map string_bytes xs)
+are_lines-map [] = (λ h. h, λ h. h)
+are_lines-map (x ∷ xs) = let more = are_lines-map xs in (λ h. (h.0, more.0 h.1), λ h. (h.0, more.1 h.1))

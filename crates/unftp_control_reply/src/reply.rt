@@ -1,8 +1,10 @@
 //! Replies.
 ghost use Rattle.std.specs.Prelude.{◌≡◌, ◌↔◌, map, IsTrue, IfOk, IfErr, string_bytes};
 ghost use Rattle.std.specs.Iterator.{Drains, IsFiniteIterable};
+ghost use Rattle.std.specs.List.{AllByRecursion};
+ghost use Rattle.unftp_control_defs.specs.Bytes.{LF, Lacks};
 ghost use Rattle.unftp_control_defs.specs.Events.{out_of_memory};
-ghost use Rattle.unftp_control_defs.specs.FtpReply.{Nothing, CodeAndMsg, MultiLine, is_positive};
+ghost use Rattle.unftp_control_defs.specs.FtpReply.{Nothing, CodeAndMsg, MultiLine, HasThreeDigits, IsPlain, is_positive};
 ghost use Rattle.unftp_control_error.specs.ErrorMeaning.{fault_of};
 ghost use Rattle.unftp_control_reply.specs.ReplyMeaning.{number_of, reply_of};
 ghost use Rattle.unftp_control_reply.specs.declared.reply.Reply.{Reply as RustReply};
@@ -90,6 +92,19 @@ impl Reply {
         }
     }
 
+    /// Whether a client can read it back as it is: a code of three digits, and no text with a line
+    /// feed, or no reply (RFC 959, section 4.2).
+    pub fn is_plain(&self) -> bool
+        ensures { IsTrue result ↔ IsPlain (reply_of self.now) }
+    {
+        let (code, are_lines) = match self {
+            Reply::None => return true,
+            Reply::CodeAndMsg { code, msg } => (code, is_one_line(msg.as_str())),
+            Reply::MultiLine { code, lines } => (code, are_lines(lines)),
+        };
+        has_three_digits(*code) && are_lines
+    }
+
     /// A reply that says the same, or `AllocError` when out of memory, which leaves this one as it
     /// is.
     pub fn clone(&self, alloc: Global) -> Result<Reply, AllocError>
@@ -107,6 +122,27 @@ impl Reply {
             },
         })
     }
+}
+
+/// Whether the code has three digits; those of `ReplyCode` that are no codes of RFC 959 have one.
+fn has_three_digits(code: ReplyCode) -> bool
+    ensures { IsTrue result ↔ HasThreeDigits (number_of code) }
+{
+    (100..=999).contains(&code.number())
+}
+
+/// Whether the text has no line feed.
+fn is_one_line(text: &str) -> bool
+    ensures { IsTrue result ↔ Lacks LF text.now }
+{
+    !text.as_bytes().contains(&b'\n')
+}
+
+/// Whether no line has a line feed.
+fn are_lines(lines: &Vec<String>) -> bool
+    ensures { IsTrue result ↔ AllByRecursion (λ line. Lacks LF (string_bytes line)) lines.now.items }
+{
+    lines.iter().all(|line| is_one_line(line.as_str()))
 }
 
 /// The lines in memory of their own.
