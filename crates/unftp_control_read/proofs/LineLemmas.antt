@@ -1,38 +1,18 @@
 -- What the places of CR LF say, and the lines that a loop has passed.
-use Rattle.std.proofs.Common.{zero, Option, None, Some, IfSome, IfNone, MatchOption, Bor, slice_index, ◌≡◌, ◌≢◌, ℕ, suc, ◌+◌, ◌-◌, ◌<◌, List, [], ◌∷◌, ◌++◌, flat_map, length, get_or, take, refl, sym, ap, subst, ◌∙◌, append_assoc, length-append, length-take-le, take_at, arith}
+use Rattle.std.proofs.Common.{Option, None, Some, IfSome, IfNone, MatchOption, Bor, slice_index, ◌≡◌, ◌≢◌, ℕ, suc, ◌+◌, ◌-◌, ◌<◌, ◌≤◌, ⊎_elim, length-drop, eqb-true, eq-eqb, List, [], ◌∷◌, ◌++◌, flat_map, length, get_or, take, drop, refl, sym, ap, subst, ◌∙◌, append_assoc, length-append, length-take-le, take-append-drop, drop-cons, arith}
 use Rattle.std.proofs.Math.Seq.{get_or-append_seam}
-use Rattle.std.proofs.lemmas.List.{get_or-append-add, get_or-take}
+use Rattle.std.proofs.lemmas.List.{get_or-append-add, get_or-take, get_or-drop}
+use Rattle.std.proofs.lemmas.Bool.{cases_lt}
 use Rattle.std.proofs.lemmas.Grind.{flat_map-append}
 use Rattle.std.specs.List.{AllByRecursion}
-use Rattle.bstr.specs.Find.{FindsNeedle, OccursAt}
-use Rattle.unftp_control_defs.specs.Bytes.{Bytes, CR, LF, SP, crlf}
-use Rattle.unftp_control_defs.specs.ReplyReader.{LacksCrlf, with_crlf, GoesOn, IsEnded}
-use Rattle.unftp_control_read.specs.Reading.{EndsWith}
+use Rattle.bstr.specs.Find.{IsFirstByte, is_byte}
+use Rattle.unftp_control_defs.specs.Bytes.{Bytes, CR, LF, SP}
+use Rattle.unftp_control_defs.specs.ReplyReader.{LacksCrlf, with_crlf, GoesOn}
 use Rattle.unftp_control_defs.proofs.ReplyUniqueLemmas.{cut_first, line_apart, same_front}
 
 -- there is no CR LF at the position
 abbrev pub NoCrlfAt : Bytes → ℕ → Type 0
 NoCrlfAt text k = slice_index text k ≡ CR → slice_index text (k + 1) ≡ LF → ⊥
-
-crlf_occurs : (text : Bytes) (k : ℕ) → k + 1 < length text → slice_index text k ≡ CR → slice_index text (k + 1) ≡ LF → OccursAt text crlf k
-crlf_occurs text k within is_cr is_lf = record { fits = omega arith; reads = each }
-  where
-    each : (j : ℕ) → j < 2 → slice_index text (k + j) ≡ slice_index crlf j
-    each zero h = subst (λ n. slice_index text n ≡ CR) (omega arith) is_cr
-    each (suc zero) h = is_lf
-    each (suc (suc j)) h = absurd (omega arith)
-
-pub place_found : (text : Bytes) (r : Option ℕ) → FindsNeedle text crlf 0 r → IfSome r (λ at. (at + 1 < length text) × (slice_index text at ≡ CR) × (slice_index text (at + 1) ≡ LF))
-place_found text None h = tt
-place_found text (Some at) h = (omega (arith, h.1.fits), subst (λ n. slice_index text n ≡ CR) (omega arith) (h.1.reads 0 (omega arith)), h.1.reads 1 (omega arith))
-
-pub place_first : (text : Bytes) (r : Option ℕ) → FindsNeedle text crlf 0 r → IfSome r (λ at. (k : ℕ) → k < at → NoCrlfAt text k)
-place_first text None h = tt
-place_first text (Some at) h = λ k below is_cr is_lf. h.0.before k (omega arith) below (crlf_occurs text k (omega (arith, h.1.fits)) is_cr is_lf)
-
-pub place_none : (text : Bytes) (r : Option ℕ) → FindsNeedle text crlf 0 r → IfNone r ((k : ℕ) → k + 1 < length text → NoCrlfAt text k)
-place_none text None h = λ k within is_cr is_lf. h k (omega arith) (omega arith) (crlf_occurs text k within is_cr is_lf)
-place_none text (Some at) h = tt
 
 pub lacks_by_place : (text : Bytes) → ((k : ℕ) → k + 1 < length text → get_or text k 0 ≡ CR → get_or text (k + 1) 0 ≡ LF → ⊥) → LacksCrlf text
 lacks_by_place text h before after e = h
@@ -41,17 +21,13 @@ lacks_by_place text h before after e = h
     (ap (λ t. get_or t (length before) 0) e ∙ get_or-append_seam before CR (LF ∷ after) 0)
     (ap (λ t. get_or t (length before + 1) 0) e ∙ get_or-append-add before (CR ∷ LF ∷ after) 1 0)
 
-pub lacks_front : (text : Bytes) (at : ℕ) → at + 1 < length text → ((k : ℕ) → k < at → get_or text k 0 ≡ CR → get_or text (k + 1) 0 ≡ LF → ⊥) → LacksCrlf (take at text)
-lacks_front text at short h = lacks_by_place (take at text) (λ k within is_cr is_lf.
-    let long : length (take at text) ≡ at = length-take-le at text (omega arith) in
-    h k (omega arith) (sym (get_or-take at text k 0 (omega arith)) ∙ is_cr) (sym (get_or-take at text (k + 1) 0 (omega arith)) ∙ is_lf))
-
--- whole lines that go on come before the rest
-pub record Passed (digits bytes rest : Bytes) : Type 0 where
-  pub middle : List Bytes
-  pub cut : bytes ≡ flat_map with_crlf middle ++ rest
-  pub each : AllByRecursion LacksCrlf middle
-  pub goes_on : AllByRecursion (GoesOn digits) middle
+pub cut_at_place : (text : Bytes) (at : ℕ) → at + 1 < length text → get_or text at 0 ≡ CR → get_or text (at + 1) 0 ≡ LF → text ≡ take at text ++ CR ∷ LF ∷ drop 2 (drop at text)
+cut_at_place text at short is_cr is_lf =
+    let at_lf : get_or text (suc at) 0 ≡ LF = subst (λ k. get_or text k 0 ≡ LF) (omega arith) is_lf in
+    let a = drop-cons text at 0 (omega arith) in
+    let b = drop-cons text (suc at) 0 (omega arith) in
+    let both : drop at text ≡ CR ∷ LF ∷ drop (suc (suc at)) text = a ∙ (λ i. is_cr i ∷ b i) ∙ (λ i. CR ∷ (at_lf i ∷ drop (suc (suc at)) text)) in
+    sym (take-append-drop at text) ∙ ap (λ s. take at text ++ s) (both ∙ sym (ap (λ s. CR ∷ LF ∷ drop 2 s) both))
 
 pub all_snoc : (P : Bytes → Type 0) (lines : List Bytes) (line : Bytes) → AllByRecursion P lines → P line → AllByRecursion P (lines ++ line ∷ [])
 all_snoc P [] line h p = (p, tt)
@@ -62,29 +38,6 @@ one_more lines line rest =
     ap (λ s. flat_map with_crlf lines ++ s) (sym (line_apart line [] rest))
     ∙ sym (append_assoc (flat_map with_crlf lines) (flat_map with_crlf (line ∷ [])) rest)
     ∙ ap (λ s. s ++ rest) (sym (flat_map-append with_crlf lines (line ∷ [])))
-
-pub passed_more : (digits bytes rest line after : Bytes) → Passed digits bytes rest → rest ≡ line ++ CR ∷ LF ∷ after → LacksCrlf line → GoesOn digits line → Passed digits bytes after
-passed_more digits bytes rest line after p cut is_line goes = record {
-  middle = p.middle ++ line ∷ [];
-  cut = p.cut ∙ ap (λ s. flat_map with_crlf p.middle ++ s) cut ∙ one_more p.middle line after;
-  each = all_snoc LacksCrlf p.middle line p.each is_line;
-  goes_on = all_snoc (GoesOn digits) p.middle line p.goes_on goes;
-}
-
-abbrev pub passed_end : (digits bytes rest line after text : Bytes) → Passed digits bytes rest → rest ≡ line ++ CR ∷ LF ∷ after → LacksCrlf line → line ≡ digits ++ SP ∷ text → IsEnded digits bytes
-passed_end digits bytes rest line after text p cut is_line is_last = record {
-  middle = p.middle;
-  last = text;
-  rest = after;
-  cut = p.cut ∙ ap (λ s. flat_map with_crlf p.middle ++ s) (cut ∙ ap (λ l. l ++ CR ∷ LF ∷ after) is_last) ∙ one_more p.middle (digits ++ SP ∷ text) after;
-  each = all_snoc LacksCrlf p.middle (digits ++ SP ∷ text) p.each (subst LacksCrlf is_last is_line);
-  goes_on = p.goes_on;
-}
-
-pub passed_bytes : (digits bytes rest : Bytes) → (p : Passed digits bytes rest) → take (length bytes - length rest) bytes ≡ flat_map with_crlf p.middle
-passed_bytes digits bytes rest p =
-    ap (λ s. take (length bytes - length rest) s) p.cut
-    ∙ take_at (flat_map with_crlf p.middle) rest (length bytes - length rest) (omega (arith, ap length p.cut, length-append (flat_map with_crlf p.middle) rest))
 
 -- bytes have one list of whole lines, and one rest
 pub lines_unique : (ks ls : List Bytes) (x y : Bytes) → AllByRecursion LacksCrlf ks → AllByRecursion LacksCrlf ls → LacksCrlf x → LacksCrlf y
@@ -98,11 +51,64 @@ lines_unique (k ∷ ks) (l ∷ ls) x y p q f g e =
     λ i. cut.0 i ∷ more i
 
 -- the text after the digits and a space, or that there is none
-pub behind_digits : (digits line rest : Bytes) (r : Option (Bor Bytes)) → line ≡ digits ++ rest → MatchOption r ((text : Bytes) → rest ≢ SP ∷ text) (λ text. rest ≡ SP ∷ text.now)
+pub after_digits : (digits line rest : Bytes) (r : Option (Bor Bytes)) → line ≡ digits ++ rest → MatchOption r ((text : Bytes) → rest ≢ SP ∷ text) (λ text. rest ≡ SP ∷ text.now)
     → IfSome r (λ text. line ≡ digits ++ SP ∷ text.now) × IfNone r (GoesOn digits line)
-behind_digits digits line rest (Some text) e h = (e ∙ ap (λ r. digits ++ r) h, tt)
-behind_digits digits line rest None e h = (tt, λ text f. h text (same_front digits digits rest (SP ∷ text) refl (sym e ∙ f)).1)
+after_digits digits line rest (Some text) e h = (e ∙ ap (λ r. digits ++ r) h, tt)
+after_digits digits line rest None e h = (tt, λ text f. h text (same_front digits digits rest (SP ∷ text) refl (sym e ∙ f)).1)
 
-pub last_found : (digits bytes rest line after text middle : Bytes) → Passed digits bytes rest → rest ≡ line ++ CR ∷ LF ∷ after → LacksCrlf line → line ≡ digits ++ SP ∷ text
-    → middle ≡ take (length bytes - length rest) bytes → EndsWith digits bytes middle text after
-last_found digits bytes rest line after text middle p cut is_line is_last e = (passed_end digits bytes rest line after text p cut is_line is_last, e ∙ passed_bytes digits bytes rest p, refl, refl)
+-- ---- the first line, where the beginning is known to have no CR LF
+
+lacks_at : (text : Bytes) (k : ℕ) → LacksCrlf text → k + 1 < length text → NoCrlfAt text k
+lacks_at text k lacks within is_cr is_lf = lacks _ _ (cut_at_place text k within is_cr is_lf)
+
+-- none in the part that is searched, and no line feed after it that ends a line: so none
+pub lacks_up_to : (bytes : Bytes) (searched to : ℕ) → searched ≤ to → to ≤ length bytes → LacksCrlf (take searched bytes)
+    → ((k : ℕ) → searched ≤ k → k < to → slice_index bytes k ≡ LF → (j : ℕ) → k ≡ j + 1 → slice_index bytes j ≢ CR) → LacksCrlf (take to bytes)
+lacks_up_to bytes searched to low within lacks none = lacks_by_place (take to bytes) (λ k short is_cr is_lf.
+    let long : length (take to bytes) ≡ to = length-take-le to bytes within in
+    let cr : get_or bytes k 0 ≡ CR = sym (get_or-take to bytes k 0 (omega arith)) ∙ is_cr in
+    let lf : get_or bytes (k + 1) 0 ≡ LF = sym (get_or-take to bytes (k + 1) 0 (omega arith)) ∙ is_lf in
+    ⊎_elim
+    (λ (below : k + 1 < searched). lacks_at (take searched bytes) k lacks (omega (arith, length-take-le searched bytes (omega arith)))
+    (get_or-take searched bytes k 0 (omega arith) ∙ cr) (get_or-take searched bytes (k + 1) 0 (omega arith) ∙ lf))
+    (λ (above : searched ≤ k + 1). none (k + 1) above (omega arith) lf k refl cr)
+    (cases_lt (k + 1) searched))
+
+pub lacks_less : (bytes : Bytes) (less to : ℕ) → less ≤ to → to ≤ length bytes → LacksCrlf (take to bytes) → LacksCrlf (take less bytes)
+lacks_less bytes less to low within lacks = lacks_by_place (take less bytes) (λ k short is_cr is_lf.
+    let long : length (take less bytes) ≡ less = length-take-le less bytes (omega arith) in
+    lacks_at (take to bytes) k lacks (omega (arith, length-take-le to bytes within))
+    (get_or-take to bytes k 0 (omega arith) ∙ sym (get_or-take less bytes k 0 (omega arith)) ∙ is_cr)
+    (get_or-take to bytes (k + 1) 0 (omega arith) ∙ sym (get_or-take less bytes (k + 1) 0 (omega arith)) ∙ is_lf))
+
+-- there is no line feed in the part that is scanned
+pub lacks_without : (bytes : Bytes) (searched to : ℕ) → searched ≤ to → to ≤ length bytes → LacksCrlf (take searched bytes)
+    → ((k : ℕ) → searched ≤ k → k < to → slice_index bytes k ≢ LF) → LacksCrlf (take to bytes)
+lacks_without bytes searched to low within lacks none = lacks_up_to bytes searched to low within lacks (λ k above below is_lf j e. absurd (none k above below is_lf))
+
+-- there is one, and it ends no line
+pub lacks_past : (bytes : Bytes) (searched at : ℕ) → searched ≤ at → at < length bytes → LacksCrlf (take searched bytes)
+    → ((k : ℕ) → searched ≤ k → k < at → slice_index bytes k ≢ LF) → ((j : ℕ) → at ≡ j + 1 → slice_index bytes j ≢ CR) → LacksCrlf (take (at + 1) bytes)
+lacks_past bytes searched at low within lacks none no_cr = lacks_up_to bytes searched (at + 1) (omega arith) (omega arith) lacks (λ k above below is_lf j e.
+    ⊎_elim
+    (λ (before : k < at). absurd (none k above before is_lf))
+    (λ (here : at ≤ k). no_cr j (omega arith))
+    (cases_lt k at))
+
+pub feed_found : (bytes : Bytes) (from : ℕ) (r : Option ℕ) → IsFirstByte (is_byte LF) (drop from bytes) r → from ≤ length bytes
+    → IfSome r (λ at. (at < length (drop from bytes)) × (slice_index bytes (from + at) ≡ LF) × ((k : ℕ) → from ≤ k → k < from + at → slice_index bytes k ≢ LF))
+    × IfNone r ((k : ℕ) → from ≤ k → k < length bytes → slice_index bytes k ≢ LF)
+feed_found bytes from (Some at) h low = (
+  (
+    h.0.high,
+    sym (get_or-drop from bytes at 0) ∙ eqb-true (get_or (drop from bytes) at 0) LF h.1,
+    λ k above below is_lf. let e : from + (k - from) ≡ k = omega arith in
+        h.0.before (k - from) (omega arith) (omega arith) (eq-eqb (get_or (drop from bytes) (k - from) 0) LF (get_or-drop from bytes (k - from) 0 ∙ ap (λ n. get_or bytes n 0) e ∙ is_lf)),
+  ),
+  tt,
+)
+feed_found bytes from None h low = (
+  tt,
+  λ k above below is_lf. let e : from + (k - from) ≡ k = omega arith in
+      h (k - from) (omega arith) (omega (arith, length-drop from bytes)) (eq-eqb (get_or (drop from bytes) (k - from) 0) LF (get_or-drop from bytes (k - from) 0 ∙ ap (λ n. get_or bytes n 0) e ∙ is_lf)),
+)

@@ -1,10 +1,10 @@
 -- What the answers of the reader mean for the bytes.
-use Rattle.std.specs.Prelude.{◌≡◌, ◌<◌, ◌≤◌, ℕ, ◌⊎◌, List, [], ◌∷◌, ◌++◌, map, flat_map, length}
+use Rattle.std.specs.Prelude.{◌≡◌, ◌<◌, ◌≤◌, ℕ, ◌⊎◌, List, [], ◌∷◌, ◌++◌, ◌-◌, map, flat_map, length, take, drop}
 use Rattle.std.specs.List.{AllByRecursion}
 use Rattle.std.specs.declared.vec.Vec.{Vec}
 use Rattle.std.specs.declared.alloc.Global.{Global}
 use Rattle.unftp_control_defs.specs.Bytes.{Bytes, SP, DASH}
-use Rattle.unftp_control_defs.specs.ReplyReader.{LacksCrlf, with_crlf, SpellsCode, FrontReply, HasFront, IsMalformed, IsPartial, IsEnded}
+use Rattle.unftp_control_defs.specs.ReplyReader.{LacksCrlf, with_crlf, SpellsCode, FrontReply, HasFront, IsMalformed, IsPartial}
 use Rattle.unftp_control_read.specs.declared.Front.{Front}
 use Rattle.unftp_control_read.specs.declared.Front.TheVariants.{Whole, Partial}
 use Rattle.unftp_control_read.specs.declared.ReadReplyError.{ReadReplyError}
@@ -29,6 +29,14 @@ abbrev pub front_of : Front → FrontContent
 front_of (Whole code lines used) = whole code (contents lines) used
 front_of Partial = partial
 
+-- the lines of a reply that its copying scans for their ends: those between the first and the last
+abbrev pub scanned_lines : List Bytes → List Bytes
+scanned_lines lines = take (length lines - 2) (drop 1 lines)
+
+-- and how many bytes they have, with their line ends
+abbrev pub scanned_to_copy : List Bytes → ℕ
+scanned_to_copy lines = length (flat_map with_crlf (scanned_lines lines))
+
 -- what an answer means for the bytes
 abbrev pub ReturnsFront : Bytes → Front → Type 0
 ReturnsFront bytes (Whole code lines used) = FrontReply bytes code (contents lines) used
@@ -50,11 +58,6 @@ abbrev pub ReturnsRefusal : Bytes → ReadReplyError → Type 0
 ReturnsRefusal bytes Malformed = IsMalformed bytes
 ReturnsRefusal bytes OutOfMemory = HasFront bytes
 
--- the lines before the last one, as they are; its text; what follows
-abbrev pub EndsWith : Bytes → Bytes → Bytes → Bytes → Bytes → Type 0
-EndsWith digits bytes middle text rest = (ended : IsEnded digits bytes)
-    × (middle ≡ flat_map with_crlf ended.middle) × (text ≡ ended.last) × (rest ≡ ended.rest)
-
 -- how the line opens a reply after these digits
 abbrev pub IsAfterCode : Bytes → Bytes → AfterCode → Type 0
 IsAfterCode line digits (One text) =
@@ -71,6 +74,12 @@ Holds (text.Several first middle last) lines = (between : List Bytes)
     × (middle.now ≡ flat_map with_crlf between) × AllByRecursion LacksCrlf between
     × (lines ≡ first.now ∷ (between ++ last.now ∷ []))
 
+-- the whole lines between the first and the last
+abbrev pub middle_of : Texts → Bytes
+middle_of (text.One one) = []
+middle_of (text.Several first middle last) = middle.now
+
+-- what a search returns means the same for the bytes
 abbrev pub Finds : Bytes → Finding → Type 0
 Finds bytes (find.Whole code texts used) =
     (lines : List Bytes) × Holds texts lines × FrontReply bytes code lines used

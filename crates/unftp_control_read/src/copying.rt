@@ -1,18 +1,26 @@
 //! Copies the lines of a reply.
-ghost use Rattle.std.specs.Prelude.{◌≡◌, ◌∷◌, [], ◌++◌, List, flat_map, IfOk};
+ghost use Rattle.std.specs.Prelude.{◌≡◌, ◌≤◌, ◌+◌, ◌∷◌, [], ◌++◌, List, flat_map, length, IfOk, OnOk};
 ghost use Rattle.std.specs.List.{AllByRecursion};
 ghost use Rattle.unftp_control_defs.specs.Bytes.{Bytes};
 ghost use Rattle.unftp_control_defs.specs.ReplyReader.{LacksCrlf, with_crlf};
-ghost use Rattle.unftp_control_read.specs.Reading.{contents, Holds};
+ghost use Rattle.unftp_control_read.specs.Reading.{contents, Holds, middle_of};
 
 use crate::finding::Texts;
 use crate::lines::next_line;
 use std::alloc::{AllocError, Global};
+use unftp_control_count::Count;
 
-/// The lines that the texts are.
-pub(crate) fn copy_lines(alloc: Global, texts: Texts<'_>) -> Result<Vec<Vec<u8>>, AllocError>
-    ensures { IfOk result (λ copied.
+/// The lines that the texts are. Those between the first and the last are scanned for their ends.
+pub(crate) fn copy_lines(
+    alloc: Global,
+    texts: Texts<'_>,
+    tests: &mut Count,
+) -> Result<Vec<Vec<u8>>, AllocError>
+    ensures copied { IfOk result (λ copied.
         (lines : List Bytes) → Holds texts.entry lines → contents copied ≡ lines) }
+    ensures tests { OnOk result (tests.new ≡ tests.old + length (middle_of texts.entry)) }
+    ensures no_more { tests.new ≤ tests.old + length (middle_of texts.entry) }
+    ensures never_fewer { tests.old ≤ tests.new }
 {
     match texts {
         Texts::One(text) => copy_one(alloc, text),
@@ -20,7 +28,7 @@ pub(crate) fn copy_lines(alloc: Global, texts: Texts<'_>) -> Result<Vec<Vec<u8>>
             first,
             middle,
             last,
-        } => copy_several(alloc, first, middle, last),
+        } => copy_several(alloc, first, middle, last, tests),
     }
 }
 
@@ -39,14 +47,18 @@ fn copy_several(
     first: &[u8],
     middle: &[u8],
     last: &[u8],
+    tests: &mut Count,
 ) -> Result<Vec<Vec<u8>>, AllocError>
-    ensures { IfOk result (λ copied. (between : List Bytes) → AllByRecursion LacksCrlf between
-        → middle.now ≡ flat_map with_crlf between
+    ensures copied { IfOk result (λ copied. (between : List Bytes)
+        → AllByRecursion LacksCrlf between → middle.now ≡ flat_map with_crlf between
         → contents copied ≡ first.now ∷ (between ++ last.now ∷ [])) }
+    ensures tests { OnOk result (tests.new ≡ tests.old + length middle.now) }
+    ensures no_more { tests.new ≤ tests.old + length middle.now }
+    ensures never_fewer { tests.old ≤ tests.new }
 {
     let mut lines = copy_one(alloc, first)?;
     let mut rest = middle;
-    while let Some((line, after)) = next_line(rest) {
+    while let Some((line, after)) = next_line(rest, 0, tests) {
         lines.push(Vec::from_slice(alloc, line)?)?;
         rest = after;
     }

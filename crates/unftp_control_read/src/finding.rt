@@ -1,8 +1,4 @@
-//! Finds the reply at the front of some bytes, and takes no memory.
-ghost use Rattle.unftp_control_read.specs.Reading.{Finds};
-
-use crate::lines::{LastLine, find_last_line, next_line};
-use crate::opening::{AfterCode, opening_of};
+//! What some bytes begin with, before the lines of a reply are copied.
 
 /// The texts of a reply, as parts of its bytes: the one text, or the first, the whole lines
 /// between, and the last.
@@ -26,36 +22,4 @@ pub(crate) enum Finding<'a> {
     },
     Partial,
     Malformed,
-}
-
-/// Finds the reply at the front.
-pub(crate) fn find_front(bytes: &[u8]) -> Finding<'_>
-    ensures { Finds bytes.now result }
-{
-    let Some((line, after)) = next_line(bytes) else {
-        return Finding::Partial;
-    };
-    let Some(opening) = opening_of(line) else {
-        return Finding::Malformed;
-    };
-    let code = opening.code;
-    match opening.kind {
-        AfterCode::One(text) => Finding::Whole {
-            code,
-            texts: Texts::One(text),
-            used: bytes.len() - after.len(),
-        },
-        AfterCode::Several(first) => match find_last_line(opening.digits, after) {
-            None => Finding::Partial,
-            Some(LastLine { middle, text, rest }) => Finding::Whole {
-                code,
-                texts: Texts::Several {
-                    first,
-                    middle,
-                    last: text,
-                },
-                used: bytes.len() - rest.len(),
-            },
-        },
-    }
 }

@@ -1,21 +1,33 @@
-//! Reads the reply at the start of some bytes, as a client of RFC 959 does.
+//! Reads replies, as a client of RFC 959 does: the one at the start of some bytes, or one after the
+//! other from bytes that come in pieces.
 #![tactic(auto)]
 
-ghost use Rattle.std.specs.Prelude.{◌≡◌, ◌↔◌, ℕ, List, IsTrue, IfOk, IfErr, MatchResult};
+ghost use Rattle.std.specs.Prelude.{◌≡◌, ◌↔◌, ◌+◌, ◌*◌, ◌≤◌, ℕ, List, length, IsTrue, IfOk, IfErr, MatchResult};
 ghost use Rattle.unftp_control_defs.specs.Bytes.{Bytes};
 ghost use Rattle.unftp_control_defs.specs.ReplyReader.{FrontReply, IsPartial, IsMalformed};
 ghost use Rattle.unftp_control_read.specs.Reading.{ReturnsFront, ReturnsRefusal, IsWhole, IsWithin, front_of};
+ghost use Rattle.unftp_control_read.specs.Search.{CountsFront, IsSearched, scan_offset};
 ghost use Rattle.unftp_control_read.specs.declared.Front.{Front as RustFront};
 
 mod copying;
+mod decoder;
+mod errors;
 mod finding;
 mod lines;
 mod opening;
+mod receiving;
+mod reply;
+mod search;
 
 use crate::copying::copy_lines;
-use crate::finding::{Finding, find_front};
+pub use crate::decoder::ReplyDecoder;
+pub use crate::errors::{NextReplyError, ReceiveError};
+use crate::finding::Finding;
+pub use crate::reply::{ReceivedReply, same_received_replies};
+use crate::search::Search;
 use std::alloc::Global;
 use thiserror::Error;
+pub use unftp_control_count::Count;
 
 /// What some bytes begin with.
 #[derive(Debug, PartialEq, Eq, Drop)]
@@ -64,8 +76,35 @@ pub fn read_reply(alloc: Global, bytes: &[u8]) -> Result<Front, ReadReplyError>
     ensures partial { IsPartial bytes.now → result ≡ Ok Front.Partial }
     ensures malformed { IsMalformed bytes.now → result ≡ Err ReadReplyError.Malformed }
 {
-    match find_front(bytes) {
-        Finding::Whole { code, texts, used } => match copy_lines(alloc, texts) {
+    read_front(alloc, &mut Search::new(), bytes, &mut Count::new())
+}
+
+/// The same, by a search that may have begun when there were fewer bytes.
+pub(crate) fn read_front(
+    alloc: Global,
+    search: &mut Search,
+    bytes: &[u8],
+    tests: &mut Count,
+) -> Result<Front, ReadReplyError>
+    requires { IsSearched bytes.now search.old }
+    ensures searched { IsSearched bytes.now search.new }
+    ensures counts { IfOk result
+        (λ front. CountsFront bytes.now tests.old search.old front tests.new search.new) }
+    ensures no_more { tests.new + scan_offset search.old ≤ tests.old + 2 * length bytes.now }
+    ensures never_fewer { tests.old ≤ tests.new }
+    ensures never_back { scan_offset search.old ≤ scan_offset search.new }
+    ensures front { IfOk result (λ front. ReturnsFront bytes.now front) }
+    ensures refusal { IfErr result (λ refusal. ReturnsRefusal bytes.now refusal) }
+    ensures whole { (code : ℕ) (lines : List Bytes) (used : ℕ)
+        → FrontReply bytes.now code lines used
+        → MatchResult result (λ front. IsWhole code lines used front) (λ refusal.
+        refusal ≡ ReadReplyError.OutOfMemory) }
+    ensures within { IfOk result (λ front. IsWithin bytes.now front) }
+    ensures partial { IsPartial bytes.now → result ≡ Ok Front.Partial }
+    ensures malformed { IsMalformed bytes.now → result ≡ Err ReadReplyError.Malformed }
+{
+    match search.find_front(bytes, tests) {
+        Finding::Whole { code, texts, used } => match copy_lines(alloc, texts, tests) {
             Ok(lines) => Ok(Front::Whole { code, lines, used }),
             Err(_) => Err(ReadReplyError::OutOfMemory),
         },

@@ -2,7 +2,7 @@ use Rattle.std.proofs.Common.{None, Some, [], ◌∷◌}
 use Rattle.std.proofs.lemmas.Bool.Decides.{Decides-eqb}
 use Rattle.std.proofs.lemmas.Slice.Eq.{strip_prefix_is}
 use Rattle.unftp_control_defs.specs.Bytes.{SP}
-use Rattle.unftp_control_read.proofs.LineLemmas.{behind_digits}
+use Rattle.unftp_control_read.proofs.LineLemmas.{after_digits}
 use Rattle.unftp_control_read.proofs.lines.last_text.Goals as goal
 
 pub returns-in_err-strip_prefix-clause-none : goal.returns-in_err-strip_prefix-clause-none
@@ -12,5 +12,5 @@ pub returns : goal.returns
 returns c =
     let first = strip_prefix_is Decides-eqb c.args.line.now c.args.digits.now (Some c.in_ok-strip_prefix.field-0) c.in_ok-strip_prefix.ensures.cases in
     let second = strip_prefix_is Decides-eqb c.in_ok-strip_prefix.field-0.now (SP ∷ []) c.strip_prefix-2.result c.strip_prefix-2.ensures.cases in
-    let text = behind_digits c.args.digits.now c.args.line.now c.in_ok-strip_prefix.field-0.now c.strip_prefix-2.result first second in
+    let text = after_digits c.args.digits.now c.args.line.now c.in_ok-strip_prefix.field-0.now c.strip_prefix-2.result first second in
     record { found = text.0; none = text.1 }

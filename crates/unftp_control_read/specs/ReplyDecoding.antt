@@ -1,0 +1,175 @@
+-- The pending bytes of a reply decoder.
+use Rattle.std.specs.Prelude.{◌≡◌, ℕ, ◌+◌, ◌-◌, ◌<◌, ◌≤◌, if◌then◌else◌, List, [], ◌++◌, length, take, drop, Option, Some, None, Result, Ok, Err, MatchResult, MatchOption, IfSome, OnOk, OnErr, nat_lt}
+use Rattle.unftp_control_defs.specs.Bytes.{Bytes}
+use Rattle.unftp_control_defs.specs.ReplyReader.{HasFront, IsMalformed, IsPartial}
+use Rattle.unftp_control_defs.specs.ReplyLimit.{IsTooLongReply}
+use Rattle.unftp_control_defs.specs.ReplySteps.{TakesReply}
+use Rattle.unftp_control_read.specs.Reading.{contents, scanned_to_copy}
+use Rattle.unftp_control_read.specs.Search.{IsSearched, scan_offset}
+use Rattle.unftp_control_read.specs.declared.search.Search.{Search}
+use Rattle.unftp_control_read.specs.declared.ReadReplyError.{ReadReplyError}
+use Rattle.unftp_control_read.specs.declared.ReadReplyError.TheVariants as refusal
+use Rattle.unftp_control_read.specs.declared.reply.ReceivedReply.{ReceivedReply}
+use Rattle.unftp_control_read.specs.declared.errors.NextReplyError.{NextReplyError}
+use Rattle.unftp_control_read.specs.declared.errors.NextReplyError.TheVariants.{Malformed, TooLong, OutOfMemory}
+
+-- the code and the lines, whatever room they take
+abbrev pub content : ReceivedReply → ℕ × List Bytes
+content reply = (reply.code, contents reply.lines)
+
+-- the bytes that a reply may have: the first `limit` ones, or all
+abbrev pub within_limit : Option ℕ → Bytes → Bytes
+within_limit None bytes = bytes
+within_limit (Some limit) bytes = take limit bytes
+
+-- What is so of a decoder: the replies before `start` are taken.
+pub record IsReplyDecoder (limit : Option ℕ) (search : Search) (buf : Bytes)
+    (start : ℕ) : Type 0 where
+  pub start_within : start ≤ length buf
+  pub searched : IsSearched (within_limit limit (drop start buf)) search
+
+pub record PendingReplies : Type 0 where
+  -- the bytes after the last reply that was taken
+  pub bytes : Bytes
+  -- the most bytes that a reply may have
+  pub limit : Option ℕ
+  -- how many bytes were scanned for a line feed since the decoder was made, and how many of the
+  -- pending bytes have not been
+  pub tests : ℕ
+  pub unscanned : ℕ
+  -- how many bytes the buffer holds, with those of the replies that are taken
+  pub buffered : ℕ
+
+-- no bytes so far
+abbrev pub nothing_pending : Option ℕ → PendingReplies
+nothing_pending limit = record {
+  bytes = [];
+  limit = limit;
+  tests = 0;
+  unscanned = 0;
+  buffered = 0;
+}
+
+-- of these bytes, which the search scanned up to its scan offset
+abbrev pub pending_replies : Option ℕ → Search → ℕ → Bytes → ℕ → PendingReplies
+pending_replies limit search tests bytes buffered = record {
+  bytes = bytes;
+  limit = limit;
+  tests = tests;
+  unscanned = length bytes - scan_offset search;
+  buffered = buffered;
+}
+
+-- The replies that were taken have left the buffer.
+abbrev pub only_pending : PendingReplies → PendingReplies
+only_pending pending = record {
+  bytes = pending.bytes;
+  limit = pending.limit;
+  tests = pending.tests;
+  unscanned = pending.unscanned;
+  buffered = length pending.bytes;
+}
+
+-- A piece comes after them, in the buffer too.
+abbrev pub appended : PendingReplies → Bytes → PendingReplies
+appended pending piece = record {
+  bytes = pending.bytes ++ piece;
+  limit = pending.limit;
+  tests = pending.tests;
+  unscanned = pending.unscanned + length piece;
+  buffered = pending.buffered + length piece;
+}
+
+-- A piece comes after them. The replies that were taken leave the buffer where they have more bytes
+-- than what is pending then.
+abbrev pub piece_pushed : PendingReplies → Bytes → PendingReplies
+piece_pushed pending piece = record {
+  bytes = pending.bytes ++ piece;
+  limit = pending.limit;
+  tests = pending.tests;
+  unscanned = pending.unscanned + length piece;
+  buffered = (if nat_lt (length (pending.bytes ++ piece)) (pending.buffered - length pending.bytes)
+      then length (pending.bytes ++ piece) else pending.buffered + length piece);
+}
+
+-- The pending bytes have left the buffer too.
+abbrev pub all_cleared : PendingReplies → PendingReplies
+all_cleared pending = record {
+  bytes = [];
+  limit = pending.limit;
+  tests = pending.tests;
+  unscanned = 0;
+  buffered = 0;
+}
+
+-- a part of a reply, shorter than a reply may be
+abbrev pub IsShortPart : Option ℕ → Bytes → Type 0
+IsShortPart limit bytes = IsPartial bytes × IfSome limit (λ limit. length bytes < limit)
+
+-- There is only a part of a reply, shorter than a reply may be, and all bytes are scanned.
+pub record HasNoReply (before after : PendingReplies) : Type 0 where
+  pub partial : IsPartial before.bytes
+  pub same : after.bytes ≡ before.bytes
+  pub all_scanned : after.unscanned ≡ 0
+  pub short : IfSome before.limit (λ limit. length after.bytes < limit)
+
+-- The first reply is taken away: it is not too long. No byte after it is scanned.
+pub record TakesFirst (before : PendingReplies) (reply : ℕ × List Bytes)
+    (after : PendingReplies) : Type 0 where
+  pub takes : TakesReply before.bytes reply after.bytes
+  pub within : IfSome before.limit (λ limit. takes.used ≤ limit)
+  pub none_scanned : after.unscanned ≡ length after.bytes
+
+-- what an error means for the pending bytes: memory is asked for only where a complete reply is
+-- there
+abbrev pub HasError : Option ℕ → Bytes → NextReplyError → Type 0
+HasError limit bytes Malformed = IsMalformed (within_limit limit bytes)
+HasError limit bytes TooLong = IsTooLongReply limit bytes
+HasError limit bytes OutOfMemory = HasFront (within_limit limit bytes)
+
+-- a reply, if any, or an error
+abbrev pub NextReply : Type 0 → Type 0
+NextReply Error = Result (Option ReceivedReply) Error
+
+abbrev pub TakesNextReply : PendingReplies → NextReply NextReplyError → PendingReplies → Type 0
+TakesNextReply before result after = MatchResult result
+    (λ next. MatchOption next
+    (HasNoReply before after)
+    (λ reply. TakesFirst before (content reply) after))
+    (λ error. HasError before.limit before.bytes error × (after.bytes ≡ before.bytes))
+
+-- the reply of this code and these lines is returned, or its lines were out of memory
+abbrev pub IsReturned : ℕ → List Bytes → NextReply NextReplyError → Type 0
+IsReturned code lines result = MatchResult result
+    (λ next. MatchOption next ⊥ (λ reply. content reply ≡ (code, lines)))
+    (λ error. error ≡ OutOfMemory)
+
+-- how many bytes were scanned to copy the lines of the reply, if any
+abbrev pub copy_scans : {E : Type 0} → NextReply E → ℕ
+copy_scans (Ok (Some reply)) = scanned_to_copy (contents reply.lines)
+copy_scans (Ok None) = 0
+copy_scans (Err _) = 0
+
+-- how many bytes were scanned then: all that were not scanned before, and at a reply those that its
+-- copying scans; at an error at most those, and all once more
+pub record CountsNextReply (before : PendingReplies) (result : NextReply NextReplyError)
+    (after : PendingReplies) : Type 0 where
+  pub exact : OnOk result
+      (after.tests + after.unscanned ≡ before.tests + before.unscanned + copy_scans result)
+  pub twice : OnOk result
+      (after.tests + after.unscanned + length after.bytes
+      ≤ before.tests + before.unscanned + length before.bytes)
+  pub error : OnErr result (after.tests ≤ before.tests + before.unscanned + length before.bytes)
+  pub unscanned : OnErr result (after.unscanned ≤ before.unscanned)
+  pub never_fewer : before.tests ≤ after.tests
+
+-- how many bytes the buffer holds then: the pending ones only, where there is no reply
+abbrev pub held_after : {E : Type 0} → PendingReplies → NextReply E → PendingReplies → ℕ
+held_after before (Ok None) after = length after.bytes
+held_after before (Ok (Some _)) after = before.buffered
+held_after before (Err _) after = before.buffered
+
+-- the error that a refusal is
+abbrev pub error_of : ReadReplyError → NextReplyError
+error_of refusal.Malformed = Malformed
+error_of refusal.OutOfMemory = OutOfMemory

@@ -1,0 +1,234 @@
+//! The pending bytes, and the replies that they begin with.
+ghost use Rattle.std.specs.Prelude.{◌≡◌, ◌<◌, ◌≤◌, ◌+◌, ℕ, List, None, Some, OnOk, OnErr, IfSome, IsTrue, false, length};
+ghost use Rattle.unftp_control_defs.specs.Bytes.{Bytes};
+ghost use Rattle.unftp_control_defs.specs.ReplyReader.{FrontReply, IsPartial, IsMalformed};
+ghost use Rattle.unftp_control_defs.specs.ReplyLimit.{IsTooLongReply};
+ghost use Rattle.unftp_control_read.specs.ReplyDecoding.{IsReturned, TakesNextReply, CountsNextReply, all_cleared, copy_scans, held_after, nothing_pending, only_pending, piece_pushed, within_limit};
+ghost use Rattle.unftp_control_read.specs.Receiving.{AppendsPending};
+
+use crate::errors::{NextReplyError, ReceiveError};
+use crate::receiving::{PIECE, read_after};
+use crate::reply::ReceivedReply;
+use crate::search::Search;
+use crate::{Front, read_front};
+use std::alloc::{AllocError, Global};
+use std::io::Read;
+use std::marker::Model;
+use unftp_control_count::Count;
+
+/// Cuts replies from an input that comes in pieces: for a client with an event loop of its own. A
+/// piece is pushed, and replies are taken until there is none; between two of them the client does
+/// what it likes, and after the last it may clear what is pending.
+// The pending bytes begin at `start`: the replies before it are taken. The search, which counts
+// from `start`, keeps how far it has come, so that no byte is searched again with each piece.
+#[derive(Drop)]
+pub struct ReplyDecoder {
+    buf: Vec<u8>,
+    start: usize,
+    limit: Option<usize>,
+    search: Search,
+    tests: Count,
+}
+
+impl Model for ReplyDecoder {
+    ghost use Rattle.std.specs.Prelude.{length, drop};
+    ghost use Rattle.unftp_control_read.specs.ReplyDecoding.{IsReplyDecoder, PendingReplies, pending_replies};
+
+    ghost Value = { PendingReplies };
+
+    ghost view = { λ decoder. pending_replies decoder.limit decoder.search decoder.tests
+        (drop decoder.start decoder.buf.items)
+        (length decoder.buf.items) };
+
+    ghost invariant = { λ decoder. IsReplyDecoder decoder.limit decoder.search
+        decoder.buf.items decoder.start };
+}
+
+impl ReplyDecoder {
+    /// A decoder that was pushed nothing. A reply may have any length, and all its bytes are kept
+    /// until its last line is complete: for a server that is not trusted, set a limit.
+    pub fn new(alloc: Global) -> ReplyDecoder
+        ensures { result ≡ nothing_pending None }
+    {
+        ReplyDecoder {
+            buf: Vec::new(alloc),
+            start: 0,
+            limit: None,
+            search: Search::new(),
+            tests: Count::new(),
+        }
+    }
+
+    /// A decoder that was pushed nothing. A reply may have at most `limit` bytes, its line ends
+    /// counted (RFC 959 names no limit).
+    pub fn with_limit(alloc: Global, limit: usize) -> ReplyDecoder
+        requires { 1 ≤ limit }
+        ensures { result ≡ nothing_pending (Some limit) }
+    {
+        ReplyDecoder {
+            buf: Vec::new(alloc),
+            start: 0,
+            limit: Some(limit),
+            search: Search::new(),
+            tests: Count::new(),
+        }
+    }
+
+    /// The pending bytes: those after the last reply that was taken. Where `next_reply` has
+    /// returned `None`, they are a part of a reply.
+    pub fn pending(&self) -> &[u8]
+        ensures { result.now ≡ self.now.bytes }
+    {
+        self.buf.as_slice().split_at(self.start).1
+    }
+
+    /// How many bytes were scanned for a line feed. Only contracts see it.
+    pub fn tests(&self) -> Count
+        ensures { result ≡ self.now.tests }
+    {
+        self.tests.same()
+    }
+
+    /// Appends a piece to the pending bytes. When out of memory, nothing changes.
+    pub fn push(&mut self, piece: &[u8]) -> Result<(), AllocError>
+        ensures ok { OnOk result (self.new ≡ piece_pushed self.old piece.now) }
+        ensures err { OnErr result (self.new ≡ self.old) }
+    {
+        self.buf.extend_from_slice(piece)?;
+        // each move is paid for by as many bytes that were taken
+        if self.start > self.buf.len() - self.start {
+            self.settle();
+        }
+        Ok(())
+    }
+
+    /// Takes the first reply of the pending bytes (RFC 959, section 4.2), or returns `None` where
+    /// they are only a part of one. At an error all bytes stay: so `Malformed` and `TooLong` are
+    /// returned from then on, whatever is pushed, and after `OutOfMemory` the next call finds the
+    /// same reply again.
+    ///
+    /// Where it returns `None`, its buffer holds the pending bytes only: so with a limit, where all
+    /// replies are taken before the next piece is pushed, it never holds more than the limit and
+    /// one piece.
+    pub fn next_reply(&mut self) -> Result<Option<ReceivedReply>, NextReplyError>
+        ensures takes_next { TakesNextReply self.old result self.new }
+        ensures whole { (code : ℕ) (lines : List Bytes) (used : ℕ)
+            → FrontReply self.old.bytes code lines used
+            → IfSome self.old.limit (λ limit. used ≤ limit)
+            → IsReturned code lines result }
+        ensures partial { IsPartial self.old.bytes
+            → ¬ IsTooLongReply self.old.limit self.old.bytes
+            → result ≡ Ok None }
+        ensures malformed { IsMalformed (within_limit self.old.limit self.old.bytes)
+            → result ≡ Err NextReplyError.Malformed }
+        ensures too_long { IsTooLongReply self.old.limit self.old.bytes
+            → result ≡ Err NextReplyError.TooLong }
+        ensures buffered { self.new.buffered ≡ held_after self.old result self.new }
+        ensures limit { self.new.limit ≡ self.old.limit }
+        ensures tests { OnOk result (self.new.tests + self.new.unscanned
+            ≡ self.old.tests + self.old.unscanned + copy_scans result) }
+        // Each byte is scanned at most twice: by the search, and where its reply is copied.
+        ensures twice { OnOk result
+            (self.new.tests + self.new.unscanned + length self.new.bytes
+            ≤ self.old.tests + self.old.unscanned + length self.old.bytes) }
+        ensures error { OnErr result
+            (self.new.tests ≤ self.old.tests + self.old.unscanned + length self.old.bytes) }
+        ensures unscanned { OnErr result (self.new.unscanned ≤ self.old.unscanned) }
+        ensures never_fewer { self.old.tests ≤ self.new.tests }
+    {
+        let reply = self.take_next()?;
+        if reply.is_none() {
+            self.settle();
+        }
+        Ok(reply)
+    }
+
+    /// Takes the first reply, whose bytes stay in the buffer.
+    fn take_next(&mut self) -> Result<Option<ReceivedReply>, NextReplyError>
+        ensures takes_next { TakesNextReply self.old result self.new }
+        ensures whole { (code : ℕ) (lines : List Bytes) (used : ℕ)
+            → FrontReply self.old.bytes code lines used
+            → IfSome self.old.limit (λ limit. used ≤ limit)
+            → IsReturned code lines result }
+        ensures partial { IsPartial self.old.bytes
+            → ¬ IsTooLongReply self.old.limit self.old.bytes
+            → result ≡ Ok None }
+        ensures malformed { IsMalformed (within_limit self.old.limit self.old.bytes)
+            → result ≡ Err NextReplyError.Malformed }
+        ensures too_long { IsTooLongReply self.old.limit self.old.bytes
+            → result ≡ Err NextReplyError.TooLong }
+        ensures buffered { self.new.buffered ≡ self.old.buffered }
+        ensures limit { self.new.limit ≡ self.old.limit }
+        ensures counts { CountsNextReply self.old result self.new }
+    {
+        let alloc = *self.buf.allocator();
+        let (_, pending) = self.buf.as_slice().split_at(self.start);
+        let searched = first_bytes(pending, self.limit);
+        match read_front(alloc, &mut self.search, searched, &mut self.tests)? {
+            Front::Whole { code, lines, used } => {
+                self.start += used;
+                self.search = Search::new();
+                Ok(Some(ReceivedReply { code, lines }))
+            }
+            Front::Partial => {
+                if is_full(searched, self.limit) {
+                    return Err(NextReplyError::TooLong);
+                }
+                Ok(None)
+            }
+        }
+    }
+
+    /// Removes the replies that were taken: the pending bytes move to the start of the buffer.
+    fn settle(&mut self)
+        ensures { self.new ≡ only_pending self.old }
+    {
+        if self.start == 0 {
+            return;
+        }
+        let kept = self.buf.len() - self.start;
+        self.buf.copy_within(self.start.., 0);
+        self.buf.truncate(kept);
+        self.start = 0;
+    }
+
+    /// Drops all pending bytes, as a client does before TLS begins: no later reply comes of them.
+    pub fn clear(&mut self)
+        ensures { self.new ≡ all_cleared self.old }
+    {
+        self.buf.clear();
+        self.start = 0;
+        self.search.restart();
+    }
+
+    /// Reads once, and appends what is read to the pending bytes. When out of memory, nothing is
+    /// read.
+    pub(crate) fn fill_from<R: Read>(&mut self, reader: &mut R) -> Result<usize, ReceiveError>
+        ensures { AppendsPending PIECE self.old self.new
+            (R.remaining reader.old) (R.remaining reader.new) result }
+    {
+        read_after(&mut self.buf, reader)
+    }
+}
+
+/// The bytes that a reply may have: the first `limit` ones, or all.
+fn first_bytes(bytes: &[u8], limit: Option<usize>) -> &[u8]
+    ensures { result.now ≡ within_limit limit bytes.now }
+{
+    match limit {
+        Some(limit) => bytes.split_at(limit.min(bytes.len())).0,
+        None => bytes,
+    }
+}
+
+/// Whether there are as many bytes as a reply may have.
+fn is_full(bytes: &[u8], limit: Option<usize>) -> bool
+    ensures yes { IsTrue result
+        → (most : ℕ) × (limit ≡ Some most) × (most ≤ length bytes.now) }
+    ensures no { result ≡ false → IfSome limit (λ most. length bytes.now < most) }
+{
+    match limit {
+        Some(most) => most <= bytes.len(),
+        None => false,
+    }
+}

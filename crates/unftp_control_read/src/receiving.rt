@@ -1,0 +1,95 @@
+//! Replies from a reader.
+ghost use Rattle.std.specs.Prelude.{◌≡◌, ◌+◌, ◌*◌, ◌≤◌, length, max, ◌++◌, replicate, IfOk, IfSome, IfNone, OnOk, OnErr};
+ghost use Rattle.unftp_control_defs.specs.ReplyReader.{IsPartial};
+ghost use Rattle.unftp_control_defs.specs.ReplySteps.{TakesReply};
+ghost use Rattle.unftp_control_read.specs.ReplyDecoding.{content};
+ghost use Rattle.unftp_control_read.specs.Receiving.{AppendsPiece, Receives};
+
+use crate::decoder::ReplyDecoder;
+use crate::errors::ReceiveError;
+use crate::reply::ReceivedReply;
+use std::alloc::AllocError;
+use std::io::Read;
+
+/// How many bytes are read at a time, at most.
+pub(crate) const PIECE: usize = 4096;
+
+/// Appends as many zeros as are read at a time.
+fn add_room(buf: &mut Vec<u8>) -> Result<(), AllocError>
+    ensures ok { OnOk result (buf.new.items ≡ buf.old.items ++ replicate PIECE 0) }
+    ensures err { OnErr result (buf.new.items ≡ buf.old.items) }
+{
+    match buf.len().checked_add(PIECE) {
+        Some(end) => buf.resize(end, 0),
+        None => Err(AllocError),
+    }
+}
+
+/// Reads once, and appends what is read. When out of memory, nothing is read.
+pub(crate) fn read_after<R: Read>(buf: &mut Vec<u8>, reader: &mut R) -> Result<usize, ReceiveError>
+    ensures { AppendsPiece PIECE buf.old.items buf.new.items
+        (R.remaining reader.old) (R.remaining reader.new) result }
+{
+    let len = buf.len();
+    add_room(buf)?;
+    let (_, room) = buf.as_mut_slice().split_at_mut(len);
+    match reader.read(room) {
+        Ok(n) => {
+            buf.truncate(len + n);
+            Ok(n)
+        }
+        Err(error) => {
+            buf.truncate(len);
+            Err(ReceiveError::Read(error))
+        }
+    }
+}
+
+impl ReplyDecoder {
+    /// Takes the first reply of the pending bytes, and reads on while they are only a part of one
+    /// (RFC 959, section 4.2), at most 4096 bytes at a time. It returns `None` only at the reader's
+    /// end, with less than a reply pending. Bytes that were read after the reply stay pending.
+    ///
+    /// At an error all bytes stay pending, those that were read too. `Read` is any error of the
+    /// reader, also `Interrupted`: after it, and after `OutOfMemory`, the call can be made again.
+    /// `Malformed` and `TooLong` are returned from then on.
+    pub fn read_reply<R: Read>(
+        &mut self,
+        reader: &mut R,
+    ) -> Result<Option<ReceivedReply>, ReceiveError>
+        // The reply is the first of the pending bytes and the remaining input, and what follows it
+        // is left.
+        ensures reply { IfOk result (λ next. IfSome next (λ reply.
+            IfSome (R.remaining reader.old) (λ input. IfSome (R.remaining reader.new) (λ left.
+            TakesReply (self.old.bytes ++ input) (content reply) (self.new.bytes ++ left))))) }
+        // The whole input is a part of a reply, and pending.
+        ensures end { IfOk result (λ next. IfNone next (IfSome (R.remaining reader.old) (λ input.
+            IsPartial (self.old.bytes ++ input)
+            × (self.new.bytes ≡ self.old.bytes ++ input)))) }
+        // Each byte is scanned at most twice: by the search, and where its reply is copied.
+        ensures tests { OnOk result
+            (IfSome (R.remaining reader.old) (λ input. IfSome (R.remaining reader.new) (λ left.
+            self.new.tests + self.new.unscanned + length self.new.bytes + 2 * length left
+            ≤ self.old.tests + self.old.unscanned + length self.old.bytes + 2 * length input))) }
+        // The same of any reader, with what is so at each error.
+        ensures receives { Receives self.old (R.remaining reader.old) result
+            self.new (R.remaining reader.new) }
+        ensures limit { self.new.limit ≡ self.old.limit }
+        // With a limit, no more is pending then than the limit and one read, or than before.
+        ensures pending { IfSome self.old.limit (λ limit.
+            length self.new.bytes ≤ max (length self.old.bytes) (limit + 4095)) }
+        ensures buffered { IfSome self.old.limit (λ limit.
+            self.new.buffered ≤ max self.old.buffered (limit + 4095)) }
+        ensures never_fewer { self.old.tests ≤ self.new.tests }
+    {
+        for _turn in 0..u64::MAX {
+            if let Some(reply) = self.next_reply()? {
+                return Ok(Some(reply));
+            }
+            if self.fill_from(reader)? == 0 {
+                return Ok(None);
+            }
+        }
+        Err(ReceiveError::TooManyReads)
+    }
+}
