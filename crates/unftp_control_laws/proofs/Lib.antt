@@ -5,3 +5,4 @@ mod RunEndLemmas
 mod StepLemmas
 mod LossyTextLemmas
 mod EventStepLemmas
+mod ReplyStepLemmas

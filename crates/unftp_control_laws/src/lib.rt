@@ -2,7 +2,7 @@
 //! that is computed to the relation that a reader believes.
 #![tactic(auto)]
 
-ghost use Rattle.std.specs.Prelude.{◌≡◌, ◌↔◌, ◌⊎◌, ◌<◌, ◌≤◌, ◌+◌, ◌^◌, ℕ, Option, true, false, List, [], ◌++◌, length, flat_map, Some, None, Ok, codes};
+ghost use Rattle.std.specs.Prelude.{◌≡◌, ◌↔◌, ◌<◌, ◌≤◌, ◌+◌, ◌^◌, ℕ, Option, true, false, List, [], ◌++◌, length, Some, None, Ok, codes};
 ghost use Rattle.std.specs.Char.{IsScalar, encode_utf8};
 ghost use Rattle.std.specs.List.{AllByRecursion, concat, sum_by};
 ghost use Rattle.std.specs.Str.Lossy.{utf8_lossy};
@@ -13,18 +13,22 @@ ghost use Rattle.unftp_control_defs.specs.EventSteps.{EventStep, AreEventSteps, 
 ghost use Rattle.unftp_control_defs.specs.Pieces.{events_in_turn, events_in_turn_with_limit, replies_in_turn};
 ghost use Rattle.unftp_control_defs.specs.Events.{Refused, events};
 ghost use Rattle.unftp_control_defs.specs.FtpCommand.{FtpCommand, User, HasTypedFields};
-ghost use Rattle.unftp_control_defs.specs.FtpReply.{FtpReply, IsPlain, encoded, reply_as_read};
 ghost use Rattle.unftp_control_defs.specs.LineLimit.{line_too_long, event_with_limit, events_with_limit, run_with_limit, ends_with_limit, text_with_limit, unread, after_end};
 ghost use Rattle.unftp_control_defs.specs.Lines.{IsLine, Lines, lines_of, incomplete_line};
 ghost use Rattle.unftp_control_defs.specs.LossyText.{Character, LossyText, first_part};
 ghost use Rattle.unftp_control_defs.specs.Outcome.{outcome};
 ghost use Rattle.unftp_control_defs.specs.Paths.{ListPath, path_of};
-ghost use Rattle.unftp_control_defs.specs.ReplyReader.{FrontReply, HasFront, IsMalformed, IsPartial, ReadsBack};
 ghost use Rattle.unftp_control_defs.specs.Run.{last_state, replies};
 ghost use Rattle.unftp_control_defs.specs.Steps.{AreSteps, Step, last_place};
 ghost use Rattle.unftp_control_defs.specs.Values.{Reads, HasNoValue, value_of, escaped};
 ghost use Rattle.unftp_control_defs.specs.Verbs.{Cut, verb_of, parameter_of, upper};
 
+pub mod replies;
+
+pub use replies::{
+    any_cutting_of_replies, one_front, one_reading, replies_read_back, replies_stay,
+    too_long_replies_stay,
+};
 use unftp_control_engine::Handler;
 
 /// An input has one list of lines and one incomplete line, `lines_of` and `incomplete_line` (RFC
@@ -120,9 +124,9 @@ pub fn any_cutting<H: Handler>()
         ≡ replies H.law s (run_with_limit limit H.law s (concat pieces)) }
 {}
 
-/// Whatever the pieces, and whenever an event is taken: the events that a server takes, and then those
-/// of the pending bytes, are the events of the input; and where no line is pending, they are all of
-/// them, and the incomplete line is pending.
+/// Whatever the pieces, and whenever an event is taken: the events that a server takes, and then
+/// those of the pending bytes, are the events of the input; and where no line is pending, they are
+/// all of them, and the incomplete line is pending.
 pub fn events_taken_in_steps()
     ensures events { (limit : Option ℕ) (steps : List EventStep) (pending : Bytes)
         → AreEventSteps limit [] steps pending
@@ -185,34 +189,4 @@ pub fn tests_add_up()
         ≡ sum_by (λ step. step.removed) steps + last_place 0 steps }
     ensures bound { (steps : List Step) → AreSteps 0 0 steps
         → sum_by (λ step. step.tests) steps ≤ sum_by (λ step. step.added) steps }
-{}
-
-/// The bytes begin with a reply, or with a part of one, or they are malformed; and exactly one of
-/// these holds (RFC 959, section 4.2).
-pub fn one_reading()
-    ensures some { (bytes : Bytes) → HasFront bytes ⊎ (IsPartial bytes ⊎ IsMalformed bytes) }
-    ensures front_is_whole { (bytes : Bytes) → HasFront bytes → ¬ IsPartial bytes }
-    ensures front_is_formed { (bytes : Bytes) → HasFront bytes → ¬ IsMalformed bytes }
-    ensures partial_is_formed { (bytes : Bytes) → IsPartial bytes → ¬ IsMalformed bytes }
-{}
-
-/// The bytes begin with at most one reply, which has one code, one list of lines and one length,
-/// which is within them.
-pub fn one_front()
-    ensures only { (bytes : Bytes) (code other : ℕ) (lines others : List Bytes) (used taken : ℕ)
-        → FrontReply bytes code lines used → FrontReply bytes other others taken
-        → (code ≡ other) × (lines ≡ others) × (used ≡ taken) }
-    ensures within { (bytes : Bytes) (code : ℕ) (lines : List Bytes) (used : ℕ)
-        → FrontReply bytes code lines used
-        → (0 < used) × (used ≤ length bytes) }
-{}
-
-/// The bytes of plain replies are read back as what they show, and as nothing else, whatever
-/// follows (RFC 959, section 4.2).
-pub fn replies_read_back()
-    ensures front { (reply : FtpReply) (more : Bytes) → IsPlain reply
-        → (code : ℕ) (lines : List Bytes) → reply_as_read reply ≡ Some (code, lines)
-        → FrontReply (encoded reply ++ more) code lines (length (encoded reply)) }
-    ensures all { (replies : List FtpReply) → AllByRecursion IsPlain replies
-        → ReadsBack (flat_map encoded replies) replies }
 {}
