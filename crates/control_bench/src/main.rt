@@ -4,6 +4,7 @@
 #![tactic(auto)]
 
 mod measure;
+mod received;
 mod served;
 #[cfg(test)]
 mod tests;

@@ -1,6 +1,7 @@
 //! What is measured.
 ghost use Rattle.std.specs.Prelude.{◌≡◌, IfOk};
 
+use crate::received::{receive_large_reply, receive_long_reply, receive_short_replies};
 use crate::served::{Discarding, Okay};
 use std::alloc::Global;
 use std::fmt::{Display, Formatter, Write};
@@ -88,6 +89,11 @@ pub enum Measure {
     DigitLines,
     ReadShortReplies,
     ReadLongReply,
+    /// In pieces of so many bytes, or whole.
+    ReceiveLongReply(Option<usize>),
+    ReceiveLargeReply,
+    /// So many of one line.
+    ReceiveShortReplies(usize),
 }
 
 impl Display for Measure {
@@ -101,6 +107,21 @@ impl Display for Measure {
             }
             Measure::Feed(bytes) => {
                 return write!(f, "a line of {bytes} bytes in one piece, fed and answered");
+            }
+            Measure::ReceiveLongReply(Some(bytes)) => {
+                return write!(
+                    f,
+                    "1,000 bytes of a reply of 10,000 lines in pieces of {bytes} bytes, received"
+                );
+            }
+            Measure::ReceiveShortReplies(replies) => {
+                return write!(f, "a reply of {replies} of one line in one piece, received");
+            }
+            Measure::ReceiveLongReply(None) => {
+                "1,000 bytes of a reply of 10,000 lines in one piece, received"
+            }
+            Measure::ReceiveLargeReply => {
+                "1,000 bytes of a reply of 15 MB in pieces of 4096 bytes, received"
             }
             Measure::Decode => "a line of 1,000 in one buffer, decoded",
             Measure::Parse => "the same lines, each parsed where it lies",
@@ -116,7 +137,7 @@ impl Display for Measure {
 
 impl Measure {
     /// All of them.
-    pub const ALL: [Measure; 15] = [
+    pub const ALL: [Measure; 22] = [
         Measure::Decode,
         Measure::DecodeSlice(1_000),
         Measure::DecodeLimited(1_000),
@@ -132,6 +153,13 @@ impl Measure {
         Measure::DigitLines,
         Measure::ReadShortReplies,
         Measure::ReadLongReply,
+        Measure::ReceiveLongReply(Some(1)),
+        Measure::ReceiveLongReply(Some(64)),
+        Measure::ReceiveLongReply(Some(4096)),
+        Measure::ReceiveLongReply(None),
+        Measure::ReceiveLargeReply,
+        Measure::ReceiveShortReplies(1_000),
+        Measure::ReceiveShortReplies(10_000),
     ];
 
     /// How long one line or reply takes, over one round.
@@ -152,6 +180,9 @@ impl Measure {
             Measure::DigitLines => encode_lines(rt, &DIGIT_LINES),
             Measure::ReadShortReplies => read_replies(rt, READ_LINES / 100, 100),
             Measure::ReadLongReply => read_replies(rt, 1, READ_LINES),
+            Measure::ReceiveLongReply(piece) => receive_long_reply(rt, piece),
+            Measure::ReceiveLargeReply => receive_large_reply(rt),
+            Measure::ReceiveShortReplies(replies) => receive_short_replies(rt, replies),
         }
     }
 }
@@ -162,7 +193,7 @@ fn no_command() -> io::Error {
 }
 
 /// The error of a round that runs out of memory.
-fn no_memory() -> io::Error {
+pub fn no_memory() -> io::Error {
     io::ErrorKind::OutOfMemory.into()
 }
 
@@ -336,7 +367,7 @@ fn encode_lines(rt: &HostRuntime, lines: &[&'static str]) -> io::Result<u128> {
 }
 
 /// The bytes of a reply of so many lines, two at least.
-fn reply_of(alloc: Global, lines: usize) -> io::Result<Vec<u8>> {
+pub fn reply_of(alloc: Global, lines: usize) -> io::Result<Vec<u8>> {
     let mut bytes = Vec::from_slice(alloc, b"213-Status of files\r\n")?;
     for _ in 2..lines {
         bytes.extend_from_slice(b" 1234 bytes of a file named so\r\n")?;

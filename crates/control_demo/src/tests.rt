@@ -1,4 +1,5 @@
 //! The program over inputs and outputs in memory, and the engine over other handlers.
+mod appended;
 mod counted;
 mod ending;
 mod engine;

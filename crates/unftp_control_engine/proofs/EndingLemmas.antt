@@ -209,17 +209,6 @@ module _ {S : Type 0} (law : Law S) where
       handler_kept = failures;
     }
 
-    pub answered : (result : Result (Unit {0}) ServeError) → n.state ≡ law.next m.state e → n.failures ≡ m.failures →
-        Sends result (encoded (law.says m.state e)) m.output n.output → RunOutcome law m (e ∷ []) n result
-    answered (Ok x) state failures v = sent-at state failures v
-    answered (Err (Read x)) state failures v = absurd v
-    answered (Err (Write x)) state failures v = broke-at state failures v
-    answered (Err WriteZero) state failures v = broke-at state failures v
-    answered (Err (Handler x)) state failures v = absurd v
-    answered (Err OutOfMemory) state failures v = absurd v
-    answered (Err Stopped) state failures v = absurd v
-    answered (Err TooManyReads) state failures v = absurd v
-
     pub no_memory-at : n.state ≡ law.next m.state e → n.failures ≡ m.failures → n.output ≡ m.output → RanOutOfMemory law m (e ∷ []) n
     no_memory-at state failures same = record {
       done = [];
@@ -231,6 +220,17 @@ module _ {S : Type 0} (law : Law S) where
       no_write_failed = rw same refl;
       handler_kept = failures;
     }
+
+    pub answered : (result : Result (Unit {0}) ServeError) → n.state ≡ law.next m.state e → n.failures ≡ m.failures →
+        Sends result (encoded (law.says m.state e)) m.output n.output → RunOutcome law m (e ∷ []) n result
+    answered (Ok x) state failures v = sent-at state failures v
+    answered (Err (Read x)) state failures v = absurd v
+    answered (Err (Write x)) state failures v = broke-at state failures v
+    answered (Err WriteZero) state failures v = broke-at state failures v
+    answered (Err (Handler x)) state failures v = absurd v
+    answered (Err OutOfMemory) state failures v = no_memory-at state failures v
+    answered (Err Stopped) state failures v = absurd v
+    answered (Err TooManyReads) state failures v = absurd v
 
   -- in a loop over events: some are answered, and these are left
   pub record Answering (m : Snapshot S) (es : List FtpEvent) (n : Snapshot S) (left : List FtpEvent) : Type 0 where

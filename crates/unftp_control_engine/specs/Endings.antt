@@ -17,13 +17,17 @@ pub record Snapshot (S : Type 0) : Type 0 where
   pub failures : ℕ
   pub output : OutputState
 
-abbrev pub snapshot_of : {H S W : Type 0} → (H → S) → (H → ℕ) → (W → Option Bytes) → H → Output W
-    → Snapshot S
-snapshot_of state failures contents handler output = record {
+abbrev pub snapshot_with : {H S K : Type 0} → (H → S) → (H → ℕ) → (K → OutputState) → H → K → Snapshot S
+snapshot_with state failures output_state handler output = record {
   state = state handler;
   failures = failures handler;
-  output = output_state_of contents output;
+  output = output_state output;
 }
+
+abbrev pub snapshot_of : {H S W : Type 0} → (H → S) → (H → ℕ) → (W → Option Bytes) → H → Output W
+    → Snapshot S
+snapshot_of state failures contents =
+    snapshot_with state failures (output_state_of contents)
 
 -- The handler took all events, and its replies were written and flushed; nothing failed.
 pub record AllAnswered {S : Type 0} (law : Law S) (before : Snapshot S) (events : List FtpEvent)

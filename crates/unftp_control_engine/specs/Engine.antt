@@ -1,11 +1,11 @@
 -- What contracts see of an engine.
-use Rattle.std.specs.Prelude.{◌≡◌, ℕ, ◌+◌, Bool, true, false, if◌then◌else◌, List, [], ◌++◌, length, Option}
+use Rattle.std.specs.Prelude.{◌≡◌, ℕ, ◌<◌, ◌≤◌, ◌+◌, max, not, Bool, true, false, if◌then◌else◌, List, [], ◌++◌, length, Option, IfSome}
 use Rattle.unftp_control_defs.specs.Bytes.{Bytes}
 use Rattle.unftp_control_defs.specs.Lines.{incomplete_line}
 use Rattle.unftp_control_defs.specs.Events.{FtpEvent}
-use Rattle.unftp_control_defs.specs.LineLimit.{events_with_limit, run_with_limit, ends_with_limit, unread}
+use Rattle.unftp_control_defs.specs.LineLimit.{events_with_limit, run_with_limit, ends_with_limit, unread, after_end}
 use Rattle.unftp_control_defs.specs.Run.{Law, last_state}
-use Rattle.unftp_control_events.specs.Decoder.{saturating_u64}
+use Rattle.unftp_control_events.specs.Decoder.{kept_length, saturating_u64}
 use Rattle.unftp_control_engine.specs.declared.engine.Phase.{Phase}
 use Rattle.unftp_control_engine.specs.declared.engine.Phase.TheVariants as phase
 
@@ -82,3 +82,28 @@ pub record Leaves {S : Type 0} (law : Law S) (before : EngineState) (piece : Byt
   pub incomplete : after.incomplete
       ≡ (if after.finished then [] else incomplete_line (bytes_with before piece))
   pub left : after.left ≡ saturating_u64 (length (unread_with before law s piece))
+
+-- What a call that is fed a piece leaves of the engine, whether it returns Ok or an error.
+pub record Fed {S : Type 0} (law : Law S) (before : EngineState) (piece : Bytes) (s : S) (ok : Bool)
+    (after : EngineState) : Type 0 where
+  -- An engine that failed stays as it is. Each error makes it one, and nothing else does.
+  pub stays : before.failed ≡ true → after ≡ before
+  pub failed : after.failed ≡ not ok
+  pub kept : ok ≡ false → (after.left ≡ before.left) × (after.finished ≡ false)
+  -- At Ok each byte of the piece was scanned for a line feed exactly once, but those after the line
+  -- that ended the run; at an error at most once, and the count does not fall.
+  pub tests : after.tests ≤ before.tests + length piece
+  pub tested : IsRunning before → ok ≡ true
+      → after.tests + length (after_end before.limit law s (bytes_with before piece))
+      ≡ before.tests + length piece
+  pub never_fewer : before.tests ≤ after.tests
+  -- With a limit, the buffer never holds more than the limit and the piece together, and at Ok it
+  -- holds fewer bytes than the limit.
+  pub bound : IfSome before.limit (λ limit.
+      after.held ≤ max before.held (limit + length piece))
+  pub room : ok ≡ true → IfSome before.limit (λ limit. after.buffered < limit)
+  -- At Ok it holds only the incomplete line, or nothing of one that is too long.
+  pub buffered : ok ≡ true → after.buffered ≡ kept_length after.limit after.incomplete
+  pub held : IsRunning before → ok ≡ true
+      → after.held ≡ max before.held (before.buffered + length piece)
+  pub limit : after.limit ≡ before.limit

@@ -1,10 +1,12 @@
 -- What writing does to an output.
-use Rattle.std.specs.Prelude.{◌≡◌, ℕ, ◌+◌, ◌<◌, ◌≤◌, ◌==◌, ◌&&◌, not, if◌then◌else◌, [], ◌∷◌, ◌++◌, length, List, Option, Result, MatchResult}
+use Rattle.std.specs.Prelude.{◌≡◌, ℕ, ◌+◌, ◌<◌, ◌≤◌, ◌==◌, ◌&&◌, not, if◌then◌else◌, [], ◌∷◌, ◌++◌, length, List, Option, Some, Result, MatchResult}
 use Rattle.std.specs.Io.KnownBytes.{Appends}
+use Rattle.std.specs.declared.vec.Vec.{Vec}
+use Rattle.std.specs.declared.alloc.Global.{Global}
 use Rattle.unftp_control_defs.specs.Bytes.{Bytes}
 use Rattle.unftp_control_engine.specs.declared.output.Output.{Output}
 use Rattle.unftp_control_engine.specs.declared.error.ServeError.{ServeError}
-use Rattle.unftp_control_engine.specs.declared.error.ServeError.TheVariants.{Write, WriteZero}
+use Rattle.unftp_control_engine.specs.declared.error.ServeError.TheVariants.{Write, WriteZero, OutOfMemory}
 
 -- What contracts see of an output: what was written, where the writer's contracts say
 -- it; how often it failed; and how many bytes were written since it was last flushed.
@@ -20,6 +22,10 @@ output_state_of contents output = record {
   failures = output.failures;
   unflushed = output.unflushed;
 }
+
+-- of a vector that replies are appended to: no write to it fails, and nothing is left to flush
+abbrev pub appended_state_of : Vec ℕ Global → OutputState
+appended_state_of bytes = record { written = Some bytes.items; failures = 0; unflushed = 0 }
 
 -- One write of so many bytes: an error is a failure, and so is a write that takes nothing of bytes
 -- that are not empty.
@@ -75,7 +81,12 @@ Writes result bytes before after = MatchResult result
     (λ _. Wrote bytes before after)
     (λ error. WriterFailed error (CutShort bytes before after))
 
+-- the error of a sending: the writer failed, or memory ran out, and nothing was written
+abbrev pub SendFailed : ServeError → Bytes → OutputState → OutputState → Type 0
+SendFailed OutOfMemory bytes before after = after ≡ before
+SendFailed error bytes before after = WriterFailed error (CutShort bytes before after)
+
 abbrev pub Sends : {T : Type 0} → Result T ServeError → Bytes → OutputState → OutputState → Type 0
 Sends result bytes before after = MatchResult result
     (λ _. Sent bytes before after)
-    (λ error. WriterFailed error (CutShort bytes before after))
+    (λ error. SendFailed error bytes before after)

@@ -6,18 +6,16 @@ ghost use Rattle.unftp_control_defs.specs.LineLimit.{run_with_limit, ends_with_l
 ghost use Rattle.unftp_control_defs.specs.Lines.{incomplete_line};
 ghost use Rattle.unftp_control_defs.specs.Run.{text_of};
 ghost use Rattle.unftp_control_reply.specs.ReplyMeaning.{reply_of};
-ghost use Rattle.unftp_control_engine.specs.Endings.{RunOutcome, WriteFailed, HandlerFailed, RanOutOfMemory, OnWrite, OnHandler, OnMemory, ReadsNothing, snapshot_of};
+ghost use Rattle.unftp_control_engine.specs.Endings.{RunOutcome, WriteFailed, HandlerFailed, RanOutOfMemory, OnWrite, OnHandler, OnMemory, ReadsNothing, snapshot_with};
 ghost use Rattle.unftp_control_events.specs.Decoder.{kept_length, no_bytes, saturating_u64};
 ghost use Rattle.unftp_control_events.specs.EventMeaning.{event_meant};
-ghost use Rattle.unftp_control_engine.specs.Engine.{IsRunning, Leaves, bytes_with, run_with, fresh, more_left};
+ghost use Rattle.unftp_control_engine.specs.Engine.{Fed, IsRunning, Leaves, run_with, fresh, more_left};
 ghost use Rattle.unftp_control_engine.specs.Writing.{Flushed};
 
 use crate::error::ServeError;
 use crate::handler::Handler;
-use crate::output::Output;
-use crate::send::send;
+use crate::send::Sink;
 use std::alloc::Global;
-use std::io::Write;
 use std::marker::Model;
 use unftp_control_codecs::encode_reply;
 use unftp_control_count::Count;
@@ -34,41 +32,43 @@ fn encode_into(reply: &Reply, reply_bytes: &mut Vec<u8>) -> Result<(), ControlCh
 }
 
 /// Passes the event to the handler, and sends its reply, whose bytes are held in `reply_bytes`.
-fn answer_event<H: Handler, W: Write>(
+fn answer_event<H: Handler, K: Sink>(
     reply_bytes: &mut Vec<u8>,
     event: Event,
     handler: &mut H,
-    output: &mut Output<W>,
+    output: &mut K,
 ) -> Result<(), ServeError>
-    ensures { RunOutcome H.law
-        (snapshot_of H.state H.failures W.contents handler.old output.old)
+    ensures outcome { RunOutcome H.law
+        (snapshot_with H.state H.failures K.state handler.old output.old)
         (event_meant event ∷ [])
-        (snapshot_of H.state H.failures W.contents handler.new output.new)
+        (snapshot_with H.state H.failures K.state handler.new output.new)
         result }
+    ensures cuts { OnWrite result K.cuts }
 {
     let reply = match handler.handle(*reply_bytes.allocator(), event) {
         Ok(reply) => reply,
         Err(error) => return Err(ServeError::Handler(error)),
     };
     match encode_into(&reply, reply_bytes) {
-        Ok(()) => send(output, reply_bytes.as_slice()),
+        Ok(()) => output.send(reply_bytes.as_slice()),
         Err(_) => Err(ServeError::OutOfMemory),
     }
 }
 
 /// Answers each pending line, up to the one that leaves the handler done: returns whether there was
 /// one.
-fn answer_lines<H: Handler, W: Write>(
+fn answer_lines<H: Handler, K: Sink>(
     decoder: &mut EventDecoder,
     reply_bytes: &mut Vec<u8>,
     handler: &mut H,
-    output: &mut Output<W>,
+    output: &mut K,
 ) -> Result<bool, ServeError>
     ensures outcome { RunOutcome H.law
-        (snapshot_of H.state H.failures W.contents handler.old output.old)
+        (snapshot_with H.state H.failures K.state handler.old output.old)
         (run_with_limit decoder.old.limit H.law (H.state handler.old) decoder.old.bytes)
-        (snapshot_of H.state H.failures W.contents handler.new output.new)
+        (snapshot_with H.state H.failures K.state handler.new output.new)
         result }
+    ensures cuts { OnWrite result K.cuts }
     ensures ended { IfOk result (λ ended. ended
         ≡ ends_with_limit decoder.old.limit H.law (H.state handler.old) decoder.old.bytes) }
     ensures unread { OnOk result (decoder.new.bytes
@@ -109,19 +109,20 @@ struct Answered {
 
 /// Answers the lines of the pending bytes and a piece after them. Once the run has ended, the bytes
 /// after its last line are dropped.
-fn answer_piece<H: Handler, W: Write>(
+fn answer_piece<H: Handler, K: Sink>(
     decoder: &mut EventDecoder,
     reply_bytes: &mut Vec<u8>,
     piece: &[u8],
     handler: &mut H,
-    output: &mut Output<W>,
+    output: &mut K,
 ) -> Result<Answered, ServeError>
     ensures outcome { RunOutcome H.law
-        (snapshot_of H.state H.failures W.contents handler.old output.old)
+        (snapshot_with H.state H.failures K.state handler.old output.old)
         (run_with_limit decoder.old.limit H.law (H.state handler.old)
         (decoder.old.bytes ++ piece.now))
-        (snapshot_of H.state H.failures W.contents handler.new output.new)
+        (snapshot_with H.state H.failures K.state handler.new output.new)
         result }
+    ensures cuts { OnWrite result K.cuts }
     ensures ended { IfOk result (λ answered. answered.ended
         ≡ ends_with_limit decoder.old.limit H.law (H.state handler.old)
         (decoder.old.bytes ++ piece.now)) }
@@ -266,9 +267,10 @@ impl Engine {
     }
 
     /// Takes the next piece of the input, and answers each line that is now complete (RFC 959,
-    /// section 5.3): its event is passed to the handler, and its reply is written and flushed,
-    /// before the next line is taken. The bytes after the last line feed are kept; with a limit,
-    /// those of a line that is too long are dropped, and `left` still counts them.
+    /// section 5.3): its event is passed to the handler, and its reply is written and flushed, or
+    /// appended where `output` is a `Vec`, before the next line is taken. The bytes after the last
+    /// line feed are kept; with a limit, those of a line that is too long are dropped, and `left`
+    /// still counts them.
     ///
     /// Where an event leaves the handler done, the engine is finished: its reply is the last, and
     /// the bytes after its line are dropped. From then on a piece is counted by `left`, and nothing
@@ -277,78 +279,57 @@ impl Engine {
     /// `Handler`, `Write`, `WriteZero` and `OutOfMemory` come where the handler, the writer or an
     /// allocation fails: the replies to the lines before are written and flushed, and `left` stays.
     /// Each makes the engine a failed one: from then on it returns `Stopped` and does nothing.
-    pub fn feed<H: Handler, W: Write>(
+    pub fn feed<H: Handler, K: Sink>(
         &mut self,
         piece: &[u8],
         handler: &mut H,
-        output: &mut Output<W>,
+        output: &mut K,
     ) -> Result<(), ServeError>
         // What was written and taken at each answer, over the run of the handler over the lines of
         // the pending bytes and the piece.
         ensures outcome { IsRunning self.old → RunOutcome H.law
-            (snapshot_of H.state H.failures W.contents handler.old output.old)
+            (snapshot_with H.state H.failures K.state handler.old output.old)
             (run_with self.old H.law (H.state handler.old) piece.now)
-            (snapshot_of H.state H.failures W.contents handler.new output.new)
+            (snapshot_with H.state H.failures K.state handler.new output.new)
             result }
         // The same, answer by answer.
         ensures written { IsRunning self.old
-            → OnOk result (Appends (W.contents output.old.writer) (W.contents output.new.writer)
+            → OnOk result (Appends (K.state output.old).written (K.state output.new).written
             (text_of H.law (H.state handler.old)
             (run_with self.old H.law (H.state handler.old) piece.now))) }
         ensures flushed { IsRunning self.old
             → OnOk result (Flushed
             (text_of H.law (H.state handler.old)
             (run_with self.old H.law (H.state handler.old) piece.now)) []
-            output.old.unflushed output.new.unflushed) }
+            (K.state output.old).unflushed (K.state output.new).unflushed) }
         ensures leaves { IsRunning self.old
             → OnOk result (Leaves H.law self.old piece.now
             (H.state handler.old) (H.state handler.new) self.new) }
-        ensures quiet { OnOk result ((output.new.failures ≡ output.old.failures)
+        ensures quiet { OnOk result (((K.state output.new).failures ≡ (K.state output.old).failures)
             × (H.failures handler.new ≡ H.failures handler.old)) }
         ensures write { OnWrite result (WriteFailed H.law
-            (snapshot_of H.state H.failures W.contents handler.old output.old)
+            (snapshot_with H.state H.failures K.state handler.old output.old)
             (run_with self.old H.law (H.state handler.old) piece.now)
-            (snapshot_of H.state H.failures W.contents handler.new output.new)) }
+            (snapshot_with H.state H.failures K.state handler.new output.new)) }
         ensures handler { OnHandler result (HandlerFailed H.law
-            (snapshot_of H.state H.failures W.contents handler.old output.old)
+            (snapshot_with H.state H.failures K.state handler.old output.old)
             (run_with self.old H.law (H.state handler.old) piece.now)
-            (snapshot_of H.state H.failures W.contents handler.new output.new)) }
+            (snapshot_with H.state H.failures K.state handler.new output.new)) }
         ensures memory { OnMemory result (RanOutOfMemory H.law
-            (snapshot_of H.state H.failures W.contents handler.old output.old)
+            (snapshot_with H.state H.failures K.state handler.old output.old)
             (run_with self.old H.law (H.state handler.old) piece.now)
-            (snapshot_of H.state H.failures W.contents handler.new output.new)) }
+            (snapshot_with H.state H.failures K.state handler.new output.new)) }
         ensures never { ReadsNothing result }
+        ensures cuts { OnWrite result K.cuts }
         // An engine whose run has ended counts the piece, and does nothing else.
         ensures over { self.old.finished ≡ true → IsTrue (is_ok result)
             × (handler.new ≡ handler.old) × (output.new ≡ output.old)
             × (self.new ≡ more_left self.old piece.now) }
-        // An engine that failed does nothing, and each error makes it one.
+        // An engine that failed asks no handler and writes nothing.
         ensures stopped { IsErrOf result ServeError.Stopped ↔ (self.old.failed ≡ true) }
         ensures unchanged { self.old.failed ≡ true
             → (handler.new ≡ handler.old) × (output.new ≡ output.old) }
-        ensures stays { self.old.failed ≡ true → self.new ≡ self.old }
-        ensures failed { self.new.failed ≡ is_err result }
-        ensures kept { OnErr result ((self.new.left ≡ self.old.left)
-            × (self.new.finished ≡ false)) }
-        // At Ok each byte of the piece was scanned for a line feed exactly once, but those after
-        // the line that ended the run; at an error at most once, and the count does not fall.
-        ensures tests { self.new.tests ≤ self.old.tests + length piece.now }
-        ensures tested { IsRunning self.old → OnOk result (self.new.tests
-            + length (after_end self.old.limit H.law (H.state handler.old)
-            (bytes_with self.old piece.now))
-            ≡ self.old.tests + length piece.now) }
-        ensures never_fewer { self.old.tests ≤ self.new.tests }
-        // With a limit, the buffer never holds more than the limit and the piece together, and at
-        // Ok it holds fewer bytes than the limit.
-        ensures bound { IfSome self.old.limit (λ limit.
-            self.new.held ≤ max self.old.held (limit + length piece.now)) }
-        ensures room { OnOk result (IfSome self.old.limit (λ limit. self.new.buffered < limit)) }
-        // At Ok it holds only the incomplete line, or nothing of one that is too long.
-        ensures buffered { OnOk result
-            (self.new.buffered ≡ kept_length self.new.limit self.new.incomplete) }
-        ensures held { IsRunning self.old → OnOk result
-            (self.new.held ≡ max self.old.held (self.old.buffered + length piece.now)) }
-        ensures limit { self.new.limit ≡ self.old.limit }
+        ensures fed { Fed H.law self.old piece.now (H.state handler.old) (is_ok result) self.new }
     {
         match self.phase {
             Phase::Failed => return Err(ServeError::Stopped),

@@ -9,10 +9,12 @@ ghost use Rattle.unftp_control_error.specs.ErrorMeaning.{fault_of};
 ghost use Rattle.unftp_control_error.specs.ErrorParts.{KindAndSource};
 ghost use Rattle.unftp_control_engine.specs.Endings.{Snapshot, AllAnswered, WriteFailed, HandlerFailed, RanOutOfMemory, RunEnded, OnWrite, OnHandler, OnMemory, ReadsNothing};
 ghost use Rattle.unftp_control_events.specs.Decoder.{kept_length, saturating_u64};
-ghost use Rattle.unftp_control_engine.specs.Engine.{EngineState, IsRunning, Leaves, events_with, has_failed, has_finished, more_left};
+ghost use Rattle.unftp_control_engine.specs.Engine.{EngineState, Fed, IsRunning, Leaves, events_with, has_failed, has_finished, more_left};
 ghost use Rattle.unftp_control_engine.specs.Examples.{counting, counting_to_five, noop, snapshot, waiting};
 ghost use Rattle.unftp_control_engine.specs.declared.engine.Phase.TheVariants.{Running, Finished, Failed};
-ghost use Rattle.unftp_control_engine.specs.Writing.{Begins, Flushed};
+ghost use Rattle.unftp_control_engine.specs.Writing.{Begins, Flushed, OutputState, Sends, appended_state_of};
+ghost use Rattle.std.specs.declared.vec.Vec.{Vec};
+ghost use Rattle.std.specs.declared.alloc.Global.{Global};
 
 use crate::error::ServeError;
 
@@ -127,4 +129,41 @@ pub fn errors_of_feed()
         → OnHandler {T = ℕ} (Err (ServeError.Handler error)) (λ found. found ≡ fault)
         → fault_of error ≡ fault }
     ensures on_memory { OnMemory {T = ℕ} (Err ServeError.OutOfMemory) ⊥ → ⊥ }
+{}
+
+/// What a call leaves of an engine that had the start of a line, at an error and at Ok.
+pub fn an_engine_is_fed()
+    ensures error { (after : EngineState) → Fed counting (waiting None) (codes "OP\r\nP") 3 false after
+        → (after.failed ≡ true) × (after.left ≡ 2) × (after.finished ≡ false)
+        × (2 ≤ after.tests) × (after.tests ≤ 7) }
+    ensures ok { (after : EngineState) → Fed counting (waiting None) (codes "OP\r\nP") 3 true after
+        → (after.failed ≡ false) × (after.tests ≡ 7) × (after.held ≡ 7) }
+    ensures ended { (after : EngineState)
+        → Fed counting_to_five (waiting None) (codes "OP\r\nP") 4 true after → after.tests ≡ 6 }
+    ensures limited { (ok : _) (after : EngineState)
+        → Fed counting (waiting (Some 5)) (codes "OP\r\nP") 3 ok after
+        → (after.limit ≡ Some 5) × (after.held ≤ 10) }
+    ensures room { (after : EngineState)
+        → Fed counting (waiting (Some 5)) (codes "OP\r\nP") 3 true after → after.buffered < 5 }
+{}
+
+/// What each error of a sending means: the writer failed, or nothing was written.
+pub fn sendings_fail()
+    ensures write { (before after : OutputState) (error : _)
+        → Sends {T = ℕ} (Err (ServeError.Write error)) (codes "x") before after
+        → before.failures < after.failures }
+    ensures write_zero { (before after : OutputState)
+        → Sends {T = ℕ} (Err ServeError.WriteZero) (codes "x") before after
+        → before.failures < after.failures }
+    ensures memory { (before after : OutputState)
+        → Sends {T = ℕ} (Err ServeError.OutOfMemory) (codes "x") before after → after ≡ before }
+    ensures stopped { (before after : OutputState)
+        → Sends {T = ℕ} (Err ServeError.Stopped) (codes "x") before after → ⊥ }
+{}
+
+/// What replies are appended to: its bytes are those that were written.
+pub fn replies_are_appended()
+    ensures written { (bytes : Vec ℕ Global)
+        → (appended_state_of bytes).written ≡ Some bytes.items }
+    ensures quiet { (bytes : Vec ℕ Global) → (appended_state_of bytes).failures ≡ 0 }
 {}

@@ -13,5 +13,6 @@ pub use engine::Engine;
 pub use error::ServeError;
 pub use handler::Handler;
 pub use output::Output;
+pub use send::Sink;
 pub use unftp_control_count::Count;
 pub use unftp_control_events::{Event, EventDecoder};

@@ -8,4 +8,6 @@ mod service;
 
 pub use input::Input;
 pub use service::{Served, serve, serve_with_limit};
-pub use unftp_control_engine::{Count, Engine, Event, EventDecoder, Handler, Output, ServeError};
+pub use unftp_control_engine::{
+    Count, Engine, Event, EventDecoder, Handler, Output, ServeError, Sink,
+};

@@ -1,8 +1,8 @@
 //! Tests that hold whichever allocation fails: `tools/failed_allocations` fails each in turn.
 use crate::responses::Responses;
-use crate::tests::assert_held;
 use crate::tests::splits::served;
 use crate::tests::streams::{Pieces, Room};
+use crate::tests::{assert_bytes, assert_held};
 use std::alloc::Global;
 use std::process::Abort;
 use unftp_control::error::ControlChanErrorKind;
@@ -52,6 +52,21 @@ fn what_is_written_at_an_error_are_whole_replies(rt: HostRuntime) {
         Err(error) => {
             assert!(rt; is_out_of_memory(error));
             assert_stopped(&rt, engine, responses, output);
+        }
+    }
+}
+
+#[test]
+fn what_is_appended_at_an_error_are_whole_replies(rt: HostRuntime) {
+    let mut engine = Engine::new(rt.alloc());
+    let mut responses = Responses::new();
+    let mut replies = Vec::new(rt.alloc());
+    match engine.feed(b"NOOP\r\nNOOP\r\n", &mut responses, &mut replies) {
+        Ok(()) => assert_bytes(&rt, replies.as_slice(), b"200 OK\r\n200 OK\r\n"),
+        Err(error) => {
+            assert!(rt; is_out_of_memory(error));
+            assert!(rt; replies.is_empty() || replies.as_slice() == b"200 OK\r\n".as_slice());
+            assert_stopped(&rt, engine, responses, Output::new(Room::ample(rt.alloc())));
         }
     }
 }

@@ -13,7 +13,7 @@ loop-event-preserved g c =
     let before = c.loop-event.invariant in
     let first = rw c.in-Some.is at c.in_ok-event.ensures.takes_next in
     record {
-      halfway = Halfway-next _ _ _ _ _ _ _ before.halfway before.limit _ first _ c.in_ok-answer_event.ensures (sym c.done.ensures ∙ c.if-done.false);
+      halfway = Halfway-next _ _ _ _ _ _ _ before.halfway before.limit _ first _ c.in_ok-answer_event.ensures.outcome (sym c.done.ensures ∙ c.if-done.false);
       tests = omega (arith, before.tests, c.in_ok-event.ensures.tests);
       limit = c.in_ok-event.ensures.limit ∙ before.limit;
       held = c.in_ok-event.ensures.held ∙ before.held;
@@ -25,25 +25,25 @@ returns-in_err-answer_event-clause-outcome g c =
     let before = c.loop-event.invariant in
     let first = rw c.in-Some.is at c.in_ok-event.ensures.takes_next in
     let error = err_from_is_err_and c.from_residual-in_err-answer_event.result c.from_residual-in_err-answer_event.ensures.1 in
-    rw (error.1, error.2) (line-failed _ _ _ _ _ _ _ before.halfway before.limit _ first _ _ c.in_err-answer_event.ensures)
+    rw (error.1, error.2) (line-failed _ _ _ _ _ _ _ before.halfway before.limit _ first _ _ c.in_err-answer_event.ensures.outcome)
 
 pub returns-then-done-clause-outcome : goal.returns-then-done-clause-outcome
 returns-then-done-clause-outcome g c =
     let before = c.loop-event.invariant in
     let first = rw c.in-Some.is at c.in_ok-event.ensures.takes_next in
-    last_line-answered _ _ _ _ _ _ _ before.halfway before.limit _ first _ c.in_ok-answer_event.ensures (sym c.done.ensures ∙ c.if-done.true)
+    last_line-answered _ _ _ _ _ _ _ before.halfway before.limit _ first _ c.in_ok-answer_event.ensures.outcome (sym c.done.ensures ∙ c.if-done.true)
 
 pub returns-then-done-clause-ended : goal.returns-then-done-clause-ended
 returns-then-done-clause-ended g c =
     let before = c.loop-event.invariant in
     let first = rw c.in-Some.is at c.in_ok-event.ensures.takes_next in
-    last_line-ended _ _ _ _ _ _ _ before.halfway before.limit _ first _ c.in_ok-answer_event.ensures (sym c.done.ensures ∙ c.if-done.true)
+    last_line-ended _ _ _ _ _ _ _ before.halfway before.limit _ first _ c.in_ok-answer_event.ensures.outcome (sym c.done.ensures ∙ c.if-done.true)
 
 pub returns-then-done-clause-unread : goal.returns-then-done-clause-unread
 returns-then-done-clause-unread g c =
     let before = c.loop-event.invariant in
     let first = rw c.in-Some.is at c.in_ok-event.ensures.takes_next in
-    last_line-unread _ _ _ _ _ _ _ before.halfway before.limit _ first _ c.in_ok-answer_event.ensures (sym c.done.ensures ∙ c.if-done.true)
+    last_line-unread _ _ _ _ _ _ _ before.halfway before.limit _ first _ c.in_ok-answer_event.ensures.outcome (sym c.done.ensures ∙ c.if-done.true)
 
 pub returns-then-done-clause-unscanned : goal.returns-then-done-clause-unscanned
 returns-then-done-clause-unscanned g c =

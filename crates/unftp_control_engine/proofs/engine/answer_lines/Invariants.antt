@@ -1,13 +1,13 @@
 use Rattle.std.proofs.Common.{◌≡◌, ◌≤◌, ◌+◌, length}
-use Rattle.unftp_control_engine.specs.Endings.{snapshot_of}
+use Rattle.unftp_control_engine.specs.Endings.{snapshot_with}
 use Rattle.unftp_control_engine.proofs.LineRunLemmas.{Halfway}
 use Rattle.unftp_control_engine.proofs.engine.answer_lines.Given as goal
 
 abbrev pub invariant-loop-event : goal.invariant-loop-event
 invariant-loop-event g l = record {
   halfway : Halfway g.H.Handler.law l.fn.decoder.limit
-      (snapshot_of g.H.Handler.state g.H.Handler.failures g.W.Write.contents l.fn.handler l.fn.output)
-      (snapshot_of g.H.Handler.state g.H.Handler.failures g.W.Write.contents l.handler l.output)
+      (snapshot_with g.H.Handler.state g.H.Handler.failures g.K.Sink.state l.fn.handler l.fn.output)
+      (snapshot_with g.H.Handler.state g.H.Handler.failures g.K.Sink.state l.handler l.output)
       l.fn.decoder.bytes l.decoder.bytes;
   tests : l.decoder.tests + l.decoder.unscanned ≡ l.fn.decoder.tests + l.fn.decoder.unscanned;
   limit : l.decoder.limit ≡ l.fn.decoder.limit;

@@ -24,7 +24,7 @@ loop-turn-preserved g c =
     let fed = c.in_ok-feed.ensures in
     record {
       serving = Serving-next _ _ _ _ _ _ _ _ _ c.loop-turn.invariant.serving c.split_at.result.0.now _ c.feed.new.self given short c.in-Ok.ensures.quiet
-          (fed.outcome running) (fed.leaves running) (fed.tested running) (fed.held running) some (sym c.finished.ensures ∙ c.if-finished.false) fed.limit fed.buffered;
+          (fed.outcome running) (fed.leaves running) (fed.fed.tested running refl) (fed.fed.held running refl) some (sym c.finished.ensures ∙ c.if-finished.false) fed.fed.limit (fed.fed.buffered refl);
       room = omega (arith, c.loop-turn.invariant.room, c.read.auto.buf);
     }
 
@@ -38,7 +38,7 @@ returns-then-finished-clause-ok g c =
     let served = c.served_by-then-finished.ensures in
     rw (served.left, served.done, served.tests, served.held)
     (Serving-done _ _ _ _ _ _ _ _ _ c.loop-turn.invariant.serving c.split_at.result.0.now _ c.feed.new.self given short c.in-Ok.ensures.quiet
-    (fed.outcome running) (fed.leaves running) (fed.tested running) (fed.held running) finished)
+    (fed.outcome running) (fed.leaves running) (fed.fed.tested running refl) (fed.fed.held running refl) finished)
 
 pub returns-clause-err : goal.returns-clause-err
 returns-clause-err g c = Serving-too_often _ _ _ _ _ _ _ _ c.loop-turn.invariant.serving (omega (arith, c.loop-turn-test.false))
