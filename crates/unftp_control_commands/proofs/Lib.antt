@@ -1,2 +1,5 @@
 mod YearLemmas
 pub mod FactTextLemmas
+mod ReplaceLemmas
+mod QuoteLemmas
+mod SingleLineLemmas

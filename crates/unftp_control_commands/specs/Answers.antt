@@ -1,6 +1,6 @@
 -- What each command answers, by what it asks for and how the server is set up.
-use Rattle.std.specs.Prelude.{ℕ, Bool, true, false, List, [], ◌∷◌, ◌++◌, decimal, codes}
-use Rattle.unftp_control_defs.specs.Bytes.{Bytes}
+use Rattle.std.specs.Prelude.{ℕ, Bool, true, false, List, [], ◌∷◌, ◌++◌, map, decimal, codes}
+use Rattle.unftp_control_defs.specs.Bytes.{Bytes, SP}
 use Rattle.unftp_control_defs.specs.FtpReply.{FtpReply, CodeAndMsg, MultiLine}
 use Rattle.unftp_control_defs.specs.declared.parameters.AuthParam.{AuthParam}
 use Rattle.unftp_control_defs.specs.declared.parameters.AuthParam.TheVariants.{Ssl, Tls}
@@ -64,26 +64,34 @@ abbrev pub opts_reply : Opt → FtpReply
 opts_reply (Utf8 true) = CodeAndMsg 200 (codes "Always in UTF-8 mode.")
 opts_reply (Utf8 false) = CodeAndMsg 504 (codes "Non UTF-8 mode not supported")
 
--- HELP (RFC 959, section 4.1.3)
+-- HELP, with these lines (RFC 959, section 4.1.3)
+abbrev pub help_reply_with : List Bytes → FtpReply
+help_reply_with lines = MultiLine 214 lines
+
 abbrev pub help_reply : FtpReply
-help_reply = MultiLine 214
+help_reply = help_reply_with
     (codes "Help:" ∷ codes "Powered by libunftp: 0.24.0"
     ∷ codes "View the docs at: https://unftp.rs/" ∷ [])
 
--- FEAT: the features in the order of their bytes, each after a space (RFC 2389, section 3.2)
+-- FEAT, with these features: each in a line of its own after a space, between a first and a last
+-- line (RFC 2389, section 3.2)
+abbrev pub feat_reply_with : List Bytes → FtpReply
+feat_reply_with listed = MultiLine 211
+    (codes "Extensions supported:" ∷ map (λ feature. SP ∷ feature) listed ++ codes "END" ∷ [])
+
+-- the features in the order of their bytes
 abbrev pub when : Bool → List Bytes → List Bytes
 when true lines = lines
 when false lines = []
 
 abbrev pub features : Bool → Bool → Bool → List Bytes
 features tls restart site_md5 =
-    when tls (codes " AUTH TLS" ∷ [])
-    ++ (codes " EPSV" ∷ codes " MDTM" ∷ codes " MLSD" ∷ codes " MLST" ∷ [])
-    ++ when tls (codes " PBSZ" ∷ codes " PROT" ∷ [])
-    ++ when restart (codes " REST STREAM" ∷ [])
-    ++ when site_md5 (codes " SITE MD5" ∷ [])
-    ++ (codes " SIZE" ∷ codes " UTF8" ∷ [])
+    when tls (codes "AUTH TLS" ∷ [])
+    ++ (codes "EPSV" ∷ codes "MDTM" ∷ codes "MLSD" ∷ codes "MLST" ∷ [])
+    ++ when tls (codes "PBSZ" ∷ codes "PROT" ∷ [])
+    ++ when restart (codes "REST STREAM" ∷ [])
+    ++ when site_md5 (codes "SITE MD5" ∷ [])
+    ++ (codes "SIZE" ∷ codes "UTF8" ∷ [])
 
 abbrev pub feat_reply : Bool → Bool → Bool → FtpReply
-feat_reply tls restart site_md5 = MultiLine 211
-    (codes "Extensions supported:" ∷ features tls restart site_md5 ++ codes "END" ∷ [])
+feat_reply tls restart site_md5 = feat_reply_with (features tls restart site_md5)

@@ -45,8 +45,9 @@ fn push_two_digits(text: &mut String, n: u8) -> Result<(), AllocError>
     Ok(())
 }
 
-/// The second of UTC that holds the instant, where its year is not before 0.
-fn modify_text(alloc: Global, instant: Timestamp) -> Result<Option<String>, AllocError>
+/// The second of UTC that holds the instant, as YYYYMMDDHHMMSS (RFC 3659, section 2.3), or `None`
+/// where its year is before 0. This is the text of the modify fact and of the reply to MDTM.
+pub fn modify_text(alloc: Global, instant: Timestamp) -> Result<Option<String>, AllocError>
     ensures { IfOk result (λ text. IsTimeText instant.nanosecond (option_map string_bytes text)) }
 {
     let utc = Offset::UTC.to_datetime(instant);

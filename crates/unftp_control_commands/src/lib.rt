@@ -3,6 +3,7 @@
 
 mod auth;
 mod epsv;
+pub mod examples;
 mod facts;
 mod feat;
 mod help;
@@ -13,10 +14,11 @@ mod opts;
 mod prot;
 mod session;
 mod stru;
+mod texts;
 
 pub use auth::Auth;
 pub use epsv::{Epsv, Passive, make_epsv_reply, same_passives};
-pub use facts::{Metadata, format_facts, one_text_of_facts};
+pub use facts::{Metadata, format_facts, modify_text, one_text_of_facts};
 pub use feat::Feat;
 pub use help::Help;
 pub use mlst::Mlst;
@@ -25,4 +27,5 @@ pub use opts::Opts;
 pub use prot::Prot;
 pub use session::{SessionChange, same_changes};
 pub use stru::Stru;
+pub use texts::{quoted_path, quoted_paths_read_back, single_line_text, single_lines_read_back};
 pub use unftp_control_defs::parameters::{AuthParam, ModeParam, Opt, ProtParam, StruParam};
