@@ -1,0 +1,5 @@
+pub mod StageLemmas
+pub mod MemberLemmas
+pub mod AlikeLemmas
+pub mod LimitLemmas
+mod ExampleLemmas

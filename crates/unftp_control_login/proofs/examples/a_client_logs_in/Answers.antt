@@ -1,0 +1,45 @@
+use Rattle.std.proofs.Common.{[], ◌∷◌, ◌++◌, refl}
+use Rattle.unftp_control_defs.specs.FtpCommand.{Auth, Noop, Pwd}
+use Rattle.unftp_control_defs.specs.Events.{Command}
+use Rattle.unftp_control_defs.specs.declared.parameters.AuthParam.TheVariants.{Tls}
+use Rattle.unftp_control_login.specs.Examples.{anna, login, only_anna, pass, secret, user, wrong}
+use Rattle.unftp_control_login.proofs.ExampleLemmas.{not-logged-in, name-changed}
+use Rattle.unftp_control_login.proofs.examples.a_client_logs_in.Goals as goal
+
+pub returns-clause-member : goal.returns-clause-member
+returns-clause-member c = record {
+  before = user anna ∷ Command Noop ∷ [];
+  password = secret;
+  since = Command Pwd ∷ pass wrong ∷ [];
+  whole = refl;
+  named = record { before = []; since = Command Noop ∷ []; whole = refl; kept = (refl, tt) };
+  accepted = refl;
+  kept = (refl, (refl, tt));
+}
+
+pub returns-clause-nothing_sent : goal.returns-clause-nothing_sent
+returns-clause-nothing_sent c = not-logged-in only_anna [] refl
+
+pub returns-clause-name_only : goal.returns-clause-name_only
+returns-clause-name_only c = not-logged-in only_anna (user anna ∷ []) refl
+
+pub returns-clause-wrong_password : goal.returns-clause-wrong_password
+returns-clause-wrong_password c = not-logged-in only_anna (user anna ∷ pass wrong ∷ []) refl
+
+pub returns-clause-other_name : goal.returns-clause-other_name
+returns-clause-other_name c = not-logged-in only_anna (user wrong ∷ pass secret ∷ []) refl
+
+pub returns-clause-second_password : goal.returns-clause-second_password
+returns-clause-second_password c = not-logged-in only_anna (user anna ∷ pass wrong ∷ pass secret ∷ []) refl
+
+pub returns-clause-another_user : goal.returns-clause-another_user
+returns-clause-another_user c = not-logged-in only_anna (login ++ user wrong ∷ []) refl
+
+pub returns-clause-after_auth : goal.returns-clause-after_auth
+returns-clause-after_auth c = not-logged-in only_anna (login ++ Command (Auth Tls) ∷ []) refl
+
+pub returns-clause-name_given : goal.returns-clause-name_given
+returns-clause-name_given c = record { before = user wrong ∷ []; since = Command Noop ∷ []; whole = refl; kept = (refl, tt) }
+
+pub returns-clause-name_changed : goal.returns-clause-name_changed
+returns-clause-name_changed c = name-changed

@@ -1,0 +1,8 @@
+use Rattle.unftp_control_login.proofs.AlikeLemmas.{gate-text-hidden, limit-text-hidden}
+use Rattle.unftp_control_login.proofs.laws.passwords_stay_hidden.Goals as goal
+
+pub returns-clause-gate : goal.returns-clause-gate
+returns-clause-gate g c = gate-text-hidden g.H.Handler.law
+
+pub returns-clause-limit : goal.returns-clause-limit
+returns-clause-limit g c = limit-text-hidden g.H.Handler.law

@@ -1,0 +1,8 @@
+use Rattle.unftp_control_login.proofs.AlikeLemmas.{gate-text-logins, limit-text-logins}
+use Rattle.unftp_control_login.proofs.laws.refused_logins_look_alike.Goals as goal
+
+pub returns-clause-gate : goal.returns-clause-gate
+returns-clause-gate g c = gate-text-logins g.H.Handler.law
+
+pub returns-clause-limit : goal.returns-clause-limit
+returns-clause-limit g c = limit-text-logins g.H.Handler.law

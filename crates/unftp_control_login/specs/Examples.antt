@@ -1,0 +1,51 @@
+-- What the examples speak of.
+use Rattle.std.specs.Prelude.{◌≡◌, ℕ, ◌+◌, ◌==◌, ◌&&◌, List, [], ◌∷◌, bytes_eq, codes}
+use Rattle.unftp_control_defs.specs.Bytes.{Bytes}
+use Rattle.unftp_control_defs.specs.FtpCommand.{User, Pass}
+use Rattle.unftp_control_defs.specs.Events.{FtpEvent, Command, out_of_memory}
+use Rattle.unftp_control_defs.specs.FtpReply.{FtpReply, Nothing, CodeAndMsg}
+use Rattle.unftp_control_defs.specs.Run.{Law}
+use Rattle.unftp_control_login.specs.Login.{Accounts}
+
+abbrev pub anna : Bytes
+anna = codes "anna"
+
+abbrev pub secret : Bytes
+secret = codes "secret"
+
+abbrev pub wrong : Bytes
+wrong = codes "wrong"
+
+-- one account
+abbrev pub only_anna : Accounts
+only_anna name password = bytes_eq name anna && bytes_eq password secret
+
+abbrev pub user : Bytes → FtpEvent
+user name = Command (User name)
+
+abbrev pub pass : Bytes → FtpEvent
+pass password = Command (Pass password)
+
+abbrev pub login : List FtpEvent
+login = user anna ∷ pass secret ∷ []
+
+abbrev pub here : FtpReply
+here = CodeAndMsg 257 (codes "here")
+
+-- counts the events that it receives, and is done after nine
+abbrev pub counting : Law ℕ
+counting = record {
+  says = λ _ _. here;
+  next = λ s _. s + 1;
+  may_fail = λ _ _ fault. fault ≡ out_of_memory;
+  done = λ s. s == 9;
+}
+
+-- answers nothing
+abbrev pub silent : Law ℕ
+silent = record {
+  says = λ _ _. Nothing;
+  next = λ s _. s;
+  may_fail = λ _ _ fault. fault ≡ out_of_memory;
+  done = λ s. s == 9;
+}

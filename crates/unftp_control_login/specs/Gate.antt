@@ -1,0 +1,103 @@
+-- A login gate before a handler: what it answers itself, and what it passes on to the handler.
+use Rattle.std.specs.Prelude.{◌≡◌, Bool, true, false, if◌then◌else◌, ◌&&◌, ◌||◌, not, Option, Some, None, IfSome, unwrap_or, option_map, ◌⊎◌, codes}
+use Rattle.unftp_control_defs.specs.Bytes.{Bytes}
+use Rattle.unftp_control_defs.specs.FtpCommand.{User, Pass, Quit}
+use Rattle.unftp_control_defs.specs.Events.{FtpEvent, Command, out_of_memory}
+use Rattle.unftp_control_defs.specs.FtpReply.{FtpReply, CodeAndMsg}
+use Rattle.unftp_control_defs.specs.Run.{Law}
+use Rattle.unftp_control_login.specs.declared.stage.Stage.{Stage}
+use Rattle.unftp_control_login.specs.declared.stage.Stage.TheVariants.{NoName, Named, LoggedIn}
+use Rattle.unftp_control_login.specs.Login.{Accounts, needs_login, flushes_login}
+
+-- its replies (RFC 959, section 5.4)
+abbrev pub password_needed : FtpReply
+password_needed = CodeAndMsg 331 (codes "User name okay, need password")
+
+abbrev pub logged_in : FtpReply
+logged_in = CodeAndMsg 230 (codes "User logged in, proceed")
+
+abbrev pub not_accepted : FtpReply
+not_accepted = CodeAndMsg 530 (codes "Login incorrect")
+
+abbrev pub name_needed : FtpReply
+name_needed = CodeAndMsg 503 (codes "Send USER first")
+
+abbrev pub login_needed : FtpReply
+login_needed = CodeAndMsg 530 (codes "Log in with USER and PASS")
+
+abbrev pub is_logged_in : Stage → Bool
+is_logged_in LoggedIn = true
+is_logged_in stage = false
+
+abbrev pub is_quit : FtpEvent → Bool
+is_quit (Command Quit) = true
+is_quit event = false
+
+-- the name that this password logs in
+abbrev pub admitted : Accounts → Stage → Bytes → Option Bytes
+admitted accepts (Named name) password = if accepts name password then Some name else None
+admitted accepts stage password = None
+
+-- what is answered to a password, and where it leaves the login
+abbrev pub password_reply : Accounts → Stage → Bytes → FtpReply
+password_reply accepts (Named name) password =
+    if accepts name password then logged_in else not_accepted
+password_reply accepts stage password = name_needed
+
+abbrev pub stage_after_password : Accounts → Stage → Bytes → Stage
+stage_after_password accepts (Named name) password =
+    if accepts name password then LoggedIn else NoName
+stage_after_password accepts stage password = stage
+
+abbrev pub stage_after : Accounts → Stage → FtpEvent → Stage
+stage_after accepts stage (Command (User name)) = Named name
+stage_after accepts stage (Command (Pass password)) = stage_after_password accepts stage password
+stage_after accepts stage event = if flushes_login event then NoName else stage
+
+-- an event that needs a login, and has none
+abbrev pub is_barred : Stage → FtpEvent → Bool
+is_barred stage event = needs_login event && not (is_logged_in stage)
+
+-- what the gate answers itself: None where the reply is the handler's
+abbrev pub own_reply : Accounts → Stage → FtpEvent → Option FtpReply
+own_reply accepts stage (Command (User name)) = Some password_needed
+own_reply accepts stage (Command (Pass password)) = Some (password_reply accepts stage password)
+own_reply accepts stage event = if is_barred stage event then Some login_needed else None
+
+-- The event that the handler receives, if any. Of a login it receives USER, with the name, once the
+-- password is accepted.
+abbrev pub passed_on : Accounts → Stage → FtpEvent → Option FtpEvent
+passed_on accepts stage (Command (User name)) = None
+passed_on accepts stage (Command (Pass password)) =
+    option_map (λ name. Command (User name)) (admitted accepts stage password)
+passed_on accepts stage event = if is_barred stage event then None else Some event
+
+abbrev pub inner_after : {S : Type 0} → Law S → S → Option FtpEvent → S
+inner_after law inner None = inner
+inner_after law inner (Some event) = law.next inner event
+
+-- The accounts, which stay; how far the login has come; whether QUIT has come; and what the handler
+-- keeps.
+pub record Gated (S : Type 0) : Type 0 where
+  pub accepts : Accounts
+  pub stage : Stage
+  pub quit : Bool
+  pub inner : S
+
+abbrev pub gated_law : {S : Type 0} → Law S → Law (Gated S)
+gated_law law = record {
+  says = λ s event. unwrap_or (own_reply s.accepts s.stage event) (law.says s.inner event);
+  next = λ s event. record {
+    accepts = s.accepts;
+    stage = stage_after s.accepts s.stage event;
+    quit = s.quit || is_quit event;
+    inner = inner_after law s.inner (passed_on s.accepts s.stage event);
+  };
+  may_fail = λ s event fault. (fault ≡ out_of_memory)
+      ⊎ IfSome (passed_on s.accepts s.stage event) (λ passed. law.may_fail s.inner passed fault);
+  done = λ s. s.quit || law.done s.inner;
+}
+
+-- a gate before the first event
+abbrev pub closed : {S : Type 0} → Accounts → S → Gated S
+closed accepts inner = record { accepts = accepts; stage = NoName; quit = false; inner = inner }

@@ -1,0 +1,5 @@
+pub mod Login
+pub mod Gate
+pub mod LoginLimit
+pub mod Promises
+pub mod Examples

@@ -1,0 +1,115 @@
+//! Sessions worked out by hand: what the definitions of a login say of them.
+ghost use Rattle.std.specs.Prelude.{◌≡◌, ◌≢◌, ◌++◌, ℕ, true, false, [], ◌∷◌, None, Some, codes};
+ghost use Rattle.unftp_control_defs.specs.Bytes.{Bytes};
+ghost use Rattle.unftp_control_defs.specs.FtpCommand.{Auth, Ccc, Help, Mlst, Noop, Pbsz, Pwd, Quit, Syst};
+ghost use Rattle.unftp_control_defs.specs.Events.{Command, Refused};
+ghost use Rattle.unftp_control_defs.specs.FtpReply.{Nothing, CodeAndMsg, MultiLine};
+ghost use Rattle.unftp_control_defs.specs.LineLimit.{line_too_long};
+ghost use Rattle.unftp_control_defs.specs.Run.{last_state, replies};
+ghost use Rattle.unftp_control_defs.specs.declared.parameters.AuthParam.TheVariants.{Tls};
+ghost use Rattle.unftp_control_login.specs.Login.{GaveName, HasLoggedIn, IsLoggedIn, flushes_login, is_login, needs_login};
+ghost use Rattle.unftp_control_login.specs.Gate.{closed, gated_law, logged_in, login_needed, name_needed, not_accepted, password_needed};
+ghost use Rattle.unftp_control_login.specs.LoginLimit.{EndsWith, failed_in_run, limited_law, limited_to, too_many};
+ghost use Rattle.unftp_control_login.specs.Promises.{CanBeSent, IsRefusedLogin, IsSentPlain, IsTurnedAway, LearnsName, LooksAlike, MembersAlone, NoFailure, ReachesHandler, SendsPlainReplies, ServesMembersAlone, login_lines};
+ghost use Rattle.unftp_control_login.specs.Examples.{anna, counting, here, login, only_anna, pass, secret, silent, user, wrong};
+
+/// Which events need a login, and which undo one.
+pub fn logins_are_needed()
+    ensures needed { (needs_login (Command Pwd) ≡ true) × (needs_login (Command (Mlst None)) ≡ true)
+        × (needs_login (Command Ccc) ≡ true) }
+    ensures anyone { (needs_login (Command Noop) ≡ false) × (needs_login (Command Pbsz) ≡ false)
+        × (needs_login (Command Quit) ≡ false) × (needs_login (Refused line_too_long) ≡ false) }
+    ensures halves { (is_login (user anna) ≡ true) × (is_login (pass secret) ≡ true)
+        × (is_login (Command Noop) ≡ false) }
+    ensures flushed { (flushes_login (user anna) ≡ true)
+        × (flushes_login (Command (Auth Tls)) ≡ true) × (flushes_login (pass wrong) ≡ false) }
+{}
+
+/// A client logs in with a name and its password, and with nothing less.
+pub fn a_client_logs_in()
+    ensures member { HasLoggedIn only_anna anna
+        (user anna ∷ Command Noop ∷ pass secret ∷ Command Pwd ∷ pass wrong ∷ []) }
+    ensures nothing_sent { IsLoggedIn only_anna [] → ⊥ }
+    ensures name_only { IsLoggedIn only_anna (user anna ∷ []) → ⊥ }
+    ensures wrong_password { IsLoggedIn only_anna (user anna ∷ pass wrong ∷ []) → ⊥ }
+    ensures other_name { IsLoggedIn only_anna (user wrong ∷ pass secret ∷ []) → ⊥ }
+    // a refused password has used up the name
+    ensures second_password { IsLoggedIn only_anna (user anna ∷ pass wrong ∷ pass secret ∷ []) → ⊥ }
+    ensures another_user { IsLoggedIn only_anna (login ++ user wrong ∷ []) → ⊥ }
+    ensures after_auth { IsLoggedIn only_anna (login ++ Command (Auth Tls) ∷ []) → ⊥ }
+    ensures name_given { GaveName anna (user wrong ∷ user anna ∷ Command Noop ∷ []) }
+    ensures name_changed { GaveName anna (user anna ∷ user wrong ∷ []) → ⊥ }
+{}
+
+/// What a gate answers, and which events its handler receives: it counts them.
+pub fn a_gate_answers()
+    ensures replies { replies (gated_law counting) (closed only_anna 0)
+        (Command Pwd ∷ pass secret ∷ user anna ∷ pass wrong ∷ pass secret ∷ user anna
+        ∷ pass secret ∷ Command Pwd ∷ pass secret ∷ user anna ∷ Command Pwd ∷ [])
+        ≡ login_needed ∷ name_needed ∷ password_needed ∷ not_accepted ∷ name_needed
+        ∷ password_needed ∷ logged_in ∷ here ∷ name_needed ∷ password_needed ∷ login_needed ∷ [] }
+    ensures received { (last_state (gated_law counting) (closed only_anna 0)
+        (Command Pwd ∷ Command Noop ∷ user anna ∷ pass wrong ∷ [])).inner ≡ 1 }
+    ensures name { (last_state (gated_law counting) (closed only_anna 0) login).inner ≡ 1 }
+    ensures goes_on { (gated_law counting).done
+        (last_state (gated_law counting) (closed only_anna 0) login) ≡ false }
+    ensures quit { (gated_law counting).done
+        (last_state (gated_law counting) (closed only_anna 0) (Command Quit ∷ [])) ≡ true }
+    ensures handler_done { (gated_law counting).done (closed only_anna 9) ≡ true }
+{}
+
+/// Who is turned away, and who reaches the handler.
+pub fn events_are_gated()
+    ensures turned_away { IsTurnedAway counting only_anna 0 (user anna ∷ []) (Command Pwd) }
+    ensures member { IsTurnedAway counting only_anna 0 login (Command Pwd) → ⊥ }
+    ensures reaches { ReachesHandler counting only_anna 0 login (Command Pwd) }
+    ensures stranger { ReachesHandler counting only_anna 0 [] (Command Pwd) → ⊥ }
+    ensures learns { LearnsName counting only_anna 0 (user anna ∷ []) anna secret }
+    ensures no_name { LearnsName counting only_anna 0 (user anna ∷ []) anna wrong → ⊥ }
+{}
+
+/// What serving members alone means, of events and of bytes.
+pub fn members_are_served()
+    ensures no_failure { NoFailure (CodeAndMsg 399 []) × NoFailure Nothing }
+    ensures failure { NoFailure (CodeAndMsg 400 []) → ⊥ }
+    ensures failure_of_lines { NoFailure (MultiLine 530 []) → ⊥ }
+    ensures anyone_served { ServesMembersAlone only_anna counting 0 → ⊥ }
+    ensures anyone_served_in_bytes { MembersAlone None only_anna (codes "PWD\r\n") (codes "257 here\r\n") → ⊥ }
+    ensures stranger { MembersAlone None only_anna (codes "PWD\r\n") (codes "530 no\r\n") }
+    ensures plain { IsSentPlain (CodeAndMsg 100 (codes "x")) × SendsPlainReplies counting }
+    ensures nothing_sent { SendsPlainReplies silent → ⊥ }
+    ensures short_code { IsSentPlain (CodeAndMsg 99 []) → ⊥ }
+    ensures line_feed { IsSentPlain (MultiLine 200 (codes "a\n" ∷ [])) → ⊥ }
+{}
+
+/// Which passwords look alike, and which lines can be sent.
+pub fn refused_logins()
+    ensures alike { LooksAlike only_anna (pass wrong) (pass (codes "other")) }
+    ensures told_apart { LooksAlike only_anna (pass wrong) (pass secret) → ⊥ }
+    ensures other_events { LooksAlike only_anna (Command Noop) (Command Quit) → ⊥ }
+    ensures same_events { LooksAlike only_anna (Command Noop) (Command Noop) }
+    ensures sent { CanBeSent (Some 13) secret }
+    ensures too_long { CanBeSent (Some 12) secret → ⊥ }
+    ensures line_feed { CanBeSent None (codes "a\nb") → ⊥ }
+    ensures refused { IsRefusedLogin None only_anna anna wrong
+        × IsRefusedLogin None only_anna wrong secret }
+    ensures accepted { IsRefusedLogin None only_anna anna secret → ⊥ }
+    ensures lines { login_lines anna secret ≡ codes "USER anna\r\nPASS secret\r\n" }
+{}
+
+/// What a limit of two failed logins answers: the second is the last.
+pub fn a_limit_counts()
+    ensures replies { replies (limited_law (gated_law counting)) (limited_to 2 (closed only_anna 0))
+        (user anna ∷ pass wrong ∷ user anna ∷ pass secret ∷ pass wrong ∷ [])
+        ≡ password_needed ∷ not_accepted ∷ password_needed ∷ logged_in ∷ too_many ∷ [] }
+    ensures count { failed_in_run (limited_law (gated_law counting))
+        (limited_to 2 (closed only_anna 0))
+        (pass wrong ∷ user anna ∷ pass secret ∷ pass wrong ∷ pass wrong ∷ []) ≡ 2 }
+    ensures goes_on { (limited_law counting).done (limited_to 1 0) ≡ false }
+    ensures done { ((limited_law counting).done (limited_to 0 0) ≡ true)
+        × ((limited_law counting).done (limited_to 1 9) ≡ true) }
+    ensures last { EndsWith too_many (limited_law (gated_law counting))
+        (limited_to 1 (closed only_anna 0)) (Command Noop ∷ pass wrong ∷ Command Noop ∷ []) }
+    ensures not_last { EndsWith too_many (limited_law (gated_law counting))
+        (limited_to 2 (closed only_anna 0)) (pass wrong ∷ []) → ⊥ }
+{}

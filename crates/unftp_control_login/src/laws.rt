@@ -1,0 +1,135 @@
+//! What a login gate and a limit promise of all inputs, each the contract of a function that does
+//! nothing.
+ghost use Rattle.std.specs.Prelude.{◌≡◌, ◌≤◌, ◌++◌, ◌⊎◌, ℕ, [], true, false, List, Option, IsTrue};
+ghost use Rattle.std.specs.List.{AllZip};
+ghost use Rattle.unftp_control_defs.specs.Bytes.{Bytes};
+ghost use Rattle.unftp_control_defs.specs.Events.{FtpEvent, Command, events};
+ghost use Rattle.unftp_control_defs.specs.FtpCommand.{Quit};
+ghost use Rattle.unftp_control_defs.specs.LineLimit.{events_with_limit, text_with_limit};
+ghost use Rattle.unftp_control_defs.specs.Lines.{incomplete_line};
+ghost use Rattle.unftp_control_login.specs.Login.{Accounts, GaveName, IsLoggedIn, is_login, needs_login};
+ghost use Rattle.unftp_control_login.specs.Gate.{Gated, closed, gated_law};
+ghost use Rattle.unftp_control_login.specs.LoginLimit.{EndsWith, Limited, failed_in_run, limited_law, limited_to, too_many};
+ghost use Rattle.unftp_control_login.specs.Promises.{CanBeSent, IsRefusedLogin, IsTurnedAway, LearnsName, LooksAlike, MembersAlone, ReachesHandler, SendsPlainReplies, ServesMembersAlone, login_lines, pass_line};
+
+use unftp_control_engine::Handler;
+
+/// Whatever handler is behind the gate, and whatever came before: an event that needs a login comes
+/// after one, or it is answered 530 and the handler doesn't receive it (RFC 959, section 5.4).
+pub fn gated_by_login<H: Handler>()
+    ensures { (accepts : Accounts) (inner : H.State) (before : List FtpEvent) (event : FtpEvent)
+        → IsTrue (needs_login event)
+        → IsLoggedIn accepts before ⊎ IsTurnedAway H.law accepts inner before event }
+{}
+
+/// Each event but USER and PASS reaches the handler after a login, and one that needs no login
+/// always does; and where a password is accepted, the handler receives USER with the name.
+pub fn members_reach_the_handler<H: Handler>()
+    ensures member { (accepts : Accounts) (inner : H.State) (before : List FtpEvent)
+        (event : FtpEvent) → is_login event ≡ false → IsLoggedIn accepts before
+        → ReachesHandler H.law accepts inner before event }
+    ensures anyone { (accepts : Accounts) (inner : H.State) (before : List FtpEvent)
+        (event : FtpEvent) → is_login event ≡ false → needs_login event ≡ false
+        → ReachesHandler H.law accepts inner before event }
+    ensures name { (accepts : Accounts) (inner : H.State) (before : List FtpEvent)
+        (name password : Bytes) → GaveName name before → accepts name password ≡ true
+        → LearnsName H.law accepts inner before name password }
+{}
+
+/// Whatever handler is behind the gate, and whatever a client sends: an event that needs a login is
+/// answered with no failure only after a login. With a limit before the gate, it stays so.
+pub fn members_alone_are_served<H: Handler>()
+    ensures gate { (accepts : Accounts) (inner : H.State)
+        → ServesMembersAlone accepts (gated_law H.law) (closed accepts inner) }
+    ensures limit { (accepts : Accounts) (left : ℕ) (inner : H.State)
+        → ServesMembersAlone accepts (limited_law (gated_law H.law))
+        (limited_to left (closed accepts inner)) }
+{}
+
+/// The same in bytes, of a handler whose replies are sent and plain: whatever the input, a reply in
+/// the output that reports no failure, at the place of a command that needs a login, comes only
+/// after a USER and a PASS that the accounts accept.
+pub fn members_alone_are_served_in_bytes<H: Handler>()
+    ensures gate { SendsPlainReplies H.law
+        → (limit : Option ℕ) (accepts : Accounts) (inner : H.State) (input : Bytes)
+        → MembersAlone limit accepts input
+        (text_with_limit limit (gated_law H.law) (closed accepts inner) input) }
+    ensures limit { SendsPlainReplies H.law
+        → (limit : Option ℕ) (accepts : Accounts) (left : ℕ) (inner : H.State) (input : Bytes)
+        → MembersAlone limit accepts input
+        (text_with_limit limit (limited_law (gated_law H.law))
+        (limited_to left (closed accepts inner)) input) }
+{}
+
+/// What is written says of passwords only which of them are accepted: two inputs whose events differ
+/// in passwords that the accounts don't tell apart have one output.
+pub fn passwords_stay_hidden<H: Handler>()
+    ensures gate { (limit : Option ℕ) (accepts : Accounts) (inner : H.State) (input other : Bytes)
+        → AllZip (LooksAlike accepts) (events_with_limit limit input)
+        (events_with_limit limit other)
+        → text_with_limit limit (gated_law H.law) (closed accepts inner) input
+        ≡ text_with_limit limit (gated_law H.law) (closed accepts inner) other }
+    ensures limit { (limit : Option ℕ) (accepts : Accounts) (left : ℕ) (inner : H.State)
+        (input other : Bytes)
+        → AllZip (LooksAlike accepts) (events_with_limit limit input)
+        (events_with_limit limit other)
+        → text_with_limit limit (limited_law (gated_law H.law))
+        (limited_to left (closed accepts inner)) input
+        ≡ text_with_limit limit (limited_law (gated_law H.law))
+        (limited_to left (closed accepts inner)) other }
+{}
+
+/// So in a line of PASS, one refused password gives the same output as another.
+pub fn refused_passwords_look_alike<H: Handler>()
+    ensures gate { (limit : Option ℕ) (accepts : Accounts) (inner : H.State)
+        (before after password other : Bytes) → incomplete_line before ≡ []
+        → CanBeSent limit password → CanBeSent limit other
+        → ((name : Bytes) → accepts name password ≡ accepts name other)
+        → text_with_limit limit (gated_law H.law) (closed accepts inner)
+        (before ++ (pass_line password ++ after))
+        ≡ text_with_limit limit (gated_law H.law) (closed accepts inner)
+        (before ++ (pass_line other ++ after)) }
+    ensures limit { (limit : Option ℕ) (accepts : Accounts) (left : ℕ) (inner : H.State)
+        (before after password other : Bytes) → incomplete_line before ≡ []
+        → CanBeSent limit password → CanBeSent limit other
+        → ((name : Bytes) → accepts name password ≡ accepts name other)
+        → text_with_limit limit (limited_law (gated_law H.law))
+        (limited_to left (closed accepts inner)) (before ++ (pass_line password ++ after))
+        ≡ text_with_limit limit (limited_law (gated_law H.law))
+        (limited_to left (closed accepts inner)) (before ++ (pass_line other ++ after)) }
+{}
+
+/// A login that is refused gives the same output whether its name is known or not.
+pub fn refused_logins_look_alike<H: Handler>()
+    ensures gate { (limit : Option ℕ) (accepts : Accounts) (inner : H.State)
+        (before after name password other another : Bytes) → incomplete_line before ≡ []
+        → IsRefusedLogin limit accepts name password → IsRefusedLogin limit accepts other another
+        → text_with_limit limit (gated_law H.law) (closed accepts inner)
+        (before ++ (login_lines name password ++ after))
+        ≡ text_with_limit limit (gated_law H.law) (closed accepts inner)
+        (before ++ (login_lines other another ++ after)) }
+    ensures limit { (limit : Option ℕ) (accepts : Accounts) (left : ℕ) (inner : H.State)
+        (before after name password other another : Bytes) → incomplete_line before ≡ []
+        → IsRefusedLogin limit accepts name password → IsRefusedLogin limit accepts other another
+        → text_with_limit limit (limited_law (gated_law H.law))
+        (limited_to left (closed accepts inner)) (before ++ (login_lines name password ++ after))
+        ≡ text_with_limit limit (limited_law (gated_law H.law))
+        (limited_to left (closed accepts inner))
+        (before ++ (login_lines other another ++ after)) }
+{}
+
+/// In a session no more logins fail than the limit allows, and the last that may fail is answered
+/// 421, which is the last reply of the session.
+pub fn failed_logins_are_limited<H: Handler>()
+    ensures count { (s : Limited H.State) (events : List FtpEvent) → 1 ≤ s.left
+        → failed_in_run (limited_law H.law) s events ≤ s.left }
+    ensures last { (s : Limited H.State) (events : List FtpEvent) → 1 ≤ s.left
+        → failed_in_run (limited_law H.law) s events ≡ s.left
+        → EndsWith too_many (limited_law H.law) s events }
+{}
+
+/// The session ends with the reply to QUIT (RFC 959, section 4.1.1).
+pub fn quit_ends_the_session<H: Handler>()
+    ensures { (s : Gated H.State)
+        → (gated_law H.law).done ((gated_law H.law).next s (Command Quit)) ≡ true }
+{}
