@@ -10,11 +10,14 @@ pub use Rattle.unftp_control_defs.specs.Canonical
 pub use Rattle.unftp_control_defs.specs.LossyText
 pub use Rattle.unftp_control_defs.specs.FtpReply
 pub use Rattle.unftp_control_defs.specs.ReplyReader
+pub use Rattle.unftp_control_defs.specs.ReplyLimit
+pub use Rattle.unftp_control_defs.specs.ReplySteps
 pub use Rattle.unftp_control_defs.specs.Events
 pub use Rattle.unftp_control_defs.specs.Texts
 pub use Rattle.unftp_control_defs.specs.Run
 pub use Rattle.unftp_control_defs.specs.LineLimit
 pub use Rattle.unftp_control_defs.specs.Pieces
+pub use Rattle.unftp_control_defs.specs.EventSteps
 pub use Rattle.unftp_control_defs.specs.Steps
 pub use Rattle.unftp_control_command.specs.CommandMeaning
 pub use Rattle.unftp_control_line_parser.specs.ParseAnswer
@@ -27,6 +30,7 @@ pub use Rattle.unftp_control_codecs.specs.LineFeed
 pub use Rattle.unftp_control_codecs.specs.Decoding
 pub use Rattle.unftp_control_commands.specs.Answers
 pub use Rattle.unftp_control_commands.specs.Facts
+pub use Rattle.unftp_control_commands.specs.ReplyTexts
 pub use Rattle.unftp_control_events.specs.EventMeaning
 pub use Rattle.unftp_control_events.specs.Decoder
 pub use Rattle.unftp_control_engine.specs.Writing
@@ -34,5 +38,11 @@ pub use Rattle.unftp_control_engine.specs.ErrorTexts
 pub use Rattle.unftp_control_engine.specs.Endings
 pub use Rattle.unftp_control_engine.specs.Engine
 pub use Rattle.unftp_control_serve.specs.Service
+pub use Rattle.unftp_control_login.specs.Login
+pub use Rattle.unftp_control_login.specs.Gate
+pub use Rattle.unftp_control_login.specs.LoginLimit
+pub use Rattle.unftp_control_login.specs.Promises
 pub use Rattle.unftp_control_read.specs.Reading
+pub use Rattle.unftp_control_read.specs.ReplyDecoding
+pub use Rattle.unftp_control_read.specs.Receiving
 pub use Rattle.unftp_control_write.specs.declared.WriteCommandError

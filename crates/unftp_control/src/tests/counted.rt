@@ -11,9 +11,11 @@ use crate::commands::{
 use crate::error::{ControlChanError, ControlChanErrorKind, Source};
 use crate::line_parser::{ParseError, ParseErrorKind, is_verb, parse};
 use crate::password::Password;
-use crate::read::{Front, ReadReplyError, read_reply};
+use crate::read::{Front, ReadReplyError, ReplyDecoder, read_reply};
 use crate::reply::{Reply, ReplyCode};
 use crate::tests::errors::assert_kind;
+use crate::tests::receiving;
+use crate::tests::receiving::Answer;
 use crate::tests::slices::Decoded;
 use crate::tests::texts::assert_bytes;
 use crate::write::{WriteCommandError, write_command};
@@ -229,6 +231,28 @@ fn takes_0_for_bytes_without_a_whole_reply(rt: HostRuntime) {
     let malformed = read_reply(rt.alloc(), b"hello\r\n");
     assert!(rt; matches!(&malformed, Err(ReadReplyError::Malformed)));
     drop(malformed);
+}
+
+#[test]
+fn takes_0_for_a_reply_decoder_without_bytes(rt: HostRuntime) {
+    let mut decoder = ReplyDecoder::new(rt.alloc());
+    receiving::assert_next(&rt, &mut decoder, Answer::Nothing, b"");
+    decoder.clear();
+    receiving::assert_next(&rt, &mut decoder, Answer::Nothing, b"");
+}
+
+// the buffer
+#[test]
+fn takes_1_for_pending_bytes_without_a_reply(rt: HostRuntime) {
+    let mut decoder = ReplyDecoder::with_limit(rt.alloc(), 7);
+    receiving::push(&rt, &mut decoder, b"211-a\r\nb");
+    receiving::assert_next(&rt, &mut decoder, Answer::TooLong, b"211-a\r\nb");
+    decoder.clear();
+    receiving::push(&rt, &mut decoder, b"hello\r\n");
+    receiving::assert_next(&rt, &mut decoder, Answer::Malformed, b"hello\r\n");
+    decoder.clear();
+    receiving::push(&rt, &mut decoder, b"211-a\r");
+    receiving::assert_next(&rt, &mut decoder, Answer::Nothing, b"211-a\r");
 }
 
 #[test]

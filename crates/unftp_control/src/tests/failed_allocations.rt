@@ -5,15 +5,16 @@ use crate::codecs::FtpCodec;
 use crate::command::Command;
 use crate::commands::{
     Auth, AuthParam, Epsv, Feat, Help, Mlst, Mode, ModeParam, Opt, Opts, Passive, Prot, ProtParam,
-    Stru, StruParam, format_facts, make_epsv_reply,
+    Stru, StruParam, format_facts, make_epsv_reply, quoted_path, single_line_text,
 };
 use crate::error::{ControlChanError, ControlChanErrorKind};
 use crate::line_parser::{ParseErrorKind, parse};
-use crate::read::{ReadReplyError, read_reply};
+use crate::read::{ReadReplyError, ReplyDecoder, read_reply};
 use crate::reply::{Reply, ReplyCode};
 use crate::tests::commands::File;
 use crate::tests::errors::assert_kind;
 use crate::tests::reading::assert_front;
+use crate::tests::receiving::{Answer, reply};
 use crate::tests::slices::Decoded;
 use crate::tests::texts::{assert_bytes, assert_text};
 use crate::write::{WriteCommandError, write_command};
@@ -325,6 +326,43 @@ fn a_reply_out_of_memory_is_read_again(rt: HostRuntime) {
     assert_front(&rt, &front, 211, &[b"a", b" 1b", b"2c"], 20);
 }
 
+/// Pushes the piece after these pending bytes. Where an allocation fails, they stay as they were,
+/// and the piece is pushed again.
+fn push_again(rt: &impl Abort, decoder: &mut ReplyDecoder, pending: &[u8], piece: &[u8]) {
+    if decoder.push(piece).is_err() {
+        assert_bytes(rt, decoder.pending(), pending);
+        decoder.push(piece).expect(rt, "memory");
+    }
+}
+
+#[test]
+fn a_reply_out_of_memory_stays_pending(rt: HostRuntime) {
+    let mut decoder = ReplyDecoder::with_limit(rt.alloc(), 20);
+    push_again(&rt, &mut decoder, b"", b"211-a\r\n");
+    push_again(&rt, &mut decoder, b"211-a\r\n", b" 1b\r\n211 2c\r\n20");
+    let mut answer = Answer::from(decoder.next_reply());
+    if answer == Answer::OutOfMemory {
+        assert_bytes(&rt, decoder.pending(), b"211-a\r\n 1b\r\n211 2c\r\n20");
+        answer = Answer::from(decoder.next_reply());
+    }
+    assert_eq!(rt; answer, reply(211, 3));
+    assert_bytes(&rt, decoder.pending(), b"20");
+}
+
+#[test]
+fn a_reply_out_of_memory_is_received_again(rt: HostRuntime) {
+    let mut decoder = ReplyDecoder::with_limit(rt.alloc(), 20);
+    let mut reader = b"211-a\r\n 1b\r\n211 2c\r\n20".as_slice();
+    let mut answer = Answer::from(decoder.read_reply(&mut reader));
+    if answer == Answer::OutOfMemory {
+        let pending = decoder.pending().len();
+        assert_eq!(rt; pending.saturating_add(reader.len()), 22);
+        answer = Answer::from(decoder.read_reply(&mut reader));
+    }
+    assert_eq!(rt; answer, reply(211, 3));
+    assert_bytes(&rt, decoder.pending(), b"20");
+}
+
 /// The replies to the nine commands that are answered here, and the facts of the file.
 fn all_replies(alloc: Global, file: &File) -> Result<(), ControlChanError> {
     Auth::new(AuthParam::Tls).reply(alloc, true)?;
@@ -350,4 +388,43 @@ fn replies_to_commands_are_made_again(rt: HostRuntime) {
         assert_out_of_memory(&rt, refused);
         all_replies(rt.alloc(), &file).expect(&rt, "memory");
     }
+}
+
+/// The replies with the caller's own lines.
+fn replies_with_lines(alloc: Global) -> Result<(), ControlChanError> {
+    Feat.reply_with(alloc, &["MDTM", "SIZE"])?;
+    Help.reply_with(alloc, &["Commands:", "NOOP"])?;
+    Ok(())
+}
+
+#[test]
+fn replies_with_lines_are_made_again(rt: HostRuntime) {
+    if let Err(refused) = replies_with_lines(rt.alloc()) {
+        assert_out_of_memory(&rt, refused);
+        replies_with_lines(rt.alloc()).expect(&rt, "memory");
+    }
+}
+
+#[test]
+fn a_path_is_quoted_again(rt: HostRuntime) {
+    let quoted = match quoted_path(rt.alloc(), "/foo\"bar") {
+        Ok(quoted) => quoted,
+        Err(refused) => {
+            assert_out_of_memory(&rt, refused);
+            quoted_path(rt.alloc(), "/foo\"bar").expect(&rt, "memory")
+        }
+    };
+    assert_text(&rt, quoted, "\"/foo\"\"bar\"");
+}
+
+#[test]
+fn a_text_is_put_in_one_line_again(rt: HostRuntime) {
+    let line = match single_line_text(rt.alloc(), "a\r\nb") {
+        Ok(line) => line,
+        Err(refused) => {
+            assert_out_of_memory(&rt, refused);
+            single_line_text(rt.alloc(), "a\r\nb").expect(&rt, "memory")
+        }
+    };
+    assert_text(&rt, line, "a\r\0\0b");
 }
