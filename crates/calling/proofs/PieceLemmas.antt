@@ -16,7 +16,7 @@ use Rattle.unftp_control.proofs.RunLemmas.{last_state-append, text_of-append, ru
 use Rattle.unftp_control.proofs.SendLemmas.{Appends-then}
 
 -- what was sent so far is answered, up to the end of the run
-pub record Fed {S : Type 0} (law : Law S) (s : S) (start : Option Bytes) (sent : Bytes) (engine : EngineState) (s' : S) (written : Option Bytes) : Type 0 where
+pub record AnsweredSoFar {S : Type 0} (law : Law S) (s : S) (start : Option Bytes) (sent : Bytes) (engine : EngineState) (s' : S) (written : Option Bytes) : Type 0 where
   pub no_failure : engine.failed ≡ false
   pub any_length : engine.limit ≡ None
   pub finished : engine.finished ≡ ends law s (events sent)
@@ -25,21 +25,21 @@ pub record Fed {S : Type 0} (law : Law S) (s : S) (start : Option Bytes) (sent :
   pub state : s' ≡ last_state law s (run_of law s (events sent))
   pub replies : Appends start written (text_for law s sent)
 
-module _ {S : Type 0} (law : Law S) (s : S) (start : Option Bytes) (sent : Bytes) (engine : EngineState) (s' : S) (written : Option Bytes) (fed : Fed law s start sent engine s' written)
+module _ {S : Type 0} (law : Law S) (s : S) (start : Option Bytes) (sent : Bytes) (engine : EngineState) (s' : S) (written : Option Bytes) (so_far : AnsweredSoFar law s start sent engine s' written)
     (piece : Bytes) (engine' : EngineState) (s'' : S) (written' : Option Bytes) (same_limit : engine'.limit ≡ engine.limit) where
   module _ (on : engine.finished ≡ false) (leaves : Leaves law engine piece s' s'' engine') (appended : Appends written written' (text_of law s' (run_with engine law s' piece))) where
     goes_on : ends law s (events sent) ≡ false
-    goes_on = sym fed.finished ∙ on
+    goes_on = sym so_far.finished ∙ on
 
     state_so : s' ≡ last_state law s (events sent)
-    state_so = fed.state ∙ ap (last_state law s) (run_of-all law s (events sent) goes_on)
+    state_so = so_far.state ∙ ap (last_state law s) (run_of-all law s (events sent) goes_on)
 
     -- what follows is that of the engine
     moved : {X : Type 0} (F : Option ℕ → S → Bytes → X) → F None (last_state law s (events sent)) (incomplete_line sent ++ piece) ≡ F engine.limit s' (bytes_with engine piece)
     moved F =
-        ap (λ limit. F limit (last_state law s (events sent)) (incomplete_line sent ++ piece)) (sym fed.any_length)
+        ap (λ limit. F limit (last_state law s (events sent)) (incomplete_line sent ++ piece)) (sym so_far.any_length)
         ∙ ap (λ state. F engine.limit state (incomplete_line sent ++ piece)) (sym state_so)
-        ∙ ap (λ incomplete. F engine.limit s' (incomplete ++ piece)) (sym (fed.incomplete on))
+        ∙ ap (λ incomplete. F engine.limit s' (incomplete ++ piece)) (sym (so_far.incomplete on))
 
     run_so : run_of law s (events (sent ++ piece)) ≡ events sent ++ run_with engine law s' piece
     run_so = (run-append law None s sent piece goes_on).0 ∙ ap (λ run. events sent ++ run) (moved (λ limit state bytes. run_with_limit limit law state bytes))
@@ -50,41 +50,41 @@ module _ {S : Type 0} (law : Law S) (s : S) (start : Option Bytes) (sent : Bytes
         ∙ ap (λ run. text_of law s run ++ text_of law (last_state law s (events sent)) (run_with engine law s' piece)) (sym (run_of-all law s (events sent) goes_on))
         ∙ ap (λ state. text_for law s sent ++ text_of law state (run_with engine law s' piece)) (sym state_so)
 
-    Fed-on : Fed law s start (sent ++ piece) engine' s'' written'
-    Fed-on = record {
+    AnsweredSoFar-on : AnsweredSoFar law s start (sent ++ piece) engine' s'' written'
+    AnsweredSoFar-on = record {
       no_failure = leaves.no_failure;
-      any_length = same_limit ∙ fed.any_length;
+      any_length = same_limit ∙ so_far.any_length;
       finished = leaves.finished ∙ sym ((run-append law None s sent piece goes_on).1 ∙ moved (λ limit state bytes. ends_with_limit limit law state bytes));
-      incomplete = λ now. rw now at leaves.incomplete ∙ ap (λ incomplete. incomplete_line (incomplete ++ piece)) (fed.incomplete on) ∙ sym (incomplete_line-append sent piece);
+      incomplete = λ now. rw now at leaves.incomplete ∙ ap (λ incomplete. incomplete_line (incomplete ++ piece)) (so_far.incomplete on) ∙ sym (incomplete_line-append sent piece);
       left = leaves.left ∙ ap (λ bytes. saturating_u64 (length bytes)) (sym (unread-append law None s sent piece goes_on ∙ moved (λ limit state bytes. unread limit law state bytes)));
       state = leaves.state ∙ ap (λ state. last_state law state (run_with engine law s' piece)) state_so
           ∙ sym (ap (last_state law s) run_so ∙ last_state-append law s (events sent) (run_with engine law s' piece));
-      replies = rw written_so (Appends-then start written written' (text_for law s sent) (text_of law s' (run_with engine law s' piece)) fed.replies appended);
+      replies = rw written_so (Appends-then start written written' (text_for law s sent) (text_of law s' (run_with engine law s' piece)) so_far.replies appended);
     }
 
   -- a piece after the end
   module _ (done : engine.finished ≡ true) (same_state : s'' ≡ s') (same_bytes : written' ≡ written) (counted : engine' ≡ more_left engine piece) where
     ended : ends law s (events sent) ≡ true
-    ended = sym fed.finished ∙ done
+    ended = sym so_far.finished ∙ done
 
-    Fed-ended : Fed law s start (sent ++ piece) engine' s'' written'
-    Fed-ended = rw (counted, same_state, same_bytes) record {
-      no_failure = fed.no_failure;
-      any_length = fed.any_length;
+    AnsweredSoFar-ended : AnsweredSoFar law s start (sent ++ piece) engine' s'' written'
+    AnsweredSoFar-ended = rw (counted, same_state, same_bytes) record {
+      no_failure = so_far.no_failure;
+      any_length = so_far.any_length;
       finished = done ∙ sym (run-ended law None s sent piece ended).1;
       incomplete = λ on. absurd (cc);
-      left = omega (arith, fed.left, ap length (unread-ended law None s sent piece ended), length-append (unread None law s sent) piece);
-      state = fed.state ∙ sym (ap (last_state law s) (run-ended law None s sent piece ended).0);
-      replies = rw (ap (text_of law s) (run-ended law None s sent piece ended).0) fed.replies;
+      left = omega (arith, so_far.left, ap length (unread-ended law None s sent piece ended), length-append (unread None law s sent) piece);
+      state = so_far.state ∙ sym (ap (last_state law s) (run-ended law None s sent piece ended).0);
+      replies = rw (ap (text_of law s) (run-ended law None s sent piece ended).0) so_far.replies;
     }
 
-  pub Fed-more : (IsRunning engine → Leaves law engine piece s' s'' engine') → (IsRunning engine → Appends written written' (text_of law s' (run_with engine law s' piece)))
-      → (engine.finished ≡ true → (s'' ≡ s') × (written' ≡ written) × (engine' ≡ more_left engine piece)) → Fed law s start (sent ++ piece) engine' s'' written'
-  Fed-more leaves appended over = by_end engine.finished refl
+  pub AnsweredSoFar-more : (IsRunning engine → Leaves law engine piece s' s'' engine') → (IsRunning engine → Appends written written' (text_of law s' (run_with engine law s' piece)))
+      → (engine.finished ≡ true → (s'' ≡ s') × (written' ≡ written) × (engine' ≡ more_left engine piece)) → AnsweredSoFar law s start (sent ++ piece) engine' s'' written'
+  AnsweredSoFar-more leaves appended over = by_end engine.finished refl
     where
-      by_end : (finished : Bool) → engine.finished ≡ finished → Fed law s start (sent ++ piece) engine' s'' written'
-      by_end false on = Fed-on on (leaves (fed.no_failure, on)) (appended (fed.no_failure, on))
-      by_end true done = Fed-ended done (over done).0 (over done).1 (over done).2
+      by_end : (finished : Bool) → engine.finished ≡ finished → AnsweredSoFar law s start (sent ++ piece) engine' s'' written'
+      by_end false on = AnsweredSoFar-on on (leaves (so_far.no_failure, on)) (appended (so_far.no_failure, on))
+      by_end true done = AnsweredSoFar-ended done (over done).0 (over done).1 (over done).2
 
 pub sent-more : (pieces : List (Bor Bytes)) (i : ℕ) (d : Bor Bytes) → i < length pieces →
     concat (map (λ piece. piece.now) (take (i + 1) pieces)) ≡ concat (map (λ piece. piece.now) (take i pieces)) ++ (get_or pieces i d).now

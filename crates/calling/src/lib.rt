@@ -7,6 +7,7 @@ pub mod event_loop;
 pub mod examples;
 pub mod handler;
 pub mod lines;
+pub mod members;
 pub mod pieces;
 pub mod proxy;
 pub mod serving;

@@ -31,3 +31,20 @@ pub fn answer_pieces<H: Handler, W: Write>(
     }
     Ok(engine.left())
 }
+
+/// The replies to what a client sent, piece by piece, for a server that sends them itself.
+pub fn replies_to_pieces<H: Handler>(
+    alloc: Global,
+    pieces: &[&[u8]],
+    handler: &mut H,
+) -> Result<Vec<u8>, ServeError>
+    ensures { IfOk result (λ replies. replies.items
+        ≡ text_for H.law (H.state handler.old) (concat (map (λ piece. piece.now) pieces.now))) }
+{
+    let mut engine = Engine::new(alloc);
+    let mut replies = Vec::new(alloc);
+    for piece in pieces {
+        engine.feed(piece, handler, &mut replies)?;
+    }
+    Ok(replies)
+}

@@ -1,12 +1,12 @@
 //! The snippets over inputs and outputs in memory.
 ghost use Rattle.std.specs.Prelude.{◌++◌, Some};
 
-use crate::client::first_code;
+use crate::client::{first_code, next_code, tls_agreed};
 use crate::codec::{answer, first_is_noop, next_is_noop};
 use crate::event_loop::{Turn, answer_next};
 use crate::handler::Obliging;
 use crate::lines::line_text;
-use crate::pieces::answer_pieces;
+use crate::pieces::{answer_pieces, replies_to_pieces};
 use crate::proxy::{ForwardError, forward_line};
 use crate::serving::{serve_connection, serve_stranger};
 use crate::upgrading::serve_until_tls;
@@ -15,6 +15,7 @@ use std::io;
 use std::io::Read;
 use std::process::Abort;
 use unftp_control::codecs::FtpCodec;
+use unftp_control::read::ReplyDecoder;
 use unftp_control::serve::{Count, EventDecoder, Output};
 
 /// The text of the line is this one.
@@ -78,6 +79,35 @@ fn a_client_finds_the_first_reply(rt: HostRuntime) {
     let none = first_code(rt.alloc(), b"220 ready\r").expect(&rt, "a reply");
     assert!(rt; none.is_none());
     assert!(rt; first_code(rt.alloc(), b"hello\r\n").is_err());
+}
+
+/// Whether TLS begins after the server sent this, and what is pending then.
+fn assert_agreed(rt: &impl Abort, alloc: Global, sent: &[u8], want: bool, pending: &[u8]) {
+    let mut replies = ReplyDecoder::with_limit(alloc, 4096);
+    let mut stream = sent;
+    let agreed = tls_agreed(&mut replies, &mut stream).expect(rt, "a reply");
+    assert_eq!(rt; agreed, want);
+    assert_bytes(rt, replies.pending(), pending);
+}
+
+#[test]
+fn a_client_begins_tls_where_nothing_is_pending(rt: HostRuntime) {
+    assert_agreed(&rt, rt.alloc(), b"234 Begin TLS\r\n", true, b"");
+    let injected = b"234 Begin TLS\r\n230 Welcome\r\n";
+    assert_agreed(&rt, rt.alloc(), injected, false, b"230 Welcome\r\n");
+    assert_agreed(&rt, rt.alloc(), b"234 Begin TLS\r\n2", false, b"2");
+    assert_agreed(&rt, rt.alloc(), b"502 No TLS\r\n", false, b"");
+    assert_agreed(&rt, rt.alloc(), b"234 Begin", false, b"234 Begin");
+}
+
+#[test]
+fn a_client_has_one_code_after_the_other(rt: HostRuntime) {
+    let mut replies = ReplyDecoder::new(rt.alloc());
+    let mut stream = b"220-Hello\r\n221 x\r\n220 World\r\n331\r\n".as_slice();
+    for want in [Some(220), Some(331), None, None] {
+        let code = next_code(&mut replies, &mut stream).expect(&rt, "a reply");
+        assert_eq!(rt; code, want);
+    }
 }
 
 #[test]
@@ -162,6 +192,9 @@ fn lines_in_pieces_are_answered(rt: HostRuntime) {
     let left = answer.expect(&rt, "an answer");
     assert_eq!(rt; left, 2);
     assert_bytes(&rt, output.into_inner().as_slice(), b"200 OK\r\n200 OK\r\n");
+    let answer = replies_to_pieces(rt.alloc(), &pieces, &mut obliging);
+    let replies = answer.expect(&rt, "an answer");
+    assert_bytes(&rt, replies.as_slice(), b"200 OK\r\n200 OK\r\n");
 }
 
 /// Whether the line is refused, and not forwarded.

@@ -1,10 +1,10 @@
 use Rattle.std.proofs.Common.{take, map}
 use Rattle.std.specs.List.{concat}
-use Rattle.calling.proofs.PieceLemmas.{Fed}
+use Rattle.calling.proofs.PieceLemmas.{AnsweredSoFar}
 use Rattle.calling.proofs.pieces.answer_pieces.Given as goal
 
 abbrev pub invariant-loop-piece : goal.invariant-loop-piece
 invariant-loop-piece g l =
-    Fed g.H.Handler.law (g.H.Handler.state l.fn.handler) (g.W.Write.contents l.fn.output.writer)
+    AnsweredSoFar g.H.Handler.law (g.H.Handler.state l.fn.handler) (g.W.Write.contents l.fn.output.writer)
     (concat (map (λ piece. piece.now) (take l.piece-index l.pieces)))
     l.engine (g.H.Handler.state l.handler) (g.W.Write.contents l.output.writer)

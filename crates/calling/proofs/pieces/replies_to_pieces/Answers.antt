@@ -1,0 +1,10 @@
+use Rattle.std.proofs.Common.{[], Some, ap}
+use Rattle.calling.proofs.PieceLemmas.{AnsweredSoFar-more, sent-more}
+use Rattle.calling.proofs.pieces.replies_to_pieces.Goals as goal
+
+pub loop-piece-preserved : goal.loop-piece-preserved
+loop-piece-preserved g c =
+    let fed = c.in_ok-feed.ensures in
+    rw (sent-more c.args.pieces.now c.loop-piece.piece-index record { ref_ptr = (0, 0); now = [] } c.loop-piece-test.true)
+    (AnsweredSoFar-more _ _ _ _ _ _ _ c.loop-piece.invariant _ c.feed.new.self _ _ fed.fed.limit fed.leaves fed.written
+    (λ finished. let same = fed.over finished in (ap g.H.Handler.state same.1, ap (λ replies. Some replies.items) same.2, same.3)))
