@@ -1,0 +1,18 @@
+-- The path of each entry leads back to it.
+use Rattle.std.proofs.Common.{◌≡◌, Some, refl}
+use Rattle.login_demo.specs.declared.tree.Directory.{Directory}
+use Rattle.login_demo.specs.declared.tree.Directory.TheVariants as directory
+use Rattle.login_demo.specs.declared.tree.File.TheVariants as file
+use Rattle.login_demo.specs.declared.tree.Entry.{Entry}
+use Rattle.login_demo.specs.declared.tree.Entry.TheVariants as entry
+use Rattle.login_demo.specs.Session.{found}
+use Rattle.login_demo.specs.Tree.{entry_names}
+use Rattle.login_demo.specs.Walking.{path_text}
+
+pub found-path_text : (d : Directory) (e : Entry) → found d (path_text (entry_names e)) ≡ Some e
+found-path_text d (entry.Directory directory.Root) = refl
+found-path_text d (entry.Directory directory.Pub) = refl
+found-path_text d (entry.Directory directory.Notes) = refl
+found-path_text d (entry.Directory directory.Quoted) = refl
+found-path_text d (entry.File file.Readme) = refl
+found-path_text d (entry.File file.Today) = refl

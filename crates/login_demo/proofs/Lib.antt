@@ -1,0 +1,6 @@
+mod PathLemmas
+mod TimeLemmas
+mod FactLemmas
+mod CommandLemmas
+mod PlainLemmas
+mod LeadBackLemmas

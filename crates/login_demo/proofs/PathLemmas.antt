@@ -1,0 +1,30 @@
+-- Ways through directories, name by name.
+use Rattle.std.proofs.Common.{◌≡◌, ◌≢◌, ℕ, ◌+◌, ◌/◌, ◌%◌, cond, ltb, ◌&&◌, map, List, [], ◌∷◌, ◌++◌, flat_map, Bool, true, false, bytes_eq, codes, refl, ap, ◌∙◌, arith, ne_eqb}
+use Rattle.std.specs.Char.{encode_utf8}
+use Rattle.std.specs.Cmp.Lexicographic.{pointwise}
+use Rattle.std.proofs.lemmas.Bool.{cond_both, not-true}
+use Rattle.std.proofs.lemmas.Slice.Eq.{bytes_eq-Decides}
+use Rattle.std.proofs.Math.Utf8.{encode}
+use Rattle.unftp_control.specs.Bytes.{Bytes, Lacks}
+use Rattle.login_demo.specs.Walking.{SLASH, entered, path_text}
+
+is_false : (b : Bool) → b ≢ true → b ≡ false
+is_false true h = absurd (h refl)
+is_false false h = refl
+
+differs : (name text : Bytes) → name ≢ text → bytes_eq name text ≡ false
+differs name text h = is_false (bytes_eq name text) (λ same. h ((bytes_eq-Decides name text).0 same))
+
+-- a name of its own leads one down
+pub entered-name : (names : List Bytes) (name : Bytes) → name ≢ [] → name ≢ codes "." → name ≢ codes ".." → entered names name ≡ names ++ name ∷ []
+entered-name names name a b d = rw (differs name [] a, differs name (codes ".") b, differs name (codes "..") d) refl
+
+pub path_text-below : (names : List Bytes) → names ≢ [] → path_text names ≡ flat_map (λ name. SLASH ∷ name) names
+path_text-below [] h = absurd (h refl)
+path_text-below (name ∷ names) h = refl
+
+pub pointwise-map : {A B : Type 0} (E : B → B → Bool) (f : A → B) (xs ys : List A) → pointwise (λ x y. E (f x) (f y)) xs ys ≡ pointwise E (map f xs) (map f ys)
+pointwise-map E f [] [] = refl
+pointwise-map E f [] (y ∷ ys) = refl
+pointwise-map E f (x ∷ xs) [] = refl
+pointwise-map E f (x ∷ xs) (y ∷ ys) = ap (λ b. E (f x) (f y) && b) (pointwise-map E f xs ys)

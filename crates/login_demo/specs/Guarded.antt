@@ -1,0 +1,14 @@
+-- The whole session: a limit on failed logins, the login gate, and the tree.
+use Rattle.unftp_control.specs.Run.{Law}
+use Rattle.unftp_control_login.specs.Login.{Accounts}
+use Rattle.unftp_control_login.specs.Gate.{Gated, closed, gated_law}
+use Rattle.unftp_control_login.specs.LoginLimit.{Limited, limited_law, limited_to}
+use Rattle.login_demo.specs.declared.session.Session.{Session}
+use Rattle.login_demo.specs.Session.{files_law, new_session}
+
+abbrev pub guarded_law : Law (Limited (Gated Session))
+guarded_law = limited_law (gated_law files_law)
+
+-- three logins may fail
+abbrev pub guarded_session : Accounts → Limited (Gated Session)
+guarded_session accepts = limited_to 3 (closed accepts new_session)

@@ -1,0 +1,91 @@
+//! Serves one control connection over standard input and output to who has logged in, with a tree of
+//! files in memory: each line is answered when it is complete, up to QUIT.
+#![tactic(auto)]
+
+ghost use Rattle.std.specs.Prelude.{◌≤◌, ◌+◌, IfOk, IfSome, OnOk, Some};
+ghost use Rattle.std.specs.Io.KnownBytes.{Appends};
+ghost use Rattle.unftp_control.specs.Bytes.{Bytes};
+ghost use Rattle.unftp_control.specs.LineLimit.{text_with_limit};
+ghost use Rattle.unftp_control.specs.Promises.{MembersAlone};
+ghost use Rattle.login_demo.specs.Guarded.{guarded_law, guarded_session};
+
+mod accounts;
+mod examples;
+mod facts;
+mod files;
+mod laws;
+mod paths;
+mod session;
+mod standing;
+#[cfg(test)]
+mod tests;
+mod tree;
+
+use crate::accounts::{Account, Table};
+use crate::files::Files;
+use std::alloc::Global;
+use std::io::{Read, Write};
+use std::process::ExitCode;
+use unftp_control::login::{Accounts, Gate, LoginLimit};
+use unftp_control::serve::{Input, Output, ServeError, Served, serve_with_limit};
+
+/// How many bytes a line may have, its line feed counted.
+const LIMIT: usize = 4096;
+
+/// How many logins may fail; the last of them ends the session.
+const FAILED_LOGINS: u32 = 3;
+
+/// Who may log in.
+const ACCOUNTS: &[Account] = &[
+    Account {
+        name: "anna",
+        password: "secret",
+    },
+    Account {
+        name: "ben",
+        password: "other",
+    },
+];
+
+/// Answers the lines that the reader gives, until it gives no more, QUIT is answered, or too many
+/// logins failed. Each reply is written whole and flushed before the next line is taken, and before
+/// more is read.
+pub fn run<R: Read, W: Write, A: Accounts + Drop>(
+    alloc: Global,
+    reader: &mut Input<R>,
+    writer: &mut Output<W>,
+    accounts: A,
+) -> Result<Served, ServeError>
+    // At Ok exactly the replies to the lines are written.
+    ensures written { OnOk result (IfSome (R.remaining reader.old.reader) (λ input.
+        Appends (W.contents writer.old.writer) (W.contents writer.new.writer)
+        (text_with_limit (Some LIMIT) guarded_law (guarded_session (A.accepts accounts)) input))) }
+    // Whatever the input: where a client reads in the output a reply that reports no failure, at the
+    // place of a command that needs a login, the accounts have accepted a name and its password
+    // before it.
+    ensures members { OnOk result (IfSome (R.remaining reader.old.reader) (λ input.
+        (output : Bytes)
+        × Appends (W.contents writer.old.writer) (W.contents writer.new.writer) output
+        × MembersAlone (Some LIMIT) (A.accepts accounts) input output)) }
+    // The buffer never holds more than the limit and one piece.
+    ensures bound { IfOk result (λ served. served.held ≤ LIMIT + 4096) }
+{
+    let gate = Gate::new(accounts, Files::new());
+    serve_with_limit(alloc, LIMIT, reader, writer, &mut LoginLimit::new(FAILED_LOGINS, gate))
+}
+
+fn main(rt: HostRuntime) -> ExitCode {
+    if print!(rt; "220 Ready\r\n").is_err() {
+        return ExitCode::FAILURE;
+    }
+    let mut reader = Input::new(rt.stdin());
+    let mut writer = Output::new(rt.stdout());
+    let accounts = Table { accounts: ACCOUNTS };
+    match run(rt.alloc(), &mut reader, &mut writer, accounts) {
+        Ok(_) => ExitCode::SUCCESS,
+        Err(error) => {
+            let _ = eprintln!(rt; "login_demo: {error}");
+            ExitCode::FAILURE
+        }
+    }
+}
