@@ -112,4 +112,5 @@ pub fn a_limit_counts()
         (limited_to 1 (closed only_anna 0)) (Command Noop ∷ pass wrong ∷ Command Noop ∷ []) }
     ensures not_last { EndsWith too_many (limited_law (gated_law counting))
         (limited_to 2 (closed only_anna 0)) (pass wrong ∷ []) → ⊥ }
+    ensures not_ended { EndsWith here counting 0 (Command Noop ∷ []) → ⊥ }
 {}
