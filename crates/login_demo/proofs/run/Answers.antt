@@ -1,16 +1,17 @@
+use Rattle.std.specs.Prelude.{Some}
 use Rattle.std.specs.Io.KnownBytes.{Appends}
 use Rattle.unftp_control.specs.Bytes.{Bytes}
-use Rattle.unftp_control_login.proofs.MemberLemmas.{limit-members-alone, some_output}
+use Rattle.unftp_control.proofs.MemberLemmas.{limit-members-alone, some_output}
 use Rattle.login_demo.specs.Session.{files_law, new_session}
 use Rattle.login_demo.proofs.PlainLemmas.{SendsPlainReplies-files}
 use Rattle.login_demo.proofs.run.Goals as goal
 
 pub returns-clause-written : goal.returns-clause-written
 returns-clause-written g c =
-    simp (c.new-3.ensures.left, c.new-3.ensures.inner, c.new-2.ensures.accounts, c.new-2.ensures.stage, c.new-2.ensures.quit, c.new-2.ensures.inner, c.new.ensures.session) at c.serve_with_limit.ensures.headline
+    simp (c.new-2.ensures.left, c.new-2.ensures.inner, c.new-gate.ensures.accounts, c.new-gate.ensures.stage, c.new-gate.ensures.quit, c.new-gate.ensures.inner, c.new.ensures.session) at c.serve_with_limit.ensures.headline
 
 pub returns-clause-members : goal.returns-clause-members
 returns-clause-members g c = some_output c.serve_with_limit.result (g.R.Read.remaining c.args.reader.now.reader)
     (λ (output : Bytes). Appends (g.W.Write.contents c.args.writer.now.writer) (g.W.Write.contents c.serve_with_limit.new.writer.writer) output)
     _ _ (limit-members-alone files_law SendsPlainReplies-files (Some 4096) (g.A.Accounts.accepts c.args.accounts) 3 new_session)
-    (simp (c.new-3.ensures.left, c.new-3.ensures.inner, c.new-2.ensures.accounts, c.new-2.ensures.stage, c.new-2.ensures.quit, c.new-2.ensures.inner, c.new.ensures.session) at c.serve_with_limit.ensures.headline)
+    (simp (c.new-2.ensures.left, c.new-2.ensures.inner, c.new-gate.ensures.accounts, c.new-gate.ensures.stage, c.new-gate.ensures.quit, c.new-gate.ensures.inner, c.new.ensures.session) at c.serve_with_limit.ensures.headline)
