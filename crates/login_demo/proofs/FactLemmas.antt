@@ -1,5 +1,5 @@
 -- The facts of files, and the replies to MLST and MDTM, each of which is the only one that the facts allow.
-use Rattle.std.proofs.Common.{◌≡◌, ℕ, ℤ, ◌++◌, false, Option, Some, None, Result, Ok, Err, codes, decimal, refl, ap, ◌∙◌}
+use Rattle.std.proofs.Common.{◌≡◌, ℕ, ℤ, ◌++◌, false, Some, None, Result, Ok, Err, codes, decimal, refl, ap, ◌∙◌}
 use Rattle.std.specs.Fmt.{digits}
 use Rattle.std.specs.Result.{IfOk}
 use Rattle.unftp_control.specs.Bytes.{Bytes}

@@ -1,11 +1,8 @@
 -- Ways through directories, name by name.
-use Rattle.std.proofs.Common.{◌≡◌, ◌≢◌, ℕ, ◌+◌, ◌/◌, ◌%◌, cond, ltb, ◌&&◌, map, List, [], ◌∷◌, ◌++◌, flat_map, Bool, true, false, bytes_eq, codes, refl, ap, ◌∙◌, arith, ne_eqb}
-use Rattle.std.specs.Char.{encode_utf8}
+use Rattle.std.proofs.Common.{◌≡◌, ◌≢◌, ◌&&◌, map, List, [], ◌∷◌, ◌++◌, flat_map, Bool, true, false, bytes_eq, codes, refl, ap}
 use Rattle.std.specs.Cmp.Lexicographic.{pointwise}
-use Rattle.std.proofs.lemmas.Bool.{cond_both, not-true}
 use Rattle.std.proofs.lemmas.Slice.Eq.{bytes_eq-Decides}
-use Rattle.std.proofs.Math.Utf8.{encode}
-use Rattle.unftp_control.specs.Bytes.{Bytes, Lacks}
+use Rattle.unftp_control.specs.Bytes.{Bytes}
 use Rattle.login_demo.specs.Walking.{SLASH, entered, path_text}
 
 is_false : (b : Bool) → b ≢ true → b ≡ false

@@ -1,14 +1,14 @@
 -- Each reply is sent, and a client can read it back.
-use Rattle.std.proofs.Common.{◌≡◌, ◌≢◌, ℕ, ◌≤◌, ◌<◌, Bool, true, false, ◌&&◌, nat_le, nat_lt, List, [], ◌∷◌, ◌++◌, Option, Some, None, bytes_eq, cond, decimal, codes, refl, arith, lit≤, lit<}
+use Rattle.std.proofs.Common.{◌≡◌, ◌≢◌, ℕ, Bool, true, false, ◌&&◌, nat_le, nat_lt, List, [], ◌∷◌, ◌++◌, Option, Some, None, bytes_eq, cond, decimal, codes, refl, lit<}
 use Rattle.std.specs.Fmt.{digits}
 use Rattle.std.specs.List.{AllByRecursion, list_all}
 use Rattle.std.proofs.lemmas.Bool.{and_parts, ltb-true, leb-true}
 use Rattle.unftp_control.specs.Bytes.{Bytes, LF, Lacks}
-use Rattle.unftp_control.specs.Answers.{auth_reply, prot_reply, mode_reply, opts_reply, stru_reply}
-use Rattle.unftp_control.specs.Events.{FtpEvent, Fault, FaultKind, FaultSource}
+use Rattle.unftp_control.specs.Answers.{prot_reply, mode_reply, opts_reply, stru_reply}
+use Rattle.unftp_control.specs.Events.{FtpEvent, FaultKind, FaultSource}
 use Rattle.unftp_control.specs.Events as event
 use Rattle.unftp_control.specs.FtpCommand as command
-use Rattle.unftp_control.specs.FtpCommand.{FtpCommand, Refusal}
+use Rattle.unftp_control.specs.FtpCommand.{FtpCommand}
 use Rattle.unftp_control.specs.FtpReply.{FtpReply, Nothing, CodeAndMsg, MultiLine, HasThreeDigits, IsPlain}
 use Rattle.unftp_control.specs.Promises.{IsSentPlain, SendsPlainReplies}
 use Rattle.unftp_control_defs.proofs.LackLemmas.{lacks, Lacks-test, Lacks-append, Lacks-decimal}
@@ -22,8 +22,8 @@ use Rattle.login_demo.specs.declared.tree.File.TheVariants as file
 use Rattle.login_demo.specs.declared.tree.Entry.{Entry}
 use Rattle.login_demo.specs.declared.tree.Entry.TheVariants as entry
 use Rattle.login_demo.specs.Facts.{mdtm_reply, mlst_reply, pwd_reply, size_reply}
-use Rattle.login_demo.specs.Standing.{fixed_reply, refusal_reply, refusal_text, site_reply, standing_reply, unread_text}
-use Rattle.login_demo.specs.Session.{command_reply, event_reply, event_session, files_law, moved_reply, tree_reply}
+use Rattle.login_demo.specs.Standing.{fixed_reply, refusal_text, site_reply, standing_reply}
+use Rattle.login_demo.specs.Session.{command_reply, event_reply, files_law, moved_reply, tree_reply}
 
 abbrev pub IsSent : FtpReply → Type 0
 IsSent reply = IsPlain reply × (reply ≢ Nothing)

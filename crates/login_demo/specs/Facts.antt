@@ -1,6 +1,5 @@
 -- What is said of an entry of the tree, or of none.
-use Rattle.std.specs.Prelude.{◌++◌, Bool, true, false, ℕ, decimal, Option, Some, None, codes}
-use Rattle.jiff_core.specs.declared.timestamp.Timestamp.{Timestamp}
+use Rattle.std.specs.Prelude.{◌++◌, decimal, Option, Some, None, codes}
 use Rattle.unftp_control.specs.Bytes.{Bytes}
 use Rattle.unftp_control.specs.Facts.{FileFacts, facts_reply}
 use Rattle.unftp_control.specs.FtpReply.{FtpReply, CodeAndMsg}

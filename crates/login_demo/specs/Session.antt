@@ -1,5 +1,5 @@
 -- A session: what is answered to its events, and which state follows.
-use Rattle.std.specs.Prelude.{◌≡◌, true, false, Option, Some, None, unwrap_or, codes}
+use Rattle.std.specs.Prelude.{◌≡◌, true, false, Option, Some, unwrap_or, codes}
 use Rattle.unftp_control.specs.Bytes.{Bytes}
 use Rattle.unftp_control.specs.Events.{FtpEvent, Command, Refused, out_of_memory}
 use Rattle.unftp_control.specs.FtpCommand.{FtpCommand, User, Mlst, Pwd, Cwd, Cdup, Quit, Size, Mdtm}

@@ -71,7 +71,13 @@ pub fn run<R: Read, W: Write, A: Accounts + Drop>(
     ensures bound { IfOk result (λ served. served.held ≤ LIMIT + 4096) }
 {
     let gate = Gate::new(accounts, Files::new());
-    serve_with_limit(alloc, LIMIT, reader, writer, &mut LoginLimit::new(FAILED_LOGINS, gate))
+    serve_with_limit(
+        alloc,
+        LIMIT,
+        reader,
+        writer,
+        &mut LoginLimit::new(FAILED_LOGINS, gate),
+    )
 }
 
 fn main(rt: HostRuntime) -> ExitCode {

@@ -22,6 +22,7 @@ const REPLIES: &[u8] = b"250 Directory changed\r\n257 \"/pub\" is the current di
 /// A login after a refused command, and one that is the last to fail.
 const LOGIN: &[u8] =
     b"PWD\r\nUSER anna\r\nPASS secret\r\nPWD\r\nPASS a\r\nPASS a\r\nPASS a\r\nPWD\r\n";
+
 const LOGIN_REPLIES: &[u8] = b"530 Log in with USER and PASS\r\n331 User name okay, need password\
     \r\n230 User logged in, proceed\r\n257 \"/\" is the current directory\
     \r\n503 Send USER first\r\n503 Send USER first\

@@ -9,10 +9,13 @@ const NEEDING: &[u8] = b"ACCT a\r\nSTAT\r\nTYPE I\r\nSTRU F\r\nMODE S\r\nPASV\r\
     \r\nPORT 127,0,0,1,4,1\r\nRETR a\r\nSTOR a\r\nAPPE a\r\nLIST\r\nNLST\r\nMLST\r\nMLSD\r\nPWD\
     \r\nCWD pub\r\nCDUP\r\nOPTS UTF8 ON\r\nDELE a\r\nRMD a\r\nMKD a\r\nALLO 1\r\nABOR\r\nSTOU\
     \r\nRNFR a\r\nRNTO a\r\nCCC\r\nSIZE a\r\nREST 0\r\nMDTM a\r\nSITE MD5 a\r\nSITE HELP\r\nXYZ\r\n";
+
 const NEEDING_COUNT: usize = 34;
 
 /// A line of each that needs none, but of QUIT, and the replies to them.
-const OPEN: &[u8] = b"SYST\r\nHELP\r\nNOOP\r\nFEAT\r\nAUTH TLS\r\nPBSZ 0\r\nPROT P\r\nPWD x\r\n\xff\r\n";
+const OPEN: &[u8] =
+    b"SYST\r\nHELP\r\nNOOP\r\nFEAT\r\nAUTH TLS\r\nPBSZ 0\r\nPROT P\r\nPWD x\r\n\xff\r\n";
+
 const OPEN_REPLIES: &[u8] = b"215 UNIX Type: L8\
     \r\n214-Commands:\r\n ABOR ACCT ALLO CDUP CWD FEAT HELP MDTM MLST MODE NOOP OPTS\
     \r\n PASS PWD QUIT REST SITE SIZE STRU SYST TYPE USER\r\n214 END\r\n200 OK\

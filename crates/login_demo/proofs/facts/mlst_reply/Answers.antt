@@ -1,6 +1,5 @@
-use Rattle.std.proofs.Common.{◌≡◌, ◌∙◌, ap, unwrap_or}
+use Rattle.std.proofs.Common.{◌∙◌, ap, unwrap_or}
 use Rattle.login_demo.specs.Facts.{entry_facts, facts_known}
-use Rattle.login_demo.specs.Tree.{entry_names}
 use Rattle.login_demo.specs.Walking.{path_text}
 use Rattle.login_demo.proofs.FactLemmas.{only_facts_reply}
 use Rattle.login_demo.proofs.facts.mlst_reply.Goals as goal

@@ -1,8 +1,8 @@
-use Rattle.std.proofs.Common.{◌≡◌, ◌∙◌, ◌==◌, ap, fold, map, lit<}
+use Rattle.std.proofs.Common.{◌∙◌, ◌==◌, ap, fold, map, lit<}
 use Rattle.std.specs.List.{slice_split}
 use Rattle.std.proofs.lemmas.Iterator.Splits.{YieldsList-from_str_split}
 use Rattle.std.proofs.lemmas.Iterator.Consumers.{YieldsList-end}
-use Rattle.login_demo.specs.Walking.{entered, start_names}
+use Rattle.login_demo.specs.Walking.{entered}
 use Rattle.login_demo.proofs.paths.walk.Goals as goal
 
 pub returns : goal.returns

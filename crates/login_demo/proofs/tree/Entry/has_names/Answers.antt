@@ -1,4 +1,4 @@
-use Rattle.std.proofs.Common.{◌≡◌, ◌∙◌, ap, map, bytes_eq}
+use Rattle.std.proofs.Common.{◌∙◌, ap, map, bytes_eq}
 use Rattle.std.specs.Cmp.Lexicographic.{pointwise}
 use Rattle.login_demo.proofs.PathLemmas.{pointwise-map}
 use Rattle.login_demo.proofs.tree.Entry.has_names.Goals as goal
