@@ -1,26 +1,23 @@
 -- What is written says of a password only whether it is accepted.
-use Rattle.std.proofs.Common.{◌≡◌, ℕ, ◌-◌, Bool, true, false, cond, not, ◌&&◌, ◌||◌, ◌==◌, List, [], ◌∷◌, ◌++◌, Option, None, map, refl, sym, ap, ◌∙◌, append_assoc}
+use Rattle.std.proofs.Common.{◌≡◌, ℕ, ◌-◌, Bool, true, false, cond, not, ◌&&◌, ◌||◌, ◌==◌, List, [], ◌∷◌, ◌++◌, Option, None, refl, sym, ap, ◌∙◌, append_assoc}
 use Rattle.std.specs.Prelude.{if◌then◌else◌, nat_le, option_map}
 use Rattle.std.specs.List.{AllZip}
 use Rattle.unftp_control_defs.specs.Bytes.{Bytes}
-use Rattle.unftp_control_defs.specs.Canonical.{canonical_line, HasLine}
-use Rattle.unftp_control_defs.specs.FtpCommand.{FtpCommand, User, Pass, HasTypedFields}
-use Rattle.unftp_control_defs.specs.Events.{FtpEvent, Command, Refused, event_of}
+use Rattle.unftp_control_defs.specs.Canonical.{canonical_line}
+use Rattle.unftp_control_defs.specs.FtpCommand.{User, Pass}
+use Rattle.unftp_control_defs.specs.Events.{FtpEvent, Command}
 use Rattle.unftp_control_defs.specs.FtpReply.{FtpReply, encoded, is_positive}
 use Rattle.unftp_control_defs.specs.Lines.{incomplete_line}
-use Rattle.unftp_control_defs.specs.LineLimit.{event_with_limit, events_with_limit, line_too_long, text_with_limit}
+use Rattle.unftp_control_defs.specs.LineLimit.{events_with_limit, text_with_limit}
 use Rattle.unftp_control_defs.specs.Outcome.{outcome}
 use Rattle.unftp_control_defs.specs.Run.{Law, run_of, text_of}
-use Rattle.unftp_control_defs.proofs.CanonicalLineEndLemmas.{IsLine-canonical_line}
-use Rattle.unftp_control_defs.proofs.CanonicalLineLemmas.{outcome-canonical_line}
 use Rattle.unftp_control_defs.proofs.LineEventLemmas.{events_with_limit-after, events_with_limit-canonical_line}
-use Rattle.unftp_control_defs.proofs.LineLemmas.{events_with_limit-append, line_first}
 use Rattle.unftp_control_login.specs.declared.stage.Stage.{Stage}
 use Rattle.unftp_control_login.specs.declared.stage.Stage.TheVariants.{NoName, Named, LoggedIn}
 use Rattle.unftp_control_login.specs.Login.{Accounts}
 use Rattle.unftp_control_login.specs.Gate.{Gated, admitted, closed, gated_law, inner_after, not_accepted, password_reply, stage_after_password}
 use Rattle.unftp_control_login.specs.LoginLimit.{Limited, is_pass, limited_law, limited_to, too_many}
-use Rattle.unftp_control_login.specs.Promises.{CanBeSent, Fits, IsRefusedLogin, LooksAlike, login_lines, pass_line}
+use Rattle.unftp_control_login.specs.Promises.{CanBeSent, IsRefusedLogin, LooksAlike, login_lines, pass_line}
 
 -- The text of a run over events.
 module _ {S : Type 0} (law : Law S) where
