@@ -1,7 +1,7 @@
 //! Takes lines from the start of a buffer, and appends replies to the end of one.
 #![tactic(auto)]
 
-ghost use Rattle.std.specs.Prelude.{◌≡◌, ◌↔◌, ◌+◌, ◌-◌, ◌≤◌, if◌then◌else◌, false, None, IsTrue, ◌++◌, length, drop, vec_len, Some, Ok, Err, MatchResult, IsOk, OnOk, OnErr, IfErr};
+ghost use Rattle.std.specs.Prelude.{◌≡◌, ◌↔◌, ◌+◌, ◌-◌, ◌≤◌, if◌then◌else◌, false, None, IsTrue, ⊤, ◌++◌, length, drop, vec_len, Some, Ok, Err, MatchOption, MatchResult, IsOk, OnOk, OnErr, IfErr};
 ghost use Rattle.unftp_control_defs.specs.Events.{out_of_memory};
 ghost use Rattle.unftp_control_defs.specs.FtpReply.{Nothing, encoded};
 ghost use Rattle.unftp_control_error.specs.ErrorMeaning.{converted, fault_of};
@@ -68,12 +68,7 @@ impl FtpCodec {
         requires { 1 ≤ limit }
         ensures { result ≡ record { place = 0; tests = 0; limit = Some limit; skipping = false } }
     {
-        FtpCodec {
-            place: 0,
-            tests: ScanCount::none(),
-            limit: Some(limit),
-            skipping: false,
-        }
+        FtpCodec::resume(Some(limit), 0, false)
     }
 
     /// A codec with this scan offset, which has scanned nothing: for a caller that keeps only the
@@ -82,11 +77,22 @@ impl FtpCodec {
     pub fn at(place: usize) -> FtpCodec
         ensures { result ≡ record { place = place; tests = 0; limit = None; skipping = false } }
     {
+        FtpCodec::resume(None, place, false)
+    }
+
+    /// A codec that goes on where another one with this limit stopped, for a caller that keeps only
+    /// what `place` and `skipping` returned. It has scanned nothing itself.
+    pub fn resume(limit: Option<usize>, place: usize, skipping: bool) -> FtpCodec
+        requires limit { MatchOption limit ⊤ (λ most. 1 ≤ most) }
+        requires place { IsTrue skipping → place ≡ 0 }
+        ensures { result
+            ≡ record { place = place; tests = 0; limit = limit; skipping = skipping } }
+    {
         FtpCodec {
             place,
             tests: ScanCount::none(),
-            limit: None,
-            skipping: false,
+            limit,
+            skipping,
         }
     }
 

@@ -3,7 +3,8 @@ use Rattle.std.proofs.Common.{◌≡◌, true, [], ◌∷◌, ◌++◌, Option, 
 use Rattle.unftp_control_defs.specs.Bytes.{Bytes, LF, CR, SP, Lacks}
 use Rattle.unftp_control_defs.specs.Lines.{IsLine}
 use Rattle.unftp_control_defs.specs.Values.{escaped}
-use Rattle.unftp_control_defs.specs.FtpCommand.{FtpCommand, Stru, Mode, List as Listing, Opts, Auth, Prot, Rest, Site, Other}
+use Rattle.unftp_control_defs.specs.FtpCommand.{FtpCommand, Stru, Mode, List as Listing, Opts, Auth, Prot, Rest, Md5, Site, Other}
+use Rattle.unftp_control_defs.specs.Rules.{unless_empty}
 use Rattle.unftp_control_defs.specs.Canonical.{spaced, spaced_unless_empty, with_optional, with_option_end, site_body, canonical_body, canonical_line, HasLine, IsOptionalText}
 use Rattle.unftp_control_defs.specs.declared.parameters.AuthParam.TheVariants.{Ssl}
 use Rattle.unftp_control_defs.specs.declared.parameters.ModeParam.TheVariants.{Stream}
@@ -20,7 +21,7 @@ spaced_unless_empty_lacks : (word text : Bytes) → Lacks LF word → Lacks LF t
 spaced_unless_empty_lacks word [] w h = w
 spaced_unless_empty_lacks word (b ∷ text) w h = spaced_lacks word (b ∷ text) w h
 
-site_lacks : (name arguments : Bytes) → Lacks LF name → Lacks LF arguments → Lacks LF (site_body name arguments)
+site_lacks : (name arguments : Bytes) → Lacks LF name → Lacks LF arguments → Lacks LF (site_body name (unless_empty arguments))
 site_lacks [] [] n h = Lacks-test LF (codes "SITE") refl
 site_lacks [] (b ∷ arguments) n h = Lacks-append LF (codes "SITE ") (spaced_unless_empty [] (b ∷ arguments)) (Lacks-test LF (codes "SITE ") refl) (spaced_unless_empty_lacks [] (b ∷ arguments) n h)
 site_lacks (b ∷ name) arguments n h = Lacks-append LF (codes "SITE ") (spaced_unless_empty (b ∷ name) arguments) (Lacks-test LF (codes "SITE ") refl) (spaced_unless_empty_lacks (b ∷ name) arguments n h)
@@ -50,7 +51,8 @@ body_lacks (Opts (Utf8 true)) has_line = fixed (Opts (Utf8 true)) refl
 body_lacks (Auth Ssl) has_line = fixed (Auth Ssl) refl
 body_lacks (Prot Clear) has_line = fixed (Prot Clear) refl
 body_lacks (Listing options path) has_line = list_lacks options path has_line.1
-body_lacks (Rest offset) has_line = Lacks-append LF (codes "REST ") (decimal offset) (Lacks-test LF (codes "REST ") refl) (Lacks-decimal LF offset (omega arith))
+body_lacks (Rest offset) has_line = verb (codes "REST") (decimal offset) refl (Lacks-decimal LF offset (omega arith))
+body_lacks (Md5 file) has_line = verb (codes "SITE MD5") file refl has_line.1
 body_lacks (Site name arguments) has_line = site_lacks name arguments (Lacks-name name has_line.0) has_line.2
 body_lacks (Other name arguments) has_line = spaced_unless_empty_lacks name arguments (Lacks-name name has_line.0) has_line.2
 -- each other command by its fields

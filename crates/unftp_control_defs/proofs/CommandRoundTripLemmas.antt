@@ -1,5 +1,5 @@
 -- An escaped text after a word is read back, by what the word's rule makes of a value.
-use Rattle.std.proofs.Common.{◌≡◌, ◌≢◌, false, [], ◌∷◌, ◌++◌, length, ◌==◌, cond, Option, Some, None, option_map, Ok, Err, ap, ◌∙◌, ne_eqb, append_assoc}
+use Rattle.std.proofs.Common.{◌≡◌, ◌≢◌, false, [], ◌∷◌, ◌++◌, length, ◌==◌, cond, Option, Some, None, option_map, Ok, Err, refl, ap, ◌∙◌, ne_eqb, append_assoc}
 use Rattle.std.specs.Str.{IsUtf8}
 use Rattle.std.specs.Str.Lossy.{utf8_lossy}
 use Rattle.std.proofs.lemmas.List.{nil_from_length}
@@ -19,7 +19,8 @@ pub some_text-some : (command : Bytes → FtpCommand) (text : Bytes) → text �
 some_text-some command text some = ap (λ t. cond t (Err InvalidCommand) (Ok (command (utf8_lossy text)))) (not_empty text some)
 
 pub unless_empty-some : (text : Bytes) → text ≢ [] → unless_empty text ≡ Some text
-unless_empty-some text some = ap (λ t. cond t None (Some text)) (not_empty text some)
+unless_empty-some [] some = absurd (some refl)
+unless_empty-some (b ∷ text) some = refl
 
 -- by what takes a value
 pub by_escaped : (answer : Bytes → Answer) (text : Bytes) → Lacks LF text → value_answer answer (value_of (escaped text ++ crlf)) ≡ answer text

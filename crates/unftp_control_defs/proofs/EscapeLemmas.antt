@@ -1,5 +1,5 @@
 -- A text that is escaped and ended by CR LF is read back.
-use Rattle.std.proofs.Common.{◌≡◌, ◌≢◌, ℕ, true, false, [], ◌∷◌, ◌++◌, ◌⊎◌, Some, Ok, refl, ap, ◌∙◌, inl, inr, eq-eqb, ne_eqb, codes}
+use Rattle.std.proofs.Common.{◌≡◌, ◌≢◌, ℕ, true, false, [], ◌∷◌, ◌++◌, ◌⊎◌, Some, Ok, refl, ap, ◌∙◌, inl, inr, eq-eqb, ne_eqb, codes, decimal, arith}
 use Rattle.std.specs.Str.{is_utf8, chars}
 use Rattle.std.proofs.lemmas.Bool.{cases_eq}
 use Rattle.unftp_control_defs.specs.Bytes.{Bytes, LF, CR, SP, crlf, Lacks}
@@ -7,6 +7,7 @@ use Rattle.unftp_control_defs.specs.Values.{Fresh, Plain, later_value, value_of,
 use Rattle.unftp_control_defs.specs.FtpCommand.{User}
 use Rattle.unftp_control_defs.specs.Rules.{raw}
 use Rattle.unftp_control_defs.specs.Outcome.{outcome, value_answer}
+use Rattle.unftp_control_defs.proofs.LackLemmas.{Lacks-decimal}
 use Rattle.unftp_control_defs.proofs.ValueLemmas.{return_step, byte_step, first_step}
 
 -- what is read of an escaped text and CR LF from some position on
@@ -32,6 +33,14 @@ first_back b text no_lf more (inr ne) =
 pub value_of-escaped : (text : Bytes) → Lacks LF text → value_of (escaped text ++ crlf) ≡ Some text
 value_of-escaped [] h = refl
 value_of-escaped (b ∷ text) h = first_back b text h.0 (escaped_later text h.1) (cases_eq b CR)
+
+-- a text without a CR needs no escape
+escaped-without_cr : (text : Bytes) → Lacks CR text → escaped text ≡ text
+escaped-without_cr [] h = refl
+escaped-without_cr (b ∷ text) h = rw (ne_eqb b CR h.0) (ap (λ t. b ∷ t) (escaped-without_cr text h.1))
+
+pub escaped-decimal : (n : ℕ) → escaped (decimal n) ≡ decimal n
+escaped-decimal n = escaped-without_cr (decimal n) (Lacks-decimal CR n (omega arith))
 
 user_line : (parameter : Bytes) → outcome (codes "USER" ++ SP ∷ parameter) ≡ value_answer (raw User) (value_of parameter)
 unfolding is_utf8 chars lib.Utf8.encode

@@ -15,15 +15,11 @@ use Rattle.unftp_control_defs.specs.Rules.{offset}
 use Rattle.unftp_control_defs.specs.Outcome.{outcome, value_answer}
 use Rattle.unftp_control_defs.specs.Canonical.{canonical_line}
 use Rattle.unftp_control_defs.proofs.LackLemmas.{Lacks-decimal}
-use Rattle.unftp_control_defs.proofs.CommandRoundTripLemmas.{by_escaped}
+use Rattle.unftp_control_defs.proofs.CommandRoundTripLemmas.{spaced_back}
 
 -- a text of digits, as std reads one
 own : IsNumeralModel (λ digits. all_ascii_digits digits ≡ true) (digits_value 10)
 own = numerals_by_value (λ digits. all_ascii_digits digits ≡ true) tells_all_ascii_digits
-
-escaped_same : (text : Bytes) → Lacks CR text → escaped text ≡ text
-escaped_same [] h = refl
-escaped_same (b ∷ text) h = rw (ne_eqb b CR h.0) (ap (λ t. b ∷ t) (escaped_same text h.1))
 
 module _ (n : ℕ) (fits : n < 2 ^ 64) where
   no_plus : get_or (decimal n) 0 0 ≢ 43
@@ -36,13 +32,6 @@ module _ (n : ℕ) (fits : n < 2 ^ 64) where
       let some = lt-ltb 0 (length (decimal n)) (decimal_nonempty n fits) in
       rw (kept, plain, some, digits_decimal own n fits, digits_value-decimal own n fits, lt-ltb n (2 ^ 64) fits)
 
-rest_line : (parameter : Bytes) → outcome (codes "REST " ++ parameter) ≡ value_answer (λ v. offset (utf8_lossy v)) (value_of parameter)
-unfolding is_utf8 chars lib.Utf8.encode
-rest_line parameter = refl
-
 pub rest_back : (n : ℕ) → n < 2 ^ 64 → outcome (canonical_line (Rest n)) ≡ Ok (Rest n)
-rest_back n fits =
-    rest_line (decimal n ++ crlf)
-    ∙ ap (λ t. value_answer (λ v. offset (utf8_lossy v)) (value_of (t ++ crlf))) (sym (escaped_same (decimal n) (Lacks-decimal CR n (omega arith))))
-    ∙ by_escaped (λ v. offset (utf8_lossy v)) (decimal n) (Lacks-decimal LF n (omega arith))
-    ∙ offset-decimal n fits
+unfolding is_utf8 chars lib.Utf8.encode
+rest_back n fits = spaced_back (codes "REST") (λ v. offset (utf8_lossy v)) (λ parameter. refl) (decimal n) (Lacks-decimal LF n (omega arith)) ∙ offset-decimal n fits

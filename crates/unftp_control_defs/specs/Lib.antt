@@ -7,6 +7,7 @@ pub mod Paths
 pub mod FtpCommand
 pub mod Rules
 pub mod Outcome
+pub mod NameAndValue
 pub mod Canonical
 pub mod FtpReply
 pub mod ReplyReader

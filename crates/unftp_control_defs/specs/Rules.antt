@@ -39,7 +39,8 @@ abbrev pub some_text : (Bytes → FtpCommand) → Bytes → Answer
 some_text command v = if length v == 0 then Err InvalidCommand else Ok (command (utf8_lossy v))
 
 abbrev pub unless_empty : Bytes → Option Bytes
-unless_empty v = if length v == 0 then None else Some v
+unless_empty [] = None
+unless_empty (b ∷ v) = Some (b ∷ v)
 
 -- a text, or none where the value is empty
 abbrev pub maybe_text : (Option Bytes → FtpCommand) → Bytes → Answer

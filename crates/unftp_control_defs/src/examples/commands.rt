@@ -3,6 +3,7 @@ ghost use Rattle.std.specs.Prelude.{◌≡◌, ◌++◌, [], ◌∷◌, true, fa
 ghost use Rattle.unftp_control_defs.specs.Bytes.{Bytes};
 ghost use Rattle.unftp_control_defs.specs.Canonical.{canonical_line, HasLine, IsUpperCaseName, IsNonEmptyText, IsOptionalText};
 ghost use Rattle.unftp_control_defs.specs.FtpCommand.{User, Pass, Acct, Syst, Stat, TypeCode, Stru, Mode, Help, Noop, Pasv, Epsv, Port, Retr, Stor, Appe, List as Listing, Nlst, Mlst, Mlsd, Feat, Pwd, Cwd, Cdup, Opts, Dele, Rmd, Quit, Mkd, Allo, Abor, Stou, Rnfr, Rnto, Auth, Ccc, Pbsz, Prot, Size, Rest, Mdtm, Md5, Site, Other, HasTypedFields};
+ghost use Rattle.unftp_control_defs.specs.NameAndValue.{name_and_value};
 ghost use Rattle.unftp_control_defs.specs.declared.parameters.AuthParam.TheVariants.{Ssl, Tls};
 ghost use Rattle.unftp_control_defs.specs.declared.parameters.ModeParam.TheVariants.{Stream, Block, Compressed};
 ghost use Rattle.unftp_control_defs.specs.declared.parameters.Opt.TheVariants.{Utf8};
@@ -249,4 +250,22 @@ pub fn canonical_lines_are_so()
     ensures no_other_site { ¬ HasLine (Other (codes "SITE") []) }
     ensures no_lowercase_verb { ¬ HasLine (Other (codes "foo") []) }
     ensures no_site_md5 { ¬ HasLine (Site (codes "MD5") []) }
+{}
+
+/// What commands say, also where their lines say it in another way.
+pub fn commands_have_names_and_values()
+    ensures no_escape { name_and_value (Retr (codes "a\r")) ≡ (codes "RETR", Some (codes "a\r")) }
+    ensures empty_path { ¬ (name_and_value (Retr []) ≡ (codes "RETR", None)) }
+    ensures empty_bytes { name_and_value (User []) ≡ (codes "USER", None) }
+    ensures no_path { name_and_value (Stat None) ≡ (codes "STAT", None) }
+    ensures no_type { name_and_value TypeCode ≡ (codes "TYPE", None) }
+    ensures no_size { name_and_value Allo ≡ (codes "ALLO", None) }
+    ensures no_mark { name_and_value (Listing None (Some (codes "-a")))
+        ≡ (codes "LIST", Some (codes "-a")) }
+    ensures no_options { name_and_value (Listing (Some (codes "-l")) None) ≡ (codes "LIST", None) }
+    ensures letter { name_and_value (Prot Confidential) ≡ (codes "PROT", Some (codes "E")) }
+    ensures number { name_and_value (Rest 10) ≡ (codes "REST", Some (codes "10")) }
+    ensures subcommand { name_and_value (Md5 (codes "a")) ≡ (codes "MD5", Some (codes "a")) }
+    ensures site { name_and_value (Site (codes "ECHO") []) ≡ (codes "ECHO", None) }
+    ensures no_verb { name_and_value (Other [] (codes "NOOP")) ≡ ([], Some (codes "NOOP")) }
 {}
