@@ -9,6 +9,8 @@ use Rattle.unftp_control_read.specs.declared.Front.{Front}
 use Rattle.unftp_control_read.specs.declared.Front.TheVariants.{Whole, Partial}
 use Rattle.unftp_control_read.specs.declared.ReadReplyError.{ReadReplyError}
 use Rattle.unftp_control_read.specs.declared.ReadReplyError.TheVariants.{Malformed, OutOfMemory}
+use Rattle.unftp_control_read.specs.declared.FoundReply.{FoundReply}
+use Rattle.unftp_control_read.specs.declared.FoundReply.TheVariants as found
 use Rattle.unftp_control_read.specs.declared.opening.AfterCode.{AfterCode}
 use Rattle.unftp_control_read.specs.declared.opening.AfterCode.TheVariants.{One, Several}
 use Rattle.unftp_control_read.specs.declared.finding.Texts.{Texts}
@@ -57,6 +59,18 @@ IsWithin bytes Partial = Unit {0}
 abbrev pub ReturnsRefusal : Bytes → ReadReplyError → Type 0
 ReturnsRefusal bytes Malformed = IsMalformed bytes
 ReturnsRefusal bytes OutOfMemory = HasFront bytes
+
+-- what an answer without lines means for them; a whole reply takes no more than there is
+abbrev pub ReturnsFound : Bytes → FoundReply → Type 0
+ReturnsFound bytes (found.Whole code used) =
+    ((lines : List Bytes) × FrontReply bytes code lines used) × (0 < used) × (used ≤ length bytes)
+ReturnsFound bytes found.Partial = IsPartial bytes
+ReturnsFound bytes found.Malformed = IsMalformed bytes
+
+-- the answer is a whole reply of this code and length
+abbrev pub IsFound : ℕ → ℕ → FoundReply → Type 0
+IsFound code used (found.Whole read taken) = (read ≡ code) × (taken ≡ used)
+IsFound code used _ = ⊥
 
 -- how the line opens a reply after these digits
 abbrev pub IsAfterCode : Bytes → Bytes → AfterCode → Type 0

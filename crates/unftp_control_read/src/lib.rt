@@ -5,7 +5,7 @@
 ghost use Rattle.std.specs.Prelude.{◌≡◌, ◌↔◌, ◌+◌, ◌*◌, ◌≤◌, ℕ, List, length, IsTrue, IfOk, IfErr, MatchResult};
 ghost use Rattle.unftp_control_defs.specs.Bytes.{Bytes};
 ghost use Rattle.unftp_control_defs.specs.ReplyReader.{FrontReply, IsPartial, IsMalformed};
-ghost use Rattle.unftp_control_read.specs.Reading.{ReturnsFront, ReturnsRefusal, IsWhole, IsWithin, front_of};
+ghost use Rattle.unftp_control_read.specs.Reading.{ReturnsFront, ReturnsRefusal, ReturnsFound, IsWhole, IsFound, IsWithin, front_of};
 ghost use Rattle.unftp_control_read.specs.Search.{CountsFront, IsSearched, scan_offset};
 ghost use Rattle.unftp_control_read.specs.declared.Front.{Front as RustFront};
 
@@ -110,6 +110,39 @@ pub(crate) fn read_front(
         },
         Finding::Partial => Ok(Front::Partial),
         Finding::Malformed => Err(ReadReplyError::Malformed),
+    }
+}
+
+/// What some bytes begin with, without the lines of a reply.
+#[derive(Debug, Clone, Copy, PartialEq, Eq)]
+pub enum FoundReply {
+    /// A complete reply.
+    Whole {
+        /// Its three digits, as a number.
+        code: u16,
+        /// How many bytes it takes, its last end of line included.
+        used: usize,
+    },
+    /// Less than a reply: the first line is not complete, or a reply of several lines has no last
+    /// line yet.
+    Partial,
+    /// The first line is complete and opens no reply.
+    Malformed,
+}
+
+/// Finds the reply at the start of `bytes`, as `read_reply` does (RFC 959, section 4.2). It copies no
+/// lines, so it takes no memory.
+pub fn find_reply(bytes: &[u8]) -> FoundReply
+    ensures found { ReturnsFound bytes.now result }
+    ensures whole { (code : ℕ) (lines : List Bytes) (used : ℕ)
+        → FrontReply bytes.now code lines used → IsFound code used result }
+    ensures partial { IsPartial bytes.now → result ≡ FoundReply.Partial }
+    ensures malformed { IsMalformed bytes.now → result ≡ FoundReply.Malformed }
+{
+    match Search::new().find_front(bytes, &mut Count::new()) {
+        Finding::Whole { code, used, .. } => FoundReply::Whole { code, used },
+        Finding::Partial => FoundReply::Partial,
+        Finding::Malformed => FoundReply::Malformed,
     }
 }
 
