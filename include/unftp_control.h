@@ -1,0 +1,169 @@
+/*
+ * The control protocol layer of an FTP server, for C and C++: lines of a control connection become
+ * commands or refusals, and replies become bytes (RFC 959).
+ *
+ * Each call is one step over memory of the caller's. Nothing is kept between two calls but what the
+ * caller passes in again, so calls on different memory may be made by different threads at a time.
+ *
+ * Of every call:
+ * - No pointer may be null, also where the length beside it is 0, and the areas that a call is given
+ *   may not overlap.
+ * - A pointer with a length is to so many bytes. Texts are not ended by a NUL, and may hold any byte.
+ * - Where a call has no room or no memory, the caller calls again with the same bytes.
+ *
+ * docs/EMBEDDING.md says how a program is linked. What is promised below is proved: the contracts of
+ * the functions in crates/unftp_control_c/src say it exactly.
+ */
+#ifndef UNFTP_CONTROL_H
+#define UNFTP_CONTROL_H
+
+#include <stdbool.h>
+#include <stddef.h>
+#include <stdint.h>
+
+#ifdef __cplusplus
+extern "C" {
+#endif
+
+#if defined(__GNUC__)
+#define UNFTP_NONNULL __attribute__((nonnull))
+#else
+#define UNFTP_NONNULL
+#endif
+
+/* What a call returns. */
+enum {
+    /* It has done what was asked. */
+    UNFTP_DONE = 0,
+
+    /* A command, of unftp_next only. What its value is stands beside it; where that is in brackets, it
+       may be missing, and its length is then 0. */
+    UNFTP_USER = 1,    /* [name] */
+    UNFTP_PASS = 2,    /* [password] */
+    UNFTP_ACCT = 3,    /* [account] */
+    UNFTP_SYST = 4,
+    UNFTP_STAT = 5,    /* [path], any bytes */
+    UNFTP_TYPE = 6,    /* no value: its parameter is ignored */
+    UNFTP_STRU = 7,    /* F, R or P */
+    UNFTP_MODE = 8,    /* S, B or C */
+    UNFTP_HELP = 9,    /* no value: its parameter is ignored */
+    UNFTP_NOOP = 10,
+    UNFTP_PASV = 11,
+    UNFTP_EPSV = 12,   /* no value: its parameter is ignored */
+    UNFTP_PORT = 13,   /* address */
+    UNFTP_RETR = 14,   /* path */
+    UNFTP_STOR = 15,   /* path */
+    UNFTP_APPE = 16,   /* path */
+    UNFTP_LIST = 17,   /* [path], without options */
+    UNFTP_NLST = 18,   /* [path] */
+    UNFTP_MLST = 19,   /* [path] */
+    UNFTP_MLSD = 20,   /* [path] */
+    UNFTP_FEAT = 21,
+    UNFTP_PWD = 22,
+    UNFTP_CWD = 23,    /* path */
+    UNFTP_CDUP = 24,
+    UNFTP_OPTS = 25,   /* UTF8 ON or UTF8 OFF */
+    UNFTP_DELE = 26,   /* path */
+    UNFTP_RMD = 27,    /* path */
+    UNFTP_QUIT = 28,
+    UNFTP_MKD = 29,    /* path */
+    UNFTP_ALLO = 30,   /* no value: its parameter is ignored */
+    UNFTP_ABOR = 31,
+    UNFTP_STOU = 32,
+    UNFTP_RNFR = 33,   /* path */
+    UNFTP_RNTO = 34,   /* path */
+    UNFTP_AUTH = 35,   /* TLS or SSL */
+    UNFTP_CCC = 36,
+    UNFTP_PBSZ = 37,   /* 0 */
+    UNFTP_PROT = 38,   /* C, S, E or P */
+    UNFTP_SIZE = 39,   /* path */
+    UNFTP_REST = 40,   /* offset, decimal digits of a number below 2^64 */
+    UNFTP_MDTM = 41,   /* path */
+    UNFTP_MD5 = 42,    /* path; SITE MD5, its name is MD5 */
+    UNFTP_SITE = 43,   /* [arguments]; its name is the subcommand in upper case */
+    UNFTP_OTHER = 44,  /* [arguments]; its name is the verb in upper case, one of none of the above */
+
+    /* More bytes are needed. */
+    UNFTP_MORE = 101,
+    /* The line is no command: its verb doesn't take this parameter. */
+    UNFTP_INVALID_COMMAND = 102,
+    /* The verb, the subcommand of SITE, AUTH's parameter or a reply's text is not UTF-8. */
+    UNFTP_INVALID_UTF8 = 103,
+    /* The line's end is not CR LF or LF, or a CR in its parameter is followed by neither LF nor NUL. */
+    UNFTP_INVALID_EOL = 104,
+    /* The line is longer than the limit. */
+    UNFTP_LINE_TOO_LONG = 105,
+    /* An allocation failed. */
+    UNFTP_OUT_OF_MEMORY = 106,
+    /* An area is too small; the length that was asked for says how large it has to be. */
+    UNFTP_NO_ROOM = 107,
+    /* No line whose one line feed is its last byte is read as this command. */
+    UNFTP_NO_LINE = 108,
+    /* The first line opens no reply. */
+    UNFTP_MALFORMED = 109,
+    /* No reply has this code. */
+    UNFTP_UNKNOWN_CODE = 110,
+    /* The offset is past the bytes, or is not 0 while bytes are skipped. */
+    UNFTP_INVALID_ARGUMENT = 111
+};
+
+/*
+ * Takes the next line of the pending bytes (RFC 959, section 5.3). It returns the number of a command,
+ * UNFTP_INVALID_COMMAND, UNFTP_INVALID_UTF8, UNFTP_INVALID_EOL, UNFTP_LINE_TOO_LONG or UNFTP_MORE;
+ * *used is how many bytes the caller drops from the front of the pending bytes before the next call.
+ *
+ * *offset and *skipping are the caller's to keep with its pending bytes: 0 and false at the start of a
+ * connection. No byte before *offset is scanned again, so the time is linear in what was received.
+ *
+ * A command's name is its verb in upper case, and its value is what it says after that: paths and
+ * other texts are UTF-8, with U+FFFD for each ill-formed part, and a CR that was sent as CR NUL is one
+ * CR. At UNFTP_NO_ROOM *name_len and *value_len are the lengths that are needed; a line of n bytes has
+ * a name of at most n and a value of at most 3 n.
+ *
+ * A line of more than limit bytes, its line feed counted, is UNFTP_LINE_TOO_LONG once it has ended,
+ * whatever it holds. Its bytes are used up before that, at UNFTP_MORE, so no more than limit bytes
+ * stay pending then. A limit of 0 is none.
+ *
+ * At UNFTP_OUT_OF_MEMORY, UNFTP_NO_ROOM and UNFTP_INVALID_ARGUMENT nothing is used up, and *offset,
+ * *skipping and both areas are as they were.
+ */
+uint32_t unftp_next(const uint8_t *bytes, size_t len, size_t *offset, size_t limit, bool *skipping,
+                    uint8_t *name, size_t name_room, size_t *name_len,
+                    uint8_t *value, size_t value_room, size_t *value_len, size_t *used) UNFTP_NONNULL;
+
+/*
+ * Writes the bytes of a reply to the start of out, and *len is how many they are (RFC 959, section
+ * 4.2). The text is of one line, or of several that are divided by line feeds. It returns UNFTP_DONE;
+ * UNFTP_UNKNOWN_CODE for a number that is no code of a reply; UNFTP_INVALID_UTF8; UNFTP_NO_ROOM, where
+ * *len is the room that is needed; or UNFTP_OUT_OF_MEMORY. out is as it was but at UNFTP_DONE.
+ *
+ * A client that reads by RFC 959 finds in these bytes exactly this reply, whatever the text holds.
+ */
+uint32_t unftp_reply(uint32_t code, const uint8_t *text, size_t text_len,
+                     uint8_t *out, size_t out_room, size_t *len) UNFTP_NONNULL;
+
+/*
+ * Finds the reply at the start of what a client has received (RFC 959, section 4.2). It returns
+ * UNFTP_DONE with its code and how many bytes it takes, UNFTP_MORE where it is not complete, or
+ * UNFTP_MALFORMED; *code and *used are then 0. It takes no memory.
+ */
+uint32_t unftp_front_reply(const uint8_t *bytes, size_t len, uint32_t *code, size_t *used)
+    UNFTP_NONNULL;
+
+/*
+ * Writes the canonical line of a line's command, with its CR LF, to the start of out, and *len is how
+ * many bytes it has: a line that means the same, in the one form that the library writes. It returns
+ * UNFTP_DONE; UNFTP_INVALID_COMMAND, UNFTP_INVALID_UTF8 or UNFTP_INVALID_EOL for a line that is no
+ * command; UNFTP_NO_LINE, but never for a line whose one line feed is its last byte; UNFTP_NO_ROOM,
+ * where *len is the room that is needed; or UNFTP_OUT_OF_MEMORY. out is as it was but at UNFTP_DONE.
+ */
+uint32_t unftp_canonical(const uint8_t *line, size_t line_len,
+                         uint8_t *out, size_t out_room, size_t *len) UNFTP_NONNULL;
+
+#undef UNFTP_NONNULL
+
+#ifdef __cplusplus
+}
+#endif
+
+#endif
