@@ -1,0 +1,7 @@
+-- To be read in this order.
+pub mod Numbers
+pub mod Parts
+pub mod Areas
+pub mod Next
+pub mod Replies
+pub mod CanonicalLines

@@ -1,0 +1,50 @@
+//! The canonical line of a command.
+ghost use Rattle.std.specs.Prelude.{◌≡◌, ◌≢◌, take};
+ghost use Rattle.unftp_control_defs.specs.Lines.{IsLine};
+ghost use Rattle.unftp_control_defs.specs.Outcome.{outcome};
+ghost use Rattle.unftp_control_c.specs.Areas.{Made, made, written};
+ghost use Rattle.unftp_control_c.specs.CanonicalLines.{IsCanonical};
+ghost use Rattle.unftp_control_c.specs.Numbers.{status_number};
+ghost use Rattle.unftp_control_c.specs.declared.status.Status.TheVariants.{Done, NoLine};
+
+use crate::areas::write;
+use crate::status::{Status, kind_status};
+use std::alloc::Global;
+use unftp_control_line_parser::parse;
+use unftp_control_write::{WriteCommandError, write_command};
+
+/// The canonical line of a line's command: `unftp_canonical` of include/unftp_control.h.
+#[unsafe(no_mangle)]
+pub extern "C" fn unftp_canonical(
+    alloc: Global,
+    line: &[u8],
+    out: &mut [u8],
+    len: &mut usize,
+) -> u32
+    ensures writes { (bytes : Made) × IsCanonical line.now bytes
+        × (record { result = result; area = out.new; text_length = len.new }
+        ≡ written bytes out.old) }
+    ensures has_line { IsLine line.now → result ≢ status_number NoLine }
+    ensures read_back { result ≡ status_number Done
+        → outcome (take len.new out.new) ≡ outcome line.now }
+{
+    write(canonical_line(alloc, line), out, len)
+}
+
+/// The canonical line, or why there is none.
+fn canonical_line(alloc: Global, line: &[u8]) -> Result<Vec<u8>, Status>
+    ensures { IsCanonical line.now (made result) }
+{
+    let command = match parse(alloc, line) {
+        Ok(command) => command,
+        Err(refused) => return Err(kind_status(refused.kind())),
+    };
+    let mut buf = Vec::new(alloc);
+    let written = write_command(&command, &mut buf);
+    drop(command);
+    match written {
+        Ok(()) => Ok(buf),
+        Err(WriteCommandError::NoLine) => Err(Status::NoLine),
+        Err(WriteCommandError::OutOfMemory) => Err(Status::OutOfMemory),
+    }
+}

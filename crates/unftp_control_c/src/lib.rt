@@ -1,0 +1,9 @@
+//! The calls for C: include/unftp_control.h declares them, and says what each is for.
+#![tactic(auto)]
+
+mod areas;
+mod canonical;
+mod next;
+mod parts;
+mod reply;
+mod status;

@@ -1,0 +1,88 @@
+//! What a call reports to its caller.
+ghost use Rattle.std.specs.Prelude.{◌≡◌};
+ghost use Rattle.unftp_control_error.specs.ErrorMeaning.{fault_of, source_meant};
+ghost use Rattle.unftp_control_c.specs.Numbers.{status_number, keeps_bytes, fault_status, kind_status, source_status};
+
+use unftp_control_error::{ControlChanError, ControlChanErrorKind, Source};
+use unftp_control_line_parser::ParseErrorKind;
+
+/// What a call reports where it gives no command.
+#[derive(Clone, Copy)]
+pub enum Status {
+    /// It has done what was asked.
+    Done = 0,
+    /// More bytes are needed.
+    More = 101,
+    /// The line is no command that the server knows.
+    InvalidCommand = 102,
+    /// The verb of the line, or a text that has to be UTF-8, is not.
+    InvalidUtf8 = 103,
+    /// The line doesn't end as a line has to.
+    InvalidEol = 104,
+    /// The line is longer than the limit.
+    LineTooLong = 105,
+    /// An allocation failed.
+    OutOfMemory = 106,
+    /// An area of the caller's is too small.
+    NoRoom = 107,
+    /// No line whose one line feed is its last byte is read as the command.
+    NoLine = 108,
+    /// The first line opens no reply.
+    Malformed = 109,
+    /// No reply has this code.
+    UnknownCode = 110,
+    /// The offset is past the pending bytes, or is not 0 while bytes are skipped.
+    InvalidArgument = 111,
+}
+
+impl Status {
+    /// Its number.
+    pub fn number(self) -> u32
+        ensures { result ≡ status_number self }
+    {
+        self as u32
+    }
+
+    /// Whether no pending bytes are used up where this is reported.
+    pub fn keeps_bytes(self) -> bool
+        ensures { result ≡ keeps_bytes self }
+    {
+        matches!(
+            self,
+            Status::OutOfMemory | Status::NoRoom | Status::InvalidArgument
+        )
+    }
+}
+
+/// Why the parser refuses a line.
+pub fn kind_status(kind: &ParseErrorKind) -> Status
+    ensures { result ≡ kind_status kind.now }
+{
+    match kind {
+        ParseErrorKind::InvalidCommand => Status::InvalidCommand,
+        ParseErrorKind::InvalidUtf8 => Status::InvalidUtf8,
+        ParseErrorKind::InvalidEol => Status::InvalidEol,
+        ParseErrorKind::OutOfMemory => Status::OutOfMemory,
+    }
+}
+
+/// Why the codec refuses a line.
+pub fn fault_status(error: &ControlChanError) -> Status
+    ensures { result ≡ fault_status (fault_of error.now) }
+{
+    match error.kind() {
+        ControlChanErrorKind::OutOfMemory => Status::OutOfMemory,
+        ControlChanErrorKind::LineTooLong => Status::LineTooLong,
+        _ => source_status(error.source()),
+    }
+}
+
+/// Why the parser refuses it, where the parser does.
+fn source_status(source: &Source) -> Status
+    ensures { result ≡ source_status (source_meant source.now) }
+{
+    match source {
+        Source::Parse(refused) => kind_status(refused.kind()),
+        _ => Status::InvalidCommand,
+    }
+}
