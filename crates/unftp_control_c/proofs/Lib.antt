@@ -1,1 +1,4 @@
+pub mod AreaLemmas
+pub mod CanonicalLineLemmas
 pub mod NextLemmas
+pub mod ReplyLemmas

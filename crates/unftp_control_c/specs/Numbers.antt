@@ -6,6 +6,8 @@ use Rattle.unftp_control_defs.specs.Events.{Fault, FaultKind, FaultSource}
 use Rattle.unftp_control_defs.specs.Events as fault
 use Rattle.unftp_control_line_parser.specs.declared.error.ParseErrorKind.{ParseErrorKind}
 use Rattle.unftp_control_line_parser.specs.declared.error.ParseErrorKind.TheVariants as kind
+use Rattle.unftp_control_write.specs.declared.WriteCommandError.{WriteCommandError}
+use Rattle.unftp_control_write.specs.declared.WriteCommandError.TheVariants as error
 use Rattle.unftp_control_c.specs.declared.status.Status.{Status}
 use Rattle.unftp_control_c.specs.declared.status.Status.TheVariants.{Done, More, InvalidCommand, InvalidUtf8, InvalidEol, LineTooLong, OutOfMemory, NoRoom, NoLine, Malformed, UnknownCode, InvalidArgument}
 
@@ -102,3 +104,8 @@ status_of_kind _ status = status
 
 abbrev pub fault_status : Fault → Status
 fault_status fault = status_of_kind fault.kind (source_status fault.source)
+
+-- why a command has no line
+abbrev pub line_status : WriteCommandError → Status
+line_status error.NoLine = NoLine
+line_status error.OutOfMemory = OutOfMemory

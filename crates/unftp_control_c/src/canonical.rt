@@ -1,5 +1,5 @@
 //! The canonical line of a command.
-ghost use Rattle.std.specs.Prelude.{◌≡◌, ◌≢◌, take};
+ghost use Rattle.std.specs.Prelude.{◌≡◌, ◌≢◌, take, IfOk};
 ghost use Rattle.unftp_control_defs.specs.Lines.{IsLine};
 ghost use Rattle.unftp_control_defs.specs.Outcome.{outcome};
 ghost use Rattle.unftp_control_c.specs.Areas.{Made, made, written};
@@ -8,10 +8,10 @@ ghost use Rattle.unftp_control_c.specs.Numbers.{status_number};
 ghost use Rattle.unftp_control_c.specs.declared.status.Status.TheVariants.{Done, NoLine};
 
 use crate::areas::write;
-use crate::status::{Status, kind_status};
+use crate::status::{Status, kind_status, line_status};
 use std::alloc::Global;
 use unftp_control_line_parser::parse;
-use unftp_control_write::{WriteCommandError, write_command};
+use unftp_control_write::write_command;
 
 /// The canonical line of a line's command: `unftp_canonical` of include/unftp_control.h.
 #[unsafe(no_mangle)]
@@ -33,7 +33,8 @@ pub extern "C" fn unftp_canonical(
 
 /// The canonical line, or why there is none.
 fn canonical_line(alloc: Global, line: &[u8]) -> Result<Vec<u8>, Status>
-    ensures { IsCanonical line.now (made result) }
+    ensures canonical { IsCanonical line.now (made result) }
+    ensures read_back { IfOk result (λ buf. outcome buf.items ≡ outcome line.now) }
 {
     let command = match parse(alloc, line) {
         Ok(command) => command,
@@ -44,7 +45,6 @@ fn canonical_line(alloc: Global, line: &[u8]) -> Result<Vec<u8>, Status>
     drop(command);
     match written {
         Ok(()) => Ok(buf),
-        Err(WriteCommandError::NoLine) => Err(Status::NoLine),
-        Err(WriteCommandError::OutOfMemory) => Err(Status::OutOfMemory),
+        Err(error) => Err(line_status(&error)),
     }
 }

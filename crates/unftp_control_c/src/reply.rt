@@ -1,6 +1,6 @@
 //! Replies: one that is written, and the first of those that were received.
-ghost use Rattle.std.specs.Prelude.{◌≡◌, ◌↔◌, ◌≤◌, ℕ, [], ◌∷◌, length, take, List, Some, IfOk};
-ghost use Rattle.unftp_control_defs.specs.Bytes.{Bytes};
+ghost use Rattle.std.specs.Prelude.{◌≡◌, ◌↔◌, ◌≤◌, ℕ, [], ◌∷◌, length, take, List, Some, IsTrue, IfOk};
+ghost use Rattle.unftp_control_defs.specs.Bytes.{Bytes, LF, Lacks};
 ghost use Rattle.unftp_control_defs.specs.FtpReply.{FtpReply};
 ghost use Rattle.unftp_control_defs.specs.ReplyReader.{FrontReply, IsMalformed, IsPartial, ReadsBack};
 ghost use Rattle.unftp_control_reply.specs.ReplyMeaning.{number_of, reply_of};
@@ -72,11 +72,18 @@ fn code_of(number: u32) -> Option<ReplyCode>
 fn reply_with(alloc: Global, code: ReplyCode, text: &str) -> Result<Reply, ControlChanError>
     ensures { IfOk result (λ reply. IsReplyOf (number_of code) text.now (reply_of reply)) }
 {
-    if text.as_bytes().contains(&b'\n') {
-        Reply::new_multiline(alloc, code, text.split('\n'))
-    } else {
+    if is_one_line(text) {
         Reply::new(alloc, code, text)
+    } else {
+        Reply::new_multiline(alloc, code, text.split('\n'))
     }
+}
+
+/// Whether the text has no line feed.
+fn is_one_line(text: &str) -> bool
+    ensures { IsTrue result ↔ Lacks LF text.now }
+{
+    !text.as_bytes().contains(&b'\n')
 }
 
 /// Finds the reply at the start: `unftp_front_reply` of include/unftp_control.h.

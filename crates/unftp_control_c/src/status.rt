@@ -1,10 +1,11 @@
 //! What a call reports to its caller.
 ghost use Rattle.std.specs.Prelude.{◌≡◌};
 ghost use Rattle.unftp_control_error.specs.ErrorMeaning.{fault_of, source_meant};
-ghost use Rattle.unftp_control_c.specs.Numbers.{status_number, keeps_bytes, fault_status, kind_status, source_status};
+ghost use Rattle.unftp_control_c.specs.Numbers.{status_number, keeps_bytes, fault_status, kind_status, line_status, source_status};
 
 use unftp_control_error::{ControlChanError, ControlChanErrorKind, Source};
 use unftp_control_line_parser::ParseErrorKind;
+use unftp_control_write::WriteCommandError;
 
 /// What a call reports where it gives no command.
 #[derive(Clone, Copy)]
@@ -84,5 +85,15 @@ fn source_status(source: &Source) -> Status
     match source {
         Source::Parse(refused) => kind_status(refused.kind()),
         _ => Status::InvalidCommand,
+    }
+}
+
+/// Why a command has no line.
+pub fn line_status(error: &WriteCommandError) -> Status
+    ensures { result ≡ line_status error.now }
+{
+    match error {
+        WriteCommandError::NoLine => Status::NoLine,
+        WriteCommandError::OutOfMemory => Status::OutOfMemory,
     }
 }

@@ -38,7 +38,7 @@ returns c =
     let tests = ap (λ codec. codec.tests) codec in
     let valid : is_within call.offset call.skipping (length call.bytes) ≡ true = sym c.is_within.ensures ∙ c.if-not-is_within.false in
     let is : Is c.match-event.number c.report-event.result = elim c.match-event.branch [
-      in-Ok w ↦ subst (Is c.match-event.number) (sym w.in-Ok.is) w.number-is
+      | in-Ok w ↦ subst (Is c.match-event.number) (sym w.in-Ok.is) w.number-is
       | in-Err+else-keeps_bytes w ↦ subst (Is c.match-event.number) (sym w.in-Err.is) (sym w.keeps_bytes.ensures ∙ w.if-keeps_bytes.false, w.number-is ∙ w.number-number.ensures)
     ] in
     rw (c.place.ensures, c.skipping.ensures.skipping)

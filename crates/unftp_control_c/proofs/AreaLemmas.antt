@@ -1,0 +1,29 @@
+-- What is in an area after a text was written to it.
+use Rattle.std.proofs.Common.{◌≡◌, ◌++◌, Bool, true, false, length, take, drop, arith}
+use Rattle.std.specs.Prelude.{if◌then◌else◌, nat_le}
+use Rattle.std.proofs.Math.Seq.{take-append_seam}
+use Rattle.unftp_control_defs.specs.Bytes.{Bytes}
+use Rattle.unftp_control_c.specs.declared.status.Status.TheVariants.{Done, NoRoom, NoLine}
+use Rattle.unftp_control_c.specs.Numbers.{status_number}
+use Rattle.unftp_control_c.specs.Areas.{Filled, filled, overwritten}
+
+-- by whether there is room
+abbrev by_room : Bool → Bytes → Bytes → Filled
+by_room room text area = if room
+    then record { result = status_number Done; area = overwritten text area; text_length = length text }
+    else record { result = status_number NoRoom; area = area; text_length = length text }
+
+-- where it is done, the text is at the start of the area
+pub filled_done : (text area : Bytes) → (filled text area).result ≡ status_number Done → take (filled text area).text_length (filled text area).area ≡ text
+filled_done text area done = go (nat_le (length text) (length area)) done
+  where
+    go : (room : Bool) → (by_room room text area).result ≡ status_number Done → take (by_room room text area).text_length (by_room room text area).area ≡ text
+    go true done = take-append_seam text (drop (length text) area)
+    go false done = absurd (omega (arith, done))
+
+pub filled_has_line : (text area : Bytes) → (filled text area).result ≡ status_number NoLine → ⊥
+filled_has_line text area none = go (nat_le (length text) (length area)) none
+  where
+    go : (room : Bool) → (by_room room text area).result ≡ status_number NoLine → ⊥
+    go true none = omega (arith, none)
+    go false none = omega (arith, none)

@@ -1,0 +1,49 @@
+-- A client finds the reply in the bytes that are written.
+use Rattle.std.proofs.Common.{◌≡◌, ◌≢◌, ◌<◌, ◌≤◌, ℕ, ◌⊎◌, inl, inr, [], ◌∷◌, ◌++◌, ◌==◌, List, Ok, Err, refl, sym, ap, subst, ◌∙◌, take, arith, eq-eqb, ne_eqb, append-nil}
+use Rattle.std.specs.List.{AllByRecursion, slice_split, onto_first}
+use Rattle.std.proofs.lemmas.Bool.{cases_eq}
+use Rattle.unftp_control_defs.specs.Bytes.{Bytes, LF, Lacks}
+use Rattle.unftp_control_defs.specs.FtpReply.{FtpReply, encoded, HasThreeDigits, IsPlain}
+use Rattle.unftp_control_defs.specs.ReplyReader.{ReadsBack}
+use Rattle.unftp_control_defs.proofs.EncodingLemmas.{ReadsBack-encoded}
+use Rattle.unftp_control_reply.specs.declared.code.ReplyCode.{ReplyCode}
+use Rattle.unftp_control_reply.specs.ReplyMeaning.{number_of}
+use Rattle.unftp_control_c.specs.declared.status.Status.TheVariants.{Done}
+use Rattle.unftp_control_c.specs.Numbers.{status_number}
+use Rattle.unftp_control_c.specs.Areas.{Made, written}
+use Rattle.unftp_control_c.specs.Replies.{IsCode, IsReplyOf, EncodesReply, encodes, unknown_code, not_utf8, out_of_memory}
+use Rattle.unftp_control_c.proofs.AreaLemmas.{filled_done}
+
+below_1000 : (code : ReplyCode) → number_of code < 1000
+below_1000 code = grind arith
+
+three_digits : (number : ℕ) → IsCode number → HasThreeDigits number
+three_digits number (least, (code, e)) = (least, rw (← e) (below_1000 code))
+
+first_lacks : (b : ℕ) (parts : List Bytes) → b ≢ LF → AllByRecursion (Lacks LF) parts → AllByRecursion (Lacks LF) (onto_first b parts)
+first_lacks b [] ne all = ((ne, tt), tt)
+first_lacks b (part ∷ parts) ne all = ((ne, all.0), all.1)
+
+next_part : (b : ℕ) (text : Bytes) → (b ≡ LF) ⊎ (b ≡ LF → ⊥) → AllByRecursion (Lacks LF) (slice_split (λ b. b == LF) text) → AllByRecursion (Lacks LF) (slice_split (λ b. b == LF) (b ∷ text))
+next_part b text (inl e) parts = rw (eq-eqb b LF e) (tt, parts)
+next_part b text (inr ne) parts = rw (ne_eqb b LF ne) (first_lacks b (slice_split (λ b. b == LF) text) ne parts)
+
+parts_lack : (text : Bytes) → AllByRecursion (Lacks LF) (slice_split (λ b. b == LF) text)
+parts_lack [] = (tt, tt)
+parts_lack (b ∷ text) = next_part b text (cases_eq b LF) (parts_lack text)
+
+plain : (code : ℕ) (text : Bytes) (reply : FtpReply) → IsCode code → IsReplyOf code text reply → IsPlain reply
+plain code text reply is_code (inl one) = subst IsPlain (sym one.1) (three_digits code is_code, one.0)
+plain code text reply is_code (inr several) = subst IsPlain (sym several.1) (three_digits code is_code, parts_lack text)
+
+one_back : (reply : FtpReply) → IsPlain reply → ReadsBack (encoded reply) (reply ∷ [])
+one_back reply is_plain = subst (λ bytes. ReadsBack bytes (reply ∷ [])) (append-nil (encoded reply)) (ReadsBack-encoded (reply ∷ []) (is_plain, tt))
+
+pub reads_back : (code : ℕ) (text area : Bytes) (bytes : Made) → EncodesReply code text bytes → (written bytes area).result ≡ status_number Done
+    → (reply : FtpReply) × IsReplyOf code text reply × ReadsBack (take (written bytes area).text_length (written bytes area).area) (reply ∷ [])
+reads_back code text area bytes (encodes is_code utf8 reply is_reply e) done =
+    let found = filled_done (encoded reply) area (subst (λ b. (written b area).result ≡ status_number Done) e done) in
+    (reply, is_reply, subst (λ b. ReadsBack (take (written b area).text_length (written b area).area) (reply ∷ [])) (sym e) (subst (λ text. ReadsBack text (reply ∷ [])) (sym found) (one_back reply (plain code text reply is_code is_reply))))
+reads_back code text area bytes (unknown_code unknown e) done = absurd (omega (arith, subst (λ b. (written b area).result ≡ status_number Done) e done))
+reads_back code text area bytes (not_utf8 is_code ill_formed e) done = absurd (omega (arith, subst (λ b. (written b area).result ≡ status_number Done) e done))
+reads_back code text area bytes (out_of_memory is_code utf8 e) done = absurd (omega (arith, subst (λ b. (written b area).result ≡ status_number Done) e done))
