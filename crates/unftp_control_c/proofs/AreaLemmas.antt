@@ -1,5 +1,5 @@
 -- What is in an area after a text was written to it.
-use Rattle.std.proofs.Common.{◌≡◌, ◌++◌, Bool, true, false, length, take, drop, arith}
+use Rattle.std.proofs.Common.{◌≡◌, Bool, true, false, length, take, drop, arith}
 use Rattle.std.specs.Prelude.{if◌then◌else◌, nat_le}
 use Rattle.std.proofs.Math.Seq.{take-append_seam}
 use Rattle.unftp_control_defs.specs.Bytes.{Bytes}

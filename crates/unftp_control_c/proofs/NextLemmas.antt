@@ -1,5 +1,5 @@
 -- What the codec's answer leaves of a call of `unftp_next`.
-use Rattle.std.proofs.Common.{◌≡◌, ℕ, ◌+◌, ◌-◌, ◌≤◌, Bool, true, false, ◌⊎◌, inl, inr, length, take, drop, Option, Some, None, Result, Ok, Err, refl, sym, ap, subst, ◌∙◌, arith}
+use Rattle.std.proofs.Common.{◌≡◌, ℕ, ◌+◌, ◌≤◌, Bool, true, false, ◌⊎◌, inl, inr, length, take, drop, Option, Some, None, Result, Ok, Err, refl, sym, ap, subst, ◌∙◌, arith}
 use Rattle.std.specs.Prelude.{MatchResult, nat_le}
 use Rattle.std.proofs.lemmas.Bool.{and_parts, leb-true}
 use Rattle.std.specs.Option.{MatchOption}
@@ -15,13 +15,13 @@ use Rattle.unftp_control_error.specs.ErrorParts.{KindAndSource}
 use Rattle.unftp_control_error.specs.ErrorMeaning.{fault_of}
 use Rattle.unftp_control_codecs.specs.Codec.{Codec}
 use Rattle.unftp_control_codecs.specs.LineFeed.{line_feed_from}
-use Rattle.unftp_control_codecs.specs.Decoding.{Decoded, Decodes, FindsNone, SkipsAll, CutsLine, KeepsLine, IfTooLong, AnswersNone, AnswersLine, IsOutOfMemory, returned_event}
+use Rattle.unftp_control_codecs.specs.Decoding.{Decoded, FindsNone, SkipsAll, CutsLine, KeepsLine, IfTooLong, AnswersNone, AnswersLine, IsOutOfMemory, returned_event}
 use Rattle.unftp_control_line_parser.specs.Memory.{MayTakeMemory}
 use Rattle.unftp_control_codecs.proofs.LineFeedLemmas.{line_feed_at}
 use Rattle.unftp_control_c.specs.declared.status.Status.{Status}
 use Rattle.unftp_control_c.specs.declared.status.Status.TheVariants.{More, NoRoom, OutOfMemory}
 use Rattle.unftp_control_c.specs.Numbers.{fault_status, keeps_bytes, refusal_status, status_number}
-use Rattle.unftp_control_c.specs.Next.{Call, Left, Leaves, LineMayTakeMemory, Reports, answered, by_line_feed, ended, gives, is_long, is_within, line_limit, next_of, used_up, waits}
+use Rattle.unftp_control_c.specs.Next.{Call, Left, Leaves, LineMayTakeMemory, Reports, by_line_feed, ended, gives, is_long, is_within, line_limit, next_of, used_up, waits}
 
 -- the codec that goes on where the caller's last call stopped
 abbrev pub codec_of : Call → Codec

@@ -1,5 +1,5 @@
 -- A client finds the reply in the bytes that are written.
-use Rattle.std.proofs.Common.{◌≡◌, ◌≢◌, ◌<◌, ◌≤◌, ℕ, ◌⊎◌, inl, inr, [], ◌∷◌, ◌++◌, ◌==◌, List, Ok, Err, refl, sym, ap, subst, ◌∙◌, take, arith, eq-eqb, ne_eqb, append-nil}
+use Rattle.std.proofs.Common.{◌≡◌, ◌≢◌, ◌<◌, ℕ, ◌⊎◌, inl, inr, [], ◌∷◌, ◌==◌, List, sym, subst, take, arith, eq-eqb, ne_eqb, append-nil}
 use Rattle.std.specs.List.{AllByRecursion, slice_split, onto_first}
 use Rattle.std.proofs.lemmas.Bool.{cases_eq}
 use Rattle.unftp_control_defs.specs.Bytes.{Bytes, LF, Lacks}

@@ -3,6 +3,7 @@
 
 mod areas;
 mod canonical;
+pub mod examples;
 mod next;
 mod parts;
 mod reply;

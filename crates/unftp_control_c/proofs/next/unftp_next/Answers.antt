@@ -1,5 +1,4 @@
-use Rattle.std.proofs.Common.{◌≡◌, ℕ, length, drop, true, Err, sym, ap, subst, ◌∙◌, arith}
-use Rattle.unftp_control_codecs.specs.Codec.{Codec}
+use Rattle.std.proofs.Common.{◌≡◌, length, drop, true, sym, ap, subst, ◌∙◌, arith}
 use Rattle.unftp_control_codecs.specs.Decoding.{Decodes}
 use Rattle.unftp_control_c.specs.Next.{Call, Leaves, Reports, is_within}
 use Rattle.unftp_control_c.proofs.NextLemmas.{codec_of, leaves_kept, leaves_taken, Is}

@@ -1,4 +1,4 @@
-use Rattle.std.proofs.Common.{refl, ap, Ok}
+use Rattle.std.proofs.Common.{refl}
 use Rattle.unftp_control_reply.specs.ReplyMeaning.{reply_of}
 use Rattle.unftp_control_c.specs.Replies.{encodes, not_utf8, out_of_memory}
 use Rattle.unftp_control_c.proofs.reply.encoded_reply.Goals as goal
