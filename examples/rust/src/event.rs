@@ -1,0 +1,51 @@
+use crate::command::Command;
+use crate::ffi;
+use std::error::Error;
+use std::fmt::{self, Display, Formatter};
+
+/// What a line is.
+#[derive(Clone, Copy, Debug, PartialEq, Eq)]
+pub enum Event<'a> {
+    /// A command.
+    Command(Command<'a>),
+    /// A line that is no command, and why.
+    Refused(Refusal),
+}
+
+/// Why a line is no command.
+#[derive(Clone, Copy, Debug, PartialEq, Eq, Hash)]
+pub enum Refusal {
+    /// The verb doesn't take this parameter.
+    InvalidCommand,
+    /// The verb, the subcommand of SITE or the parameter of AUTH is not UTF-8.
+    InvalidUtf8,
+    /// The line's end is not CR LF or LF, or a CR in its parameter is followed by neither LF nor NUL.
+    InvalidEol,
+    /// The line is longer than the limit.
+    LineTooLong,
+}
+
+impl Refusal {
+    pub(crate) fn of_status(status: u32) -> Option<Refusal> {
+        Some(match status {
+            ffi::INVALID_COMMAND => Refusal::InvalidCommand,
+            ffi::INVALID_UTF8 => Refusal::InvalidUtf8,
+            ffi::INVALID_EOL => Refusal::InvalidEol,
+            ffi::LINE_TOO_LONG => Refusal::LineTooLong,
+            _ => return None,
+        })
+    }
+}
+
+impl Display for Refusal {
+    fn fmt(&self, f: &mut Formatter<'_>) -> fmt::Result {
+        f.write_str(match self {
+            Refusal::InvalidCommand => "invalid command",
+            Refusal::InvalidUtf8 => "non-UTF-8 character while parsing",
+            Refusal::InvalidEol => "invalid end of line",
+            Refusal::LineTooLong => "line too long",
+        })
+    }
+}
+
+impl Error for Refusal {}

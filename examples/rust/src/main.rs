@@ -1,0 +1,154 @@
+//! Answers the cases of a vector file (`vectors/README.md`): reads one a line from standard input,
+//! and writes its answer. Its one argument is the call that answers, `parse`, `decode`, `encode`,
+//! `read` or `canonical`. A case that the call doesn't take is answered by `skipped`, and what is
+//! no case by `bad-case`.
+
+mod cases;
+mod shown;
+
+use cases::{is_one_line, read_bytes, read_reply};
+use shown::{hex, shown, shown_refusal, shown_refusals};
+use std::env;
+use std::io::{self, BufRead, Write};
+use std::process::ExitCode;
+use unftp_control::{canonical, front_reply, reply, Error, Event, FrontReply, Pending};
+
+/// What a call answers to a case: `None` where it doesn't take the case.
+type Answer = Result<Option<String>, Error>;
+
+/// The call that answers.
+#[derive(Clone, Copy)]
+enum Call {
+    Parse,
+    Decode,
+    Encode,
+    Read,
+    Canonical,
+}
+
+impl Call {
+    fn named(name: &str) -> Option<Call> {
+        Some(match name {
+            "parse" => Call::Parse,
+            "decode" => Call::Decode,
+            "encode" => Call::Encode,
+            "read" => Call::Read,
+            "canonical" => Call::Canonical,
+            _ => return None,
+        })
+    }
+
+    /// The answer to a case; `None` where it is no case.
+    fn answer(self, case: &str) -> Option<Answer> {
+        Some(match self {
+            Call::Parse => answer_parse(&read_bytes(case)?),
+            Call::Decode => answer_decode(&read_bytes(case)?),
+            Call::Encode => answer_encode(case),
+            Call::Read => answer_read(&read_bytes(case)?),
+            Call::Canonical => answer_canonical(&read_bytes(case)?),
+        })
+    }
+}
+
+/// What a line is.
+fn answer_parse(line: &[u8]) -> Answer {
+    if !is_one_line(line) {
+        return Ok(None);
+    }
+    let mut pending = Pending::new(None);
+    pending.push(line)?;
+    Ok(pending.next_event()?.map(|event| match event {
+        Event::Command(command) => format!("ok {}", shown(&command)),
+        Event::Refused(refusal) => format!("err {}", shown_refusal(refusal)),
+    }))
+}
+
+/// What each line of an input is, and how many bytes are left.
+fn answer_decode(input: &[u8]) -> Answer {
+    let mut pending = Pending::new(None);
+    pending.push(input)?;
+    let mut answer = String::new();
+    while let Some(event) = pending.next_event()? {
+        answer += &match event {
+            Event::Command(command) => format!("ok {} | ", shown(&command)),
+            Event::Refused(refusal) => format!("err {} | ", shown_refusals(refusal)),
+        };
+    }
+    answer += &format!("left={}", pending.bytes().len());
+    Ok(Some(answer))
+}
+
+/// The bytes of a reply.
+fn answer_encode(case: &str) -> Answer {
+    match read_reply(case) {
+        Some((code, text)) => Ok(Some(hex(&reply(code, &text)?))),
+        None => Ok(None),
+    }
+}
+
+/// The code and the length of each reply of what a server sent, and how much is left.
+fn answer_read(stream: &[u8]) -> Answer {
+    let mut rest = stream;
+    let mut replies = Vec::new();
+    let end = loop {
+        match front_reply(rest) {
+            FrontReply::Whole { code, used } => {
+                replies.push(format!("{code:03}:{used}"));
+                rest = &rest[used..];
+            }
+            FrontReply::Partial => break "",
+            FrontReply::Malformed => break " malformed",
+        }
+    };
+    Ok(Some(format!(
+        "{} rest={}{end}",
+        replies.join(";"),
+        rest.len()
+    )))
+}
+
+/// The canonical line of a line.
+fn answer_canonical(line: &[u8]) -> Answer {
+    Ok(Some(match canonical(line) {
+        Ok(written) => format!("ok {}", hex(&written)),
+        Err(Error::Refused(refusal)) => format!("err {}", shown_refusal(refusal)),
+        Err(Error::NoLine) => "err NoLine".to_string(),
+        Err(error) => return Err(error),
+    }))
+}
+
+/// Answers each line of standard input.
+fn replay(call: Call) -> Result<(), Box<dyn std::error::Error>> {
+    let mut out = io::BufWriter::new(io::stdout().lock());
+    for case in io::stdin().lock().lines() {
+        match call.answer(&case?) {
+            Some(answer) => writeln!(out, "{}", answer?.as_deref().unwrap_or("skipped"))?,
+            None => writeln!(out, "bad-case")?,
+        }
+    }
+    out.flush()?;
+    Ok(())
+}
+
+/// The call that the arguments name.
+fn call_asked() -> Option<Call> {
+    let mut arguments = env::args().skip(1);
+    match (arguments.next(), arguments.next()) {
+        (Some(name), None) => Call::named(&name),
+        _ => None,
+    }
+}
+
+fn main() -> ExitCode {
+    let Some(call) = call_asked() else {
+        eprintln!("usage: replay parse|decode|encode|read|canonical");
+        return ExitCode::from(2);
+    };
+    match replay(call) {
+        Ok(()) => ExitCode::SUCCESS,
+        Err(error) => {
+            eprintln!("replay: {error}");
+            ExitCode::FAILURE
+        }
+    }
+}

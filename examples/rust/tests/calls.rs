@@ -1,0 +1,94 @@
+//! The calls on small inputs.
+use std::num::NonZeroUsize;
+use unftp_control::{
+    canonical, front_reply, reply, Command, CommandKind, Error, Event, FrontReply, Pending, Refusal,
+};
+
+fn command<'a>(kind: CommandKind, name: &'a str, value: &'a [u8]) -> Option<Event<'a>> {
+    Some(Event::Command(Command { kind, name, value }))
+}
+
+#[test]
+fn a_line_may_come_in_pieces() -> Result<(), Error> {
+    let mut pending = Pending::new(None);
+    for piece in [&b"re"[..], b"tr a", b"", b".txt\r"] {
+        pending.push(piece)?;
+        assert_eq!(pending.next_event()?, None);
+    }
+    pending.push(b"\nNOOP x\n")?;
+    let retr = command(CommandKind::Retr, "RETR", b"a.txt");
+    assert_eq!(pending.next_event()?, retr);
+    let refused = Event::Refused(Refusal::InvalidCommand);
+    assert_eq!(pending.next_event()?, Some(refused));
+    assert_eq!(pending.next_event()?, None);
+    assert_eq!(pending.bytes(), b"");
+    Ok(())
+}
+
+#[test]
+fn names_and_values_may_have_any_length() -> Result<(), Error> {
+    let mut pending = Pending::new(None);
+    pending.push(
+        &[
+            b"x".repeat(5000),
+            b" ".to_vec(),
+            vec![0xff; 9000],
+            b"\r\n".to_vec(),
+        ]
+        .concat(),
+    )?;
+    let (name, value) = ("X".repeat(5000), "\u{fffd}".repeat(9000));
+    let other = command(CommandKind::Other, &name, value.as_bytes());
+    assert_eq!(pending.next_event()?, other);
+    Ok(())
+}
+
+#[test]
+fn a_line_over_the_limit_is_refused() -> Result<(), Error> {
+    let mut pending = Pending::new(NonZeroUsize::new(6));
+    pending.push(b"NOOP\r\nNOOP \r\n")?;
+    let noop = command(CommandKind::Noop, "NOOP", b"");
+    assert_eq!(pending.next_event()?, noop);
+    let refused = Event::Refused(Refusal::LineTooLong);
+    assert_eq!(pending.next_event()?, Some(refused));
+    for _ in 0..100 {
+        pending.push(b"0123456789")?;
+        assert_eq!(pending.next_event()?, None);
+        assert!(pending.bytes().len() <= 6);
+    }
+    Ok(())
+}
+
+#[test]
+fn debug_shows_no_password() -> Result<(), Error> {
+    let mut pending = Pending::new(None);
+    pending.push(b"PASS secret\r\n")?;
+    assert_eq!(format!("{pending:?}"), "Pending { len: 13, .. }");
+    let shown = format!("{:?}", pending.next_event()?);
+    let pass = "Some(Command(Command { kind: Pass, name: \"PASS\", value: ******* }))";
+    assert_eq!(shown, pass);
+    Ok(())
+}
+
+#[test]
+fn a_reply_is_found_again() -> Result<(), Error> {
+    assert_eq!(reply(200, "")?, b"200\r\n");
+    let mut bytes = reply(211, &["211 x"; 100].join("\n"))?;
+    let (code, used) = (211, bytes.len());
+    assert_eq!(front_reply(&bytes[..used - 1]), FrontReply::Partial);
+    bytes.extend_from_slice(b"2");
+    assert_eq!(front_reply(&bytes), FrontReply::Whole { code, used });
+    assert_eq!(front_reply(b""), FrontReply::Partial);
+    assert_eq!(front_reply(b"OK\r\n"), FrontReply::Malformed);
+    assert_eq!(reply(2, "OK"), Err(Error::UnknownCode));
+    Ok(())
+}
+
+#[test]
+fn a_canonical_line_says_the_same() -> Result<(), Error> {
+    assert_eq!(canonical(b"xcwd a b\n")?, b"CWD a b\r\n");
+    assert_eq!(canonical(b"USER a\n\n"), Err(Error::NoLine));
+    let refused = Error::Refused(Refusal::InvalidEol);
+    assert_eq!(canonical(b"USER a\r\0\n"), Err(refused));
+    Ok(())
+}
