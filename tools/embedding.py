@@ -1,0 +1,398 @@
+#!/usr/bin/env python3
+"""Makes the checks of tools/embedding that talk to the programs in examples/.
+
+usage: tools/embedding.py sessions|session SERVER..        the replies of the server: to all lines, or to one line of each kind
+       tools/embedding.py memory PRELOAD SERVER              what it sends at each failed allocation: PRELOAD is tools/fail_allocation.c
+       tools/embedding.py answers REPLAY FILE CALL SKIPPED   the answers to a vector file, of which so many may be skipped
+       tools/embedding.py read|canonical REPLAY..            the replies that servers wrote; the canonical lines of clients' commands
+       tools/embedding.py valgrind LOG..                     whether each process ended without an error
+       tools/embedding.py snippets                           the snippets of docs/EMBEDDING.md are cut from examples/
+
+SERVER.. and REPLAY.. may be the program and what runs it. The last line says what was compared; the status is 0 where all is right.
+"""
+
+import os
+import pathlib
+import re
+import signal
+import socket
+import subprocess
+import sys
+import threading
+
+TOP = pathlib.Path(__file__).resolve().parent.parent
+VECTORS = TOP / "vectors"
+LINE_FILES = ["parse.tsv", "client_lines.tsv"]
+
+HOST = "127.0.0.1"
+# how many seconds the server may run, and how long it may take to answer
+LIFE, PATIENCE = 60, 10
+# how many bytes are sent at a time, by turns
+PIECES = [1, 61, 3, 1021, 7, 509]
+LINE_LIMIT = 4096
+
+GREETING = b"220 Ready\r\n"
+NOT_UTF8 = b"501 Not UTF-8\r\n"
+TOO_LONG = b"500 Line too long\r\n"
+OUT_OF_MEMORY = b"421 Out of memory\r\n"
+
+REFUSALS = {
+    "InvalidCommand": b"500 Invalid command\r\n",
+    "InvalidUtf8": b"500 Non-UTF8 character while parsing\r\n",
+    "InvalidEol": b"500 Invalid end-of-line\r\n",
+}
+
+REPLIES = {
+    "User": b"331 Password required\r\n",
+    "Pass": b"230 Logged in\r\n",
+    "Acct": b"202 No account needed\r\n",
+    "Syst": b"215 UNIX Type: L8\r\n",
+    "TypeCode": b"200 OK\r\n",
+    "Noop": b"200 OK\r\n",
+    "Feat": b"211-Features:\r\n UTF8\r\n211 End\r\n",
+    "Help": b"214-Commands:\r\n ACCT FEAT HELP NOOP PASS PWD\r\n QUIT SITE SYST TYPE USER\r\n214 End\r\n",
+    "Pwd": b'257 "/" is the current directory\r\n',
+    "Quit": b"221 Bye\r\n",
+}
+
+# the values that the vector files name
+WORDS = {
+    "Stru": {"File": b"F", "Record": b"R", "Page": b"P"},
+    "Mode": {"Stream": b"S", "Block": b"B", "Compressed": b"C"},
+    "Opts": {"true": b"UTF8 ON", "false": b"UTF8 OFF"},
+    "Auth": {"Tls": b"TLS", "Ssl": b"SSL"},
+    "Prot": {"Clear": b"C", "Safe": b"S", "Confidential": b"E", "Private": b"P"},
+}
+
+
+class Wrong(Exception):
+    """A check failed."""
+
+
+def wants(what, found, expected):
+    if found != expected:
+        raise Wrong(f"{what}: it has {found!r}, and not {expected!r}")
+
+
+def rows(name):
+    """The cases and the answers of a vector file."""
+    with open(VECTORS / name, encoding="ascii") as file:
+        return [row.rstrip("\n").split("\t") for row in file]
+
+
+def one_lines():
+    """The lines whose one line feed is their last byte, with their answers."""
+    cases = [(bytes.fromhex(case), answer) for name in LINE_FILES for case, answer in rows(name)]
+    return [(line, answer) for line, answer in cases if line.find(b"\n") == len(line) - 1 >= 0]
+
+
+def name_and_value(variant, fields):
+    """How the server names a command, and what it says after that."""
+    last = fields[-1].split("=")[1] if fields else ""
+    if variant in WORDS:
+        return variant.upper().encode(), WORDS[variant][last]
+    if variant == "Rest":
+        return b"REST", last.encode()
+    if variant == "Pbsz":
+        return b"PBSZ", b"0"
+    value = b"" if last == "None" else bytes.fromhex(last.removeprefix("Some:"))
+    if variant in ["Site", "Other"]:
+        name = bytes.fromhex(fields[0].split("=")[1])
+        return b"SITE " + name if variant == "Site" else name, value
+    return b"SITE MD5" if variant == "Md5" else variant.upper().encode(), value
+
+
+def reply_to(answer):
+    """The server's reply to a line with this answer."""
+    verdict, variant, *fields = answer.split(" ")
+    if verdict == "err":
+        return REFUSALS[variant]
+    if variant in REPLIES:
+        return REPLIES[variant]
+    name, value = name_and_value(variant, fields)
+    if name == b"SITE ECHO":
+        return b"200 " + value + b"\r\n" if value else b"200\r\n"
+    text = b" ".join([name, value] if value else [name]) + b": not implemented"
+    try:
+        text.decode()
+    except UnicodeDecodeError:
+        return NOT_UTF8
+    return b"502 " + text + b"\r\n"
+
+
+class Server:
+    """The server while it runs. `timeout` ends it, even where this script was killed before it could. A signal is for the server, and not
+    for its children, which end with their connections."""
+
+    def __init__(self, arguments):
+        limited = ["timeout", "--foreground", "--kill-after=1", str(LIFE), *arguments, "0"]
+        self.process = subprocess.Popen(limited, stdout=subprocess.PIPE, start_new_session=True)
+
+    def __enter__(self):
+        self.port = int(self.process.stdout.readline())
+        return self
+
+    def __exit__(self, *_):
+        """Ends it, and waits for its children, which have its standard output; what has not ended by then is killed."""
+        self.process.terminate()
+        try:
+            self.process.communicate(timeout=PATIENCE)
+        except subprocess.TimeoutExpired:
+            pass
+        try:
+            os.killpg(self.process.pid, signal.SIGKILL)
+        except ProcessLookupError:
+            pass  # none is left
+        self.process.wait()
+
+    def connect(self):
+        """A connection after its greeting."""
+        connection = socket.create_connection((HOST, self.port), PATIENCE)
+        connection.setsockopt(socket.IPPROTO_TCP, socket.TCP_NODELAY, 1)
+        wants("the greeting", receive(connection, len(GREETING)), GREETING)
+        return connection
+
+
+def receive(connection, count=None):
+    """So many bytes, or all up to the end."""
+    received = b""
+    while count is None or len(received) < count:
+        piece = connection.recv(65536 if count is None else count - len(received))
+        if not piece:
+            break
+        received += piece
+    return received
+
+
+def send_pieces(connection, sent, ends):
+    turn = 0
+    while sent:
+        size = PIECES[turn % len(PIECES)]
+        connection.sendall(sent[:size])
+        sent = sent[size:]
+        turn += 1
+    if ends:
+        connection.shutdown(socket.SHUT_WR)
+
+
+def converse(server, lines, replies):
+    """Sends these lines in pieces, while it reads: exactly these replies come, and then the end of the connection. After QUIT the
+    client sends another line, and leaves its side open."""
+    quits = replies[-1:] == [REPLIES["Quit"]]
+    sent = b"".join(lines) + (b"NOOP\r\n" if quits else b"")
+    with server.connect() as connection:
+        sender = threading.Thread(target=send_pieces, args=(connection, sent, not quits), daemon=True)
+        sender.start()
+        received = receive(connection)
+        sender.join()
+    expected = b"".join(replies)
+    if received != expected:
+        at = len(os.path.commonprefix([received, expected]))
+        raise Wrong(f"the reply from byte {at}: it has {received[at:at + 80]!r}, and not {expected[at:at + 80]!r}")
+
+
+def sessions_of(lines):
+    """The lines with their replies, up to each QUIT."""
+    session = []
+    for line, answer in lines:
+        session.append((line, reply_to(answer)))
+        if answer == "ok Quit":
+            yield session
+            session = []
+    yield session
+
+
+def long_lines():
+    """Lines at the limit, longer ones, and one between them."""
+    fitting = b"SITE ECHO ".ljust(LINE_LIMIT - 2, b"x")
+    noop = (b"NOOP\r\n", REPLIES["Noop"])
+    yield fitting + b"\r\n", b"200 " + fitting[10:] + b"\r\n"
+    yield fitting + b"x\r\n", TOO_LONG
+    yield noop
+    yield b"x" * 4998 + b"\r\n", TOO_LONG
+    yield noop
+    yield b"SITE ECHO " + b"\xff" * 4000 + b"\r\n", b"200 " + "\ufffd".encode() * 4000 + b"\r\n"
+    yield b"x" * 100_000 + b"\n", TOO_LONG
+    yield noop
+
+
+def check_sessions(*arguments):
+    """All lines, over as many connections as there are QUITs, and one beside them."""
+    lines = one_lines()
+    with Server(arguments) as server, server.connect() as beside:
+        sessions = [*sessions_of(lines), [*long_lines()]]
+        for session in sessions:
+            converse(server, [line for line, _ in session], [reply for _, reply in session])
+        beside.sendall(b"noop\n")
+        wants("the first connection at the end", receive(beside, 8), REPLIES["Noop"])
+    return f"{len(lines)} lines answered over {len(sessions)} connections"
+
+
+def kinds_of_lines():
+    """One line of each command and of each refusal, a QUIT last."""
+    kinds = {}
+    for line, answer in one_lines():
+        kinds.setdefault(" ".join(answer.split(" ")[:2]), (line, answer))
+    kinds["not UTF-8"] = (b"STAT \xff\r\n", "ok Stat path=Some:ff")
+    kinds["no subcommand"] = (b"SITE\n", "ok Site command= arguments=")
+    kinds["echo"] = (b"SITE ECHO hello\r\n", "ok Site command=4543484f arguments=68656c6c6f")
+    quit_line = kinds.pop("ok Quit")
+    return [*kinds.values(), quit_line]
+
+
+def check_session(*arguments):
+    """One line of each kind, over one connection."""
+    session = [(line, reply_to(answer)) for line, answer in kinds_of_lines()]
+    session[-1:-1] = long_lines()
+    with Server(arguments) as server:
+        converse(server, [line for line, _ in session], [reply for _, reply in session])
+    return f"{len(session)} lines answered"
+
+
+def replies_without(preload, program, number):
+    """What the server sends where this allocation fails, and whether it has come to that."""
+    lines = [b"RETR a\r\0b\r\n", b"FEAT\r\n", b"STAT \xff\r\n", b"SITE ECHO a\r\n"]
+    answers = ["ok Retr path=610d62", "ok Feat", "ok Stat path=Some:ff", "ok Site command=4543484f arguments=61"]
+    replies = [GREETING, *map(reply_to, answers)]
+    with Server(["env", f"LD_PRELOAD={preload}", f"FAIL_AT={number}", program]) as server:
+        with socket.create_connection((HOST, server.port), PATIENCE) as connection:
+            send_pieces(connection, b"".join(lines), ends=True)
+            received = receive(connection)
+    if received == b"".join(replies):
+        return False
+    ended = [b"".join(replies[:count]) + OUT_OF_MEMORY for count in range(len(replies))]
+    if received not in ended:
+        raise Wrong(f"at allocation {number}: it has {received!r}")
+    return True
+
+
+def check_memory(preload, program):
+    """At a failed allocation the replies before it, 421, and then the end of the connection."""
+    first = number = 2  # the first one is that of standard output
+    while replies_without(preload, program, number):
+        number += 1
+    if number == first:
+        raise Wrong("no allocation failed")
+    return f"421 at {number - first} failed allocations"
+
+
+def answers_of(program, call, cases):
+    """What the program answers to these cases."""
+    text = "".join(f"{case}\n" for case in cases)
+    run = subprocess.run([*program, call], input=text, capture_output=True, encoding="ascii", timeout=LIFE)
+    wants("the program's status", (run.returncode, run.stderr), (0, ""))
+    answers = run.stdout.splitlines()
+    wants("the number of answers", len(answers), len(cases))
+    return answers
+
+
+def compare(cases, answers, expected):
+    """Compares the answers that are not `skipped`, and returns how many these are."""
+    for case, answer, wanted in zip(cases, answers, expected):
+        if answer != "skipped":
+            wants(case, answer, wanted)
+    return sum(answer != "skipped" for answer in answers)
+
+
+def check_answers(*arguments):
+    """A vector file: of its rows no more than so many are skipped."""
+    *program, name, call, most = arguments
+    cases, expected = zip(*rows(name))
+    compared = compare(cases, answers_of(program, call, cases), expected)
+    skipped = len(cases) - compared
+    if skipped > int(most) or compared == 0:
+        raise Wrong(f"{skipped} of {len(cases)} rows are skipped, and not at most {most}")
+    return f"{compared} of {len(cases)} rows compared, {skipped} skipped"
+
+
+def shown_replies(case, answer):
+    """What the program has to answer to a stream with this answer, which has the lines of each reply: each ends with CR LF."""
+    replies, rest = re.fullmatch(r"(.*?) (rest=.*)", answer).groups()
+    lines = bytes.fromhex(case).split(b"\r\n")
+    shown = []
+    for reply in filter(None, replies.split(";")):
+        code, texts = reply.split(":")
+        count = texts.count(",") + 1
+        shown.append(f"{code}:{sum(len(line) + 2 for line in lines[:count])}")
+        lines = lines[count:]
+    return f"{';'.join(shown)} {rest}"
+
+
+def check_read(*program):
+    """What servers wrote: the code and the length of each reply, and what is left."""
+    cases, answers = zip(*rows("server_replies.tsv"))
+    expected = [shown_replies(case, answer) for case, answer in zip(cases, answers)]
+    compare(cases, answers_of(program, "read", cases), expected)
+    return f"{len(cases)} streams of {sum(answer.count(':') for answer in answers)} replies compared"
+
+
+def check_canonical(*program):
+    """The canonical line of each command is read as that command; a refused line has the same refusal."""
+    cases, expected = zip(*rows("client_lines.tsv"))
+    written = answers_of(program, "canonical", cases)
+    refused = [(line, answer) for line, answer in zip(written, expected) if not line.startswith("ok ")]
+    for line, answer in refused:
+        wants("a refusal", line, answer)
+    lines = [line.removeprefix("ok ") for line in written if line.startswith("ok ")]
+    commands = [answer for line, answer in zip(written, expected) if line.startswith("ok ")]
+    if compare(lines, answers_of(program, "parse", lines), commands) != len(lines) or not lines:
+        raise Wrong("a canonical line was skipped")
+    return f"{len(lines)} commands read back, {len(refused)} lines refused"
+
+
+def check_valgrind(*logs):
+    """The logs of the server and of its children."""
+    for log in logs:
+        text = pathlib.Path(log).read_text(encoding="utf-8", errors="replace")
+        if "ERROR SUMMARY: 0 errors" not in text:
+            raise Wrong(f"a process has errors, or did not end:\n{text}")
+    if len(logs) < 2:
+        raise Wrong(f"{len(logs)} processes ran, and not the server and its child")
+    return f"{len(logs)} processes without an error"
+
+
+def bare(text):
+    """The text without the indentation of its lines, nor the marks of a comment that documents, between two line feeds."""
+    return "\n" + "".join(line.strip().removeprefix("//!").strip() + "\n" for line in text.splitlines())
+
+
+def check_snippets():
+    """The snippets of docs/EMBEDDING.md follow in one file of examples/, indented alike or not."""
+    files = [path for path in (TOP / "examples").glob("**/*") if path.suffix in [".c", ".rs"] and "target" not in path.parts]
+    sources = [bare(path.read_text(encoding="utf-8")) for path in files]
+    page = (TOP / "docs/EMBEDDING.md").read_text(encoding="utf-8")
+    snippets = re.findall(r"^```(?:c|rust)\n(.*?)^```$", page, re.M | re.S)
+    for snippet in snippets:
+        if not any(bare(snippet) in source for source in sources):
+            raise Wrong(f"no file of examples/ has this snippet:\n{snippet}")
+    return f"{len(snippets)} snippets are in examples/"
+
+
+CHECKS = {
+    "sessions": check_sessions,
+    "session": check_session,
+    "memory": check_memory,
+    "answers": check_answers,
+    "read": check_read,
+    "canonical": check_canonical,
+    "valgrind": check_valgrind,
+    "snippets": check_snippets,
+}
+
+
+def main():
+    if len(sys.argv) < 2 or sys.argv[1] not in CHECKS:
+        print(__doc__, file=sys.stderr)
+        return 2
+    for number in [signal.SIGHUP, signal.SIGTERM]:
+        signal.signal(number, lambda number, _: sys.exit(128 + number))
+    try:
+        print(CHECKS[sys.argv[1]](*sys.argv[2:]))
+    except (Wrong, OSError, subprocess.SubprocessError, ValueError) as error:
+        print(error)
+        return 1
+    return 0
+
+
+if __name__ == "__main__":
+    sys.exit(main())
