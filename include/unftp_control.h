@@ -6,13 +6,16 @@
  * caller passes in again, so calls on different memory may be made by different threads at a time.
  *
  * Of every call:
- * - No pointer may be null, also where the length beside it is 0, and the areas that a call is given
- *   may not overlap.
+ * - No pointer may be null, also where the length beside it is 0. What a call writes may overlap
+ *   nothing else that it is given; an area of no bytes overlaps nothing. A bool has to be 0 or 1.
  * - A pointer with a length is to so many bytes. Texts are not ended by a NUL, and may hold any byte.
- * - Where a call has no room or no memory, the caller calls again with the same bytes.
+ * - Areas and lengths that are only written need not be set before. Each length is 0 where its comment
+ *   doesn't say what it is.
+ * - Where a call has no room or no memory, the caller may call again with the same bytes.
  *
- * docs/EMBEDDING.md says how a program is linked. What is promised below is proved: the contracts of
- * the functions in crates/unftp_control_c/src say it exactly.
+ * docs/EMBEDDING.md says how a program is linked, and what a caller must not do. What is promised below
+ * is proved, but for the two bounds on lengths, which are tested: the contracts of the functions in
+ * crates/unftp_control_c/src say it exactly.
  */
 #ifndef UNFTP_CONTROL_H
 #define UNFTP_CONTROL_H
@@ -32,7 +35,7 @@ extern "C" {
 #endif
 
 /* What a call returns. */
-enum {
+enum unftp_result {
     /* It has done what was asked. */
     UNFTP_DONE = 0,
 
@@ -81,7 +84,7 @@ enum {
     UNFTP_MDTM = 41,   /* path */
     UNFTP_MD5 = 42,    /* path; SITE MD5, its name is MD5 */
     UNFTP_SITE = 43,   /* [arguments]; its name is the subcommand in upper case */
-    UNFTP_OTHER = 44,  /* [arguments]; its name is the verb in upper case, one of none of the above */
+    UNFTP_OTHER = 44,  /* [arguments]; its name is a verb in upper case that is none of the above */
 
     /* More bytes are needed. */
     UNFTP_MORE = 101,
@@ -113,12 +116,14 @@ enum {
  * *used is how many bytes the caller drops from the front of the pending bytes before the next call.
  *
  * *offset and *skipping are the caller's to keep with its pending bytes: 0 and false at the start of a
- * connection. No byte before *offset is scanned again, so the time is linear in what was received.
+ * connection. No byte before *offset is scanned again, so the time is linear in what was received, and
+ * bytes before it may not change.
  *
- * A command's name is its verb in upper case, and its value is what it says after that: paths and
- * other texts are UTF-8, with U+FFFD for each ill-formed part, and a CR that was sent as CR NUL is one
- * CR. At UNFTP_NO_ROOM *name_len and *value_len are the lengths that are needed; a line of n bytes has
- * a name of at most n and a value of at most 3 n.
+ * A command's name is its verb in upper case, or its subcommand of SITE, in UTF-8. Its value is what it
+ * says after that, without the line's end: a CR that was sent as CR NUL is one CR. Values are UTF-8,
+ * with U+FFFD for each ill-formed part, but those of USER, PASS, ACCT and STAT, which are the bytes
+ * that were sent. At UNFTP_NO_ROOM *name_len and *value_len are the lengths that are needed; a line of n
+ * bytes has a name of at most n and a value of at most 3 n.
  *
  * A line of more than limit bytes, its line feed counted, is UNFTP_LINE_TOO_LONG once it has ended,
  * whatever it holds. Its bytes are used up before that, at UNFTP_MORE, so no more than limit bytes
@@ -135,9 +140,11 @@ uint32_t unftp_next(const uint8_t *bytes, size_t len, size_t *offset, size_t lim
  * Writes the bytes of a reply to the start of out, and *len is how many they are (RFC 959, section
  * 4.2). The text is of one line, or of several that are divided by line feeds. It returns UNFTP_DONE;
  * UNFTP_UNKNOWN_CODE for a number that is no code of a reply; UNFTP_INVALID_UTF8; UNFTP_NO_ROOM, where
- * *len is the room that is needed; or UNFTP_OUT_OF_MEMORY. out is as it was but at UNFTP_DONE.
+ * *len is the room that is needed; or UNFTP_OUT_OF_MEMORY. out is as it was but at UNFTP_DONE. A text of
+ * n bytes with k line feeds needs at most n + 2 k + 10.
  *
- * A client that reads by RFC 959 finds in these bytes exactly this reply, whatever the text holds.
+ * A client that reads by RFC 959 finds in these bytes exactly this reply, whatever the text holds: a CR
+ * of it is written as it is, and a line before the last that begins with a digit follows a space.
  */
 uint32_t unftp_reply(uint32_t code, const uint8_t *text, size_t text_len,
                      uint8_t *out, size_t out_room, size_t *len) UNFTP_NONNULL;
@@ -145,7 +152,8 @@ uint32_t unftp_reply(uint32_t code, const uint8_t *text, size_t text_len,
 /*
  * Finds the reply at the start of what a client has received (RFC 959, section 4.2). It returns
  * UNFTP_DONE with its code and how many bytes it takes, UNFTP_MORE where it is not complete, or
- * UNFTP_MALFORMED; *code and *used are then 0. It takes no memory.
+ * UNFTP_MALFORMED; *code and *used are then 0. A line ends at CR LF, and a bare LF belongs to it. It
+ * takes no memory, and scans from the start at each call.
  */
 uint32_t unftp_front_reply(const uint8_t *bytes, size_t len, uint32_t *code, size_t *used)
     UNFTP_NONNULL;
