@@ -1,4 +1,4 @@
-//! The calls on small inputs.
+//! The calls on inputs whose answers are known.
 use std::num::NonZeroUsize;
 use unftp_control::{
     canonical, front_reply, reply, Command, CommandKind, Error, Event, FrontReply, Pending, Refusal,
@@ -90,5 +90,21 @@ fn a_canonical_line_says_the_same() -> Result<(), Error> {
     assert_eq!(canonical(b"USER a\n\n"), Err(Error::NoLine));
     let refused = Error::Refused(Refusal::InvalidEol);
     assert_eq!(canonical(b"USER a\r\0\n"), Err(refused));
+    Ok(())
+}
+
+#[test]
+fn texts_of_100_kb_go_through_each_call() -> Result<(), Error> {
+    let path = "a".repeat(100_000);
+    let line = format!("RETR {path}\r\n");
+    let mut pending = Pending::new(None);
+    pending.push(line.as_bytes())?;
+    let retr = command(CommandKind::Retr, "RETR", path.as_bytes());
+    assert_eq!(pending.next_event()?, retr);
+    assert_eq!(canonical(line.as_bytes())?, line.as_bytes());
+    let bytes = reply(250, &path)?;
+    assert_eq!(bytes, format!("250 {path}\r\n").as_bytes());
+    let (code, used) = (250, bytes.len());
+    assert_eq!(front_reply(&bytes), FrontReply::Whole { code, used });
     Ok(())
 }
