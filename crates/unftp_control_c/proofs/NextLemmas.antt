@@ -15,7 +15,7 @@ use Rattle.unftp_control_error.specs.ErrorParts.{KindAndSource}
 use Rattle.unftp_control_error.specs.ErrorMeaning.{fault_of}
 use Rattle.unftp_control_codecs.specs.Codec.{Codec}
 use Rattle.unftp_control_codecs.specs.LineFeed.{line_feed_from}
-use Rattle.unftp_control_codecs.specs.Decoding.{Decoded, FindsNone, SkipsAll, CutsLine, KeepsLine, IfTooLong, AnswersNone, AnswersLine, IsOutOfMemory, returned_event}
+use Rattle.unftp_control_codecs.specs.Decoding.{Decoded, Decodes, FindsNone, SkipsAll, CutsLine, KeepsLine, IfTooLong, AnswersNone, AnswersLine, IsOutOfMemory, returned_event}
 use Rattle.unftp_control_line_parser.specs.Memory.{MayTakeMemory}
 use Rattle.unftp_control_codecs.proofs.LineFeedLemmas.{line_feed_at}
 use Rattle.unftp_control_c.specs.declared.status.Status.{Status}
@@ -151,6 +151,17 @@ module _ (call : Call) (new : Codec) (taken : ℕ) where
           let status = ap fault_status read.2 ∙ status_of_refusal read.0 in
           inl (rw (e, read.1, status, n, h.1.place, h.1.skipping) refl, ap keeps_bytes status ∙ refusal_uses read.0)
       by_long false e (inr h) = inr ((k, at, e, h.1), status_out_of_memory error h.0)
+
+  -- what the codec ensures, of one that goes on where the last call stopped
+  pub decoded : (old : Codec) (limit : Option ℕ) (answer : Decoded) → limit ≡ line_limit call.limit
+      → old ≡ record { place = call.offset; tests = 0; limit = limit; skipping = call.skipping } → Decodes old new call.bytes (drop taken call.bytes) answer
+      → (¬ IsOutOfMemory answer → new.tests + old.place ≡ old.tests + new.place + taken)
+      → Says (line_feed_from call.bytes call.offset) answer × (¬ IsOutOfMemory answer → Counted)
+  decoded old limit answer same made decodes counted =
+      let goes_on : old ≡ codec_of call = rw same at made in (
+        subst (λ codec. Decodes codec new call.bytes (drop taken call.bytes) answer) goes_on decodes,
+        λ memory. omega (arith, counted memory, ap (λ codec. codec.place) goes_on, ap (λ codec. codec.tests) goes_on),
+      )
 
   next_valid : is_within call.offset call.skipping (length call.bytes) ≡ true → next_of call ≡ by_line_feed call (line_feed_from call.bytes call.offset)
   next_valid e = rw e refl
