@@ -13,9 +13,9 @@
  *   doesn't say what it is.
  * - Where a call has no room or no memory, the caller may call again with the same bytes.
  *
- * docs/EMBEDDING.md says how a program is linked, and what a caller must not do. What is promised below
- * is proved, but for the two bounds on lengths, which are tested: the contracts of the functions in
- * crates/unftp_control_c/src say it exactly.
+ * docs/EMBEDDING.md says how a program is linked, and what a caller must not do. What the calls below
+ * return and write is proved, but for the two bounds on lengths, which are tested: the contracts of the
+ * functions in crates/unftp_control_c/src say it exactly.
  */
 #ifndef UNFTP_CONTROL_H
 #define UNFTP_CONTROL_H

@@ -21,7 +21,7 @@ use Rattle.unftp_control_codecs.proofs.LineFeedLemmas.{line_feed_at}
 use Rattle.unftp_control_c.specs.declared.status.Status.{Status}
 use Rattle.unftp_control_c.specs.declared.status.Status.TheVariants.{More, NoRoom, OutOfMemory}
 use Rattle.unftp_control_c.specs.Numbers.{fault_status, keeps_bytes, refusal_status, status_number}
-use Rattle.unftp_control_c.specs.Next.{Call, Left, Leaves, LineMayTakeMemory, Reports, by_line_feed, ended, gives, is_long, is_within, line_limit, next_of, used_up, waits}
+use Rattle.unftp_control_c.specs.Next.{Call, Left, Leaves, LineMayTakeMemory, Reports, by_line_feed, ended, gives, incomplete, is_long, is_within, line_limit, next_of, used_up}
 
 -- the codec that goes on where the caller's last call stopped
 abbrev pub codec_of : Call → Codec
@@ -90,7 +90,7 @@ module _ (call : Call) (new : Codec) (taken : ℕ) where
   waiting : call.offset ≤ length call.bytes → Counted
       → (long : Bool) → is_long call (length call.bytes + 1) ≡ long
       → IfTooLong long (SkipsAll (codec_of call) new call.bytes (drop taken call.bytes)) (FindsNone (codec_of call) new call.bytes (drop taken call.bytes))
-      → waits call ≡ used_up call More taken new.place new.skipping
+      → incomplete call ≡ used_up call More taken new.place new.skipping
   waiting within counted true e skips =
       let all : taken ≡ length call.bytes = omega (arith, counted, skips.tests, skips.place, within) in
       rw (e, all, skips.place, skips.skipping) refl

@@ -50,19 +50,6 @@ is_long call n = call.skipping || exceeds (line_limit call.limit) n
 abbrev pub is_within : ℕ → Bool → ℕ → Bool
 is_within offset skipping n = nat_le offset n && (not skipping || offset == 0)
 
--- nothing changes
-abbrev pub kept : Call → Status → Left
-kept call status = record {
-  result = status_number status;
-  used = 0;
-  offset = call.offset;
-  skipping = call.skipping;
-  name = call.name;
-  name_length = 0;
-  value = call.value;
-  value_length = 0;
-}
-
 -- so many bytes are used up, and no name and value are given
 abbrev pub used_up : Call → Status → ℕ → ℕ → Bool → Left
 used_up call status n offset skipping = record {
@@ -76,9 +63,13 @@ used_up call status n offset skipping = record {
   value_length = 0;
 }
 
+-- nothing changes
+abbrev pub kept : Call → Status → Left
+kept call status = used_up call status 0 call.offset call.skipping
+
 -- no line is complete: the bytes stay, or are dropped where the line is too long already
-abbrev pub waits : Call → Left
-waits call = if is_long call (length call.bytes + 1)
+abbrev pub incomplete : Call → Left
+incomplete call = if is_long call (length call.bytes + 1)
     then used_up call More (length call.bytes) 0 true
     else used_up call More 0 (length call.bytes) false
 
@@ -127,7 +118,7 @@ ended call k = if is_long call (k + 1)
     else answered call (k + 1) (outcome (take (k + 1) call.bytes))
 
 abbrev pub by_line_feed : Call → Option ℕ → Left
-by_line_feed call None = waits call
+by_line_feed call None = incomplete call
 by_line_feed call (Some k) = ended call k
 
 -- what a call leaves, where memory is there
