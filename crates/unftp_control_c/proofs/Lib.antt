@@ -2,3 +2,4 @@ pub mod AreaLemmas
 pub mod CanonicalLineLemmas
 pub mod NextLemmas
 pub mod ReplyLemmas
+pub mod TakingLemmas

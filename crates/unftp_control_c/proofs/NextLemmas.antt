@@ -62,7 +62,7 @@ refusal_uses InvalidCommand = refl
 refusal_uses InvalidUtf8 = refl
 refusal_uses InvalidEol = refl
 
-status_of_refusal : (refusal : Refusal) → fault_status (refusal_fault refusal) ≡ refusal_status refusal
+pub status_of_refusal : (refusal : Refusal) → fault_status (refusal_fault refusal) ≡ refusal_status refusal
 status_of_refusal InvalidCommand = refl
 status_of_refusal InvalidUtf8 = refl
 status_of_refusal InvalidEol = refl

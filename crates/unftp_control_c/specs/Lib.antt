@@ -3,5 +3,6 @@ pub mod Numbers
 pub mod Parts
 pub mod Areas
 pub mod Next
+pub mod Taking
 pub mod Replies
 pub mod CanonicalLines

@@ -4,6 +4,7 @@
 mod areas;
 mod canonical;
 pub mod examples;
+pub mod laws;
 mod next;
 mod parts;
 mod reply;

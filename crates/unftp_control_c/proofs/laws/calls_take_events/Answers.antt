@@ -1,0 +1,11 @@
+use Rattle.unftp_control_c.proofs.TakingLemmas.{line_taken, none_taken, begins}
+use Rattle.unftp_control_c.proofs.laws.calls_take_events.Goals as goal
+
+pub returns-clause-takes : goal.returns-clause-takes
+returns-clause-takes c = λ call dropped k kept at used. line_taken call dropped kept k at used
+
+pub returns-clause-waits : goal.returns-clause-waits
+returns-clause-waits c = λ call dropped kept none. none_taken call dropped kept none
+
+pub returns-clause-begins : goal.returns-clause-begins
+returns-clause-begins c = begins
