@@ -3,7 +3,7 @@ use Rattle.std.proofs.Common.{◌≡◌, ◌≢◌, ℕ, zero, suc, ◌+◌, ◌
 use Rattle.std.specs.Prelude.{slice_index, if◌then◌else◌, ◌||◌}
 use Rattle.std.proofs.lemmas.Bool.{cases_lt, le-leb, lt-ltb, ltb-true}
 use Rattle.std.proofs.lemmas.Grind.{common_steps}
-use Rattle.std.proofs.lemmas.List.{take_more, take-append-drop, length-take-le}
+use Rattle.std.proofs.lemmas.List.{take_more, take-append-drop, take-append-le, length-take-le}
 use Rattle.std.proofs.Math.Seq.{take-length}
 use Rattle.unftp_control_defs.specs.Bytes.{Bytes, LF, Lacks}
 use Rattle.unftp_control_defs.specs.EventSteps.{TakesEvent}
@@ -16,7 +16,7 @@ use Rattle.unftp_control_defs.proofs.LackLemmas.{Lacks-append}
 use Rattle.unftp_control_codecs.specs.LineFeed.{is_line_feed, line_feed_from}
 use Rattle.unftp_control_codecs.proofs.LineFeedLemmas.{NoLineFeed, line_feed_at, line_feed_nowhere}
 use Rattle.unftp_control_c.specs.declared.status.Status.TheVariants.{More}
-use Rattle.unftp_control_c.specs.Next.{Call, Left, answered, by_line_feed, ended, gives, has_room, is_long, is_within, line_limit, next_of, waits}
+use Rattle.unftp_control_c.specs.Next.{Call, Left, answered, by_line_feed, ended, gives, has_room, incomplete, is_long, is_within, line_limit, next_of}
 use Rattle.unftp_control_c.specs.Numbers.{status_number}
 use Rattle.unftp_control_c.specs.Taking.{IfSkipping, IsKept, call_after, event_number}
 use Rattle.unftp_control_c.proofs.NextLemmas.{status_of_refusal}
@@ -157,7 +157,7 @@ module _ (call : Call) (dropped : Bytes) (kept : IsKept call dropped) where
     Waits left = (left.result ≡ status_number More)
         × IsKept (record { bytes = drop left.used call.bytes; offset = left.offset; skipping = left.skipping; limit = call.limit; name = call.name; value = call.value }) (dropped ++ take left.used call.bytes)
 
-    waits_if : (long : Bool) → is_long call (length call.bytes + 1) ≡ long → Waits (waits call)
+    waits_if : (long : Bool) → is_long call (length call.bytes + 1) ≡ long → Waits (incomplete call)
     waits_if true e = rw e (
       refl,
       record {
@@ -188,3 +188,18 @@ module _ (call : Call) (dropped : Bytes) (kept : IsKept call dropped) where
 
 pub begins : (bytes name value : Bytes) (limit : ℕ) → IsKept (record { bytes = bytes; offset = 0; skipping = false; limit = limit; name = name; value = value }) []
 begins bytes name value limit = kept_from_start (record { bytes = bytes; offset = 0; skipping = false; limit = limit; name = name; value = value }) refl refl
+
+-- more bytes at the end
+pub grows : (call : Call) (dropped piece : Bytes) → IsKept call dropped
+    → IsKept (record { bytes = call.bytes ++ piece; offset = call.offset; skipping = call.skipping; limit = call.limit; name = call.name; value = call.value }) dropped
+grows call dropped piece kept = record {
+  within = omega (arith, kept.within, length-append call.bytes piece);
+  unended = rw (take-append-le call.offset call.bytes piece kept.within) kept.unended;
+  dropped_unended = kept.dropped_unended;
+  dropped_well = well call.skipping kept.dropped_well;
+}
+  where
+    well : (skipping : Bool) → IfSkipping skipping call dropped
+        → IfSkipping skipping (record { bytes = call.bytes ++ piece; offset = call.offset; skipping = call.skipping; limit = call.limit; name = call.name; value = call.value }) dropped
+    well true h = h
+    well false h = h

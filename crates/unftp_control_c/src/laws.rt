@@ -11,8 +11,9 @@ ghost use Rattle.unftp_control_c.specs.declared.status.Status.TheVariants.{More}
 
 /// What a caller takes, call after call, are the events of the input. A call that finds a complete
 /// line and uses it up gives the line's event, that of the whole line where bytes of it were
-/// dropped before. One that finds none asks for more. After each, the next call goes on with what
-/// is left.
+/// dropped before. One that finds none asks for more, and the first line goes on with what it
+/// dropped. After each, the next call goes on with what is left, to which more bytes may be
+/// appended.
 pub fn calls_take_events()
     ensures takes { (call : Call) (dropped : Bytes) (k : ℕ) → IsKept call dropped
         → line_feed_from call.bytes call.offset ≡ Some k
@@ -34,4 +35,13 @@ pub fn calls_take_events()
           name = name;
           value = value;
         }) [] }
+    ensures grows { (call : Call) (dropped piece : Bytes) → IsKept call dropped → IsKept
+        (record {
+          bytes = call.bytes ++ piece;
+          offset = call.offset;
+          skipping = call.skipping;
+          limit = call.limit;
+          name = call.name;
+          value = call.value;
+        }) dropped }
 {}

@@ -1,4 +1,4 @@
-use Rattle.unftp_control_c.proofs.TakingLemmas.{line_taken, none_taken, begins}
+use Rattle.unftp_control_c.proofs.TakingLemmas.{line_taken, none_taken, begins, grows}
 use Rattle.unftp_control_c.proofs.laws.calls_take_events.Goals as goal
 
 pub returns-clause-takes : goal.returns-clause-takes
@@ -9,3 +9,6 @@ returns-clause-waits c = λ call dropped kept none. none_taken call dropped kept
 
 pub returns-clause-begins : goal.returns-clause-begins
 returns-clause-begins c = begins
+
+pub returns-clause-grows : goal.returns-clause-grows
+returns-clause-grows c = grows
