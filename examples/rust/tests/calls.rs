@@ -85,6 +85,21 @@ fn a_reply_is_found_again() -> Result<(), Error> {
 }
 
 #[test]
+fn a_reply_takes_no_more_than_its_bound() -> Result<(), Error> {
+    // a digit that begins a line before the last has a space put before it
+    for line in ["", "a", "1", "a\r"] {
+        for line_feeds in 1..20 {
+            let text = vec![line; line_feeds + 1].join("\n");
+            let bound = text.len() + 2 * line_feeds + 10;
+            let len = reply(211, &text)?.len();
+            assert_eq!(len, if line == "1" { bound } else { bound - line_feeds });
+        }
+    }
+    assert_eq!(reply(200, "a")?.len(), 1 + 6);
+    Ok(())
+}
+
+#[test]
 fn a_canonical_line_says_the_same() -> Result<(), Error> {
     assert_eq!(canonical(b"xcwd a b\n")?, b"CWD a b\r\n");
     assert_eq!(canonical(b"USER a\n\n"), Err(Error::NoLine));
