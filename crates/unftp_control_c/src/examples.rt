@@ -3,7 +3,7 @@ ghost use Rattle.std.specs.Prelude.{◌≡◌, true, false, [], ◌∷◌, Ok, E
 ghost use Rattle.unftp_control_defs.specs.FtpReply.{CodeAndMsg, MultiLine};
 ghost use Rattle.unftp_control_c.specs.Areas.{filled, written};
 ghost use Rattle.unftp_control_c.specs.CanonicalLines.{IsCanonical};
-ghost use Rattle.unftp_control_c.specs.Next.{next_of};
+ghost use Rattle.unftp_control_c.specs.Next.{LineMayTakeMemory, next_of};
 ghost use Rattle.unftp_control_c.specs.Replies.{EncodesReply, IsCode, IsReplyOf};
 ghost use Rattle.unftp_control_c.specs.declared.status.Status.TheVariants.{InvalidEol, NoLine, UnknownCode};
 
@@ -201,6 +201,42 @@ pub fn bytes_are_kept()
       value = [];
       value_length = 0;
     } }
+{}
+
+/// Lines for which memory may run out, and none.
+pub fn some_lines_may_take_memory()
+    ensures path { LineMayTakeMemory (record {
+      bytes = codes "RETR a\n";
+      offset = 0;
+      skipping = false;
+      limit = 0;
+      name = [];
+      value = [];
+    }) }
+    ensures no_value { ¬ LineMayTakeMemory (record {
+      bytes = codes "NOOP\n";
+      offset = 0;
+      skipping = false;
+      limit = 0;
+      name = [];
+      value = [];
+    }) }
+    ensures no_line { ¬ LineMayTakeMemory (record {
+      bytes = codes "RETR a";
+      offset = 0;
+      skipping = false;
+      limit = 0;
+      name = [];
+      value = [];
+    }) }
+    ensures too_long { ¬ LineMayTakeMemory (record {
+      bytes = codes "RETR a\n";
+      offset = 0;
+      skipping = false;
+      limit = 6;
+      name = [];
+      value = [];
+    }) }
 {}
 
 /// Texts that areas have room for or not.
