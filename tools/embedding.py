@@ -6,6 +6,7 @@ usage: tools/embedding.py sessions|session SERVER..        the replies of the se
        tools/embedding.py answers REPLAY FILE CALL SKIPPED   the answers to a vector file, of which so many may be skipped
        tools/embedding.py read|canonical REPLAY..            the replies that servers wrote; the canonical lines of clients' commands
        tools/embedding.py valgrind LOG..                     whether each process ended without an error
+       tools/embedding.py numbers                            the numbers of the header and of examples/rust are the definition's
        tools/embedding.py snippets                           the snippets of docs/EMBEDDING.md are cut from examples/
 
 SERVER.. and REPLAY.. may be the program and what runs it. The last line says what was compared; the status is 0 where all is right.
@@ -351,6 +352,38 @@ def check_valgrind(*logs):
     return f"{len(logs)} processes without an error"
 
 
+def constant(name):
+    """The header's name, without UNFTP_, of a constructor: InvalidUtf8 is INVALID_UTF8."""
+    special = {"TypeCode": "TYPE", "Listing": "LIST"}
+    return special.get(name) or re.sub(r"(?<=[a-z])(?=[A-Z])", "_", name).upper()
+
+
+def numbers_in(path, pattern):
+    """The names that the pattern finds in the file, each with its number; the pattern gives both, in either order."""
+    found = {}
+    for row in re.findall(pattern, (TOP / path).read_text(encoding="utf-8"), re.M):
+        name, number = sorted(row, key=str.isdigit)
+        found[constant(name) if not name.isupper() else name] = int(number)
+    return found
+
+
+def check_numbers():
+    """The definition's numbers, which the contracts tie to the code, are those of the header, and those of examples/rust are among them."""
+    definition = "crates/unftp_control_c/specs/Numbers.antt"
+    commands = numbers_in(definition, r"^command_number \(?(\w+).* = (\d+)$")
+    statuses = numbers_in(definition, r"^status_number (\w+) = (\d+)$")
+    header = numbers_in("include/unftp_control.h", r"^    UNFTP_(\w+) = (\d+)")
+    if header != {**commands, **statuses} or len(header) != len(commands) + len(statuses):
+        raise Wrong(f"the header has other numbers: {sorted(set(header.items()) ^ set({**commands, **statuses}.items()))}")
+    kinds = numbers_in("examples/rust/src/command.rs", r"^    (\d+) (\w+) \"")
+    if kinds != commands:
+        raise Wrong(f"command.rs has other numbers: {sorted(set(kinds.items()) ^ set(commands.items()))}")
+    used = numbers_in("examples/rust/src/ffi.rs", r"^pub const (\w+): u32 = (\d+);")
+    if not used or not used.items() <= statuses.items():
+        raise Wrong(f"ffi.rs has other numbers: {sorted(set(used.items()) - set(statuses.items()))}")
+    return f"{len(commands)} commands and {len(statuses)} other results"
+
+
 def bare(text):
     """The text without the indentation of its lines, nor the marks of a comment that documents, between two line feeds."""
     return "\n" + "".join(line.strip().removeprefix("//!").strip() + "\n" for line in text.splitlines())
@@ -376,6 +409,7 @@ CHECKS = {
     "read": check_read,
     "canonical": check_canonical,
     "valgrind": check_valgrind,
+    "numbers": check_numbers,
     "snippets": check_snippets,
 }
 
