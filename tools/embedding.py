@@ -3,7 +3,7 @@
 
 usage: tools/embedding.py sessions|session SERVER..        the replies of the server: to all lines, or to one line of each kind
        tools/embedding.py memory PRELOAD SERVER              what it sends at each failed allocation: PRELOAD is tools/fail_allocation.c
-       tools/embedding.py answers REPLAY FILE CALL SKIPPED   the answers to a vector file, of which so many may be skipped
+       tools/embedding.py answers REPLAY FILE SKIPPED        the answers to a vector file, of which so many may be skipped
        tools/embedding.py read|canonical REPLAY..            the replies that servers wrote; the canonical lines of clients' commands
        tools/embedding.py valgrind LOG..                     whether each process ended without an error
        tools/embedding.py numbers                            the numbers of the header and of examples/rust are the definition's
@@ -21,8 +21,9 @@ import subprocess
 import sys
 import threading
 
+from rows import command_of, quoted, rows, unquoted
+
 TOP = pathlib.Path(__file__).resolve().parent.parent
-VECTORS = TOP / "vectors"
 LINE_FILES = ["parse.tsv", "client_lines.tsv"]
 
 HOST = "127.0.0.1"
@@ -75,39 +76,33 @@ def wants(what, found, expected):
         raise Wrong(f"{what}: it has {found!r}, and not {expected!r}")
 
 
-def rows(name):
-    """The cases and the answers of a vector file."""
-    with open(VECTORS / name, encoding="ascii") as file:
-        return [row.rstrip("\n").split("\t") for row in file]
-
-
 def one_lines():
     """The lines whose one line feed is their last byte, with their answers."""
-    cases = [(bytes.fromhex(case), answer) for name in LINE_FILES for case, answer in rows(name)]
+    cases = [(unquoted(case.split("\t")[1]), answer) for name in LINE_FILES for case, answer in rows(name)]
     return [(line, answer) for line, answer in cases if line.find(b"\n") == len(line) - 1 >= 0]
 
 
 def name_and_value(variant, fields):
     """How the server names a command, and what it says after that."""
-    last = fields[-1].split("=")[1] if fields else ""
+    last = [*fields.values()][-1] if fields else None
     if variant in WORDS:
         return variant.upper().encode(), WORDS[variant][last]
     if variant == "Rest":
         return b"REST", last.encode()
     if variant == "Pbsz":
         return b"PBSZ", b"0"
-    value = b"" if last == "None" else bytes.fromhex(last.removeprefix("Some:"))
+    value = last or b""
     if variant in ["Site", "Other"]:
-        name = bytes.fromhex(fields[0].split("=")[1])
+        name = [*fields.values()][0]
         return b"SITE " + name if variant == "Site" else name, value
     return b"SITE MD5" if variant == "Md5" else variant.upper().encode(), value
 
 
 def reply_to(answer):
     """The server's reply to a line with this answer."""
-    verdict, variant, *fields = answer.split(" ")
-    if verdict == "err":
-        return REFUSALS[variant]
+    if answer.startswith("err "):
+        return REFUSALS[answer.removeprefix("err ")]
+    variant, fields = command_of(answer)
     if variant in REPLIES:
         return REPLIES[variant]
     name, value = name_and_value(variant, fields)
@@ -234,9 +229,9 @@ def kinds_of_lines():
     kinds = {}
     for line, answer in one_lines():
         kinds.setdefault(" ".join(answer.split(" ")[:2]), (line, answer))
-    kinds["not UTF-8"] = (b"STAT \xff\r\n", "ok Stat path=Some:ff")
-    kinds["no subcommand"] = (b"SITE\n", "ok Site command= arguments=")
-    kinds["echo"] = (b"SITE ECHO hello\r\n", "ok Site command=4543484f arguments=68656c6c6f")
+    kinds["not UTF-8"] = (b"STAT \xff\r\n", 'ok Stat path="\\xff"')
+    kinds["no subcommand"] = (b"SITE\n", 'ok Site command="" arguments=""')
+    kinds["echo"] = (b"SITE ECHO hello\r\n", 'ok Site command="ECHO" arguments="hello"')
     quit_line = kinds.pop("ok Quit")
     return [*kinds.values(), quit_line]
 
@@ -253,7 +248,7 @@ def check_session(*arguments):
 def replies_without(preload, program, number):
     """What the server sends where this allocation fails, and whether it has come to that."""
     lines = [b"RETR a\r\0b\r\n", b"FEAT\r\n", b"STAT \xff\r\n", b"SITE ECHO a\r\n"]
-    answers = ["ok Retr path=610d62", "ok Feat", "ok Stat path=Some:ff", "ok Site command=4543484f arguments=61"]
+    answers = ['ok Retr path="a\\rb"', "ok Feat", 'ok Stat path="\\xff"', 'ok Site command="ECHO" arguments="a"']
     replies = [GREETING, *map(reply_to, answers)]
     with Server(["env", f"LD_PRELOAD={preload}", f"FAIL_AT={number}", program]) as server:
         with socket.create_connection((HOST, server.port), PATIENCE) as connection:
@@ -277,10 +272,10 @@ def check_memory(preload, program):
     return f"421 at {number - first} failed allocations"
 
 
-def answers_of(program, call, cases):
+def answers_of(program, cases):
     """What the program answers to these cases."""
     text = "".join(f"{case}\n" for case in cases)
-    run = subprocess.run([*program, call], input=text, capture_output=True, encoding="ascii", timeout=LIFE)
+    run = subprocess.run(program, input=text, capture_output=True, encoding="ascii", timeout=LIFE)
     wants("the program's status", (run.returncode, run.stderr), (0, ""))
     answers = run.stdout.splitlines()
     wants("the number of answers", len(answers), len(cases))
@@ -297,9 +292,9 @@ def compare(cases, answers, expected):
 
 def check_answers(*arguments):
     """A vector file: of its rows no more than so many are skipped."""
-    *program, name, call, most = arguments
+    *program, name, most = arguments
     cases, expected = zip(*rows(name))
-    compared = compare(cases, answers_of(program, call, cases), expected)
+    compared = compare(cases, answers_of(program, cases), expected)
     skipped = len(cases) - compared
     if skipped > int(most) or compared == 0:
         raise Wrong(f"{skipped} of {len(cases)} rows are skipped, and not at most {most}")
@@ -308,35 +303,43 @@ def check_answers(*arguments):
 
 def shown_replies(case, answer):
     """What the program has to answer to a stream with this answer, which has the lines of each reply: each ends with CR LF."""
-    replies, rest = re.fullmatch(r"(.*?) (rest=.*)", answer).groups()
-    lines = bytes.fromhex(case).split(b"\r\n")
+    lines = unquoted(case.split("\t")[1]).split(b"\r\n")
     shown = []
-    for reply in filter(None, replies.split(";")):
-        code, texts = reply.split(":")
-        count = texts.count(",") + 1
-        shown.append(f"{code}:{sum(len(line) + 2 for line in lines[:count])}")
-        lines = lines[count:]
-    return f"{';'.join(shown)} {rest}"
+    at = 0
+    while answer[at] != " ":
+        code, size = answer[at:at + 3], 0
+        at += 3
+        while answer[at] in ":,":
+            at += 1
+            line = lines.pop(0)
+            size += len(line) + 2
+            # the first line and the last are there without their code
+            words = [word for word in [quoted(line[4:]), quoted(line)] if answer.startswith(word, at) and answer[at + len(word)] in ",; "]
+            wants("a line of the answer", len(words) > 0, True)
+            at += len(words[0])
+        shown.append(f"{code}:{size}")
+        at += answer[at] == ";"
+    return ";".join(shown) + answer[at:]
 
 
 def check_read(*program):
     """What servers wrote: the code and the length of each reply, and what is left."""
     cases, answers = zip(*rows("server_replies.tsv"))
     expected = [shown_replies(case, answer) for case, answer in zip(cases, answers)]
-    compare(cases, answers_of(program, "read", cases), expected)
-    return f"{len(cases)} streams of {sum(answer.count(':') for answer in answers)} replies compared"
+    compare(cases, answers_of(program, cases), expected)
+    return f"{len(cases)} streams of {sum(answer.count(':') for answer in expected)} replies compared"
 
 
 def check_canonical(*program):
     """The canonical line of each command is read as that command; a refused line has the same refusal."""
     cases, expected = zip(*rows("client_lines.tsv"))
-    written = answers_of(program, "canonical", cases)
-    refused = [(line, answer) for line, answer in zip(written, expected) if not line.startswith("ok ")]
+    written = answers_of(program, [re.sub("^parse", "canonical", case) for case in cases])
+    refused = [(line, answer) for line, answer in zip(written, expected) if not line.startswith('"')]
     for line, answer in refused:
         wants("a refusal", line, answer)
-    lines = [line.removeprefix("ok ") for line in written if line.startswith("ok ")]
-    commands = [answer for line, answer in zip(written, expected) if line.startswith("ok ")]
-    if compare(lines, answers_of(program, "parse", lines), commands) != len(lines) or not lines:
+    lines = [f"parse\t{line}" for line in written if line.startswith('"')]
+    commands = [answer for line, answer in zip(written, expected) if line.startswith('"')]
+    if compare(lines, answers_of(program, lines), commands) != len(lines) or not lines:
         raise Wrong("a canonical line was skipped")
     return f"{len(lines)} commands read back, {len(refused)} lines refused"
 

@@ -5,9 +5,6 @@
 
 mod measure;
 mod received;
-mod served;
-#[cfg(test)]
-mod tests;
 
 use measure::Measure;
 use std::process::ExitCode;

@@ -2,22 +2,21 @@
 ghost use Rattle.std.specs.Prelude.{◌≡◌, IfOk};
 
 use crate::received::{receive_large_reply, receive_long_reply, receive_short_replies};
-use crate::served::{Discarding, Okay};
-use std::alloc::Global;
+use std::alloc::{AllocError, Global};
 use std::fmt::{Display, Formatter, Write};
 use std::time::Instant;
 use std::{fmt, io};
-use unftp_control::codecs::FtpCodec;
-use unftp_control::command::Command;
-use unftp_control::error::ControlChanError;
-use unftp_control::line_parser;
-use unftp_control::line_parser::parse;
-use unftp_control::read::{Front, ReadReplyError, read_reply};
-use unftp_control::reply::{Reply, ReplyCode};
-use unftp_control::serve::{Engine, Output};
+use unftp_control_codecs::FtpCodec;
+use unftp_control_command::Command;
+use unftp_control_error::ControlChanError;
+use unftp_control_events::{Event, EventDecoder};
+use unftp_control_line_parser as line_parser;
+use unftp_control_line_parser::parse;
+use unftp_control_read::{Front, ReadReplyError, read_reply};
+use unftp_control_reply::{Reply, ReplyCode};
 
 /// Lines of a session, about as long as those that clients send.
-pub const SESSION: &[&[u8]] = &[
+const SESSION: &[&[u8]] = &[
     b"USER anonymous\r\n",
     b"PASS guest@example.org\r\n",
     b"SYST\r\n",
@@ -50,7 +49,7 @@ const REPEATS: usize = LINES / SESSION.len();
 const LIMIT: usize = 4096;
 
 /// The lines of a reply to FEAT.
-pub const FEATURES: [&str; 13] = [
+const FEATURES: [&str; 13] = [
     "Extensions supported:",
     " AUTH TLS",
     " EPSV",
@@ -67,7 +66,7 @@ pub const FEATURES: [&str; 13] = [
 ];
 
 /// Lines that begin with digits.
-pub const DIGIT_LINES: [&str; 100] = ["1234 bytes of a file named so"; 100];
+const DIGIT_LINES: [&str; 100] = ["1234 bytes of a file named so"; 100];
 
 /// The lines of replies that are read in a round.
 const READ_LINES: usize = 10_000;
@@ -81,7 +80,7 @@ pub enum Measure {
     /// Of so many lines, with a limit.
     DecodeLimited(usize),
     /// Of so many bytes.
-    Feed(usize),
+    Events(usize),
     Parse,
     LongParameter,
     ReplyOfOneLine,
@@ -105,8 +104,8 @@ impl Display for Measure {
             Measure::DecodeLimited(lines) => {
                 return write!(f, "a line of {lines} in one slice, decoded with a limit");
             }
-            Measure::Feed(bytes) => {
-                return write!(f, "a line of {bytes} bytes in one piece, fed and answered");
+            Measure::Events(bytes) => {
+                return write!(f, "a line of {bytes} bytes in one piece, as an event");
             }
             Measure::ReceiveLongReply(Some(bytes)) => {
                 return write!(
@@ -143,9 +142,9 @@ impl Measure {
         Measure::DecodeLimited(1_000),
         Measure::DecodeSlice(10_000),
         Measure::DecodeSlice(100_000),
-        Measure::Feed(4 << 10),
-        Measure::Feed(64 << 10),
-        Measure::Feed(1 << 20),
+        Measure::Events(4 << 10),
+        Measure::Events(64 << 10),
+        Measure::Events(1 << 20),
         Measure::Parse,
         Measure::LongParameter,
         Measure::ReplyOfOneLine,
@@ -172,7 +171,7 @@ impl Measure {
             Measure::DecodeLimited(lines) => {
                 decode_slice(rt, lines / SESSION.len(), FtpCodec::with_limit(LIMIT))
             }
-            Measure::Feed(bytes) => feed_piece(rt, bytes),
+            Measure::Events(bytes) => take_events(rt, bytes),
             Measure::Parse => parse_session(rt),
             Measure::LongParameter => parse_long_lines(rt),
             Measure::ReplyOfOneLine => encode_one_line(rt),
@@ -285,25 +284,30 @@ fn decode_slice(rt: &HostRuntime, repeats: usize, mut codec: FtpCodec) -> io::Re
     a_line(rt, start, lines)
 }
 
-/// The lines of the sessions that so many bytes hold, fed in one piece.
-fn feed_piece(rt: &HostRuntime, most: usize) -> io::Result<u128> {
-    let repeats = most / SESSION.concat(rt.alloc())?.len().max(1);
-    let piece = sessions(rt.alloc(), repeats)?;
-    feed_lines(rt, piece.as_slice(), repeats.saturating_mul(SESSION.len()))
+/// Drops the event that was taken; it is an error that there is none.
+fn drop_event(taken: Result<Option<Event>, AllocError>) -> io::Result<()> {
+    match taken {
+        Ok(Some(event)) => {
+            drop(event);
+            Ok(())
+        }
+        Ok(None) => Err(no_command()),
+        Err(_) => Err(no_memory()),
+    }
 }
 
-/// Nanoseconds for each of so many lines, fed in one piece.
-fn feed_lines(rt: &HostRuntime, piece: &[u8], lines: usize) -> io::Result<u128> {
-    let mut engine = Engine::new(rt.alloc());
-    let mut output = Output::new(Discarding);
+/// Takes the events of the sessions that so many bytes hold, in one piece.
+fn take_events(rt: &HostRuntime, most: usize) -> io::Result<u128> {
+    let repeats = most / SESSION.concat(rt.alloc())?.len().max(1);
+    let lines = repeats.saturating_mul(SESSION.len());
+    let piece = sessions(rt.alloc(), repeats)?;
+    let mut decoder = EventDecoder::new(rt.alloc());
     let start = Instant::now(rt)?;
-    match engine.feed(piece, &mut Okay::new(), &mut output) {
-        Ok(()) => a_line(rt, start, lines),
-        Err(error) => {
-            drop(error);
-            Err(no_memory())
-        }
+    decoder.push(piece.as_slice())?;
+    for _ in 0..lines {
+        drop_event(decoder.next_event())?;
     }
+    a_line(rt, start, lines)
 }
 
 fn parse_session(rt: &HostRuntime) -> io::Result<u128> {
@@ -326,7 +330,7 @@ fn parse_long_lines(rt: &HostRuntime) -> io::Result<u128> {
 }
 
 /// A line with a parameter of 4,096 bytes.
-pub fn long_line(alloc: Global) -> io::Result<Vec<u8>> {
+fn long_line(alloc: Global) -> io::Result<Vec<u8>> {
     let mut line = Vec::with_capacity(alloc, 8192)?;
     line.extend_from_slice(b"RETR ")?;
     line.resize(line.len() + 4096, b'a')?;

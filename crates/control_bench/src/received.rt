@@ -3,7 +3,7 @@ use crate::measure::{no_memory, reply_of};
 use std::alloc::Global;
 use std::io;
 use std::time::Instant;
-use unftp_control::read::ReplyDecoder;
+use unftp_control_read::ReplyDecoder;
 
 /// The lines of the reply that comes in pieces of several sizes.
 const LINES: usize = 10_000;

@@ -4,19 +4,14 @@
 
 ghost use Rattle.std.specs.Prelude.{false, IfSome, OnOk};
 ghost use Rattle.std.specs.Io.KnownBytes.{Appends};
-ghost use Rattle.unftp_control.specs.Run.{text_for};
-ghost use Rattle.control_demo.specs.Responses.{program_law};
+ghost use Rattle.unftp_control_defs.specs.Run.{text_for};
+ghost use Rattle.demo_responses.specs.Responses.{responses_law};
 
-mod responses;
-mod sample;
-#[cfg(test)]
-mod tests;
-
-use crate::responses::Responses;
+use demo_responses::Responses;
 use std::alloc::Global;
 use std::io::{Read, Write};
 use std::process::ExitCode;
-use unftp_control::serve::{Input, Output, ServeError, Served, serve};
+use unftp_control_serve::{Input, Output, ServeError, Served, serve};
 
 /// Answers the lines that the reader gives, until it gives no more or QUIT is answered. Each reply is
 /// written whole and flushed before the next line is taken, and before more is read.
@@ -27,7 +22,7 @@ pub fn run<R: Read, W: Write>(
 ) -> Result<Served, ServeError>
     ensures { OnOk result (IfSome (R.remaining reader.old.reader) (λ input.
         Appends (W.contents writer.old.writer) (W.contents writer.new.writer)
-        (text_for program_law false input))) }
+        (text_for responses_law false input))) }
 {
     serve(alloc, reader, writer, &mut Responses::new())
 }

@@ -2,7 +2,7 @@
 use Rattle.std.proofs.Common.{◌≡◌, ◌≢◌, ◌&&◌, map, List, [], ◌∷◌, ◌++◌, flat_map, Bool, true, false, bytes_eq, codes, refl, ap}
 use Rattle.std.specs.Cmp.Lexicographic.{pointwise}
 use Rattle.std.proofs.lemmas.Slice.Eq.{bytes_eq-Decides}
-use Rattle.unftp_control.specs.Bytes.{Bytes}
+use Rattle.unftp_control_defs.specs.Bytes.{Bytes}
 use Rattle.login_demo.specs.Walking.{SLASH, entered, path_text}
 
 is_false : (b : Bool) → b ≢ true → b ≡ false

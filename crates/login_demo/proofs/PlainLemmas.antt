@@ -3,14 +3,14 @@ use Rattle.std.proofs.Common.{◌≡◌, ◌≢◌, ℕ, Bool, true, false, ◌&
 use Rattle.std.specs.Fmt.{digits}
 use Rattle.std.specs.List.{AllByRecursion, list_all}
 use Rattle.std.proofs.lemmas.Bool.{and_parts, ltb-true, leb-true}
-use Rattle.unftp_control.specs.Bytes.{Bytes, LF, Lacks}
-use Rattle.unftp_control.specs.Answers.{prot_reply, mode_reply, opts_reply, stru_reply}
-use Rattle.unftp_control.specs.Events.{FtpEvent, FaultKind, FaultSource}
-use Rattle.unftp_control.specs.Events as event
-use Rattle.unftp_control.specs.FtpCommand as command
-use Rattle.unftp_control.specs.FtpCommand.{FtpCommand}
-use Rattle.unftp_control.specs.FtpReply.{FtpReply, Nothing, CodeAndMsg, MultiLine, HasThreeDigits, IsPlain}
-use Rattle.unftp_control.specs.Promises.{IsSentPlain, SendsPlainReplies}
+use Rattle.unftp_control_defs.specs.Bytes.{Bytes, LF, Lacks}
+use Rattle.unftp_control_commands.specs.Answers.{prot_reply, mode_reply, opts_reply, stru_reply}
+use Rattle.unftp_control_defs.specs.Events.{FtpEvent, FaultKind, FaultSource}
+use Rattle.unftp_control_defs.specs.Events as event
+use Rattle.unftp_control_defs.specs.FtpCommand as command
+use Rattle.unftp_control_defs.specs.FtpCommand.{FtpCommand}
+use Rattle.unftp_control_defs.specs.FtpReply.{FtpReply, Nothing, CodeAndMsg, MultiLine, HasThreeDigits, IsPlain}
+use Rattle.unftp_control_login.specs.Promises.{IsSentPlain, SendsPlainReplies}
 use Rattle.unftp_control_defs.proofs.LackLemmas.{lacks, Lacks-test, Lacks-append, Lacks-decimal}
 use Rattle.unftp_control_defs.specs.declared.parameters.ModeParam.TheVariants as mode
 use Rattle.unftp_control_defs.specs.declared.parameters.Opt.TheVariants as opt

@@ -1,8 +1,8 @@
 -- The whole session: a limit on failed logins, the login gate, and the tree.
-use Rattle.unftp_control.specs.Run.{Law}
-use Rattle.unftp_control.specs.Login.{Accounts}
-use Rattle.unftp_control.specs.Gate.{Gated, closed, gated_law}
-use Rattle.unftp_control.specs.LoginLimit.{Limited, limited_law, limited_to}
+use Rattle.unftp_control_defs.specs.Run.{Law}
+use Rattle.unftp_control_login.specs.Login.{Accounts}
+use Rattle.unftp_control_login.specs.Gate.{Gated, closed, gated_law}
+use Rattle.unftp_control_login.specs.LoginLimit.{Limited, limited_law, limited_to}
 use Rattle.login_demo.specs.declared.session.Session.{Session}
 use Rattle.login_demo.specs.Session.{files_law, new_session}
 

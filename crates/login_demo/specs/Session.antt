@@ -1,10 +1,10 @@
 -- A session: what is answered to its events, and which state follows.
 use Rattle.std.specs.Prelude.{◌≡◌, true, false, Option, Some, unwrap_or, codes}
-use Rattle.unftp_control.specs.Bytes.{Bytes}
-use Rattle.unftp_control.specs.Events.{FtpEvent, Command, Refused, out_of_memory}
-use Rattle.unftp_control.specs.FtpCommand.{FtpCommand, User, Mlst, Pwd, Cwd, Cdup, Quit, Size, Mdtm}
-use Rattle.unftp_control.specs.FtpReply.{FtpReply, CodeAndMsg}
-use Rattle.unftp_control.specs.Run.{Law}
+use Rattle.unftp_control_defs.specs.Bytes.{Bytes}
+use Rattle.unftp_control_defs.specs.Events.{FtpEvent, Command, Refused, out_of_memory}
+use Rattle.unftp_control_defs.specs.FtpCommand.{FtpCommand, User, Mlst, Pwd, Cwd, Cdup, Quit, Size, Mdtm}
+use Rattle.unftp_control_defs.specs.FtpReply.{FtpReply, CodeAndMsg}
+use Rattle.unftp_control_defs.specs.Run.{Law}
 use Rattle.login_demo.specs.declared.session.Session.{Session}
 use Rattle.login_demo.specs.declared.tree.Directory.{Directory}
 use Rattle.login_demo.specs.declared.tree.Directory.TheVariants.{Root}

@@ -1,11 +1,11 @@
 -- The replies that don't depend on the working directory.
 use Rattle.std.specs.Prelude.{false, bytes_eq, decimal, if◌then◌else◌, [], ◌∷◌, ◌++◌, codes}
-use Rattle.unftp_control.specs.Bytes.{Bytes}
-use Rattle.unftp_control.specs.Answers.{auth_reply, feat_reply_with, help_reply_with, prot_reply, mode_reply, opts_reply, stru_reply}
-use Rattle.unftp_control.specs.Events.{FaultKind, FaultSource, Fault, LineTooLong, Parse}
-use Rattle.unftp_control.specs.FtpCommand.{FtpCommand, Pass, Acct, Syst, TypeCode, Stru, Mode, Help, Noop, Retr, Stor, Appe, List as Listing, Nlst, Mlsd, Feat, Opts, Allo, Abor, Stou, Auth, Prot, Rest, Site}
-use Rattle.unftp_control.specs.FtpReply.{FtpReply, CodeAndMsg}
-use Rattle.unftp_control.specs.Texts.{kind_text, reading_text}
+use Rattle.unftp_control_defs.specs.Bytes.{Bytes}
+use Rattle.unftp_control_commands.specs.Answers.{auth_reply, feat_reply_with, help_reply_with, prot_reply, mode_reply, opts_reply, stru_reply}
+use Rattle.unftp_control_defs.specs.Events.{FaultKind, FaultSource, Fault, LineTooLong, Parse}
+use Rattle.unftp_control_defs.specs.FtpCommand.{FtpCommand, Pass, Acct, Syst, TypeCode, Stru, Mode, Help, Noop, Retr, Stor, Appe, List as Listing, Nlst, Mlsd, Feat, Opts, Allo, Abor, Stou, Auth, Prot, Rest, Site}
+use Rattle.unftp_control_defs.specs.FtpReply.{FtpReply, CodeAndMsg}
+use Rattle.unftp_control_defs.specs.Texts.{kind_text, reading_text}
 
 abbrev pub no_data_connection : FtpReply
 no_data_connection = CodeAndMsg 425 (codes "No data connection")

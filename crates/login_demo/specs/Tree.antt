@@ -2,7 +2,7 @@
 use Rattle.std.specs.Prelude.{ℕ, Bool, bytes_eq, List, [], ◌∷◌, Option, codes}
 use Rattle.std.specs.List.{find}
 use Rattle.std.specs.Cmp.Lexicographic.{pointwise}
-use Rattle.unftp_control.specs.Bytes.{Bytes}
+use Rattle.unftp_control_defs.specs.Bytes.{Bytes}
 use Rattle.login_demo.specs.declared.tree.Directory.TheVariants.{Root, Pub, Notes, Quoted}
 use Rattle.login_demo.specs.declared.tree.File.{File}
 use Rattle.login_demo.specs.declared.tree.File.TheVariants.{Readme, Today}

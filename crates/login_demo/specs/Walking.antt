@@ -1,7 +1,7 @@
 -- Where a path leads, and how a path is shown.
 use Rattle.std.specs.Prelude.{ℕ, ◌-◌, ◌==◌, ◌||◌, bytes_eq, if◌then◌else◌, List, [], ◌∷◌, ◌++◌, flat_map, length, take, codes}
 use Rattle.std.specs.List.{fold, slice_split}
-use Rattle.unftp_control.specs.Bytes.{Bytes}
+use Rattle.unftp_control_defs.specs.Bytes.{Bytes}
 
 abbrev pub SLASH : ℕ
 SLASH = 47

@@ -2,7 +2,7 @@
 ghost use Rattle.std.specs.Prelude.{◌≡◌, ◌&&◌, bytes_eq};
 ghost use Rattle.std.specs.List.{list_any};
 
-use unftp_control::login::Accounts;
+use unftp_control_login::Accounts;
 
 /// A name and its password.
 #[derive(Clone, Copy)]

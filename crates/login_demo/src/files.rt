@@ -6,9 +6,9 @@ ghost use Rattle.login_demo.specs.declared.session.Session.{Session as SessionVa
 use crate::session::Session;
 use crate::standing::refusal_reply;
 use std::alloc::Global;
-use unftp_control::error::ControlChanError;
-use unftp_control::reply::Reply;
-use unftp_control::serve::{Count, Event, Handler};
+use unftp_control_error::ControlChanError;
+use unftp_control_reply::Reply;
+use unftp_control_serve::{Count, Event, Handler};
 
 /// Serves the tree: the session of one client.
 #[derive(Drop)]

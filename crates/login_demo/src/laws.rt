@@ -1,7 +1,7 @@
 //! What the definitions promise, each the contract of a function that does nothing.
 ghost use Rattle.std.specs.Prelude.{◌≡◌, ◌≢◌, Some};
-ghost use Rattle.unftp_control.specs.Events.{FtpEvent};
-ghost use Rattle.unftp_control.specs.FtpReply.{IsPlain, Nothing};
+ghost use Rattle.unftp_control_defs.specs.Events.{FtpEvent};
+ghost use Rattle.unftp_control_defs.specs.FtpReply.{IsPlain, Nothing};
 ghost use Rattle.login_demo.specs.Session.{files_law, found};
 ghost use Rattle.login_demo.specs.Tree.{entry_names};
 ghost use Rattle.login_demo.specs.Walking.{path_text};

@@ -4,9 +4,9 @@
 
 ghost use Rattle.std.specs.Prelude.{◌≤◌, ◌+◌, IfOk, IfSome, OnOk, Some};
 ghost use Rattle.std.specs.Io.KnownBytes.{Appends};
-ghost use Rattle.unftp_control.specs.Bytes.{Bytes};
-ghost use Rattle.unftp_control.specs.LineLimit.{text_with_limit};
-ghost use Rattle.unftp_control.specs.Promises.{MembersAlone};
+ghost use Rattle.unftp_control_defs.specs.Bytes.{Bytes};
+ghost use Rattle.unftp_control_defs.specs.LineLimit.{text_with_limit};
+ghost use Rattle.unftp_control_login.specs.Promises.{MembersAlone};
 ghost use Rattle.login_demo.specs.Guarded.{guarded_law, guarded_session};
 
 mod accounts;
@@ -26,8 +26,8 @@ use crate::files::Files;
 use std::alloc::Global;
 use std::io::{Read, Write};
 use std::process::ExitCode;
-use unftp_control::login::{Accounts, Gate, LoginLimit};
-use unftp_control::serve::{Input, Output, ServeError, Served, serve_with_limit};
+use unftp_control_login::{Accounts, Gate, LoginLimit};
+use unftp_control_serve::{Input, Output, ServeError, Served, serve_with_limit};
 
 /// How many bytes a line may have, its line feed counted.
 const LIMIT: usize = 4096;

@@ -22,6 +22,7 @@ pub use Rattle.unftp_control_defs.specs.Steps
 pub use Rattle.unftp_control_command.specs.CommandMeaning
 pub use Rattle.unftp_control_line_parser.specs.ParseAnswer
 pub use Rattle.unftp_control_line_parser.specs.Memory
+pub use Rattle.unftp_control_error.specs.ParseRefusal
 pub use Rattle.unftp_control_error.specs.ErrorParts
 pub use Rattle.unftp_control_error.specs.ErrorMeaning
 pub use Rattle.unftp_control_reply.specs.ReplyMeaning

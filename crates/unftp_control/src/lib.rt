@@ -5,13 +5,13 @@
 //! too), with the crate `bytes` of the fields that are raw bytes.
 #![tactic(auto)]
 
+pub mod error;
 pub mod write;
 
 pub use bytes;
 pub use unftp_control_codecs as codecs;
 pub use unftp_control_command as command;
 pub use unftp_control_commands as commands;
-pub use unftp_control_error as error;
 pub use unftp_control_laws as laws;
 pub use unftp_control_line_parser as line_parser;
 pub use unftp_control_login as login;

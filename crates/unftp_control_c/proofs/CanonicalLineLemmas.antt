@@ -7,8 +7,8 @@ use Rattle.unftp_control_defs.specs.Lines.{IsLine}
 use Rattle.unftp_control_defs.specs.Outcome.{outcome}
 use Rattle.unftp_control_defs.specs.Canonical.{HasLine}
 use Rattle.unftp_control_defs.proofs.CommandLineLemmas.{HasLine-outcome}
-use Rattle.unftp_control_line_parser.specs.declared.error.ParseErrorKind.{ParseErrorKind}
-use Rattle.unftp_control_line_parser.specs.declared.error.ParseErrorKind.TheVariants as kind
+use Rattle.unftp_control_error.specs.declared.parse_error.ParseErrorKind.{ParseErrorKind}
+use Rattle.unftp_control_error.specs.declared.parse_error.ParseErrorKind.TheVariants as kind
 use Rattle.unftp_control_line_parser.specs.ParseAnswer.{Refuses}
 use Rattle.unftp_control_write.specs.declared.WriteCommandError.{WriteCommandError}
 use Rattle.unftp_control_write.specs.declared.WriteCommandError.TheVariants as error

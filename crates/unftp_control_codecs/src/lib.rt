@@ -19,8 +19,8 @@ use std::alloc::Global;
 use std::marker::Model;
 use unftp_control_command::Command;
 use unftp_control_count::Count;
-use unftp_control_error::{ControlChanError, ControlChanErrorKind};
-use unftp_control_line_parser::{ParseError, parse};
+use unftp_control_error::{ControlChanError, ControlChanErrorKind, ParseError};
+use unftp_control_line_parser::parse;
 use unftp_control_reply::Reply;
 
 /// Decodes the commands of a control connection, and encodes its replies.

@@ -1,5 +1,5 @@
 //! The facts of a file (RFC 3659, section 7.5).
-ghost use Rattle.std.specs.Prelude.{◌≡◌, ◌<◌, ◌++◌, Option, IfOk, IfErr, OnOk, string_bytes, option_map};
+ghost use Rattle.std.specs.Prelude.{◌≡◌, ◌+◌, ◌∷◌, [], ◌<◌, ◌++◌, Option, IfOk, IfErr, OnOk, string_bytes, option_map};
 ghost use Rattle.unftp_control_defs.specs.Bytes.{Bytes};
 ghost use Rattle.unftp_control_defs.specs.Events.{out_of_memory};
 ghost use Rattle.unftp_control_error.specs.ErrorMeaning.{fault_of};
@@ -35,14 +35,22 @@ pub trait Metadata {
         ensures { result ≡ (facts_of self.now).gid };
 }
 
+/// Appends a digit.
+fn push_digit(text: &mut String, digit: u8) -> Result<(), AllocError>
+    requires { digit < 10 }
+    ensures { OnOk result (string_bytes text.new ≡ string_bytes text.old ++ (48 + digit) ∷ []) }
+{
+    text.push(char::from(b'0' + digit))?;
+    Ok(())
+}
+
 /// Appends a number in two digits.
 fn push_two_digits(text: &mut String, n: u8) -> Result<(), AllocError>
     requires { n < 100 }
     ensures { OnOk result (string_bytes text.new ≡ string_bytes text.old ++ two_digits n) }
 {
-    text.push((b'0' + n / 10) as char)?;
-    text.push((b'0' + n % 10) as char)?;
-    Ok(())
+    push_digit(text, n / 10)?;
+    push_digit(text, n % 10)
 }
 
 /// The second of UTC that holds the instant, as YYYYMMDDHHMMSS (RFC 3659, section 2.3), or `None`

@@ -27,5 +27,3 @@ pub mod AnswerLemmas
 pub mod RuleLemmas
 pub mod CommandLineLemmas
 pub mod LineEventLemmas
-mod ExampleLemmas
-mod ReadExampleLemmas

@@ -2,5 +2,4 @@
 //! definitions in `specs/`.
 #![tactic(auto)]
 
-pub mod examples;
 pub mod parameters;

@@ -2,9 +2,9 @@
 use Rattle.std.specs.Prelude.{string_bytes}
 use Rattle.unftp_control_defs.specs.Events.{Fault, FaultKind, FaultSource, NoSource, Parse, Utf8, Io}
 use Rattle.unftp_control_defs.specs.Events as fault
-use Rattle.unftp_control_line_parser.specs.declared.error.ParseErrorKind.{ParseErrorKind}
-use Rattle.unftp_control_line_parser.specs.declared.error.ParseErrorKind.TheVariants as parse
-use Rattle.unftp_control_line_parser.specs.ParseAnswer.{refusal_of}
+use Rattle.unftp_control_error.specs.declared.parse_error.ParseErrorKind.{ParseErrorKind}
+use Rattle.unftp_control_error.specs.declared.parse_error.ParseErrorKind.TheVariants as parse
+use Rattle.unftp_control_error.specs.ParseRefusal.{refusal_of}
 use Rattle.unftp_control_error.specs.declared.ControlChanErrorKind.{ControlChanErrorKind}
 use Rattle.unftp_control_error.specs.declared.ControlChanErrorKind.TheVariants as kind
 use Rattle.unftp_control_error.specs.declared.Source.{Source}

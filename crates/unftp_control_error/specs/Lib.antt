@@ -1,2 +1,3 @@
 pub mod ErrorParts
 pub mod ErrorMeaning
+pub mod ParseRefusal

@@ -1,16 +1,18 @@
-//! The errors of the control channel.
+//! The errors of the control channel, and those of the parser of its lines.
 #![tactic(auto)]
 
 ghost use Rattle.std.specs.Prelude.{◌≡◌, ◌↔◌, IsTrue};
 ghost use Rattle.unftp_control_error.specs.ErrorMeaning.{kind_meant};
 ghost use Rattle.unftp_control_error.specs.declared.ControlChanErrorKind.{ControlChanErrorKind as RustKind};
 
+mod parse_error;
+
+pub use parse_error::{ParseError, ParseErrorKind, Result, same_parse_errors};
 use std::alloc::AllocError;
 use std::error::Error;
 use std::marker::Model;
 use std::str::Utf8Error;
 use std::{fmt, io};
-use unftp_control_line_parser::{ParseError, ParseErrorKind};
 
 /// What went wrong on the control channel.
 ///

@@ -5,8 +5,8 @@ use Rattle.unftp_control_defs.specs.Bytes.{Bytes}
 use Rattle.unftp_control_defs.specs.Verbs.{verb_of}
 use Rattle.unftp_control_defs.specs.FtpCommand.{FtpCommand, Syst, TypeCode, Help, Noop, Pasv, Epsv, Feat, Pwd, Cdup, Quit, Allo, Abor, Stou, Ccc, Answer}
 use Rattle.unftp_control_defs.specs.Outcome.{outcome}
-use Rattle.unftp_control_line_parser.specs.declared.error.ParseErrorKind.{ParseErrorKind}
-use Rattle.unftp_control_line_parser.specs.declared.error.ParseErrorKind.TheVariants as kind
+use Rattle.unftp_control_error.specs.declared.parse_error.ParseErrorKind.{ParseErrorKind}
+use Rattle.unftp_control_error.specs.declared.parse_error.ParseErrorKind.TheVariants as kind
 
 -- a command whose verb takes no value, or ignores its parameter
 abbrev pub takes_no_memory : FtpCommand → Bool

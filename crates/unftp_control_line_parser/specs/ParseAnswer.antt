@@ -1,17 +1,10 @@
 -- What an answer of the parser means for a line.
-use Rattle.std.specs.Prelude.{◌≡◌, ⊤, Option, Some, None, Result, Ok, Err}
-use Rattle.unftp_control_defs.specs.FtpCommand.{Refusal, InvalidCommand, InvalidUtf8, InvalidEol, Answer}
+use Rattle.std.specs.Prelude.{◌≡◌, ⊤, Result, Ok, Err}
+use Rattle.unftp_control_defs.specs.FtpCommand.{InvalidCommand, InvalidUtf8, InvalidEol, Answer}
 use Rattle.unftp_control_command.specs.declared.Command.{Command}
 use Rattle.unftp_control_command.specs.CommandMeaning.{command_of}
-use Rattle.unftp_control_line_parser.specs.declared.error.ParseErrorKind.{ParseErrorKind}
-use Rattle.unftp_control_line_parser.specs.declared.error.ParseErrorKind.TheVariants as kind
-
--- the refusal that a kind is; running out of memory refuses no line
-abbrev pub refusal_of : ParseErrorKind → Option Refusal
-refusal_of kind.InvalidCommand = Some InvalidCommand
-refusal_of kind.InvalidUtf8 = Some InvalidUtf8
-refusal_of kind.InvalidEol = Some InvalidEol
-refusal_of kind.OutOfMemory = None
+use Rattle.unftp_control_error.specs.declared.parse_error.ParseErrorKind.{ParseErrorKind}
+use Rattle.unftp_control_error.specs.declared.parse_error.ParseErrorKind.TheVariants as kind
 
 -- the answer is that refusal; running out of memory refuses no line
 abbrev pub Refuses : Answer → ParseErrorKind → Type 0

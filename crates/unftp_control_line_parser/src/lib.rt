@@ -1,7 +1,6 @@
 //! The command that a line of the control connection is.
 #![tactic(auto)]
 
-mod error;
 pub mod examples;
 mod fields;
 mod parser;
@@ -10,6 +9,6 @@ mod typed;
 mod value;
 mod verb;
 
-pub use error::{ParseError, ParseErrorKind, Result, same_parse_errors};
 pub use parser::parse;
+pub use unftp_control_error::{ParseError, ParseErrorKind, Result, same_parse_errors};
 pub use verb::is_verb;

@@ -15,7 +15,6 @@ ghost use Rattle.unftp_control_line_parser.specs.Memory.{AnswerMayTakeMemory, Ma
 ghost use Rattle.unftp_control_line_parser.specs.ParseAnswer.{Returns};
 ghost use Rattle.unftp_control_line_parser.specs.Values.{ReturnsSomeText};
 
-use crate::error::{ParseErrorKind, Result};
 use crate::fields::{list_path, optional_raw, optional_text, raw, text, upper_cased};
 use crate::rule::{ParameterKind, Rule, UnitCommand};
 use crate::typed::typed;
@@ -28,6 +27,7 @@ use std::convert::AsSlice;
 use std::result;
 use std::str::from_utf8;
 use unftp_control_command::Command;
+use unftp_control_error::{ParseErrorKind, Result};
 
 type Answer = result::Result<Command, ParseErrorKind>;
 

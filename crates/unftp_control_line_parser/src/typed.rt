@@ -5,10 +5,10 @@ ghost use Rattle.unftp_control_line_parser.specs.Meaning.{typed_answer};
 ghost use Rattle.unftp_control_line_parser.specs.Memory.{OnOutOfMemory};
 ghost use Rattle.unftp_control_line_parser.specs.ParseAnswer.{Returns};
 
-use crate::error::ParseErrorKind;
 use crate::rule::TypedCommand;
 use std::str::from_utf8;
 use unftp_control_command::{AuthParam, Command, ModeParam, Opt, ProtParam, StruParam};
+use unftp_control_error::ParseErrorKind;
 
 type Answer = Result<Command, ParseErrorKind>;
 

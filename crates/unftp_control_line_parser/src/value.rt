@@ -4,10 +4,10 @@ ghost use Rattle.unftp_control_defs.specs.Values.{value_of, later_value, Fresh};
 ghost use Rattle.unftp_control_line_parser.specs.Memory.{OnOutOfMemory};
 ghost use Rattle.unftp_control_line_parser.specs.Values.{begins_with_cr_nul, IsPlainEnd, IsFreshEnd, ReturnsValue, IsRun, ReturnsValueFrom, ReturnsJoined};
 
-use crate::error::ParseErrorKind;
 use memchr::memchr2;
 use std::alloc::{AllocError, Global};
 use std::borrow::CowSlice;
+use unftp_control_error::ParseErrorKind;
 
 const NUL: u8 = 0;
 

@@ -1,228 +1,129 @@
-//! Answers the cases of a vector file (`vectors/README.md`): reads one a line from standard input,
-//! and writes its answer. Its one argument is the call that answers, `parse`, `decode`, `encode`,
-//! `read` or `write`. What is no case is answered by `bad-case`.
+//! Answers cases of calls of the library (`vectors/README.md`): reads one a line from standard
+//! input, and writes its answer. What is no case is answered by `bad-case`. With the one argument
+//! `marks` it also writes to standard error when a call begins and ends, and when one ran out of
+//! memory.
 #![tactic(auto)]
 
-mod cases;
+mod answers;
+mod case;
+mod commands;
+mod decoding;
+mod ends;
+mod events;
+mod forms;
+mod handlers;
+mod lines;
+mod reading;
+mod replies;
+mod sessions;
+mod settings;
 mod shown;
+mod steps;
+mod streams;
+mod texts;
+mod words;
+mod writing;
 
-use cases::{read_bytes, read_reply};
-use shown::{Hex, Shown};
+use answers::Answers;
 use std::alloc::Global;
-use std::io::Write;
+use std::io::{BufRead, BufReader, BufWriter};
 use std::process::ExitCode;
 use std::{env, io};
-use unftp_control::codecs::FtpCodec;
-use unftp_control::command::Command;
-use unftp_control::error::{ControlChanError, ControlChanErrorKind, Source};
-use unftp_control::line_parser::{ParseErrorKind, parse};
-use unftp_control::read::{Front, ReadReplyError, read_reply as read_front};
-use unftp_control::reply::Reply;
-use unftp_control::write::{WriteCommandError, write_command};
+use words::{Words, no_case};
 
-/// The call that answers.
-#[derive(Clone, Copy)]
-enum Call {
-    Parse,
-    Decode,
-    Encode,
-    Read,
-    Write,
+/// Answers a call on lines and commands; `None` where it has another name.
+fn answer_line_call(
+    alloc: Global,
+    call: &str,
+    words: &mut Words<'_>,
+    answers: &mut Answers,
+) -> Option<io::Result<()>> {
+    if let Some(answered) = lines::answer(alloc, call, words, answers) {
+        return Some(answered);
+    }
+    if let Some(answered) = writing::answer(alloc, call, words, answers) {
+        return Some(answered);
+    }
+    if let Some(answered) = decoding::answer(alloc, call, words, answers) {
+        return Some(answered);
+    }
+    events::answer(alloc, call, words, answers)
 }
 
-impl Call {
-    fn named(name: &str) -> Option<Call> {
-        match name {
-            "parse" => Some(Call::Parse),
-            "decode" => Some(Call::Decode),
-            "encode" => Some(Call::Encode),
-            "read" => Some(Call::Read),
-            "write" => Some(Call::Write),
-            _ => None,
+/// Answers a call on replies and errors; `None` where it has another name.
+fn answer_reply_call(
+    alloc: Global,
+    call: &str,
+    words: &mut Words<'_>,
+    answers: &mut Answers,
+) -> Option<io::Result<()>> {
+    if let Some(answered) = replies::answer(alloc, call, words, answers) {
+        return Some(answered);
+    }
+    if let Some(answered) = reading::answer(alloc, call, words, answers) {
+        return Some(answered);
+    }
+    if let Some(answered) = commands::answer(alloc, call, words, answers) {
+        return Some(answered);
+    }
+    if let Some(answered) = commands::answer_text(alloc, call, words, answers) {
+        return Some(answered);
+    }
+    texts::answer(alloc, call, words, answers)
+}
+
+/// Answers a case by the module that has its call.
+fn answer_call(alloc: Global, words: &mut Words<'_>, answers: &mut Answers) -> io::Result<()> {
+    let call = words.word()?;
+    if let Some(answered) = answer_line_call(alloc, call, words, answers) {
+        return answered;
+    }
+    if let Some(answered) = answer_reply_call(alloc, call, words, answers) {
+        return answered;
+    }
+    sessions::answer(alloc, call, words, answers).unwrap_or_else(|| Err(no_case()))
+}
+
+/// Answers a line of standard input.
+fn answer_line(alloc: Global, line: &str, answers: &mut Answers) -> io::Result<()> {
+    if let Err(error) = answer_call(alloc, &mut Words::of(line), answers) {
+        if error.kind() != io::ErrorKind::InvalidData {
+            return Err(error);
         }
+        answers.begin();
+        answers.put("bad-case");
+        answers.end();
     }
-}
-
-/// Writes what `parse` makes of a line.
-fn answer_parse<W: Write>(alloc: Global, line: &[u8], out: &mut W) -> io::Result<()> {
-    match parse(alloc, line) {
-        Ok(command) => {
-            let written = write!(out, "ok {}", Shown(&command));
-            drop(command);
-            written
-        }
-        Err(error) => match error.kind() {
-            ParseErrorKind::OutOfMemory => Err(io::ErrorKind::OutOfMemory.into()),
-            kind => write!(out, "err {kind:?}"),
-        },
-    }
-}
-
-/// Writes the kinds of a refusal and of its source.
-fn write_refusal<W: Write>(error: &ControlChanError, out: &mut W) -> io::Result<()> {
-    match (error.kind(), error.source()) {
-        (ControlChanErrorKind::OutOfMemory, _) => Err(io::ErrorKind::OutOfMemory.into()),
-        (kind, Source::Parse(source)) => write!(out, "err {kind:?} {:?} | ", source.kind()),
-        (kind, _) => write!(out, "err {kind:?} | "),
-    }
-}
-
-/// Writes a command that was decoded, or the refusal of a line; `false` where no line is complete.
-fn write_decoded<W: Write>(
-    decoded: Result<Option<Command>, ControlChanError>,
-    out: &mut W,
-) -> io::Result<bool> {
-    let written = match decoded {
-        Ok(None) => return Ok(false),
-        Ok(Some(command)) => {
-            let written = write!(out, "ok {} | ", Shown(&command));
-            drop(command);
-            written
-        }
-        Err(error) => {
-            let written = write_refusal(&error, out);
-            drop(error);
-            written
-        }
-    };
-    written?;
-    Ok(true)
-}
-
-/// Writes what a new codec makes of an input.
-fn answer_decode<W: Write>(alloc: Global, input: Vec<u8>, out: &mut W) -> io::Result<()> {
-    let mut codec = FtpCodec::new();
-    let mut buf = input;
-    // a line has at least one byte, so the last call finds none
-    for _ in 0..=buf.len() {
-        if !write_decoded(codec.decode(alloc, &mut buf), out)? {
-            break;
-        }
-    }
-    write!(out, "left={}", buf.len())
-}
-
-/// Writes the bytes of a reply.
-fn answer_encode<W: Write>(alloc: Global, reply: Reply, out: &mut W) -> io::Result<()> {
-    let mut buf = Vec::new(alloc);
-    match FtpCodec::new().encode(reply, &mut buf) {
-        Ok(()) => write!(out, "{}", Hex(buf.as_slice())),
-        Err(_) => Err(io::ErrorKind::OutOfMemory.into()),
-    }
-}
-
-/// Writes the lines of a reply that was read.
-fn write_lines<W: Write>(lines: &[Vec<u8>], out: &mut W) -> io::Result<()> {
-    for (at, line) in lines.iter().enumerate() {
-        if at > 0 {
-            write!(out, ",")?;
-        }
-        write!(out, "{}", Hex(line.as_slice()))?;
-    }
-    Ok(())
-}
-
-/// Writes a reply that was read, after a semicolon where it is not the first.
-fn write_front<W: Write>(
-    is_first: bool,
-    code: u16,
-    lines: &[Vec<u8>],
-    out: &mut W,
-) -> io::Result<()> {
-    let separator = if is_first { "" } else { ";" };
-    write!(out, "{separator}{code:03}:")?;
-    write_lines(lines, out)
-}
-
-/// Writes the replies in what a server sent, and how much is left.
-fn answer_read<W: Write>(alloc: Global, stream: &[u8], out: &mut W) -> io::Result<()> {
-    let mut rest = stream;
-    // a reply takes bytes, so the last call finds none
-    for turn in 0..=stream.len() {
-        match read_front(alloc, rest) {
-            Ok(Front::Whole { code, lines, used }) => {
-                let written = write_front(turn == 0, code, lines.as_slice(), out);
-                drop(lines);
-                written?;
-                rest = rest.split_at(used).1;
-            }
-            Ok(Front::Partial) => return write!(out, " rest={}", rest.len()),
-            Err(ReadReplyError::Malformed) => {
-                return write!(out, " rest={} malformed", rest.len());
-            }
-            Err(ReadReplyError::OutOfMemory) => return Err(io::ErrorKind::OutOfMemory.into()),
-        }
-    }
-    Ok(())
-}
-
-/// Writes what `parse` makes of the line that is written for the command that a line is; of a
-/// refused line, its refusal.
-fn answer_write<W: Write>(alloc: Global, line: &[u8], out: &mut W) -> io::Result<()> {
-    let Ok(command) = parse(alloc, line) else {
-        return answer_parse(alloc, line, out);
-    };
-    let mut written = Vec::new(alloc);
-    let answer = write_command(&command, &mut written);
-    drop(command);
-    match answer {
-        Ok(()) => answer_parse(alloc, written.as_slice(), out),
-        Err(WriteCommandError::NoLine) => write!(out, "no-line"),
-        Err(WriteCommandError::OutOfMemory) => Err(io::ErrorKind::OutOfMemory.into()),
-    }
-}
-
-/// Writes the answer to a case; what is none is an error of kind `InvalidData`, and nothing is
-/// written.
-fn answer_case<W: Write>(alloc: Global, call: Call, case: &str, out: &mut W) -> io::Result<()> {
-    match call {
-        Call::Parse => answer_parse(alloc, read_bytes(alloc, case)?.as_slice(), out),
-        Call::Decode => answer_decode(alloc, read_bytes(alloc, case)?, out),
-        Call::Encode => answer_encode(alloc, read_reply(alloc, case)?, out),
-        Call::Read => answer_read(alloc, read_bytes(alloc, case)?.as_slice(), out),
-        Call::Write => answer_write(alloc, read_bytes(alloc, case)?.as_slice(), out),
-    }
-}
-
-/// Writes the answer to a line of standard input.
-fn answer<W: Write>(alloc: Global, call: Call, case: &str, out: &mut W) -> io::Result<()> {
-    match answer_case(alloc, call, case, out) {
-        Ok(()) => Ok(()),
-        Err(error) => match error.kind() {
-            io::ErrorKind::InvalidData => write!(out, "bad-case"),
-            _ => Err(error),
-        },
-    }
+    answers.end_line()
 }
 
 /// Answers each line of standard input.
-fn replay(rt: &HostRuntime, call: Call) -> io::Result<()> {
+fn replay(rt: &HostRuntime, has_marks: bool) -> io::Result<()> {
     let alloc = rt.alloc();
-    let mut out = io::BufWriter::new(alloc, rt.stdout())?;
-    for case in rt.lines(alloc) {
-        answer(alloc, call, case?.as_str(), &mut out)?;
-        writeln!(out)?;
+    let marks = if has_marks { Some(rt.stderr()) } else { None };
+    let out = BufWriter::new(alloc, rt.stdout())?;
+    let mut answers = Answers::new(out, marks);
+    for line in BufReader::new(alloc, rt.reader())?.lines(alloc) {
+        answer_line(alloc, line?.as_str(), &mut answers)?;
     }
-    out.flush()
+    answers.flush()
 }
 
-/// The call that the arguments name.
-fn call_asked(rt: &HostRuntime) -> io::Result<Option<Call>> {
+/// Whether marks are asked for; `None` where the arguments are not known.
+fn marks_asked(rt: &HostRuntime) -> io::Result<Option<bool>> {
     let mut arguments = env::args(rt)?.skip(1);
-    let Some(name) = arguments.next() else {
-        return Ok(None);
+    let Some(first) = arguments.next() else {
+        return Ok(Some(false));
     };
-    if arguments.next().is_some() {
-        return Ok(None);
-    }
-    Ok(Call::named(name.as_str()))
+    let is_known = first.as_str() == "marks" && arguments.next().is_none();
+    Ok(if is_known { Some(true) } else { None })
 }
 
 fn main(rt: HostRuntime) -> ExitCode {
-    let replayed = match call_asked(&rt) {
-        Ok(Some(call)) => replay(&rt, call),
+    let replayed = match marks_asked(&rt) {
+        Ok(Some(has_marks)) => replay(&rt, has_marks),
         Ok(None) => {
-            let _ = eprintln!(rt; "usage: vector_replay parse|decode|encode|read|write");
+            let _ = eprintln!(rt; "usage: vector_replay [marks]");
             return ExitCode::from(2);
         }
         Err(error) => Err(error),

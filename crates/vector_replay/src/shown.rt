@@ -1,30 +1,43 @@
 //! Commands as the vector files write them.
 use std::fmt;
 use std::fmt::{Debug, Display, Formatter, Write};
-use unftp_control::command::{Command, Opt};
+use unftp_control_command::{Command, Opt};
 
-/// Bytes as lower-case hex.
+/// Bytes between double quotes, in ASCII: what is printable as it is, and all else escaped.
 #[derive(Clone, Copy)]
-pub struct Hex<'a>(pub &'a [u8]);
+pub struct Quoted<'a>(pub &'a [u8]);
 
-impl Display for Hex<'_> {
+impl Display for Quoted<'_> {
     fn fmt<W: Write>(&self, f: &mut Formatter<W>) -> fmt::Result {
+        f.write_str("\"")?;
         for byte in self.0 {
-            write!(f, "{byte:02x}")?;
+            write_escaped(f, *byte)?;
         }
-        Ok(())
+        f.write_str("\"")
+    }
+}
+
+/// Writes a byte as it is between quotes.
+fn write_escaped<W: Write>(f: &mut Formatter<W>, byte: u8) -> fmt::Result {
+    match byte {
+        b'\r' => f.write_str("\\r"),
+        b'\n' => f.write_str("\\n"),
+        b'\0' => f.write_str("\\0"),
+        b'\\' => f.write_str("\\\\"),
+        b' '..=b'~' => f.write_char(char::from(byte)),
+        _ => write!(f, "\\x{byte:02x}"),
     }
 }
 
 /// Bytes that may be missing.
 #[derive(Clone, Copy)]
-struct OptionalHex<'a>(Option<&'a [u8]>);
+struct OptionalBytes<'a>(Option<&'a [u8]>);
 
-impl Display for OptionalHex<'_> {
+impl Display for OptionalBytes<'_> {
     fn fmt<W: Write>(&self, f: &mut Formatter<W>) -> fmt::Result {
         match self.0 {
             None => f.write_str("None"),
-            Some(bytes) => write!(f, "Some:{}", Hex(bytes)),
+            Some(bytes) => Display::fmt(&Quoted(bytes), f),
         }
     }
 }
@@ -79,8 +92,8 @@ fn write_list<W: Write>(
     options: Option<&[u8]>,
     path: Option<&[u8]>,
 ) -> fmt::Result {
-    let options = OptionalHex(options);
-    write!(f, "List options={options} path={}", OptionalHex(path))
+    let options = OptionalBytes(options);
+    write!(f, "List options={options} path={}", OptionalBytes(path))
 }
 
 /// Writes a name and arguments, after the name of the first.
@@ -90,7 +103,12 @@ fn write_texts<W: Write>(
     name: &[u8],
     arguments: &[u8],
 ) -> fmt::Result {
-    write!(f, "{field}={} arguments={}", Hex(name), Hex(arguments))
+    write!(
+        f,
+        "{field}={} arguments={}",
+        Quoted(name),
+        Quoted(arguments)
+    )
 }
 
 /// Writes a command that has neither one field of bytes nor one path.
@@ -128,17 +146,17 @@ fn write_typed<W: Write>(command: &Command, f: &mut Formatter<W>) -> fmt::Result
     }
 }
 
-/// A command as its variant and its fields, texts in hex.
+/// A command as its variant and its fields, texts between quotes.
 #[derive(Clone, Copy)]
 pub struct Shown<'a>(pub &'a Command);
 
 impl Display for Shown<'_> {
     fn fmt<W: Write>(&self, f: &mut Formatter<W>) -> fmt::Result {
         if let Some((variant, field, bytes)) = one_field(self.0) {
-            return write!(f, "{variant} {field}={}", Hex(bytes));
+            return write!(f, "{variant} {field}={}", Quoted(bytes));
         }
         if let Some((variant, path)) = one_path(self.0) {
-            return write!(f, "{variant} path={}", OptionalHex(path));
+            return write!(f, "{variant} path={}", OptionalBytes(path));
         }
         write_other(self.0, f)
     }

@@ -9,15 +9,29 @@ pub fn is_one_line(bytes: &[u8]) -> bool {
         == Some(bytes.len())
 }
 
-/// The bytes that a word has in hex.
+/// The bytes that a word has between quotes.
 pub fn read_bytes(word: &str) -> Option<Vec<u8>> {
-    let digits: Option<Vec<u8>> = word.bytes().map(digit).collect();
-    let digits = digits?;
-    let pairs = digits.chunks_exact(2);
-    if !pairs.remainder().is_empty() {
-        return None;
+    let mut rest = word.strip_prefix('"')?.strip_suffix('"')?.bytes();
+    let mut bytes = Vec::new();
+    while let Some(byte) = rest.next() {
+        bytes.push(match byte {
+            b'\\' => unescaped(&mut rest)?,
+            byte => byte,
+        });
     }
-    Some(pairs.map(|pair| pair[0] << 4 | pair[1]).collect())
+    Some(bytes)
+}
+
+/// The byte that is escaped by what follows a backslash.
+fn unescaped(rest: &mut impl Iterator<Item = u8>) -> Option<u8> {
+    Some(match rest.next()? {
+        b'r' => b'\r',
+        b'n' => b'\n',
+        b'0' => b'\0',
+        b'\\' => b'\\',
+        b'x' => digit(rest.next()?)? << 4 | digit(rest.next()?)?,
+        _ => return None,
+    })
 }
 
 fn digit(letter: u8) -> Option<u8> {
@@ -28,24 +42,21 @@ fn digit(letter: u8) -> Option<u8> {
     }
 }
 
-/// The text that a word has in hex; `-` is the empty one.
+/// The text that a word has between quotes.
 fn read_text(word: &str) -> Option<String> {
-    let bytes = if word == "-" {
-        Vec::new()
-    } else {
-        read_bytes(word)?
-    };
-    String::from_utf8(bytes).ok()
+    String::from_utf8(read_bytes(word)?).ok()
 }
 
 /// The code and the text of a reply that `reply` makes: its code has three digits, and its text is
 /// one line, or several that are joined by line feeds.
-pub fn read_reply(case: &str) -> Option<(u32, String)> {
-    let mut words = case.split(' ');
-    let (kind, code) = (words.next()?, words.next()?.parse().ok()?);
-    let texts: Option<Vec<String>> = words.map(read_text).collect();
+pub fn read_reply(words: &[&str]) -> Option<(u32, String)> {
+    let [kind, code, texts @ ..] = words else {
+        return None;
+    };
+    let code = code.parse().ok()?;
+    let texts: Option<Vec<String>> = texts.iter().map(|word| read_text(word)).collect();
     let texts = texts.filter(|texts| texts.iter().all(|text| !text.contains('\n')))?;
-    let is_taken = match kind {
+    let is_taken = match *kind {
         "msg" => texts.len() == 1,
         "multi" => texts.len() > 1,
         _ => false,

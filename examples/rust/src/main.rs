@@ -1,14 +1,12 @@
 //! Answers the cases of a vector file (`vectors/README.md`): reads one a line from standard input,
-//! and writes its answer. Its one argument is the call that answers, `parse`, `decode`, `encode`,
-//! `read` or `canonical`. A case that the call doesn't take is answered by `skipped`, and what is
-//! no case by `bad-case`.
+//! and writes its answer. It has the calls `parse`, `decode`, `encode`, `read` and `canonical`. A
+//! case that its call doesn't take is answered by `skipped`, and what is no case by `bad-case`.
 
 mod cases;
 mod shown;
 
 use cases::{is_one_line, read_bytes, read_reply};
-use shown::{hex, shown, shown_refusal, shown_refusals};
-use std::env;
+use shown::{quoted, shown, shown_refusal, shown_refusals};
 use std::io::{self, BufRead, Write};
 use std::process::ExitCode;
 use unftp_control::{canonical, front_reply, reply, Error, Event, FrontReply, Pending};
@@ -16,38 +14,17 @@ use unftp_control::{canonical, front_reply, reply, Error, Event, FrontReply, Pen
 /// What a call answers to a case: `None` where it doesn't take the case.
 type Answer = Result<Option<String>, Error>;
 
-/// The call that answers.
-#[derive(Clone, Copy)]
-enum Call {
-    Parse,
-    Decode,
-    Encode,
-    Read,
-    Canonical,
-}
-
-impl Call {
-    fn named(name: &str) -> Option<Call> {
-        Some(match name {
-            "parse" => Call::Parse,
-            "decode" => Call::Decode,
-            "encode" => Call::Encode,
-            "read" => Call::Read,
-            "canonical" => Call::Canonical,
-            _ => return None,
-        })
-    }
-
-    /// The answer to a case; `None` where it is no case.
-    fn answer(self, case: &str) -> Option<Answer> {
-        Some(match self {
-            Call::Parse => answer_parse(&read_bytes(case)?),
-            Call::Decode => answer_decode(&read_bytes(case)?),
-            Call::Encode => answer_encode(case),
-            Call::Read => answer_read(&read_bytes(case)?),
-            Call::Canonical => answer_canonical(&read_bytes(case)?),
-        })
-    }
+/// The answer to a case; `None` where it is no case.
+fn answer(case: &str) -> Option<Answer> {
+    let words: Vec<&str> = case.split('\t').collect();
+    Some(match words[..] {
+        ["parse", line] => answer_parse(&read_bytes(line)?),
+        ["decode", "none", input] => answer_decode(&read_bytes(input)?),
+        ["encode", ..] => answer_encode(&words[1..]),
+        ["read", stream] => answer_read(&read_bytes(stream)?),
+        ["canonical", line] => answer_canonical(&read_bytes(line)?),
+        _ => return None,
+    })
 }
 
 /// What a line is.
@@ -79,9 +56,9 @@ fn answer_decode(input: &[u8]) -> Answer {
 }
 
 /// The bytes of a reply.
-fn answer_encode(case: &str) -> Answer {
-    match read_reply(case) {
-        Some((code, text)) => Ok(Some(hex(&reply(code, &text)?))),
+fn answer_encode(words: &[&str]) -> Answer {
+    match read_reply(words) {
+        Some((code, text)) => Ok(Some(quoted(&reply(code, &text)?))),
         None => Ok(None),
     }
 }
@@ -110,18 +87,18 @@ fn answer_read(stream: &[u8]) -> Answer {
 /// The canonical line of a line.
 fn answer_canonical(line: &[u8]) -> Answer {
     Ok(Some(match canonical(line) {
-        Ok(written) => format!("ok {}", hex(&written)),
+        Ok(written) => quoted(&written),
         Err(Error::Refused(refusal)) => format!("err {}", shown_refusal(refusal)),
-        Err(Error::NoLine) => "err NoLine".to_string(),
+        Err(Error::NoLine) => "no-line".to_string(),
         Err(error) => return Err(error),
     }))
 }
 
 /// Answers each line of standard input.
-fn replay(call: Call) -> Result<(), Box<dyn std::error::Error>> {
+fn replay() -> Result<(), Box<dyn std::error::Error>> {
     let mut out = io::BufWriter::new(io::stdout().lock());
     for case in io::stdin().lock().lines() {
-        match call.answer(&case?) {
+        match answer(&case?) {
             Some(answer) => writeln!(out, "{}", answer?.as_deref().unwrap_or("skipped"))?,
             None => writeln!(out, "bad-case")?,
         }
@@ -130,21 +107,8 @@ fn replay(call: Call) -> Result<(), Box<dyn std::error::Error>> {
     Ok(())
 }
 
-/// The call that the arguments name.
-fn call_asked() -> Option<Call> {
-    let mut arguments = env::args().skip(1);
-    match (arguments.next(), arguments.next()) {
-        (Some(name), None) => Call::named(&name),
-        _ => None,
-    }
-}
-
 fn main() -> ExitCode {
-    let Some(call) = call_asked() else {
-        eprintln!("usage: replay parse|decode|encode|read|canonical");
-        return ExitCode::from(2);
-    };
-    match replay(call) {
+    match replay() {
         Ok(()) => ExitCode::SUCCESS,
         Err(error) => {
             eprintln!("replay: {error}");

@@ -62,17 +62,29 @@ fn word_of<'a>(command: &Command<'a>) -> &'a str {
     }
 }
 
-/// The bytes in hex.
-pub fn hex(bytes: &[u8]) -> String {
-    bytes.iter().map(|byte| format!("{byte:02x}")).collect()
+/// The bytes between quotes, in ASCII: what is printable as it is, and all else escaped.
+pub fn quoted(bytes: &[u8]) -> String {
+    let escaped: String = bytes.iter().map(|&byte| escaped(byte)).collect();
+    format!("\"{escaped}\"")
 }
 
-/// The bytes in hex, where there are any.
-fn optional_hex(bytes: &[u8]) -> String {
+fn escaped(byte: u8) -> String {
+    match byte {
+        b'\r' => "\\r".to_string(),
+        b'\n' => "\\n".to_string(),
+        b'\0' => "\\0".to_string(),
+        b'\\' => "\\\\".to_string(),
+        b' '..=b'~' => char::from(byte).to_string(),
+        _ => format!("\\x{byte:02x}"),
+    }
+}
+
+/// The bytes between quotes, where there are any.
+fn optional_quoted(bytes: &[u8]) -> String {
     if bytes.is_empty() {
         "None".to_string()
     } else {
-        format!("Some:{}", hex(bytes))
+        quoted(bytes)
     }
 }
 
@@ -81,11 +93,11 @@ pub fn shown(command: &Command) -> String {
     let Command { kind, name, value } = *command;
     match field_of(kind) {
         Field::None => format!("{kind:?}"),
-        Field::Bytes(field) => format!("{kind:?} {field}={}", hex(value)),
-        Field::Optional(field) => format!("{kind:?} {field}={}", optional_hex(value)),
+        Field::Bytes(field) => format!("{kind:?} {field}={}", quoted(value)),
+        Field::Optional(field) => format!("{kind:?} {field}={}", optional_quoted(value)),
         Field::Word(field) => format!("{kind:?} {field}={}", word_of(command)),
         Field::Named(field) => {
-            let (name, arguments) = (hex(name.as_bytes()), hex(value));
+            let (name, arguments) = (quoted(name.as_bytes()), quoted(value));
             format!("{kind:?} {field}={name} arguments={arguments}")
         }
     }

@@ -1,7 +1,7 @@
 use Rattle.std.specs.Prelude.{Some}
 use Rattle.std.specs.Io.KnownBytes.{Appends}
-use Rattle.unftp_control.specs.Bytes.{Bytes}
-use Rattle.unftp_control.proofs.MemberLemmas.{limit-members-alone, some_output}
+use Rattle.unftp_control_defs.specs.Bytes.{Bytes}
+use Rattle.unftp_control_login.proofs.MemberLemmas.{limit-members-alone, some_output}
 use Rattle.login_demo.specs.Session.{files_law, new_session}
 use Rattle.login_demo.proofs.PlainLemmas.{SendsPlainReplies-files}
 use Rattle.login_demo.proofs.run.Goals as goal

@@ -1,9 +1,9 @@
 //! Sessions: what commands say in a directory, and where they lead.
 ghost use Rattle.std.specs.Prelude.{◌≡◌, ◌++◌, true, false, [], Some, None, codes};
-ghost use Rattle.unftp_control.specs.Events.{Command, Refused, OutOfMemory, InvalidCommand, NoSource, out_of_memory};
-ghost use Rattle.unftp_control.specs.FtpCommand.{Cdup, Cwd, Mdtm, Mlst, Noop, Pass, Pwd, Quit, Size, User};
-ghost use Rattle.unftp_control.specs.FtpReply.{CodeAndMsg};
-ghost use Rattle.unftp_control.specs.LineLimit.{text_with_limit};
+ghost use Rattle.unftp_control_defs.specs.Events.{Command, Refused, OutOfMemory, InvalidCommand, NoSource, out_of_memory};
+ghost use Rattle.unftp_control_defs.specs.FtpCommand.{Cdup, Cwd, Mdtm, Mlst, Noop, Pass, Pwd, Quit, Size, User};
+ghost use Rattle.unftp_control_defs.specs.FtpReply.{CodeAndMsg};
+ghost use Rattle.unftp_control_defs.specs.LineLimit.{text_with_limit};
 ghost use Rattle.login_demo.specs.Facts.{mdtm_reply, mlst_reply, pwd_reply, size_reply};
 ghost use Rattle.login_demo.specs.Session.{command_reply, files_law, found, new_session, session_after};
 

@@ -1,14 +1,12 @@
-//! Errors: what `?` makes of another error, and what is printed.
+//! What `?` makes of another error: `tools/failed_allocations` sees that it takes no memory.
 ghost use Rattle.std.specs.Prelude.{◌≡◌, IfErr};
 ghost use Rattle.unftp_control.specs.ErrorMeaning.{converted};
 
 use crate::error::{ControlChanError, ControlChanErrorKind, Source};
 use crate::line_parser::{ParseError, ParseErrorKind};
-use crate::tests::texts::assert_displayed;
-use std::alloc::Global;
 use std::io;
 use std::process::Abort;
-use std::str::{Utf8Error, from_utf8};
+use std::str::Utf8Error;
 
 /// What a caller knows of a line that was refused.
 fn pass_on_parse(refused: Result<(), ParseError>) -> Result<(), ControlChanError>
@@ -36,95 +34,87 @@ fn pass_on_utf8(ill_formed: Result<(), Utf8Error>) -> Result<(), ControlChanErro
     Ok(ill_formed?)
 }
 
-/// The error is of this kind.
-pub fn assert_kind(rt: &impl Abort, error: &ControlChanError, want: &ControlChanErrorKind) {
-    assert_eq!(rt; error.kind(), want);
+/// The source of an error.
+#[derive(Clone, Copy, Debug, PartialEq, Eq)]
+enum Origin {
+    Nothing,
+    Parse,
+    Utf8,
+    Io(io::ErrorKind),
 }
 
-/// Whether the source is an error of the parser of this kind.
-fn is_parse(error: &ControlChanError, kind: &ParseErrorKind) -> bool {
-    match error.source() {
-        Source::Parse(parse) => parse.kind() == kind,
-        _ => false,
-    }
-}
-
-/// Whether the source is an error of the system of this kind.
-fn is_io(error: &ControlChanError, kind: io::ErrorKind) -> bool {
-    match error.source() {
-        Source::Io(io) => io.kind() == kind,
-        _ => false,
-    }
-}
-
-#[test]
-fn a_converted_refusal_keeps_its_source(rt: HostRuntime) {
-    let refused = pass_on_parse(Err(ParseErrorKind::InvalidEol.into()));
-    let error = refused.expect_err(&rt, "an error");
-    assert_kind(&rt, &error, &ControlChanErrorKind::InvalidCommand);
-    let is_kept = is_parse(&error, &ParseErrorKind::InvalidEol);
-    drop(error);
-    assert!(rt; is_kept);
-}
-
-#[test]
-fn converted_errors_keep_their_source(rt: HostRuntime) {
-    let failed = pass_on_io(Err(io::ErrorKind::BrokenPipe.into()));
-    let error = failed.expect_err(&rt, "an error");
-    assert_kind(&rt, &error, &ControlChanErrorKind::IoError);
-    let is_kept = is_io(&error, io::ErrorKind::BrokenPipe);
-    drop(error);
-    assert!(rt; is_kept);
-}
-
-#[test]
-fn ill_formed_text_keeps_its_source(rt: HostRuntime) {
-    let ill_formed = pass_on_utf8(from_utf8(b"\xff").map(drop));
-    let error = ill_formed.expect_err(&rt, "an error");
-    assert_kind(&rt, &error, &ControlChanErrorKind::Utf8Error);
-    let is_kept = matches!(error.source(), Source::Utf8(_));
-    drop(error);
-    assert!(rt; is_kept);
-}
-
-#[test]
-fn out_of_memory_is_converted_to_itself(rt: HostRuntime) {
-    let error = ControlChanError::from(ParseError::from(ParseErrorKind::OutOfMemory));
-    assert_kind(&rt, &error, &ControlChanErrorKind::OutOfMemory);
-    let is_kept = matches!(error.source(), Source::Parse(_));
-    drop(error);
-    assert!(rt; is_kept);
-    let error = ControlChanError::from(ControlChanErrorKind::OutOfMemory);
-    assert_kind(&rt, &error, &ControlChanErrorKind::OutOfMemory);
-    let is_none = matches!(error.source(), Source::None);
-    drop(error);
-    assert!(rt; is_none);
-}
-
-#[test]
-fn ill_formed_text_is_invalid_utf8_to_the_parser(rt: HostRuntime) {
-    let Err(utf8) = from_utf8(b"\xff") else {
-        panic!(rt; "no error");
+/// The error has this kind and comes from this.
+fn assert_error(
+    rt: &impl Abort,
+    error: ControlChanError,
+    kind: ControlChanErrorKind,
+    source: Origin,
+) {
+    let is_kind = *error.kind() == kind;
+    let found = match error.source() {
+        Source::None => Origin::Nothing,
+        Source::Parse(_) => Origin::Parse,
+        Source::Utf8(_) => Origin::Utf8,
+        Source::Io(io) => Origin::Io(io.kind()),
     };
-    assert_eq!(rt; ParseError::from(utf8), ParseErrorKind::InvalidUtf8.into());
-}
-
-/// The error prints this text.
-fn assert_printed(rt: &impl Abort, alloc: Global, kind: ControlChanErrorKind, want: &str) {
-    let error = ControlChanError::new(kind);
-    assert_displayed(rt, alloc, &error, want);
     drop(error);
+    drop(kind);
+    assert!(rt; is_kind);
+    assert_eq!(rt; found, source);
 }
 
-#[test]
-fn errors_print_their_texts(rt: HostRuntime) {
-    let alloc = rt.alloc();
-    let error = ParseError::from(ParseErrorKind::InvalidEol);
-    assert_displayed(&rt, alloc, &error, "parse error: Invalid end-of-line");
-    let command = String::from_str(alloc, "FOO").expect(&rt, "memory");
-    let unknown = ControlChanErrorKind::UnknownCommand { command };
-    let want = "control channel error: Unknown command: FOO";
-    assert_printed(&rt, alloc, unknown, want);
-    let want = "control channel error: Control channel in illegal state";
-    assert_printed(&rt, alloc, ControlChanErrorKind::IllegalState, want);
+/// The answer is an error that has this kind and comes from this.
+fn assert_passed_on(
+    rt: &impl Abort,
+    passed_on: Result<(), ControlChanError>,
+    kind: ControlChanErrorKind,
+    source: Origin,
+) {
+    assert_error(rt, passed_on.expect_err(rt, "an error"), kind, source);
+}
+
+mod counted {
+    use super::{Origin, assert_error, assert_passed_on, pass_on_io, pass_on_parse, pass_on_utf8};
+    use crate::error::{ControlChanError, ControlChanErrorKind};
+    use crate::line_parser::{ParseError, ParseErrorKind};
+    use std::io::ErrorKind;
+    use std::str::from_utf8;
+
+    #[test]
+    fn takes_0_for_a_refusal_that_is_converted(rt: HostRuntime) {
+        let refused = pass_on_parse(Err(ParseErrorKind::InvalidEol.into()));
+        let kind = ControlChanErrorKind::InvalidCommand;
+        assert_passed_on(&rt, refused, kind, Origin::Parse);
+        let refused = pass_on_parse(Err(ParseErrorKind::OutOfMemory.into()));
+        let kind = ControlChanErrorKind::OutOfMemory;
+        assert_passed_on(&rt, refused, kind, Origin::Parse);
+    }
+
+    #[test]
+    fn takes_0_for_a_failed_read_that_is_converted(rt: HostRuntime) {
+        let failed = pass_on_io(Err(ErrorKind::BrokenPipe.into()));
+        let source = Origin::Io(ErrorKind::BrokenPipe);
+        assert_passed_on(&rt, failed, ControlChanErrorKind::IoError, source);
+    }
+
+    #[test]
+    fn takes_0_for_ill_formed_text_that_is_converted(rt: HostRuntime) {
+        let ill_formed = pass_on_utf8(from_utf8(b"\xff").map(drop));
+        let kind = ControlChanErrorKind::Utf8Error;
+        assert_passed_on(&rt, ill_formed, kind, Origin::Utf8);
+        let Err(utf8) = from_utf8(b"\xff") else {
+            panic!(rt; "no error");
+        };
+        assert_eq!(rt; ParseError::from(utf8), ParseErrorKind::InvalidUtf8.into());
+    }
+
+    #[test]
+    fn takes_0_for_a_kind_that_is_converted(rt: HostRuntime) {
+        let state = ControlChanError::from(ControlChanErrorKind::IllegalState);
+        let kind = ControlChanErrorKind::IllegalState;
+        assert_error(&rt, state, kind, Origin::Nothing);
+        let timeout = ControlChanError::new(ControlChanErrorKind::ControlChannelTimeout);
+        let kind = ControlChanErrorKind::ControlChannelTimeout;
+        assert_error(&rt, timeout, kind, Origin::Nothing);
+    }
 }

@@ -1,8 +1,20 @@
-use Rattle.std.proofs.Common.{◌∙◌, arith}
+use Rattle.std.proofs.Common.{◌∙◌, arith, rules}
 use Rattle.unftp_control_defs.proofs.ReplyUniqueLemmas.{FrontReply-unique}
 use Rattle.unftp_control_defs.proofs.ReplyCasesLemmas.{front_is_whole, front_within, front_is_formed, partial_is_formed}
 use Rattle.unftp_control_read.proofs.CopyLemmas.{scanned_length}
 use Rattle.unftp_control_read.proofs.read_front.Goals as goal
+
+pub returns-in-Partial-clause-partial : goal.returns-in-Partial-clause-partial
+returns-in-Partial-clause-partial c = search rules
+
+pub returns-in-Partial-clause-refusal : goal.returns-in-Partial-clause-refusal
+returns-in-Partial-clause-refusal c = search rules
+
+pub returns-in-Malformed-clause-refusal : goal.returns-in-Malformed-clause-refusal
+returns-in-Malformed-clause-refusal c = search rules
+
+pub returns-in-Malformed-clause-malformed : goal.returns-in-Malformed-clause-malformed
+returns-in-Malformed-clause-malformed c = search rules
 
 pub returns-in-Ok-clause-whole : goal.returns-in-Ok-clause-whole
 returns-in-Ok-clause-whole c = λ code lines used front.

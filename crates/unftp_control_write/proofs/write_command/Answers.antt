@@ -12,3 +12,6 @@ returns-clause-read_back c = outcome-canonical_line (command_of c.args.command.n
 
 pub returns-then-is_err-clause-err : goal.returns-then-is_err-clause-err
 returns-then-is_err-clause-err c = search rules
+
+pub returns-in_default-clause-no_line : goal.returns-in_default-clause-no_line
+returns-in_default-clause-no_line c = search rules

@@ -1,5 +1,5 @@
 use Rattle.std.proofs.Common.{ap, ◌∙◌}
-use Rattle.unftp_control.specs.FtpReply.{CodeAndMsg}
+use Rattle.unftp_control_defs.specs.FtpReply.{CodeAndMsg}
 use Rattle.login_demo.proofs.FactLemmas.{has_time, same_time}
 use Rattle.login_demo.proofs.facts.modified_reply.Goals as goal
 

@@ -23,3 +23,9 @@ returns-clause-kept g c = search rules
 
 pub returns-clause-room : goal.returns-clause-room
 returns-clause-room g c = search rules
+
+pub returns-in_err-ended-clause-outcome : goal.returns-in_err-ended-clause-outcome
+returns-in_err-ended-clause-outcome g c = search rules
+
+pub returns-clause-tested : goal.returns-clause-tested
+returns-clause-tested g c = search rules

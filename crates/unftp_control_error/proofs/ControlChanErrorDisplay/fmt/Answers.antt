@@ -1,5 +1,5 @@
 use Rattle.std.proofs.Common.{rules}
-use Rattle.unftp_control_line_parser.proofs.TextLemmas.{styled_texts-append}
+use Rattle.unftp_control_error.proofs.TextLemmas.{styled_texts-append}
 use Rattle.unftp_control_error.proofs.ControlChanErrorDisplay.fmt.Goals as goal
 
 pub returns-clause-styled : goal.returns-clause-styled

@@ -11,6 +11,9 @@ returns-in-Err-clause-over g c = search rules
 pub returns-after-answered-clause-leaves : goal.returns-after-answered-clause-leaves
 returns-after-answered-clause-leaves g c = search rules
 
+pub returns-in-Err-clause-fed : goal.returns-in-Err-clause-fed
+returns-in-Err-clause-fed g c = search rules
+
 pub invariant_of-self-in-Err : goal.invariant_of-self-in-Err
 invariant_of-self-in-Err g c = λ going. absurd (false≢true (sym going))
 

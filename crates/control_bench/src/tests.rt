@@ -1,2 +1,0 @@
-//! How much memory the lines that are measured take.
-mod counted;

@@ -1,0 +1,9 @@
+//! A handler for examples and tests: it answers each event by itself, has one file, and is done once
+//! QUIT came.
+#![tactic(auto)]
+
+mod responses;
+mod sample;
+
+pub use responses::Responses;
+pub use sample::Sample;

@@ -1,0 +1,2 @@
+mod ExampleLemmas
+mod ReadExampleLemmas

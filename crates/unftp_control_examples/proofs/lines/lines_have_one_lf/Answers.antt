@@ -1,0 +1,14 @@
+use Rattle.std.proofs.Common.{[], codes, refl}
+use Rattle.unftp_control_defs.proofs.LackLemmas.{Lacks-test}
+use Rattle.unftp_control_examples.proofs.ExampleLemmas.{lines_of-IsLine}
+use Rattle.unftp_control_examples.proofs.lines.lines_have_one_lf.Goals as goal
+
+pub returns : goal.returns
+returns c = record {
+  crlf = record { body = codes "NOOP\r"; whole = refl; one_end = Lacks-test 10 (codes "NOOP\r") refl };
+  lf_only = record { body = []; whole = refl; one_end = tt };
+  empty = λ line. let all = lines_of-IsLine _ line in cc;
+  cr_only = λ line. let all = lines_of-IsLine _ line in cc;
+  two = λ line. let all = lines_of-IsLine _ line in cc;
+  more = λ line. let all = lines_of-IsLine _ line in cc;
+}

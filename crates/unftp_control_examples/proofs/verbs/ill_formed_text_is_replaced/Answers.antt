@@ -1,0 +1,15 @@
+use Rattle.std.proofs.Common.{refl}
+use Rattle.std.specs.Str.{is_utf8, chars}
+use Rattle.std.specs.Str.Lossy.{utf8_lossy, utf8_valid_len, utf8_error_len}
+use Rattle.unftp_control_examples.proofs.verbs.ill_formed_text_is_replaced.Goals as goal
+
+pub returns : goal.returns
+unfolding is_utf8 chars utf8_lossy utf8_valid_len utf8_error_len lib.Utf8.encode
+returns c = record {
+  byte = refl;
+  first_two_of_three = refl;
+  first_three_of_four = refl;
+  overlong = refl;
+  surrogate = refl;
+  character = refl;
+}

@@ -1,0 +1,471 @@
+//! Calls that make the replies to single commands.
+use crate::answers::Answers;
+use crate::case::{Case, answer_case, once_more};
+use crate::lines::parse_line;
+use crate::replies::append_reply;
+use crate::shown::Quoted;
+use crate::words::{Words, no_case, read_number, read_text};
+use jiff::Timestamp;
+use std::alloc::Global;
+use std::io;
+use unftp_control_command::Command;
+use unftp_control_commands::{
+    Auth, Epsv, Feat, Help, Metadata, Mlst, Mode, Opts, Passive, Prot, SessionChange, Stru,
+    format_facts, make_epsv_reply, quoted_path, single_line_text,
+};
+use unftp_control_error::ControlChanError;
+use unftp_control_reply::Reply;
+
+/// Answers a call of this module; `None` where it has another name.
+pub fn answer(
+    alloc: Global,
+    call: &str,
+    words: &mut Words<'_>,
+    answers: &mut Answers,
+) -> Option<io::Result<()>> {
+    Some(match call {
+        "reply" => answer_case::<ReplyTo>(alloc, words, answers),
+        "feat_with" => answer_case::<ReplyWith<false>>(alloc, words, answers),
+        "help_with" => answer_case::<ReplyWith<true>>(alloc, words, answers),
+        "epsv" => answer_case::<EpsvPort>(alloc, words, answers),
+        _ => return None,
+    })
+}
+
+/// Answers a call of this module that makes a text; `None` where it has another name.
+pub fn answer_text(
+    alloc: Global,
+    call: &str,
+    words: &mut Words<'_>,
+    answers: &mut Answers,
+) -> Option<io::Result<()>> {
+    Some(match call {
+        "facts" => answer_case::<Facts>(alloc, words, answers),
+        "quoted_path" => answer_case::<MakeText<true>>(alloc, words, answers),
+        "single_line" => answer_case::<MakeText<false>>(alloc, words, answers),
+        _ => return None,
+    })
+}
+
+/// How many bytes a reply may have without taking memory for them.
+const ROOM: usize = 1024;
+
+/// Writes the bytes of a reply.
+fn put_reply(reply: &Reply, buf: &mut Vec<u8>, answers: &mut Answers) {
+    let is_appended = append_reply(reply, buf, answers);
+    answers.put_unless(is_appended, "failed ");
+    answers.put(Quoted(buf.as_slice()));
+}
+
+/// Writes the bytes of a reply that was made.
+fn put_made(made: Result<Reply, ControlChanError>, buf: &mut Vec<u8>, answers: &mut Answers) {
+    match made {
+        Ok(reply) => {
+            put_reply(&reply, buf, answers);
+            drop(reply);
+        }
+        Err(_) => answers.put("failed"),
+    }
+}
+
+/// A file of which this is known.
+#[derive(Drop)]
+struct File {
+    is_dir: bool,
+    size: u64,
+    modified: Option<Timestamp>,
+    uid: u32,
+    gid: u32,
+}
+
+impl Metadata for File {
+    ghost facts_of = { λ file. record {
+      is_dir = file.is_dir;
+      size = file.size;
+      modified = file.modified;
+      uid = file.uid;
+      gid = file.gid;
+    } };
+
+    fn len(&self) -> u64 {
+        self.size
+    }
+
+    fn is_dir(&self) -> bool {
+        self.is_dir
+    }
+
+    fn modified(&self) -> Option<Timestamp> {
+        self.modified
+    }
+
+    fn uid(&self) -> u32 {
+        self.uid
+    }
+
+    fn gid(&self) -> u32 {
+        self.gid
+    }
+}
+
+/// The instant so many nanoseconds after 1970, or `none`.
+fn read_instant(word: &str) -> io::Result<Option<Timestamp>> {
+    if word == "none" {
+        return Ok(None);
+    }
+    match Timestamp::from_nanosecond(read_number(word)?) {
+        Ok(instant) => Ok(Some(instant)),
+        Err(_) => Err(no_case()),
+    }
+}
+
+/// The file of this kind, whose size, instant, user and group are the next words.
+fn read_file(kind: &str, words: &mut Words<'_>) -> io::Result<File> {
+    let is_dir = match kind {
+        "file" => false,
+        "dir" => true,
+        _ => return Err(no_case()),
+    };
+    Ok(File {
+        is_dir,
+        size: words.number()?,
+        modified: read_instant(words.word()?)?,
+        uid: words.number()?,
+        gid: words.number()?,
+    })
+}
+
+/// What the server is set to and has found.
+#[derive(Drop)]
+struct Settings {
+    tls: bool,
+    restart: bool,
+    site_md5: bool,
+    passive: Passive,
+    cwd: String,
+    found: Result<File, String>,
+}
+
+impl Settings {
+    /// The settings of a server where none is named.
+    fn new(alloc: Global) -> Settings {
+        Settings {
+            tls: false,
+            restart: false,
+            site_md5: false,
+            passive: Passive::Prebound,
+            cwd: String::new(alloc),
+            found: Err(String::new(alloc)),
+        }
+    }
+
+    /// Takes the setting that a word names.
+    fn take(&mut self, alloc: Global, word: &str, words: &mut Words<'_>) -> io::Result<()> {
+        match word {
+            "tls" => self.tls = true,
+            "restart" => self.restart = true,
+            "site_md5" => self.site_md5 = true,
+            "prebound" => self.passive = Passive::Prebound,
+            word => return self.take_value(alloc, word, words),
+        }
+        Ok(())
+    }
+
+    /// Takes the setting that a word names with its value.
+    fn take_value(&mut self, alloc: Global, word: &str, words: &mut Words<'_>) -> io::Result<()> {
+        if let Some(port) = word.strip_prefix("port=") {
+            self.passive = Passive::Port(read_number(port)?);
+        } else if let Some(path) = word.strip_prefix("cwd=") {
+            self.cwd = read_text(alloc, path)?;
+        } else if let Some(fault) = word.strip_prefix("fault=") {
+            self.found = Err(read_text(alloc, fault)?);
+        } else {
+            self.found = Ok(read_file(word, words)?);
+        }
+        Ok(())
+    }
+
+    /// The settings that the next words name.
+    fn read(alloc: Global, words: &mut Words<'_>) -> io::Result<Settings> {
+        let mut settings = Settings::new(alloc);
+        for _ in 0..words.most() {
+            let Some(word) = words.next() else {
+                break;
+            };
+            settings.take(alloc, word, words)?;
+        }
+        Ok(settings)
+    }
+}
+
+/// A command with a reply of its own.
+#[derive(Drop)]
+enum Request {
+    Auth(Auth),
+    Prot(Prot),
+    Epsv(Epsv),
+    Feat(Feat),
+    Help(Help),
+    Mlst(Mlst),
+    Mode(Mode),
+    Opts(Opts),
+    Stru(Stru),
+}
+
+/// A reply, and what the session has to do after it where the command may change it.
+type Made = Result<(Reply, Option<SessionChange>), ControlChanError>;
+
+/// A reply to a command that doesn't change the session.
+fn unchanging(made: Result<Reply, ControlChanError>) -> Made {
+    Ok((made?, None))
+}
+
+/// A reply to a command that may change it.
+fn changing(made: Result<(Reply, SessionChange), ControlChanError>) -> Made {
+    let (reply, change) = made?;
+    Ok((reply, Some(change)))
+}
+
+impl Request {
+    /// The request that a command is, if any.
+    fn of(command: Command) -> Option<Request> {
+        match command {
+            Command::Auth { protocol } => Some(Request::Auth(Auth::new(protocol))),
+            Command::Prot { param } => Some(Request::Prot(Prot::new(param))),
+            Command::Epsv => Some(Request::Epsv(Epsv::new())),
+            Command::Feat => Some(Request::Feat(Feat)),
+            Command::Help => Some(Request::Help(Help)),
+            Command::Mlst { path } => Some(Request::Mlst(Mlst::new(path))),
+            Command::Mode { mode } => Some(Request::Mode(Mode::new(mode))),
+            Command::Opts { option } => Some(Request::Opts(Opts::new(option))),
+            Command::Stru { structure } => Some(Request::Stru(Stru::new(structure))),
+            _ => None,
+        }
+    }
+
+    /// The reply of a server with these settings.
+    fn reply(&self, alloc: Global, settings: &Settings) -> Made {
+        match self {
+            Request::Auth(auth) => changing(auth.reply(alloc, settings.tls)),
+            Request::Prot(prot) => changing(prot.reply(alloc, settings.tls)),
+            Request::Epsv(epsv) => unchanging(epsv.reply(alloc, settings.passive)),
+            Request::Feat(feat) => unchanging(settings.list_features(alloc, feat)),
+            Request::Help(help) => unchanging(help.reply(alloc)),
+            Request::Mlst(mlst) => unchanging(settings.list(alloc, mlst)),
+            Request::Mode(mode) => unchanging(mode.reply(alloc)),
+            Request::Opts(opts) => unchanging(opts.reply(alloc)),
+            Request::Stru(stru) => unchanging(stru.reply(alloc)),
+        }
+    }
+}
+
+impl Settings {
+    /// The reply to FEAT.
+    fn list_features(&self, alloc: Global, feat: &Feat) -> Result<Reply, ControlChanError> {
+        feat.reply(alloc, self.tls, self.restart, self.site_md5)
+    }
+
+    /// The reply to MLST.
+    fn list(&self, alloc: Global, mlst: &Mlst) -> Result<Reply, ControlChanError> {
+        let found = match &self.found {
+            Ok(file) => Ok(file),
+            Err(fault) => Err(fault.as_str()),
+        };
+        mlst.reply(alloc, self.cwd.as_str(), found)
+    }
+}
+
+/// `reply LINE SETTING..`
+#[derive(Drop)]
+struct ReplyTo {
+    settings: Settings,
+    buf: Vec<u8>,
+    command: Command,
+}
+
+/// Writes the reply to a request, and what changes where it may change the session.
+fn put_reply_to(
+    alloc: Global,
+    request: Request,
+    settings: &Settings,
+    buf: &mut Vec<u8>,
+    answers: &mut Answers,
+) {
+    match once_more(answers, || request.reply(alloc, settings)) {
+        Ok((reply, change)) => {
+            put_reply(&reply, buf, answers);
+            drop(reply);
+            if let Some(change) = change {
+                answers.put(format_args!(" {change:?}"));
+            }
+        }
+        Err(_) => answers.put("failed"),
+    }
+}
+
+impl Case for ReplyTo {
+    fn read(alloc: Global, words: &mut Words<'_>) -> io::Result<ReplyTo> {
+        let buf = Vec::with_capacity(alloc, ROOM)?;
+        let line = words.bytes(alloc)?;
+        let settings = Settings::read(alloc, words)?;
+        let command = parse_line(alloc, line.as_slice())?;
+        Ok(ReplyTo {
+            settings,
+            buf,
+            command,
+        })
+    }
+
+    fn answer(self, alloc: Global, answers: &mut Answers) {
+        let ReplyTo {
+            settings,
+            mut buf,
+            command,
+        } = self;
+        match Request::of(command) {
+            Some(request) => put_reply_to(alloc, request, &settings, &mut buf, answers),
+            None => answers.put("bad-case"),
+        }
+    }
+}
+
+/// How many lines a case may give.
+const MOST_LINES: usize = 8;
+
+/// The lines of a case, and room for the bytes of a reply.
+#[derive(Drop)]
+struct Lines {
+    lines: Vec<String>,
+    buf: Vec<u8>,
+}
+
+impl Lines {
+    fn read(alloc: Global, words: &mut Words<'_>) -> io::Result<Lines> {
+        let lines = words.texts(alloc)?;
+        if lines.len() > MOST_LINES {
+            return Err(no_case());
+        }
+        Ok(Lines {
+            lines,
+            buf: Vec::with_capacity(alloc, ROOM)?,
+        })
+    }
+}
+
+/// FEAT or HELP with these lines.
+fn reply_with(alloc: Global, is_help: bool, lines: &[&str]) -> Result<Reply, ControlChanError> {
+    if is_help {
+        Help.reply_with(alloc, lines)
+    } else {
+        Feat.reply_with(alloc, lines)
+    }
+}
+
+/// Writes the reply to FEAT or HELP with the lines of a case.
+fn put_reply_with(alloc: Global, is_help: bool, given: Lines, answers: &mut Answers) {
+    let Lines {
+        lines: texts,
+        mut buf,
+    } = given;
+    let mut lines = [""; MOST_LINES];
+    let count = texts.len().min(MOST_LINES);
+    for i in 0..count {
+        lines[i] = texts[i].as_str();
+    }
+    let lines = &lines[..count];
+    let made = once_more(answers, || reply_with(alloc, is_help, lines));
+    put_made(made, &mut buf, answers);
+}
+
+/// `feat_with LINE..` or `help_with LINE..`
+#[derive(Drop)]
+struct ReplyWith<const IS_HELP: bool> {
+    lines: Lines,
+}
+
+impl<const IS_HELP: bool> Case for ReplyWith<IS_HELP> {
+    fn read(alloc: Global, words: &mut Words<'_>) -> io::Result<ReplyWith<IS_HELP>> {
+        let lines = Lines::read(alloc, words)?;
+        Ok(ReplyWith { lines })
+    }
+
+    fn answer(self, alloc: Global, answers: &mut Answers) {
+        put_reply_with(alloc, IS_HELP, self.lines, answers);
+    }
+}
+
+/// `epsv PORT`
+#[derive(Drop)]
+struct EpsvPort {
+    port: u16,
+    buf: Vec<u8>,
+}
+
+impl Case for EpsvPort {
+    fn read(alloc: Global, words: &mut Words<'_>) -> io::Result<EpsvPort> {
+        Ok(EpsvPort {
+            port: words.number()?,
+            buf: Vec::with_capacity(alloc, ROOM)?,
+        })
+    }
+
+    fn answer(self, alloc: Global, answers: &mut Answers) {
+        let EpsvPort { port, mut buf } = self;
+        let made = once_more(answers, || make_epsv_reply(alloc, port));
+        put_made(made, &mut buf, answers);
+    }
+}
+
+/// Writes a text that was made.
+fn put_text(made: Result<String, ControlChanError>, answers: &mut Answers) {
+    match made {
+        Ok(text) => answers.put(Quoted(text.as_bytes())),
+        Err(_) => answers.put("failed"),
+    }
+}
+
+/// `facts KIND SIZE INSTANT USER GROUP`
+#[derive(Drop)]
+struct Facts {
+    file: File,
+}
+
+impl Case for Facts {
+    fn read(_alloc: Global, words: &mut Words<'_>) -> io::Result<Facts> {
+        let kind = words.word()?;
+        let file = read_file(kind, words)?;
+        Ok(Facts { file })
+    }
+
+    fn answer(self, alloc: Global, answers: &mut Answers) {
+        let made = once_more(answers, || format_facts(alloc, &self.file));
+        put_text(made, answers);
+    }
+}
+
+/// A path between quotes, or a text in one line.
+fn make_text(alloc: Global, is_path: bool, text: &str) -> Result<String, ControlChanError> {
+    if is_path {
+        quoted_path(alloc, text)
+    } else {
+        single_line_text(alloc, text)
+    }
+}
+
+/// `quoted_path PATH` or `single_line TEXT`
+#[derive(Drop)]
+struct MakeText<const IS_PATH: bool> {
+    text: String,
+}
+
+impl<const IS_PATH: bool> Case for MakeText<IS_PATH> {
+    fn read(alloc: Global, words: &mut Words<'_>) -> io::Result<MakeText<IS_PATH>> {
+        let text = words.text(alloc)?;
+        Ok(MakeText { text })
+    }
+
+    fn answer(self, alloc: Global, answers: &mut Answers) {
+        let made = once_more(answers, || make_text(alloc, IS_PATH, self.text.as_str()));
+        put_text(made, answers);
+    }
+}

@@ -1,0 +1,132 @@
+//! Calls of a decoder of events.
+use crate::answers::Answers;
+use crate::case::{Case, answer_case};
+use crate::decoding::put_refusal;
+use crate::shown::Shown;
+use crate::steps::{Action, Step, read_steps};
+use crate::words::Words;
+use std::alloc::{AllocError, Global};
+use std::io;
+use unftp_control_events::{Event, EventDecoder};
+
+/// Answers a call of this module; `None` where it has another name.
+pub fn answer(
+    alloc: Global,
+    call: &str,
+    words: &mut Words<'_>,
+    answers: &mut Answers,
+) -> Option<io::Result<()>> {
+    Some(match call {
+        "events" => answer_case::<TakeEvents>(alloc, words, answers),
+        _ => return None,
+    })
+}
+
+/// What `next_event` returns; once more where memory ran out.
+fn next_event(
+    decoder: &mut EventDecoder,
+    answers: &mut Answers,
+) -> Result<Option<Event>, AllocError> {
+    match decoder.next_event() {
+        Ok(event) => Ok(event),
+        Err(_) => {
+            answers.out_of_memory();
+            decoder.next_event()
+        }
+    }
+}
+
+/// Writes an event.
+fn put_event(event: &Event, answers: &mut Answers) {
+    match event {
+        Event::Command(command) => answers.put(format_args!("ok {} | ", Shown(command))),
+        Event::Refused(error) => {
+            put_refusal(error, answers);
+            answers.put(" | ");
+        }
+    }
+}
+
+/// Takes an event and writes it; whether there was one.
+fn take_event(decoder: &mut EventDecoder, answers: &mut Answers) -> bool {
+    let taken = next_event(decoder, answers);
+    let is_event = matches!(&taken, Ok(Some(_)));
+    if let Ok(Some(event)) = &taken {
+        put_event(event, answers);
+    }
+    drop(taken);
+    is_event
+}
+
+/// Takes all events.
+fn take_events(decoder: &mut EventDecoder, answers: &mut Answers) {
+    // a line has at least one byte, so the last call finds none
+    for _ in 0..=decoder.pending().len() {
+        if !take_event(decoder, answers) {
+            break;
+        }
+    }
+}
+
+/// Pushes a piece; once more where memory ran out.
+fn push(decoder: &mut EventDecoder, piece: &[u8], answers: &mut Answers) {
+    if decoder.push(piece).is_err() {
+        answers.out_of_memory();
+        if decoder.push(piece).is_err() {
+            answers.put("out of memory | ");
+        }
+    }
+}
+
+/// Makes a step.
+fn make_step(decoder: &mut EventDecoder, step: &Step, answers: &mut Answers) {
+    match step.action {
+        Action::Feed => {
+            push(decoder, step.piece.as_slice(), answers);
+            take_events(decoder, answers);
+        }
+        Action::Push => push(decoder, step.piece.as_slice(), answers),
+        Action::Next => {
+            let _ = take_event(decoder, answers);
+        }
+        Action::Clear => decoder.clear(),
+    }
+}
+
+/// Writes how many bytes are left, and how many of these are pending, where it isn't all.
+fn put_left(decoder: &EventDecoder, answers: &mut Answers) {
+    let (left, pending) = (decoder.left(), decoder.pending().len() as u64);
+    answers.put(format_args!("left={left}"));
+    if pending != left {
+        answers.put(format_args!(" pending={pending}"));
+    }
+}
+
+/// `events LIMIT STEP..`
+#[derive(Drop)]
+struct TakeEvents {
+    decoder: EventDecoder,
+    steps: Vec<Step>,
+}
+
+impl Case for TakeEvents {
+    fn read(alloc: Global, words: &mut Words<'_>) -> io::Result<TakeEvents> {
+        let decoder = match words.limit()? {
+            Some(limit) => EventDecoder::with_limit(alloc, limit.max(1)),
+            None => EventDecoder::new(alloc),
+        };
+        let steps = read_steps(alloc, words)?;
+        Ok(TakeEvents { decoder, steps })
+    }
+
+    fn answer(self, _alloc: Global, answers: &mut Answers) {
+        let TakeEvents { mut decoder, steps } = self;
+        let mut separator = "";
+        for step in &steps {
+            answers.put(separator);
+            make_step(&mut decoder, step, answers);
+            put_left(&decoder, answers);
+            separator = " | ";
+        }
+    }
+}

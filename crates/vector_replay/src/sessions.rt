@@ -1,0 +1,282 @@
+//! Sessions: `serve` and `feed` over streams and handlers that may fail.
+use crate::answers::Answers;
+use crate::ends::End;
+use crate::handlers::{Demo, EchoError, Okay, Silent, Tried};
+use crate::settings::{Answering, Settings};
+use crate::shown::Quoted;
+use crate::streams::{Pieces, Room};
+use crate::words::{Words, no_case, read_bytes};
+use std::alloc::Global;
+use std::io;
+use unftp_control_serve::{Engine, Handler, Input, Output, Sink, serve, serve_with_limit};
+
+/// How many bytes of replies are written before the writer's buffer grows.
+const RESERVED: usize = 1 << 16;
+
+/// The call under test.
+#[derive(Clone, Copy)]
+enum Call {
+    Serve,
+    Feed,
+}
+
+/// Answers a call of this module; `None` where it has another name.
+pub fn answer(
+    alloc: Global,
+    call: &str,
+    words: &mut Words<'_>,
+    answers: &mut Answers,
+) -> Option<io::Result<()>> {
+    Some(match call {
+        "serve" => answer_session(alloc, Call::Serve, words, answers),
+        "feed" => answer_session(alloc, Call::Feed, words, answers),
+        _ => return None,
+    })
+}
+
+/// Reads a session, and answers it between its marks.
+fn answer_session(
+    alloc: Global,
+    call: Call,
+    words: &mut Words<'_>,
+    answers: &mut Answers,
+) -> io::Result<()> {
+    let session = Session::read(alloc, call, words)?;
+    let run = session.new_run(alloc)?;
+    let room = session.new_room(alloc)?;
+    answers.begin();
+    session.answer(alloc, run, room, answers);
+    answers.end();
+    Ok(())
+}
+
+/// What has happened in a session.
+#[derive(Drop)]
+struct Run {
+    /// How each call ended.
+    ends: Vec<End>,
+    /// How many reads were made.
+    reads: usize,
+    /// How many bytes were not read.
+    unread: usize,
+}
+
+impl Run {
+    /// A call has ended.
+    fn note(&mut self, end: End) {
+        // there is room for it
+        let _ = self.ends.push(end);
+    }
+
+    /// Whether memory ran out.
+    fn is_out_of_memory(&self) -> bool {
+        self.ends.iter().any(End::is_out_of_memory)
+    }
+}
+
+/// A session.
+#[derive(Drop)]
+struct Session {
+    call: Call,
+    settings: Settings,
+    /// The bytes between quotes.
+    pieces: Vec<Vec<u8>>,
+}
+
+impl Session {
+    /// Reads the words and the bytes of a session.
+    fn read(alloc: Global, call: Call, words: &mut Words<'_>) -> io::Result<Session> {
+        let mut settings = Settings::new();
+        let mut pieces = Vec::new(alloc);
+        for _ in 0..words.most() {
+            let Some(word) = words.next() else {
+                break;
+            };
+            if word.starts_with("\"") {
+                pieces.push(read_bytes(alloc, word)?)?;
+            } else {
+                settings.set(word)?;
+            }
+        }
+        let session = Session {
+            call,
+            settings,
+            pieces,
+        };
+        if session.is_case() {
+            Ok(session)
+        } else {
+            Err(no_case())
+        }
+    }
+
+    /// Whether it has the bytes that it needs.
+    fn is_case(&self) -> bool {
+        match self.call {
+            Call::Serve => self.pieces.len() == 1,
+            Call::Feed => !self.settings.is_appended || !self.pieces.is_empty(),
+        }
+    }
+
+    /// The bytes that are served, or that a buffer holds before replies are appended.
+    fn first_bytes(&self) -> &[u8] {
+        self.pieces.first().map_or(&[], |piece| piece.as_slice())
+    }
+
+    /// The bytes that are fed.
+    fn fed(&self) -> &[Vec<u8>] {
+        let skipped = if self.settings.is_appended { 1 } else { 0 };
+        self.pieces.get(skipped..).unwrap_or(&[])
+    }
+
+    /// A run in which nothing has happened, with room for how each call ends.
+    fn new_run(&self, alloc: Global) -> io::Result<Run> {
+        let mut ends = Vec::new(alloc);
+        ends.reserve(self.pieces.len().saturating_add(1))?;
+        Ok(Run {
+            ends,
+            reads: 0,
+            unread: 0,
+        })
+    }
+
+    /// A writer that has taken nothing.
+    fn new_room(&self, alloc: Global) -> io::Result<Room> {
+        if self.settings.is_appended {
+            let held = Vec::from_slice(alloc, self.first_bytes())?;
+            return Ok(Room::new(held, self.settings.writes));
+        }
+        let mut held = Vec::new(alloc);
+        held.reserve(RESERVED)?;
+        Ok(Room::new(held, self.settings.writes))
+    }
+
+    /// A writer as it was at first, with the buffer of this one.
+    fn restart(&self, room: Room) -> Room {
+        let mut held = room.into_held();
+        held.clear();
+        if self.settings.is_appended {
+            // there is room for them
+            let _ = held.extend_from_slice(self.first_bytes());
+        }
+        Room::new(held, self.settings.writes)
+    }
+
+    /// Serves the bytes once.
+    fn serve_once<H: Handler>(
+        &self,
+        alloc: Global,
+        reader: &mut Input<Pieces<'_>>,
+        writer: &mut Output<Room>,
+        handler: &mut H,
+    ) -> End {
+        End::of_serve(match self.settings.limit {
+            0 => serve(alloc, reader, writer, handler),
+            limit => serve_with_limit(alloc, limit, reader, writer, handler),
+        })
+    }
+
+    /// Serves the bytes, and once more where that is asked for.
+    fn serve_all<H: Handler>(
+        &self,
+        alloc: Global,
+        handler: &mut H,
+        room: Room,
+        run: &mut Run,
+    ) -> Room {
+        let mut reader = Input::new(Pieces::new(self.first_bytes(), self.settings.reads));
+        let mut writer = Output::new(room);
+        run.note(self.serve_once(alloc, &mut reader, &mut writer, handler));
+        if self.settings.is_again && !run.is_out_of_memory() {
+            run.note(self.serve_once(alloc, &mut reader, &mut writer, handler));
+        }
+        let pieces = reader.into_inner();
+        run.reads = pieces.reads;
+        run.unread = pieces.rest.len();
+        writer.into_inner()
+    }
+
+    /// Feeds the pieces to an engine.
+    fn feed_all<H: Handler, K: Sink>(
+        &self,
+        alloc: Global,
+        handler: &mut H,
+        sink: &mut K,
+        run: &mut Run,
+    ) {
+        let mut engine = match self.settings.limit {
+            0 => Engine::new(alloc),
+            limit => Engine::with_limit(alloc, limit),
+        };
+        for piece in self.fed() {
+            let answer = engine.feed(piece.as_slice(), handler, sink);
+            run.note(End::of_feed(answer, engine.left(), engine.finished()));
+        }
+    }
+
+    /// Makes all calls of the session.
+    fn run<H: Handler>(&self, alloc: Global, handler: &mut H, room: Room, run: &mut Run) -> Room {
+        if let Call::Serve = self.call {
+            return self.serve_all(alloc, handler, room, run);
+        }
+        if self.settings.is_appended {
+            let mut held = room.into_held();
+            self.feed_all(alloc, handler, &mut held, run);
+            return Room::new(held, self.settings.writes);
+        }
+        let mut output = Output::new(room);
+        self.feed_all(alloc, handler, &mut output, run);
+        output.into_inner()
+    }
+
+    /// Writes how the calls ended, and what the writer holds.
+    fn put(&self, room: Room, run: &Run, answers: &mut Answers) {
+        for end in run.ends.as_slice() {
+            answers.put(format_args!("{end} | "));
+        }
+        let written = Quoted(room.held.as_slice());
+        answers.put(format_args!("written={written} flushed={} ", room.flushes));
+    }
+
+    /// Writes what was read, of a session that is served.
+    fn put_read(&self, run: &Run, answers: &mut Answers) {
+        if let Call::Feed = self.call {
+            return;
+        }
+        let bytes = self.first_bytes();
+        let (_, unread) = bytes.split_at(bytes.len().saturating_sub(run.unread));
+        answers.put(format_args!(" reads={} unread={}", run.reads, Quoted(unread)));
+    }
+
+    /// Answers a session by this handler. Where memory ran out, it is made again from the start.
+    fn answer_by<H: Handler + Tried>(
+        &self,
+        alloc: Global,
+        mut run: Run,
+        room: Room,
+        answers: &mut Answers,
+    ) {
+        let mut handler = H::start(self.settings.fails_at);
+        let mut room = self.run(alloc, &mut handler, room, &mut run);
+        if run.is_out_of_memory() {
+            answers.out_of_memory_after(run.ends.as_slice(), room.held.as_slice());
+            run.ends.clear();
+            handler = H::start(self.settings.fails_at);
+            room = self.run(alloc, &mut handler, self.restart(room), &mut run);
+        }
+        self.put(room, &run, answers);
+        answers.put(format_args!("taken={}", handler.taken()));
+        handler.put_last(answers);
+        self.put_read(&run, answers);
+    }
+
+    /// Answers a session.
+    fn answer(&self, alloc: Global, run: Run, room: Room, answers: &mut Answers) {
+        match self.settings.handler {
+            Answering::Demo => self.answer_by::<Demo>(alloc, run, room, answers),
+            Answering::Okay => self.answer_by::<Okay>(alloc, run, room, answers),
+            Answering::Silent => self.answer_by::<Silent>(alloc, run, room, answers),
+            Answering::EchoError => self.answer_by::<EchoError>(alloc, run, room, answers),
+        }
+    }
+}

@@ -1,0 +1,122 @@
+//! The words before the bytes of a session: its limit, its handler, and how its streams fail.
+use crate::streams::{Reads, Writes};
+use crate::words::{no_case, read_number};
+use std::io;
+
+/// Which handler answers.
+#[derive(Clone, Copy)]
+pub enum Answering {
+    Demo,
+    Okay,
+    Silent,
+    EchoError,
+}
+
+/// What the words say.
+#[derive(Clone, Copy)]
+pub struct Settings {
+    /// The most bytes of a line; 0 where it may have any length.
+    pub limit: usize,
+    pub reads: Reads,
+    pub writes: Writes,
+    pub handler: Answering,
+    /// The event at which the handler fails, counted from 1; 0 for none.
+    pub fails_at: u32,
+    /// Whether `serve` is called once more.
+    pub is_again: bool,
+    /// Whether replies are appended to a buffer.
+    pub is_appended: bool,
+}
+
+impl Settings {
+    /// Those of no word.
+    pub fn new() -> Settings {
+        Settings {
+            limit: 0,
+            reads: Reads::WHOLE,
+            writes: Writes::ALL,
+            handler: Answering::Demo,
+            fails_at: 0,
+            is_again: false,
+            is_appended: false,
+        }
+    }
+
+    /// Takes a word.
+    pub fn set(&mut self, word: &str) -> io::Result<()> {
+        let Some((name, value)) = word.split_once('=') else {
+            return self.set_flag(word);
+        };
+        if name == "handler" {
+            return self.set_handler(value);
+        }
+        let number = read_number(value)?;
+        if self.set_read(name, number) || self.set_write(name, number) {
+            Ok(())
+        } else {
+            Err(no_case())
+        }
+    }
+
+    fn set_flag(&mut self, word: &str) -> io::Result<()> {
+        match word {
+            "zero" => self.writes.is_zero = true,
+            "wary" => self.writes.is_wary = true,
+            "again" => self.is_again = true,
+            "appended" => self.is_appended = true,
+            _ => return Err(no_case()),
+        }
+        Ok(())
+    }
+
+    fn set_handler(&mut self, name: &str) -> io::Result<()> {
+        if let Some(number) = name.strip_prefix("fails:") {
+            self.handler = Answering::Okay;
+            self.fails_at = read_number(number)?;
+            return Ok(());
+        }
+        self.handler = match name {
+            "demo" => Answering::Demo,
+            "okay" => Answering::Okay,
+            "silent" => Answering::Silent,
+            "echo_error" => Answering::EchoError,
+            _ => return Err(no_case()),
+        };
+        Ok(())
+    }
+
+    /// Whether there is such a setting of the limit or of the reader.
+    fn set_read(&mut self, name: &str, number: usize) -> bool {
+        let setting = match name {
+            "limit" => &mut self.limit,
+            "most" => return self.set_most(number),
+            "first" => &mut self.reads.first,
+            "second" => &mut self.reads.second,
+            "read_fails" => &mut self.reads.failing,
+            _ => return false,
+        };
+        *setting = number;
+        true
+    }
+
+    /// Each read gives so many bytes at most.
+    fn set_most(&mut self, number: usize) -> bool {
+        self.reads.first = number;
+        self.reads.second = number;
+        self.reads.most = number;
+        true
+    }
+
+    /// Whether there is such a setting of the writer.
+    fn set_write(&mut self, name: &str, number: usize) -> bool {
+        let setting = match name {
+            "room" => &mut self.writes.room,
+            "most_written" => &mut self.writes.most,
+            "step" => &mut self.writes.step,
+            "flush_fails" => &mut self.writes.failing_flush,
+            _ => return false,
+        };
+        *setting = number;
+        true
+    }
+}

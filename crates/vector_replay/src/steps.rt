@@ -1,0 +1,47 @@
+//! The steps of a decoder whose input comes in pieces.
+use crate::words::{Words, read_bytes};
+use std::alloc::Global;
+use std::io;
+
+/// What is done with a decoder.
+#[derive(Clone, Copy)]
+pub enum Action {
+    /// The piece comes, and all that is complete is taken.
+    Feed,
+    /// The piece comes.
+    Push,
+    /// One is taken.
+    Next,
+    /// What is pending is dropped.
+    Clear,
+}
+
+/// A step, and the piece that comes in it.
+#[derive(Drop)]
+pub struct Step {
+    pub action: Action,
+    pub piece: Vec<u8>,
+}
+
+/// The step that a word begins.
+fn read_step(alloc: Global, word: &str, words: &mut Words<'_>) -> io::Result<Step> {
+    let (action, piece) = match word {
+        "clear" => (Action::Clear, Vec::new(alloc)),
+        "next" => (Action::Next, Vec::new(alloc)),
+        "push" => (Action::Push, words.bytes(alloc)?),
+        word => (Action::Feed, read_bytes(alloc, word)?),
+    };
+    Ok(Step { action, piece })
+}
+
+/// All steps that are left.
+pub fn read_steps(alloc: Global, words: &mut Words<'_>) -> io::Result<Vec<Step>> {
+    let mut steps = Vec::new(alloc);
+    for _ in 0..words.most() {
+        let Some(word) = words.next() else {
+            break;
+        };
+        steps.push(read_step(alloc, word, words)?)?;
+    }
+    Ok(steps)
+}

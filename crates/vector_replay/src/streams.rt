@@ -1,0 +1,159 @@
+//! Readers that give pieces and writers with little room, which fail when they are asked to. Each
+//! failure is `Interrupted`, which is an error like any other: nothing is tried again.
+ghost use Rattle.std.specs.Prelude.{Some};
+
+use std::io;
+use std::io::{ErrorKind, Read, Write};
+
+/// How a reader gives its bytes.
+#[derive(Clone, Copy)]
+pub struct Reads {
+    /// The most bytes of the first read, of the second, and of each later one.
+    pub first: usize,
+    pub second: usize,
+    pub most: usize,
+    /// The read that fails, counted from 1.
+    pub failing: usize,
+}
+
+impl Reads {
+    /// All bytes in the first read.
+    pub const WHOLE: Reads = Reads {
+        first: usize::MAX,
+        second: usize::MAX,
+        most: usize::MAX,
+        failing: 0,
+    };
+
+    /// The most bytes of the read with this number.
+    fn most_of(&self, number: usize) -> usize {
+        match number {
+            1 => self.first,
+            2 => self.second,
+            _ => self.most,
+        }
+    }
+}
+
+/// Gives pieces of its bytes.
+#[derive(Drop)]
+pub struct Pieces<'a> {
+    /// The bytes that were not read.
+    pub rest: &'a [u8],
+    /// How many reads were made.
+    pub reads: usize,
+    rules: Reads,
+}
+
+impl<'a> Pieces<'a> {
+    /// A reader of these bytes.
+    pub fn new(bytes: &'a [u8], rules: Reads) -> Pieces<'a> {
+        Pieces {
+            rest: bytes,
+            reads: 0,
+            rules,
+        }
+    }
+}
+
+impl Read for Pieces<'_> {
+    ghost remaining = { λ pieces. Some pieces.rest.now };
+
+    fn read(&mut self, buf: &mut [u8]) -> io::Result<usize> {
+        self.reads = self.reads.saturating_add(1);
+        if self.reads == self.rules.failing {
+            return Err(ErrorKind::Interrupted.into());
+        }
+        let most = self.rules.most_of(self.reads).max(1);
+        let n = buf.len().min(most).min(self.rest.len());
+        let (taken, rest) = self.rest.split_at(n);
+        buf[..n].copy_from_slice(taken);
+        self.rest = rest;
+        Ok(n)
+    }
+}
+
+/// How a writer takes bytes.
+#[derive(Clone, Copy)]
+pub struct Writes {
+    /// How many bytes it takes.
+    pub room: usize,
+    /// Whether it takes nothing where there is no room, and doesn't fail.
+    pub is_zero: bool,
+    /// The most bytes of the first write, and how many more each later one takes.
+    pub most: usize,
+    pub step: usize,
+    /// Whether it fails at a write while bytes of the write before are unflushed.
+    pub is_wary: bool,
+    /// The flush that fails, counted from 1.
+    pub failing_flush: usize,
+}
+
+impl Writes {
+    /// All bytes, at any write.
+    pub const ALL: Writes = Writes {
+        room: usize::MAX,
+        is_zero: false,
+        most: usize::MAX,
+        step: 0,
+        is_wary: false,
+        failing_flush: 0,
+    };
+}
+
+/// Holds what is written.
+#[derive(Drop)]
+pub struct Room {
+    pub held: Vec<u8>,
+    /// How many flushes succeeded.
+    pub flushes: usize,
+    unflushed: usize,
+    rules: Writes,
+}
+
+impl Room {
+    /// A writer that holds these bytes.
+    pub fn new(held: Vec<u8>, rules: Writes) -> Room {
+        Room {
+            held,
+            flushes: 0,
+            unflushed: 0,
+            rules,
+        }
+    }
+
+    /// What it holds.
+    pub fn into_held(self) -> Vec<u8> {
+        let Room { held, .. } = self;
+        held
+    }
+}
+
+impl Write for Room {
+    ghost contents = { λ room. Some room.held.items };
+
+    fn write(&mut self, buf: &[u8]) -> io::Result<usize> {
+        let n = buf.len().min(self.rules.room).min(self.rules.most);
+        let is_full = n == 0 && !self.rules.is_zero;
+        let is_too_soon = self.rules.is_wary && self.unflushed > 0;
+        if is_full || is_too_soon {
+            return Err(ErrorKind::Interrupted.into());
+        }
+        let (taken, _) = buf.split_at(n);
+        self.held.extend_from_slice(taken)?;
+        self.rules.room -= n;
+        self.rules.most = self.rules.most.saturating_add(self.rules.step);
+        self.unflushed = self.unflushed.saturating_add(n);
+        Ok(n)
+    }
+
+    fn flush(&mut self) -> io::Result<()> {
+        let number = self.flushes.saturating_add(1);
+        if number == self.rules.failing_flush {
+            return Err(ErrorKind::Interrupted.into());
+        }
+        self.flushes = number;
+        self.unflushed = 0;
+        Ok(())
+    }
+}

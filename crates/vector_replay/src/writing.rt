@@ -1,0 +1,190 @@
+//! Calls that write the line of a command.
+use crate::answers::Answers;
+use crate::case::{Case, answer_case};
+use crate::decoding::Decoding;
+use crate::lines::{put_refused, read_line};
+use crate::shown::{Quoted, Shown};
+use crate::words::{Words, no_case, read_bytes, read_text};
+use bytes::Bytes;
+use std::alloc::Global;
+use std::io;
+use unftp_control_command::Command;
+use unftp_control_write::{WriteCommandError, write_command};
+
+/// Answers a call of this module; `None` where it has another name.
+pub fn answer(
+    alloc: Global,
+    call: &str,
+    words: &mut Words<'_>,
+    answers: &mut Answers,
+) -> Option<io::Result<()>> {
+    Some(match call {
+        "write" => answer_case::<WriteCommand>(alloc, words, answers),
+        "canonical" => answer_case::<WriteCanonical>(alloc, words, answers),
+        _ => return None,
+    })
+}
+
+/// Appends the line of the command, once more where memory ran out; whether there is one.
+fn write_line(command: &Command, buf: &mut Vec<u8>, answers: &mut Answers) -> bool {
+    match write_command(command, buf) {
+        Ok(()) => true,
+        Err(WriteCommandError::NoLine) => false,
+        Err(WriteCommandError::OutOfMemory) => {
+            answers.out_of_memory();
+            write_command(command, buf).is_ok()
+        }
+    }
+}
+
+/// The bytes of a field.
+fn read_raw(alloc: Global, words: &mut Words<'_>) -> io::Result<Bytes> {
+    Ok(Bytes::from_vec(words.bytes(alloc)?)?)
+}
+
+/// The bytes of a field that may be `none`.
+fn read_optional_raw(alloc: Global, words: &mut Words<'_>) -> io::Result<Option<Bytes>> {
+    match words.word()? {
+        "none" => Ok(None),
+        word => Ok(Some(Bytes::from_vec(read_bytes(alloc, word)?)?)),
+    }
+}
+
+/// The text of a field that may be `none`.
+fn read_optional_text(alloc: Global, words: &mut Words<'_>) -> io::Result<Option<String>> {
+    match words.word()? {
+        "none" => Ok(None),
+        word => Ok(Some(read_text(alloc, word)?)),
+    }
+}
+
+/// LIST with its fields.
+fn read_list(alloc: Global, words: &mut Words<'_>) -> io::Result<Command> {
+    let options = read_optional_text(alloc, words)?;
+    let path = read_optional_text(alloc, words)?;
+    Ok(Command::List { options, path })
+}
+
+/// A name and its arguments.
+fn read_named(alloc: Global, words: &mut Words<'_>) -> io::Result<(String, String)> {
+    let name = words.text(alloc)?;
+    let arguments = words.text(alloc)?;
+    Ok((name, arguments))
+}
+
+/// SITE with its fields.
+fn read_site(alloc: Global, words: &mut Words<'_>) -> io::Result<Command> {
+    let (command, arguments) = read_named(alloc, words)?;
+    Ok(Command::Site { command, arguments })
+}
+
+/// A verb of no other variant with its fields.
+fn read_other(alloc: Global, words: &mut Words<'_>) -> io::Result<Command> {
+    let (command_name, arguments) = read_named(alloc, words)?;
+    Ok(Command::Other {
+        command_name,
+        arguments,
+    })
+}
+
+/// The command of a variant with exactly these fields.
+fn read_fields(alloc: Global, variant: &str, words: &mut Words<'_>) -> io::Result<Command> {
+    match variant {
+        "User" => Ok(Command::User {
+            username: read_raw(alloc, words)?,
+        }),
+        "Stat" => Ok(Command::Stat {
+            path: read_optional_raw(alloc, words)?,
+        }),
+        "Retr" => Ok(Command::Retr {
+            path: words.text(alloc)?,
+        }),
+        "Nlst" => Ok(Command::Nlst {
+            path: read_optional_text(alloc, words)?,
+        }),
+        "Md5" => Ok(Command::Md5 {
+            file: words.text(alloc)?,
+        }),
+        "List" => read_list(alloc, words),
+        "Site" => read_site(alloc, words),
+        "Other" => read_other(alloc, words),
+        _ => Err(no_case()),
+    }
+}
+
+/// `write COMMAND FIELD..`
+#[derive(Drop)]
+struct WriteCommand {
+    buf: Vec<u8>,
+    command: Command,
+}
+
+/// Writes the line after the byte that the buffer had; where there is none, only that byte is there.
+fn put_appended(is_written: bool, buf: &[u8], answers: &mut Answers) {
+    match buf {
+        [b'x'] if !is_written => answers.put("no-line"),
+        [b'x', line @ ..] if is_written => answers.put(Quoted(line)),
+        _ => answers.put("changed"),
+    }
+}
+
+impl Case for WriteCommand {
+    fn read(alloc: Global, words: &mut Words<'_>) -> io::Result<WriteCommand> {
+        let buf = Vec::from_slice(alloc, b"x")?;
+        let variant = words.word()?;
+        let command = read_fields(alloc, variant, words)?;
+        Ok(WriteCommand { buf, command })
+    }
+
+    fn answer(self, _alloc: Global, answers: &mut Answers) {
+        let WriteCommand { mut buf, command } = self;
+        let is_written = write_line(&command, &mut buf, answers);
+        drop(command);
+        put_appended(is_written, buf.as_slice(), answers);
+    }
+}
+
+/// `canonical LINE`
+#[derive(Drop)]
+struct WriteCanonical {
+    line: Vec<u8>,
+}
+
+/// Writes what a new codec reads the line as, and whether it is another command or leaves bytes.
+fn put_read_back(alloc: Global, command: Command, line: Vec<u8>, answers: &mut Answers) {
+    let mut decoding = Decoding::of(line);
+    let decoded = decoding.next_command(alloc, answers);
+    let is_same = matches!(&decoded, Ok(Some(other)) if *other == command);
+    drop(command);
+    if let Ok(Some(other)) = &decoded {
+        answers.put(format_args!("ok {}", Shown(other)));
+    }
+    drop(decoded);
+    answers.put_unless(is_same && decoding.is_empty(), " unequal");
+}
+
+/// Writes what the command's line is read as, and the line.
+fn put_canonical(alloc: Global, command: Command, answers: &mut Answers) {
+    let mut line = Vec::new(alloc);
+    if !write_line(&command, &mut line, answers) {
+        drop(command);
+        answers.put("no-line");
+        return;
+    }
+    answers.put(format_args!("{} is ", Quoted(line.as_slice())));
+    put_read_back(alloc, command, line, answers);
+}
+
+impl Case for WriteCanonical {
+    fn read(alloc: Global, words: &mut Words<'_>) -> io::Result<WriteCanonical> {
+        let line = words.bytes(alloc)?;
+        Ok(WriteCanonical { line })
+    }
+
+    fn answer(self, alloc: Global, answers: &mut Answers) {
+        match read_line(alloc, self.line.as_slice(), answers) {
+            Ok(command) => put_canonical(alloc, command, answers),
+            Err(error) => put_refused(&error, answers),
+        }
+    }
+}
