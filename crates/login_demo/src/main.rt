@@ -17,8 +17,6 @@ mod laws;
 mod paths;
 mod session;
 mod standing;
-#[cfg(test)]
-mod tests;
 mod tree;
 
 use crate::accounts::{Account, Table};

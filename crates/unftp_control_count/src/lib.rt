@@ -8,6 +8,11 @@ mod trace;
 
 pub use crate::trace::Trace;
 use std::marker::Model;
+use std::mem::size_of;
+
+const _: () = prove!(size_of::<Count>() == 0);
+
+const _: () = prove!(size_of::<Trace>() == 0);
 
 /// A number without a greatest value that contracts know and no code can read. Only this crate can
 /// make one.
@@ -88,36 +93,5 @@ impl Count {
         ensures { self.new ≡ 0 }
     {
         *self = Count::new();
-    }
-}
-
-#[cfg(test)]
-mod tests {
-    use super::{Count, Trace};
-    use std::mem::size_of;
-
-    const _: () = prove!(size_of::<Count>() == 0);
-
-    const _: () = prove!(size_of::<Trace>() == 0);
-
-    #[test]
-    fn counts_without_a_byte(rt: HostRuntime) {
-        let mut count = Count::new();
-        count.raise();
-        count.raise_by(2);
-        count.raise_to(9);
-        let again = count.same();
-        count.reset();
-        assert_eq!(rt; size_of::<Count>(), 0);
-        drop(again);
-    }
-
-    #[test]
-    fn keeps_bytes_without_a_byte(rt: HostRuntime) {
-        let mut trace = Trace::new();
-        trace.extend(b"NOOP".as_slice());
-        trace.reset();
-        trace.extend([].as_slice());
-        assert_eq!(rt; size_of::<Trace>(), 0);
     }
 }

@@ -465,7 +465,8 @@ impl<const IS_PATH: bool> Case for MakeText<IS_PATH> {
     }
 
     fn answer(self, alloc: Global, answers: &mut Answers) {
-        let made = once_more(answers, || make_text(alloc, IS_PATH, self.text.as_str()));
+        let is_path = IS_PATH;
+        let made = once_more(answers, || make_text(alloc, is_path, self.text.as_str()));
         put_text(made, answers);
     }
 }

@@ -19,8 +19,8 @@ pub fn answer(
 ) -> Option<io::Result<()>> {
     Some(match call {
         "read" => answer_case::<ReadReplies>(alloc, words, answers),
-        "receive" => answer_case::<Receive<false>>(alloc, words, answers),
-        "receive_from" => answer_case::<Receive<true>>(alloc, words, answers),
+        "receive" => answer_case::<ReceiveReplies<false>>(alloc, words, answers),
+        "receive_from" => answer_case::<ReceiveReplies<true>>(alloc, words, answers),
         _ => return None,
     })
 }
@@ -217,14 +217,14 @@ fn make_steps(receiving: Receiving, answers: &mut Answers) {
 
 /// `receive LIMIT STEP..`, or `receive_from LIMIT STEP..`, which reads.
 #[derive(Drop)]
-struct Receive<const IS_READING: bool> {
+struct ReceiveReplies<const IS_READING: bool> {
     receiving: Receiving,
 }
 
-impl<const IS_READING: bool> Case for Receive<IS_READING> {
-    fn read(alloc: Global, words: &mut Words<'_>) -> io::Result<Receive<IS_READING>> {
+impl<const IS_READING: bool> Case for ReceiveReplies<IS_READING> {
+    fn read(alloc: Global, words: &mut Words<'_>) -> io::Result<ReceiveReplies<IS_READING>> {
         let receiving = Receiving::read(alloc, words, IS_READING)?;
-        Ok(Receive { receiving })
+        Ok(ReceiveReplies { receiving })
     }
 
     fn answer(self, _alloc: Global, answers: &mut Answers) {
