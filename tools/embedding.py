@@ -7,7 +7,6 @@ usage: tools/embedding.py sessions|session SERVER..        the replies of the se
        tools/embedding.py read|canonical REPLAY..            the replies that servers wrote; the canonical lines of clients' commands
        tools/embedding.py valgrind LOG..                     whether each process ended without an error
        tools/embedding.py numbers                            the numbers of the header and of examples/rust are the definition's
-       tools/embedding.py snippets                           the snippets of docs/EMBEDDING.md are cut from examples/
 
 SERVER.. and REPLAY.. may be the program and what runs it. The last line says what was compared; the status is 0 where all is right.
 """
@@ -387,23 +386,6 @@ def check_numbers():
     return f"{len(commands)} commands and {len(statuses)} other results"
 
 
-def bare(text):
-    """The text without the indentation of its lines, nor the marks of a comment that documents, between two line feeds."""
-    return "\n" + "".join(line.strip().removeprefix("//!").strip() + "\n" for line in text.splitlines())
-
-
-def check_snippets():
-    """The snippets of docs/EMBEDDING.md follow in one file of examples/, indented alike or not."""
-    files = [path for path in (TOP / "examples").glob("**/*") if path.suffix in [".c", ".rs"] and "target" not in path.parts]
-    sources = [bare(path.read_text(encoding="utf-8")) for path in files]
-    page = (TOP / "docs/EMBEDDING.md").read_text(encoding="utf-8")
-    snippets = re.findall(r"^```(?:c|rust)\n(.*?)^```$", page, re.M | re.S)
-    for snippet in snippets:
-        if not any(bare(snippet) in source for source in sources):
-            raise Wrong(f"no file of examples/ has this snippet:\n{snippet}")
-    return f"{len(snippets)} snippets are in examples/"
-
-
 CHECKS = {
     "sessions": check_sessions,
     "session": check_session,
@@ -413,7 +395,6 @@ CHECKS = {
     "canonical": check_canonical,
     "valgrind": check_valgrind,
     "numbers": check_numbers,
-    "snippets": check_snippets,
 }
 
 

@@ -1,5 +1,5 @@
 -- The offset of REST is read back.
-use Rattle.std.proofs.Common.{◌≡◌, ◌≢◌, ◌<◌, ◌^◌, ℕ, true, [], ◌∷◌, ◌++◌, length, get_or, Ok, refl, sym, ap, ◌∙◌, arith, ne_eqb, codes}
+use Rattle.std.proofs.Common.{◌≡◌, ◌≢◌, ◌<◌, ◌^◌, ℕ, true, length, get_or, Ok, refl, ◌∙◌, arith, codes}
 use Rattle.std.specs.Fmt.{decimal}
 use Rattle.std.specs.Str.{is_utf8, chars, all_ascii_digits}
 use Rattle.std.specs.Str.Lossy.{utf8_lossy}
@@ -8,11 +8,10 @@ use Rattle.std.proofs.lemmas.Bool.{lt-ltb}
 use Rattle.std.proofs.lemmas.Fmt.{IsAscii-decimal, digits_decimal, digits_value-decimal, decimal_nonempty}
 use Rattle.std.proofs.lemmas.Str.{utf8_lossy-IsUtf8, IsUtf8-from_ascii}
 use Rattle.std.proofs.lemmas.Str.Parse.{IsNumeralModel, numerals_by_value, tells_all_ascii_digits, without_leading_plus_none, not_in_digits}
-use Rattle.unftp_control_defs.specs.Bytes.{Bytes, LF, CR, crlf, Lacks}
-use Rattle.unftp_control_defs.specs.Values.{value_of, escaped}
+use Rattle.unftp_control_defs.specs.Bytes.{LF}
 use Rattle.unftp_control_defs.specs.FtpCommand.{Rest}
 use Rattle.unftp_control_defs.specs.Rules.{offset}
-use Rattle.unftp_control_defs.specs.Outcome.{outcome, value_answer}
+use Rattle.unftp_control_defs.specs.Outcome.{outcome}
 use Rattle.unftp_control_defs.specs.Canonical.{canonical_line}
 use Rattle.unftp_control_defs.proofs.LackLemmas.{Lacks-decimal}
 use Rattle.unftp_control_defs.proofs.CommandRoundTripLemmas.{spaced_back}
