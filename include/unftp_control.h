@@ -39,8 +39,8 @@ enum unftp_result {
     /* It has done what was asked. */
     UNFTP_DONE = 0,
 
-    /* A command, of unftp_next only. What its value is stands beside it; where that is in brackets, it
-       may be missing, and its length is then 0. */
+    /* A command, of unftp_next only. The comment beside each names its value; one in brackets may be
+       absent, and its length is then 0. */
     UNFTP_USER = 1,    /* [name] */
     UNFTP_PASS = 2,    /* [password] */
     UNFTP_ACCT = 3,    /* [account] */

@@ -1,15 +1,16 @@
+/* What README shows first. */
 #include "unftp_control.h"
 #include <stdio.h>
 
 int main(void)
 {
     const uint8_t sent[] = "retr a.txt\r\n";
-    uint8_t name[16], value[16];
-    size_t offset = 0, name_len, value_len, used;
+    uint8_t verb[16], path[16];
+    size_t offset = 0, verb_len, path_len, used;
     bool skipping = false;
+    uint32_t command = unftp_next(sent, sizeof sent - 1, &offset, 4096, &skipping, verb, sizeof verb, &verb_len,
+                                  path, sizeof path, &path_len, &used);
 
-    if (unftp_next(sent, sizeof sent - 1, &offset, 4096, &skipping, name, sizeof name, &name_len,
-                   value, sizeof value, &value_len, &used) == UNFTP_RETR)
-        printf("%.*s of %.*s\n", (int)name_len, (char *)name, (int)value_len, (char *)value);
-    return 0;
+    if (command == UNFTP_RETR)
+        printf("%.*s is asked for\n", (int)path_len, (char *)path);
 }

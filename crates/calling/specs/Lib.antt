@@ -1,4 +1,5 @@
 pub mod NextNoop
 pub mod Forwarding
+pub mod Basic
 pub mod UntilTls
 pub mod EventLoop

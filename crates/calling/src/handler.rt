@@ -1,38 +1,52 @@
 //! A handler with its law.
-ghost use Rattle.std.specs.Prelude.{◌≡◌, false, codes};
+ghost use Rattle.std.specs.Prelude.{◌≡◌, Bool, IfErr, IfOk, false};
+ghost use Rattle.calling.specs.Basic.{basic, basic_reply, is_quit};
+ghost use Rattle.unftp_control.specs.ErrorMeaning.{fault_of};
+ghost use Rattle.unftp_control.specs.EventMeaning.{event_meant};
 ghost use Rattle.unftp_control.specs.Events.{out_of_memory};
-ghost use Rattle.unftp_control.specs.FtpReply.{CodeAndMsg};
+ghost use Rattle.unftp_control.specs.ReplyMeaning.{reply_of};
 
 use std::alloc::Global;
+use unftp_control::command::Command;
 use unftp_control::error::ControlChanError;
 use unftp_control::reply::{Reply, ReplyCode};
 use unftp_control::serve::{Count, Event, Handler};
 
-/// Answers `200 OK` to every command.
+/// Answers NOOP and QUIT, and is done after QUIT.
 #[derive(Drop)]
-pub struct Obliging {
-    pub failures: Count,
+pub struct Basic {
+    is_done: bool,
+    failures: Count,
 }
 
-impl Handler for Obliging {
-    // it keeps nothing
-    ghost State = { Unit {0} };
+impl Basic {
+    /// At the beginning of a session.
+    pub fn new() -> Basic
+        ensures is_done { result.is_done ≡ false }
+        ensures failures { result.failures ≡ 0 }
+    {
+        Basic {
+            is_done: false,
+            failures: Count::new(),
+        }
+    }
+}
 
-    ghost state = { λ _. tt };
+impl Handler for Basic {
+    // what the law's state is of this value,
+    ghost State = { Bool };
 
-    // what it answers, its next state, and with which faults it may fail
-    ghost law = { record {
-      says = λ _ _. CodeAndMsg 200 (codes "OK");
-      next = λ state _. state;
-      may_fail = λ _ _ fault. fault ≡ out_of_memory;
-      done = λ _. false;
-    } };
+    ghost state = { λ handler. handler.is_done };
 
-    ghost failures = { λ obliging. obliging.failures };
+    // what it answers, its next state, with which faults it may fail, and when it is done
+    ghost law = { basic };
+
+    ghost failures = { λ handler. handler.failures };
 
     fn handle(&mut self, alloc: Global, event: Event) -> Result<Reply, ControlChanError> {
+        self.is_done = is_quit(&event);
+        let answer = answer_event(alloc, &event);
         drop(event);
-        let answer = Reply::new(alloc, ReplyCode::CommandOkay, "OK");
         if answer.is_err() {
             self.failures.raise();
         }
@@ -40,6 +54,28 @@ impl Handler for Obliging {
     }
 
     fn done(&self) -> bool {
-        false
+        self.is_done
+    }
+}
+
+/// Whether the event is QUIT.
+fn is_quit(event: &Event) -> bool
+    ensures { result ≡ is_quit (event_meant event.now) }
+{
+    matches!(event, Event::Command(Command::Quit))
+}
+
+/// The reply to an event.
+fn answer_event(alloc: Global, event: &Event) -> Result<Reply, ControlChanError>
+    ensures ok { IfOk result (λ reply. reply_of reply ≡ basic_reply (event_meant event.now)) }
+    ensures err { IfErr result (λ error. fault_of error ≡ out_of_memory) }
+{
+    match event {
+        Event::Command(Command::Noop) => Reply::new(alloc, ReplyCode::CommandOkay, "OK"),
+        Event::Command(Command::Quit) => {
+            Reply::new(alloc, ReplyCode::ClosingControlConnection, "Bye")
+        }
+        Event::Command(_) => Reply::new(alloc, ReplyCode::CommandNotImplemented, "Not implemented"),
+        Event::Refused(_) => Reply::new(alloc, ReplyCode::CommandSyntaxError, "Not understood"),
     }
 }

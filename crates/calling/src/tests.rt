@@ -2,7 +2,7 @@
 use crate::client::{first_code, next_code, tls_agreed};
 use crate::codec::{answer, first_is_noop, next_is_noop};
 use crate::event_loop::{Turn, answer_next};
-use crate::handler::Obliging;
+use crate::handler::Basic;
 use crate::lines::line_text;
 use crate::pieces::{answer_pieces, replies_to_pieces};
 use crate::proxy::forward_line;
@@ -12,18 +12,11 @@ use std::alloc::Global;
 use std::process::Abort;
 use unftp_control::codecs::FtpCodec;
 use unftp_control::read::ReplyDecoder;
-use unftp_control::serve::{Count, EventDecoder, Output, ServeError, Served};
+use unftp_control::serve::{EventDecoder, Output, ServeError, Served};
 
 /// The buffer holds these bytes.
 fn assert_held(rt: &impl Abort, buf: Vec<u8>, want: &[u8]) {
     assert_eq!(rt; buf.as_slice(), want);
-}
-
-/// A handler that has not failed so far.
-fn obliging() -> Obliging {
-    Obliging {
-        failures: Count::new(),
-    }
 }
 
 #[test]
@@ -81,9 +74,9 @@ fn assert_served(rt: &impl Abort, answer: (Result<Served, ServeError>, Vec<u8>))
 fn a_connection_is_served(rt: HostRuntime) {
     let alloc = rt.alloc();
     let input = b"NOOP\r\nQU".as_slice();
-    let answer = serve_connection(alloc, input, Vec::new(alloc), &mut obliging());
+    let answer = serve_connection(alloc, input, Vec::new(alloc), &mut Basic::new());
     assert_served(&rt, answer);
-    let answer = serve_stranger(alloc, input, Vec::new(alloc), &mut obliging());
+    let answer = serve_stranger(alloc, input, Vec::new(alloc), &mut Basic::new());
     assert_served(&rt, answer);
     let (next, output) = serve_until_tls(alloc, b"AUTH TLS\r\n".as_slice(), Vec::new(alloc));
     let stream = next.expect(&rt, "an answer");
@@ -95,11 +88,11 @@ fn a_connection_is_served(rt: HostRuntime) {
 fn pieces_are_answered(rt: HostRuntime) {
     let pieces = [b"NO".as_slice(), b"OP\r\nQU".as_slice()];
     let mut output = Output::new(Vec::new(rt.alloc()));
-    let answer = answer_pieces(rt.alloc(), &pieces, &mut obliging(), &mut output);
+    let answer = answer_pieces(rt.alloc(), &pieces, &mut Basic::new(), &mut output);
     let left = answer.expect(&rt, "an answer");
     assert_eq!(rt; left, 2);
     assert_held(&rt, output.into_inner(), b"200 OK\r\n");
-    let replies = replies_to_pieces(rt.alloc(), &pieces, &mut obliging());
+    let replies = replies_to_pieces(rt.alloc(), &pieces, &mut Basic::new());
     assert_held(&rt, replies.expect(&rt, "an answer"), b"200 OK\r\n");
 }
 
