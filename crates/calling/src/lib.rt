@@ -12,6 +12,4 @@ pub mod members;
 pub mod pieces;
 pub mod proxy;
 pub mod serving;
-#[cfg(test)]
-mod tests;
 pub mod upgrading;

@@ -20,6 +20,7 @@ pub use Rattle.unftp_control_defs.specs.Pieces
 pub use Rattle.unftp_control_defs.specs.EventSteps
 pub use Rattle.unftp_control_defs.specs.Steps
 pub use Rattle.unftp_control_command.specs.CommandMeaning
+pub use Rattle.unftp_control_command.specs.declared.Command
 pub use Rattle.unftp_control_line_parser.specs.ParseAnswer
 pub use Rattle.unftp_control_line_parser.specs.Memory
 pub use Rattle.unftp_control_error.specs.ParseRefusal

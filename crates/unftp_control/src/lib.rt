@@ -19,6 +19,3 @@ pub use unftp_control_password as password;
 pub use unftp_control_read as read;
 pub use unftp_control_reply as reply;
 pub use unftp_control_serve as serve;
-
-#[cfg(test)]
-mod tests;

@@ -55,15 +55,15 @@ impl Model for FtpCodec {
 }
 
 impl FtpCodec {
-    /// A codec whose scan offset is 0 and which has scanned nothing. A line may have any length.
+    /// A new codec: nothing scanned, no limit.
     pub fn new() -> FtpCodec
         ensures { result ≡ record { place = 0; tests = 0; limit = None; skipping = false } }
     {
         FtpCodec::at(0)
     }
 
-    /// A codec whose scan offset is 0 and which has scanned nothing. A line of more than `limit`
-    /// bytes, its line feed counted, is refused, whatever it holds (RFC 959 names no limit).
+    /// A new codec with a limit: a line of more than `limit` bytes, its line feed counted, is refused,
+    /// whatever it holds (RFC 959 names no limit).
     pub fn with_limit(limit: usize) -> FtpCodec
         requires { 1 ≤ limit }
         ensures { result ≡ record { place = 0; tests = 0; limit = Some limit; skipping = false } }
@@ -71,9 +71,8 @@ impl FtpCodec {
         FtpCodec::resume(Some(limit), 0, false)
     }
 
-    /// A codec with this scan offset, which has scanned nothing: for a caller that keeps only the
-    /// offset. The first line then ends at the first line feed at or after it, so there should be
-    /// none before it. A line may have any length.
+    /// A codec with this scan offset and no limit, for a caller that keeps only the offset. The first
+    /// line then ends at the first line feed at or after it, so there should be none before it.
     pub fn at(place: usize) -> FtpCodec
         ensures { result ≡ record { place = place; tests = 0; limit = None; skipping = false } }
     {

@@ -269,8 +269,8 @@ impl Command {
     }
 }
 
-/// The same as Debug. Of PASS it is one text under all flags, which shows neither the password's
-/// bytes nor their length.
+/// What Debug writes; of PASS one text under all flags, which shows neither the password's bytes nor
+/// their length.
 impl fmt::Display for Command {
     ghost use Rattle.unftp_control_command.specs.CommandMeaning.{displayed};
 

@@ -55,7 +55,7 @@ impl Count {
         Count { seal: () }
     }
 
-    /// The same number again.
+    /// A count of this number.
     #[inline(always)]
     pub fn same(&self) -> Count
         ensures { result ≡ self.now }

@@ -292,7 +292,7 @@ impl Engine {
             (run_with self.old H.law (H.state handler.old) piece.now)
             (snapshot_with H.state H.failures K.state handler.new output.new)
             result }
-        // The same, answer by answer.
+        // What follows from it at each answer.
         ensures written { IsRunning self.old
             → OnOk result (Appends (K.state output.old).written (K.state output.new).written
             (text_of H.law (H.state handler.old)

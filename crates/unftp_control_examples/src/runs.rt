@@ -45,7 +45,7 @@ pub fn long_lines_are_refused()
         ≡ Refused line_too_long ∷ [] }
 {}
 
-/// The same events, however the input is split.
+/// Pieces give the events of their input, however it is split.
 pub fn pieces_have_events()
     ensures no_pieces { events_in_turn (codes "NOOP\n") [] ≡ [] }
     ensures rest_first { events_in_turn (codes "NO") (codes "OP\n" ∷ []) ≡ Command Noop ∷ [] }

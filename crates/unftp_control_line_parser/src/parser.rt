@@ -157,7 +157,7 @@ fn site(alloc: Global, parameter: &[u8]) -> Answer
     subcommand(alloc, from_utf8(name)?, inner)
 }
 
-/// The same, of a name in UTF-8.
+/// A SITE subcommand whose name is UTF-8, and its parameter.
 fn subcommand(alloc: Global, name: &str, parameter: &[u8]) -> Answer
     ensures { Returns
         (value_answer (subcommand_answer (upper name.now)) (value_of parameter.now)) result }

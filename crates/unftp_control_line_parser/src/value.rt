@@ -35,7 +35,8 @@ fn plain_len(bytes: &[u8]) -> usize
     }
 }
 
-/// The same directly after the first unit or a CR NUL, where an LF may come first.
+/// How many bytes, directly after the first unit or a CR NUL, come before the next CR or LF; an LF
+/// that comes first is one of them.
 fn fresh_len(bytes: &[u8]) -> usize
     ensures { IsFreshEnd bytes.now result }
 {
@@ -99,7 +100,8 @@ fn joined(front: Vec<u8>, after: &[u8]) -> Result<Vec<u8>, ParseErrorKind>
     }
 }
 
-/// The same, where the first bytes are copied.
+/// The value that begins with a copy of these bytes and goes on, directly after a CR NUL, with the
+/// rest.
 fn unescaped<'a>(
     alloc: Global,
     front: &[u8],

@@ -46,9 +46,9 @@ pub fn members_alone_are_served<H: Handler>()
         (limited_to left (closed accepts inner)) }
 {}
 
-/// The same in bytes, of a handler whose replies are sent and plain: whatever the input, a reply in
-/// the output that reports no failure, at the place of a command that needs a login, comes only
-/// after a USER and a PASS that the accounts accept.
+/// In bytes, of a handler whose replies are sent and plain: whatever the input, a reply in the output
+/// that reports no failure, at the place of a command that needs a login, comes only after a USER
+/// and a PASS that the accounts accept.
 pub fn members_alone_are_served_in_bytes<H: Handler>()
     ensures gate { SendsPlainReplies H.law
         → (limit : Option ℕ) (accepts : Accounts) (inner : H.State) (input : Bytes)
@@ -61,7 +61,7 @@ pub fn members_alone_are_served_in_bytes<H: Handler>()
         (limited_to left (closed accepts inner)) input) }
 {}
 
-/// What is written says of passwords only which of them are accepted: two inputs whose events differ
+/// The output reveals about a password only whether it was accepted: two inputs whose events differ
 /// in passwords that the accounts don't tell apart have one output.
 pub fn passwords_stay_hidden<H: Handler>()
     ensures gate { (limit : Option ℕ) (accepts : Accounts) (inner : H.State) (input other : Bytes)

@@ -79,7 +79,7 @@ pub fn read_reply(alloc: Global, bytes: &[u8]) -> Result<Front, ReadReplyError>
     read_front(alloc, &mut Search::new(), bytes, &mut Count::new())
 }
 
-/// The same, by a search that may have begun when there were fewer bytes.
+/// What `read_reply` returns, by a search that may have begun when there were fewer bytes.
 pub(crate) fn read_front(
     alloc: Global,
     search: &mut Search,

@@ -71,7 +71,7 @@ impl ReplyDecoder {
             (IfSome (R.remaining reader.old) (λ input. IfSome (R.remaining reader.new) (λ left.
             self.new.tests + self.new.unscanned + length self.new.bytes + 2 * length left
             ≤ self.old.tests + self.old.unscanned + length self.old.bytes + 2 * length input))) }
-        // The same of any reader, with what is so at each error.
+        // What holds of any reader, and at each error.
         ensures receives { Receives self.old (R.remaining reader.old) result
             self.new (R.remaining reader.new) }
         ensures limit { self.new.limit ≡ self.old.limit }

@@ -165,7 +165,7 @@ fn owned_lines<'a, I: IntoIterator<Item = &'a str>>(
     Ok(owned)
 }
 
-/// The same lines.
+/// A copy of the lines.
 fn lines_again(alloc: Global, lines: &Vec<String>) -> Result<Vec<String>, AllocError>
     ensures { IfOk result (λ again.
         map string_bytes again.items ≡ map string_bytes lines.now.items) }

@@ -325,8 +325,8 @@ module _ (limit : Option ℕ) {S : Type 0} (law : Law S) (m n : Snapshot S) (i k
   of_input : (P : Bytes → Type 0) → ((input rest : Bytes) (whole : input ≡ all.read ++ rest) → AlikeRead limit law m.state input all.read rest whole done → P input) → IfSome i.remaining P
   of_input P it = known_input P i.remaining k.remaining (of_bytes (λ input rest. P input) it) all.read all.consumed
 
-  pub AnsweredAll-headline : IfSome i.remaining (λ input. Appends m.output.written n.output.written (text_with_limit limit law m.state input))
-  AnsweredAll-headline = of_input _ (λ input rest whole alike.
+  pub AnsweredAll-written : IfSome i.remaining (λ input. Appends m.output.written n.output.written (text_with_limit limit law m.state input))
+  AnsweredAll-written = of_input _ (λ input rest whole alike.
       subst (λ run. Appends m.output.written n.output.written (text_of law m.state run)) (sym alike.same_run) all.answered.written)
 
   pub AnsweredAll-state : IfSome i.remaining (λ input. n.state ≡ last_state law m.state (run_with_limit limit law m.state input))
@@ -372,8 +372,8 @@ module _ (limit : Option ℕ) {S : Type 0} (law : Law S) (m n : Snapshot S) (i k
   of_served : (P : Served → Type 0) → ((served : Served) → AnsweredAllWithLimit limit law m n i k served.left served.tests served.held served.done → P served) → IfOk result P
   of_served P it = IfOk-weaker result (λ served. AnsweredAllWithLimit limit law m n i k served.left served.tests served.held served.done) P it ok
 
-  pub Served-headline : OnOk result (IfSome i.remaining (λ input. Appends m.output.written n.output.written (text_with_limit limit law m.state input)))
-  Served-headline = of_served _ (λ served all. AnsweredAll-headline limit law m n i k served.left served.tests served.held served.done all)
+  pub Served-written : OnOk result (IfSome i.remaining (λ input. Appends m.output.written n.output.written (text_with_limit limit law m.state input)))
+  Served-written = of_served _ (λ served all. AnsweredAll-written limit law m n i k served.left served.tests served.held served.done all)
 
   pub Served-state : OnOk result (IfSome i.remaining (λ input. n.state ≡ last_state law m.state (run_with_limit limit law m.state input)))
   Served-state = of_served _ (λ served all. AnsweredAll-state limit law m n i k served.left served.tests served.held served.done all)

@@ -39,8 +39,7 @@ const PIECE: usize = 4096;
 /// handler is done.
 ///
 /// Each reply is written whole and flushed before the next line is taken, and before more is read.
-/// After the first event that leaves the handler done, no later byte is taken as a line, and nothing
-/// more is read.
+/// Once the handler is done, no later byte is parsed, and nothing more is read.
 ///
 /// At `Ok` the reader has come to its end, or the handler is done. `Read` is a failed read, after
 /// which all complete lines are answered; `Write` and `WriteZero` are a failed write or flush, after
@@ -57,7 +56,7 @@ pub fn serve<R: Read, W: Write, H: Handler>(
     handler: &mut H,
 ) -> Result<Served, ServeError>
     // Whatever pieces the input comes in, at Ok exactly the replies to its lines are written,
-    ensures headline { OnOk result (IfSome (R.remaining reader.old.reader) (λ input.
+    ensures written { OnOk result (IfSome (R.remaining reader.old.reader) (λ input.
         Appends (W.contents writer.old.writer) (W.contents writer.new.writer)
         (text_for H.law (H.state handler.old) input))) }
     // up to the line that leaves the handler done; it is in the last state of this run,
@@ -91,7 +90,7 @@ pub fn serve<R: Read, W: Write, H: Handler>(
         AllByRecursion IsPlain (replies H.law (H.state handler.old) run)
         → ReadsBack (text_for H.law (H.state handler.old) input)
         (replies H.law (H.state handler.old) run))) }
-    // The same of any reader, with what was flushed and what failed, and how much was held; and
+    // What holds of any reader, with what was flushed and what failed, and how much was held; and
     // what is so at each error.
     ensures ok { IfOk result (λ served. AnsweredAll H.law
         (snapshot_of H.state H.failures W.contents handler.old writer.old)
@@ -108,9 +107,9 @@ pub fn serve<R: Read, W: Write, H: Handler>(
     serve_lines(alloc, None, reader, writer, handler)
 }
 
-/// As `serve`, with a limit: a line of more than `limit` bytes, its line feed counted, is answered
-/// as one event, a refusal with `LineTooLong`, whatever it holds (RFC 959 names no limit). Its bytes
-/// are dropped once they are too many, so at most `limit` and 4,096 bytes of the input are held.
+/// As `serve`, with a limit: a line of more than `limit` bytes, its line feed counted, gets one event,
+/// a refusal with `LineTooLong`, whatever it holds (RFC 959 names no limit). Its bytes are dropped
+/// once they are too many, so at most `limit` and 4,096 bytes of the input are held.
 ///
 /// `left` counts the dropped bytes too. The errors are those of `serve`.
 pub fn serve_with_limit<R: Read, W: Write, H: Handler>(
@@ -122,7 +121,7 @@ pub fn serve_with_limit<R: Read, W: Write, H: Handler>(
 ) -> Result<Served, ServeError>
     requires { 1 ≤ limit }
     // Whatever pieces the input comes in, at Ok exactly the replies to its lines are written,
-    ensures headline { OnOk result (IfSome (R.remaining reader.old.reader) (λ input.
+    ensures written { OnOk result (IfSome (R.remaining reader.old.reader) (λ input.
         Appends (W.contents writer.old.writer) (W.contents writer.new.writer)
         (text_with_limit (Some limit) H.law (H.state handler.old) input))) }
     // up to the line that leaves the handler done; it is in the last state of this run,
@@ -158,7 +157,7 @@ pub fn serve_with_limit<R: Read, W: Write, H: Handler>(
         (replies H.law (H.state handler.old) run))) }
     // The buffer never holds more than the limit and one piece.
     ensures bound { IfOk result (λ served. served.held ≤ limit + 4096) }
-    // The same of any reader, with what was flushed and what failed, and how much was held; and
+    // What holds of any reader, with what was flushed and what failed, and how much was held; and
     // what is so at each error.
     ensures ok { IfOk result (λ served. AnsweredAllWithLimit (Some limit) H.law
         (snapshot_of H.state H.failures W.contents handler.old writer.old)

@@ -118,7 +118,7 @@ fn text<'a>(verb: &'a str, text: &'a [u8]) -> Option<Line<'a>>
     })
 }
 
-/// The same, or only the verb where there is no text.
+/// The verb and a text that is not empty; only the verb where there is none.
 fn optional<'a>(name: &'a str, path: &'a Option<String>) -> Option<Line<'a>>
     ensures { ReturnsLine (IsOptionalText (option_map string_bytes path.now))
         (with_optional name.now (option_map string_bytes path.now)) result }
@@ -129,7 +129,7 @@ fn optional<'a>(name: &'a str, path: &'a Option<String>) -> Option<Line<'a>>
     }
 }
 
-/// The same of bytes.
+/// The verb and bytes that are not empty; only the verb where there are none.
 fn optional_bytes<'a>(name: &'a str, path: &'a Option<Bytes>) -> Option<Line<'a>>
     ensures { ReturnsLine (IsOptionalText path.now) (with_optional name.now path.now) result }
 {

@@ -1,10 +1,9 @@
 //! Calls that make the replies to single commands.
-use crate::answers::Answers;
-use crate::case::{Case, answer_case, once_more};
+use crate::answers::{Answers, once_more};
 use crate::lines::parse_line;
 use crate::replies::append_reply;
 use crate::shown::Quoted;
-use crate::words::{Words, no_case, read_number, read_text};
+use crate::words::{Words, no_case, or_no_case, read_number, read_text};
 use jiff::Timestamp;
 use std::alloc::Global;
 use std::io;
@@ -15,37 +14,6 @@ use unftp_control_commands::{
 };
 use unftp_control_error::ControlChanError;
 use unftp_control_reply::Reply;
-
-/// Answers a call of this module; `None` where it has another name.
-pub fn answer(
-    alloc: Global,
-    call: &str,
-    words: &mut Words<'_>,
-    answers: &mut Answers,
-) -> Option<io::Result<()>> {
-    Some(match call {
-        "reply" => answer_case::<ReplyTo>(alloc, words, answers),
-        "feat_with" => answer_case::<ReplyWith<false>>(alloc, words, answers),
-        "help_with" => answer_case::<ReplyWith<true>>(alloc, words, answers),
-        "epsv" => answer_case::<EpsvPort>(alloc, words, answers),
-        _ => return None,
-    })
-}
-
-/// Answers a call of this module that makes a text; `None` where it has another name.
-pub fn answer_text(
-    alloc: Global,
-    call: &str,
-    words: &mut Words<'_>,
-    answers: &mut Answers,
-) -> Option<io::Result<()>> {
-    Some(match call {
-        "facts" => answer_case::<Facts>(alloc, words, answers),
-        "quoted_path" => answer_case::<MakeText<true>>(alloc, words, answers),
-        "single_line" => answer_case::<MakeText<false>>(alloc, words, answers),
-        _ => return None,
-    })
-}
 
 /// How many bytes a reply may have without taking memory for them.
 const ROOM: usize = 1024;
@@ -275,18 +243,10 @@ impl Settings {
     }
 }
 
-/// `reply LINE SETTING..`
-#[derive(Drop)]
-struct ReplyTo {
-    settings: Settings,
-    buf: Vec<u8>,
-    command: Command,
-}
-
 /// Writes the reply to a request, and what changes where it may change the session.
 fn put_reply_to(
     alloc: Global,
-    request: Request,
+    request: &Request,
     settings: &Settings,
     buf: &mut Vec<u8>,
     answers: &mut Answers,
@@ -303,54 +263,25 @@ fn put_reply_to(
     }
 }
 
-impl Case for ReplyTo {
-    fn read(alloc: Global, words: &mut Words<'_>) -> io::Result<ReplyTo> {
-        let buf = Vec::with_capacity(alloc, ROOM)?;
-        let line = words.bytes(alloc)?;
-        let settings = Settings::read(alloc, words)?;
-        let command = parse_line(alloc, line.as_slice())?;
-        Ok(ReplyTo {
-            settings,
-            buf,
-            command,
-        })
-    }
+/// The request of the line that the next word has.
+fn read_request(alloc: Global, words: &mut Words<'_>) -> io::Result<Request> {
+    let line = words.bytes(alloc)?;
+    or_no_case(Request::of(parse_line(alloc, line.as_slice())?))
+}
 
-    fn answer(self, alloc: Global, answers: &mut Answers) {
-        let ReplyTo {
-            settings,
-            mut buf,
-            command,
-        } = self;
-        match Request::of(command) {
-            Some(request) => put_reply_to(alloc, request, &settings, &mut buf, answers),
-            None => answers.put("bad-case"),
-        }
-    }
+/// `reply LINE SETTING..`
+pub fn answer_reply(alloc: Global, words: &mut Words<'_>, answers: &mut Answers) -> io::Result<()> {
+    let mut buf = Vec::with_capacity(alloc, ROOM)?;
+    let request = read_request(alloc, words)?;
+    let settings = Settings::read(alloc, words)?;
+    answers.begin();
+    put_reply_to(alloc, &request, &settings, &mut buf, answers);
+    answers.end();
+    Ok(())
 }
 
 /// How many lines a case may give.
 const MOST_LINES: usize = 8;
-
-/// The lines of a case, and room for the bytes of a reply.
-#[derive(Drop)]
-struct Lines {
-    lines: Vec<String>,
-    buf: Vec<u8>,
-}
-
-impl Lines {
-    fn read(alloc: Global, words: &mut Words<'_>) -> io::Result<Lines> {
-        let lines = words.texts(alloc)?;
-        if lines.len() > MOST_LINES {
-            return Err(no_case());
-        }
-        Ok(Lines {
-            lines,
-            buf: Vec::with_capacity(alloc, ROOM)?,
-        })
-    }
-}
 
 /// FEAT or HELP with these lines.
 fn reply_with(alloc: Global, is_help: bool, lines: &[&str]) -> Result<Reply, ControlChanError> {
@@ -361,12 +292,14 @@ fn reply_with(alloc: Global, is_help: bool, lines: &[&str]) -> Result<Reply, Con
     }
 }
 
-/// Writes the reply to FEAT or HELP with the lines of a case.
-fn put_reply_with(alloc: Global, is_help: bool, given: Lines, answers: &mut Answers) {
-    let Lines {
-        lines: texts,
-        mut buf,
-    } = given;
+/// Writes the reply to FEAT or HELP with these lines.
+fn put_reply_with(
+    alloc: Global,
+    is_help: bool,
+    texts: &[String],
+    buf: &mut Vec<u8>,
+    answers: &mut Answers,
+) {
     let mut lines = [""; MOST_LINES];
     let count = texts.len().min(MOST_LINES);
     for i in 0..count {
@@ -374,46 +307,36 @@ fn put_reply_with(alloc: Global, is_help: bool, given: Lines, answers: &mut Answ
     }
     let lines = &lines[..count];
     let made = once_more(answers, || reply_with(alloc, is_help, lines));
-    put_made(made, &mut buf, answers);
+    put_made(made, buf, answers);
 }
 
 /// `feat_with LINE..` or `help_with LINE..`
-#[derive(Drop)]
-struct ReplyWith<const IS_HELP: bool> {
-    lines: Lines,
-}
-
-impl<const IS_HELP: bool> Case for ReplyWith<IS_HELP> {
-    fn read(alloc: Global, words: &mut Words<'_>) -> io::Result<ReplyWith<IS_HELP>> {
-        let lines = Lines::read(alloc, words)?;
-        Ok(ReplyWith { lines })
+pub fn answer_reply_with(
+    alloc: Global,
+    is_help: bool,
+    words: &mut Words<'_>,
+    answers: &mut Answers,
+) -> io::Result<()> {
+    let mut buf = Vec::with_capacity(alloc, ROOM)?;
+    let texts = words.texts(alloc)?;
+    if texts.len() > MOST_LINES {
+        return Err(no_case());
     }
-
-    fn answer(self, alloc: Global, answers: &mut Answers) {
-        put_reply_with(alloc, IS_HELP, self.lines, answers);
-    }
+    answers.begin();
+    put_reply_with(alloc, is_help, texts.as_slice(), &mut buf, answers);
+    answers.end();
+    Ok(())
 }
 
 /// `epsv PORT`
-#[derive(Drop)]
-struct EpsvPort {
-    port: u16,
-    buf: Vec<u8>,
-}
-
-impl Case for EpsvPort {
-    fn read(alloc: Global, words: &mut Words<'_>) -> io::Result<EpsvPort> {
-        Ok(EpsvPort {
-            port: words.number()?,
-            buf: Vec::with_capacity(alloc, ROOM)?,
-        })
-    }
-
-    fn answer(self, alloc: Global, answers: &mut Answers) {
-        let EpsvPort { port, mut buf } = self;
-        let made = once_more(answers, || make_epsv_reply(alloc, port));
-        put_made(made, &mut buf, answers);
-    }
+pub fn answer_epsv(alloc: Global, words: &mut Words<'_>, answers: &mut Answers) -> io::Result<()> {
+    let mut buf = Vec::with_capacity(alloc, ROOM)?;
+    let port = read_number(words.last()?)?;
+    answers.begin();
+    let made = once_more(answers, || make_epsv_reply(alloc, port));
+    put_made(made, &mut buf, answers);
+    answers.end();
+    Ok(())
 }
 
 /// Writes a text that was made.
@@ -425,48 +348,40 @@ fn put_text(made: Result<String, ControlChanError>, answers: &mut Answers) {
 }
 
 /// `facts KIND SIZE INSTANT USER GROUP`
-#[derive(Drop)]
-struct Facts {
-    file: File,
+pub fn answer_facts(alloc: Global, words: &mut Words<'_>, answers: &mut Answers) -> io::Result<()> {
+    let kind = words.word()?;
+    let file = read_file(kind, words)?;
+    words.end()?;
+    answers.begin();
+    put_text(once_more(answers, || format_facts(alloc, &file)), answers);
+    answers.end();
+    Ok(())
 }
 
-impl Case for Facts {
-    fn read(_alloc: Global, words: &mut Words<'_>) -> io::Result<Facts> {
-        let kind = words.word()?;
-        let file = read_file(kind, words)?;
-        Ok(Facts { file })
-    }
-
-    fn answer(self, alloc: Global, answers: &mut Answers) {
-        let made = once_more(answers, || format_facts(alloc, &self.file));
-        put_text(made, answers);
-    }
+/// `quoted_path PATH`
+pub fn answer_quoted_path(
+    alloc: Global,
+    words: &mut Words<'_>,
+    answers: &mut Answers,
+) -> io::Result<()> {
+    let path = read_text(alloc, words.last()?)?;
+    answers.begin();
+    let made = once_more(answers, || quoted_path(alloc, path.as_str()));
+    put_text(made, answers);
+    answers.end();
+    Ok(())
 }
 
-/// A path between quotes, or a text in one line.
-fn make_text(alloc: Global, is_path: bool, text: &str) -> Result<String, ControlChanError> {
-    if is_path {
-        quoted_path(alloc, text)
-    } else {
-        single_line_text(alloc, text)
-    }
-}
-
-/// `quoted_path PATH` or `single_line TEXT`
-#[derive(Drop)]
-struct MakeText<const IS_PATH: bool> {
-    text: String,
-}
-
-impl<const IS_PATH: bool> Case for MakeText<IS_PATH> {
-    fn read(alloc: Global, words: &mut Words<'_>) -> io::Result<MakeText<IS_PATH>> {
-        let text = words.text(alloc)?;
-        Ok(MakeText { text })
-    }
-
-    fn answer(self, alloc: Global, answers: &mut Answers) {
-        let is_path = IS_PATH;
-        let made = once_more(answers, || make_text(alloc, is_path, self.text.as_str()));
-        put_text(made, answers);
-    }
+/// `single_line TEXT`
+pub fn answer_single_line(
+    alloc: Global,
+    words: &mut Words<'_>,
+    answers: &mut Answers,
+) -> io::Result<()> {
+    let text = read_text(alloc, words.last()?)?;
+    answers.begin();
+    let made = once_more(answers, || single_line_text(alloc, text.as_str()));
+    put_text(made, answers);
+    answers.end();
+    Ok(())
 }

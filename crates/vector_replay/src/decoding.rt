@@ -1,8 +1,7 @@
 //! Calls that decode lines from bytes that come in pieces.
-ghost use Rattle.std.specs.Prelude.{◌≤◌, ◌+◌, vec_len};
+ghost use Rattle.std.specs.Prelude.{◌≤◌, ◌+◌, IfSome, vec_len};
 
 use crate::answers::Answers;
-use crate::case::{Case, answer_case};
 use crate::shown::Shown;
 use crate::words::{Words, no_case};
 use std::alloc::{AllocError, Global};
@@ -10,20 +9,6 @@ use std::io;
 use unftp_control_codecs::FtpCodec;
 use unftp_control_command::Command;
 use unftp_control_error::{ControlChanError, ControlChanErrorKind, Source};
-
-/// Answers a call of this module; `None` where it has another name.
-pub fn answer(
-    alloc: Global,
-    call: &str,
-    words: &mut Words<'_>,
-    answers: &mut Answers,
-) -> Option<io::Result<()>> {
-    Some(match call {
-        "decode" => answer_case::<Decode>(alloc, words, answers),
-        "decode_slice" => answer_case::<DecodeSlice>(alloc, words, answers),
-        _ => return None,
-    })
-}
 
 /// What `decode` returns.
 type Decoded = Result<Option<Command>, ControlChanError>;
@@ -129,13 +114,6 @@ impl Decoding {
     }
 }
 
-/// `decode LIMIT PIECE..`
-#[derive(Drop)]
-struct Decode {
-    decoding: Decoding,
-    pieces: Vec<Vec<u8>>,
-}
-
 /// How many bytes the pieces have.
 fn room_for(pieces: &[Vec<u8>]) -> usize {
     let mut room: usize = 0;
@@ -145,35 +123,36 @@ fn room_for(pieces: &[Vec<u8>]) -> usize {
     room
 }
 
-impl Case for Decode {
-    fn read(alloc: Global, words: &mut Words<'_>) -> io::Result<Decode> {
-        let limit = words.limit()?;
-        let pieces = words.pieces(alloc)?;
-        let buf = Vec::with_capacity(alloc, room_for(pieces.as_slice()))?;
-        let codec = match limit {
-            Some(limit) => FtpCodec::with_limit(limit.max(1)),
-            None => FtpCodec::new(),
-        };
-        let decoding = Decoding { codec, buf };
-        Ok(Decode { decoding, pieces })
-    }
-
-    fn answer(self, alloc: Global, answers: &mut Answers) {
-        let Decode {
-            mut decoding,
-            pieces,
-        } = self;
-        let mut separator = "";
-        for piece in &pieces {
-            if decoding.push(piece.as_slice()).is_err() {
-                answers.put("out of memory");
-                return;
-            }
-            answers.put(separator);
-            decoding.put_commands(alloc, answers);
-            separator = " | ";
+/// Writes what is decoded of each piece and what was left before it.
+fn put_pieces(alloc: Global, mut decoding: Decoding, pieces: &[Vec<u8>], answers: &mut Answers) {
+    let mut separator = "";
+    for piece in pieces {
+        if decoding.push(piece.as_slice()).is_err() {
+            answers.put("out of memory");
+            return;
         }
+        answers.put(separator);
+        decoding.put_commands(alloc, answers);
+        separator = " | ";
     }
+}
+
+/// `decode LIMIT PIECE..`
+pub fn answer_decode(
+    alloc: Global,
+    words: &mut Words<'_>,
+    answers: &mut Answers,
+) -> io::Result<()> {
+    let codec = match words.limit()? {
+        Some(limit) => FtpCodec::with_limit(limit),
+        None => FtpCodec::new(),
+    };
+    let pieces = words.pieces(alloc)?;
+    let buf = Vec::with_capacity(alloc, room_for(pieces.as_slice()))?;
+    answers.begin();
+    put_pieces(alloc, Decoding { codec, buf }, pieces.as_slice(), answers);
+    answers.end();
+    Ok(())
 }
 
 /// A codec, and bytes whose first ones are taken.
@@ -224,19 +203,13 @@ impl Slicing {
     }
 }
 
-/// `decode_slice LIMIT PLACE PIECE..`
-#[derive(Drop)]
-struct DecodeSlice {
-    slicing: Slicing,
-    pieces: Vec<Vec<u8>>,
-}
-
 /// A codec that begins at this scan offset of the first piece, which goes into the buffer.
-fn slicing_at(limit: Option<usize>, place: usize, bytes: Vec<u8>) -> io::Result<Slicing> {
+fn slicing_at(limit: Option<usize>, place: usize, bytes: Vec<u8>) -> io::Result<Slicing>
+    requires { IfSome limit (λ limit. 1 ≤ limit) }
+{
     if place > bytes.len() {
         return Err(no_case());
     }
-    let limit = limit.map(|limit| limit.max(1));
     Ok(Slicing {
         codec: FtpCodec::resume(limit, place, false),
         bytes,
@@ -244,30 +217,33 @@ fn slicing_at(limit: Option<usize>, place: usize, bytes: Vec<u8>) -> io::Result<
     })
 }
 
-impl Case for DecodeSlice {
-    fn read(alloc: Global, words: &mut Words<'_>) -> io::Result<DecodeSlice> {
-        let limit = words.limit()?;
-        let place = words.number()?;
-        let mut bytes = words.bytes(alloc)?;
-        let pieces = words.pieces(alloc)?;
-        bytes.reserve(room_for(pieces.as_slice()))?;
-        let slicing = slicing_at(limit, place, bytes)?;
-        Ok(DecodeSlice { slicing, pieces })
-    }
-
-    fn answer(self, alloc: Global, answers: &mut Answers) {
-        let DecodeSlice {
-            mut slicing,
-            pieces,
-        } = self;
-        slicing.put_commands(alloc, answers);
-        for piece in &pieces {
-            if slicing.bytes.extend_from_slice(piece.as_slice()).is_err() {
-                answers.put("out of memory");
-                return;
-            }
-            answers.put(" | ");
-            slicing.put_commands(alloc, answers);
+/// Writes what is decoded of the first piece, and of each later one at the end of what is left.
+fn put_slices(alloc: Global, mut slicing: Slicing, later: &[Vec<u8>], answers: &mut Answers) {
+    slicing.put_commands(alloc, answers);
+    for piece in later {
+        if slicing.bytes.extend_from_slice(piece.as_slice()).is_err() {
+            answers.put("out of memory");
+            return;
         }
+        answers.put(" | ");
+        slicing.put_commands(alloc, answers);
     }
+}
+
+/// `decode_slice LIMIT PLACE PIECE..`
+pub fn answer_decode_slice(
+    alloc: Global,
+    words: &mut Words<'_>,
+    answers: &mut Answers,
+) -> io::Result<()> {
+    let limit = words.limit()?;
+    let place = words.number()?;
+    let mut bytes = words.bytes(alloc)?;
+    let later = words.pieces(alloc)?;
+    bytes.reserve(room_for(later.as_slice()))?;
+    let slicing = slicing_at(limit, place, bytes)?;
+    answers.begin();
+    put_slices(alloc, slicing, later.as_slice(), answers);
+    answers.end();
+    Ok(())
 }

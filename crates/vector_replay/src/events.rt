@@ -1,6 +1,5 @@
 //! Calls of a decoder of events.
 use crate::answers::Answers;
-use crate::case::{Case, answer_case};
 use crate::decoding::put_refusal;
 use crate::shown::Shown;
 use crate::steps::{Action, Step, read_steps};
@@ -8,19 +7,6 @@ use crate::words::Words;
 use std::alloc::{AllocError, Global};
 use std::io;
 use unftp_control_events::{Event, EventDecoder};
-
-/// Answers a call of this module; `None` where it has another name.
-pub fn answer(
-    alloc: Global,
-    call: &str,
-    words: &mut Words<'_>,
-    answers: &mut Answers,
-) -> Option<io::Result<()>> {
-    Some(match call {
-        "events" => answer_case::<TakeEvents>(alloc, words, answers),
-        _ => return None,
-    })
-}
 
 /// What `next_event` returns; once more where memory ran out.
 fn next_event(
@@ -102,31 +88,30 @@ fn put_left(decoder: &EventDecoder, answers: &mut Answers) {
     }
 }
 
-/// `events LIMIT STEP..`
-#[derive(Drop)]
-struct TakeEvents {
-    decoder: EventDecoder,
-    steps: Vec<Step>,
+/// Makes all steps.
+fn make_steps(decoder: &mut EventDecoder, steps: &[Step], answers: &mut Answers) {
+    let mut separator = "";
+    for step in steps {
+        answers.put(separator);
+        make_step(decoder, step, answers);
+        put_left(decoder, answers);
+        separator = " | ";
+    }
 }
 
-impl Case for TakeEvents {
-    fn read(alloc: Global, words: &mut Words<'_>) -> io::Result<TakeEvents> {
-        let decoder = match words.limit()? {
-            Some(limit) => EventDecoder::with_limit(alloc, limit.max(1)),
-            None => EventDecoder::new(alloc),
-        };
-        let steps = read_steps(alloc, words)?;
-        Ok(TakeEvents { decoder, steps })
-    }
-
-    fn answer(self, _alloc: Global, answers: &mut Answers) {
-        let TakeEvents { mut decoder, steps } = self;
-        let mut separator = "";
-        for step in &steps {
-            answers.put(separator);
-            make_step(&mut decoder, step, answers);
-            put_left(&decoder, answers);
-            separator = " | ";
-        }
-    }
+/// `events LIMIT STEP..`
+pub fn answer_events(
+    alloc: Global,
+    words: &mut Words<'_>,
+    answers: &mut Answers,
+) -> io::Result<()> {
+    let mut decoder = match words.limit()? {
+        Some(limit) => EventDecoder::with_limit(alloc, limit),
+        None => EventDecoder::new(alloc),
+    };
+    let steps = read_steps(alloc, words)?;
+    answers.begin();
+    make_steps(&mut decoder, steps.as_slice(), answers);
+    answers.end();
+    Ok(())
 }

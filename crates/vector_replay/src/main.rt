@@ -5,7 +5,6 @@
 #![tactic(auto)]
 
 mod answers;
-mod case;
 mod commands;
 mod decoding;
 mod ends;
@@ -25,68 +24,85 @@ mod words;
 mod writing;
 
 use answers::Answers;
+use sessions::Call;
 use std::alloc::Global;
 use std::io::{BufRead, BufReader, BufWriter};
 use std::process::ExitCode;
 use std::{env, io};
 use words::{Words, no_case};
 
-/// Answers a call on lines and commands; `None` where it has another name.
-fn answer_line_call(
+/// Answers a call on lines and commands, or one of another subject.
+fn answer_call(
     alloc: Global,
     call: &str,
     words: &mut Words<'_>,
     answers: &mut Answers,
-) -> Option<io::Result<()>> {
-    if let Some(answered) = lines::answer(alloc, call, words, answers) {
-        return Some(answered);
+) -> io::Result<()> {
+    match call {
+        "parse" => lines::answer_parse(alloc, words, answers),
+        "display" => lines::answer_display(alloc, words, answers),
+        "password" => lines::answer_password(alloc, words, answers),
+        "password_from_text" => lines::answer_password_from_text(alloc, words, answers),
+        "is_verb" => lines::answer_is_verb(alloc, words, answers),
+        "write" => writing::answer_write(alloc, words, answers),
+        "canonical" => writing::answer_canonical(alloc, words, answers),
+        "decode" => decoding::answer_decode(alloc, words, answers),
+        "decode_slice" => decoding::answer_decode_slice(alloc, words, answers),
+        "events" => events::answer_events(alloc, words, answers),
+        "serve" => sessions::answer_session(alloc, Call::Serve, words, answers),
+        "feed" => sessions::answer_session(alloc, Call::Feed, words, answers),
+        call => answer_reply_call(alloc, call, words, answers),
     }
-    if let Some(answered) = writing::answer(alloc, call, words, answers) {
-        return Some(answered);
-    }
-    if let Some(answered) = decoding::answer(alloc, call, words, answers) {
-        return Some(answered);
-    }
-    events::answer(alloc, call, words, answers)
 }
 
-/// Answers a call on replies and errors; `None` where it has another name.
+/// Answers a call on replies, or one that makes texts.
 fn answer_reply_call(
     alloc: Global,
     call: &str,
     words: &mut Words<'_>,
     answers: &mut Answers,
-) -> Option<io::Result<()>> {
-    if let Some(answered) = replies::answer(alloc, call, words, answers) {
-        return Some(answered);
+) -> io::Result<()> {
+    match call {
+        "encode" => replies::answer_encode(alloc, words, answers),
+        "says" => replies::answer_says(alloc, words, answers),
+        "code" => replies::answer_code(words, answers),
+        "read" => reading::answer_read(alloc, words, answers),
+        "receive" => reading::answer_receive(alloc, false, words, answers),
+        "receive_from" => reading::answer_receive(alloc, true, words, answers),
+        "reply" => commands::answer_reply(alloc, words, answers),
+        "feat_with" => commands::answer_reply_with(alloc, false, words, answers),
+        "help_with" => commands::answer_reply_with(alloc, true, words, answers),
+        call => answer_text_call(alloc, call, words, answers),
     }
-    if let Some(answered) = reading::answer(alloc, call, words, answers) {
-        return Some(answered);
-    }
-    if let Some(answered) = commands::answer(alloc, call, words, answers) {
-        return Some(answered);
-    }
-    if let Some(answered) = commands::answer_text(alloc, call, words, answers) {
-        return Some(answered);
-    }
-    texts::answer(alloc, call, words, answers)
 }
 
-/// Answers a case by the module that has its call.
-fn answer_call(alloc: Global, words: &mut Words<'_>, answers: &mut Answers) -> io::Result<()> {
+/// Answers a call that makes a text or a reply of one.
+fn answer_text_call(
+    alloc: Global,
+    call: &str,
+    words: &mut Words<'_>,
+    answers: &mut Answers,
+) -> io::Result<()> {
+    match call {
+        "epsv" => commands::answer_epsv(alloc, words, answers),
+        "facts" => commands::answer_facts(alloc, words, answers),
+        "quoted_path" => commands::answer_quoted_path(alloc, words, answers),
+        "single_line" => commands::answer_single_line(alloc, words, answers),
+        "text" => texts::answer_text(alloc, words, answers),
+        _ => Err(no_case()),
+    }
+}
+
+/// Answers the case that a line is.
+fn answer_case(alloc: Global, line: &str, answers: &mut Answers) -> io::Result<()> {
+    let mut words = Words::of(line);
     let call = words.word()?;
-    if let Some(answered) = answer_line_call(alloc, call, words, answers) {
-        return answered;
-    }
-    if let Some(answered) = answer_reply_call(alloc, call, words, answers) {
-        return answered;
-    }
-    sessions::answer(alloc, call, words, answers).unwrap_or_else(|| Err(no_case()))
+    answer_call(alloc, call, &mut words, answers)
 }
 
 /// Answers a line of standard input.
 fn answer_line(alloc: Global, line: &str, answers: &mut Answers) -> io::Result<()> {
-    if let Err(error) = answer_call(alloc, &mut Words::of(line), answers) {
+    if let Err(error) = answer_case(alloc, line, answers) {
         if error.kind() != io::ErrorKind::InvalidData {
             return Err(error);
         }

@@ -1,29 +1,13 @@
 //! Calls that read replies.
 use crate::answers::Answers;
-use crate::case::{Case, answer_case};
 use crate::shown::Quoted;
 use crate::steps::{Action, Step, read_steps};
-use crate::words::Words;
+use crate::words::{Words, read_bytes};
 use std::alloc::Global;
 use std::io;
 use unftp_control_read::{
     Front, ReadReplyError, ReceiveError, ReceivedReply, ReplyDecoder, read_reply,
 };
-
-/// Answers a call of this module; `None` where it has another name.
-pub fn answer(
-    alloc: Global,
-    call: &str,
-    words: &mut Words<'_>,
-    answers: &mut Answers,
-) -> Option<io::Result<()>> {
-    Some(match call {
-        "read" => answer_case::<ReadReplies>(alloc, words, answers),
-        "receive" => answer_case::<ReceiveReplies<false>>(alloc, words, answers),
-        "receive_from" => answer_case::<ReceiveReplies<true>>(alloc, words, answers),
-        _ => return None,
-    })
-}
 
 /// Writes the code of a reply and its lines.
 fn put_reply(code: u16, lines: &[Vec<u8>], answers: &mut Answers) {
@@ -46,12 +30,6 @@ fn read_front(alloc: Global, bytes: &[u8], answers: &mut Answers) -> Result<Fron
     }
 }
 
-/// `read BYTES`
-#[derive(Drop)]
-struct ReadReplies {
-    stream: Vec<u8>,
-}
-
 /// Writes the reply at the start of some bytes after the separator, and returns how many bytes it
 /// has; or writes why there is none.
 fn put_front(alloc: Global, bytes: &[u8], separator: &str, answers: &mut Answers) -> Option<usize> {
@@ -69,32 +47,27 @@ fn put_front(alloc: Global, bytes: &[u8], separator: &str, answers: &mut Answers
     None
 }
 
-impl Case for ReadReplies {
-    fn read(alloc: Global, words: &mut Words<'_>) -> io::Result<ReadReplies> {
-        let stream = words.bytes(alloc)?;
-        Ok(ReadReplies { stream })
-    }
-
-    fn answer(self, alloc: Global, answers: &mut Answers) {
-        let mut rest = self.stream.as_slice();
-        let mut separator = "";
-        // a reply takes bytes, so the last call finds none
-        for _ in 0..=self.stream.len() {
-            let Some(used) = put_front(alloc, rest, separator, answers) else {
-                break;
-            };
-            rest = rest.split_at(used.min(rest.len())).1;
-            separator = ";";
-        }
+/// Writes the replies that some bytes hold, and what is left.
+fn put_fronts(alloc: Global, stream: &[u8], answers: &mut Answers) {
+    let mut rest = stream;
+    let mut separator = "";
+    // a reply takes bytes, so the last call finds none
+    for _ in 0..=stream.len() {
+        let Some(used) = put_front(alloc, rest, separator, answers) else {
+            break;
+        };
+        rest = rest.split_at(used.min(rest.len())).1;
+        separator = ";";
     }
 }
 
-/// A decoder of replies that is given the pieces, or reads them.
-#[derive(Drop)]
-struct Receiving {
-    decoder: ReplyDecoder,
-    is_reading: bool,
-    steps: Vec<Step>,
+/// `read BYTES`
+pub fn answer_read(alloc: Global, words: &mut Words<'_>, answers: &mut Answers) -> io::Result<()> {
+    let stream = read_bytes(alloc, words.last()?)?;
+    answers.begin();
+    put_fronts(alloc, stream.as_slice(), answers);
+    answers.end();
+    Ok(())
 }
 
 /// What a call of the decoder returns.
@@ -117,22 +90,6 @@ fn put_received(received: Received, answers: &mut Answers) -> bool {
     false
 }
 
-impl Receiving {
-    /// Reads the words of a case.
-    fn read(alloc: Global, words: &mut Words<'_>, is_reading: bool) -> io::Result<Receiving> {
-        let decoder = match words.limit()? {
-            Some(limit) => ReplyDecoder::with_limit(alloc, limit.max(1)),
-            None => ReplyDecoder::new(alloc),
-        };
-        let steps = read_steps(alloc, words)?;
-        Ok(Receiving {
-            decoder,
-            is_reading,
-            steps,
-        })
-    }
-}
-
 /// What the next call returns, of a decoder that reads or doesn't.
 fn receive(decoder: &mut ReplyDecoder, is_reading: bool, reader: &mut &[u8]) -> Received {
     if is_reading {
@@ -141,7 +98,7 @@ fn receive(decoder: &mut ReplyDecoder, is_reading: bool, reader: &mut &[u8]) -> 
     Ok(decoder.next_reply()?)
 }
 
-/// The same; once more where memory ran out.
+/// What the next call returns; once more where memory ran out.
 fn receive_reply(
     decoder: &mut ReplyDecoder,
     is_reading: bool,
@@ -200,34 +157,30 @@ fn make_step(decoder: &mut ReplyDecoder, is_reading: bool, step: &Step, answers:
 }
 
 /// Makes all steps.
-fn make_steps(receiving: Receiving, answers: &mut Answers) {
-    let Receiving {
-        mut decoder,
-        is_reading,
-        steps,
-    } = receiving;
+fn make_steps(decoder: &mut ReplyDecoder, is_reading: bool, steps: &[Step], answers: &mut Answers) {
     let mut separator = "";
-    for step in &steps {
+    for step in steps {
         answers.put(separator);
-        make_step(&mut decoder, is_reading, step, answers);
+        make_step(decoder, is_reading, step, answers);
         answers.put(format_args!("left={}", decoder.pending().len()));
         separator = " | ";
     }
 }
 
 /// `receive LIMIT STEP..`, or `receive_from LIMIT STEP..`, which reads.
-#[derive(Drop)]
-struct ReceiveReplies<const IS_READING: bool> {
-    receiving: Receiving,
-}
-
-impl<const IS_READING: bool> Case for ReceiveReplies<IS_READING> {
-    fn read(alloc: Global, words: &mut Words<'_>) -> io::Result<ReceiveReplies<IS_READING>> {
-        let receiving = Receiving::read(alloc, words, IS_READING)?;
-        Ok(ReceiveReplies { receiving })
-    }
-
-    fn answer(self, _alloc: Global, answers: &mut Answers) {
-        make_steps(self.receiving, answers);
-    }
+pub fn answer_receive(
+    alloc: Global,
+    is_reading: bool,
+    words: &mut Words<'_>,
+    answers: &mut Answers,
+) -> io::Result<()> {
+    let mut decoder = match words.limit()? {
+        Some(limit) => ReplyDecoder::with_limit(alloc, limit),
+        None => ReplyDecoder::new(alloc),
+    };
+    let steps = read_steps(alloc, words)?;
+    answers.begin();
+    make_steps(&mut decoder, is_reading, steps.as_slice(), answers);
+    answers.end();
+    Ok(())
 }

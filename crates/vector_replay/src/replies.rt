@@ -1,29 +1,13 @@
 //! Calls on replies.
-use crate::answers::Answers;
-use crate::case::{Case, answer_case, once_more};
+use crate::answers::{Answers, once_more};
 use crate::forms::Forms;
 use crate::shown::Quoted;
-use crate::words::{Words, no_case, or_no_case};
+use crate::words::{Words, no_case, or_no_case, read_number};
 use std::alloc::Global;
 use std::io;
 use unftp_control_codecs::encode_reply;
 use unftp_control_error::ControlChanError;
 use unftp_control_reply::{Reply, ReplyCode};
-
-/// Answers a call of this module; `None` where it has another name.
-pub fn answer(
-    alloc: Global,
-    call: &str,
-    words: &mut Words<'_>,
-    answers: &mut Answers,
-) -> Option<io::Result<()>> {
-    Some(match call {
-        "encode" => answer_case::<Encode>(alloc, words, answers),
-        "says" => answer_case::<Say>(alloc, words, answers),
-        "code" => answer_case::<FindCode>(alloc, words, answers),
-        _ => return None,
-    })
-}
 
 /// The code that the next word is the number of.
 fn read_code(words: &mut Words<'_>) -> io::Result<ReplyCode> {
@@ -92,13 +76,6 @@ pub fn append_reply(reply: &Reply, buf: &mut Vec<u8>, answers: &mut Answers) -> 
     }
 }
 
-/// `encode REPLY..`
-#[derive(Drop)]
-struct Encode {
-    parts: Parts,
-    buf: Vec<u8>,
-}
-
 /// Writes the bytes that a buffer with one byte has after it, of a reply and of its clone.
 fn put_bytes(buf: &[u8], of_reply: usize, answers: &mut Answers) {
     match buf {
@@ -128,64 +105,58 @@ fn put_encoded(alloc: Global, reply: Reply, mut buf: Vec<u8>, answers: &mut Answ
     answers.put_unless(is_same, " unequal");
 }
 
-impl Case for Encode {
-    fn read(alloc: Global, words: &mut Words<'_>) -> io::Result<Encode> {
-        let parts = Parts::read(alloc, words)?;
-        let buf = Vec::from_slice(alloc, b"x")?;
-        Ok(Encode { parts, buf })
+/// Writes the bytes of the reply that is made of these.
+fn put_made_of(alloc: Global, parts: &Parts, buf: Vec<u8>, answers: &mut Answers) {
+    match once_more(answers, || parts.reply(alloc)) {
+        Ok(reply) => put_encoded(alloc, reply, buf, answers),
+        Err(_) => answers.put("failed"),
     }
+}
 
-    fn answer(self, alloc: Global, answers: &mut Answers) {
-        let Encode { parts, buf } = self;
-        match once_more(answers, || parts.reply(alloc)) {
-            Ok(reply) => put_encoded(alloc, reply, buf, answers),
-            Err(_) => answers.put("failed"),
-        }
-    }
+/// `encode REPLY..`
+pub fn answer_encode(
+    alloc: Global,
+    words: &mut Words<'_>,
+    answers: &mut Answers,
+) -> io::Result<()> {
+    let parts = Parts::read(alloc, words)?;
+    let buf = Vec::from_slice(alloc, b"x")?;
+    words.end()?;
+    answers.begin();
+    put_made_of(alloc, &parts, buf, answers);
+    answers.end();
+    Ok(())
+}
+
+/// Writes what Debug writes of a reply, and whether it is positive and plain.
+fn put_said(reply: &Reply, forms: &mut Forms, answers: &mut Answers) {
+    forms.debug(reply, answers);
+    answers.put_unless(!reply.is_positive(), " positive");
+    answers.put_unless(!reply.is_plain(), " plain");
 }
 
 /// `says REPLY..`
-#[derive(Drop)]
-struct Say {
-    parts: Parts,
-    forms: Forms,
-}
-
-impl Case for Say {
-    fn read(alloc: Global, words: &mut Words<'_>) -> io::Result<Say> {
-        let parts = Parts::read(alloc, words)?;
-        let forms = Forms::reserved(alloc)?;
-        Ok(Say { parts, forms })
-    }
-
-    fn answer(self, _alloc: Global, answers: &mut Answers) {
-        let Say { parts, mut forms } = self;
-        let reply = parts.into_reply();
-        forms.debug(&reply, answers);
-        answers.put_unless(!reply.is_positive(), " positive");
-        answers.put_unless(!reply.is_plain(), " plain");
-    }
+pub fn answer_says(alloc: Global, words: &mut Words<'_>, answers: &mut Answers) -> io::Result<()> {
+    let mut forms = Forms::reserved(alloc)?;
+    let parts = Parts::read(alloc, words)?;
+    words.end()?;
+    answers.begin();
+    put_said(&parts.into_reply(), &mut forms, answers);
+    answers.end();
+    Ok(())
 }
 
 /// `code NUMBER`
-#[derive(Drop)]
-struct FindCode {
-    number: u32,
-}
-
-impl Case for FindCode {
-    fn read(_alloc: Global, words: &mut Words<'_>) -> io::Result<FindCode> {
-        let number = words.number()?;
-        Ok(FindCode { number })
-    }
-
-    fn answer(self, _alloc: Global, answers: &mut Answers) {
-        match ReplyCode::from_number(self.number) {
-            Some(code) => {
-                let number = code.number();
-                answers.put(format_args!("{code:?} {number}"));
-            }
-            None => answers.put("none"),
+pub fn answer_code(words: &mut Words<'_>, answers: &mut Answers) -> io::Result<()> {
+    let number = read_number(words.last()?)?;
+    answers.begin();
+    match ReplyCode::from_number(number) {
+        Some(code) => {
+            let number = code.number();
+            answers.put(format_args!("{code:?} {number}"));
         }
+        None => answers.put("none"),
     }
+    answers.end();
+    Ok(())
 }

@@ -15,27 +15,13 @@ const RESERVED: usize = 1 << 16;
 
 /// The call under test.
 #[derive(Clone, Copy)]
-enum Call {
+pub enum Call {
     Serve,
     Feed,
 }
 
-/// Answers a call of this module; `None` where it has another name.
-pub fn answer(
-    alloc: Global,
-    call: &str,
-    words: &mut Words<'_>,
-    answers: &mut Answers,
-) -> Option<io::Result<()>> {
-    Some(match call {
-        "serve" => answer_session(alloc, Call::Serve, words, answers),
-        "feed" => answer_session(alloc, Call::Feed, words, answers),
-        _ => return None,
-    })
-}
-
-/// Reads a session, and answers it between its marks.
-fn answer_session(
+/// `serve WORD.. INPUT` or `feed WORD.. PIECE..`
+pub fn answer_session(
     alloc: Global,
     call: Call,
     words: &mut Words<'_>,

@@ -1,60 +1,15 @@
 //! What errors print.
 use crate::answers::Answers;
-use crate::case::{Case, answer_case};
 use crate::forms::Forms;
 use crate::words::{Words, no_case};
 use std::alloc::Global;
-use std::fmt::{Display, Formatter, Write};
+use std::fmt::Display;
+use std::io;
 use std::io::ErrorKind;
-use std::{fmt, io};
 use unftp_control_engine::ServeError;
-use unftp_control_error::{ControlChanError, ControlChanErrorKind};
-use unftp_control_line_parser::{ParseError, ParseErrorKind};
+use unftp_control_error::{ControlChanError, ControlChanErrorKind, ParseError, ParseErrorKind};
 use unftp_control_read::{NextReplyError, ReadReplyError, ReceiveError};
 use unftp_control_write::WriteCommandError;
-
-/// Answers a call of this module; `None` where it has another name.
-pub fn answer(
-    alloc: Global,
-    call: &str,
-    words: &mut Words<'_>,
-    answers: &mut Answers,
-) -> Option<io::Result<()>> {
-    Some(match call {
-        "text" => answer_case::<PrintError>(alloc, words, answers),
-        _ => return None,
-    })
-}
-
-/// An error of any type.
-#[derive(Drop)]
-enum AnyError {
-    ParseErrorKind(ParseErrorKind),
-    ParseError(ParseError),
-    ControlChanErrorKind(ControlChanErrorKind),
-    ControlChanError(ControlChanError),
-    ServeError(ServeError),
-    WriteCommandError(WriteCommandError),
-    ReadReplyError(ReadReplyError),
-    NextReplyError(NextReplyError),
-    ReceiveError(ReceiveError),
-}
-
-impl Display for AnyError {
-    fn fmt<W: Write>(&self, f: &mut Formatter<W>) -> fmt::Result {
-        match self {
-            AnyError::ParseErrorKind(kind) => Display::fmt(kind, f),
-            AnyError::ParseError(error) => Display::fmt(error, f),
-            AnyError::ControlChanErrorKind(kind) => Display::fmt(kind, f),
-            AnyError::ControlChanError(error) => Display::fmt(error, f),
-            AnyError::ServeError(error) => Display::fmt(error, f),
-            AnyError::WriteCommandError(error) => Display::fmt(error, f),
-            AnyError::ReadReplyError(error) => Display::fmt(error, f),
-            AnyError::NextReplyError(error) => Display::fmt(error, f),
-            AnyError::ReceiveError(error) => Display::fmt(error, f),
-        }
-    }
-}
 
 /// The parser's kind of this name.
 fn parse_kind(name: &str) -> io::Result<ParseErrorKind> {
@@ -149,47 +104,57 @@ fn receive_error(name: &str) -> io::Result<ReceiveError> {
     }
 }
 
-/// The error of a client's call that has this type and name.
-fn client_error(error: &str, name: &str) -> io::Result<AnyError> {
+/// Writes what an error prints, once no word is left.
+fn print(
+    error: &(impl Display + Drop),
+    forms: &mut Forms,
+    words: &mut Words<'_>,
+    answers: &mut Answers,
+) -> io::Result<()> {
+    words.end()?;
+    answers.begin();
+    forms.display(error, answers);
+    answers.end();
+    Ok(())
+}
+
+/// Prints the error of a client's call that has this type and name.
+fn print_client_error(
+    error: &str,
+    name: &str,
+    forms: &mut Forms,
+    words: &mut Words<'_>,
+    answers: &mut Answers,
+) -> io::Result<()> {
     match error {
-        "WriteCommandError" => Ok(AnyError::WriteCommandError(write_error(name)?)),
-        "ReadReplyError" => Ok(AnyError::ReadReplyError(read_error(name)?)),
-        "NextReplyError" => Ok(AnyError::NextReplyError(next_error(name)?)),
-        "ReceiveError" => Ok(AnyError::ReceiveError(receive_error(name)?)),
+        "WriteCommandError" => print(&write_error(name)?, forms, words, answers),
+        "ReadReplyError" => print(&read_error(name)?, forms, words, answers),
+        "NextReplyError" => print(&next_error(name)?, forms, words, answers),
+        "ReceiveError" => print(&receive_error(name)?, forms, words, answers),
         _ => Err(no_case()),
     }
 }
 
-/// The error that the next words name.
-fn read_named(alloc: Global, words: &mut Words<'_>) -> io::Result<AnyError> {
+/// `text TYPE VARIANT`
+pub fn answer_text(alloc: Global, words: &mut Words<'_>, answers: &mut Answers) -> io::Result<()> {
+    let mut forms = Forms::reserved(alloc)?;
     let error = words.word()?;
     let name = words.word()?;
     match error {
-        "ParseErrorKind" => Ok(AnyError::ParseErrorKind(parse_kind(name)?)),
-        "ParseError" => Ok(AnyError::ParseError(parse_kind(name)?.into())),
-        "ControlChanErrorKind" => Ok(AnyError::ControlChanErrorKind(kind(alloc, name, words)?)),
-        "ControlChanError" => Ok(AnyError::ControlChanError(kind(alloc, name, words)?.into())),
-        "ServeError" => Ok(AnyError::ServeError(serve_error(name)?)),
-        error => client_error(error, name),
-    }
-}
-
-/// `text TYPE VARIANT`
-#[derive(Drop)]
-struct PrintError {
-    forms: Forms,
-    error: AnyError,
-}
-
-impl Case for PrintError {
-    fn read(alloc: Global, words: &mut Words<'_>) -> io::Result<PrintError> {
-        let forms = Forms::reserved(alloc)?;
-        let error = read_named(alloc, words)?;
-        Ok(PrintError { forms, error })
-    }
-
-    fn answer(self, _alloc: Global, answers: &mut Answers) {
-        let PrintError { mut forms, error } = self;
-        forms.display(&error, answers);
+        "ParseErrorKind" => print(&parse_kind(name)?, &mut forms, words, answers),
+        "ParseError" => {
+            let error = ParseError::from(parse_kind(name)?);
+            print(&error, &mut forms, words, answers)
+        }
+        "ControlChanErrorKind" => {
+            let kind = kind(alloc, name, words)?;
+            print(&kind, &mut forms, words, answers)
+        }
+        "ControlChanError" => {
+            let error = ControlChanError::from(kind(alloc, name, words)?);
+            print(&error, &mut forms, words, answers)
+        }
+        "ServeError" => print(&serve_error(name)?, &mut forms, words, answers),
+        error => print_client_error(error, name, &mut forms, words, answers),
     }
 }

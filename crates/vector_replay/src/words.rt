@@ -1,4 +1,6 @@
 //! The words of a case. What is no case is an error of kind `InvalidData`.
+ghost use Rattle.std.specs.Prelude.{◌≤◌, IfOk, IfSome};
+
 use bstr::ByteVec;
 use std::alloc::Global;
 use std::io;
@@ -67,12 +69,18 @@ impl<'a> Words<'a> {
     }
 
     /// The next word as a limit of at least 1, or `none`.
-    pub fn limit(&mut self) -> io::Result<Option<usize>> {
-        match self.word()? {
-            "none" => Ok(None),
-            "0" => Err(no_case()),
-            word => Ok(Some(read_number(word)?)),
+    pub fn limit(&mut self) -> io::Result<Option<usize>>
+        ensures { IfOk result (λ limit. IfSome limit (λ limit. 1 ≤ limit)) }
+    {
+        let word = self.word()?;
+        if word == "none" {
+            return Ok(None);
         }
+        let limit: usize = read_number(word)?;
+        if limit == 0 {
+            return Err(no_case());
+        }
+        Ok(Some(limit))
     }
 
     /// The bytes of all words that are left.
@@ -97,6 +105,13 @@ impl<'a> Words<'a> {
             texts.push(read_text(alloc, word)?)?;
         }
         Ok(texts)
+    }
+
+    /// The one word that is left.
+    pub fn last(&mut self) -> io::Result<&'a str> {
+        let word = self.word()?;
+        self.end()?;
+        Ok(word)
     }
 
     /// No word is left.

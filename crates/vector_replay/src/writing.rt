@@ -1,6 +1,5 @@
 //! Calls that write the line of a command.
 use crate::answers::Answers;
-use crate::case::{Case, answer_case};
 use crate::decoding::Decoding;
 use crate::lines::{put_refused, read_line};
 use crate::shown::{Quoted, Shown};
@@ -10,20 +9,6 @@ use std::alloc::Global;
 use std::io;
 use unftp_control_command::Command;
 use unftp_control_write::{WriteCommandError, write_command};
-
-/// Answers a call of this module; `None` where it has another name.
-pub fn answer(
-    alloc: Global,
-    call: &str,
-    words: &mut Words<'_>,
-    answers: &mut Answers,
-) -> Option<io::Result<()>> {
-    Some(match call {
-        "write" => answer_case::<WriteCommand>(alloc, words, answers),
-        "canonical" => answer_case::<WriteCanonical>(alloc, words, answers),
-        _ => return None,
-    })
-}
 
 /// Appends the line of the command, once more where memory ran out; whether there is one.
 fn write_line(command: &Command, buf: &mut Vec<u8>, answers: &mut Answers) -> bool {
@@ -112,13 +97,6 @@ fn read_fields(alloc: Global, variant: &str, words: &mut Words<'_>) -> io::Resul
     }
 }
 
-/// `write COMMAND FIELD..`
-#[derive(Drop)]
-struct WriteCommand {
-    buf: Vec<u8>,
-    command: Command,
-}
-
 /// Writes the line after the byte that the buffer had; where there is none, only that byte is there.
 fn put_appended(is_written: bool, buf: &[u8], answers: &mut Answers) {
     match buf {
@@ -128,26 +106,26 @@ fn put_appended(is_written: bool, buf: &[u8], answers: &mut Answers) {
     }
 }
 
-impl Case for WriteCommand {
-    fn read(alloc: Global, words: &mut Words<'_>) -> io::Result<WriteCommand> {
-        let buf = Vec::from_slice(alloc, b"x")?;
-        let variant = words.word()?;
-        let command = read_fields(alloc, variant, words)?;
-        Ok(WriteCommand { buf, command })
-    }
-
-    fn answer(self, _alloc: Global, answers: &mut Answers) {
-        let WriteCommand { mut buf, command } = self;
-        let is_written = write_line(&command, &mut buf, answers);
-        drop(command);
-        put_appended(is_written, buf.as_slice(), answers);
-    }
+/// Writes the line of a command, which is appended to a buffer of one byte.
+fn put_line(command: Command, mut buf: Vec<u8>, answers: &mut Answers) {
+    let is_written = write_line(&command, &mut buf, answers);
+    drop(command);
+    put_appended(is_written, buf.as_slice(), answers);
 }
 
-/// `canonical LINE`
-#[derive(Drop)]
-struct WriteCanonical {
-    line: Vec<u8>,
+/// `write COMMAND FIELD..`
+pub fn answer_write(alloc: Global, words: &mut Words<'_>, answers: &mut Answers) -> io::Result<()> {
+    let buf = Vec::from_slice(alloc, b"x")?;
+    let variant = words.word()?;
+    let command = read_fields(alloc, variant, words)?;
+    if let Err(error) = words.end() {
+        drop(command);
+        return Err(error);
+    }
+    answers.begin();
+    put_line(command, buf, answers);
+    answers.end();
+    Ok(())
 }
 
 /// Writes what a new codec reads the line as, and whether it is another command or leaves bytes.
@@ -175,16 +153,18 @@ fn put_canonical(alloc: Global, command: Command, answers: &mut Answers) {
     put_read_back(alloc, command, line, answers);
 }
 
-impl Case for WriteCanonical {
-    fn read(alloc: Global, words: &mut Words<'_>) -> io::Result<WriteCanonical> {
-        let line = words.bytes(alloc)?;
-        Ok(WriteCanonical { line })
+/// `canonical LINE`
+pub fn answer_canonical(
+    alloc: Global,
+    words: &mut Words<'_>,
+    answers: &mut Answers,
+) -> io::Result<()> {
+    let line = read_bytes(alloc, words.last()?)?;
+    answers.begin();
+    match read_line(alloc, line.as_slice(), answers) {
+        Ok(command) => put_canonical(alloc, command, answers),
+        Err(error) => put_refused(&error, answers),
     }
-
-    fn answer(self, alloc: Global, answers: &mut Answers) {
-        match read_line(alloc, self.line.as_slice(), answers) {
-            Ok(command) => put_canonical(alloc, command, answers),
-            Err(error) => put_refused(&error, answers),
-        }
-    }
+    answers.end();
+    Ok(())
 }

@@ -1,7 +1,7 @@
 use Rattle.std.proofs.Common.{None}
 use Rattle.unftp_control_engine.specs.Endings.{Snapshot, snapshot_of}
 use Rattle.unftp_control_serve.specs.Service.{InputState, input_state_of}
-use Rattle.unftp_control_serve.proofs.ServiceLemmas.{Served-headline, Served-state, Served-done, Served-tested, Served-left, Served-not_read, Served-read_back}
+use Rattle.unftp_control_serve.proofs.ServiceLemmas.{Served-written, Served-state, Served-done, Served-tested, Served-left, Served-not_read, Served-read_back}
 use Rattle.unftp_control_serve.proofs.service.serve.Given
 use Rattle.unftp_control_serve.proofs.service.serve.Goals as goal
 
@@ -18,9 +18,9 @@ module _ (g : Given.Over) (c : goal.After-serve_lines g) where
   abbrev input' : InputState
   input' = input_state_of g.R.Read.remaining c.serve_lines.new.reader
 
-pub returns-clause-headline : goal.returns-clause-headline
-returns-clause-headline g c =
-    Served-headline None g.H.Handler.law (before g c) (after g c) (input g c) (input' g c) c.serve_lines.result c.serve_lines.ensures.ok
+pub returns-clause-written : goal.returns-clause-written
+returns-clause-written g c =
+    Served-written None g.H.Handler.law (before g c) (after g c) (input g c) (input' g c) c.serve_lines.result c.serve_lines.ensures.ok
 
 pub returns-clause-state : goal.returns-clause-state
 returns-clause-state g c =

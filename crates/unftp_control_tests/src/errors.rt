@@ -2,11 +2,11 @@
 ghost use Rattle.std.specs.Prelude.{◌≡◌, IfErr};
 ghost use Rattle.unftp_control.specs.ErrorMeaning.{converted};
 
-use crate::error::{ControlChanError, ControlChanErrorKind, Source};
-use crate::line_parser::{ParseError, ParseErrorKind};
 use std::io;
 use std::process::Abort;
 use std::str::Utf8Error;
+use unftp_control::error::{ControlChanError, ControlChanErrorKind, Source};
+use unftp_control::line_parser::{ParseError, ParseErrorKind};
 
 /// What a caller knows of a line that was refused.
 fn pass_on_parse(refused: Result<(), ParseError>) -> Result<(), ControlChanError>
@@ -75,10 +75,10 @@ fn assert_passed_on(
 
 mod counted {
     use super::{Origin, assert_error, assert_passed_on, pass_on_io, pass_on_parse, pass_on_utf8};
-    use crate::error::{ControlChanError, ControlChanErrorKind};
-    use crate::line_parser::{ParseError, ParseErrorKind};
     use std::io::ErrorKind;
     use std::str::from_utf8;
+    use unftp_control::error::{ControlChanError, ControlChanErrorKind};
+    use unftp_control::line_parser::{ParseError, ParseErrorKind};
 
     #[test]
     fn takes_0_for_a_refusal_that_is_converted(rt: HostRuntime) {

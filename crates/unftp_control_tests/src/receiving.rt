@@ -1,8 +1,8 @@
 //! Replies from a reader that fails.
-use crate::read::{ReceiveError, ReceivedReply, ReplyDecoder};
 use std::io;
 use std::io::{ErrorKind, Read};
 use std::process::Abort;
+use unftp_control::read::{ReceiveError, ReceivedReply, ReplyDecoder};
 
 /// Gives a byte a read, and fails at every third.
 #[derive(Drop)]

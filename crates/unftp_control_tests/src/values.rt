@@ -1,7 +1,7 @@
 //! Passwords within other values.
-use crate::line_parser::parse;
 use std::alloc::Global;
 use std::process::Abort;
+use unftp_control::line_parser::parse;
 
 /// The text is this one.
 fn assert_text(rt: &impl Abort, text: String, want: &str) {

@@ -1,13 +1,13 @@
-//! Each snippet once, over inputs and outputs in memory.
-use crate::client::{first_code, next_code, tls_agreed};
-use crate::codec::{answer, first_is_noop, next_is_noop};
-use crate::event_loop::{Turn, answer_next};
-use crate::handler::Basic;
-use crate::lines::line_text;
-use crate::pieces::{answer_pieces, replies_to_pieces};
-use crate::proxy::forward_line;
-use crate::serving::{serve_connection, serve_stranger};
-use crate::upgrading::serve_until_tls;
+//! Each caller of `calling` once, over inputs and outputs in memory.
+use calling::client::{first_code, next_code, tls_agreed};
+use calling::codec::{answer, first_is_noop, next_is_noop};
+use calling::event_loop::{Turn, answer_next};
+use calling::handler::Basic;
+use calling::lines::line_text;
+use calling::pieces::{answer_pieces, replies_to_pieces};
+use calling::proxy::forward_line;
+use calling::serving::{serve_connection, serve_stranger};
+use calling::upgrading::serve_until_tls;
 use std::alloc::Global;
 use std::process::Abort;
 use unftp_control::codecs::FtpCodec;
@@ -31,6 +31,7 @@ fn lines_are_printed_and_forwarded(rt: HostRuntime) {
     let is_forwarded = answer.is_ok();
     drop(answer);
     assert!(rt; is_forwarded);
+    assert!(rt; forward_line(rt.alloc(), b"RETR\r\n", &mut out).is_err());
     assert_held(&rt, out, b"LIST -- -x\r\n");
 }
 
@@ -53,6 +54,8 @@ fn a_codec_answers_line_by_line(rt: HostRuntime) {
 fn a_client_reads_replies(rt: HostRuntime) {
     let first = first_code(rt.alloc(), b"220 ready\r\n331").expect(&rt, "a reply");
     assert!(rt; first == Some((220, 11)));
+    let none = first_code(rt.alloc(), b"220 ready\r").expect(&rt, "a reply");
+    assert!(rt; none.is_none());
     let mut replies = ReplyDecoder::new(rt.alloc());
     let mut stream = b"220 ready\r\n234 Begin TLS\r\n".as_slice();
     let code = next_code(&mut replies, &mut stream).expect(&rt, "a reply");
@@ -60,6 +63,22 @@ fn a_client_reads_replies(rt: HostRuntime) {
     // the second reply was received with the first, and nothing after it
     let is_agreed = tls_agreed(&mut replies, &mut stream).expect(&rt, "a reply");
     assert!(rt; is_agreed);
+}
+
+/// After the server sent this, the client doesn't begin TLS.
+fn assert_not_agreed(rt: &impl Abort, alloc: Global, sent: &[u8]) {
+    let mut stream = sent;
+    let is_agreed = tls_agreed(&mut ReplyDecoder::new(alloc), &mut stream).expect(rt, "a reply");
+    assert!(rt; !is_agreed);
+}
+
+#[test]
+fn a_client_begins_tls_right_after_the_reply_or_not_at_all(rt: HostRuntime) {
+    let alloc = rt.alloc();
+    assert_not_agreed(&rt, alloc, b"234 Begin TLS\r\n230 Welcome\r\n");
+    assert_not_agreed(&rt, alloc, b"234 Begin TLS\r\n2");
+    assert_not_agreed(&rt, alloc, b"502 No TLS\r\n");
+    assert_not_agreed(&rt, alloc, b"234 Begin");
 }
 
 /// Two bytes are left, and the writer holds a reply.
@@ -81,6 +100,11 @@ fn a_connection_is_served(rt: HostRuntime) {
     let (next, output) = serve_until_tls(alloc, b"AUTH TLS\r\n".as_slice(), Vec::new(alloc));
     let stream = next.expect(&rt, "an answer");
     assert!(rt; stream.is_some());
+    assert_held(&rt, output, b"234 Upgrading to TLS\r\n");
+    // what came after AUTH in clear text is not read under TLS
+    let input = b"AUTH TLS\r\nUSER x\r\n".as_slice();
+    let (next, output) = serve_until_tls(alloc, input, Vec::new(alloc));
+    assert!(rt; next.expect(&rt, "an answer").is_none());
     assert_held(&rt, output, b"234 Upgrading to TLS\r\n");
 }
 
@@ -115,4 +139,10 @@ fn an_event_loop_sends_what_it_likes(rt: HostRuntime) {
     assert_held(&rt, out, b"234 Begin TLS\r\n");
     let out = assert_turn(&rt, rt.alloc(), &mut decoder, Turn::Read);
     assert_held(&rt, out, b"");
+    let input = b"AUTH TLS\r\nQUIT\r\nNOOP\r\n";
+    decoder.push(input).expect(&rt, "memory");
+    let out = assert_turn(&rt, rt.alloc(), &mut decoder, Turn::GoOn);
+    assert_held(&rt, out, b"502 Not here\r\n");
+    let out = assert_turn(&rt, rt.alloc(), &mut decoder, Turn::Close);
+    assert_held(&rt, out, b"221 Bye\r\n");
 }

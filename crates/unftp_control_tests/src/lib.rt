@@ -1,0 +1,12 @@
+//! Tests of what no contract says and no row of `vectors/` can show: what `?` makes of another error,
+//! readers that fail, what Debug writes under its flags, and each caller of `calling` once.
+#![tactic(auto)]
+
+#[cfg(test)]
+mod callers;
+#[cfg(test)]
+mod errors;
+#[cfg(test)]
+mod receiving;
+#[cfg(test)]
+mod values;
