@@ -3,8 +3,8 @@ use std::alloc::Global;
 use std::io::{Read, Write};
 use unftp_control::serve::{Handler, Input, Output, ServeError, Served, serve_with_limit};
 
-/// Answers the lines of a client, of at most 8,192 bytes each, until it sends no more or the
-/// handler ends the session.
+/// Answers the lines of a client, until it sends no more or the handler ends the session. A line of
+/// more than 8,192 bytes gets one refusal.
 pub fn answer_client<R: Read + Drop, W: Write + Drop, H: Handler>(
     alloc: Global,
     stream_in: R,

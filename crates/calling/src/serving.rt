@@ -32,7 +32,7 @@ pub fn serve_connection<R: Read + Drop, W: Write, H: Handler>(
 /// The most bytes of a line, its line feed counted: enough for a verb and a path of 4,096 bytes.
 const LINE_LIMIT: usize = 8192;
 
-/// Answers the lines of a client that is not trusted: a longer line is refused as one, and its bytes
+/// Answers the lines of a client that is not trusted: a longer line gets one refusal, and its bytes
 /// are not kept.
 pub fn serve_stranger<R: Read + Drop, W: Write, H: Handler>(
     alloc: Global,

@@ -65,7 +65,7 @@ pub fn run<R: Read, W: Write, A: Accounts + Drop>(
         (output : Bytes)
         × Appends (W.contents writer.old.writer) (W.contents writer.new.writer) output
         × MembersAlone (Some LIMIT) (A.accepts accounts) input output)) }
-    // The buffer never holds more than the limit and one piece.
+    // At Ok the buffer has held at most the limit and one piece.
     ensures bound { IfOk result (λ served. served.held ≤ LIMIT + 4096) }
 {
     let gate = Gate::new(accounts, Files::new());

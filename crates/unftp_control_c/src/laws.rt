@@ -9,9 +9,9 @@ ghost use Rattle.unftp_control_c.specs.Numbers.{status_number};
 ghost use Rattle.unftp_control_c.specs.Taking.{IsKept, call_after, event_number};
 ghost use Rattle.unftp_control_c.specs.declared.status.Status.TheVariants.{More};
 
-/// What a caller takes, call after call, are the events of the input. A call that finds a complete
-/// line and uses it up gives the line's event, that of the whole line where bytes of it were
-/// dropped before. One that finds none asks for more, and the first line goes on with what it
+/// The calls of `unftp_next` take the lines of the input one after the other. A call that finds a
+/// complete line and uses it up gives the line's event, that of the whole line where bytes of it
+/// were dropped before. One that finds none asks for more, and the first line goes on with what it
 /// dropped. After each, the next call goes on with what is left, to which more bytes may be
 /// appended.
 pub fn calls_take_events()

@@ -23,7 +23,7 @@ abbrev pub IsTimeText : ℤ → Option Bytes → Type 0
 IsTimeText nanosecond text =
     (civil : DateTime) × (civil_nanos civil ≡ nanosecond) × (text ≡ time_text civil.date.year civil)
 
--- the same of an instant that may not be known
+-- that text, of an instant that may not be known
 abbrev pub IsModified : Option Timestamp → Option Bytes → Type 0
 IsModified None text = text ≡ None
 IsModified (Some instant) text = IsTimeText instant.nanosecond text

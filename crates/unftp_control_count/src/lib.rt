@@ -14,8 +14,8 @@ const _: () = prove!(size_of::<Count>() == 0);
 
 const _: () = prove!(size_of::<Trace>() == 0);
 
-/// A number without a greatest value that contracts know and no code can read. Only this crate can
-/// make one.
+/// A number without a greatest value that contracts know and no code can read. Outside this crate it
+/// begins at 0, and is only counted up or reset.
 #[derive(Drop)]
 pub struct Count {
     seal: (),

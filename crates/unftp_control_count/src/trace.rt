@@ -4,7 +4,7 @@ ghost use Rattle.std.specs.Prelude.{◌≡◌, ◌++◌, ◌∷◌, [], List, �
 use std::marker::Model;
 
 /// Bytes that contracts know and no code can read: it takes no byte, and no time where the compiler
-/// drops a loop that does nothing. Only this crate can make one.
+/// drops a loop that does nothing. Outside this crate it begins empty, and is only extended or reset.
 #[derive(Drop)]
 pub struct Trace {
     seal: (),

@@ -17,7 +17,7 @@ counting = record {
   done = λ _. false;
 }
 
--- The same, which is done once it has taken five events.
+-- As the one before, but done once it has taken five events.
 abbrev pub counting_to_five : Law ℕ
 counting_to_five = record {
   says = counting.says;

@@ -141,8 +141,8 @@ pub fn events_taken_in_steps()
         × (pending ≡ incomplete_line (input_of_steps steps)) }
 {}
 
-/// No byte after the line that ended the session has an influence on what is written, on the
-/// handler's state, or on which bytes are scanned.
+/// Bytes after the line that ended the session change nothing: not what is written, nor the handler's
+/// state, nor which bytes are scanned.
 pub fn nothing_after_the_end<H: Handler>()
     ensures text { (limit : Option ℕ) (s : H.State) (input more other : Bytes)
         → ends_with_limit limit H.law s input ≡ true

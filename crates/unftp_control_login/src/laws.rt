@@ -79,7 +79,8 @@ pub fn passwords_stay_hidden<H: Handler>()
         (limited_to left (closed accepts inner)) other }
 {}
 
-/// So in a line of PASS, one refused password gives the same output as another.
+/// In bytes: two passwords that the accounts answer alike for every name, in lines of PASS within the
+/// limit, give one output.
 pub fn refused_passwords_look_alike<H: Handler>()
     ensures gate { (limit : Option ℕ) (accepts : Accounts) (inner : H.State)
         (before after password other : Bytes) → incomplete_line before ≡ []

@@ -33,7 +33,7 @@ AppendsPending most before after remaining remaining' result = MatchResult resul
     × Consumes remaining remaining' piece × (n ≡ 0 → IsAtEnd remaining'))
     (λ error. (after ≡ before) × Keeps remaining remaining' × IsOfRead error)
 
--- the same error, for a reply that is received
+-- the error of `next_reply`, as an error of `read_reply`
 abbrev pub failure_of : NextReplyError → ReceiveError
 failure_of next.Malformed = Malformed
 failure_of next.TooLong = TooLong

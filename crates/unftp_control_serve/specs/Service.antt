@@ -103,7 +103,7 @@ module _ (limit : Option ℕ) {S : Type 0} (law : Law S) (before after : Snapsho
   ServeEndedWithLimit TooManyReads = ReadTooOften
   ServeEndedWithLimit _ = ⊥
 
--- the same without a limit
+-- what a service without a limit comes to
 abbrev pub AnsweredAll : {S : Type 0} → Law S → Snapshot S → Snapshot S → InputState → InputState
     → ℕ → ℕ → ℕ → Bool → Type 0
 AnsweredAll law before after input input' left tests held done =

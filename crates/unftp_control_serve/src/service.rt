@@ -39,7 +39,7 @@ const PIECE: usize = 4096;
 /// handler is done.
 ///
 /// Each reply is written whole and flushed before the next line is taken, and before more is read.
-/// Once the handler is done, no later byte is parsed, and nothing more is read.
+/// Once the handler is done, no later byte is parsed.
 ///
 /// At `Ok` the reader has come to its end, or the handler is done. `Read` is a failed read, after
 /// which all complete lines are answered; `Write` and `WriteZero` are a failed write or flush, after
@@ -155,7 +155,7 @@ pub fn serve_with_limit<R: Read, W: Write, H: Handler>(
         AllByRecursion IsPlain (replies H.law (H.state handler.old) run)
         → ReadsBack (text_with_limit (Some limit) H.law (H.state handler.old) input)
         (replies H.law (H.state handler.old) run))) }
-    // The buffer never holds more than the limit and one piece.
+    // At Ok the buffer has held at most the limit and one piece.
     ensures bound { IfOk result (λ served. served.held ≤ limit + 4096) }
     // What holds of any reader, with what was flushed and what failed, and how much was held; and
     // what is so at each error.

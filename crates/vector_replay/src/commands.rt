@@ -347,13 +347,19 @@ fn put_text(made: Result<String, ControlChanError>, answers: &mut Answers) {
     }
 }
 
+/// Writes the facts of a file.
+fn put_facts(alloc: Global, file: File, answers: &mut Answers) {
+    let made = once_more(answers, || format_facts(alloc, &file));
+    put_text(made, answers);
+}
+
 /// `facts KIND SIZE INSTANT USER GROUP`
 pub fn answer_facts(alloc: Global, words: &mut Words<'_>, answers: &mut Answers) -> io::Result<()> {
     let kind = words.word()?;
     let file = read_file(kind, words)?;
     words.end()?;
     answers.begin();
-    put_text(once_more(answers, || format_facts(alloc, &file)), answers);
+    put_facts(alloc, file, answers);
     answers.end();
     Ok(())
 }
