@@ -348,16 +348,17 @@ fn put_text(made: Result<String, ControlChanError>, answers: &mut Answers) {
 }
 
 /// Writes the facts of a file.
-fn put_facts(alloc: Global, file: File, answers: &mut Answers) {
-    let made = once_more(answers, || format_facts(alloc, &file));
+fn put_facts(alloc: Global, file: &File, answers: &mut Answers) {
+    let made = once_more(answers, || format_facts(alloc, file));
     put_text(made, answers);
 }
 
 /// `facts KIND SIZE INSTANT USER GROUP`
 pub fn answer_facts(alloc: Global, words: &mut Words<'_>, answers: &mut Answers) -> io::Result<()> {
-    let kind = words.word()?;
-    let file = read_file(kind, words)?;
-    words.end()?;
+    let settings = Settings::read(alloc, words)?;
+    let Ok(file) = &settings.found else {
+        return Err(no_case());
+    };
     answers.begin();
     put_facts(alloc, file, answers);
     answers.end();
