@@ -84,7 +84,7 @@ enum unftp_result {
     UNFTP_MDTM = 41,   /* path */
     UNFTP_MD5 = 42,    /* path; SITE MD5, its name is MD5 */
     UNFTP_SITE = 43,   /* [arguments]; its name is the subcommand in upper case */
-    UNFTP_OTHER = 44,  /* [arguments]; its name is a verb in upper case that is none of the above */
+    UNFTP_OTHER = 44,  /* [arguments]; its name is another verb, in upper case */
 
     /* More bytes are needed. */
     UNFTP_MORE = 101,

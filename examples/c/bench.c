@@ -34,7 +34,7 @@ static void take_lines(const uint8_t *bytes, size_t len)
     for (int line = 0; line < CALLS; line++) {
         uint32_t status = unftp_next(bytes + start, len - start, &offset, ROOM, &skipping,
                                      name, sizeof name, &name_len, value, sizeof value, &value_len, &used);
-        wants(status >= UNFTP_USER && status <= UNFTP_OTHER);
+        wants(status >= UNFTP_USER && status < UNFTP_MORE);
         start = (start + used) % len;
     }
 }

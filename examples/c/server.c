@@ -199,7 +199,7 @@ static bool answer_line(const struct client *client, uint32_t status, const stru
     case UNFTP_NO_ROOM:          /* a command's line is within the limit, and the areas have room for it */
     case UNFTP_INVALID_ARGUMENT: /* offset and skipping are as unftp_next left them */
         abort();
-    default: /* UNFTP_USER to UNFTP_OTHER */
+    default: /* a command */
         return answer_command(client, command);
     }
 }
