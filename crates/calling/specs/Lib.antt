@@ -3,3 +3,4 @@ pub mod Forwarding
 pub mod Basic
 pub mod UntilTls
 pub mod EventLoop
+pub mod NoFiles

@@ -9,6 +9,7 @@ pub mod first;
 pub mod handler;
 pub mod lines;
 pub mod members;
+pub mod no_files;
 pub mod pieces;
 pub mod proxy;
 pub mod serving;

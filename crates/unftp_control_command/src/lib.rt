@@ -1,15 +1,16 @@
 //! The commands of the control connection.
 #![tactic(auto)]
 
-ghost use Rattle.std.specs.Prelude.{◌≡◌, ◌↔◌, IsTrue, IfOk};
+ghost use Rattle.std.specs.Prelude.{◌≡◌, IfOk};
 ghost use Rattle.unftp_control_command.specs.CommandMeaning.{command_of};
-ghost use Rattle.unftp_control_command.specs.declared.Command.{Command as RustCommand};
+
+pub mod password;
 
 use bytes::Bytes;
+use password::Password;
 use std::alloc::{AllocError, Global};
 use std::fmt;
 pub use unftp_control_defs::parameters::{AuthParam, ModeParam, Opt, ProtParam, StruParam};
-use unftp_control_password::Password;
 
 /// A command that a client sends on the control connection. `parse` fills a `String` with the bytes
 /// of the value, each ill-formed part of UTF-8 replaced by U+FFFD, and `Bytes` with the bytes as
@@ -285,9 +286,3 @@ impl fmt::Display for Command {
         }
     }
 }
-
-/// `==` of commands is equality of what they mean.
-pub fn same_commands()
-    ensures { (a b : RustCommand)
-        → IsTrue (⟦<Command as PartialEq>⟧.eq a b) ↔ (command_of a ≡ command_of b) }
-{}

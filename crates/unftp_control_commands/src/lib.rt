@@ -3,7 +3,6 @@
 
 mod auth;
 mod epsv;
-pub mod examples;
 mod facts;
 mod feat;
 mod help;

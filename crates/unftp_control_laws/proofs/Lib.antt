@@ -6,3 +6,4 @@ mod StepLemmas
 mod LossyTextLemmas
 mod EventStepLemmas
 mod ReplyStepLemmas
+mod SnapshotLemmas

@@ -23,13 +23,14 @@ ghost use Rattle.unftp_control_defs.specs.Steps.{AreSteps, Step, last_place};
 ghost use Rattle.unftp_control_defs.specs.Values.{Reads, HasNoValue, value_of, escaped};
 ghost use Rattle.unftp_control_defs.specs.Verbs.{Cut, verb_of, parameter_of, upper};
 
+pub mod examples;
 pub mod replies;
 
 pub use replies::{
     any_cutting_of_replies, one_front, one_reading, replies_read_back, replies_stay,
     too_long_replies_stay,
 };
-use unftp_control_engine::Handler;
+use unftp_control_serve::Handler;
 
 /// An input has one list of lines and one incomplete line, `lines_of` and `incomplete_line` (RFC
 /// 959, section 5.3).

@@ -1,7 +1,6 @@
 //! The command that a line of the control connection is.
 #![tactic(auto)]
 
-pub mod examples;
 mod fields;
 mod parser;
 mod rule;

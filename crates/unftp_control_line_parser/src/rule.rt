@@ -5,7 +5,7 @@ ghost use Rattle.unftp_control_line_parser.specs.Meaning.{path_command, raw_comm
 
 use bytes::Bytes;
 use unftp_control_command::Command;
-use unftp_control_password::Password;
+use unftp_control_command::password::Password;
 
 /// What a verb does with the bytes of its parameter.
 #[derive(Clone, Copy)]

@@ -3,7 +3,7 @@ ghost use Rattle.std.specs.Prelude.{◌≡◌, ◌+◌, false, IfOk, IfErr, IfSo
 ghost use Rattle.unftp_control_defs.specs.Events.{out_of_memory};
 ghost use Rattle.unftp_control_defs.specs.FtpReply.{CodeAndMsg};
 ghost use Rattle.unftp_control_error.specs.ErrorMeaning.{fault_of};
-ghost use Rattle.unftp_control_events.specs.EventMeaning.{event_meant};
+ghost use Rattle.unftp_control_serve.specs.EventMeaning.{event_meant};
 ghost use Rattle.unftp_control_reply.specs.ReplyMeaning.{number_of, reply_of};
 ghost use Rattle.unftp_control_login.specs.Login.{flushes_login, needs_login};
 ghost use Rattle.unftp_control_login.specs.Gate.{Gated, admitted, closed, gated_law, is_barred, is_quit, password_reply, stage_after_password};
@@ -15,10 +15,9 @@ use std::alloc::Global;
 use std::mem;
 use unftp_control_command::Command;
 use unftp_control_count::Count;
-use unftp_control_engine::Handler;
 use unftp_control_error::ControlChanError;
-use unftp_control_events::Event;
 use unftp_control_reply::{Reply, ReplyCode};
+use unftp_control_serve::{Event, Handler};
 
 /// Takes names and passwords, and passes on to the handler behind it what is allowed (RFC 959,
 /// section 4.1.1).

@@ -12,7 +12,7 @@ ghost use Rattle.unftp_control_login.specs.Gate.{Gated, closed, gated_law};
 ghost use Rattle.unftp_control_login.specs.LoginLimit.{EndsWith, Limited, failed_in_run, limited_law, limited_to, too_many};
 ghost use Rattle.unftp_control_login.specs.Promises.{CanBeSent, IsRefusedLogin, IsTurnedAway, LearnsName, LooksAlike, MembersAlone, ReachesHandler, SendsPlainReplies, ServesMembersAlone, login_lines, pass_line};
 
-use unftp_control_engine::Handler;
+use unftp_control_serve::Handler;
 
 /// Whatever handler is behind the gate, and whatever came before: an event that needs a login comes
 /// after one, or it is answered 530 and the handler doesn't receive it (RFC 959, section 5.4).

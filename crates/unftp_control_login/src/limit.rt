@@ -1,15 +1,14 @@
 //! A limit on the failed logins of a session.
 ghost use Rattle.std.specs.Prelude.{◌≡◌, ◌+◌, ◌≤◌};
-ghost use Rattle.unftp_control_events.specs.EventMeaning.{event_meant};
+ghost use Rattle.unftp_control_serve.specs.EventMeaning.{event_meant};
 ghost use Rattle.unftp_control_login.specs.LoginLimit.{Limited, is_pass, limited_law};
 
 use std::alloc::Global;
 use unftp_control_command::Command;
 use unftp_control_count::Count;
-use unftp_control_engine::Handler;
 use unftp_control_error::ControlChanError;
-use unftp_control_events::Event;
 use unftp_control_reply::{Reply, ReplyCode};
+use unftp_control_serve::{Event, Handler};
 
 /// Passes each event on to the handler behind it, and counts the logins that fail: each PASS whose
 /// reply reports a failure. The last one that may fail is answered 421, and ends the session (RFC

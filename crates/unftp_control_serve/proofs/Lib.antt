@@ -1,1 +1,5 @@
+pub mod DecoderLemmas
+pub mod SendLemmas
+pub mod EndingLemmas
+mod LineRunLemmas
 mod ServiceLemmas

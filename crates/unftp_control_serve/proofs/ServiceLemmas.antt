@@ -18,14 +18,14 @@ use Rattle.unftp_control_defs.specs.Run.{Law, last_state, replies, text_of}
 use Rattle.unftp_control_defs.proofs.EncodingLemmas.{ReadsBack-encoded}
 use Rattle.unftp_control_defs.proofs.LineLemmas.{Lines-lines_of, incomplete_line-append, incomplete_line-incomplete}
 use Rattle.unftp_control_defs.proofs.RunLemmas.{run_of-all, run-append, unread-append, run-ended, unread-ended}
-use Rattle.unftp_control_engine.specs.Endings.{Snapshot, AllAnswered, RunEnded}
-use Rattle.unftp_control_events.specs.Decoder.{kept_length, saturating_u64}
-use Rattle.unftp_control_engine.specs.Engine.{EngineState, IsRunning, Leaves, bytes_with, run_with, ends_with, unread_with, fresh}
+use Rattle.unftp_control_serve.specs.Endings.{Snapshot, AllAnswered, RunEnded}
+use Rattle.unftp_control_serve.specs.Decoder.{kept_length, saturating_u64}
+use Rattle.unftp_control_serve.specs.Engine.{EngineState, IsRunning, Leaves, bytes_with, run_with, ends_with, unread_with, fresh}
 use Rattle.unftp_control_serve.specs.Service.{InputState, Answered, AnsweredAllWithLimit, EndedLate, HeldInPieces, ReadFailed, ReadTooOften, ServeEndedWithLimit, most_held}
 use Rattle.unftp_control_serve.specs.declared.service.Served.{Served}
-use Rattle.unftp_control_engine.specs.declared.error.ServeError.{ServeError}
-use Rattle.unftp_control_engine.specs.declared.error.ServeError.TheVariants.{Read, Write, WriteZero, Handler, OutOfMemory, Stopped, TooManyReads}
-use Rattle.unftp_control_engine.proofs.EndingLemmas.{AllAnswered-nothing, AllAnswered-then, RunEnded-then}
+use Rattle.unftp_control_serve.specs.declared.error.ServeError.{ServeError}
+use Rattle.unftp_control_serve.specs.declared.error.ServeError.TheVariants.{Read, Write, WriteZero, Handler, OutOfMemory, Stopped, TooManyReads}
+use Rattle.unftp_control_serve.proofs.EndingLemmas.{AllAnswered-nothing, AllAnswered-then, RunEnded-then}
 
 Consumes-nothing : (known : Option Bytes) → Consumes known known []
 Consumes-nothing None = tt

@@ -1,1 +1,8 @@
+-- To be read in this order.
+pub mod EventMeaning
+pub mod Decoder
+pub mod ErrorTexts
+pub mod Writing
+pub mod Endings
+pub mod Engine
 pub mod Service

@@ -6,12 +6,12 @@ use Rattle.unftp_control_defs.specs.Bytes.{Bytes}
 use Rattle.unftp_control_defs.specs.LineLimit.{events_with_limit, run_with_limit, ends_with_limit, unread, after_end}
 use Rattle.unftp_control_defs.specs.Lines.{incomplete_line}
 use Rattle.unftp_control_defs.specs.Run.{Law}
-use Rattle.unftp_control_engine.specs.Writing.{Begins}
-use Rattle.unftp_control_engine.specs.Endings.{Snapshot, AllAnswered, RunEnded, done_of}
-use Rattle.unftp_control_events.specs.Decoder.{kept_length, saturating_u64}
+use Rattle.unftp_control_serve.specs.Writing.{Begins}
+use Rattle.unftp_control_serve.specs.Endings.{Snapshot, AllAnswered, RunEnded, done_of}
+use Rattle.unftp_control_serve.specs.Decoder.{kept_length, saturating_u64}
 use Rattle.unftp_control_serve.specs.declared.input.Input.{Input}
-use Rattle.unftp_control_engine.specs.declared.error.ServeError.{ServeError}
-use Rattle.unftp_control_engine.specs.declared.error.ServeError.TheVariants.{Read, Write, WriteZero, Handler, OutOfMemory, TooManyReads}
+use Rattle.unftp_control_serve.specs.declared.error.ServeError.{ServeError}
+use Rattle.unftp_control_serve.specs.declared.error.ServeError.TheVariants.{Read, Write, WriteZero, Handler, OutOfMemory, TooManyReads}
 
 -- What contracts see of an input: the bytes that are not read yet, where the reader's contracts
 -- know them, and how often a read failed.

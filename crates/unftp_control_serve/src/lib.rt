@@ -1,13 +1,26 @@
-//! A control connection served to its end: a reader, a writer and a handler come together over the
-//! engine.
+//! A control connection served: pieces of its input come in, the command or the refusal of each line
+//! is an event, a handler answers it, and the replies go out. A server with a loop of its own takes
+//! the events, or lets an engine answer a piece; `serve` takes a reader and a writer.
 #![tactic(auto)]
 
-pub mod examples;
+mod decoder;
+mod engine;
+mod error;
+mod event;
+mod handler;
 mod input;
+mod output;
+mod send;
 mod service;
+mod skipped;
 
+pub use decoder::EventDecoder;
+pub use engine::Engine;
+pub use error::ServeError;
+pub use event::Event;
+pub use handler::Handler;
 pub use input::Input;
+pub use output::Output;
+pub use send::Sink;
 pub use service::{Served, serve, serve_with_limit};
-pub use unftp_control_engine::{
-    Count, Engine, Event, EventDecoder, Handler, Output, ServeError, Sink,
-};
+pub use unftp_control_count::Count;

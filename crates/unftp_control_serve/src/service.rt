@@ -7,16 +7,19 @@ ghost use Rattle.unftp_control_defs.specs.Run.{run_of, ends, last_state, replies
 ghost use Rattle.unftp_control_defs.specs.FtpReply.{IsPlain};
 ghost use Rattle.unftp_control_defs.specs.ReplyReader.{ReadsBack};
 ghost use Rattle.std.specs.List.{AllByRecursion};
-ghost use Rattle.unftp_control_engine.specs.Endings.{snapshot_of};
-ghost use Rattle.unftp_control_events.specs.Decoder.{saturating_u64};
-ghost use Rattle.unftp_control_engine.specs.Engine.{fresh};
+ghost use Rattle.unftp_control_serve.specs.Endings.{snapshot_of};
+ghost use Rattle.unftp_control_serve.specs.Decoder.{saturating_u64};
+ghost use Rattle.unftp_control_serve.specs.Engine.{fresh};
 ghost use Rattle.unftp_control_serve.specs.Service.{AnsweredAll, AnsweredAllWithLimit, ServeEnded, ServeEndedWithLimit, input_state_of};
 
+use crate::engine::Engine;
+use crate::error::ServeError;
+use crate::handler::Handler;
 use crate::input::Input;
+use crate::output::Output;
 use std::alloc::Global;
 use std::io::{Read, Write};
 use unftp_control_count::Count;
-use unftp_control_engine::{Engine, Handler, Output, ServeError};
 
 /// What `serve` returns at the end of its input, or of the session.
 #[derive(Drop)]

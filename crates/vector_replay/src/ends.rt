@@ -15,7 +15,9 @@ pub enum Outcome {
     WriteZero,
     /// The handler failed, with an error of this kind and source.
     Handler(&'static str, &'static str),
-    /// Memory ran out, here or in the handler.
+    /// Memory ran out in the handler.
+    HandlerOutOfMemory,
+    /// Memory ran out elsewhere.
     OutOfMemory,
     Stopped,
     TooManyReads,
@@ -41,7 +43,7 @@ fn source_name(source: &Source) -> &'static str {
 fn handler_outcome(error: &ControlChanError) -> Outcome {
     let source = source_name(error.source());
     match error.kind() {
-        ControlChanErrorKind::OutOfMemory => Outcome::OutOfMemory,
+        ControlChanErrorKind::OutOfMemory => Outcome::HandlerOutOfMemory,
         ControlChanErrorKind::IoError => Outcome::Handler("IoError", source),
         ControlChanErrorKind::Utf8Error => Outcome::Handler("Utf8Error", source),
         ControlChanErrorKind::InvalidCommand => Outcome::Handler("InvalidCommand", source),
@@ -75,6 +77,7 @@ impl Display for Outcome {
             Outcome::Write => "write",
             Outcome::WriteZero => "write-zero",
             Outcome::Handler(kind, source) => return write!(f, "handler {kind} {source}"),
+            Outcome::HandlerOutOfMemory => "handler-out-of-memory",
             Outcome::OutOfMemory => "out-of-memory",
             Outcome::Stopped => "stopped",
             Outcome::TooManyReads => "too-many-reads",
@@ -124,7 +127,10 @@ impl End {
 
     /// Whether memory ran out.
     pub fn is_out_of_memory(&self) -> bool {
-        matches!(self.outcome, Outcome::OutOfMemory)
+        matches!(
+            self.outcome,
+            Outcome::HandlerOutOfMemory | Outcome::OutOfMemory
+        )
     }
 }
 

@@ -6,7 +6,7 @@ use crate::steps::{Action, Step, read_steps};
 use crate::words::Words;
 use std::alloc::{AllocError, Global};
 use std::io;
-use unftp_control_events::{Event, EventDecoder};
+use unftp_control_serve::{Event, EventDecoder};
 
 /// What `next_event` returns; once more where memory ran out.
 fn next_event(

@@ -7,8 +7,8 @@ use bytes::Bytes;
 use std::alloc::Global;
 use std::io;
 use unftp_control_command::Command;
+use unftp_control_command::password::Password;
 use unftp_control_line_parser::{ParseError, ParseErrorKind, is_verb, parse};
-use unftp_control_password::Password;
 
 /// Whether memory ran out.
 fn is_out_of_memory(read: &Result<Command, ParseError>) -> bool {

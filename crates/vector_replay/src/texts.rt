@@ -6,9 +6,9 @@ use std::alloc::Global;
 use std::fmt::Display;
 use std::io;
 use std::io::ErrorKind;
-use unftp_control_engine::ServeError;
 use unftp_control_error::{ControlChanError, ControlChanErrorKind, ParseError, ParseErrorKind};
 use unftp_control_read::{NextReplyError, ReadReplyError, ReceiveError};
+use unftp_control_serve::ServeError;
 use unftp_control_write::WriteCommandError;
 
 /// The parser's kind of this name.

@@ -1,5 +1,5 @@
 use Rattle.std.proofs.Common.{Some}
-use Rattle.unftp_control_engine.specs.Endings.{Snapshot, snapshot_of}
+use Rattle.unftp_control_serve.specs.Endings.{Snapshot, snapshot_of}
 use Rattle.unftp_control_serve.specs.Service.{InputState, input_state_of}
 use Rattle.unftp_control_serve.proofs.ServiceLemmas.{Served-written, Served-state, Served-done, Served-tested, Served-left, Served-not_read, Served-read_back, Served-bound}
 use Rattle.unftp_control_serve.proofs.service.serve_with_limit.Given

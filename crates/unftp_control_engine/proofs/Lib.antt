@@ -1,4 +1,0 @@
-pub mod SendLemmas
-pub mod EndingLemmas
-mod LineRunLemmas
-mod ExampleLemmas

@@ -1,6 +1,0 @@
--- To be read in this order.
-pub mod ErrorTexts
-pub mod Writing
-pub mod Endings
-pub mod Engine
-pub mod Examples

@@ -1,0 +1,52 @@
+-- A handler and snapshots for the examples.
+use Rattle.std.specs.Prelude.{◌≡◌, ℕ, ◌+◌, ◌==◌, false, Option, Some, codes}
+use Rattle.unftp_control_defs.specs.Bytes.{Bytes}
+use Rattle.unftp_control_defs.specs.Events.{FtpEvent, Command, out_of_memory}
+use Rattle.unftp_control_defs.specs.FtpCommand.{Noop}
+use Rattle.unftp_control_defs.specs.FtpReply.{CodeAndMsg}
+use Rattle.unftp_control_defs.specs.Run.{Law}
+use Rattle.unftp_control_serve.specs.Endings.{Snapshot}
+use Rattle.unftp_control_serve.specs.Engine.{EngineState}
+
+-- It counts the events, and its reply to each is `200 OK`. It may fail with `OutOfMemory` only.
+abbrev pub counting : Law ℕ
+counting = record {
+  says = λ _ _. CodeAndMsg 200 (codes "OK");
+  next = λ taken _. taken + 1;
+  may_fail = λ _ _ fault. fault ≡ out_of_memory;
+  done = λ _. false;
+}
+
+-- As the one before, but done once it has taken five events.
+abbrev pub counting_to_five : Law ℕ
+counting_to_five = record {
+  says = counting.says;
+  next = counting.next;
+  may_fail = counting.may_fail;
+  done = λ taken. taken == 5;
+}
+
+abbrev pub noop : FtpEvent
+noop = Command Noop
+
+-- The handler took so many events; these bytes were written, and so many were not flushed; nothing
+-- has failed.
+abbrev pub snapshot : ℕ → Bytes → ℕ → Snapshot ℕ
+snapshot taken written unflushed = record {
+  state = taken;
+  failures = 0;
+  output = record { written = Some written; failures = 0; unflushed = unflushed };
+}
+
+-- an engine that was fed the start of a line
+abbrev pub waiting : Option ℕ → EngineState
+waiting limit = record {
+  incomplete = codes "NO";
+  left = 2;
+  failed = false;
+  finished = false;
+  tests = 2;
+  limit = limit;
+  buffered = 2;
+  held = 2;
+}

@@ -1,0 +1,7 @@
+//! Examples of the definitions of the upper crates, worked out by hand: for each one that holds and
+//! one that doesn't, at the boundary.
+
+pub mod engine;
+pub mod memory;
+pub mod serving;
+pub mod texts;

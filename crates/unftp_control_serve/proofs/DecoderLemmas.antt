@@ -1,0 +1,334 @@
+-- What the codec does to a buffer with no line feed before its place.
+use Rattle.std.proofs.Common.{◌≡◌, ◌≢◌, ℕ, zero, suc, ◌+◌, ◌-◌, ◌<◌, ◌≤◌, Bool, true, false, [], ◌∷◌, ◌++◌, ◌⊎◌, length, take, drop, Option, Some, None, Result, Ok, Err, refl, sym, ap, ◌∙◌, inl, inr, arith, append_assoc, length-append, length-drop, ne_eqb, eqb-true}
+use Rattle.std.specs.Prelude.{slice_index, if◌then◌else◌, ◌||◌, IfSome}
+use Rattle.std.specs.Option.{MatchOption}
+use Rattle.std.proofs.lemmas.Bool.{cases_lt, lt-ltb, ltb-true, ltb-false}
+use Rattle.std.proofs.lemmas.Grind.{common_steps}
+use Rattle.std.proofs.lemmas.List.{drop-drop, take_all, take_more, take-append-drop, length-take-le}
+use Rattle.std.proofs.Math.Seq.{take-length}
+use Rattle.std.proofs.lemmas.Option.{none-some, same_Some}
+use Rattle.unftp_control_defs.specs.Bytes.{Bytes, LF, Lacks}
+use Rattle.unftp_control_defs.specs.Lines.{IsLine}
+use Rattle.unftp_control_defs.specs.Events.{FtpEvent, Command, Refused, FaultKind, IoError, OutOfMemory, event_of}
+use Rattle.unftp_control_defs.specs.FtpCommand.{Answer, InvalidUtf8, InvalidCommand, InvalidEol}
+use Rattle.unftp_control_defs.specs.LineLimit.{exceeds, line_too_long, event_with_limit}
+use Rattle.unftp_control_defs.specs.Outcome.{outcome}
+use Rattle.unftp_control_defs.proofs.LackLemmas.{Lacks-append}
+use Rattle.unftp_control_codecs.specs.Codec.{Codec, is_too_long}
+use Rattle.unftp_control_codecs.specs.LineFeed.{is_line_feed, line_feed_from}
+use Rattle.unftp_control_codecs.specs.Decoding.{Decoded, Decodes, FindsNone, SkipsAll, CutsLine, KeepsLine, IfTooLong, AnswersNone, AnswersLine, IsOutOfMemory, returned_event}
+use Rattle.unftp_control_codecs.proofs.LineFeedLemmas.{NoLineFeed, line_feed_at, line_feed_nowhere}
+use Rattle.unftp_control_serve.specs.declared.event.Event.{Event}
+use Rattle.unftp_control_serve.specs.Decoder.{kept_length}
+use Rattle.unftp_control_serve.specs.EventMeaning.{event_meant}
+use Rattle.unftp_control_serve.specs.Decoder.{IsWithin, IsDropped, IsDecoder, dropped_after, pending_of, TakesNext, ReturnsEvent}
+
+not_lf : (b : ℕ) → is_line_feed b ≡ false → b ≢ LF
+not_lf b h = λ e. grind (arith, common_steps)
+
+-- no line feed among the first bytes, said in both ways
+lacks_upto : (n : ℕ) (bytes : Bytes) → n ≤ length bytes → NoLineFeed bytes 0 n → Lacks LF (take n bytes)
+lacks_upto zero bytes within h = tt
+lacks_upto (suc n) [] within h = tt
+lacks_upto (suc n) (b ∷ bytes) within h =
+    (not_lf b (h 0 (omega arith) (omega arith)), lacks_upto n bytes (omega arith) (λ k low high. h (suc k) (omega arith) (omega arith)))
+
+none_below : (n : ℕ) (bytes : Bytes) → n ≤ length bytes → Lacks LF (take n bytes) → NoLineFeed bytes 0 n
+none_below zero bytes within h k low high = absurd (omega arith)
+none_below (suc n) [] within h k low high = absurd (omega arith)
+none_below (suc n) (b ∷ bytes) within h zero low high = ne_eqb b LF h.0
+none_below (suc n) (b ∷ bytes) within h (suc k) low high = none_below n bytes (omega arith) h.1 k (omega arith) (omega arith)
+
+none_before : (bytes : Bytes) (place k : ℕ) → NoLineFeed bytes 0 place → NoLineFeed bytes place k → NoLineFeed bytes 0 k
+none_before bytes place k before later j low high = by_place (cases_lt j place)
+  where
+    by_place : (j < place) ⊎ (place ≤ j) → is_line_feed (slice_index bytes j) ≡ false
+    by_place (inl below) = before j low below
+    by_place (inr above) = later j above high
+
+lf_at : (bytes : Bytes) (k : ℕ) → k < length bytes → is_line_feed (slice_index bytes k) ≡ true → take (k + 1) bytes ≡ take k bytes ++ LF ∷ []
+lf_at bytes k within h = take_more bytes k 0 within ∙ ap (λ b. take k bytes ++ b ∷ []) (eqb-true (slice_index bytes k) LF h)
+
+-- a line that is not too long was not skipped so far
+unskipped : (skipping x : Bool) → (skipping || x) ≡ false → (skipping ≡ false) × (x ≡ false)
+unskipped true x h = absurd (cc)
+unskipped false x h = (refl, h)
+
+longer : (limit : Option ℕ) (m n : ℕ) → exceeds limit m ≡ true → m ≤ n → exceeds limit n ≡ true
+longer None m n h le = absurd (cc)
+longer (Some limit) m n h le = lt-ltb limit n (omega (arith, ltb-true limit m h))
+
+within_limit : (limit : Option ℕ) (n : ℕ) → exceeds limit (n + 1) ≡ false → IfSome limit (λ limit. n < limit)
+within_limit None n h = tt
+within_limit (Some limit) n h = omega (arith, ltb-false limit (n + 1) h)
+
+room_for_none : (limit : Option ℕ) → IfSome limit (λ limit. 1 ≤ limit) → IfSome limit (λ limit. 0 < limit)
+room_for_none None h = tt
+room_for_none (Some limit) h = h
+
+-- the event of the first line, of which the codec may have dropped a part
+abbrev first_event : Codec → Bytes → FtpEvent
+first_event codec line = if is_too_long codec (length line) then Refused line_too_long else event_of (outcome line)
+
+-- what a call of `decode` comes to: there is no line, or the first is cut and returned, or memory
+-- runs out
+record NoLine (old new : Codec) (before after : Bytes) (answer : Decoded) : Type 0 where
+  pub returned : returned_event answer ≡ None
+  pub unended : Lacks LF before
+  pub leaves : IfTooLong (is_too_long old (length before + 1)) (SkipsAll old new before after) (FindsNone old new before after)
+
+record FirstLine (old new : Codec) (before after : Bytes) (answer : Decoded) : Type 0 where
+  pub line : Bytes
+  pub is_line : IsLine line
+  pub whole : before ≡ line ++ after
+  pub returned : returned_event answer ≡ Some (first_event old line)
+  pub place : new.place ≡ 0
+  pub skipping : new.skipping ≡ false
+
+record NoMemory (old new : Codec) (before after : Bytes) (answer : Decoded) : Type 0 where
+  pub no_memory : IsOutOfMemory answer
+  pub kept : after ≡ before
+  pub place : new.place ≡ old.place
+  pub unskipped : old.skipping ≡ false
+  pub skipping : new.skipping ≡ old.skipping
+
+abbrev Comes : Codec → Codec → Bytes → Bytes → Decoded → Type 0
+Comes old new before after answer = NoLine old new before after answer ⊎ (FirstLine old new before after answer ⊎ NoMemory old new before after answer)
+
+module _ (old new : Codec) (before after : Bytes) (answer : Decoded) where
+  abbrev DecodesAt : Option ℕ → Type 0
+  DecodesAt found = MatchOption found (AnswersNone old new before after answer) (λ k. AnswersLine k old new before after answer)
+
+  comes : IsWithin old before → Decodes old new before after answer → Comes old new before after answer
+  comes well decodes = by_place (line_feed_from before old.place) refl decodes
+    where
+      start : NoLineFeed before 0 old.place
+      start = none_below old.place before well.0 well.1
+
+      cut : (k : ℕ) → line_feed_from before old.place ≡ Some k → CutsLine k old new before after →
+          returned_event answer ≡ Some (first_event old (take (k + 1) before)) → FirstLine old new before after answer
+      cut k e cuts returned =
+          let at = line_feed_at before old.place k e in
+          let body : Lacks LF (take k before) = lacks_upto k before (omega (arith, at.1)) (none_before before old.place k start at.3) in
+          record {
+            line = take (k + 1) before;
+            is_line = record { body = take k before; whole = lf_at before k at.1 at.2; one_end = body };
+            whole = sym (take-append-drop (k + 1) before) ∙ ap (λ incomplete. take (k + 1) before ++ incomplete) (sym cuts.cut);
+            returned = returned;
+            place = cuts.place;
+            skipping = cuts.skipping;
+          }
+
+      line_length : (k : ℕ) → line_feed_from before old.place ≡ Some k → length (take (k + 1) before) ≡ k + 1
+      line_length k e = let at = line_feed_at before old.place k e in length-take-le (k + 1) before (omega (arith, at.1))
+
+      at_line : (MayTake : Type 0) (k : ℕ) → line_feed_from before old.place ≡ Some k → (too_long : Bool) → is_too_long old (k + 1) ≡ too_long →
+          IfTooLong too_long ((returned_event answer ≡ Some (Refused line_too_long)) × CutsLine k old new before after)
+          (((returned_event answer ≡ Some (event_of (outcome (take (k + 1) before)))) × CutsLine k old new before after)
+          ⊎ (IsOutOfMemory answer × MayTake × KeepsLine k old new before after)) →
+          Comes old new before after answer
+      at_line MayTake k e true long d = inr (inl (cut k e d.1 (rw (line_length k e, long) d.0)))
+      at_line MayTake k e false short (inl d) = inr (inl (cut k e d.1 (rw (line_length k e, short) d.0)))
+      at_line MayTake k e false short (inr d) =
+          inr (inr record { no_memory = d.0; kept = d.2.kept; place = d.2.place; unskipped = (unskipped old.skipping (exceeds old.limit (k + 1)) short).0; skipping = d.2.skipping })
+
+      by_place : (found : Option ℕ) → line_feed_from before old.place ≡ found → DecodesAt found → Comes old new before after answer
+      by_place None e d =
+          let none = lacks_upto (length before) before (omega arith) (none_before before old.place (length before) start (line_feed_nowhere before old.place e)) in
+          inl record { returned = d.0; unended = rw take-length at none; leaves = d.1 }
+      by_place (Some k) e d = at_line _ k e (is_too_long old (k + 1)) refl d
+
+-- a line's event is never out of memory
+abbrev kind_in : FtpEvent → FaultKind
+kind_in (Command command) = IoError
+kind_in (Refused fault) = fault.kind
+
+line_no_memory : (codec : Codec) (line : Bytes) (answer : Decoded) → returned_event answer ≡ Some (first_event codec line) → IsOutOfMemory answer → ⊥
+line_no_memory codec line (Ok command) returned no_memory = no_memory
+line_no_memory codec line (Err error) returned no_memory =
+    by_event (is_too_long codec (length line)) (outcome line) (sym no_memory ∙ ap kind_in (same_Some _ _ returned))
+  where
+    by_event : (too_long : Bool) (answer : Answer) → OutOfMemory ≡ kind_in (if too_long then Refused line_too_long else event_of answer) → ⊥
+    by_event true answer same = absurd (cc)
+    by_event false (Ok command) same = absurd (cc)
+    by_event false (Err InvalidUtf8) same = absurd (cc)
+    by_event false (Err InvalidCommand) same = absurd (cc)
+    by_event false (Err InvalidEol) same = absurd (cc)
+
+none_no_memory : (answer : Decoded) → returned_event answer ≡ None → IsOutOfMemory answer → ⊥
+none_no_memory (Ok command) returned no_memory = no_memory
+none_no_memory (Err error) returned no_memory = absurd (none-some _ (sym returned))
+
+-- the bytes that were dropped
+none_dropped : (codec : Codec) (dropped : Bytes) → codec.skipping ≡ false → dropped ≡ [] → IsDropped codec dropped
+none_dropped codec dropped off none = record { unended = rw none tt; too_long = rw (off, none) refl }
+
+some_dropped : (codec : Codec) (dropped : Bytes) → codec.skipping ≡ true → Lacks LF dropped → exceeds codec.limit (length dropped + 1) ≡ true → IsDropped codec dropped
+some_dropped codec dropped on unended long = record { unended = unended; too_long = rw on long }
+
+dropped_none : (codec : Codec) (dropped : Bytes) → IsDropped codec dropped → codec.skipping ≡ false → dropped ≡ []
+dropped_none codec dropped lost off = rw off at lost.too_long
+
+still_too_long : (skipping : Bool) (limit : Option ℕ) (dropped before : Bytes) → (skipping || exceeds limit (length before + 1)) ≡ true →
+    IfTooLong skipping (exceeds limit (length dropped + 1) ≡ true) (dropped ≡ []) → exceeds limit (length (dropped ++ before) + 1) ≡ true
+still_too_long true limit dropped before h long = longer limit (length dropped + 1) (length (dropped ++ before) + 1) long (omega (arith, length-append dropped before))
+still_too_long false limit dropped before h none = longer limit (length before + 1) (length (dropped ++ before) + 1) h (omega (arith, length-append dropped before))
+
+-- the event of a line is that of its end, after the bytes that were dropped
+whole_event : (codec : Codec) (dropped line : Bytes) (skipping : Bool) → codec.skipping ≡ skipping → IsDropped codec dropped → 0 < length line →
+    first_event codec line ≡ event_with_limit codec.limit (dropped ++ line)
+whole_event codec dropped line true on lost some =
+    let long : exceeds codec.limit (length (dropped ++ line)) ≡ true =
+    longer codec.limit (length dropped + 1) (length (dropped ++ line)) (rw on at lost.too_long) (omega (arith, some, length-append dropped line)) in
+    rw (on, long) refl
+whole_event codec dropped line false off lost some = rw (off, dropped_none codec dropped lost off) refl
+
+line_some : (line : Bytes) → IsLine line → 0 < length line
+line_some line l = omega (arith, ap length l.whole, length-append l.body (LF ∷ []))
+
+-- of the bytes after those that were dropped, the codec takes the first ones
+module _ (old new : Codec) (dropped before : Bytes) (taken : ℕ) (answer : Decoded) (well : IsWithin old before) (lost : IsDropped old dropped)
+    (limited : IfSome old.limit (λ limit. 1 ≤ limit)) (limit : new.limit ≡ old.limit) (within : taken + new.place ≤ length before)
+    (decodes : Decodes old new before (drop taken before) answer) where
+  abbrev after : Bytes
+  after = drop taken before
+
+  abbrev dropped' : Bytes
+  dropped' = dropped_after new.skipping dropped (take taken before)
+
+  came : Comes old new before after answer
+  came = comes old new before after answer well decodes
+
+  unskipped_now : new.skipping ≡ false → dropped' ≡ []
+  unskipped_now off = rw off refl
+
+  -- where there is no line, they are dropped, or kept
+  module _ (none : NoLine old new before after answer) where
+    all_taken : SkipsAll old new before after → take taken before ≡ before
+    all_taken skips = take_all taken before (omega (arith, ap length skips.dropped, length-drop taken before))
+
+    keep_unskipped : is_too_long old (length before + 1) ≡ false → dropped ≡ []
+    keep_unskipped short = dropped_none old dropped lost (unskipped old.skipping (exceeds old.limit (length before + 1)) short).0
+
+    none_within : (too_long : Bool) → IfTooLong too_long (SkipsAll old new before after) (FindsNone old new before after) → IsWithin new after
+    none_within true skips = rw skips.place (omega arith, tt)
+    none_within false keeps = rw (keeps.place, keeps.kept) (omega arith, rw take-length none.unended)
+
+    none_dropped-after : (too_long : Bool) → is_too_long old (length before + 1) ≡ too_long →
+        IfTooLong too_long (SkipsAll old new before after) (FindsNone old new before after) → IsDropped new dropped'
+    none_dropped-after true long skips =
+        let all : dropped' ≡ dropped ++ before = rw (skips.skipping, all_taken skips) refl in
+        some_dropped new dropped' skips.skipping
+        (rw all (Lacks-append LF dropped before lost.unended none.unended))
+        (rw (limit, all) (still_too_long old.skipping old.limit dropped before long lost.too_long))
+    none_dropped-after false short keeps = none_dropped new dropped' keeps.skipping (unskipped_now keeps.skipping)
+
+    none_same : (too_long : Bool) → is_too_long old (length before + 1) ≡ too_long →
+        IfTooLong too_long (SkipsAll old new before after) (FindsNone old new before after) → dropped' ++ after ≡ dropped ++ before
+    none_same true long skips = rw skips.skipping (append_assoc dropped (take taken before) after ∙ ap (λ z. dropped ++ z) (take-append-drop taken before))
+    none_same false short keeps = rw (unskipped_now keeps.skipping, keep_unskipped short) keeps.kept
+
+    none_scanned : (too_long : Bool) → IfTooLong too_long (SkipsAll old new before after) (FindsNone old new before after) → length after - new.place ≡ 0
+    none_scanned true skips = omega (arith, ap length skips.dropped)
+    none_scanned false keeps = omega (arith, keeps.place, ap length keeps.kept)
+
+    none_short : (too_long : Bool) → is_too_long old (length before + 1) ≡ too_long →
+        IfTooLong too_long (SkipsAll old new before after) (FindsNone old new before after) → IfSome old.limit (λ limit. length after < limit)
+    none_short true long skips = rw skips.dropped (room_for_none old.limit limited)
+    none_short false short keeps = rw keeps.kept (within_limit old.limit (length before) (unskipped old.skipping (exceeds old.limit (length before + 1)) short).1)
+
+    none_kept : (too_long : Bool) → is_too_long old (length before + 1) ≡ too_long →
+        IfTooLong too_long (SkipsAll old new before after) (FindsNone old new before after) → length after ≡ kept_length old.limit (dropped ++ before)
+    none_kept true long skips = rw (skips.dropped, still_too_long old.skipping old.limit dropped before long lost.too_long) refl
+    none_kept false short keeps =
+        rw (keeps.kept, keep_unskipped short, (unskipped old.skipping (exceeds old.limit (length before + 1)) short).1) refl
+
+  within-after : IsWithin new after
+  within-after = by_end came
+    where
+      by_end : Comes old new before after answer → IsWithin new after
+      by_end (inl none) = none_within none (is_too_long old (length before + 1)) none.leaves
+      by_end (inr (inl first)) = rw first.place (omega arith, tt)
+      by_end (inr (inr no_memory)) = rw (no_memory.place, no_memory.kept) well
+
+  dropped-after : IsDropped new dropped'
+  dropped-after = by_end came
+    where
+      by_end : Comes old new before after answer → IsDropped new dropped'
+      by_end (inl none) = none_dropped-after none (is_too_long old (length before + 1)) refl none.leaves
+      by_end (inr (inl first)) = none_dropped new dropped' first.skipping (unskipped_now first.skipping)
+      by_end (inr (inr no_memory)) =
+          let off : new.skipping ≡ false = no_memory.skipping ∙ no_memory.unskipped in
+          none_dropped new dropped' off (unskipped_now off)
+
+  takes_next : {E : Type 0} (buffered held : ℕ) (result : Result (Option Event) E) → ReturnsEvent answer result →
+      TakesNext (pending_of old dropped before buffered held) result (pending_of new dropped' after buffered held)
+  takes_next {E} buffered held result tells = by_result result tells came
+    where
+      by_result : (result : Result (Option Event) E) → ReturnsEvent answer result → Comes old new before after answer →
+          TakesNext (pending_of old dropped before buffered held) result (pending_of new dropped' after buffered held)
+      by_result (Ok None) tells (inl none) = record {
+        unended = Lacks-append LF dropped before lost.unended none.unended;
+        same = none_same none (is_too_long old (length before + 1)) refl none.leaves;
+        all_scanned = none_scanned none (is_too_long old (length before + 1)) none.leaves;
+        kept = none_kept none (is_too_long old (length before + 1)) refl none.leaves;
+        short = none_short none (is_too_long old (length before + 1)) refl none.leaves;
+      }
+      by_result (Ok None) tells (inr (inl first)) = absurd (none-some _ (sym tells.0 ∙ first.returned))
+      by_result (Ok None) tells (inr (inr no_memory)) = absurd (tells.1 no_memory.no_memory)
+      by_result (Ok (Some event)) tells (inl none) = absurd (none-some _ (sym none.returned ∙ tells.0))
+      by_result (Ok (Some event)) tells (inr (inl first)) = record {
+        takes = record {
+          line = dropped ++ first.line;
+          is_line = record {
+            body = dropped ++ first.is_line.body;
+            whole = ap (λ z. dropped ++ z) first.is_line.whole ∙ sym (append_assoc dropped first.is_line.body (LF ∷ []));
+            one_end = Lacks-append LF dropped first.is_line.body lost.unended first.is_line.one_end;
+          };
+          whole = rw (unskipped_now first.skipping) (ap (λ z. dropped ++ z) first.whole ∙ sym (append_assoc dropped first.line after));
+          meaning =
+              same_Some (event_meant event) (first_event old first.line) (sym tells.0 ∙ first.returned)
+              ∙ whole_event old dropped first.line old.skipping refl lost (line_some first.line first.is_line);
+        };
+        all_kept = rw (unskipped_now first.skipping) refl;
+        none_scanned = rw (unskipped_now first.skipping) (omega (arith, first.place));
+      }
+      by_result (Ok (Some event)) tells (inr (inr no_memory)) = absurd (tells.1 no_memory.no_memory)
+      by_result (Err error) tells (inl none) = absurd (none_no_memory answer none.returned tells)
+      by_result (Err error) tells (inr (inl first)) = absurd (line_no_memory old first.line answer first.returned tells)
+      by_result (Err error) tells (inr (inr no_memory)) = record {
+        same = rw (unskipped_now (no_memory.skipping ∙ no_memory.unskipped), dropped_none old dropped lost no_memory.unskipped) no_memory.kept;
+        kept = ap length no_memory.kept;
+        unscanned = rw (no_memory.kept, no_memory.place) refl;
+      }
+
+-- the same of the bytes of a buffer from a place on
+module _ (old new : Codec) (dropped dropped' buf pending front : Bytes) (start taken held : ℕ) (skipping : Bool) (answer : Decoded) (well : IsDecoder old dropped buf start held)
+    (from_start : pending ≡ drop start buf) (to_taken : front ≡ take taken pending) (goes_on : dropped' ≡ dropped_after skipping dropped front) (skips : skipping ≡ new.skipping)
+    (limit : new.limit ≡ old.limit) (within : taken + new.place ≤ length pending) (decodes : Decodes old new pending (drop taken pending) answer) where
+  abbrev rest : Bytes
+  rest = drop start buf
+
+  of_the_rest : Decodes old new rest (drop taken rest) answer
+  of_the_rest = rw from_start at decodes
+
+  within_the_rest : taken + new.place ≤ length rest
+  within_the_rest = rw from_start at within
+
+  dropped_of_the_rest : dropped' ≡ dropped_after new.skipping dropped (take taken rest)
+  dropped_of_the_rest = goes_on ∙ ap (λ b. dropped_after b dropped front) skips ∙ ap (dropped_after new.skipping dropped) (to_taken ∙ ap (take taken) from_start)
+
+  pub decoder-after : IsDecoder new dropped' buf (start + taken) held
+  decoder-after = record {
+    start_within = omega (arith, well.start_within, within_the_rest, length-drop start buf);
+    place_within = rw (← drop-drop taken start buf) (within-after old new dropped rest taken answer well.place_within well.dropped_well well.limited limit within_the_rest of_the_rest);
+    dropped_well = rw dropped_of_the_rest (dropped-after old new dropped rest taken answer well.place_within well.dropped_well well.limited limit within_the_rest of_the_rest);
+    limited = rw limit well.limited;
+    no_more = well.no_more;
+  }
+
+  pub takes_next-after : {E : Type 0} (result : Result (Option Event) E) → ReturnsEvent answer result →
+      TakesNext (pending_of old dropped rest (length buf) held) result (pending_of new dropped' (drop (start + taken) buf) (length buf) held)
+  takes_next-after result tells =
+      rw (← drop-drop taken start buf, dropped_of_the_rest)
+      (takes_next old new dropped rest taken answer well.place_within well.dropped_well well.limited limit within_the_rest of_the_rest (length buf) held result tells)

@@ -1,0 +1,90 @@
+use Rattle.std.proofs.Common.{◌∙◌, refl, sym, ap, arith}
+use Rattle.std.proofs.lemmas.Bool.{false≢true}
+use Rattle.std.proofs.lemmas.Result.{err_from_is_err_and}
+use Rattle.unftp_control_serve.specs.Decoder.{kept_length}
+use Rattle.unftp_control_serve.proofs.LineRunLemmas.{Halfway-start, Halfway-next, no_line-answered, no_line-not_ended, no_line-all_unread, line-failed, last_line-answered, last_line-ended, last_line-unread}
+use Rattle.unftp_control_serve.proofs.engine.answer_lines.Goals as goal
+
+pub loop-event-init : goal.loop-event-init
+loop-event-init g c = record { halfway = Halfway-start _ _ _ _; tests = refl; limit = refl; held = refl; never_fewer = omega arith }
+
+pub loop-event-preserved : goal.loop-event-preserved
+loop-event-preserved g c =
+    let before = c.loop-event.invariant in
+    let first = rw c.in-Some.is at c.in_ok-event.ensures.takes_next in
+    record {
+      halfway = Halfway-next _ _ _ _ _ _ _ before.halfway before.limit _ first _ c.in_ok-answer_event.ensures.outcome (sym c.done.ensures ∙ c.if-done.false);
+      tests = omega (arith, before.tests, c.in_ok-event.ensures.tests);
+      limit = c.in_ok-event.ensures.limit ∙ before.limit;
+      held = c.in_ok-event.ensures.held ∙ before.held;
+      never_fewer = omega (arith, before.never_fewer, c.in_ok-event.ensures.never_fewer);
+    }
+
+pub returns-in_err-answer_event-clause-outcome : goal.returns-in_err-answer_event-clause-outcome
+returns-in_err-answer_event-clause-outcome g c =
+    let before = c.loop-event.invariant in
+    let first = rw c.in-Some.is at c.in_ok-event.ensures.takes_next in
+    let error = err_from_is_err_and c.from_residual-in_err-answer_event.result c.from_residual-in_err-answer_event.ensures.1 in
+    rw (error.1, error.2) (line-failed _ _ _ _ _ _ _ before.halfway before.limit _ first _ _ c.in_err-answer_event.ensures.outcome)
+
+pub returns-then-done-clause-outcome : goal.returns-then-done-clause-outcome
+returns-then-done-clause-outcome g c =
+    let before = c.loop-event.invariant in
+    let first = rw c.in-Some.is at c.in_ok-event.ensures.takes_next in
+    last_line-answered _ _ _ _ _ _ _ before.halfway before.limit _ first _ c.in_ok-answer_event.ensures.outcome (sym c.done.ensures ∙ c.if-done.true)
+
+pub returns-then-done-clause-ended : goal.returns-then-done-clause-ended
+returns-then-done-clause-ended g c =
+    let before = c.loop-event.invariant in
+    let first = rw c.in-Some.is at c.in_ok-event.ensures.takes_next in
+    last_line-ended _ _ _ _ _ _ _ before.halfway before.limit _ first _ c.in_ok-answer_event.ensures.outcome (sym c.done.ensures ∙ c.if-done.true)
+
+pub returns-then-done-clause-unread : goal.returns-then-done-clause-unread
+returns-then-done-clause-unread g c =
+    let before = c.loop-event.invariant in
+    let first = rw c.in-Some.is at c.in_ok-event.ensures.takes_next in
+    last_line-unread _ _ _ _ _ _ _ before.halfway before.limit _ first _ c.in_ok-answer_event.ensures.outcome (sym c.done.ensures ∙ c.if-done.true)
+
+pub returns-then-done-clause-unscanned : goal.returns-then-done-clause-unscanned
+returns-then-done-clause-unscanned g c =
+    let first = rw c.in-Some.is at c.in_ok-event.ensures.takes_next in
+    first.none_scanned
+
+pub returns-then-done-clause-kept : goal.returns-then-done-clause-kept
+returns-then-done-clause-kept g c = λ on. absurd (false≢true (sym on))
+
+pub returns-then-done-clause-room : goal.returns-then-done-clause-room
+returns-then-done-clause-room g c = λ on. absurd (false≢true (sym on))
+
+pub returns-in-None-clause-outcome : goal.returns-in-None-clause-outcome
+returns-in-None-clause-outcome g c =
+    let none = rw c.in-None.is at c.in_ok-event.ensures.takes_next in
+    no_line-answered _ _ _ _ _ _ _ c.loop-event.invariant.halfway none
+
+pub returns-in-None-clause-ended : goal.returns-in-None-clause-ended
+returns-in-None-clause-ended g c =
+    let none = rw c.in-None.is at c.in_ok-event.ensures.takes_next in
+    no_line-not_ended _ _ _ _ _ _ _ c.loop-event.invariant.halfway none
+
+pub returns-in-None-clause-unread : goal.returns-in-None-clause-unread
+returns-in-None-clause-unread g c =
+    let none = rw c.in-None.is at c.in_ok-event.ensures.takes_next in
+    no_line-all_unread _ _ _ _ _ _ _ c.loop-event.invariant.halfway none
+
+pub returns-in-None-clause-unscanned : goal.returns-in-None-clause-unscanned
+returns-in-None-clause-unscanned g c =
+    let none = rw c.in-None.is at c.in_ok-event.ensures.takes_next in
+    none.all_scanned
+
+pub returns-in-None-clause-room : goal.returns-in-None-clause-room
+returns-in-None-clause-room g c =
+    let none = rw c.in-None.is at c.in_ok-event.ensures.takes_next in
+    let kept = rw c.in-None.is at c.in_ok-event.ensures.buffered in
+    λ on. rw (kept) (rw c.loop-event.invariant.limit at none.short)
+
+pub returns-in-None-clause-kept : goal.returns-in-None-clause-kept
+returns-in-None-clause-kept g c =
+    let none = rw c.in-None.is at c.in_ok-event.ensures.takes_next in
+    let kept = rw c.in-None.is at c.in_ok-event.ensures.buffered in
+    λ on. kept ∙ none.kept ∙ ap (λ limit. kept_length limit c.loop-event.decoder.bytes) c.loop-event.invariant.limit
+    ∙ ap (kept_length c.args.decoder.now.limit) (sym none.same)

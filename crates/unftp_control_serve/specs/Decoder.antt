@@ -1,0 +1,163 @@
+-- The pending bytes of a decoder.
+use Rattle.std.specs.Prelude.{◌≡◌, ℕ, ◌+◌, ◌-◌, ◌^◌, ◌<◌, ◌≤◌, Bool, true, if◌then◌else◌, [], ◌++◌, length, min, max, take, drop, Option, Some, None, Result, Ok, Err, MatchResult, MatchOption, IfSome, option_map, nat_lt}
+use Rattle.unftp_control_defs.specs.Bytes.{Bytes, LF, Lacks}
+use Rattle.unftp_control_defs.specs.Events.{FtpEvent}
+use Rattle.unftp_control_defs.specs.EventSteps.{TakesEvent}
+use Rattle.unftp_control_defs.specs.LineLimit.{exceeds}
+use Rattle.unftp_control_codecs.specs.Codec.{Codec}
+use Rattle.unftp_control_codecs.specs.Decoding.{Decoded, IsOutOfMemory, IfTooLong, returned_event}
+use Rattle.unftp_control_serve.specs.declared.event.Event.{Event}
+use Rattle.unftp_control_serve.specs.EventMeaning.{event_meant}
+
+-- a number as 64 bits hold it, the greatest for each greater one
+abbrev pub saturating_u64 : ℕ → ℕ
+saturating_u64 n = min n (2 ^ 64 - 1)
+
+-- how many bytes of an incomplete line are kept: none of one that is too long already
+abbrev pub kept_length : Option ℕ → Bytes → ℕ
+kept_length limit incomplete =
+    if exceeds limit (length incomplete + 1) then 0 else length incomplete
+
+-- there is no line feed before the codec's scan offset, which is within the bytes
+abbrev pub IsWithin : Codec → Bytes → Type 0
+IsWithin codec bytes = (codec.place ≤ length bytes) × Lacks LF (take codec.place bytes)
+
+-- The bytes that were dropped begin a line that is too long; while the codec is not skipping, there
+-- are none.
+pub record IsDropped (codec : Codec) (dropped : Bytes) : Type 0 where
+  pub unended : Lacks LF dropped
+  pub too_long : IfTooLong codec.skipping
+      (exceeds codec.limit (length dropped + 1) ≡ true)
+      (dropped ≡ [])
+
+-- those, after the codec took some bytes and is skipping, or is not
+abbrev pub dropped_after : Bool → Bytes → Bytes → Bytes
+dropped_after skipping dropped bytes = if skipping then dropped ++ bytes else []
+
+-- What is so of a decoder: the lines before `start` are taken.
+pub record IsDecoder (codec : Codec) (dropped buf : Bytes) (start held : ℕ) : Type 0 where
+  pub start_within : start ≤ length buf
+  pub place_within : IsWithin codec (drop start buf)
+  pub dropped_well : IsDropped codec dropped
+  pub limited : IfSome codec.limit (λ limit. 1 ≤ limit)
+  pub no_more : length buf ≤ held
+
+pub record Pending : Type 0 where
+  -- the bytes after the last line that was taken, and how many of them are kept: those before them
+  -- were dropped, since their line is longer than the limit
+  pub bytes : Bytes
+  pub kept : ℕ
+  pub limit : Option ℕ
+  -- how many bytes were scanned for a line feed since the buffer was made, and how many of those
+  -- that are kept have not been
+  pub tests : ℕ
+  pub unscanned : ℕ
+  -- how many bytes the buffer holds, with those of the lines that are taken, and the most that it
+  -- has held
+  pub buffered : ℕ
+  pub held : ℕ
+
+-- no bytes so far
+abbrev pub no_bytes : Option ℕ → Pending
+no_bytes limit = record {
+  bytes = [];
+  kept = 0;
+  limit = limit;
+  tests = 0;
+  unscanned = 0;
+  buffered = 0;
+  held = 0;
+}
+
+-- of these bytes, which the codec scanned up to its scan offset, after those that were dropped
+abbrev pub pending_of : Codec → Bytes → Bytes → ℕ → ℕ → Pending
+pending_of codec dropped bytes buffered held = record {
+  bytes = dropped ++ bytes;
+  kept = length bytes;
+  limit = codec.limit;
+  tests = codec.tests;
+  unscanned = length bytes - codec.place;
+  buffered = buffered;
+  held = held;
+}
+
+-- those that are kept
+abbrev pub kept_bytes : Pending → Bytes
+kept_bytes pending = drop (length pending.bytes - pending.kept) pending.bytes
+
+-- The lines that were taken have left the buffer.
+abbrev pub settled : Pending → Pending
+settled pending = record {
+  bytes = pending.bytes;
+  kept = pending.kept;
+  limit = pending.limit;
+  tests = pending.tests;
+  unscanned = pending.unscanned;
+  buffered = pending.kept;
+  held = pending.held;
+}
+
+-- A piece comes after them. The lines that were taken leave the buffer where they have more bytes
+-- than what is kept then.
+abbrev pub pushed : Pending → Bytes → Pending
+pushed pending piece = record {
+  bytes = pending.bytes ++ piece;
+  kept = pending.kept + length piece;
+  limit = pending.limit;
+  tests = pending.tests;
+  unscanned = pending.unscanned + length piece;
+  buffered = (if nat_lt (pending.kept + length piece) (pending.buffered - pending.kept)
+      then pending.kept + length piece else pending.buffered + length piece);
+  held = max pending.held (pending.buffered + length piece);
+}
+
+-- The pending bytes have left the buffer too.
+abbrev pub cleared : Pending → Pending
+cleared pending = record {
+  bytes = [];
+  kept = 0;
+  limit = pending.limit;
+  tests = pending.tests;
+  unscanned = 0;
+  buffered = 0;
+  held = pending.held;
+}
+
+-- There is no line, and all bytes are scanned; those that are kept are fewer than a line may have.
+pub record HasNoLine (before after : Pending) : Type 0 where
+  pub unended : Lacks LF before.bytes
+  pub same : after.bytes ≡ before.bytes
+  pub all_scanned : after.unscanned ≡ 0
+  pub kept : after.kept ≡ kept_length before.limit before.bytes
+  pub short : IfSome before.limit (λ limit. after.kept < limit)
+
+-- The first line is taken away, and this is its event. No byte after it is scanned.
+pub record TakesLine (before : Pending) (event : FtpEvent) (after : Pending) : Type 0 where
+  pub takes : TakesEvent before.limit before.bytes event after.bytes
+  pub all_kept : after.kept ≡ length after.bytes
+  pub none_scanned : after.unscanned ≡ length after.bytes
+
+-- The same bytes are pending, and as many of them are kept and not scanned yet.
+pub record StaysPending (before after : Pending) : Type 0 where
+  pub same : after.bytes ≡ before.bytes
+  pub kept : after.kept ≡ before.kept
+  pub unscanned : after.unscanned ≡ before.unscanned
+
+abbrev pub TakesNext : {E : Type 0} → Pending → Result (Option Event) E → Pending → Type 0
+TakesNext before result after = MatchResult result
+    (λ next. MatchOption next
+    (HasNoLine before after)
+    (λ event. TakesLine before (event_meant event) after))
+    (λ _. StaysPending before after)
+
+-- how many bytes the buffer holds then: those that are kept, where there is no line
+abbrev pub buffered_after : {E : Type 0} → Pending → Result (Option Event) E → Pending → ℕ
+buffered_after before (Ok None) after = after.kept
+buffered_after before (Ok (Some _)) after = before.buffered
+buffered_after before (Err _) after = before.buffered
+
+-- the event that an answer of the codec is, if any; or out of memory
+abbrev pub ReturnsEvent : {E : Type 0} → Decoded → Result (Option Event) E → Type 0
+ReturnsEvent answer result = MatchResult result
+    (λ event. (returned_event answer ≡ option_map event_meant event) × ¬ IsOutOfMemory answer)
+    (λ _. IsOutOfMemory answer)

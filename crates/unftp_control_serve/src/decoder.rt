@@ -1,0 +1,202 @@
+//! The pending bytes, and the events of their lines.
+ghost use Rattle.std.specs.Prelude.{◌≡◌, ◌≤◌, ◌+◌, ◌++◌, max, None, Some, IfOk, IfSome, OnOk, OnErr, length};
+ghost use Rattle.unftp_control_serve.specs.Decoder.{TakesNext, ReturnsEvent, buffered_after, cleared, kept_bytes, no_bytes, pushed, saturating_u64, settled};
+
+use crate::event::Event;
+use crate::skipped::Skipped;
+use std::alloc::{AllocError, Global};
+use std::marker::Model;
+use unftp_control_codecs::FtpCodec;
+use unftp_control_command::Command;
+use unftp_control_count::Count;
+use unftp_control_error::{ControlChanError, ControlChanErrorKind};
+
+/// Cuts an input that comes in pieces into lines, and returns the event of each: for a server with
+/// an event loop of its own. A piece is pushed, and events are taken until there is none; between
+/// two of them the server does what it likes, and after the last it may clear what is pending.
+// The pending bytes begin at `start`: the lines before it are taken. There is no line feed between
+// `start` and the codec's scan offset, which counts from `start`. Where the codec has a limit, it
+// keeps no bytes of a line that is longer: they are `skipped`.
+#[derive(Drop)]
+pub struct EventDecoder {
+    codec: FtpCodec,
+    buf: Vec<u8>,
+    start: usize,
+    skipped: Skipped,
+    held: Count,
+}
+
+impl Model for EventDecoder {
+    ghost use Rattle.std.specs.Prelude.{length, drop};
+    ghost use Rattle.unftp_control_serve.specs.Decoder.{IsDecoder, Pending, pending_of};
+
+    ghost Value = { Pending };
+
+    ghost view = { λ decoder. pending_of decoder.codec decoder.skipped
+        (drop decoder.start decoder.buf.items)
+        (length decoder.buf.items) decoder.held };
+
+    ghost invariant = { λ decoder. IsDecoder decoder.codec decoder.skipped
+        decoder.buf.items decoder.start decoder.held };
+}
+
+impl EventDecoder {
+    /// A decoder that was pushed nothing. A line may have any length, and all its bytes are kept
+    /// until its line feed comes: for input that is not trusted, set a limit.
+    pub fn new(alloc: Global) -> EventDecoder
+        ensures { result ≡ no_bytes None }
+    {
+        EventDecoder {
+            codec: FtpCodec::new(),
+            buf: Vec::new(alloc),
+            start: 0,
+            skipped: Skipped::none(),
+            held: Count::new(),
+        }
+    }
+
+    /// A decoder that was pushed nothing. A line of more than `limit` bytes, its line feed counted,
+    /// is one event, a refusal with `LineTooLong`, and none of its bytes are kept once they are too
+    /// many (RFC 959 names no limit).
+    pub fn with_limit(alloc: Global, limit: usize) -> EventDecoder
+        requires { 1 ≤ limit }
+        ensures { result ≡ no_bytes (Some limit) }
+    {
+        EventDecoder {
+            codec: FtpCodec::with_limit(limit),
+            buf: Vec::new(alloc),
+            start: 0,
+            skipped: Skipped::none(),
+            held: Count::new(),
+        }
+    }
+
+    /// The pending bytes: those after the last line that was taken. Those of a line that is too long
+    /// are not among them, once they were dropped. Where `next_event` has returned `None`, they are
+    /// an incomplete line.
+    pub fn pending(&self) -> &[u8]
+        ensures { result.now ≡ kept_bytes self.now }
+    {
+        self.buf.as_slice().split_at(self.start).1
+    }
+
+    /// How many bytes are pending, with those of a line that is too long, or `u64::MAX` where there
+    /// are more.
+    pub fn left(&self) -> u64
+        ensures { result ≡ saturating_u64 (length self.now.bytes) }
+    {
+        let kept = self.buf.len() - self.start;
+        self.skipped.count().saturating_add(kept as u64)
+    }
+
+    /// How many bytes were scanned for a line feed. Only contracts see it.
+    pub fn tests(&self) -> Count
+        ensures { result ≡ self.now.tests }
+    {
+        self.codec.tests()
+    }
+
+    /// The most bytes that its buffer has held. Only contracts see it.
+    pub fn held(&self) -> Count
+        ensures { result ≡ self.now.held }
+    {
+        self.held.same()
+    }
+
+    /// Appends a piece to the pending bytes. When out of memory, nothing changes.
+    pub fn push(&mut self, piece: &[u8]) -> Result<(), AllocError>
+        ensures ok { OnOk result (self.new ≡ pushed self.old piece.now) }
+        ensures err { OnErr result (self.new ≡ self.old) }
+    {
+        self.buf.extend_from_slice(piece)?;
+        self.held.raise_to(self.buf.len());
+        // each move is paid for by as many bytes that were taken
+        if self.start > self.buf.len() - self.start {
+            self.settle();
+        }
+        Ok(())
+    }
+
+    /// Takes the first line of the pending bytes, and returns its event (RFC 959, section 5.3), or
+    /// `None` where no line is complete. When out of memory, the line stays, and the next call finds
+    /// it again.
+    ///
+    /// Where it returns `None`, its buffer holds the pending bytes only: so with a limit, where all
+    /// events are taken before the next piece is pushed, it never holds more than the limit and one
+    /// piece.
+    pub fn next_event(&mut self) -> Result<Option<Event>, AllocError>
+        ensures takes_next { TakesNext self.old result self.new }
+        ensures buffered { self.new.buffered ≡ buffered_after self.old result self.new }
+        ensures limit { self.new.limit ≡ self.old.limit }
+        ensures held { self.new.held ≡ self.old.held }
+        ensures tests { OnOk result
+            (self.new.tests + self.new.unscanned ≡ self.old.tests + self.old.unscanned) }
+        ensures no_memory { OnErr result (self.new.tests ≤ self.old.tests + self.old.unscanned) }
+        ensures never_fewer { self.old.tests ≤ self.new.tests }
+    {
+        let event = self.take_next()?;
+        if event.is_none() {
+            self.settle();
+        }
+        Ok(event)
+    }
+
+    /// Takes the first line, whose bytes stay in the buffer.
+    fn take_next(&mut self) -> Result<Option<Event>, AllocError>
+        ensures takes_next { TakesNext self.old result self.new }
+        ensures buffered { self.new.buffered ≡ self.old.buffered }
+        ensures limit { self.new.limit ≡ self.old.limit }
+        ensures held { self.new.held ≡ self.old.held }
+        ensures tests { OnOk result
+            (self.new.tests + self.new.unscanned ≡ self.old.tests + self.old.unscanned) }
+        ensures no_memory { OnErr result (self.new.tests ≤ self.old.tests + self.old.unscanned) }
+        ensures never_fewer { self.old.tests ≤ self.new.tests }
+    {
+        let (_, pending) = self.buf.as_slice().split_at(self.start);
+        let (taken, answer) = self.codec.decode_slice(*self.buf.allocator(), pending);
+        let (front, _) = pending.split_at(taken);
+        self.skipped.go_on(self.codec.skipping(), front);
+        self.start += taken;
+        event_from(answer)
+    }
+
+    /// Removes the lines that were taken: the pending bytes move to the start of the buffer.
+    fn settle(&mut self)
+        ensures { self.new ≡ settled self.old }
+    {
+        if self.start == 0 {
+            return;
+        }
+        let kept = self.buf.len() - self.start;
+        self.buf.copy_within(self.start.., 0);
+        self.buf.truncate(kept);
+        self.start = 0;
+    }
+
+    /// Drops all pending bytes, as a server does where the session ends, or before TLS begins: no
+    /// later event comes of them. They are not scanned any more.
+    pub fn clear(&mut self)
+        ensures cleared { self.new ≡ cleared self.old }
+        ensures limit { IfSome self.new.limit (λ limit. 1 ≤ limit) }
+    {
+        self.codec.reset();
+        self.buf.clear();
+        self.start = 0;
+        self.skipped = Skipped::none();
+    }
+}
+
+/// The event that the codec returns, if any; or out of memory.
+fn event_from(
+    answer: Result<Option<Command>, ControlChanError>,
+) -> Result<Option<Event>, AllocError>
+    ensures { ReturnsEvent answer result }
+{
+    match answer {
+        Ok(command) => Ok(command.map(Event::Command)),
+        Err(error) => match error.kind() {
+            ControlChanErrorKind::OutOfMemory => Err(AllocError),
+            _ => Ok(Some(Event::Refused(error))),
+        },
+    }
+}

@@ -1,0 +1,45 @@
+//! What answers the events, and the law that it keeps.
+ghost use Rattle.std.specs.Prelude.{◌≡◌, ◌+◌, ℕ, IfOk, IfErr, OnOk, OnErr};
+ghost use Rattle.unftp_control_defs.specs.Run.{Law};
+ghost use Rattle.unftp_control_error.specs.ErrorMeaning.{fault_of};
+ghost use Rattle.unftp_control_reply.specs.ReplyMeaning.{reply_of};
+ghost use Rattle.unftp_control_serve.specs.EventMeaning.{event_meant};
+
+use crate::event::Event;
+use std::alloc::Global;
+use unftp_control_error::ControlChanError;
+use unftp_control_reply::Reply;
+
+/// Answers the events of a connection, one after the other.
+///
+/// Its law states, as functions and relations of its state, the reply to an event, the state that
+/// follows, with which errors it may fail, of which kind and from which source, and in which states
+/// it is done. It counts its failures: the count takes no byte, and only contracts see it.
+pub trait Handler {
+    // What contracts see of it.
+    ghost State: { Type 0 };
+
+    ghost state: { Self → State };
+
+    ghost law: { Law State };
+
+    ghost failures: { Self → ℕ };
+
+    /// Returns the reply to an event. An error has to be one that the law's `may_fail` allows: it
+    /// ends the connection, and the handler's state is unspecified after it.
+    fn handle(&mut self, alloc: Global, event: Event) -> Result<Reply, ControlChanError>
+        ensures says { IfOk result (λ reply.
+            reply_of reply ≡ law.says (state self.old) (event_meant event)) }
+        ensures next { OnOk result
+            (state self.new ≡ law.next (state self.old) (event_meant event)) }
+        ensures quiet { OnOk result (failures self.new ≡ failures self.old) }
+        ensures may_fail { IfErr result (λ error.
+            law.may_fail (state self.old) (event_meant event) (fault_of error)) }
+        ensures counted { OnErr result (failures self.new ≡ failures self.old + 1) };
+
+    /// Whether the session ends here: it is asked after each event, once its reply is sent, and
+    /// never before the first. Where it says `true`, no later byte is read as a line. A handler
+    /// that never ends a session says `false`.
+    fn done(&self) -> bool
+        ensures { result ≡ law.done (state self.now) };
+}

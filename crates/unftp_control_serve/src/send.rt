@@ -1,0 +1,68 @@
+//! Where the replies go.
+ghost use Rattle.std.specs.Prelude.{◌≡◌};
+ghost use Rattle.unftp_control_serve.specs.Endings.{OnWrite};
+ghost use Rattle.unftp_control_serve.specs.Writing.{OutputState, Sends, Writes, appended_state_of, output_state_of};
+
+use crate::error::ServeError;
+use crate::output::Output;
+use std::io::Write;
+
+/// Takes the replies of an engine, one after the other: an `Output` writes and flushes each, and a
+/// `Vec` holds them for a server that sends them itself.
+pub trait Sink {
+    // What contracts see of it: for a `Vec`, its bytes are written, and no write has failed. And
+    // whether it may write a beginning of a reply, and then fail.
+    ghost state: { Self → OutputState };
+
+    ghost cuts: { Type 0 };
+
+    /// Sends the bytes of a reply, if there are any. At `Write` and `WriteZero` a beginning of them
+    /// may be written; at `OutOfMemory` none is. It returns no other error.
+    fn send(&mut self, bytes: &[u8]) -> Result<(), ServeError>
+        ensures sends { Sends result bytes.now (state self.old) (state self.new) }
+        ensures cuts { OnWrite result cuts };
+}
+
+/// Each reply is written and flushed.
+impl<W: Write> Sink for Output<W> {
+    ghost state = { output_state_of W.contents };
+
+    ghost cuts = { Unit {0} };
+
+    fn send(&mut self, bytes: &[u8]) -> Result<(), ServeError> {
+        if bytes.is_empty() {
+            return Ok(());
+        }
+        write_whole(self, bytes)?;
+        self.flush().map_err(ServeError::Write)
+    }
+}
+
+/// Each reply is appended, or none of it when out of memory.
+impl Sink for Vec<u8> {
+    ghost state = { appended_state_of };
+
+    ghost cuts = { ⊥ };
+
+    fn send(&mut self, bytes: &[u8]) -> Result<(), ServeError> {
+        self.extend_from_slice(bytes)?;
+        Ok(())
+    }
+}
+
+/// Writes all of the bytes, or a beginning of them where the writer fails.
+fn write_whole<W: Write>(output: &mut Output<W>, bytes: &[u8]) -> Result<(), ServeError>
+    ensures { Writes result bytes.now
+        (output_state_of W.contents output.old)
+        (output_state_of W.contents output.new) }
+{
+    let mut rest = bytes;
+    while !rest.is_empty() {
+        match output.write(rest) {
+            Ok(0) => return Err(ServeError::WriteZero),
+            Ok(n) => rest = rest.split_at(n).1,
+            Err(error) => return Err(ServeError::Write(error)),
+        }
+    }
+    Ok(())
+}
