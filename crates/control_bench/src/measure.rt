@@ -9,11 +9,11 @@ use std::{fmt, io};
 use unftp_control_codecs::FtpCodec;
 use unftp_control_command::Command;
 use unftp_control_error::ControlChanError;
-use unftp_control_serve::{Event, EventDecoder};
 use unftp_control_line_parser as line_parser;
 use unftp_control_line_parser::parse;
 use unftp_control_read::{Front, ReadReplyError, read_reply};
 use unftp_control_reply::{Reply, ReplyCode};
+use unftp_control_serve::{Event, EventDecoder};
 
 /// Lines of a session, about as long as those that clients send.
 const SESSION: &[&[u8]] = &[

@@ -12,9 +12,9 @@ use crate::sample::Sample;
 use std::alloc::Global;
 use unftp_control_command::Command;
 use unftp_control_commands::{Auth, Epsv, Feat, Help, Mlst, Mode, Opts, Passive, Prot, Stru};
-use unftp_control_serve::{Count, Event, Handler};
 use unftp_control_error::{ControlChanError, Source};
 use unftp_control_reply::{Reply, ReplyCode};
+use unftp_control_serve::{Count, Event, Handler};
 
 /// The port that EPSV reports. It is not opened.
 const PORT: u16 = 2121;
