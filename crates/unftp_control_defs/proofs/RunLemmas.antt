@@ -32,16 +32,16 @@ replies-append law s (event ∷ events) more = ap (λ later. law.says s event �
 
 module _ {S : Type 0} (law : Law S) where
   -- one event first, after which the handler is done or goes on
-  run_of-done : (s : S) (event : FtpEvent) (events : List FtpEvent) → law.done (law.next s event) ≡ true →
+  pub run_of-done : (s : S) (event : FtpEvent) (events : List FtpEvent) → law.done (law.next s event) ≡ true →
       (run_of law s (event ∷ events) ≡ event ∷ []) × (ends law s (event ∷ events) ≡ true)
   run_of-done s event events done = rw (done) (refl, refl)
 
-  run_of-on : (s : S) (event : FtpEvent) (events : List FtpEvent) → law.done (law.next s event) ≡ false →
+  pub run_of-on : (s : S) (event : FtpEvent) (events : List FtpEvent) → law.done (law.next s event) ≡ false →
       (run_of law s (event ∷ events) ≡ event ∷ run_of law (law.next s event) events) × (ends law s (event ∷ events) ≡ ends law (law.next s event) events)
   run_of-on s event events on = rw (on) (refl, refl)
 
   -- a run that doesn't end takes all events, and goes on over more of them
-  on-first : (done later : Bool) → (done || later) ≡ false → (done ≡ false) × (later ≡ false)
+  pub on-first : (done later : Bool) → (done || later) ≡ false → (done ≡ false) × (later ≡ false)
   on-first true later h = absurd (cc)
   on-first false later h = (refl, h)
 

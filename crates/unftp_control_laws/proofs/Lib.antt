@@ -2,8 +2,10 @@ mod FoldLemmas
 mod EpsvLemmas
 mod PieceLemmas
 mod RunEndLemmas
+mod FirstEndLemmas
 mod StepLemmas
 mod LossyTextLemmas
 mod EventStepLemmas
 mod ReplyStepLemmas
 mod SnapshotLemmas
+mod PendingLineLemmas

@@ -2,7 +2,7 @@
 //! that is computed to the relation that a reader believes.
 #![tactic(auto)]
 
-ghost use Rattle.std.specs.Prelude.{◌≡◌, ◌↔◌, ◌<◌, ◌≤◌, ◌+◌, ◌^◌, ℕ, Option, true, false, List, [], ◌++◌, length, Some, None, Ok, codes};
+ghost use Rattle.std.specs.Prelude.{◌≡◌, ◌↔◌, ◌<◌, ◌≤◌, ◌+◌, ◌^◌, ℕ, Option, true, false, List, [], ◌∷◌, ◌++◌, length, Some, None, Ok, codes};
 ghost use Rattle.std.specs.Char.{IsScalar, encode_utf8};
 ghost use Rattle.std.specs.List.{AllByRecursion, concat, sum_by};
 ghost use Rattle.std.specs.Str.Lossy.{utf8_lossy};
@@ -11,17 +11,18 @@ ghost use Rattle.unftp_control_defs.specs.Bytes.{Bytes, LF, crlf, Lacks};
 ghost use Rattle.unftp_control_defs.specs.Canonical.{canonical_line, HasLine};
 ghost use Rattle.unftp_control_defs.specs.EventSteps.{EventStep, AreEventSteps, input_of_steps, taken_events};
 ghost use Rattle.unftp_control_defs.specs.Pieces.{events_in_turn, events_in_turn_with_limit, replies_in_turn};
-ghost use Rattle.unftp_control_defs.specs.Events.{Refused, events};
+ghost use Rattle.unftp_control_defs.specs.Events.{FtpEvent, Refused, events};
 ghost use Rattle.unftp_control_defs.specs.FtpCommand.{FtpCommand, User, HasTypedFields};
 ghost use Rattle.unftp_control_defs.specs.LineLimit.{line_too_long, event_with_limit, events_with_limit, run_with_limit, ends_with_limit, text_with_limit, unread, after_end};
 ghost use Rattle.unftp_control_defs.specs.Lines.{IsLine, Lines, lines_of, incomplete_line};
 ghost use Rattle.unftp_control_defs.specs.LossyText.{Character, LossyText, first_part};
 ghost use Rattle.unftp_control_defs.specs.Outcome.{outcome};
 ghost use Rattle.unftp_control_defs.specs.Paths.{ListPath, path_of};
-ghost use Rattle.unftp_control_defs.specs.Run.{last_state, replies};
+ghost use Rattle.unftp_control_defs.specs.Run.{ends, last_state, replies, run_of};
 ghost use Rattle.unftp_control_defs.specs.Steps.{AreSteps, Step, last_place};
 ghost use Rattle.unftp_control_defs.specs.Values.{Reads, HasNoValue, value_of, escaped};
 ghost use Rattle.unftp_control_defs.specs.Verbs.{Cut, verb_of, parameter_of, upper};
+ghost use Rattle.unftp_control_laws.specs.RunEnd.{EndsAfter, EndsNowhere};
 
 pub mod examples;
 pub mod replies;
@@ -156,6 +157,21 @@ pub fn nothing_after_the_end<H: Handler>()
     ensures unread { (limit : Option ℕ) (s : H.State) (input more : Bytes)
         → ends_with_limit limit H.law s input ≡ true
         → after_end limit H.law s (input ++ more) ≡ after_end limit H.law s input ++ more }
+{}
+
+/// A run ends with the first event that leaves the handler done, and has no later one; where none
+/// does, it has all events.
+pub fn one_run<H: Handler>()
+    ensures nowhere { (s : H.State) (events : List FtpEvent)
+        → EndsNowhere H.law s events ↔ (ends H.law s events ≡ false) }
+    ensures all { (s : H.State) (events : List FtpEvent)
+        → EndsNowhere H.law s events → run_of H.law s events ≡ events }
+    ensures ended { (s : H.State) (events first : List FtpEvent) (event : FtpEvent)
+        → EndsAfter H.law s events first event
+        → (run_of H.law s events ≡ first ++ event ∷ []) × (ends H.law s events ≡ true) }
+    ensures found { (s : H.State) (events : List FtpEvent) → ends H.law s events ≡ true
+        → (first : List FtpEvent) × (event : FtpEvent)
+        × EndsAfter H.law s events first event }
 {}
 
 /// The run of a handler that is never done has all events, and leaves the incomplete line.

@@ -1,6 +1,6 @@
 -- What the codec does to a buffer with no line feed before its place.
 use Rattle.std.proofs.Common.{◌≡◌, ◌≢◌, ℕ, zero, suc, ◌+◌, ◌-◌, ◌<◌, ◌≤◌, Bool, true, false, [], ◌∷◌, ◌++◌, ◌⊎◌, length, take, drop, Option, Some, None, Result, Ok, Err, refl, sym, ap, ◌∙◌, inl, inr, arith, append_assoc, length-append, length-drop, ne_eqb, eqb-true}
-use Rattle.std.specs.Prelude.{slice_index, if◌then◌else◌, ◌||◌, IfSome}
+use Rattle.std.specs.Prelude.{slice_index, if◌then◌else◌, ◌||◌, IfSome, OnErr}
 use Rattle.std.specs.Option.{MatchOption}
 use Rattle.std.proofs.lemmas.Bool.{cases_lt, lt-ltb, ltb-true, ltb-false}
 use Rattle.std.proofs.lemmas.Grind.{common_steps}
@@ -14,6 +14,7 @@ use Rattle.unftp_control_defs.specs.FtpCommand.{Answer, InvalidUtf8, InvalidComm
 use Rattle.unftp_control_defs.specs.LineLimit.{exceeds, line_too_long, event_with_limit}
 use Rattle.unftp_control_defs.specs.Outcome.{outcome}
 use Rattle.unftp_control_defs.proofs.LackLemmas.{Lacks-append}
+use Rattle.unftp_control_line_parser.specs.Memory.{MayTakeMemory}
 use Rattle.unftp_control_codecs.specs.Codec.{Codec, is_too_long}
 use Rattle.unftp_control_codecs.specs.LineFeed.{is_line_feed, line_feed_from}
 use Rattle.unftp_control_codecs.specs.Decoding.{Decoded, Decodes, FindsNone, SkipsAll, CutsLine, KeepsLine, IfTooLong, AnswersNone, AnswersLine, IsOutOfMemory, returned_event}
@@ -21,7 +22,7 @@ use Rattle.unftp_control_codecs.proofs.LineFeedLemmas.{NoLineFeed, line_feed_at,
 use Rattle.unftp_control_serve.specs.declared.event.Event.{Event}
 use Rattle.unftp_control_serve.specs.Decoder.{kept_length}
 use Rattle.unftp_control_serve.specs.EventMeaning.{event_meant}
-use Rattle.unftp_control_serve.specs.Decoder.{IsWithin, IsDropped, IsDecoder, dropped_after, pending_of, TakesNext, ReturnsEvent}
+use Rattle.unftp_control_serve.specs.Decoder.{IsWithin, IsDropped, IsDecoder, MayRunOut, dropped_after, pending_of, TakesNext, ReturnsEvent}
 
 not_lf : (b : ℕ) → is_line_feed b ≡ false → b ≢ LF
 not_lf b h = λ e. grind (arith, common_steps)
@@ -91,6 +92,12 @@ record NoMemory (old new : Codec) (before after : Bytes) (answer : Decoded) : Ty
   pub place : new.place ≡ old.place
   pub unskipped : old.skipping ≡ false
   pub skipping : new.skipping ≡ old.skipping
+  pub line : Bytes
+  pub rest : Bytes
+  pub is_line : IsLine line
+  pub whole : before ≡ line ++ rest
+  pub short : exceeds old.limit (length line) ≡ false
+  pub takes_memory : MayTakeMemory line
 
 abbrev Comes : Codec → Codec → Bytes → Bytes → Decoded → Type 0
 Comes old new before after answer = NoLine old new before after answer ⊎ (FirstLine old new before after answer ⊎ NoMemory old new before after answer)
@@ -122,21 +129,35 @@ module _ (old new : Codec) (before after : Bytes) (answer : Decoded) where
       line_length : (k : ℕ) → line_feed_from before old.place ≡ Some k → length (take (k + 1) before) ≡ k + 1
       line_length k e = let at = line_feed_at before old.place k e in length-take-le (k + 1) before (omega (arith, at.1))
 
-      at_line : (MayTake : Type 0) (k : ℕ) → line_feed_from before old.place ≡ Some k → (too_long : Bool) → is_too_long old (k + 1) ≡ too_long →
+      at_line : (k : ℕ) → line_feed_from before old.place ≡ Some k → (too_long : Bool) → is_too_long old (k + 1) ≡ too_long →
           IfTooLong too_long ((returned_event answer ≡ Some (Refused line_too_long)) × CutsLine k old new before after)
           (((returned_event answer ≡ Some (event_of (outcome (take (k + 1) before)))) × CutsLine k old new before after)
-          ⊎ (IsOutOfMemory answer × MayTake × KeepsLine k old new before after)) →
+          ⊎ (IsOutOfMemory answer × MayTakeMemory (take (k + 1) before) × KeepsLine k old new before after)) →
           Comes old new before after answer
-      at_line MayTake k e true long d = inr (inl (cut k e d.1 (rw (line_length k e, long) d.0)))
-      at_line MayTake k e false short (inl d) = inr (inl (cut k e d.1 (rw (line_length k e, short) d.0)))
-      at_line MayTake k e false short (inr d) =
-          inr (inr record { no_memory = d.0; kept = d.2.kept; place = d.2.place; unskipped = (unskipped old.skipping (exceeds old.limit (k + 1)) short).0; skipping = d.2.skipping })
+      at_line k e true long d = inr (inl (cut k e d.1 (rw (line_length k e, long) d.0)))
+      at_line k e false short (inl d) = inr (inl (cut k e d.1 (rw (line_length k e, short) d.0)))
+      at_line k e false short (inr d) =
+          let at = line_feed_at before old.place k e in
+          let body : Lacks LF (take k before) = lacks_upto k before (omega (arith, at.1)) (none_before before old.place k start at.3) in
+          inr (inr record {
+            no_memory = d.0;
+            kept = d.2.kept;
+            place = d.2.place;
+            unskipped = (unskipped old.skipping (exceeds old.limit (k + 1)) short).0;
+            skipping = d.2.skipping;
+            line = take (k + 1) before;
+            rest = drop (k + 1) before;
+            is_line = record { body = take k before; whole = lf_at before k at.1 at.2; one_end = body };
+            whole = sym (take-append-drop (k + 1) before);
+            short = rw (line_length k e) (unskipped old.skipping (exceeds old.limit (k + 1)) short).1;
+            takes_memory = d.1;
+          })
 
       by_place : (found : Option ℕ) → line_feed_from before old.place ≡ found → DecodesAt found → Comes old new before after answer
       by_place None e d =
           let none = lacks_upto (length before) before (omega arith) (none_before before old.place (length before) start (line_feed_nowhere before old.place e)) in
           inl record { returned = d.0; unended = rw take-length at none; leaves = d.1 }
-      by_place (Some k) e d = at_line _ k e (is_too_long old (k + 1)) refl d
+      by_place (Some k) e d = at_line k e (is_too_long old (k + 1)) refl d
 
 -- a line's event is never out of memory
 abbrev kind_in : FtpEvent → FaultKind
@@ -302,6 +323,24 @@ module _ (old new : Codec) (dropped before : Bytes) (taken : ℕ) (answer : Deco
         unscanned = rw (no_memory.kept, no_memory.place) refl;
       }
 
+  runs_out : {E : Type 0} (buffered held : ℕ) (result : Result (Option Event) E) → ReturnsEvent answer result →
+      OnErr result (MayRunOut (pending_of old dropped before buffered held))
+  runs_out {E} buffered held result tells = by_result result tells came
+    where
+      by_result : (result : Result (Option Event) E) → ReturnsEvent answer result → Comes old new before after answer →
+          OnErr result (MayRunOut (pending_of old dropped before buffered held))
+      by_result (Ok event) tells comes = tt
+      by_result (Err error) tells (inl none) = absurd (none_no_memory answer none.returned tells)
+      by_result (Err error) tells (inr (inl first)) = absurd (line_no_memory old first.line answer first.returned tells)
+      by_result (Err error) tells (inr (inr no_memory)) = record {
+        line = no_memory.line;
+        after = no_memory.rest;
+        is_line = no_memory.is_line;
+        whole = rw (dropped_none old dropped lost no_memory.unskipped) no_memory.whole;
+        short = no_memory.short;
+        takes_memory = no_memory.takes_memory;
+      }
+
 -- the same of the bytes of a buffer from a place on
 module _ (old new : Codec) (dropped dropped' buf pending front : Bytes) (start taken held : ℕ) (skipping : Bool) (answer : Decoded) (well : IsDecoder old dropped buf start held)
     (from_start : pending ≡ drop start buf) (to_taken : front ≡ take taken pending) (goes_on : dropped' ≡ dropped_after skipping dropped front) (skips : skipping ≡ new.skipping)
@@ -332,3 +371,7 @@ module _ (old new : Codec) (dropped dropped' buf pending front : Bytes) (start t
   takes_next-after result tells =
       rw (← drop-drop taken start buf, dropped_of_the_rest)
       (takes_next old new dropped rest taken answer well.place_within well.dropped_well well.limited limit within_the_rest of_the_rest (length buf) held result tells)
+
+  pub runs_out-after : {E : Type 0} (result : Result (Option Event) E) → ReturnsEvent answer result → OnErr result (MayRunOut (pending_of old dropped rest (length buf) held))
+  runs_out-after result tells =
+      runs_out old new dropped rest taken answer well.place_within well.dropped_well well.limited limit within_the_rest of_the_rest (length buf) held result tells

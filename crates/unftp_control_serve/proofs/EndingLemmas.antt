@@ -182,7 +182,7 @@ module _ {S : Type 0} (law : Law S) where
       written = rw same (Appends-nothing m.output.written);
       flushed = rw same (omega arith);
       no_write_failed = rw same refl;
-      handler_failed = omega arith;
+      handler_failed = failures;
     }
 
     broke-at : n.state ≡ law.next m.state e → n.failures ≡ m.failures → CutShort (encoded (law.says m.state e)) m.output n.output → WriteFailed law m (e ∷ []) n

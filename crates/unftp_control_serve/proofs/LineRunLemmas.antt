@@ -1,13 +1,13 @@
 -- The run over the pending bytes, line by line.
-use Rattle.std.proofs.Common.{◌≡◌, ℕ, true, false, List, Option, [], ◌∷◌, map, refl, sym, ap, ◌∙◌}
+use Rattle.std.proofs.Common.{◌≡◌, ℕ, true, false, List, Option, [], ◌∷◌, map, refl, sym, ap, inl, ◌∙◌}
 use Rattle.std.specs.Prelude.{if◌then◌else◌}
 use Rattle.unftp_control_defs.specs.Bytes.{Bytes}
 use Rattle.unftp_control_defs.specs.Events.{FtpEvent}
 use Rattle.unftp_control_defs.specs.LineLimit.{event_with_limit, events_with_limit, run_with_limit, ends_with_limit, unread}
-use Rattle.unftp_control_defs.specs.Run.{Law, run_of, ends}
+use Rattle.unftp_control_defs.specs.Run.{Law, last_state, run_of, ends}
 use Rattle.unftp_control_defs.proofs.LineLemmas.{line_first, events_with_limit-incomplete}
 use Rattle.unftp_control_defs.proofs.RunLemmas.{on-line, ended-line, unread-incomplete}
-use Rattle.unftp_control_serve.specs.Endings.{Snapshot, AllAnswered, RunEnded}
+use Rattle.unftp_control_serve.specs.Endings.{Snapshot, AllAnswered, RanOutOfMemory, RunEnded, TookAtMostOne}
 use Rattle.unftp_control_serve.specs.Decoder.{Pending, HasNoLine, TakesLine}
 use Rattle.unftp_control_serve.specs.declared.error.ServeError.{ServeError}
 use Rattle.unftp_control_serve.proofs.EndingLemmas.{Answering, Answering-next, Answering-end, Answering-ended, AllAnswered-nothing}
@@ -119,3 +119,21 @@ module _ {S : Type 0} (law : Law S) (limit : Option ℕ) (m : Snapshot S) where
 
           pub last_line-unread : q.bytes ≡ unread limit law m.state bytes
           last_line-unread = sym (so_far.same_unread ∙ first_line-unread law limit p q n.state same event first k.state all.state done)
+
+-- memory runs out before the next line
+took_none : {S : Type 0} (law : Law S) (s : S) (later : List FtpEvent) (s' : S) → s' ≡ s → TookAtMostOne law s later s'
+took_none law s [] s' e = e
+took_none law s (event ∷ later) s' e = inl e
+
+pub halfway-no_memory : {S : Type 0} (law : Law S) (limit : Option ℕ) (m n : Snapshot S) (bytes pending : Bytes) → Halfway law limit m n bytes pending
+    → RanOutOfMemory law m (run_with_limit limit law m.state bytes) n
+halfway-no_memory law limit m n bytes pending h = record {
+  done = h.answering.done;
+  later = run_with_limit limit law n.state pending;
+  split = h.answering.split;
+  state = took_none law (last_state law m.state h.answering.done) (run_with_limit limit law n.state pending) n.state h.answering.all.state;
+  written = h.answering.all.written;
+  flushed = h.answering.all.flushed;
+  no_write_failed = h.answering.all.no_write_failed;
+  handler_kept = h.answering.all.handler_kept;
+}

@@ -1,7 +1,9 @@
 -- The pending bytes of a decoder.
-use Rattle.std.specs.Prelude.{◌≡◌, ℕ, ◌+◌, ◌-◌, ◌^◌, ◌<◌, ◌≤◌, Bool, true, if◌then◌else◌, [], ◌++◌, length, min, max, take, drop, Option, Some, None, Result, Ok, Err, MatchResult, MatchOption, IfSome, option_map, nat_lt}
+use Rattle.std.specs.Prelude.{◌≡◌, ℕ, ◌+◌, ◌-◌, ◌^◌, ◌<◌, ◌≤◌, Bool, true, false, if◌then◌else◌, [], ◌++◌, length, min, max, take, drop, Option, Some, None, Result, Ok, Err, MatchResult, MatchOption, IfSome, option_map, nat_lt}
 use Rattle.unftp_control_defs.specs.Bytes.{Bytes, LF, Lacks}
 use Rattle.unftp_control_defs.specs.Events.{FtpEvent}
+use Rattle.unftp_control_defs.specs.Lines.{IsLine}
+use Rattle.unftp_control_line_parser.specs.Memory.{MayTakeMemory}
 use Rattle.unftp_control_defs.specs.EventSteps.{TakesEvent}
 use Rattle.unftp_control_defs.specs.LineLimit.{exceeds}
 use Rattle.unftp_control_codecs.specs.Codec.{Codec}
@@ -136,6 +138,15 @@ pub record TakesLine (before : Pending) (event : FtpEvent) (after : Pending) : T
   pub takes : TakesEvent before.limit before.bytes event after.bytes
   pub all_kept : after.kept ≡ length after.bytes
   pub none_scanned : after.unscanned ≡ length after.bytes
+
+-- There is a first line, it is not too long, and it may take memory.
+pub record MayRunOut (pending : Pending) : Type 0 where
+  pub line : Bytes
+  pub after : Bytes
+  pub is_line : IsLine line
+  pub whole : pending.bytes ≡ line ++ after
+  pub short : exceeds pending.limit (length line) ≡ false
+  pub takes_memory : MayTakeMemory line
 
 -- The same bytes are pending, and as many of them are kept and not scanned yet.
 pub record StaysPending (before after : Pending) : Type 0 where

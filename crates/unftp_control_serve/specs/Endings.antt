@@ -1,5 +1,5 @@
 -- What came of some events: which of them the handler took, what was written, and what was flushed.
-use Rattle.std.specs.Prelude.{◌≡◌, ℕ, ◌<◌, ◌⊎◌, List, [], ◌∷◌, ◌++◌, Option, Result, Err, MatchResult}
+use Rattle.std.specs.Prelude.{◌≡◌, ℕ, ◌+◌, ◌<◌, ◌⊎◌, List, [], ◌∷◌, ◌++◌, Option, Result, Err, MatchResult}
 use Rattle.std.specs.Io.KnownBytes.{Appends}
 use Rattle.unftp_control_defs.specs.Events.{Fault, FtpEvent}
 use Rattle.unftp_control_defs.specs.FtpReply.{encoded}
@@ -68,7 +68,7 @@ pub record HandlerFailed {S : Type 0} (law : Law S) (before : Snapshot S) (event
   pub flushed : Flushed
       (text_of law before.state done) [] before.output.unflushed after.output.unflushed
   pub no_write_failed : after.output.failures ≡ before.output.failures
-  pub handler_failed : before.failures < after.failures
+  pub handler_failed : after.failures ≡ before.failures + 1
 
 -- the handler is in this state, or has taken the first of these events too
 abbrev pub TookAtMostOne : {S : Type 0} → Law S → S → List FtpEvent → S → Type 0

@@ -1,6 +1,6 @@
 //! The pending bytes, and the events of their lines.
 ghost use Rattle.std.specs.Prelude.{◌≡◌, ◌≤◌, ◌+◌, ◌++◌, max, None, Some, IfOk, IfSome, OnOk, OnErr, length};
-ghost use Rattle.unftp_control_serve.specs.Decoder.{TakesNext, ReturnsEvent, buffered_after, cleared, kept_bytes, no_bytes, pushed, saturating_u64, settled};
+ghost use Rattle.unftp_control_serve.specs.Decoder.{MayRunOut, TakesNext, ReturnsEvent, buffered_after, cleared, kept_bytes, no_bytes, pushed, saturating_u64, settled};
 
 use crate::event::Event;
 use crate::skipped::Skipped;
@@ -132,6 +132,8 @@ impl EventDecoder {
         ensures tests { OnOk result
             (self.new.tests + self.new.unscanned ≡ self.old.tests + self.old.unscanned) }
         ensures no_memory { OnErr result (self.new.tests ≤ self.old.tests + self.old.unscanned) }
+        // out of memory is returned only for a complete line that may take some
+        ensures may_run_out { OnErr result (MayRunOut self.old) }
         ensures never_fewer { self.old.tests ≤ self.new.tests }
     {
         let event = self.take_next()?;
@@ -150,6 +152,8 @@ impl EventDecoder {
         ensures tests { OnOk result
             (self.new.tests + self.new.unscanned ≡ self.old.tests + self.old.unscanned) }
         ensures no_memory { OnErr result (self.new.tests ≤ self.old.tests + self.old.unscanned) }
+        // out of memory is returned only for a complete line that may take some
+        ensures may_run_out { OnErr result (MayRunOut self.old) }
         ensures never_fewer { self.old.tests ≤ self.new.tests }
     {
         let (_, pending) = self.buf.as_slice().split_at(self.start);

@@ -1,6 +1,6 @@
 //! Where the replies go.
-ghost use Rattle.std.specs.Prelude.{◌≡◌};
-ghost use Rattle.unftp_control_serve.specs.Endings.{OnWrite};
+ghost use Rattle.std.specs.Prelude.{◌≡◌, [], IsTrue, is_ok};
+ghost use Rattle.unftp_control_serve.specs.Endings.{OnMemory, OnWrite};
 ghost use Rattle.unftp_control_serve.specs.Writing.{OutputState, Sends, Writes, appended_state_of, output_state_of};
 
 use crate::error::ServeError;
@@ -11,16 +11,21 @@ use std::io::Write;
 /// `Vec` holds them for a server that sends them itself.
 pub trait Sink {
     // What contracts see of it: for a `Vec`, its bytes are written, and no write has failed. And
-    // whether it may write a beginning of a reply, and then fail.
+    // whether it may write a beginning of a reply, and then fail; and whether it takes memory.
     ghost state: { Self → OutputState };
 
     ghost cuts: { Type 0 };
 
-    /// Sends the bytes of a reply, if there are any. At `Write` and `WriteZero` a beginning of them
-    /// may be written; at `OutOfMemory` none is. It returns no other error.
+    ghost allocates: { Type 0 };
+
+    /// Sends the bytes of a reply; where there are none, it does nothing, at `Ok`. At `Write` and
+    /// `WriteZero` a beginning of them may be written; at `OutOfMemory` none is. It returns no other
+    /// error.
     fn send(&mut self, bytes: &[u8]) -> Result<(), ServeError>
         ensures sends { Sends result bytes.now (state self.old) (state self.new) }
-        ensures cuts { OnWrite result cuts };
+        ensures cuts { OnWrite result cuts }
+        ensures memory { OnMemory result allocates }
+        ensures nothing { bytes.now ≡ [] → IsTrue (is_ok result) };
 }
 
 /// Each reply is written and flushed.
@@ -28,6 +33,8 @@ impl<W: Write> Sink for Output<W> {
     ghost state = { output_state_of W.contents };
 
     ghost cuts = { Unit {0} };
+
+    ghost allocates = { ⊥ };
 
     fn send(&mut self, bytes: &[u8]) -> Result<(), ServeError> {
         if bytes.is_empty() {
@@ -44,9 +51,13 @@ impl Sink for Vec<u8> {
 
     ghost cuts = { ⊥ };
 
+    ghost allocates = { Unit {0} };
+
     fn send(&mut self, bytes: &[u8]) -> Result<(), ServeError> {
-        self.extend_from_slice(bytes)?;
-        Ok(())
+        match bytes {
+            [] => Ok(()),
+            _ => Ok(self.extend_from_slice(bytes)?),
+        }
     }
 }
 

@@ -59,7 +59,7 @@ pub fn the_handler_failed_at_an_event()
         → Appends (Some (codes "x")) after.output.written [] × (after.output.unflushed ≤ 1) }
     ensures failed { (after : Snapshot ℕ) (fault : Fault)
         → HandlerFailed counting (snapshot 3 (codes "x") 1) (noop ∷ []) after fault
-        → (0 < after.failures) × (after.output.failures ≡ 0) }
+        → (after.failures ≡ 1) × (after.output.failures ≡ 0) }
 {}
 
 /// An allocation failed: the handler took the event or not. Without events, it is in its state as
@@ -145,6 +145,8 @@ pub fn an_engine_is_fed()
         → (after.limit ≡ Some 5) × (after.held ≤ 10) }
     ensures room { (after : EngineState)
         → Fed counting (waiting (Some 5)) (codes "OP\r\nP") 3 true after → after.buffered < 5 }
+    ensures stays { (before after : EngineState) → before.failed ≡ true
+        → Fed counting before (codes "OP\r\nP") 3 false after → after ≡ before }
 {}
 
 /// What each error of a sending means: the writer failed, or nothing was written.

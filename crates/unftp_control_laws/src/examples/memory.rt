@@ -1,6 +1,7 @@
 //! Lines worked out by hand: which of them may need an allocation.
-ghost use Rattle.std.specs.Prelude.{◌++◌, ◌∷◌, codes};
+ghost use Rattle.std.specs.Prelude.{◌++◌, ◌∷◌, None, Some, codes};
 ghost use Rattle.unftp_control_line_parser.specs.Memory.{MayTakeMemory};
+ghost use Rattle.unftp_control_serve.specs.Decoder.{MayRunOut, no_bytes, pushed};
 
 /// A line whose command has a field, or that is refused.
 pub fn lines_that_may_take_memory()
@@ -21,4 +22,17 @@ pub fn lines_that_take_no_memory()
     ensures ignored_value { MayTakeMemory (codes "TYPE a\r\n") → ⊥ }
     ensures ignored_end { MayTakeMemory (codes "TYPE a") → ⊥ }
     ensures bad_verb { MayTakeMemory (255 ∷ codes "\r\n") → ⊥ }
+{}
+
+/// The first of the pending lines may need an allocation.
+pub fn a_pending_line_may_take_memory()
+    ensures field { MayRunOut (pushed (no_bytes None) (codes "USER a\r\nNO")) }
+    ensures within_the_limit { MayRunOut (pushed (no_bytes (Some 8)) (codes "USER a\r\n")) }
+{}
+
+/// No line is pending, or the first needs no allocation.
+pub fn a_pending_line_takes_no_memory()
+    ensures no_line { MayRunOut (pushed (no_bytes None) (codes "USER a")) → ⊥ }
+    ensures no_value { MayRunOut (pushed (no_bytes None) (codes "NOOP\r\nUSER a\r\n")) → ⊥ }
+    ensures too_long { MayRunOut (pushed (no_bytes (Some 7)) (codes "USER a\r\n")) → ⊥ }
 {}

@@ -2,7 +2,7 @@ use Rattle.std.proofs.Common.{◌∙◌, refl, sym, ap, arith}
 use Rattle.std.proofs.lemmas.Bool.{false≢true}
 use Rattle.std.proofs.lemmas.Result.{err_from_is_err_and}
 use Rattle.unftp_control_serve.specs.Decoder.{kept_length}
-use Rattle.unftp_control_serve.proofs.LineRunLemmas.{Halfway-start, Halfway-next, no_line-answered, no_line-not_ended, no_line-all_unread, line-failed, last_line-answered, last_line-ended, last_line-unread}
+use Rattle.unftp_control_serve.proofs.LineRunLemmas.{halfway-no_memory, Halfway-start, Halfway-next, no_line-answered, no_line-not_ended, no_line-all_unread, line-failed, last_line-answered, last_line-ended, last_line-unread}
 use Rattle.unftp_control_serve.proofs.engine.answer_lines.Goals as goal
 
 pub loop-event-init : goal.loop-event-init
@@ -88,3 +88,8 @@ returns-in-None-clause-kept g c =
     let kept = rw c.in-None.is at c.in_ok-event.ensures.buffered in
     λ on. kept ∙ none.kept ∙ ap (λ limit. kept_length limit c.loop-event.decoder.bytes) c.loop-event.invariant.limit
     ∙ ap (kept_length c.args.decoder.now.limit) (sym none.same)
+
+pub returns-in_err-event-clause-outcome : goal.returns-in_err-event-clause-outcome
+returns-in_err-event-clause-outcome g c =
+    let error = err_from_is_err_and c.from_residual.result c.from_residual.ensures.1 in
+    rw (error.1, error.2) (halfway-no_memory _ _ _ _ _ _ c.loop-event.invariant.halfway)
