@@ -2,9 +2,14 @@
 //! complete, up to QUIT.
 #![tactic(auto)]
 
-ghost use Rattle.std.specs.Prelude.{false, IfSome, OnOk};
+ghost use Rattle.std.specs.Prelude.{◌≡◌, ◌-◌, Bool, ℕ, None, false, length, IfErr, IfOk, IfSome, OnOk};
 ghost use Rattle.std.specs.Io.KnownBytes.{Appends};
-ghost use Rattle.unftp_control_defs.specs.Run.{text_for};
+ghost use Rattle.unftp_control_defs.specs.Events.{events};
+ghost use Rattle.unftp_control_defs.specs.LineLimit.{unread};
+ghost use Rattle.unftp_control_defs.specs.Run.{ends, text_for};
+ghost use Rattle.unftp_control_serve.specs.Decoder.{saturating_u64};
+ghost use Rattle.unftp_control_serve.specs.Service.{ServeEnded, input_state_of};
+ghost use Rattle.unftp_control_serve.specs.Writing.{output_state_of};
 ghost use Rattle.demo_responses.specs.Responses.{responses_law};
 
 use demo_responses::Responses;
@@ -20,9 +25,24 @@ pub fn run<R: Read, W: Write>(
     reader: &mut Input<R>,
     writer: &mut Output<W>,
 ) -> Result<Served, ServeError>
-    ensures { OnOk result (IfSome (R.remaining reader.old.reader) (λ input.
+    // At Ok exactly the replies to the lines are written, up to QUIT.
+    ensures written { OnOk result (IfSome (R.remaining reader.old.reader) (λ input.
         Appends (W.contents writer.old.writer) (W.contents writer.new.writer)
         (text_for responses_law false input))) }
+    // Whether QUIT came, and how many bytes after the last line were read.
+    ensures done { IfOk result (λ served. IfSome (R.remaining reader.old.reader) (λ input.
+        served.done ≡ ends responses_law false (events input))) }
+    ensures left { IfOk result (λ served. IfSome (R.remaining reader.old.reader) (λ input.
+        IfSome (R.remaining reader.new.reader) (λ rest. served.left
+        ≡ saturating_u64 (length (unread None responses_law false input) - length rest)))) }
+    // What is so at each error, for some last state of the handler and count of its failures.
+    ensures err { IfErr result (λ error. (quit : Bool) × (failures : ℕ)
+        × ServeEnded responses_law
+        (record { state = false; failures = 0; output = output_state_of W.contents writer.old })
+        (record { state = quit; failures = failures;
+          output = output_state_of W.contents writer.new })
+        (input_state_of R.remaining reader.old)
+        (input_state_of R.remaining reader.new) error) }
 {
     serve(alloc, reader, writer, &mut Responses::new())
 }

@@ -2,11 +2,12 @@
 //! files in memory: each line is answered when it is complete, up to QUIT.
 #![tactic(auto)]
 
-ghost use Rattle.std.specs.Prelude.{◌≤◌, ◌+◌, IfOk, IfSome, OnOk, Some};
+ghost use Rattle.std.specs.Prelude.{◌≡◌, ◌≤◌, ◌+◌, ◌-◌, IfOk, IfSome, OnOk, Some, length};
 ghost use Rattle.std.specs.Io.KnownBytes.{Appends};
 ghost use Rattle.unftp_control_defs.specs.Bytes.{Bytes};
-ghost use Rattle.unftp_control_defs.specs.LineLimit.{text_with_limit};
+ghost use Rattle.unftp_control_defs.specs.LineLimit.{ends_with_limit, text_with_limit, unread};
 ghost use Rattle.unftp_control_login.specs.Promises.{MembersAlone};
+ghost use Rattle.unftp_control_serve.specs.Decoder.{saturating_u64};
 ghost use Rattle.login_demo.specs.Guarded.{guarded_law, guarded_session};
 
 mod accounts;
@@ -58,6 +59,14 @@ pub fn run<R: Read, W: Write, A: Accounts + Drop>(
     ensures written { OnOk result (IfSome (R.remaining reader.old.reader) (λ input.
         Appends (W.contents writer.old.writer) (W.contents writer.new.writer)
         (text_with_limit (Some LIMIT) guarded_law (guarded_session (A.accepts accounts)) input))) }
+    // Whether QUIT came or too many logins failed, and how many bytes after the last line were read.
+    ensures done { IfOk result (λ served. IfSome (R.remaining reader.old.reader) (λ input.
+        served.done
+        ≡ ends_with_limit (Some LIMIT) guarded_law (guarded_session (A.accepts accounts)) input)) }
+    ensures left { IfOk result (λ served. IfSome (R.remaining reader.old.reader) (λ input.
+        IfSome (R.remaining reader.new.reader) (λ rest. served.left ≡ saturating_u64 (length
+        (unread (Some LIMIT) guarded_law (guarded_session (A.accepts accounts)) input)
+        - length rest)))) }
     // Whatever the input: where a client reads in the output a reply that reports no failure, at the
     // place of a command that needs a login, the accounts have accepted a name and its password
     // before it.

@@ -10,6 +10,14 @@ pub returns-clause-written : goal.returns-clause-written
 returns-clause-written g c =
     simp (c.new-2.ensures.left, c.new-2.ensures.inner, c.new-gate.ensures.accounts, c.new-gate.ensures.stage, c.new-gate.ensures.quit, c.new-gate.ensures.inner, c.new.ensures.session) at c.serve_with_limit.ensures.written
 
+pub returns-clause-done : goal.returns-clause-done
+returns-clause-done g c =
+    simp (c.new-2.ensures.left, c.new-2.ensures.inner, c.new-gate.ensures.accounts, c.new-gate.ensures.stage, c.new-gate.ensures.quit, c.new-gate.ensures.inner, c.new.ensures.session) at c.serve_with_limit.ensures.done
+
+pub returns-clause-left : goal.returns-clause-left
+returns-clause-left g c =
+    simp (c.new-2.ensures.left, c.new-2.ensures.inner, c.new-gate.ensures.accounts, c.new-gate.ensures.stage, c.new-gate.ensures.quit, c.new-gate.ensures.inner, c.new.ensures.session) at c.serve_with_limit.ensures.left
+
 pub returns-clause-members : goal.returns-clause-members
 returns-clause-members g c = some_output c.serve_with_limit.result (g.R.Read.remaining c.args.reader.now.reader)
     (λ (output : Bytes). Appends (g.W.Write.contents c.args.writer.now.writer) (g.W.Write.contents c.serve_with_limit.new.writer.writer) output)
