@@ -39,8 +39,11 @@ pub fn run<R: Read, W: Write>(
     ensures err { IfErr result (λ error. (quit : Bool) × (failures : ℕ)
         × ServeEnded responses_law
         (record { state = false; failures = 0; output = output_state_of W.contents writer.old })
-        (record { state = quit; failures = failures;
-          output = output_state_of W.contents writer.new })
+        (record {
+          state = quit;
+          failures = failures;
+          output = output_state_of W.contents writer.new;
+        })
         (input_state_of R.remaining reader.old)
         (input_state_of R.remaining reader.new) error) }
 {
