@@ -3,7 +3,7 @@ ghost use Rattle.std.specs.Prelude.{IfSome, OnOk, Some};
 ghost use Rattle.std.specs.Io.KnownBytes.{Appends};
 ghost use Rattle.unftp_control.specs.Bytes.{Bytes};
 ghost use Rattle.unftp_control.specs.Gate.{closed, gated_law};
-ghost use Rattle.unftp_control.specs.LineLimit.{text_with_limit};
+ghost use Rattle.unftp_control.specs.Run.{text_for};
 ghost use Rattle.unftp_control.specs.LoginLimit.{limited_law, limited_to};
 ghost use Rattle.unftp_control.specs.Promises.{MembersAlone, SendsPlainReplies};
 
@@ -24,7 +24,7 @@ pub fn serve_members<R: Read, W: Write, A: Accounts + Drop, H: Handler + Drop>(
     // exactly the replies of limit, gate and handler are written
     ensures written { OnOk result (IfSome (R.remaining reader.old.reader) (λ input.
         Appends (W.contents writer.old.writer) (W.contents writer.new.writer)
-        (text_with_limit (Some 4096) (limited_law (gated_law H.law))
+        (text_for (Some 4096) (limited_law (gated_law H.law))
         (limited_to 3 (closed (A.accepts accounts) (H.state handler))) input))) }
     // a reply that reports no failure, at the place of a command that needs a login, comes only
     // after a name and a password that the accounts accept

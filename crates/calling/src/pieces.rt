@@ -3,8 +3,7 @@ ghost use Rattle.std.specs.Prelude.{◌≡◌, None, map, IfOk, OnOk, length};
 ghost use Rattle.std.specs.List.{concat};
 ghost use Rattle.std.specs.Io.KnownBytes.{Appends};
 ghost use Rattle.unftp_control.specs.Decoder.{saturating_u64};
-ghost use Rattle.unftp_control.specs.LineLimit.{unread};
-ghost use Rattle.unftp_control.specs.Run.{text_for};
+ghost use Rattle.unftp_control.specs.Run.{unread, text_for};
 
 use std::alloc::Global;
 use std::io::Write;
@@ -20,7 +19,7 @@ pub fn answer_pieces<H: Handler, W: Write>(
 ) -> Result<u64, ServeError>
     ensures written { OnOk result
         (Appends (W.contents output.old.writer) (W.contents output.new.writer)
-        (text_for H.law (H.state handler.old) (concat (map (λ piece. piece.now) pieces.now)))) }
+        (text_for None H.law (H.state handler.old) (concat (map (λ piece. piece.now) pieces.now)))) }
     ensures left { IfOk result (λ left.
         left ≡ saturating_u64 (length (unread None H.law (H.state handler.old)
         (concat (map (λ piece. piece.now) pieces.now))))) }
@@ -39,7 +38,7 @@ pub fn replies_to_pieces<H: Handler>(
     handler: &mut H,
 ) -> Result<Vec<u8>, ServeError>
     ensures { IfOk result (λ replies. replies.items
-        ≡ text_for H.law (H.state handler.old) (concat (map (λ piece. piece.now) pieces.now))) }
+        ≡ text_for None H.law (H.state handler.old) (concat (map (λ piece. piece.now) pieces.now))) }
 {
     let mut engine = Engine::new(alloc);
     let mut replies = Vec::new(alloc);

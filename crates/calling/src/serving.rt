@@ -1,9 +1,7 @@
 //! A connection served to its end.
 ghost use Rattle.std.specs.Prelude.{◌≡◌, ◌+◌, ◌≤◌, Some, IfOk, IfSome, OnOk};
 ghost use Rattle.std.specs.Io.KnownBytes.{Appends};
-ghost use Rattle.unftp_control.specs.Events.{events};
-ghost use Rattle.unftp_control.specs.LineLimit.{text_with_limit};
-ghost use Rattle.unftp_control.specs.Run.{run_of, last_state, text_for};
+ghost use Rattle.unftp_control.specs.Run.{run_for, last_state, text_for};
 
 use std::alloc::Global;
 use std::io::{Read, Write};
@@ -18,10 +16,10 @@ pub fn serve_connection<R: Read + Drop, W: Write, H: Handler>(
 ) -> (Result<Served, ServeError>, W)
     ensures written { OnOk result.0 (IfSome (R.remaining stream_in) (λ input.
         Appends (W.contents stream_out) (W.contents result.1)
-        (text_for H.law (H.state handler.old) input))) }
+        (text_for None H.law (H.state handler.old) input))) }
     ensures state { OnOk result.0 (IfSome (R.remaining stream_in) (λ input.
         H.state handler.new ≡ last_state H.law (H.state handler.old)
-        (run_of H.law (H.state handler.old) (events input)))) }
+        (run_for None H.law (H.state handler.old) input))) }
 {
     let mut input = Input::new(stream_in);
     let mut output = Output::new(stream_out);
@@ -42,7 +40,7 @@ pub fn serve_stranger<R: Read + Drop, W: Write, H: Handler>(
 ) -> (Result<Served, ServeError>, W)
     ensures written { OnOk result.0 (IfSome (R.remaining stream_in) (λ input.
         Appends (W.contents stream_out) (W.contents result.1)
-        (text_with_limit (Some 8192) H.law (H.state handler.old) input))) }
+        (text_for (Some 8192) H.law (H.state handler.old) input))) }
     ensures bound { IfOk result.0 (λ served. served.held ≤ 8192 + 4096) }
 {
     let mut input = Input::new(stream_in);

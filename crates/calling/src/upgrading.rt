@@ -3,7 +3,7 @@ ghost use Rattle.std.specs.Prelude.{◌≡◌, Bool, None, Some, false, true, If
 ghost use Rattle.std.specs.Io.KnownBytes.{Appends};
 ghost use Rattle.calling.specs.UntilTls.{is_auth_tls, until_tls};
 ghost use Rattle.unftp_control.specs.EventMeaning.{event_meant};
-ghost use Rattle.unftp_control.specs.LineLimit.{after_end, ends_with_limit, text_with_limit};
+ghost use Rattle.unftp_control.specs.Run.{after_end, ends_for, text_for};
 
 use std::alloc::Global;
 use std::io::{Read, Write};
@@ -75,11 +75,11 @@ pub fn serve_until_tls<R: Read + Drop, W: Write>(
 ) -> (Result<Option<R>, ServeError>, W)
     ensures written { OnOk result.0 (IfSome (R.remaining stream_in) (λ input.
         Appends (W.contents stream_out) (W.contents result.1)
-        (text_with_limit (Some 512) until_tls false input))) }
+        (text_for (Some 512) until_tls false input))) }
     // AUTH TLS was the last line, and the stream begins with the byte after its line feed
     ensures tls { IfOk result.0 (λ next. IfSome next (λ stream.
         IfSome (R.remaining stream_in) (λ input. IfSome (R.remaining stream) (λ rest.
-        (ends_with_limit (Some 512) until_tls false input ≡ true)
+        (ends_for (Some 512) until_tls false input ≡ true)
         × (after_end (Some 512) until_tls false input ≡ rest))))) }
 {
     let mut input = Input::new(stream_in);

@@ -4,9 +4,7 @@
 
 ghost use Rattle.std.specs.Prelude.{◌≡◌, ◌-◌, Bool, ℕ, None, false, length, IfErr, IfOk, IfSome, OnOk};
 ghost use Rattle.std.specs.Io.KnownBytes.{Appends};
-ghost use Rattle.unftp_control_defs.specs.Events.{events};
-ghost use Rattle.unftp_control_defs.specs.LineLimit.{unread};
-ghost use Rattle.unftp_control_defs.specs.Run.{ends, text_for};
+ghost use Rattle.unftp_control_defs.specs.Run.{unread, ends_for, text_for};
 ghost use Rattle.unftp_control_serve.specs.Decoder.{saturating_u64};
 ghost use Rattle.unftp_control_serve.specs.Service.{ServeEnded, input_state_of};
 ghost use Rattle.unftp_control_serve.specs.Writing.{output_state_of};
@@ -28,16 +26,16 @@ pub fn run<R: Read, W: Write>(
     // At Ok exactly the replies to the lines are written, up to QUIT.
     ensures written { OnOk result (IfSome (R.remaining reader.old.reader) (λ input.
         Appends (W.contents writer.old.writer) (W.contents writer.new.writer)
-        (text_for responses_law false input))) }
+        (text_for None responses_law false input))) }
     // Whether QUIT came, and how many bytes after the last line were read.
     ensures done { IfOk result (λ served. IfSome (R.remaining reader.old.reader) (λ input.
-        served.done ≡ ends responses_law false (events input))) }
+        served.done ≡ ends_for None responses_law false input)) }
     ensures left { IfOk result (λ served. IfSome (R.remaining reader.old.reader) (λ input.
         IfSome (R.remaining reader.new.reader) (λ rest. served.left
         ≡ saturating_u64 (length (unread None responses_law false input) - length rest)))) }
     // What is so at each error, for some last state of the handler and count of its failures.
     ensures err { IfErr result (λ error. (quit : Bool) × (failures : ℕ)
-        × ServeEnded responses_law
+        × ServeEnded None responses_law
         (record { state = false; failures = 0; output = output_state_of W.contents writer.old })
         (record {
           state = quit;

@@ -2,12 +2,17 @@
 //! files in memory: each line is answered when it is complete, up to QUIT.
 #![tactic(auto)]
 
-ghost use Rattle.std.specs.Prelude.{◌≡◌, ◌≤◌, ◌+◌, ◌-◌, IfOk, IfSome, OnOk, Some, length};
+ghost use Rattle.std.specs.Prelude.{◌≡◌, ◌≤◌, ◌+◌, ◌-◌, ℕ, IfErr, IfOk, IfSome, OnOk, Some, length};
 ghost use Rattle.std.specs.Io.KnownBytes.{Appends};
 ghost use Rattle.unftp_control_defs.specs.Bytes.{Bytes};
-ghost use Rattle.unftp_control_defs.specs.LineLimit.{ends_with_limit, text_with_limit, unread};
+ghost use Rattle.unftp_control_defs.specs.Run.{ends_for, text_for, unread};
 ghost use Rattle.unftp_control_login.specs.Promises.{MembersAlone};
+ghost use Rattle.unftp_control_login.specs.Gate.{Gated};
+ghost use Rattle.unftp_control_login.specs.LoginLimit.{Limited};
 ghost use Rattle.unftp_control_serve.specs.Decoder.{saturating_u64};
+ghost use Rattle.unftp_control_serve.specs.Service.{ServeEnded, input_state_of};
+ghost use Rattle.unftp_control_serve.specs.Writing.{output_state_of};
+ghost use Rattle.login_demo.specs.declared.session.Session.{Session};
 ghost use Rattle.login_demo.specs.Guarded.{guarded_law, guarded_session};
 
 mod accounts;
@@ -58,11 +63,11 @@ pub fn run<R: Read, W: Write, A: Accounts + Drop>(
     // At Ok exactly the replies to the lines are written.
     ensures written { OnOk result (IfSome (R.remaining reader.old.reader) (λ input.
         Appends (W.contents writer.old.writer) (W.contents writer.new.writer)
-        (text_with_limit (Some LIMIT) guarded_law (guarded_session (A.accepts accounts)) input))) }
+        (text_for (Some LIMIT) guarded_law (guarded_session (A.accepts accounts)) input))) }
     // Whether QUIT came or too many logins failed, and how many bytes after the last line were read.
     ensures done { IfOk result (λ served. IfSome (R.remaining reader.old.reader) (λ input.
         served.done
-        ≡ ends_with_limit (Some LIMIT) guarded_law (guarded_session (A.accepts accounts)) input)) }
+        ≡ ends_for (Some LIMIT) guarded_law (guarded_session (A.accepts accounts)) input)) }
     ensures left { IfOk result (λ served. IfSome (R.remaining reader.old.reader) (λ input.
         IfSome (R.remaining reader.new.reader) (λ rest. served.left ≡ saturating_u64 (length
         (unread (Some LIMIT) guarded_law (guarded_session (A.accepts accounts)) input)
@@ -76,6 +81,21 @@ pub fn run<R: Read, W: Write, A: Accounts + Drop>(
         × MembersAlone (Some LIMIT) (A.accepts accounts) input output)) }
     // At Ok the buffer has held at most the limit and one piece.
     ensures bound { IfOk result (λ served. served.held ≤ LIMIT + 4096) }
+    // What is so at each error, for some last state of the session and count of its failures.
+    ensures err { IfErr result (λ error. (session : Limited (Gated Session)) × (failures : ℕ)
+        × ServeEnded (Some LIMIT) guarded_law
+        (record {
+          state = guarded_session (A.accepts accounts);
+          failures = 0;
+          output = output_state_of W.contents writer.old;
+        })
+        (record {
+          state = session;
+          failures = failures;
+          output = output_state_of W.contents writer.new;
+        })
+        (input_state_of R.remaining reader.old)
+        (input_state_of R.remaining reader.new) error) }
 {
     let gate = Gate::new(accounts, Files::new());
     serve_with_limit(

@@ -15,7 +15,6 @@ pub use Rattle.unftp_control_defs.specs.ReplySteps
 pub use Rattle.unftp_control_defs.specs.Events
 pub use Rattle.unftp_control_defs.specs.Texts
 pub use Rattle.unftp_control_defs.specs.Run
-pub use Rattle.unftp_control_defs.specs.LineLimit
 pub use Rattle.unftp_control_defs.specs.Pieces
 pub use Rattle.unftp_control_defs.specs.EventSteps
 pub use Rattle.unftp_control_defs.specs.Steps

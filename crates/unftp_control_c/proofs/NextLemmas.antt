@@ -5,9 +5,8 @@ use Rattle.std.proofs.lemmas.Bool.{and_parts, leb-true}
 use Rattle.std.specs.Option.{MatchOption}
 use Rattle.unftp_control_defs.specs.Bytes.{Bytes}
 use Rattle.unftp_control_defs.specs.FtpCommand.{FtpCommand, Answer, Refusal, InvalidCommand, InvalidUtf8, InvalidEol}
-use Rattle.unftp_control_defs.specs.Events.{Fault, FtpEvent, Command, Refused, event_of, refusal_fault}
+use Rattle.unftp_control_defs.specs.Events.{Fault, FtpEvent, Command, Refused, event_of, refusal_fault, line_too_long}
 use Rattle.unftp_control_defs.specs.Events as fault
-use Rattle.unftp_control_defs.specs.LineLimit.{line_too_long}
 use Rattle.unftp_control_defs.specs.Outcome.{outcome}
 use Rattle.unftp_control_command.specs.declared.Command.{Command as RustCommand}
 use Rattle.unftp_control_command.specs.CommandMeaning.{command_of}

@@ -7,9 +7,8 @@ use Rattle.std.proofs.lemmas.List.{take_more, take-append-drop, take-append-le, 
 use Rattle.std.proofs.Math.Seq.{take-length}
 use Rattle.unftp_control_defs.specs.Bytes.{Bytes, LF, Lacks}
 use Rattle.unftp_control_defs.specs.EventSteps.{TakesEvent}
-use Rattle.unftp_control_defs.specs.Events.{FtpEvent, Refused, event_of}
+use Rattle.unftp_control_defs.specs.Events.{FtpEvent, Refused, event_of, exceeds, line_too_long, event_for}
 use Rattle.unftp_control_defs.specs.FtpCommand.{Answer, FtpCommand}
-use Rattle.unftp_control_defs.specs.LineLimit.{exceeds, line_too_long, event_with_limit}
 use Rattle.unftp_control_defs.specs.Lines.{IsLine}
 use Rattle.unftp_control_defs.specs.Outcome.{outcome}
 use Rattle.unftp_control_defs.proofs.LackLemmas.{Lacks-append}
@@ -122,7 +121,7 @@ module _ (call : Call) (dropped : Bytes) (kept : IsKept call dropped) where
     took_if true e used = rw e (refl, refl, refl)
     took_if false e used = rw e (took_answer (outcome line) (rw e at used))
 
-    event_is : (long : Bool) → is_long call (k + 1) ≡ long → event_if long ≡ event_with_limit limit (dropped ++ line)
+    event_is : (long : Bool) → is_long call (k + 1) ≡ long → event_if long ≡ event_for limit (dropped ++ line)
     event_is true e =
         let long : exceeds limit (length (dropped ++ line)) ≡ true =
         still_long call.skipping call dropped (k + 1) (length (dropped ++ line)) kept.dropped_well e

@@ -2,7 +2,7 @@
 use Rattle.std.specs.Prelude.{◌≡◌, ℕ, ◌+◌, ◌==◌, ◌&&◌, ◌||◌, ◌⊎◌, Bool, true, false, not, if◌then◌else◌, [], length, take, nat_le, Option, None, Some, Result, Ok, Err, unwrap_or}
 use Rattle.unftp_control_defs.specs.Bytes.{Bytes}
 use Rattle.unftp_control_defs.specs.FtpCommand.{FtpCommand, Answer}
-use Rattle.unftp_control_defs.specs.LineLimit.{exceeds}
+use Rattle.unftp_control_defs.specs.Events.{exceeds}
 use Rattle.unftp_control_defs.specs.NameAndValue.{name_and_value}
 use Rattle.unftp_control_defs.specs.Outcome.{outcome}
 use Rattle.unftp_control_line_parser.specs.Memory.{MayTakeMemory}

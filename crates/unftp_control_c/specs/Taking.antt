@@ -1,8 +1,7 @@
 -- What a caller of `unftp_next` keeps from call to call, and the event that a call gives.
 use Rattle.std.specs.Prelude.{◌≡◌, ℕ, ◌+◌, ◌≤◌, Bool, true, false, [], length, take, drop}
 use Rattle.unftp_control_defs.specs.Bytes.{Bytes, LF, Lacks}
-use Rattle.unftp_control_defs.specs.Events.{FtpEvent, Command, Refused}
-use Rattle.unftp_control_defs.specs.LineLimit.{exceeds}
+use Rattle.unftp_control_defs.specs.Events.{FtpEvent, Command, Refused, exceeds}
 use Rattle.unftp_control_c.specs.Numbers.{command_number, status_number, fault_status}
 use Rattle.unftp_control_c.specs.Next.{Call, line_limit, next_of}
 

@@ -1,12 +1,11 @@
 -- What one call of `decode` does to a codec and its buffer, and what it returns.
 use Rattle.std.specs.Prelude.{◌≡◌, ℕ, ◌+◌, ◌-◌, ◌≤◌, ◌⊎◌, Bool, true, false, [], length, take, drop, Option, None, Some, Result, Ok, Err, MatchOption}
 use Rattle.unftp_control_defs.specs.Bytes.{Bytes}
-use Rattle.unftp_control_defs.specs.Events.{FtpEvent, Command, Refused, event_of, OutOfMemory}
+use Rattle.unftp_control_defs.specs.Events.{FtpEvent, Command, Refused, event_of, OutOfMemory, line_too_long}
 use Rattle.unftp_control_command.specs.declared.Command.{Command as RustCommand}
 use Rattle.unftp_control_command.specs.CommandMeaning.{command_of}
 use Rattle.unftp_control_error.specs.ErrorParts.{KindAndSource}
 use Rattle.unftp_control_error.specs.ErrorMeaning.{fault_of}
-use Rattle.unftp_control_defs.specs.LineLimit.{line_too_long}
 use Rattle.unftp_control_defs.specs.Outcome.{outcome}
 use Rattle.unftp_control_line_parser.specs.Memory.{MayTakeMemory}
 use Rattle.unftp_control_codecs.specs.Codec.{Codec, is_too_long}

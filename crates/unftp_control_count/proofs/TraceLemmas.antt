@@ -19,7 +19,7 @@ sealed = vstruct (vcons vunit vnil)
 
 pub trace_made : {M : Type 1} {𝓤 : Ura M} {𝓛 : Logic 𝓤} {K : Type 0} {Γ : List (Item 𝓤)} {G : Goal 𝓤 𝓛.H} → K → (n : List ℕ) → Step K 𝓛 (‵ (the_row.own_val n (sealed ∷ [])) ∷ Γ) G Γ G
 trace_made t n = step (λ s.
-    let made : Fields.Inside = record { seal = tt; bytes = n } in
+    let made : Fields.Inside = record { seal = tt; numbers = n } in
     nothing t $ nothing t $
     nothing t $ feq_i t (List Val) (vunit ∷ []) (vunit ∷ []) refl $ fjoin t $ feq_i t (List Val) (sealed ∷ []) (sealed ∷ []) refl $ fjoin t $
     fpack t (Valss (unit ∷ [])) (within (record { name = []; args = []; types = []; fields = unit ∷ [] }) (tt, tt) (sealed ∷ [])) (vunit ∷ [], tt) $ fjoin t $ fjoin t $

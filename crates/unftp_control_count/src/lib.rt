@@ -1,4 +1,4 @@
-//! A count, and a list of bytes, that only contracts see: they take no byte, and their methods give
+//! A count, and a list of numbers, that only contracts see: they take no byte, and their methods give
 //! nothing that code could read.
 #![tactic(auto)]
 

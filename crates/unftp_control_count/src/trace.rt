@@ -1,14 +1,14 @@
-//! A list of bytes that only contracts see.
+//! A list of numbers that only contracts see.
 ghost use Rattle.std.specs.Prelude.{◌≡◌, ◌++◌, ◌∷◌, [], List, ℕ};
 
 use std::marker::Model;
 
-/// Bytes that contracts know and no code can read: it takes no byte, and no time where the compiler
+/// Numbers that contracts know and no code can read: it takes no byte, and no time where the compiler
 /// drops a loop that does nothing. Outside this crate it begins empty, and is only extended or reset.
 #[derive(Drop)]
 pub struct Trace {
     seal: (),
-    ghost bytes: { List ℕ },
+    ghost numbers: { List ℕ },
 }
 
 impl Model for Trace {
@@ -17,13 +17,13 @@ impl Model for Trace {
 
     ghost Value = { List ℕ };
 
-    ghost view = { λ trace. trace.bytes };
+    ghost view = { λ trace. trace.numbers };
 
     ghost also_owns = { λ _. ftrue };
 }
 
 impl Trace {
-    /// No bytes so far.
+    /// No numbers so far.
     pub fn new() -> Trace
         ensures { result ≡ [] }
     {
@@ -31,17 +31,18 @@ impl Trace {
     }
 
     #[inline(always)]
-    fn with(&self, _byte: u8) -> Trace
-        ensures { result ≡ self.now ++ _byte ∷ [] }
+    fn with(&self, _number: usize) -> Trace
+        ensures { result ≡ self.now ++ _number ∷ [] }
     {
         Trace { seal: () }
     }
 
+    /// This number after the others.
     #[inline(always)]
-    fn push(&mut self, byte: u8)
-        ensures { self.new ≡ self.old ++ byte ∷ [] }
+    pub fn push(&mut self, number: usize)
+        ensures { self.new ≡ self.old ++ number ∷ [] }
     {
-        *self = self.with(byte);
+        *self = self.with(number);
     }
 
     /// These bytes after the others.
@@ -50,11 +51,11 @@ impl Trace {
         ensures { self.new ≡ self.old ++ bytes.now }
     {
         for byte in bytes {
-            self.push(*byte);
+            self.push(usize::from(*byte));
         }
     }
 
-    /// No bytes again.
+    /// No numbers again.
     #[inline(always)]
     pub fn reset(&mut self)
         ensures { self.new ≡ [] }

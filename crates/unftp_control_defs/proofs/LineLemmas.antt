@@ -5,8 +5,7 @@ use Rattle.std.proofs.lemmas.Bool.{cases_eq, le-ltb}
 use Rattle.std.proofs.lemmas.List.{map-append}
 use Rattle.unftp_control_defs.specs.Bytes.{Bytes, LF, Lacks}
 use Rattle.unftp_control_defs.specs.Lines.{IsLine, Lines, onto_line, onto_incomplete_line, lines_of, incomplete_line}
-use Rattle.unftp_control_defs.specs.Events.{events}
-use Rattle.unftp_control_defs.specs.LineLimit.{exceeds, event_with_limit, events_with_limit}
+use Rattle.unftp_control_defs.specs.Events.{events, exceeds, event_for}
 
 lf_alone : IsLine (LF ∷ [])
 lf_alone = record { body = []; whole = refl; one_end = tt }
@@ -98,29 +97,29 @@ incomplete_line-append (b ∷ bytes) more =
     (λ r. lines_of (r ++ more)) (λ r. incomplete_line (r ++ more)) (λ r. refl) (lines_of-append bytes more) (incomplete_line-append bytes more)
 
 -- Events, with a limit or without one.
-pub events_with_limit-append : (limit : Option ℕ) (bytes more : Bytes) →
-    events_with_limit limit (bytes ++ more) ≡ events_with_limit limit bytes ++ events_with_limit limit (incomplete_line bytes ++ more)
-events_with_limit-append limit bytes more =
-    ap (map (event_with_limit limit)) (lines_of-append bytes more)
-    ∙ map-append (event_with_limit limit) (lines_of bytes) (lines_of (incomplete_line bytes ++ more))
+pub events-append : (limit : Option ℕ) (bytes more : Bytes) →
+    events limit (bytes ++ more) ≡ events limit bytes ++ events limit (incomplete_line bytes ++ more)
+events-append limit bytes more =
+    ap (map (event_for limit)) (lines_of-append bytes more)
+    ∙ map-append (event_for limit) (lines_of bytes) (lines_of (incomplete_line bytes ++ more))
 
 -- the first line, and bytes without one
-pub events_with_limit-line : (limit : Option ℕ) (body more : Bytes) → Lacks LF body →
-    events_with_limit limit (body ++ LF ∷ more) ≡ event_with_limit limit (body ++ LF ∷ []) ∷ events_with_limit limit more
-events_with_limit-line limit body more h = ap (map (event_with_limit limit)) (lines_of-line body more h)
+pub events-line : (limit : Option ℕ) (body more : Bytes) → Lacks LF body →
+    events limit (body ++ LF ∷ more) ≡ event_for limit (body ++ LF ∷ []) ∷ events limit more
+events-line limit body more h = ap (map (event_for limit)) (lines_of-line body more h)
 
-pub events_with_limit-incomplete : (limit : Option ℕ) (incomplete : Bytes) → Lacks LF incomplete → events_with_limit limit incomplete ≡ []
-events_with_limit-incomplete limit incomplete h = ap (map (event_with_limit limit)) (lines_of-incomplete incomplete h)
+pub events-incomplete : (limit : Option ℕ) (incomplete : Bytes) → Lacks LF incomplete → events limit incomplete ≡ []
+events-incomplete limit incomplete h = ap (map (event_for limit)) (lines_of-incomplete incomplete h)
 
 not_exceeding : (limit n : ℕ) → n ≤ limit → exceeds (Some limit) n ≡ false
 not_exceeding limit n h = le-ltb limit n h
 
 -- no line is longer than the limit
 within : (limit : ℕ) (lines : List Bytes) → AllByRecursion (λ line. length line ≤ limit) lines →
-    map (event_with_limit (Some limit)) lines ≡ map (event_with_limit None) lines
+    map (event_for (Some limit)) lines ≡ map (event_for None) lines
 within limit [] each = refl
 within limit (line ∷ lines) each = rw (not_exceeding limit (length line) each.0, within limit lines each.1) refl
 
-pub events_with_limit-within : (limit : ℕ) (input : Bytes) → AllByRecursion (λ line. length line ≤ limit) (lines_of input) →
-    events_with_limit (Some limit) input ≡ events input
-events_with_limit-within limit input each = within limit (lines_of input) each
+pub events-within : (limit : ℕ) (input : Bytes) → AllByRecursion (λ line. length line ≤ limit) (lines_of input) →
+    events (Some limit) input ≡ events None input
+events-within limit input each = within limit (lines_of input) each

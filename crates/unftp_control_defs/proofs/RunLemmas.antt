@@ -1,18 +1,17 @@
 -- Runs over events and inputs that are put together.
-use Rattle.std.proofs.Common.{◌≡◌, ◌≤◌, ℕ, Bool, true, false, ◌||◌, ◌+◌, List, [], ◌∷◌, ◌++◌, Option, length, map, drop, refl, sym, ap, ◌∙◌, arith, append_assoc, length-append}
+use Rattle.std.proofs.Common.{◌≡◌, ◌≤◌, ℕ, zero, suc, Bool, true, false, ◌||◌, ◌+◌, List, [], ◌∷◌, ◌++◌, Option, length, map, drop, refl, sym, ap, ◌∙◌, arith, append_assoc, length-append}
 use Rattle.std.specs.Prelude.{if◌then◌else◌}
 use Rattle.std.specs.List.{concat}
 use Rattle.std.proofs.lemmas.List.{append-nil, drop-append-le, drop_all, length-map}
 use Rattle.std.proofs.lemmas.List.Folds.{concat-append}
 use Rattle.std.proofs.Math.Seq.{drop-append-add}
 use Rattle.unftp_control_defs.specs.Bytes.{Bytes, LF, Lacks}
-use Rattle.unftp_control_defs.specs.Events.{FtpEvent}
+use Rattle.unftp_control_defs.specs.Events.{FtpEvent, event_for, events}
 use Rattle.unftp_control_defs.specs.FtpReply.{FtpReply, encoded}
 use Rattle.unftp_control_defs.specs.Lines.{IsLine, lines_of, incomplete_line}
-use Rattle.unftp_control_defs.specs.LineLimit.{event_with_limit, events_with_limit, run_with_limit, ends_with_limit, unread}
+use Rattle.unftp_control_defs.specs.Run.{run_for, ends_for, after_lines, unread, after_end, Law, run_of, ends, replies, last_state, text_of}
 use Rattle.unftp_control_defs.specs.Pieces.{replies_in_turn}
-use Rattle.unftp_control_defs.specs.Run.{Law, run_of, ends, replies, last_state, text_of}
-use Rattle.unftp_control_defs.proofs.LineLemmas.{Lines-lines_of, lines_of-append, lines_of-incomplete, incomplete_line-append, incomplete_line-incomplete, line_first, events_with_limit-append, events_with_limit-incomplete}
+use Rattle.unftp_control_defs.proofs.LineLemmas.{Lines-lines_of, lines_of-append, lines_of-incomplete, incomplete_line-append, incomplete_line-incomplete, line_first, events-append, events-incomplete}
 
 pub last_state-append : {S : Type 0} (law : Law S) (s : S) (events more : List FtpEvent) → last_state law s (events ++ more) ≡ last_state law (last_state law s events) more
 last_state-append law s [] more = refl
@@ -99,15 +98,15 @@ module _ {S : Type 0} (law : Law S) where
   -- Inputs, with a limit or without one.
   module _ (limit : Option ℕ) where
     -- one line first
-    module _ (s s' : S) (line more : Bytes) (is_line : IsLine line) (next : s' ≡ law.next s (event_with_limit limit line)) where
-      first_event : events_with_limit limit (line ++ more) ≡ event_with_limit limit line ∷ events_with_limit limit more
-      first_event = ap (map (event_with_limit limit)) (line_first line more is_line).0
+    module _ (s s' : S) (line more : Bytes) (is_line : IsLine line) (next : s' ≡ law.next s (event_for limit line)) where
+      first_event : events limit (line ++ more) ≡ event_for limit line ∷ events limit more
+      first_event = ap (map (event_for limit)) (line_first line more is_line).0
 
-      pub ended-line : law.done s' ≡ true → (ends_with_limit limit law s (line ++ more) ≡ true) × (unread limit law s (line ++ more) ≡ more)
-          × (run_with_limit limit law s (line ++ more) ≡ event_with_limit limit line ∷ [])
+      pub ended-line : law.done s' ≡ true → (ends_for limit law s (line ++ more) ≡ true) × (unread limit law s (line ++ more) ≡ more)
+          × (run_for limit law s (line ++ more) ≡ event_for limit line ∷ [])
       ended-line done =
-          let both = run_of-done s (event_with_limit limit line) (events_with_limit limit more) (ap law.done (sym next) ∙ done) in
-          let run : run_with_limit limit law s (line ++ more) ≡ event_with_limit limit line ∷ [] = ap (run_of law s) first_event ∙ both.0 in (
+          let both = run_of-done s (event_for limit line) (events limit more) (ap law.done (sym next) ∙ done) in
+          let run : run_for limit law s (line ++ more) ≡ event_for limit line ∷ [] = ap (run_of law s) first_event ∙ both.0 in (
             ap (ends law s) first_event ∙ both.1,
             ap (λ taken. concat (drop (length taken) (lines_of (line ++ more))) ++ incomplete_line (line ++ more)) run
                 ∙ ap (λ lines. concat (drop 1 lines) ++ incomplete_line (line ++ more)) (line_first line more is_line).0
@@ -116,61 +115,61 @@ module _ {S : Type 0} (law : Law S) where
             run,
           )
 
-      pub on-line : law.done s' ≡ false → (ends_with_limit limit law s (line ++ more) ≡ ends_with_limit limit law s' more)
+      pub on-line : law.done s' ≡ false → (ends_for limit law s (line ++ more) ≡ ends_for limit law s' more)
           × (unread limit law s (line ++ more) ≡ unread limit law s' more)
-          × (run_with_limit limit law s (line ++ more) ≡ event_with_limit limit line ∷ run_with_limit limit law s' more)
+          × (run_for limit law s (line ++ more) ≡ event_for limit line ∷ run_for limit law s' more)
       on-line on =
-          let both = run_of-on s (event_with_limit limit line) (events_with_limit limit more) (ap law.done (sym next) ∙ on) in
-          let run : run_with_limit limit law s (line ++ more) ≡ event_with_limit limit line ∷ run_with_limit limit law s' more =
-          ap (run_of law s) first_event ∙ both.0 ∙ ap (λ z. event_with_limit limit line ∷ run_with_limit limit law z more) (sym next) in (
-            ap (ends law s) first_event ∙ both.1 ∙ ap (λ z. ends_with_limit limit law z more) (sym next),
+          let both = run_of-on s (event_for limit line) (events limit more) (ap law.done (sym next) ∙ on) in
+          let run : run_for limit law s (line ++ more) ≡ event_for limit line ∷ run_for limit law s' more =
+          ap (run_of law s) first_event ∙ both.0 ∙ ap (λ z. event_for limit line ∷ run_for limit law z more) (sym next) in (
+            ap (ends law s) first_event ∙ both.1 ∙ ap (λ z. ends_for limit law z more) (sym next),
             ap (λ taken. concat (drop (length taken) (lines_of (line ++ more))) ++ incomplete_line (line ++ more)) run
-                ∙ ap (λ lines. concat (drop (length (event_with_limit limit line ∷ run_with_limit limit law s' more)) lines) ++ incomplete_line (line ++ more)) (line_first line more is_line).0
-                ∙ ap (λ incomplete. concat (drop (length (run_with_limit limit law s' more)) (lines_of more)) ++ incomplete) (line_first line more is_line).1,
+                ∙ ap (λ lines. concat (drop (length (event_for limit line ∷ run_for limit law s' more)) lines) ++ incomplete_line (line ++ more)) (line_first line more is_line).0
+                ∙ ap (λ incomplete. concat (drop (length (run_for limit law s' more)) (lines_of more)) ++ incomplete) (line_first line more is_line).1,
             run,
           )
 
     pub unread-incomplete : (s : S) (incomplete : Bytes) → Lacks LF incomplete → unread limit law s incomplete ≡ incomplete
     unread-incomplete s incomplete unended =
-        ap (λ lines. concat (drop (length (run_of law s (map (event_with_limit limit) lines))) lines) ++ incomplete_line incomplete) (lines_of-incomplete incomplete unended)
+        ap (λ lines. concat (drop (length (run_of law s (map (event_for limit) lines))) lines) ++ incomplete_line incomplete) (lines_of-incomplete incomplete unended)
         ∙ incomplete_line-incomplete incomplete unended
 
     -- a run that doesn't end leaves the incomplete line, and goes on over more bytes
-    pub unread-on : (s : S) (input : Bytes) → ends_with_limit limit law s input ≡ false → unread limit law s input ≡ incomplete_line input
+    pub unread-on : (s : S) (input : Bytes) → ends_for limit law s input ≡ false → unread limit law s input ≡ incomplete_line input
     unread-on s input on =
-        let all : length (run_with_limit limit law s input) ≡ length (lines_of input) = ap length (run_of-all s (events_with_limit limit input) on) ∙ length-map (lines_of input) (event_with_limit limit) in
-        ap (λ lines. concat lines ++ incomplete_line input) (drop_all (length (run_with_limit limit law s input)) (lines_of input) (omega (arith, all)))
+        let all : length (run_for limit law s input) ≡ length (lines_of input) = ap length (run_of-all s (events limit input) on) ∙ length-map (lines_of input) (event_for limit) in
+        ap (λ lines. concat lines ++ incomplete_line input) (drop_all (length (run_for limit law s input)) (lines_of input) (omega (arith, all)))
 
     module _ (s : S) (input more : Bytes) where
-      pub run-append : ends_with_limit limit law s input ≡ false →
-          (run_with_limit limit law s (input ++ more) ≡ events_with_limit limit input ++ run_with_limit limit law (last_state law s (events_with_limit limit input)) (incomplete_line input ++ more))
-          × (ends_with_limit limit law s (input ++ more) ≡ ends_with_limit limit law (last_state law s (events_with_limit limit input)) (incomplete_line input ++ more))
+      pub run-append : ends_for limit law s input ≡ false →
+          (run_for limit law s (input ++ more) ≡ events limit input ++ run_for limit law (last_state law s (events limit input)) (incomplete_line input ++ more))
+          × (ends_for limit law s (input ++ more) ≡ ends_for limit law (last_state law s (events limit input)) (incomplete_line input ++ more))
       run-append on =
-          let both = run_of-append s (events_with_limit limit input) (events_with_limit limit (incomplete_line input ++ more)) on in
-          (ap (run_of law s) (events_with_limit-append limit input more) ∙ both.0, ap (ends law s) (events_with_limit-append limit input more) ∙ both.1)
+          let both = run_of-append s (events limit input) (events limit (incomplete_line input ++ more)) on in
+          (ap (run_of law s) (events-append limit input more) ∙ both.0, ap (ends law s) (events-append limit input more) ∙ both.1)
 
-      pub unread-append : ends_with_limit limit law s input ≡ false →
-          unread limit law s (input ++ more) ≡ unread limit law (last_state law s (events_with_limit limit input)) (incomplete_line input ++ more)
+      pub unread-append : ends_for limit law s input ≡ false →
+          unread limit law s (input ++ more) ≡ unread limit law (last_state law s (events limit input)) (incomplete_line input ++ more)
       unread-append on =
-          let later : List FtpEvent = run_with_limit limit law (last_state law s (events_with_limit limit input)) (incomplete_line input ++ more) in
-          let taken : length (run_with_limit limit law s (input ++ more)) ≡ length (lines_of input) + length later =
-          ap length (run-append on).0 ∙ length-append (events_with_limit limit input) later ∙ ap (λ n. n + length later) (length-map (lines_of input) (event_with_limit limit)) in
+          let later : List FtpEvent = run_for limit law (last_state law s (events limit input)) (incomplete_line input ++ more) in
+          let taken : length (run_for limit law s (input ++ more)) ≡ length (lines_of input) + length later =
+          ap length (run-append on).0 ∙ length-append (events limit input) later ∙ ap (λ n. n + length later) (length-map (lines_of input) (event_for limit)) in
           ap (λ n. concat (drop n (lines_of (input ++ more))) ++ incomplete_line (input ++ more)) taken
           ∙ ap (λ lines. concat (drop (length (lines_of input) + length later) lines) ++ incomplete_line (input ++ more)) (lines_of-append input more)
           ∙ ap (λ lines. concat lines ++ incomplete_line (input ++ more)) (drop-append-add (lines_of input) (lines_of (incomplete_line input ++ more)) (length later))
           ∙ ap (λ incomplete. concat (drop (length later) (lines_of (incomplete_line input ++ more))) ++ incomplete) (incomplete_line-append input more)
 
       -- one that ended takes none of them
-      pub run-ended : ends_with_limit limit law s input ≡ true →
-          (run_with_limit limit law s (input ++ more) ≡ run_with_limit limit law s input) × (ends_with_limit limit law s (input ++ more) ≡ true)
+      pub run-ended : ends_for limit law s input ≡ true →
+          (run_for limit law s (input ++ more) ≡ run_for limit law s input) × (ends_for limit law s (input ++ more) ≡ true)
       run-ended ended =
-          let both = run_of-ended s (events_with_limit limit input) (events_with_limit limit (incomplete_line input ++ more)) ended in
-          (ap (run_of law s) (events_with_limit-append limit input more) ∙ both.0, ap (ends law s) (events_with_limit-append limit input more) ∙ both.1)
+          let both = run_of-ended s (events limit input) (events limit (incomplete_line input ++ more)) ended in
+          (ap (run_of law s) (events-append limit input more) ∙ both.0, ap (ends law s) (events-append limit input more) ∙ both.1)
 
-      pub unread-ended : ends_with_limit limit law s input ≡ true → unread limit law s (input ++ more) ≡ unread limit law s input ++ more
+      pub unread-ended : ends_for limit law s input ≡ true → unread limit law s (input ++ more) ≡ unread limit law s input ++ more
       unread-ended ended =
-          let run : List FtpEvent = run_with_limit limit law s input in
-          let few : length run ≤ length (lines_of input) = omega (arith, run_of-length s (events_with_limit limit input), length-map (lines_of input) (event_with_limit limit)) in
+          let run : List FtpEvent = run_for limit law s input in
+          let few : length run ≤ length (lines_of input) = omega (arith, run_of-length s (events limit input), length-map (lines_of input) (event_for limit)) in
           let left : Bytes = concat (drop (length run) (lines_of input)) in
           let next : List Bytes = lines_of (incomplete_line input ++ more) in
           ap (λ taken. concat (drop (length taken) (lines_of (input ++ more))) ++ incomplete_line (input ++ more)) (run-ended ended).0
@@ -184,26 +183,48 @@ module _ {S : Type 0} (law : Law S) where
 
     -- the replies of pieces: those of the first one, and later ones where the run goes on
     in_turn-first : (s : S) (first more : Bytes) (later : List FtpReply) →
-        later ≡ replies law (last_state law s (events_with_limit limit first)) (run_with_limit limit law (last_state law s (events_with_limit limit first)) (incomplete_line first ++ more)) →
-        (ended : Bool) → ends_with_limit limit law s first ≡ ended →
-        replies law s (run_with_limit limit law s first) ++ (if ended then [] else later) ≡ replies law s (run_with_limit limit law s (first ++ more))
-    in_turn-first s first more later is true ended = append-nil (replies law s (run_with_limit limit law s first)) ∙ sym (ap (replies law s) (run-ended s first more ended).0)
+        later ≡ replies law (last_state law s (events limit first)) (run_for limit law (last_state law s (events limit first)) (incomplete_line first ++ more)) →
+        (ended : Bool) → ends_for limit law s first ≡ ended →
+        replies law s (run_for limit law s first) ++ (if ended then [] else later) ≡ replies law s (run_for limit law s (first ++ more))
+    in_turn-first s first more later is true ended = append-nil (replies law s (run_for limit law s first)) ∙ sym (ap (replies law s) (run-ended s first more ended).0)
     in_turn-first s first more later is false on =
-        let s' : S = last_state law s (events_with_limit limit first) in
-        ap (λ run. replies law s run ++ later) (run_of-all s (events_with_limit limit first) on)
-        ∙ ap (λ later. replies law s (events_with_limit limit first) ++ later) is
-        ∙ sym (replies-append law s (events_with_limit limit first) (run_with_limit limit law s' (incomplete_line first ++ more)))
+        let s' : S = last_state law s (events limit first) in
+        ap (λ run. replies law s run ++ later) (run_of-all s (events limit first) on)
+        ∙ ap (λ later. replies law s (events limit first) ++ later) is
+        ∙ sym (replies-append law s (events limit first) (run_for limit law s' (incomplete_line first ++ more)))
         ∙ sym (ap (replies law s) (run-append s first more on).0)
 
     in_turn : (s : S) (incomplete : Bytes) (pieces : List Bytes) → Lacks LF incomplete →
-        replies_in_turn limit law s incomplete pieces ≡ replies law s (run_with_limit limit law s (incomplete ++ concat pieces))
-    in_turn s incomplete [] unended = sym (ap (λ events. replies law s (run_of law s events)) (ap (events_with_limit limit) (append-nil incomplete) ∙ events_with_limit-incomplete limit incomplete unended))
+        replies_in_turn limit law s incomplete pieces ≡ replies law s (run_for limit law s (incomplete ++ concat pieces))
+    in_turn s incomplete [] unended = sym (ap (λ events. replies law s (run_of law s events)) (ap (events limit) (append-nil incomplete) ∙ events-incomplete limit incomplete unended))
     in_turn s incomplete (piece ∷ pieces) unended =
         let first : Bytes = incomplete ++ piece in
-        let s' : S = last_state law s (events_with_limit limit first) in
+        let s' : S = last_state law s (events limit first) in
         in_turn-first s first (concat pieces) (replies_in_turn limit law s' (incomplete_line first) pieces)
-        (in_turn s' (incomplete_line first) pieces (Lines-lines_of first).unended) (ends_with_limit limit law s first) refl
-        ∙ ap (λ input. replies law s (run_with_limit limit law s input)) (append_assoc incomplete piece (concat pieces))
+        (in_turn s' (incomplete_line first) pieces (Lines-lines_of first).unended) (ends_for limit law s first) refl
+        ∙ ap (λ input. replies law s (run_for limit law s input)) (append_assoc incomplete piece (concat pieces))
 
-    pub replies_in_turn-joined : (s : S) (pieces : List Bytes) → replies_in_turn limit law s [] pieces ≡ replies law s (run_with_limit limit law s (concat pieces))
+    pub replies_in_turn-joined : (s : S) (pieces : List Bytes) → replies_in_turn limit law s [] pieces ≡ replies law s (run_for limit law s (concat pieces))
     replies_in_turn-joined s pieces = in_turn s [] pieces tt
+
+-- what comes after some lines is not more than the whole
+concat-drop : (n : ℕ) (lines : List Bytes) → length (concat (drop n lines)) ≤ length (concat lines)
+concat-drop zero lines = omega arith
+concat-drop (suc n) [] = omega arith
+concat-drop (suc n) (line ∷ lines) = omega (arith, concat-drop n lines, length-append line (concat lines))
+
+pub after_lines-within : (n : ℕ) (input : Bytes) → length (after_lines n input) ≤ length input
+after_lines-within n input = omega (
+  arith,
+  concat-drop n (lines_of input),
+  ap length (Lines-lines_of input).whole,
+  length-append (concat (lines_of input)) (incomplete_line input),
+  length-append (concat (drop n (lines_of input))) (incomplete_line input),
+)
+
+pub after_end-within : {S : Type 0} (law : Law S) (limit : Option ℕ) (s : S) (input : Bytes) → length (after_end limit law s input) ≤ length input
+after_end-within law limit s input = by_end (ends_for limit law s input)
+  where
+    by_end : (ended : Bool) → length (if ended then unread limit law s input else []) ≤ length input
+    by_end true = after_lines-within (length (run_for limit law s input)) input
+    by_end false = omega arith

@@ -3,8 +3,7 @@
 use Rattle.std.specs.Prelude.{◌≡◌, ℕ, List, [], ◌∷◌, ◌++◌, Option}
 use Rattle.unftp_control_defs.specs.Bytes.{Bytes}
 use Rattle.unftp_control_defs.specs.Lines.{IsLine}
-use Rattle.unftp_control_defs.specs.Events.{FtpEvent}
-use Rattle.unftp_control_defs.specs.LineLimit.{event_with_limit}
+use Rattle.unftp_control_defs.specs.Events.{FtpEvent, event_for}
 
 -- The bytes begin with a line of this event, and these are the bytes after it.
 pub record TakesEvent (limit : Option ℕ) (before : Bytes) (event : FtpEvent) (after : Bytes)
@@ -12,7 +11,7 @@ pub record TakesEvent (limit : Option ℕ) (before : Bytes) (event : FtpEvent) (
   pub line : Bytes
   pub is_line : IsLine line
   pub whole : before ≡ line ++ after
-  pub meaning : event ≡ event_with_limit limit line
+  pub meaning : event ≡ event_for limit line
 
 -- what a server does: it appends a piece to the pending bytes, or takes the event of their first
 -- line

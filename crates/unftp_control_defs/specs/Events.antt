@@ -1,5 +1,5 @@
 -- What a server receives of its input: for each line a command, or why it was refused.
-use Rattle.std.specs.Prelude.{List, map, Option, Some, Ok, Err}
+use Rattle.std.specs.Prelude.{ℕ, Bool, false, nat_lt, if◌then◌else◌, List, map, length, Option, None, Some, Ok, Err}
 use Rattle.unftp_control_defs.specs.Bytes.{Bytes}
 use Rattle.unftp_control_defs.specs.Lines.{lines_of}
 use Rattle.unftp_control_defs.specs.FtpCommand as line
@@ -54,6 +54,21 @@ abbrev pub event_of : Answer → FtpEvent
 event_of (Ok command) = Command command
 event_of (Err refusal) = Refused (refusal_fault refusal)
 
+-- A limit on the length of a line, in bytes, its LF counted. RFC 959 names none: a server sets it, to
+-- bound what it keeps of a line that doesn't end. So many bytes are more than a line may have;
+-- without a limit, never.
+abbrev pub exceeds : Option ℕ → ℕ → Bool
+exceeds None n = false
+exceeds (Some limit) n = nat_lt limit n
+
+abbrev pub line_too_long : Fault
+line_too_long = record { kind = LineTooLong; source = NoSource }
+
+-- the event of a line: that of one that is too long is the same, whatever it holds
+abbrev pub event_for : Option ℕ → Bytes → FtpEvent
+event_for limit line =
+    if exceeds limit (length line) then Refused line_too_long else event_of (outcome line)
+
 -- one event for each line of the input, in order
-abbrev pub events : Bytes → List FtpEvent
-events input = map (λ line. event_of (outcome line)) (lines_of input)
+abbrev pub events : Option ℕ → Bytes → List FtpEvent
+events limit input = map (event_for limit) (lines_of input)

@@ -16,7 +16,6 @@ pub mod ReplySteps
 pub mod Events
 pub mod Texts
 pub mod Run
-pub mod LineLimit
 pub mod Pieces
 pub mod EventSteps
 pub mod Steps

@@ -1,6 +1,8 @@
 -- What a handler of events answers over a whole input.
-use Rattle.std.specs.Prelude.{Bool, false, ◌||◌, if◌then◌else◌, List, [], ◌∷◌, flat_map}
+use Rattle.std.specs.Prelude.{ℕ, Bool, false, ◌||◌, if◌then◌else◌, List, [], ◌∷◌, ◌++◌, drop, flat_map, length, Option}
+use Rattle.std.specs.List.{concat}
 use Rattle.unftp_control_defs.specs.Bytes.{Bytes}
+use Rattle.unftp_control_defs.specs.Lines.{lines_of, incomplete_line}
 use Rattle.unftp_control_defs.specs.Events.{Fault, FtpEvent, events}
 use Rattle.unftp_control_defs.specs.FtpReply.{FtpReply, encoded}
 
@@ -37,6 +39,26 @@ last_state law s (event ∷ events) = last_state law (law.next s event) events
 abbrev pub text_of : {S : Type 0} → Law S → S → List FtpEvent → Bytes
 text_of law s events = flat_map encoded (replies law s events)
 
--- what is written for an input: what the run over its events gives
-abbrev pub text_for : {S : Type 0} → Law S → S → Bytes → Bytes
-text_for law s input = text_of law s (run_of law s (events input))
+-- The same over an input, under a limit on the length of a line, if there is one: the run over its
+-- events, whether the handler ends it, and what is written
+abbrev pub run_for : {S : Type 0} → Option ℕ → Law S → S → Bytes → List FtpEvent
+run_for limit law s input = run_of law s (events limit input)
+
+abbrev pub ends_for : {S : Type 0} → Option ℕ → Law S → S → Bytes → Bool
+ends_for limit law s input = ends law s (events limit input)
+
+abbrev pub text_for : {S : Type 0} → Option ℕ → Law S → S → Bytes → Bytes
+text_for limit law s input = text_of law s (run_for limit law s input)
+
+-- the bytes after so many lines
+abbrev pub after_lines : ℕ → Bytes → Bytes
+after_lines n input = concat (drop n (lines_of input)) ++ incomplete_line input
+
+-- those after the last line of the run: where it doesn't end, those of the incomplete line
+abbrev pub unread : {S : Type 0} → Option ℕ → Law S → S → Bytes → Bytes
+unread limit law s input = after_lines (length (run_for limit law s input)) input
+
+-- those after the line that ended it: where it doesn't end, none
+abbrev pub after_end : {S : Type 0} → Option ℕ → Law S → S → Bytes → Bytes
+after_end limit law s input =
+    if ends_for limit law s input then unread limit law s input else []

@@ -1,12 +1,11 @@
 //! Events, the texts of errors, runs of a handler, inputs in pieces, and the steps of a codec.
 ghost use Rattle.std.specs.Prelude.{◌≡◌, ◌+◌, ◌==◌, ℕ, true, false, [], ◌∷◌, ◌++◌, Some, None, codes};
-ghost use Rattle.unftp_control_defs.specs.Events.{FtpEvent, Command, Refused, IoError, ParseError, InternalServerError, AuthenticationError, InternalMsgError, Utf8Error, UnknownCommand, InvalidCommand, ControlChannelTimeout, IllegalState, OutOfMemory, LineTooLong, NoSource, Parse, events, refusal_fault, out_of_memory};
+ghost use Rattle.unftp_control_defs.specs.Events.{FtpEvent, Command, Refused, IoError, ParseError, InternalServerError, AuthenticationError, InternalMsgError, Utf8Error, UnknownCommand, InvalidCommand, ControlChannelTimeout, IllegalState, OutOfMemory, LineTooLong, NoSource, Parse, events, refusal_fault, out_of_memory, line_too_long, event_for};
 ghost use Rattle.unftp_control_defs.specs.FtpCommand.{Noop, Pwd, Quit, InvalidCommand as NoCommand, InvalidUtf8, InvalidEol};
 ghost use Rattle.unftp_control_defs.specs.FtpReply.{CodeAndMsg};
-ghost use Rattle.unftp_control_defs.specs.LineLimit.{line_too_long, event_with_limit, events_with_limit, unread, after_end};
-ghost use Rattle.unftp_control_defs.specs.Pieces.{events_in_turn, events_in_turn_with_limit, replies_in_turn};
+ghost use Rattle.unftp_control_defs.specs.Run.{Law, run_of, ends, replies, last_state, text_for, after_lines, unread, after_end};
+ghost use Rattle.unftp_control_defs.specs.Pieces.{events_in_turn, events_in_turn, replies_in_turn};
 ghost use Rattle.unftp_control_defs.specs.EventSteps.{TakesEvent, PiecePushed, EventTaken, AreEventSteps, input_of_steps, taken_events};
-ghost use Rattle.unftp_control_defs.specs.Run.{Law, run_of, ends, replies, last_state, text_for};
 ghost use Rattle.unftp_control_defs.specs.Steps.{AreSteps, last_place};
 ghost use Rattle.unftp_control_defs.specs.Texts.{error_text, kind_text, parse_error_text, reading_text};
 
@@ -23,9 +22,12 @@ pub fn refusals_are_faults()
 
 /// One event for each complete line, in order.
 pub fn lines_are_events()
-    ensures none { events (codes "NOOP") ≡ [] }
-    ensures one { events (codes "NOOP\nPWD") ≡ Command Noop ∷ [] }
-    ensures some { events (codes "PWD\r\nNOOP x\n" ++ 255 ∷ codes "\nNOOP\r\n")
+    ensures none { events None (codes "NOOP") ≡ [] }
+    ensures after_lines { (after_lines 0 (codes "NOOP\nNO") ≡ codes "NOOP\nNO")
+        × (after_lines 1 (codes "NOOP\nNO") ≡ codes "NO")
+        × (after_lines 2 (codes "NOOP\nNO") ≡ codes "NO") }
+    ensures one { events None (codes "NOOP\nPWD") ≡ Command Noop ∷ [] }
+    ensures some { events None (codes "PWD\r\nNOOP x\n" ++ 255 ∷ codes "\nNOOP\r\n")
         ≡ Command Pwd ∷ Refused (refusal_fault NoCommand) ∷ Refused (refusal_fault InvalidUtf8)
         ∷ Command Noop ∷ [] }
 {}
@@ -34,22 +36,22 @@ pub fn lines_are_events()
 /// no other line.
 pub fn long_lines_are_refused()
     ensures fault { line_too_long ≡ record { kind = LineTooLong; source = NoSource } }
-    ensures at_the_limit { event_with_limit (Some 6) (codes "NOOP\r\n") ≡ Command Noop }
-    ensures over_the_limit { event_with_limit (Some 5) (codes "NOOP\r\n")
+    ensures at_the_limit { event_for (Some 6) (codes "NOOP\r\n") ≡ Command Noop }
+    ensures over_the_limit { event_for (Some 5) (codes "NOOP\r\n")
         ≡ Refused line_too_long }
-    ensures no_limit { event_with_limit None (codes "NOOP\r\n") ≡ Command Noop }
-    ensures alone { events_with_limit (Some 6)
+    ensures no_limit { event_for None (codes "NOOP\r\n") ≡ Command Noop }
+    ensures alone { events (Some 6)
         (codes "NOOP\r\n" ++ 255 ∷ codes "UVWXYZ\nPWD\r\nUVWXYZ")
         ≡ Command Noop ∷ Refused line_too_long ∷ Command Pwd ∷ [] }
-    ensures in_pieces { events_in_turn_with_limit (Some 4) [] (codes "NO" ∷ codes "OP\nPWD" ∷ [])
+    ensures in_pieces { events_in_turn (Some 4) [] (codes "NO" ∷ codes "OP\nPWD" ∷ [])
         ≡ Refused line_too_long ∷ [] }
 {}
 
 /// Pieces give the events of their input, however it is split.
 pub fn pieces_have_events()
-    ensures no_pieces { events_in_turn (codes "NOOP\n") [] ≡ [] }
-    ensures rest_first { events_in_turn (codes "NO") (codes "OP\n" ∷ []) ≡ Command Noop ∷ [] }
-    ensures pieces { events_in_turn [] (codes "NO" ∷ codes "OP\nPW" ∷ [] ∷ codes "D\r\nNO" ∷ [])
+    ensures no_pieces { events_in_turn None (codes "NOOP\n") [] ≡ [] }
+    ensures rest_first { events_in_turn None (codes "NO") (codes "OP\n" ∷ []) ≡ Command Noop ∷ [] }
+    ensures pieces { events_in_turn None [] (codes "NO" ∷ codes "OP\nPW" ∷ [] ∷ codes "D\r\nNO" ∷ [])
         ≡ Command Noop ∷ Command Pwd ∷ [] }
 {}
 
@@ -93,7 +95,7 @@ pub fn handlers_run_so()
         ≡ CodeAndMsg 207 [] ∷ CodeAndMsg 508 [] ∷ [])
         × (last_state law 7 [] ≡ 7)
         × (last_state law 7 (Command Noop ∷ Refused out_of_memory ∷ []) ≡ 9)
-        × (text_for law 0 (codes "NOOP\r\nNOOP x\nNOOP") ≡ codes "200\r\n501\r\n") }
+        × (text_for None law 0 (codes "NOOP\r\nNOOP x\nNOOP") ≡ codes "200\r\n501\r\n") }
 {}
 
 /// A handler that puts the count of its events into the code of its reply, and is done once there
@@ -112,7 +114,7 @@ pub fn runs_end_so()
         × (ends law 0 (noop ∷ noop ∷ []) ≡ true)
         × (ends law 0 (noop ∷ noop ∷ noop ∷ []) ≡ true)
         × (ends law 2 (noop ∷ noop ∷ []) ≡ false)
-        × (text_for law 0 (codes "NOOP\r\nNOOP\nNOOP\n") ≡ codes "200\r\n201\r\n")
+        × (text_for None law 0 (codes "NOOP\r\nNOOP\nNOOP\n") ≡ codes "200\r\n201\r\n")
         × (unread None law 0 (codes "NOOP\nNOOP\nNOOP\nNO") ≡ codes "NOOP\nNO")
         × (unread None law 0 (codes "NOOP\nNO") ≡ codes "NO")
         × (after_end None law 0 (codes "NOOP\nNOOP\nNO") ≡ codes "NO")

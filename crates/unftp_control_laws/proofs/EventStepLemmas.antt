@@ -3,18 +3,18 @@ use Rattle.std.proofs.Common.{◌≡◌, ℕ, List, [], ◌∷◌, ◌++◌, Opt
 use Rattle.std.proofs.lemmas.List.{append-nil}
 use Rattle.unftp_control_defs.specs.Bytes.{Bytes, LF, Lacks}
 use Rattle.unftp_control_defs.specs.Lines.{incomplete_line}
-use Rattle.unftp_control_defs.specs.LineLimit.{events_with_limit}
+use Rattle.unftp_control_defs.specs.Events.{events}
 use Rattle.unftp_control_defs.specs.EventSteps.{EventStep, PiecePushed, EventTaken, AreEventSteps, input_of_steps, taken_events}
-use Rattle.unftp_control_defs.proofs.LineLemmas.{events_with_limit-incomplete, incomplete_line-incomplete}
+use Rattle.unftp_control_defs.proofs.LineLemmas.{events-incomplete, incomplete_line-incomplete}
 use Rattle.unftp_control_defs.proofs.TakenEventLemmas.{TakesEvent-events, TakesEvent-incomplete}
 
 module _ (limit : Option ℕ) where
   -- the events that are taken and those of what is pending then are the events of all bytes
   pub steps-events : (before : Bytes) (steps : List EventStep) (after : Bytes) → AreEventSteps limit before steps after
-      → taken_events steps ++ events_with_limit limit after ≡ events_with_limit limit (before ++ input_of_steps steps)
-  steps-events before [] after are = ap (events_with_limit limit) (are ∙ sym (append-nil before))
+      → taken_events steps ++ events limit after ≡ events limit (before ++ input_of_steps steps)
+  steps-events before [] after are = ap (events limit) (are ∙ sym (append-nil before))
   steps-events before (PiecePushed piece ∷ steps) after are =
-      steps-events (before ++ piece) steps after are ∙ ap (events_with_limit limit) (append_assoc before piece (input_of_steps steps))
+      steps-events (before ++ piece) steps after are ∙ ap (events limit) (append_assoc before piece (input_of_steps steps))
   steps-events before (EventTaken event ∷ steps) after (following, taken, are) =
       ap (λ events. event ∷ events) (steps-events following steps after are)
       ∙ sym (TakesEvent-events limit before event following taken (input_of_steps steps))
@@ -29,9 +29,9 @@ module _ (limit : Option ℕ) where
 
   -- where no line is left, they are all events
   pub steps-all : (steps : List EventStep) (after : Bytes) → AreEventSteps limit [] steps after → Lacks LF after
-      → (taken_events steps ≡ events_with_limit limit (input_of_steps steps)) × (after ≡ incomplete_line (input_of_steps steps))
+      → (taken_events steps ≡ events limit (input_of_steps steps)) × (after ≡ incomplete_line (input_of_steps steps))
   steps-all steps after are unended = (
-    sym (append-nil (taken_events steps)) ∙ ap (λ events. taken_events steps ++ events) (sym (events_with_limit-incomplete limit after unended))
+    sym (append-nil (taken_events steps)) ∙ ap (λ events. taken_events steps ++ events) (sym (events-incomplete limit after unended))
         ∙ steps-events [] steps after are,
     sym (incomplete_line-incomplete after unended) ∙ steps-incomplete [] steps after are,
   )

@@ -8,4 +8,6 @@ mod LossyTextLemmas
 mod EventStepLemmas
 mod ReplyStepLemmas
 mod SnapshotLemmas
+mod RunEndExampleLemmas
 mod PendingLineLemmas
+mod EventMemoryLemmas

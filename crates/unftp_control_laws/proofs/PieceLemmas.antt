@@ -4,15 +4,15 @@ use Rattle.std.specs.List.{concat}
 use Rattle.std.proofs.lemmas.List.{append-nil}
 use Rattle.unftp_control_defs.specs.Bytes.{Bytes, LF, Lacks}
 use Rattle.unftp_control_defs.specs.Lines.{incomplete_line}
-use Rattle.unftp_control_defs.specs.LineLimit.{events_with_limit}
-use Rattle.unftp_control_defs.specs.Pieces.{events_in_turn_with_limit}
-use Rattle.unftp_control_defs.proofs.LineLemmas.{Lines-lines_of, events_with_limit-append, events_with_limit-incomplete}
+use Rattle.unftp_control_defs.specs.Events.{events}
+use Rattle.unftp_control_defs.specs.Pieces.{events_in_turn}
+use Rattle.unftp_control_defs.proofs.LineLemmas.{Lines-lines_of, events-append, events-incomplete}
 
 -- after bytes that no LF ends
 pub events_in_turn-after : (limit : Option ℕ) (incomplete : Bytes) (pieces : List Bytes) → Lacks LF incomplete →
-    events_in_turn_with_limit limit incomplete pieces ≡ events_with_limit limit (incomplete ++ concat pieces)
-events_in_turn-after limit incomplete [] h = sym (ap (events_with_limit limit) (append-nil incomplete) ∙ events_with_limit-incomplete limit incomplete h)
+    events_in_turn limit incomplete pieces ≡ events limit (incomplete ++ concat pieces)
+events_in_turn-after limit incomplete [] h = sym (ap (events limit) (append-nil incomplete) ∙ events-incomplete limit incomplete h)
 events_in_turn-after limit incomplete (piece ∷ pieces) h =
-    ap (λ more. events_with_limit limit (incomplete ++ piece) ++ more) (events_in_turn-after limit (incomplete_line (incomplete ++ piece)) pieces (Lines-lines_of (incomplete ++ piece)).unended)
-    ∙ sym (events_with_limit-append limit (incomplete ++ piece) (concat pieces))
-    ∙ ap (events_with_limit limit) (append_assoc incomplete piece (concat pieces))
+    ap (λ more. events limit (incomplete ++ piece) ++ more) (events_in_turn-after limit (incomplete_line (incomplete ++ piece)) pieces (Lines-lines_of (incomplete ++ piece)).unended)
+    ∙ sym (events-append limit (incomplete ++ piece) (concat pieces))
+    ∙ ap (events limit) (append_assoc incomplete piece (concat pieces))

@@ -3,7 +3,7 @@ use Rattle.std.specs.Prelude.{◌≡◌, ℕ, ◌+◌, ◌==◌, false, Option, 
 use Rattle.unftp_control_defs.specs.Bytes.{Bytes}
 use Rattle.unftp_control_defs.specs.Events.{FtpEvent, Command, out_of_memory}
 use Rattle.unftp_control_defs.specs.FtpCommand.{Noop}
-use Rattle.unftp_control_defs.specs.FtpReply.{CodeAndMsg}
+use Rattle.unftp_control_defs.specs.FtpReply.{CodeAndMsg, Nothing}
 use Rattle.unftp_control_defs.specs.Run.{Law}
 use Rattle.unftp_control_serve.specs.Endings.{Snapshot}
 use Rattle.unftp_control_serve.specs.Engine.{EngineState}
@@ -26,6 +26,15 @@ counting_to_five = record {
   done = λ taken. taken == 5;
 }
 
+-- As the first one, but it sends no reply.
+abbrev pub silent : Law ℕ
+silent = record {
+  says = λ _ _. Nothing;
+  next = counting.next;
+  may_fail = counting.may_fail;
+  done = counting.done;
+}
+
 abbrev pub noop : FtpEvent
 noop = Command Noop
 
@@ -45,7 +54,7 @@ waiting limit = record {
   left = 2;
   failed = false;
   finished = false;
-  tests = 2;
+  scanned = 2;
   limit = limit;
   buffered = 2;
   held = 2;

@@ -2,7 +2,7 @@
 //! that is computed to the relation that a reader believes.
 #![tactic(auto)]
 
-ghost use Rattle.std.specs.Prelude.{◌≡◌, ◌↔◌, ◌<◌, ◌≤◌, ◌+◌, ◌^◌, ℕ, Option, true, false, List, [], ◌∷◌, ◌++◌, length, Some, None, Ok, codes};
+ghost use Rattle.std.specs.Prelude.{◌≡◌, ◌↔◌, ◌<◌, ◌≤◌, ◌+◌, ◌^◌, ℕ, Option, true, false, List, [], ◌∷◌, ◌++◌, length, take, Some, None, Ok, codes};
 ghost use Rattle.std.specs.Char.{IsScalar, encode_utf8};
 ghost use Rattle.std.specs.List.{AllByRecursion, concat, sum_by};
 ghost use Rattle.std.specs.Str.Lossy.{utf8_lossy};
@@ -10,15 +10,14 @@ ghost use Rattle.unftp_control_commands.specs.Answers.{port_reply};
 ghost use Rattle.unftp_control_defs.specs.Bytes.{Bytes, LF, crlf, Lacks};
 ghost use Rattle.unftp_control_defs.specs.Canonical.{canonical_line, HasLine};
 ghost use Rattle.unftp_control_defs.specs.EventSteps.{EventStep, AreEventSteps, input_of_steps, taken_events};
-ghost use Rattle.unftp_control_defs.specs.Pieces.{events_in_turn, events_in_turn_with_limit, replies_in_turn};
-ghost use Rattle.unftp_control_defs.specs.Events.{FtpEvent, Refused, events};
+ghost use Rattle.unftp_control_defs.specs.Pieces.{events_in_turn, events_in_turn, replies_in_turn};
+ghost use Rattle.unftp_control_defs.specs.Events.{FtpEvent, Refused, events, line_too_long, event_for};
 ghost use Rattle.unftp_control_defs.specs.FtpCommand.{FtpCommand, User, HasTypedFields};
-ghost use Rattle.unftp_control_defs.specs.LineLimit.{line_too_long, event_with_limit, events_with_limit, run_with_limit, ends_with_limit, text_with_limit, unread, after_end};
+ghost use Rattle.unftp_control_defs.specs.Run.{run_for, ends_for, text_for, unread, after_end, ends, last_state, replies, run_of};
 ghost use Rattle.unftp_control_defs.specs.Lines.{IsLine, Lines, lines_of, incomplete_line};
 ghost use Rattle.unftp_control_defs.specs.LossyText.{Character, LossyText, first_part};
 ghost use Rattle.unftp_control_defs.specs.Outcome.{outcome};
 ghost use Rattle.unftp_control_defs.specs.Paths.{ListPath, path_of};
-ghost use Rattle.unftp_control_defs.specs.Run.{ends, last_state, replies, run_of};
 ghost use Rattle.unftp_control_defs.specs.Steps.{AreSteps, Step, last_place};
 ghost use Rattle.unftp_control_defs.specs.Values.{Reads, HasNoValue, value_of, escaped};
 ghost use Rattle.unftp_control_defs.specs.Verbs.{Cut, verb_of, parameter_of, upper};
@@ -117,29 +116,27 @@ pub fn epsv_ports_differ()
 /// The pieces that an input comes in give its events and the replies to them, however it is split;
 /// the pieces after the one in which the handler ends the session give no reply.
 pub fn any_cutting<H: Handler>()
-    ensures any_line { (pieces : List Bytes) → events_in_turn [] pieces ≡ events (concat pieces) }
-    ensures limited { (limit : ℕ) (pieces : List Bytes)
-        → events_in_turn_with_limit (Some limit) [] pieces
-        ≡ events_with_limit (Some limit) (concat pieces) }
+    ensures same_events { (limit : Option ℕ) (pieces : List Bytes)
+        → events_in_turn limit [] pieces ≡ events limit (concat pieces) }
     ensures replies { (limit : Option ℕ) (s : H.State) (pieces : List Bytes)
         → replies_in_turn limit H.law s [] pieces
-        ≡ replies H.law s (run_with_limit limit H.law s (concat pieces)) }
+        ≡ replies H.law s (run_for limit H.law s (concat pieces)) }
 {}
 
 /// Whatever the pieces, and whenever an event is taken: the events that a server takes, and then
 /// those of the pending bytes, are the events of the input; and where no line is pending, they are
 /// all of them, and the incomplete line is pending.
 pub fn events_taken_in_steps()
-    ensures events { (limit : Option ℕ) (steps : List EventStep) (pending : Bytes)
+    ensures same_events { (limit : Option ℕ) (steps : List EventStep) (pending : Bytes)
         → AreEventSteps limit [] steps pending
-        → taken_events steps ++ events_with_limit limit pending
-        ≡ events_with_limit limit (input_of_steps steps) }
+        → taken_events steps ++ events limit pending
+        ≡ events limit (input_of_steps steps) }
     ensures incomplete { (limit : Option ℕ) (steps : List EventStep) (pending : Bytes)
         → AreEventSteps limit [] steps pending
         → incomplete_line pending ≡ incomplete_line (input_of_steps steps) }
     ensures all { (limit : Option ℕ) (steps : List EventStep) (pending : Bytes)
         → AreEventSteps limit [] steps pending → Lacks LF pending
-        → (taken_events steps ≡ events_with_limit limit (input_of_steps steps))
+        → (taken_events steps ≡ events limit (input_of_steps steps))
         × (pending ≡ incomplete_line (input_of_steps steps)) }
 {}
 
@@ -147,20 +144,20 @@ pub fn events_taken_in_steps()
 /// state, nor which bytes are scanned.
 pub fn nothing_after_the_end<H: Handler>()
     ensures text { (limit : Option ℕ) (s : H.State) (input more other : Bytes)
-        → ends_with_limit limit H.law s input ≡ true
-        → text_with_limit limit H.law s (input ++ more)
-        ≡ text_with_limit limit H.law s (input ++ other) }
+        → ends_for limit H.law s input ≡ true
+        → text_for limit H.law s (input ++ more)
+        ≡ text_for limit H.law s (input ++ other) }
     ensures state { (limit : Option ℕ) (s : H.State) (input more other : Bytes)
-        → ends_with_limit limit H.law s input ≡ true
-        → last_state H.law s (run_with_limit limit H.law s (input ++ more))
-        ≡ last_state H.law s (run_with_limit limit H.law s (input ++ other)) }
+        → ends_for limit H.law s input ≡ true
+        → last_state H.law s (run_for limit H.law s (input ++ more))
+        ≡ last_state H.law s (run_for limit H.law s (input ++ other)) }
     ensures unread { (limit : Option ℕ) (s : H.State) (input more : Bytes)
-        → ends_with_limit limit H.law s input ≡ true
+        → ends_for limit H.law s input ≡ true
         → after_end limit H.law s (input ++ more) ≡ after_end limit H.law s input ++ more }
 {}
 
 /// A run ends with the first event that leaves the handler done, and has no later one; where none
-/// does, it has all events.
+/// does, it has all events. The lines of its events, and then the unread bytes, are the input.
 pub fn one_run<H: Handler>()
     ensures nowhere { (s : H.State) (events : List FtpEvent)
         → EndsNowhere H.law s events ↔ (ends H.law s events ≡ false) }
@@ -172,16 +169,19 @@ pub fn one_run<H: Handler>()
     ensures found { (s : H.State) (events : List FtpEvent) → ends H.law s events ≡ true
         → (first : List FtpEvent) × (event : FtpEvent)
         × EndsAfter H.law s events first event }
+    ensures unread { (limit : Option ℕ) (s : H.State) (input : Bytes)
+        → concat (take (length (run_for limit H.law s input)) (lines_of input))
+        ++ unread limit H.law s input ≡ input }
 {}
 
 /// The run of a handler that is never done has all events, and leaves the incomplete line.
 pub fn never_done<H: Handler>()
     ensures run { ((s : H.State) → H.law.done s ≡ false)
         → (limit : Option ℕ) (s : H.State) (input : Bytes)
-        → run_with_limit limit H.law s input ≡ events_with_limit limit input }
+        → run_for limit H.law s input ≡ events limit input }
     ensures end { ((s : H.State) → H.law.done s ≡ false)
         → (limit : Option ℕ) (s : H.State) (input : Bytes)
-        → ends_with_limit limit H.law s input ≡ false }
+        → ends_for limit H.law s input ≡ false }
     ensures unread { ((s : H.State) → H.law.done s ≡ false)
         → (limit : Option ℕ) (s : H.State) (input : Bytes)
         → (unread limit H.law s input ≡ incomplete_line input)
@@ -193,9 +193,9 @@ pub fn never_done<H: Handler>()
 pub fn limit_refuses_long_lines()
     ensures within { (limit : ℕ) (input : Bytes)
         → AllByRecursion (λ line. length line ≤ limit) (lines_of input)
-        → events_with_limit (Some limit) input ≡ events input }
+        → events (Some limit) input ≡ events None input }
     ensures longer { (limit : ℕ) (line : Bytes) → limit < length line
-        → event_with_limit (Some limit) line ≡ Refused line_too_long }
+        → event_for (Some limit) line ≡ Refused line_too_long }
 {}
 
 /// Step by step from an empty buffer, a codec scans as many bytes as leave it and its place moves

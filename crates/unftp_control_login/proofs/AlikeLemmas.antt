@@ -5,13 +5,12 @@ use Rattle.std.specs.List.{AllZip}
 use Rattle.unftp_control_defs.specs.Bytes.{Bytes}
 use Rattle.unftp_control_defs.specs.Canonical.{canonical_line}
 use Rattle.unftp_control_defs.specs.FtpCommand.{User, Pass}
-use Rattle.unftp_control_defs.specs.Events.{FtpEvent, Command}
+use Rattle.unftp_control_defs.specs.Events.{FtpEvent, Command, events}
 use Rattle.unftp_control_defs.specs.FtpReply.{FtpReply, encoded, is_positive}
 use Rattle.unftp_control_defs.specs.Lines.{incomplete_line}
-use Rattle.unftp_control_defs.specs.LineLimit.{events_with_limit, text_with_limit}
+use Rattle.unftp_control_defs.specs.Run.{text_for, Law, run_of, text_of}
 use Rattle.unftp_control_defs.specs.Outcome.{outcome}
-use Rattle.unftp_control_defs.specs.Run.{Law, run_of, text_of}
-use Rattle.unftp_control_defs.proofs.LineEventLemmas.{events_with_limit-after, events_with_limit-canonical_line}
+use Rattle.unftp_control_defs.proofs.LineEventLemmas.{events-after, events-canonical_line}
 use Rattle.unftp_control_login.specs.declared.stage.Stage.{Stage}
 use Rattle.unftp_control_login.specs.declared.stage.Stage.TheVariants.{NoName, Named, LoggedIn}
 use Rattle.unftp_control_login.specs.Login.{Accounts}
@@ -171,23 +170,23 @@ limit-steps law s name password other another h = record {
 
 -- Events that look alike, in bytes.
 pub events-pass : (limit : Option ℕ) (before after password : Bytes) → incomplete_line before ≡ [] → CanBeSent limit password
-    → events_with_limit limit (before ++ (pass_line password ++ after))
-    ≡ events_with_limit limit before ++ Command (Pass password) ∷ events_with_limit limit after
+    → events limit (before ++ (pass_line password ++ after))
+    ≡ events limit before ++ Command (Pass password) ∷ events limit after
 events-pass limit before after password ended sent =
-    events_with_limit-after limit before (pass_line password ++ after) ended
-    ∙ ap (λ events. events_with_limit limit before ++ events) (events_with_limit-canonical_line limit (Pass password) after sent.0 tt sent.1)
+    events-after limit before (pass_line password ++ after) ended
+    ∙ ap (λ later. events limit before ++ later) (events-canonical_line limit (Pass password) after sent.0 tt sent.1)
 
 pub events-login : (limit : Option ℕ) (accepts : Accounts) (before after name password : Bytes) → incomplete_line before ≡ []
     → IsRefusedLogin limit accepts name password
-    → events_with_limit limit (before ++ (login_lines name password ++ after))
-    ≡ events_with_limit limit before ++ Command (User name) ∷ Command (Pass password) ∷ events_with_limit limit after
+    → events limit (before ++ (login_lines name password ++ after))
+    ≡ events limit before ++ Command (User name) ∷ Command (Pass password) ∷ events limit after
 events-login limit accepts before after name password ended h =
-    events_with_limit-after limit before (login_lines name password ++ after) ended
-    ∙ ap (λ bytes. events_with_limit limit before ++ events_with_limit limit bytes)
+    events-after limit before (login_lines name password ++ after) ended
+    ∙ ap (λ bytes. events limit before ++ events limit bytes)
     (append_assoc (canonical_line (User name)) (pass_line password) after)
-    ∙ ap (λ events. events_with_limit limit before ++ events)
-    (events_with_limit-canonical_line limit (User name) (pass_line password ++ after) h.name_sent.0 tt h.name_sent.1
-    ∙ ap (λ events. Command (User name) ∷ events) (events_with_limit-canonical_line limit (Pass password) after h.password_sent.0 tt h.password_sent.1))
+    ∙ ap (λ later. events limit before ++ later)
+    (events-canonical_line limit (User name) (pass_line password ++ after) h.name_sent.0 tt h.name_sent.1
+    ∙ ap (λ events. Command (User name) ∷ events) (events-canonical_line limit (Pass password) after h.password_sent.0 tt h.password_sent.1))
 
 alike-itself : (accepts : Accounts) (event : FtpEvent) → LooksAlike accepts event event
 alike-itself accepts (Command (Pass password)) = λ name. refl
@@ -206,29 +205,29 @@ alike-after accepts (first ∷ before) more event other same = (alike-itself acc
 module _ {S : Type 0} (law : Law S) (s : S) (accepts : Accounts) (Holds : S → Type 0) (first : Holds s)
     (holds : (s : S) (event : FtpEvent) → Holds s → Holds (law.next s event)) (limit : Option ℕ) where
   module _ (step : (s : S) (event other : FtpEvent) → Holds s → LooksAlike accepts event other → SameStep law s event other) where
-    pub text-hidden : (input other : Bytes) → AllZip (LooksAlike accepts) (events_with_limit limit input) (events_with_limit limit other)
-        → text_with_limit limit law s input ≡ text_with_limit limit law s other
+    pub text-hidden : (input other : Bytes) → AllZip (LooksAlike accepts) (events limit input) (events limit other)
+        → text_for limit law s input ≡ text_for limit law s other
     text-hidden input other alike =
-        text-alike law Holds holds (LooksAlike accepts) step s (events_with_limit limit input) (events_with_limit limit other) first alike
+        text-alike law Holds holds (LooksAlike accepts) step s (events limit input) (events limit other) first alike
 
     pub text-passwords : (before after password other : Bytes) → incomplete_line before ≡ [] → CanBeSent limit password → CanBeSent limit other
         → ((name : Bytes) → accepts name password ≡ accepts name other)
-        → text_with_limit limit law s (before ++ (pass_line password ++ after)) ≡ text_with_limit limit law s (before ++ (pass_line other ++ after))
+        → text_for limit law s (before ++ (pass_line password ++ after)) ≡ text_for limit law s (before ++ (pass_line other ++ after))
     text-passwords before after password other ended one two same =
         text-hidden (before ++ (pass_line password ++ after)) (before ++ (pass_line other ++ after))
         (rw (events-pass limit before after password ended one, events-pass limit before after other ended two)
-        (alike-after accepts (events_with_limit limit before) (events_with_limit limit after) (Command (Pass password)) (Command (Pass other)) same))
+        (alike-after accepts (events limit before) (events limit after) (Command (Pass password)) (Command (Pass other)) same))
 
   pub text-logins : ((name password other another : Bytes) → accepts name password ≡ false → accepts other another ≡ false
       → (s : S) → Holds s → SameSteps law s (Command (User name)) (Command (Pass password)) (Command (User other)) (Command (Pass another)))
       → (before after name password other another : Bytes) → incomplete_line before ≡ []
       → IsRefusedLogin limit accepts name password → IsRefusedLogin limit accepts other another
-      → text_with_limit limit law s (before ++ (login_lines name password ++ after))
-      ≡ text_with_limit limit law s (before ++ (login_lines other another ++ after))
+      → text_for limit law s (before ++ (login_lines name password ++ after))
+      ≡ text_for limit law s (before ++ (login_lines other another ++ after))
   text-logins steps before after name password other another ended one two =
       ap (text law s) (events-login limit accepts before after name password ended one)
-      ∙ text-after law Holds holds s (events_with_limit limit before) _ _ first
-      (λ s h. two-same law s (Command (User name)) (Command (Pass password)) (Command (User other)) (Command (Pass another)) (events_with_limit limit after)
+      ∙ text-after law Holds holds s (events limit before) _ _ first
+      (λ s h. two-same law s (Command (User name)) (Command (Pass password)) (Command (User other)) (Command (Pass another)) (events limit after)
       (steps name password other another one.refused two.refused s h))
       ∙ sym (ap (text law s) (events-login limit accepts before after other another ended two))
 
@@ -254,47 +253,47 @@ module _ {S : Type 0} (law : Law S) (limit : Option ℕ) (accepts : Accounts) wh
       limit-steps (gated_law law) s name password other another (gate-steps law accepts name password other another one two s.inner keeps)
 
 pub gate-text-hidden : {S : Type 0} (law : Law S) (limit : Option ℕ) (accepts : Accounts) (inner : S) (input other : Bytes)
-    → AllZip (LooksAlike accepts) (events_with_limit limit input) (events_with_limit limit other)
-    → text_with_limit limit (gated_law law) (closed accepts inner) input ≡ text_with_limit limit (gated_law law) (closed accepts inner) other
+    → AllZip (LooksAlike accepts) (events limit input) (events limit other)
+    → text_for limit (gated_law law) (closed accepts inner) input ≡ text_for limit (gated_law law) (closed accepts inner) other
 gate-text-hidden law limit accepts inner =
     text-hidden (gated_law law) (closed accepts inner) accepts (KeepsAccounts accepts) refl (keeps_accounts law accepts) limit (gate-step law accepts)
 
 pub limit-text-hidden : {S : Type 0} (law : Law S) (limit : Option ℕ) (accepts : Accounts) (left : ℕ) (inner : S) (input other : Bytes)
-    → AllZip (LooksAlike accepts) (events_with_limit limit input) (events_with_limit limit other)
-    → text_with_limit limit (limited_law (gated_law law)) (limited_to left (closed accepts inner)) input
-    ≡ text_with_limit limit (limited_law (gated_law law)) (limited_to left (closed accepts inner)) other
+    → AllZip (LooksAlike accepts) (events limit input) (events limit other)
+    → text_for limit (limited_law (gated_law law)) (limited_to left (closed accepts inner)) input
+    ≡ text_for limit (limited_law (gated_law law)) (limited_to left (closed accepts inner)) other
 limit-text-hidden law limit accepts left inner =
     text-hidden (limited_law (gated_law law)) (limited_to left (closed accepts inner)) accepts
     (KeepsLimited law limit accepts) refl (keeps_limited law limit accepts) limit (limited-alike law limit accepts)
 
 pub gate-text-passwords : {S : Type 0} (law : Law S) (limit : Option ℕ) (accepts : Accounts) (inner : S) (before after password other : Bytes)
     → incomplete_line before ≡ [] → CanBeSent limit password → CanBeSent limit other → ((name : Bytes) → accepts name password ≡ accepts name other)
-    → text_with_limit limit (gated_law law) (closed accepts inner) (before ++ (pass_line password ++ after))
-    ≡ text_with_limit limit (gated_law law) (closed accepts inner) (before ++ (pass_line other ++ after))
+    → text_for limit (gated_law law) (closed accepts inner) (before ++ (pass_line password ++ after))
+    ≡ text_for limit (gated_law law) (closed accepts inner) (before ++ (pass_line other ++ after))
 gate-text-passwords law limit accepts inner =
     text-passwords (gated_law law) (closed accepts inner) accepts (KeepsAccounts accepts) refl (keeps_accounts law accepts) limit (gate-step law accepts)
 
 pub limit-text-passwords : {S : Type 0} (law : Law S) (limit : Option ℕ) (accepts : Accounts) (left : ℕ) (inner : S)
     (before after password other : Bytes)
     → incomplete_line before ≡ [] → CanBeSent limit password → CanBeSent limit other → ((name : Bytes) → accepts name password ≡ accepts name other)
-    → text_with_limit limit (limited_law (gated_law law)) (limited_to left (closed accepts inner)) (before ++ (pass_line password ++ after))
-    ≡ text_with_limit limit (limited_law (gated_law law)) (limited_to left (closed accepts inner)) (before ++ (pass_line other ++ after))
+    → text_for limit (limited_law (gated_law law)) (limited_to left (closed accepts inner)) (before ++ (pass_line password ++ after))
+    ≡ text_for limit (limited_law (gated_law law)) (limited_to left (closed accepts inner)) (before ++ (pass_line other ++ after))
 limit-text-passwords law limit accepts left inner =
     text-passwords (limited_law (gated_law law)) (limited_to left (closed accepts inner)) accepts
     (KeepsLimited law limit accepts) refl (keeps_limited law limit accepts) limit (limited-alike law limit accepts)
 
 pub gate-text-logins : {S : Type 0} (law : Law S) (limit : Option ℕ) (accepts : Accounts) (inner : S) (before after name password other another : Bytes)
     → incomplete_line before ≡ [] → IsRefusedLogin limit accepts name password → IsRefusedLogin limit accepts other another
-    → text_with_limit limit (gated_law law) (closed accepts inner) (before ++ (login_lines name password ++ after))
-    ≡ text_with_limit limit (gated_law law) (closed accepts inner) (before ++ (login_lines other another ++ after))
+    → text_for limit (gated_law law) (closed accepts inner) (before ++ (login_lines name password ++ after))
+    ≡ text_for limit (gated_law law) (closed accepts inner) (before ++ (login_lines other another ++ after))
 gate-text-logins law limit accepts inner =
     text-logins (gated_law law) (closed accepts inner) accepts (KeepsAccounts accepts) refl (keeps_accounts law accepts) limit (gate-steps law accepts)
 
 pub limit-text-logins : {S : Type 0} (law : Law S) (limit : Option ℕ) (accepts : Accounts) (left : ℕ) (inner : S)
     (before after name password other another : Bytes)
     → incomplete_line before ≡ [] → IsRefusedLogin limit accepts name password → IsRefusedLogin limit accepts other another
-    → text_with_limit limit (limited_law (gated_law law)) (limited_to left (closed accepts inner)) (before ++ (login_lines name password ++ after))
-    ≡ text_with_limit limit (limited_law (gated_law law)) (limited_to left (closed accepts inner)) (before ++ (login_lines other another ++ after))
+    → text_for limit (limited_law (gated_law law)) (limited_to left (closed accepts inner)) (before ++ (login_lines name password ++ after))
+    ≡ text_for limit (limited_law (gated_law law)) (limited_to left (closed accepts inner)) (before ++ (login_lines other another ++ after))
 limit-text-logins law limit accepts left inner =
     text-logins (limited_law (gated_law law)) (limited_to left (closed accepts inner)) accepts
     (KeepsLimited law limit accepts) refl (keeps_limited law limit accepts) limit (limited-steps law limit accepts)

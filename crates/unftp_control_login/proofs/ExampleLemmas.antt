@@ -7,8 +7,7 @@ use Rattle.std.proofs.lemmas.Bool.{false≢true}
 use Rattle.unftp_control_defs.specs.Bytes.{Bytes, LF}
 use Rattle.unftp_control_defs.specs.FtpCommand.{Pwd}
 use Rattle.unftp_control_defs.specs.FtpReply.{CodeAndMsg, IsPlain}
-use Rattle.unftp_control_defs.specs.Events.{FtpEvent, Command}
-use Rattle.unftp_control_defs.specs.LineLimit.{events_with_limit}
+use Rattle.unftp_control_defs.specs.Events.{FtpEvent, Command, events}
 use Rattle.unftp_control_defs.proofs.EncodingLemmas.{ReadsBack-encoded}
 use Rattle.unftp_control_defs.proofs.LackLemmas.{Lacks-test}
 use Rattle.unftp_control_login.specs.declared.stage.Stage.{Stage}
@@ -17,7 +16,7 @@ use Rattle.unftp_control_login.specs.Login.{Accounts, GaveName, IsLoggedIn}
 use Rattle.unftp_control_login.specs.Gate.{is_logged_in}
 use Rattle.unftp_control_login.specs.Promises.{MembersAlone, SendsPlainReplies, ServesMembersAlone}
 use Rattle.unftp_control_login.specs.Examples.{anna, counting, here, only_anna, secret, silent, user, wrong}
-use Rattle.unftp_control_defs.proofs.LineEventLemmas.{events_with_limit-canonical_line}
+use Rattle.unftp_control_defs.proofs.LineEventLemmas.{events-canonical_line}
 use Rattle.unftp_control_login.proofs.StageLemmas.{stage_after_all, GaveName-stage, IsLoggedIn-stage}
 
 -- no login where the stage that computes isn't one
@@ -47,8 +46,8 @@ anyone-served h =
     not-logged-in only_anna [] refl (h [] (Command Pwd) refl low)
 
 -- the line's event
-pwd : events_with_limit None (codes "PWD\r\n") ≡ Command Pwd ∷ []
-pwd = events_with_limit-canonical_line None Pwd [] tt tt refl
+pwd : events None (codes "PWD\r\n") ≡ Command Pwd ∷ []
+pwd = events-canonical_line None Pwd [] tt tt refl
 
 pub anyone-served-in-bytes : ¬ MembersAlone None only_anna (codes "PWD\r\n") (codes "257 here\r\n")
 unfolding digits

@@ -4,10 +4,9 @@ use Rattle.std.specs.Prelude.{nat_le, Result, Ok, Err, OnOk, IfSome}
 use Rattle.std.proofs.lemmas.Option.{same_Some}
 use Rattle.unftp_control_defs.specs.Bytes.{Bytes, LF}
 use Rattle.unftp_control_defs.specs.FtpCommand.{User, Pass}
-use Rattle.unftp_control_defs.specs.Events.{FtpEvent, Command}
+use Rattle.unftp_control_defs.specs.Events.{FtpEvent, Command, events}
 use Rattle.unftp_control_defs.specs.FtpReply.{FtpReply, Nothing, CodeAndMsg, MultiLine, IsPlain, lines_as_read, reply_as_read}
-use Rattle.unftp_control_defs.specs.LineLimit.{events_with_limit, run_with_limit, text_with_limit}
-use Rattle.unftp_control_defs.specs.Run.{Law, last_state, replies}
+use Rattle.unftp_control_defs.specs.Run.{run_for, text_for, Law, last_state, replies}
 use Rattle.unftp_control_defs.proofs.EncodingLemmas.{ReadsBack-encoded}
 use Rattle.unftp_control_defs.proofs.LackLemmas.{lacks, Lacks-test}
 use Rattle.unftp_control_login.specs.declared.stage.Stage.{Stage}
@@ -151,25 +150,25 @@ NoFailure-read (MultiLine said texts) code lines e low =
 
 -- A handler that serves members alone, and sends plain replies, does so in bytes.
 pub members-alone : {S : Type 0} (law : Law S) (s : S) (accepts : Accounts) (limit : Option ℕ) (input : Bytes)
-    → ServesMembersAlone accepts law s → SendsPlainReplies law → MembersAlone limit accepts input (text_with_limit limit law s input)
+    → ServesMembersAlone accepts law s → SendsPlainReplies law → MembersAlone limit accepts input (text_for limit law s input)
 members-alone law s accepts limit input serves sends read all before after event cut earlier later code lines is placed needs low =
-    let run = run_with_limit limit law s input in
+    let run = run_for limit law s input in
     let plain_replies = replies-all law IsPlain (λ s event. IsPlain-sent (law.says s event) (sends s event)) s run in
     let sent = replies-all law IsSentPlain sends s run in
     let seen = (ReadsBack-encoded (replies law s run) plain_replies).1 read all in
     let at = read-at IsSentPlain shown (replies law s run) sent earlier later (code, lines) (sym seen ∙ is) in
-    let same = reply-at law s (events_with_limit limit input) before after event at.earlier at.later at.reply cut at.whole (at.placed ∙ placed) in
+    let same = reply-at law s (events limit input) before after event at.earlier at.later at.reply cut at.whole (at.placed ∙ placed) in
     serves before event needs (subst NoFailure same (NoFailure-read at.reply code lines at.shows low))
 
 pub gate-members-alone : {S : Type 0} (law : Law S) → SendsPlainReplies law
     → (limit : Option ℕ) (accepts : Accounts) (inner : S) (input : Bytes)
-    → MembersAlone limit accepts input (text_with_limit limit (gated_law law) (closed accepts inner) input)
+    → MembersAlone limit accepts input (text_for limit (gated_law law) (closed accepts inner) input)
 gate-members-alone law sends limit accepts inner input =
     members-alone (gated_law law) (closed accepts inner) accepts limit input (gate_serves-members law accepts inner) (gate-plain law sends)
 
 pub limit-members-alone : {S : Type 0} (law : Law S) → SendsPlainReplies law
     → (limit : Option ℕ) (accepts : Accounts) (left : ℕ) (inner : S) (input : Bytes)
-    → MembersAlone limit accepts input (text_with_limit limit (limited_law (gated_law law)) (limited_to left (closed accepts inner)) input)
+    → MembersAlone limit accepts input (text_for limit (limited_law (gated_law law)) (limited_to left (closed accepts inner)) input)
 limit-members-alone law sends limit accepts left inner input =
     members-alone (limited_law (gated_law law)) (limited_to left (closed accepts inner)) accepts limit input
     (limit_serves-members (gated_law law) accepts left (closed accepts inner) (gate_serves-members law accepts inner))

@@ -3,9 +3,8 @@ use Rattle.std.specs.Prelude.{◌≡◌, ℕ, ◌<◌, ⊤, false, IsTrue, lengt
 use Rattle.unftp_control_defs.specs.Bytes.{Bytes, LF, Lacks}
 use Rattle.unftp_control_defs.specs.Canonical.{canonical_line}
 use Rattle.unftp_control_defs.specs.FtpCommand.{User, Pass}
-use Rattle.unftp_control_defs.specs.Events.{FtpEvent, Command}
+use Rattle.unftp_control_defs.specs.Events.{FtpEvent, Command, exceeds, events}
 use Rattle.unftp_control_defs.specs.FtpReply.{FtpReply, Nothing, CodeAndMsg, MultiLine, IsPlain}
-use Rattle.unftp_control_defs.specs.LineLimit.{exceeds, events_with_limit}
 use Rattle.unftp_control_defs.specs.ReplyReader.{AllReplies}
 use Rattle.unftp_control_defs.specs.Run.{Law, last_state}
 use Rattle.unftp_control_login.specs.Login.{Accounts, IsLoggedIn, needs_login}
@@ -57,7 +56,7 @@ abbrev pub MembersAlone : Option ℕ → Accounts → Bytes → Bytes → Type 0
 MembersAlone limit accepts input output =
     (read : List (ℕ × List Bytes)) → AllReplies output read
     → (before after : List FtpEvent) (event : FtpEvent)
-    → events_with_limit limit input ≡ before ++ event ∷ after
+    → events limit input ≡ before ++ event ∷ after
     → (earlier later : List (ℕ × List Bytes)) (code : ℕ) (lines : List Bytes)
     → read ≡ earlier ++ (code, lines) ∷ later → length earlier ≡ length before
     → IsTrue (needs_login event) → code < 400 → IsLoggedIn accepts before

@@ -2,9 +2,8 @@
 ghost use Rattle.std.specs.Prelude.{◌≡◌, ◌≢◌, ◌++◌, ℕ, true, false, [], ◌∷◌, None, Some, codes};
 ghost use Rattle.unftp_control_defs.specs.Bytes.{Bytes};
 ghost use Rattle.unftp_control_defs.specs.FtpCommand.{Auth, Ccc, Help, Mlst, Noop, Pbsz, Pwd, Quit, Syst};
-ghost use Rattle.unftp_control_defs.specs.Events.{Command, Refused};
+ghost use Rattle.unftp_control_defs.specs.Events.{Command, Refused, line_too_long};
 ghost use Rattle.unftp_control_defs.specs.FtpReply.{Nothing, CodeAndMsg, MultiLine};
-ghost use Rattle.unftp_control_defs.specs.LineLimit.{line_too_long};
 ghost use Rattle.unftp_control_defs.specs.Run.{last_state, replies};
 ghost use Rattle.unftp_control_defs.specs.declared.parameters.AuthParam.TheVariants.{Tls};
 ghost use Rattle.unftp_control_login.specs.Login.{GaveName, HasLoggedIn, IsLoggedIn, flushes_login, is_login, needs_login};

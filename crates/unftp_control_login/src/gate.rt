@@ -48,6 +48,7 @@ impl<A: Accounts, H: Handler> Gate<A, H> {
         ensures stage { result.stage ≡ Stage.NoName }
         ensures quit { result.quit ≡ false }
         ensures inner { result.inner ≡ inner }
+        ensures failures { result.failures ≡ 0 }
     {
         Gate {
             accounts,

@@ -5,7 +5,7 @@ ghost use Rattle.std.specs.List.{AllZip};
 ghost use Rattle.unftp_control_defs.specs.Bytes.{Bytes};
 ghost use Rattle.unftp_control_defs.specs.Events.{FtpEvent, Command, events};
 ghost use Rattle.unftp_control_defs.specs.FtpCommand.{Quit};
-ghost use Rattle.unftp_control_defs.specs.LineLimit.{events_with_limit, text_with_limit};
+ghost use Rattle.unftp_control_defs.specs.Run.{text_for};
 ghost use Rattle.unftp_control_defs.specs.Lines.{incomplete_line};
 ghost use Rattle.unftp_control_login.specs.Login.{Accounts, GaveName, IsLoggedIn, is_login, needs_login};
 ghost use Rattle.unftp_control_login.specs.Gate.{Gated, closed, gated_law};
@@ -53,11 +53,11 @@ pub fn members_alone_are_served_in_bytes<H: Handler>()
     ensures gate { SendsPlainReplies H.law
         → (limit : Option ℕ) (accepts : Accounts) (inner : H.State) (input : Bytes)
         → MembersAlone limit accepts input
-        (text_with_limit limit (gated_law H.law) (closed accepts inner) input) }
+        (text_for limit (gated_law H.law) (closed accepts inner) input) }
     ensures limit { SendsPlainReplies H.law
         → (limit : Option ℕ) (accepts : Accounts) (left : ℕ) (inner : H.State) (input : Bytes)
         → MembersAlone limit accepts input
-        (text_with_limit limit (limited_law (gated_law H.law))
+        (text_for limit (limited_law (gated_law H.law))
         (limited_to left (closed accepts inner)) input) }
 {}
 
@@ -65,17 +65,17 @@ pub fn members_alone_are_served_in_bytes<H: Handler>()
 /// in passwords that the accounts don't tell apart have one output.
 pub fn passwords_stay_hidden<H: Handler>()
     ensures gate { (limit : Option ℕ) (accepts : Accounts) (inner : H.State) (input other : Bytes)
-        → AllZip (LooksAlike accepts) (events_with_limit limit input)
-        (events_with_limit limit other)
-        → text_with_limit limit (gated_law H.law) (closed accepts inner) input
-        ≡ text_with_limit limit (gated_law H.law) (closed accepts inner) other }
+        → AllZip (LooksAlike accepts) (events limit input)
+        (events limit other)
+        → text_for limit (gated_law H.law) (closed accepts inner) input
+        ≡ text_for limit (gated_law H.law) (closed accepts inner) other }
     ensures limit { (limit : Option ℕ) (accepts : Accounts) (left : ℕ) (inner : H.State)
         (input other : Bytes)
-        → AllZip (LooksAlike accepts) (events_with_limit limit input)
-        (events_with_limit limit other)
-        → text_with_limit limit (limited_law (gated_law H.law))
+        → AllZip (LooksAlike accepts) (events limit input)
+        (events limit other)
+        → text_for limit (limited_law (gated_law H.law))
         (limited_to left (closed accepts inner)) input
-        ≡ text_with_limit limit (limited_law (gated_law H.law))
+        ≡ text_for limit (limited_law (gated_law H.law))
         (limited_to left (closed accepts inner)) other }
 {}
 
@@ -86,17 +86,17 @@ pub fn refused_passwords_look_alike<H: Handler>()
         (before after password other : Bytes) → incomplete_line before ≡ []
         → CanBeSent limit password → CanBeSent limit other
         → ((name : Bytes) → accepts name password ≡ accepts name other)
-        → text_with_limit limit (gated_law H.law) (closed accepts inner)
+        → text_for limit (gated_law H.law) (closed accepts inner)
         (before ++ (pass_line password ++ after))
-        ≡ text_with_limit limit (gated_law H.law) (closed accepts inner)
+        ≡ text_for limit (gated_law H.law) (closed accepts inner)
         (before ++ (pass_line other ++ after)) }
     ensures limit { (limit : Option ℕ) (accepts : Accounts) (left : ℕ) (inner : H.State)
         (before after password other : Bytes) → incomplete_line before ≡ []
         → CanBeSent limit password → CanBeSent limit other
         → ((name : Bytes) → accepts name password ≡ accepts name other)
-        → text_with_limit limit (limited_law (gated_law H.law))
+        → text_for limit (limited_law (gated_law H.law))
         (limited_to left (closed accepts inner)) (before ++ (pass_line password ++ after))
-        ≡ text_with_limit limit (limited_law (gated_law H.law))
+        ≡ text_for limit (limited_law (gated_law H.law))
         (limited_to left (closed accepts inner)) (before ++ (pass_line other ++ after)) }
 {}
 
@@ -105,16 +105,16 @@ pub fn refused_logins_look_alike<H: Handler>()
     ensures gate { (limit : Option ℕ) (accepts : Accounts) (inner : H.State)
         (before after name password other another : Bytes) → incomplete_line before ≡ []
         → IsRefusedLogin limit accepts name password → IsRefusedLogin limit accepts other another
-        → text_with_limit limit (gated_law H.law) (closed accepts inner)
+        → text_for limit (gated_law H.law) (closed accepts inner)
         (before ++ (login_lines name password ++ after))
-        ≡ text_with_limit limit (gated_law H.law) (closed accepts inner)
+        ≡ text_for limit (gated_law H.law) (closed accepts inner)
         (before ++ (login_lines other another ++ after)) }
     ensures limit { (limit : Option ℕ) (accepts : Accounts) (left : ℕ) (inner : H.State)
         (before after name password other another : Bytes) → incomplete_line before ≡ []
         → IsRefusedLogin limit accepts name password → IsRefusedLogin limit accepts other another
-        → text_with_limit limit (limited_law (gated_law H.law))
+        → text_for limit (limited_law (gated_law H.law))
         (limited_to left (closed accepts inner)) (before ++ (login_lines name password ++ after))
-        ≡ text_with_limit limit (limited_law (gated_law H.law))
+        ≡ text_for limit (limited_law (gated_law H.law))
         (limited_to left (closed accepts inner))
         (before ++ (login_lines other another ++ after)) }
 {}

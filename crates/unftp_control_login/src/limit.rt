@@ -27,6 +27,7 @@ impl<H: Handler> LoginLimit<H> {
         requires { 1 ≤ limit }
         ensures left { result.left ≡ limit }
         ensures inner { result.inner ≡ inner }
+        ensures failures { result.failures ≡ 0 }
     {
         LoginLimit {
             left: limit,

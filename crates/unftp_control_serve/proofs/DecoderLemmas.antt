@@ -2,16 +2,15 @@
 use Rattle.std.proofs.Common.{◌≡◌, ◌≢◌, ℕ, zero, suc, ◌+◌, ◌-◌, ◌<◌, ◌≤◌, Bool, true, false, [], ◌∷◌, ◌++◌, ◌⊎◌, length, take, drop, Option, Some, None, Result, Ok, Err, refl, sym, ap, ◌∙◌, inl, inr, arith, append_assoc, length-append, length-drop, ne_eqb, eqb-true}
 use Rattle.std.specs.Prelude.{slice_index, if◌then◌else◌, ◌||◌, IfSome, OnErr}
 use Rattle.std.specs.Option.{MatchOption}
-use Rattle.std.proofs.lemmas.Bool.{cases_lt, lt-ltb, ltb-true, ltb-false}
+use Rattle.std.proofs.lemmas.Bool.{cases_lt, lt-ltb, ltb-true}
 use Rattle.std.proofs.lemmas.Grind.{common_steps}
 use Rattle.std.proofs.lemmas.List.{drop-drop, take_all, take_more, take-append-drop, length-take-le}
 use Rattle.std.proofs.Math.Seq.{take-length}
 use Rattle.std.proofs.lemmas.Option.{none-some, same_Some}
 use Rattle.unftp_control_defs.specs.Bytes.{Bytes, LF, Lacks}
 use Rattle.unftp_control_defs.specs.Lines.{IsLine}
-use Rattle.unftp_control_defs.specs.Events.{FtpEvent, Command, Refused, FaultKind, IoError, OutOfMemory, event_of}
+use Rattle.unftp_control_defs.specs.Events.{FtpEvent, Command, Refused, FaultKind, IoError, OutOfMemory, event_of, exceeds, line_too_long, event_for}
 use Rattle.unftp_control_defs.specs.FtpCommand.{Answer, InvalidUtf8, InvalidCommand, InvalidEol}
-use Rattle.unftp_control_defs.specs.LineLimit.{exceeds, line_too_long, event_with_limit}
 use Rattle.unftp_control_defs.specs.Outcome.{outcome}
 use Rattle.unftp_control_defs.proofs.LackLemmas.{Lacks-append}
 use Rattle.unftp_control_line_parser.specs.Memory.{MayTakeMemory}
@@ -58,14 +57,6 @@ unskipped false x h = (refl, h)
 longer : (limit : Option ℕ) (m n : ℕ) → exceeds limit m ≡ true → m ≤ n → exceeds limit n ≡ true
 longer None m n h le = absurd (cc)
 longer (Some limit) m n h le = lt-ltb limit n (omega (arith, ltb-true limit m h))
-
-within_limit : (limit : Option ℕ) (n : ℕ) → exceeds limit (n + 1) ≡ false → IfSome limit (λ limit. n < limit)
-within_limit None n h = tt
-within_limit (Some limit) n h = omega (arith, ltb-false limit (n + 1) h)
-
-room_for_none : (limit : Option ℕ) → IfSome limit (λ limit. 1 ≤ limit) → IfSome limit (λ limit. 0 < limit)
-room_for_none None h = tt
-room_for_none (Some limit) h = h
 
 -- the event of the first line, of which the codec may have dropped a part
 abbrev first_event : Codec → Bytes → FtpEvent
@@ -197,7 +188,7 @@ still_too_long false limit dropped before h none = longer limit (length before +
 
 -- the event of a line is that of its end, after the bytes that were dropped
 whole_event : (codec : Codec) (dropped line : Bytes) (skipping : Bool) → codec.skipping ≡ skipping → IsDropped codec dropped → 0 < length line →
-    first_event codec line ≡ event_with_limit codec.limit (dropped ++ line)
+    first_event codec line ≡ event_for codec.limit (dropped ++ line)
 whole_event codec dropped line true on lost some =
     let long : exceeds codec.limit (length (dropped ++ line)) ≡ true =
     longer codec.limit (length dropped + 1) (length (dropped ++ line)) (rw on at lost.too_long) (omega (arith, some, length-append dropped line)) in
@@ -253,11 +244,6 @@ module _ (old new : Codec) (dropped before : Bytes) (taken : ℕ) (answer : Deco
     none_scanned true skips = omega (arith, ap length skips.dropped)
     none_scanned false keeps = omega (arith, keeps.place, ap length keeps.kept)
 
-    none_short : (too_long : Bool) → is_too_long old (length before + 1) ≡ too_long →
-        IfTooLong too_long (SkipsAll old new before after) (FindsNone old new before after) → IfSome old.limit (λ limit. length after < limit)
-    none_short true long skips = rw skips.dropped (room_for_none old.limit limited)
-    none_short false short keeps = rw keeps.kept (within_limit old.limit (length before) (unskipped old.skipping (exceeds old.limit (length before + 1)) short).1)
-
     none_kept : (too_long : Bool) → is_too_long old (length before + 1) ≡ too_long →
         IfTooLong too_long (SkipsAll old new before after) (FindsNone old new before after) → length after ≡ kept_length old.limit (dropped ++ before)
     none_kept true long skips = rw (skips.dropped, still_too_long old.skipping old.limit dropped before long lost.too_long) refl
@@ -293,7 +279,6 @@ module _ (old new : Codec) (dropped before : Bytes) (taken : ℕ) (answer : Deco
         same = none_same none (is_too_long old (length before + 1)) refl none.leaves;
         all_scanned = none_scanned none (is_too_long old (length before + 1)) none.leaves;
         kept = none_kept none (is_too_long old (length before + 1)) refl none.leaves;
-        short = none_short none (is_too_long old (length before + 1)) refl none.leaves;
       }
       by_result (Ok None) tells (inr (inl first)) = absurd (none-some _ (sym tells.0 ∙ first.returned))
       by_result (Ok None) tells (inr (inr no_memory)) = absurd (tells.1 no_memory.no_memory)

@@ -1,5 +1,7 @@
 pub mod DecoderLemmas
 pub mod SendLemmas
 pub mod EndingLemmas
+mod EngineLemmas
 mod LineRunLemmas
 mod ServiceLemmas
+pub mod ServesLemmas

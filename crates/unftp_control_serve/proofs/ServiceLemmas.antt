@@ -1,31 +1,50 @@
 -- A service, piece by piece.
-use Rattle.std.proofs.Common.{◌≡◌, ℕ, max, ◌+◌, ◌-◌, ◌^◌, ◌<◌, ◌≤◌, Bool, true, false, ltb, List, [], ◌∷◌, ◌++◌, take, Option, Some, None, Result, length, refl, sym, ◌∙◌, ap, subst, arith, append_assoc, length-append}
-use Rattle.std.proofs.lemmas.List.{append-nil}
+use Rattle.std.proofs.Common.{◌≡◌, ℕ, max, ◌+◌, ◌-◌, ◌^◌, ◌<◌, ◌≤◌, ◌⊎◌, inl, inr, Bool, true, false, List, [], ◌∷◌, ◌++◌, map, take, Option, Some, None, length, refl, sym, ◌∙◌, ap, subst, arith, append_assoc, length-append}
+use Rattle.std.proofs.lemmas.List.{append-nil, map-append}
 use Rattle.std.specs.List.{AllByRecursion, concat}
-use Rattle.std.proofs.lemmas.Bool.{ltb-false}
+use Rattle.std.proofs.lemmas.Bool.{false≢true}
 use Rattle.std.proofs.lemmas.List.Folds.{concat-append}
 use Rattle.std.specs.Prelude.{if◌then◌else◌}
 use Rattle.std.specs.Option.{IfSome}
-use Rattle.std.specs.Result.{IfOk, OnOk}
-use Rattle.std.proofs.lemmas.Result.{IfOk-weaker}
 use Rattle.std.specs.Io.KnownBytes.{Appends, Consumes, IsAtEnd, Keeps}
 use Rattle.unftp_control_defs.specs.Bytes.{Bytes, LF, Lacks}
+use Rattle.unftp_control_defs.specs.Events.{FtpEvent, events}
 use Rattle.unftp_control_defs.specs.Lines.{incomplete_line}
-use Rattle.unftp_control_defs.specs.LineLimit.{exceeds, events_with_limit, run_with_limit, ends_with_limit, text_with_limit, unread, after_end}
-use Rattle.unftp_control_defs.specs.FtpReply.{IsPlain}
-use Rattle.unftp_control_defs.specs.ReplyReader.{ReadsBack}
-use Rattle.unftp_control_defs.specs.Run.{Law, last_state, replies, text_of}
+use Rattle.unftp_control_defs.specs.Run.{Law, last_state, replies, text_of, run_for, ends_for, unread, after_end}
 use Rattle.unftp_control_defs.proofs.EncodingLemmas.{ReadsBack-encoded}
 use Rattle.unftp_control_defs.proofs.LineLemmas.{Lines-lines_of, incomplete_line-append, incomplete_line-incomplete}
-use Rattle.unftp_control_defs.proofs.RunLemmas.{run_of-all, run-append, unread-append, run-ended, unread-ended}
-use Rattle.unftp_control_serve.specs.Endings.{Snapshot, AllAnswered, RunEnded}
+use Rattle.unftp_control_defs.proofs.RunLemmas.{run_of-all, run-append, unread-append, run-ended, unread-ended, after_end-within}
+use Rattle.unftp_control_serve.specs.Endings.{Snapshot, Cause, Finished, Write, Handler, LineMemory, ReplyMemory, IsCauseOf, AllAnswered, RunFailed, NoRoom}
 use Rattle.unftp_control_serve.specs.Decoder.{kept_length, saturating_u64}
-use Rattle.unftp_control_serve.specs.Engine.{EngineState, IsRunning, Leaves, bytes_with, run_with, ends_with, unread_with, fresh}
-use Rattle.unftp_control_serve.specs.Service.{InputState, Answered, AnsweredAllWithLimit, EndedLate, HeldInPieces, ReadFailed, ReadTooOften, ServeEndedWithLimit, most_held}
+use Rattle.unftp_control_serve.specs.Engine.{EngineState, IsRunning, bytes_with, run_with, ends_with, unread_with, after_end_with, pending_with, fed, fresh}
+use Rattle.unftp_control_serve.specs.Service.{InputState, Answered, AnsweredAll, EndedLate, NoRoomForPiece, ReadFailed, ReadTooOften, Reports, ServeEnded, Serves, WereRead, most_held}
 use Rattle.unftp_control_serve.specs.declared.service.Served.{Served}
 use Rattle.unftp_control_serve.specs.declared.error.ServeError.{ServeError}
-use Rattle.unftp_control_serve.specs.declared.error.ServeError.TheVariants.{Read, Write, WriteZero, Handler, OutOfMemory, Stopped, TooManyReads}
-use Rattle.unftp_control_serve.proofs.EndingLemmas.{AllAnswered-nothing, AllAnswered-then, RunEnded-then}
+use Rattle.unftp_control_serve.specs.declared.error.ServeError.TheVariants as error
+use Rattle.unftp_control_serve.proofs.EngineLemmas.{kept_within, nothing_kept}
+use Rattle.unftp_control_serve.proofs.EndingLemmas.{AllAnswered-nothing, RunEnded-then, RunFailed-then}
+
+-- some errors have no cause in a run
+no_cause-read : (x : _) (cause : Cause) → IsCauseOf cause (error.Read x) → ⊥
+no_cause-read x Finished h = h
+no_cause-read x (Write part) h = h
+no_cause-read x (Handler fault) h = h
+no_cause-read x LineMemory h = h
+no_cause-read x ReplyMemory h = h
+
+no_cause-stopped : (cause : Cause) → IsCauseOf cause error.Stopped → ⊥
+no_cause-stopped Finished h = h
+no_cause-stopped (Write part) h = h
+no_cause-stopped (Handler fault) h = h
+no_cause-stopped LineMemory h = h
+no_cause-stopped ReplyMemory h = h
+
+no_cause-reads : (cause : Cause) → IsCauseOf cause error.TooManyReads → ⊥
+no_cause-reads Finished h = h
+no_cause-reads (Write part) h = h
+no_cause-reads (Handler fault) h = h
+no_cause-reads LineMemory h = h
+no_cause-reads ReplyMemory h = h
 
 Consumes-nothing : (known : Option Bytes) → Consumes known known []
 Consumes-nothing None = tt
@@ -47,23 +66,36 @@ Consumes-kept (Some a) (Some b) (Some c) read p q = rw q p
 -- in the loop of `serve`: all lines of what was read are answered, and the engine holds the
 -- incomplete line
 pub record Serving (limit : Option ℕ) {S : Type 0} (law : Law S) (m n : Snapshot S) (i j : InputState) (engine : EngineState) (turn : ℕ) : Type 0 where
-  pub so_far : Answered limit law m n i j
+  pub pieces : List Bytes
+  pub were_read : WereRead i j pieces []
+  pub so_far : Answered limit law m n i j pieces
   pub running : IsRunning engine
-  pub incomplete : engine.incomplete ≡ incomplete_line so_far.read
-  pub left : engine.left ≡ saturating_u64 (length (unread limit law m.state so_far.read))
-  pub many : turn ≤ length so_far.read
-  pub tested : engine.tests ≡ length so_far.read
+  pub incomplete : engine.incomplete ≡ incomplete_line (concat pieces)
+  pub left : engine.left ≡ saturating_u64 (length (unread limit law m.state (concat pieces)))
+  pub many : turn ≤ length (concat pieces)
+  pub scanned : engine.scanned ≡ length (concat pieces)
   pub no_read_failed : j.failures ≡ i.failures
   pub limited : engine.limit ≡ limit
   pub buffered : engine.buffered ≡ kept_length limit engine.incomplete
-  pub held_of : HeldInPieces limit so_far.read engine.held
+  pub held : engine.held ≡ most_held limit [] pieces
 
-nothing_kept : (limit : Option ℕ) → kept_length limit [] ≡ 0
-nothing_kept limit = by_length (exceeds limit 1)
-  where
-    by_length : (too_long : Bool) → (if too_long then 0 else length {A = ℕ} []) ≡ 0
-    by_length true = refl
-    by_length false = refl
+-- one read more
+concat-more : (pieces : List Bytes) (piece : Bytes) → concat (pieces ++ piece ∷ []) ≡ concat pieces ++ piece
+concat-more pieces piece = concat-append pieces (piece ∷ []) ∙ ap (λ end. concat pieces ++ end) (append-nil piece)
+
+short_pieces : (pieces : List Bytes) (piece : Bytes) → AllByRecursion (λ piece. length piece ≤ 4096) pieces → length piece ≤ 4096 →
+    AllByRecursion (λ piece. length piece ≤ 4096) (pieces ++ piece ∷ [])
+short_pieces [] piece each short = (short, tt)
+short_pieces (first ∷ pieces) piece each short = (each.0, short_pieces pieces piece each.1 short)
+
+WereRead-more : (i j k : InputState) (pieces : List Bytes) (piece : Bytes) → WereRead i j pieces [] → Consumes j.remaining k.remaining piece → k.reads ≡ j.reads ++ length piece ∷ []
+    → length piece ≤ 4096 → WereRead i k (pieces ++ piece ∷ []) []
+WereRead-more i j k pieces piece so_far consumed reads short = record {
+  consumed = rw (concat-more pieces piece) (Consumes-then i.remaining j.remaining k.remaining (concat pieces) piece so_far.consumed consumed);
+  reads = rw (append-nil, map-append) (reads ∙ ap (λ reads. reads ++ length piece ∷ []) (so_far.reads ∙ ap (λ reads. i.reads ++ reads) (append-nil (map length pieces)))
+      ∙ append_assoc i.reads (map length pieces) (length piece ∷ []));
+  short = short_pieces pieces piece so_far.short short;
+}
 
 -- of an input that comes in one piece more
 most_held-more : (limit : Option ℕ) (incomplete : Bytes) (pieces : List Bytes) (piece : Bytes) → Lacks LF incomplete →
@@ -79,26 +111,9 @@ most_held-more limit incomplete (first ∷ pieces) piece unended =
     let later = most_held-more limit after pieces piece (Lines-lines_of (incomplete ++ first)).unended in
     rw (same, later) (omega arith)
 
-short_pieces : (pieces : List Bytes) (piece : Bytes) → AllByRecursion (λ piece. length piece ≤ 4096) pieces → length piece ≤ 4096 →
-    AllByRecursion (λ piece. length piece ≤ 4096) (pieces ++ piece ∷ [])
-short_pieces [] piece each short = (short, tt)
-short_pieces (first ∷ pieces) piece each short = (each.0, short_pieces pieces piece each.1 short)
-
-HeldInPieces-more : (limit : Option ℕ) (read piece : Bytes) (held held' : ℕ) → HeldInPieces limit read held → length piece ≤ 4096 →
-    held' ≡ max held (kept_length limit (incomplete_line read) + length piece) → HeldInPieces limit (read ++ piece) held'
-HeldInPieces-more limit read piece held held' so_far short more = record {
-  pieces = so_far.pieces ++ piece ∷ [];
-  whole = rw (so_far.whole, concat-append) (ap (λ end. concat so_far.pieces ++ end) (sym (append-nil piece)));
-  short = short_pieces so_far.pieces piece so_far.short short;
-  most = rw (most_held-more limit [] so_far.pieces piece tt, ← so_far.most, ← so_far.whole) more;
-}
-
-kept_within : (limit : ℕ) (incomplete : Bytes) → kept_length (Some limit) incomplete ≤ limit
-kept_within limit incomplete = by_length (ltb limit (length incomplete + 1)) refl
-  where
-    by_length : (too_long : Bool) → ltb limit (length incomplete + 1) ≡ too_long → (if too_long then 0 else length incomplete) ≤ limit
-    by_length true long = omega arith
-    by_length false short = omega (arith, ltb-false limit (length incomplete + 1) short)
+most_held-piece : (limit : Option ℕ) (pieces : List Bytes) (piece : Bytes) (held buffered : ℕ) → held ≡ most_held limit [] pieces →
+    buffered ≡ kept_length limit (incomplete_line (concat pieces)) → max held (buffered + length piece) ≡ most_held limit [] (pieces ++ piece ∷ [])
+most_held-piece limit pieces piece held buffered most kept = rw (most_held-more limit [] pieces piece tt, most, kept) refl
 
 most_held-within : (limit : ℕ) (incomplete : Bytes) (pieces : List Bytes) → AllByRecursion (λ piece. length piece ≤ 4096) pieces →
     most_held (Some limit) incomplete pieces ≤ limit + 4096
@@ -109,295 +124,276 @@ most_held-within limit incomplete (piece ∷ pieces) each =
 module _ (limit : Option ℕ) {S : Type 0} (law : Law S) (m : Snapshot S) (i : InputState) where
   pub Serving-start : (engine : EngineState) → engine ≡ fresh limit → Serving limit law m m i i engine 0
   Serving-start engine new = rw new record {
-    so_far = record { read = []; consumed = Consumes-nothing i.remaining; answered = AllAnswered-nothing law m; goes_on = refl };
+    pieces = [];
+    were_read = record { consumed = Consumes-nothing i.remaining; reads = sym (append-nil i.reads); short = tt };
+    so_far = record { answered = AllAnswered-nothing law m; goes_on = refl };
     running = (refl, refl);
     incomplete = refl;
     left = refl;
     many = omega arith;
-    tested = omega arith;
+    scanned = omega arith;
     no_read_failed = refl;
     limited = refl;
     buffered = sym (nothing_kept limit);
-    held_of = record { pieces = []; whole = refl; short = tt; most = refl };
+    held = refl;
   }
 
   module _ (n : Snapshot S) (j k : InputState) (engine : EngineState) (turn : ℕ) (s : Serving limit law m n i j engine turn) where
-    same_incomplete : (piece : Bytes) → incomplete_line (engine.incomplete ++ piece) ≡ incomplete_line (s.so_far.read ++ piece)
-    same_incomplete piece = ap (λ incomplete. incomplete_line (incomplete ++ piece)) s.incomplete ∙ sym (incomplete_line-append s.so_far.read piece)
+    abbrev bytes_so_far : Bytes
+    bytes_so_far = concat s.pieces
+
+    same_incomplete : (piece : Bytes) → incomplete_line (engine.incomplete ++ piece) ≡ incomplete_line (bytes_so_far ++ piece)
+    same_incomplete piece = ap (λ incomplete. incomplete_line (incomplete ++ piece)) s.incomplete ∙ sym (incomplete_line-append bytes_so_far piece)
 
     -- the run over what was read goes on in the engine
     moved : {X : Type 0} (F : Option ℕ → S → Bytes → X) (piece : Bytes) →
-        F limit (last_state law m.state (events_with_limit limit s.so_far.read)) (incomplete_line s.so_far.read ++ piece) ≡ F engine.limit n.state (bytes_with engine piece)
+        F limit (last_state law m.state (events limit bytes_so_far)) (incomplete_line bytes_so_far ++ piece) ≡ F engine.limit n.state (bytes_with engine piece)
     moved F piece =
-        ap (λ l. F l (last_state law m.state (events_with_limit limit s.so_far.read)) (incomplete_line s.so_far.read ++ piece)) (sym s.limited)
-        ∙ ap (λ state. F engine.limit state (incomplete_line s.so_far.read ++ piece)) (sym s.so_far.answered.state)
+        ap (λ l. F l (last_state law m.state (events limit bytes_so_far)) (incomplete_line bytes_so_far ++ piece)) (sym s.limited)
+        ∙ ap (λ state. F engine.limit state (incomplete_line bytes_so_far ++ piece)) (sym s.so_far.answered.ends_at)
         ∙ ap (λ incomplete. F engine.limit n.state (incomplete ++ piece)) (sym s.incomplete)
 
     module _ (piece : Bytes) where
-      same_run : run_with_limit limit law m.state (s.so_far.read ++ piece) ≡ events_with_limit limit s.so_far.read ++ run_with engine law n.state piece
+      same_run : run_for limit law m.state (bytes_so_far ++ piece) ≡ events limit bytes_so_far ++ run_with engine law n.state piece
       same_run =
-          (run-append law limit m.state s.so_far.read piece s.so_far.goes_on).0
-          ∙ ap (λ run. events_with_limit limit s.so_far.read ++ run) (moved (λ l state bytes. run_with_limit l law state bytes) piece)
+          (run-append law limit m.state bytes_so_far piece s.so_far.goes_on).0
+          ∙ ap (λ run. events limit bytes_so_far ++ run) (moved (λ l state bytes. run_for l law state bytes) piece)
 
-      same_ends : ends_with_limit limit law m.state (s.so_far.read ++ piece) ≡ ends_with engine law n.state piece
-      same_ends = (run-append law limit m.state s.so_far.read piece s.so_far.goes_on).1 ∙ moved (λ l state bytes. ends_with_limit l law state bytes) piece
+      same_ends : ends_for limit law m.state (bytes_so_far ++ piece) ≡ ends_with engine law n.state piece
+      same_ends = (run-append law limit m.state bytes_so_far piece s.so_far.goes_on).1 ∙ moved (λ l state bytes. ends_for l law state bytes) piece
 
-      same_unread : unread limit law m.state (s.so_far.read ++ piece) ≡ unread_with engine law n.state piece
-      same_unread = unread-append law limit m.state s.so_far.read piece s.so_far.goes_on ∙ moved (λ l state bytes. unread l law state bytes) piece
+      same_unread : unread limit law m.state (bytes_so_far ++ piece) ≡ unread_with engine law n.state piece
+      same_unread = unread-append law limit m.state bytes_so_far piece s.so_far.goes_on ∙ moved (λ l state bytes. unread l law state bytes) piece
 
-      same_after_end : after_end limit law m.state (s.so_far.read ++ piece) ≡ after_end engine.limit law n.state (bytes_with engine piece)
+      same_after_end : after_end limit law m.state (bytes_so_far ++ piece) ≡ after_end_with engine law n.state piece
       same_after_end =
-          ap (λ ended. if ended then unread limit law m.state (s.so_far.read ++ piece) else []) same_ends
+          ap (λ ended. if ended then unread limit law m.state (bytes_so_far ++ piece) else []) same_ends
           ∙ ap (λ bytes. if ends_with engine law n.state piece then bytes else []) same_unread
 
-      -- a piece whose lines were answered
-      module _ (after : Snapshot S) (engine' : EngineState) (consumed : Consumes j.remaining k.remaining piece) (short : length piece ≤ 4096) (kept : k.failures ≡ j.failures)
-          (all : AllAnswered law n (run_with engine law n.state piece) after) (leaves : Leaves law engine piece n.state after.state engine')
-          (tests : engine'.tests + length (after_end engine.limit law n.state (bytes_with engine piece)) ≡ engine.tests + length piece)
-          (held : engine'.held ≡ max engine.held (engine.buffered + length piece)) where
-        consumed_so : Consumes i.remaining k.remaining (s.so_far.read ++ piece)
-        consumed_so = Consumes-then i.remaining j.remaining k.remaining s.so_far.read piece s.so_far.consumed consumed
+      whole : concat (s.pieces ++ piece ∷ []) ≡ bytes_so_far ++ piece
+      whole = concat-more s.pieces piece
 
-        answered_so : AllAnswered law m (events_with_limit limit s.so_far.read ++ run_with engine law n.state piece) after
-        answered_so = AllAnswered-then law m n after (events_with_limit limit s.so_far.read) s.so_far.answered (run_with engine law n.state piece) all
+      -- a piece that was read
+      module _ (consumed : Consumes j.remaining k.remaining piece) (reads : k.reads ≡ j.reads ++ length piece ∷ []) (short : length piece ≤ 4096) where
+        were_read_so : WereRead i k (s.pieces ++ piece ∷ []) []
+        were_read_so = WereRead-more i j k s.pieces piece s.were_read consumed reads short
 
-        left_so : engine'.left ≡ saturating_u64 (length (unread limit law m.state (s.so_far.read ++ piece)))
-        left_so = leaves.left ∙ ap (λ bytes. saturating_u64 (length bytes)) (sym same_unread)
+        -- and whose lines were answered
+        module _ (after : Snapshot S) (kept : k.failures ≡ j.failures) (all : AllAnswered law n (run_with engine law n.state piece) after) where
+          answered_so : AllAnswered law m (events limit bytes_so_far ++ run_with engine law n.state piece) after
+          answered_so = RunEnded-then law m n after (events limit bytes_so_far) s.so_far.answered (run_with engine law n.state piece) [] Finished all
 
-        tested_so : engine'.tests + length (after_end limit law m.state (s.so_far.read ++ piece)) ≡ length (s.so_far.read ++ piece)
-        tested_so = omega (arith, tests, s.tested, ap length same_after_end, length-append s.so_far.read piece)
+          left_so : (fed law n.state engine piece).left ≡ saturating_u64 (length (unread limit law m.state (bytes_so_far ++ piece)))
+          left_so = ap (λ bytes. saturating_u64 (length bytes)) (sym same_unread)
 
-        held_so : HeldInPieces limit (s.so_far.read ++ piece) engine'.held
-        held_so = HeldInPieces-more limit s.so_far.read piece engine.held engine'.held s.held_of short
-            (held ∙ ap (λ kept. max engine.held (kept + length piece)) (s.buffered ∙ ap (kept_length limit) s.incomplete))
+          scanned_so : (fed law n.state engine piece).scanned + length (after_end limit law m.state (bytes_so_far ++ piece)) ≡ length (bytes_so_far ++ piece)
+          scanned_so = omega (
+            arith,
+            s.scanned,
+            ap length same_after_end,
+            length-append bytes_so_far piece,
+            after_end-within law limit m.state (bytes_so_far ++ piece),
+          )
 
-        ends_so : ends_with_limit limit law m.state (s.so_far.read ++ piece) ≡ engine'.finished
-        ends_so = same_ends ∙ sym leaves.finished
+          held_so : (fed law n.state engine piece).held ≡ most_held limit [] (s.pieces ++ piece ∷ [])
+          held_so = most_held-piece limit s.pieces piece engine.held engine.buffered s.held (s.buffered ∙ ap (kept_length limit) s.incomplete)
 
-        -- after which the run goes on
-        pub Serving-next : 0 < length piece → engine'.finished ≡ false → engine'.limit ≡ engine.limit → engine'.buffered ≡ kept_length engine'.limit engine'.incomplete →
-            Serving limit law m after i k engine' (turn + 1)
-        Serving-next some on same_limit buffered =
-            let goes_on : ends_with_limit limit law m.state (s.so_far.read ++ piece) ≡ false = ends_so ∙ on in
-            let all_events = sym (run_of-all law m.state (events_with_limit limit (s.so_far.read ++ piece)) goes_on) ∙ same_run in
-            record {
-              so_far = record { read = s.so_far.read ++ piece; consumed = consumed_so; answered = rw all_events answered_so; goes_on = goes_on };
-              running = (leaves.no_failure, on);
-              incomplete = rw on at leaves.incomplete ∙ same_incomplete piece;
-              left = left_so;
-              many = omega (arith, s.many, length-append s.so_far.read piece);
-              tested = omega (arith, tested_so, ap length (nothing_after goes_on));
-              no_read_failed = kept ∙ s.no_read_failed;
-              limited = same_limit ∙ s.limited;
-              buffered = rw (same_limit ∙ s.limited) at buffered;
-              held_of = held_so;
-            }
-          where
-            nothing_after : ends_with_limit limit law m.state (s.so_far.read ++ piece) ≡ false → after_end limit law m.state (s.so_far.read ++ piece) ≡ []
-            nothing_after on = ap (λ ended. if ended then unread limit law m.state (s.so_far.read ++ piece) else []) on
+          -- after which the run goes on
+          pub Serving-next : 0 < length piece → ends_with engine law n.state piece ≡ false → Serving limit law m after i k (fed law n.state engine piece) (turn + 1)
+          Serving-next some on =
+              let goes_on : ends_for limit law m.state (bytes_so_far ++ piece) ≡ false = same_ends ∙ on in
+              let all_events = sym (run_of-all law m.state (events limit (bytes_so_far ++ piece)) goes_on) ∙ same_run in
+              let nothing : after_end limit law m.state (bytes_so_far ++ piece) ≡ [] =
+              ap (λ ended. if ended then unread limit law m.state (bytes_so_far ++ piece) else []) goes_on in
+              record {
+                pieces = s.pieces ++ piece ∷ [];
+                were_read = were_read_so;
+                so_far = record { answered = rw (whole, all_events) answered_so; goes_on = rw whole goes_on };
+                running = (refl, on);
+                incomplete = rw whole (ap (λ ended. if ended then [] else incomplete_line (bytes_with engine piece)) on ∙ same_incomplete piece);
+                left = rw whole left_so;
+                many = rw whole (omega (arith, s.many, some, length-append bytes_so_far piece));
+                scanned = rw whole (omega (arith, scanned_so, ap length nothing));
+                no_read_failed = kept ∙ s.no_read_failed;
+                limited = s.limited;
+                buffered = ap (λ limit. kept_length limit (pending_with engine law n.state piece)) s.limited;
+                held = held_so;
+              }
 
-        -- with which it ended
-        pub Serving-done : engine'.finished ≡ true → AnsweredAllWithLimit limit law m after i k engine'.left engine'.tests engine'.held engine'.finished
-        Serving-done done = rw done record {
-          read = s.so_far.read ++ piece;
-          consumed = consumed_so;
-          ended = sym (ends_so ∙ done);
-          in_last_piece = λ _. record { first = s.so_far.read; piece = piece; whole = refl; short = short; goes_on = s.so_far.goes_on };
-          at_end = λ h. absurd (cc);
-          answered = rw same_run answered_so;
-          left_reported = left_so;
-          tested = tested_so;
-          held_of = held_so;
-          no_read_failed = kept ∙ s.no_read_failed;
-        }
+          -- with which it ended
+          pub Serving-done : (served : Served) → Reports served (fed law n.state engine piece) → ends_with engine law n.state piece ≡ true → AnsweredAll limit law m after i k served
+          Serving-done served reports done =
+              let is_done : served.done ≡ true = reports.done ∙ done in
+              record {
+                pieces = s.pieces ++ piece ∷ [];
+                were_read = rw is_done were_read_so;
+                ended = rw whole (reports.done ∙ sym same_ends);
+                in_last = λ _. record { first = s.pieces; last = piece; whole = refl; goes_on = s.so_far.goes_on };
+                at_end = λ h. absurd (false≢true (sym h ∙ is_done));
+                answered = rw (whole, same_run) answered_so;
+                left = rw whole (reports.left ∙ left_so);
+                scanned = rw whole (omega (arith, reports.scanned, scanned_so));
+                held = reports.held ∙ held_so;
+                no_read_failed = kept ∙ s.no_read_failed;
+              }
 
-    late : (after : Snapshot S) (piece : Bytes) (error : ServeError) → Consumes j.remaining k.remaining piece → length piece ≤ 4096 →
-        RunEnded law n (run_with engine law n.state piece) after error → EndedLate limit law m after i k error
-    late after piece error consumed short ended =
-        let all = RunEnded-then law m n after (events_with_limit limit s.so_far.read) s.so_far.answered
-        (run_with_limit limit law m.state (s.so_far.read ++ piece)) (run_with engine law n.state piece) error (same_run piece) ended in
-        record {
-          read = s.so_far.read;
-          piece = piece;
-          consumed = Consumes-then i.remaining j.remaining k.remaining s.so_far.read piece s.so_far.consumed consumed;
-          short = short;
-          ended = all.0;
-          late = all.1;
-        }
+        -- or at which it failed
+        module _ (after : Snapshot S) where
+          late : (error : ServeError) → (done : List FtpEvent) × RunFailed law n (run_with engine law n.state piece) after error done → EndedLate limit law m after i k error
+          late error (done, failed) = record {
+            pieces = s.pieces;
+            last = piece;
+            were_read = were_read_so;
+            done = events limit bytes_so_far ++ done;
+            failed = RunFailed-then law m n after (events limit bytes_so_far) s.so_far.answered
+                (run_for limit law m.state (bytes_so_far ++ piece)) (run_with engine law n.state piece) done error same_run failed;
+            late = (done, refl);
+          }
 
-    pub Serving-ended : (after : Snapshot S) (piece : Bytes) (error : ServeError) → Consumes j.remaining k.remaining piece → length piece ≤ 4096 →
-        RunEnded law n (run_with engine law n.state piece) after error → ServeEndedWithLimit limit law m after i k error
-    Serving-ended after piece (Read _) consumed short ended = absurd ended
-    Serving-ended after piece (Write error) consumed short ended = late after piece (Write error) consumed short ended
-    Serving-ended after piece WriteZero consumed short ended = late after piece WriteZero consumed short ended
-    Serving-ended after piece (Handler error) consumed short ended = late after piece (Handler error) consumed short ended
-    Serving-ended after piece OutOfMemory consumed short ended = late after piece OutOfMemory consumed short ended
-    Serving-ended after piece Stopped consumed short ended = absurd ended
-    Serving-ended after piece TooManyReads consumed short ended = absurd ended
+          no_room : ¬ (piece ≡ []) → after ≡ n → NoRoomForPiece limit law m after i k
+          no_room some same = record {
+            pieces = s.pieces;
+            last = piece;
+            were_read = were_read_so;
+            some = some;
+            answered = record { answered = rw same s.so_far.answered; goes_on = s.so_far.goes_on };
+          }
 
-    pub Serving-all : (piece : Bytes) (count : ℕ) → count ≡ 0 →
+          pub Serving-failed : (error : ServeError) → NoRoom error piece n after ⊎ ((done : List FtpEvent) × RunFailed law n (run_with engine law n.state piece) after error done)
+              → ServeEnded limit law m after i k error
+          Serving-failed error.OutOfMemory (inl room) = inl (no_room room.1 room.2)
+          Serving-failed error.OutOfMemory (inr failed) = inr (late error.OutOfMemory failed)
+          Serving-failed (error.Write x) (inr failed) = late (error.Write x) failed
+          Serving-failed error.WriteZero (inr failed) = late error.WriteZero failed
+          Serving-failed (error.Handler x) (inr failed) = late (error.Handler x) failed
+          Serving-failed (error.Read x) (inr (done, failed)) = absurd (no_cause-read x failed.cause failed.means)
+          Serving-failed error.Stopped (inr (done, failed)) = absurd (no_cause-stopped failed.cause failed.means)
+          Serving-failed error.TooManyReads (inr (done, failed)) = absurd (no_cause-reads failed.cause failed.means)
+          Serving-failed (error.Read x) (inl room) = absurd (cc)
+          Serving-failed (error.Write x) (inl room) = absurd (cc)
+          Serving-failed error.WriteZero (inl room) = absurd (cc)
+          Serving-failed (error.Handler x) (inl room) = absurd (cc)
+          Serving-failed error.Stopped (inl room) = absurd (cc)
+          Serving-failed error.TooManyReads (inl room) = absurd (cc)
+
+    pub Serving-all : (piece : Bytes) (count : ℕ) (served : Served) → Reports served engine → count ≡ 0 → k.reads ≡ j.reads ++ count ∷ [] →
         Consumes j.remaining k.remaining (take count piece) → IsAtEnd k.remaining →
-        k.failures ≡ j.failures → AnsweredAllWithLimit limit law m n i k engine.left engine.tests engine.held engine.finished
-    Serving-all piece count zero given at_end kept =
-        let known = Consumes-then i.remaining j.remaining k.remaining s.so_far.read in
+        k.failures ≡ j.failures → AnsweredAll limit law m n i k served
+    Serving-all piece count served reports zero reads given at_end kept =
+        let known = Consumes-then i.remaining j.remaining k.remaining bytes_so_far in
         let nothing : Consumes j.remaining k.remaining [] = rw zero at given in
-        let nothing_after : after_end limit law m.state s.so_far.read ≡ [] = ap (λ ended. if ended then unread limit law m.state s.so_far.read else []) s.so_far.goes_on in
-        rw (s.running.1) record {
-          read = s.so_far.read;
-          consumed = rw (sym (append-nil s.so_far.read)) (known [] s.so_far.consumed nothing);
-          ended = sym s.so_far.goes_on;
-          in_last_piece = λ h. absurd (cc);
+        let nothing_after : after_end limit law m.state bytes_so_far ≡ [] = ap (λ ended. if ended then unread limit law m.state bytes_so_far else []) s.so_far.goes_on in
+        let on : served.done ≡ false = reports.done ∙ s.running.1 in
+        record {
+          pieces = s.pieces;
+          were_read = rw on record {
+            consumed = rw (sym (append-nil bytes_so_far)) (known [] s.were_read.consumed nothing);
+            reads = (rw zero at reads) ∙ ap (λ reads. reads ++ 0 ∷ []) (s.were_read.reads ∙ ap (λ reads. i.reads ++ reads) (append-nil (map length s.pieces)))
+                ∙ append_assoc i.reads (map length s.pieces) (0 ∷ []);
+            short = s.were_read.short;
+          };
+          ended = on ∙ sym s.so_far.goes_on;
+          in_last = λ h. absurd (false≢true (sym on ∙ h));
           at_end = λ _. at_end;
-          answered = rw (run_of-all law m.state (events_with_limit limit s.so_far.read) s.so_far.goes_on) s.so_far.answered;
-          left_reported = s.left;
-          tested = omega (arith, s.tested, ap length nothing_after);
-          held_of = s.held_of;
+          answered = rw (run_of-all law m.state (events limit bytes_so_far) s.so_far.goes_on) s.so_far.answered;
+          left = reports.left ∙ s.left;
+          scanned = omega (arith, reports.scanned, s.scanned, ap length nothing_after);
+          held = reports.held ∙ s.held;
           no_read_failed = kept ∙ s.no_read_failed;
         }
 
-    pub Serving-read_failed : Keeps j.remaining k.remaining → k.failures ≡ j.failures + 1 →
+    pub Serving-read_failed : Keeps j.remaining k.remaining → k.reads ≡ j.reads → k.failures ≡ j.failures + 1 →
         ReadFailed limit law m n i k
-    Serving-read_failed kept counted =
-        let known = Consumes-kept i.remaining j.remaining k.remaining s.so_far.read in
-        record {
-          answered = record {
-            read = s.so_far.read;
-            consumed = known s.so_far.consumed kept;
-            answered = s.so_far.answered;
-            goes_on = s.so_far.goes_on;
-          };
-          read_failed = omega (arith, counted, s.no_read_failed);
-        }
+    Serving-read_failed kept reads counted = record {
+      pieces = s.pieces;
+      were_read = record {
+        consumed = Consumes-kept i.remaining j.remaining k.remaining bytes_so_far s.were_read.consumed kept;
+        reads = reads ∙ s.were_read.reads;
+        short = s.were_read.short;
+      };
+      answered = record { answered = s.so_far.answered; goes_on = s.so_far.goes_on };
+      read_failed = omega (arith, counted, s.no_read_failed);
+    }
 
   pub Serving-too_often : (n : Snapshot S) (j : InputState) (engine : EngineState) (turn : ℕ) → Serving limit law m n i j engine turn → 2 ^ 64 - 1 ≤ turn → ReadTooOften limit law m n i j
-  Serving-too_often n j engine turn s many = record { answered = s.so_far; many = omega (arith, s.many) }
+  Serving-too_often n j engine turn s many = record { pieces = s.pieces; were_read = s.were_read; answered = s.so_far; many = omega (arith, many, s.many) }
 
 -- What is so of a known input, of which these bytes were read and `rest` was not, because the run had
 -- ended in them.
 module _ (limit : Option ℕ) {S : Type 0} (law : Law S) (s : S) (input read rest : Bytes) (whole : input ≡ read ++ rest) where
   record AlikeRead (done : Bool) : Type 0 where
-    same_run : run_with_limit limit law s input ≡ run_with_limit limit law s read
-    same_end : done ≡ ends_with_limit limit law s input
+    same_run : run_for limit law s input ≡ run_for limit law s read
+    same_end : done ≡ ends_for limit law s input
     more_unread : unread limit law s input ≡ unread limit law s read ++ rest
     more_after_end : after_end limit law s input ≡ after_end limit law s read ++ rest
 
-  alike_read : (done : Bool) → done ≡ ends_with_limit limit law s read → (done ≡ false → rest ≡ []) → AlikeRead done
+  alike_read : (done : Bool) → done ≡ ends_for limit law s read → (done ≡ false → rest ≡ []) → AlikeRead done
   alike_read true ended at_end =
       let more = run-ended law limit s read rest (sym ended) in
       let unread_more : unread limit law s input ≡ unread limit law s read ++ rest = ap (unread limit law s) whole ∙ unread-ended law limit s read rest (sym ended) in
       record {
-        same_run = ap (run_with_limit limit law s) whole ∙ more.0;
-        same_end = sym (ap (ends_with_limit limit law s) whole ∙ more.1);
+        same_run = ap (run_for limit law s) whole ∙ more.0;
+        same_end = sym (ap (ends_for limit law s) whole ∙ more.1);
         more_unread = unread_more;
         more_after_end =
-            ap (λ ended. if ended then unread limit law s input else []) (ap (ends_with_limit limit law s) whole ∙ more.1) ∙ unread_more
+            ap (λ ended. if ended then unread limit law s input else []) (ap (ends_for limit law s) whole ∙ more.1) ∙ unread_more
             ∙ ap (λ ended. (if ended then unread limit law s read else []) ++ rest) ended;
       }
   alike_read false on at_end =
       let same : input ≡ read = whole ∙ ap (λ bytes. read ++ bytes) (at_end refl) ∙ append-nil read in
       let no_more : (bytes : Bytes) → bytes ≡ bytes ++ rest = λ bytes. sym (ap (λ rest. bytes ++ rest) (at_end refl) ∙ append-nil bytes) in
       record {
-        same_run = ap (run_with_limit limit law s) same;
-        same_end = on ∙ ap (ends_with_limit limit law s) (sym same);
+        same_run = ap (run_for limit law s) same;
+        same_end = on ∙ ap (ends_for limit law s) (sym same);
         more_unread = ap (unread limit law s) same ∙ no_more (unread limit law s read);
         more_after_end = ap (after_end limit law s) same ∙ no_more (after_end limit law s read);
       }
 
--- of what is known of the bytes before and after reading
-known_bytes : (P : Bytes → Bytes → Type 0) (a b : Option Bytes) (read : Bytes) (done : Bool) → Consumes a b read → (done ≡ false → IsAtEnd b) →
-    ((input rest : Bytes) → input ≡ read ++ rest → (done ≡ false → rest ≡ []) → P input rest) → IfSome a (λ input. IfSome b (P input))
-known_bytes P None b read done consumed at_end it = tt
-known_bytes P (Some input) None read done consumed at_end it = absurd consumed
-known_bytes P (Some input) (Some rest) read done consumed at_end it = it input rest consumed at_end
+known_input : (P : Bytes → Type 0) (a b : Option Bytes) (read : Bytes) (done : Bool) → Consumes a b read → (done ≡ false → IsAtEnd b) →
+    ((input rest : Bytes) → b ≡ Some rest → input ≡ read ++ rest → (done ≡ false → rest ≡ []) → P input) → IfSome a P
+known_input P None b read done consumed at_end it = tt
+known_input P (Some input) None read done consumed at_end it = absurd consumed
+known_input P (Some input) (Some rest) read done consumed at_end it = it input rest refl consumed at_end
 
-known_input : (P : Bytes → Type 0) (a b : Option Bytes) → IfSome a (λ input. IfSome b (λ rest. P input)) → (read : Bytes) → Consumes a b read → IfSome a P
-known_input P None b it read consumed = tt
-known_input P (Some input) None it read consumed = absurd consumed
-known_input P (Some input) (Some rest) it read consumed = it
+module _ (limit : Option ℕ) {S : Type 0} (law : Law S) (m n : Snapshot S) (i k : InputState) (served : Served) (all : AnsweredAll limit law m n i k served) where
+  module _ (input rest : Bytes) (is : k.remaining ≡ Some rest) (whole : input ≡ (concat all.pieces) ++ rest) (alike : AlikeRead limit law m.state input (concat all.pieces) rest whole served.done) where
+    -- where the run ended and nothing is left, what was not read is all that follows its end
+    not_read : served.done ≡ true → served.left ≡ 0 → after_end limit law m.state input ≡ rest
+    not_read done none =
+        let nothing : after_end limit law m.state (concat all.pieces) ≡ [] =
+        ap (λ ended. if ended then unread limit law m.state (concat all.pieces) else []) (sym all.ended ∙ done)
+        ∙ no_bytes (unread limit law m.state (concat all.pieces)) (omega (arith, none, all.left)) in
+        alike.more_after_end ∙ ap (λ bytes. bytes ++ rest) nothing
+      where
+        no_bytes : (bytes : Bytes) → length bytes ≡ 0 → bytes ≡ []
+        no_bytes [] h = refl
+        no_bytes (b ∷ bytes) h = absurd (omega (arith, h))
 
-module _ (limit : Option ℕ) {S : Type 0} (law : Law S) (m n : Snapshot S) (i k : InputState) (left tests held : ℕ) (done : Bool)
-    (all : AnsweredAllWithLimit limit law m n i k left tests held done) where
-  of_bytes : (P : Bytes → Bytes → Type 0) → ((input rest : Bytes) (whole : input ≡ all.read ++ rest) → AlikeRead limit law m.state input all.read rest whole done → P input rest)
-      → IfSome i.remaining (λ input. IfSome k.remaining (P input))
-  of_bytes P it = known_bytes P i.remaining k.remaining all.read done all.consumed all.at_end
-      (λ input rest whole end. it input rest whole (alike_read limit law m.state input all.read rest whole done all.ended end))
+    serves : Serves limit law m n k.remaining served input
+    serves = record {
+      written = subst (λ run. Appends m.output.written n.output.written (text_of law m.state run)) (sym alike.same_run) all.answered.written;
+      state = all.answered.ends_at ∙ ap (last_state law m.state) (sym alike.same_run);
+      done = alike.same_end;
+      tested = omega (
+        arith,
+        all.scanned,
+        ap length whole,
+        length-append (concat all.pieces) rest,
+        ap length alike.more_after_end,
+        length-append (after_end limit law m.state (concat all.pieces)) rest,
+      );
+      rest = rest;
+      to_be_read = is;
+      left = all.left ∙ ap saturating_u64 (omega (arith, ap length alike.more_unread, length-append (unread limit law m.state (concat all.pieces)) rest));
+      not_read = not_read;
+      read_back = ReadsBack-encoded (replies law m.state (run_for limit law m.state input));
+    }
 
-  of_input : (P : Bytes → Type 0) → ((input rest : Bytes) (whole : input ≡ all.read ++ rest) → AlikeRead limit law m.state input all.read rest whole done → P input) → IfSome i.remaining P
-  of_input P it = known_input P i.remaining k.remaining (of_bytes (λ input rest. P input) it) all.read all.consumed
-
-  pub AnsweredAll-written : IfSome i.remaining (λ input. Appends m.output.written n.output.written (text_with_limit limit law m.state input))
-  AnsweredAll-written = of_input _ (λ input rest whole alike.
-      subst (λ run. Appends m.output.written n.output.written (text_of law m.state run)) (sym alike.same_run) all.answered.written)
-
-  pub AnsweredAll-state : IfSome i.remaining (λ input. n.state ≡ last_state law m.state (run_with_limit limit law m.state input))
-  AnsweredAll-state = of_input _ (λ input rest whole alike. all.answered.state ∙ ap (last_state law m.state) (sym alike.same_run))
-
-  pub AnsweredAll-done : IfSome i.remaining (λ input. done ≡ ends_with_limit limit law m.state input)
-  AnsweredAll-done = of_input _ (λ input rest whole alike. alike.same_end)
-
-  pub AnsweredAll-tested : IfSome i.remaining (λ input. tests + length (after_end limit law m.state input) ≡ length input)
-  AnsweredAll-tested = of_input _ (λ input rest whole alike.
-      omega (arith, all.tested, ap length whole, length-append all.read rest, ap length alike.more_after_end, length-append (after_end limit law m.state all.read) rest))
-
-  pub AnsweredAll-left : IfSome i.remaining (λ input. IfSome k.remaining (λ rest. left ≡ saturating_u64 (length (unread limit law m.state input) - length rest)))
-  AnsweredAll-left = of_bytes _ (λ input rest whole alike.
-      let some : length (unread limit law m.state all.read) ≡ length (unread limit law m.state input) - length rest =
-      omega (arith, ap length alike.more_unread, length-append (unread limit law m.state all.read) rest) in
-      all.left_reported ∙ ap saturating_u64 some)
-
-  none_left : left ≡ 0 → length (unread limit law m.state all.read) ≡ 0
-  none_left none = omega (arith, none, all.left_reported)
-
-  -- where the run ended and nothing is left, what was not read is all that follows its end
-  pub AnsweredAll-not_read : done ≡ true → left ≡ 0 → IfSome i.remaining (λ input. IfSome k.remaining (λ rest. after_end limit law m.state input ≡ rest))
-  AnsweredAll-not_read is_done none = of_bytes _ (λ input rest whole alike.
-      let nothing : after_end limit law m.state all.read ≡ [] =
-      ap (λ ended. if ended then unread limit law m.state all.read else []) (sym all.ended ∙ is_done) ∙ no_bytes (unread limit law m.state all.read) (none_left none) in
-      alike.more_after_end ∙ ap (λ bytes. bytes ++ rest) nothing)
-    where
-      no_bytes : (bytes : Bytes) → length bytes ≡ 0 → bytes ≡ []
-      no_bytes [] h = refl
-      no_bytes (b ∷ bytes) h = absurd (omega (arith, h))
-
--- the replies of a run over a known input are read back, where they are plain
-pub run_reads_back : (limit : Option ℕ) {S : Type 0} (law : Law S) (s : S) (known : Option Bytes) →
-    IfSome known (λ input. AllByRecursion IsPlain (replies law s (run_with_limit limit law s input))
-    → ReadsBack (text_with_limit limit law s input) (replies law s (run_with_limit limit law s input)))
-run_reads_back limit law s None = tt
-run_reads_back limit law s (Some input) = ReadsBack-encoded (replies law s (run_with_limit limit law s input))
-
--- the same of the answer of a service
-module _ (limit : Option ℕ) {S : Type 0} (law : Law S) (m n : Snapshot S) (i k : InputState) {E : Type 0} (result : Result Served E)
-    (ok : IfOk result (λ served. AnsweredAllWithLimit limit law m n i k served.left served.tests served.held served.done)) where
-  of_served : (P : Served → Type 0) → ((served : Served) → AnsweredAllWithLimit limit law m n i k served.left served.tests served.held served.done → P served) → IfOk result P
-  of_served P it = IfOk-weaker result (λ served. AnsweredAllWithLimit limit law m n i k served.left served.tests served.held served.done) P it ok
-
-  pub Served-written : OnOk result (IfSome i.remaining (λ input. Appends m.output.written n.output.written (text_with_limit limit law m.state input)))
-  Served-written = of_served _ (λ served all. AnsweredAll-written limit law m n i k served.left served.tests served.held served.done all)
-
-  pub Served-state : OnOk result (IfSome i.remaining (λ input. n.state ≡ last_state law m.state (run_with_limit limit law m.state input)))
-  Served-state = of_served _ (λ served all. AnsweredAll-state limit law m n i k served.left served.tests served.held served.done all)
-
-  pub Served-done : IfOk result (λ served. IfSome i.remaining (λ input. served.done ≡ ends_with_limit limit law m.state input))
-  Served-done = of_served _ (λ served all. AnsweredAll-done limit law m n i k served.left served.tests served.held served.done all)
-
-  pub Served-tested : IfOk result (λ served. IfSome i.remaining (λ input. served.tests + length (after_end limit law m.state input) ≡ length input))
-  Served-tested = of_served _ (λ served all. AnsweredAll-tested limit law m n i k served.left served.tests served.held served.done all)
-
-  pub Served-left : IfOk result (λ served. IfSome i.remaining (λ input. IfSome k.remaining (λ rest. served.left ≡ saturating_u64 (length (unread limit law m.state input) - length rest))))
-  Served-left = of_served _ (λ served all. AnsweredAll-left limit law m n i k served.left served.tests served.held served.done all)
-
-  pub Served-not_read : IfOk result (λ served. served.done ≡ true → served.left ≡ 0
-      → IfSome i.remaining (λ input. IfSome k.remaining (λ rest. after_end limit law m.state input ≡ rest)))
-  Served-not_read = of_served _ (λ served all. AnsweredAll-not_read limit law m n i k served.left served.tests served.held served.done all)
-
-  pub Served-read_back : OnOk result (IfSome i.remaining (λ input. AllByRecursion IsPlain (replies law m.state (run_with_limit limit law m.state input))
-      → ReadsBack (text_with_limit limit law m.state input) (replies law m.state (run_with_limit limit law m.state input))))
-  Served-read_back = of_served _ (λ served all. run_reads_back limit law m.state i.remaining)
+  pub AnsweredAll-serves : IfSome i.remaining (Serves limit law m n k.remaining served)
+  AnsweredAll-serves =
+      known_input (Serves limit law m n k.remaining served) i.remaining k.remaining (concat all.pieces) served.done all.were_read.consumed all.at_end
+      (λ input rest is whole end. serves input rest is whole (alike_read limit law m.state input (concat all.pieces) rest whole served.done all.ended end))
 
 -- the bound
-pub Served-bound : (limit : ℕ) {S : Type 0} (law : Law S) (m n : Snapshot S) (i k : InputState) {E : Type 0} (result : Result Served E)
-    → IfOk result (λ served. AnsweredAllWithLimit (Some limit) law m n i k served.left served.tests served.held served.done) → IfOk result (λ served. served.held ≤ limit + 4096)
-Served-bound limit law m n i k result ok =
-    of_served (Some limit) law m n i k result ok _
-    (λ served all. omega (arith, all.held_of.most, most_held-within limit [] all.held_of.pieces all.held_of.short))
+pub AnsweredAll-bound : (limit : ℕ) {S : Type 0} (law : Law S) (m n : Snapshot S) (i k : InputState) (served : Served) → AnsweredAll (Some limit) law m n i k served → served.held ≤ limit + 4096
+AnsweredAll-bound limit law m n i k served all = omega (arith, all.held, most_held-within limit [] all.pieces all.were_read.short)

@@ -1,11 +1,10 @@
 -- The pending bytes of a decoder.
-use Rattle.std.specs.Prelude.{◌≡◌, ℕ, ◌+◌, ◌-◌, ◌^◌, ◌<◌, ◌≤◌, Bool, true, false, if◌then◌else◌, [], ◌++◌, length, min, max, take, drop, Option, Some, None, Result, Ok, Err, MatchResult, MatchOption, IfSome, option_map, nat_lt}
+use Rattle.std.specs.Prelude.{◌≡◌, ℕ, ◌+◌, ◌-◌, ◌^◌, ◌≤◌, Bool, true, false, if◌then◌else◌, [], ◌++◌, length, min, max, take, drop, Option, Some, None, Result, Ok, Err, MatchResult, MatchOption, IfSome, option_map}
 use Rattle.unftp_control_defs.specs.Bytes.{Bytes, LF, Lacks}
-use Rattle.unftp_control_defs.specs.Events.{FtpEvent}
+use Rattle.unftp_control_defs.specs.Events.{FtpEvent, exceeds}
 use Rattle.unftp_control_defs.specs.Lines.{IsLine}
 use Rattle.unftp_control_line_parser.specs.Memory.{MayTakeMemory}
 use Rattle.unftp_control_defs.specs.EventSteps.{TakesEvent}
-use Rattle.unftp_control_defs.specs.LineLimit.{exceeds}
 use Rattle.unftp_control_codecs.specs.Codec.{Codec}
 use Rattle.unftp_control_codecs.specs.Decoding.{Decoded, IsOutOfMemory, IfTooLong, returned_event}
 use Rattle.unftp_control_serve.specs.declared.event.Event.{Event}
@@ -52,7 +51,7 @@ pub record Pending : Type 0 where
   pub limit : Option ℕ
   -- how many bytes were scanned for a line feed since the buffer was made, and how many of those
   -- that are kept have not been
-  pub tests : ℕ
+  pub scanned : ℕ
   pub unscanned : ℕ
   -- how many bytes the buffer holds, with those of the lines that are taken, and the most that it
   -- has held
@@ -65,7 +64,7 @@ no_bytes limit = record {
   bytes = [];
   kept = 0;
   limit = limit;
-  tests = 0;
+  scanned = 0;
   unscanned = 0;
   buffered = 0;
   held = 0;
@@ -77,7 +76,7 @@ pending_of codec dropped bytes buffered held = record {
   bytes = dropped ++ bytes;
   kept = length bytes;
   limit = codec.limit;
-  tests = codec.tests;
+  scanned = codec.tests;
   unscanned = length bytes - codec.place;
   buffered = buffered;
   held = held;
@@ -93,23 +92,21 @@ settled pending = record {
   bytes = pending.bytes;
   kept = pending.kept;
   limit = pending.limit;
-  tests = pending.tests;
+  scanned = pending.scanned;
   unscanned = pending.unscanned;
   buffered = pending.kept;
   held = pending.held;
 }
 
--- A piece comes after them. The lines that were taken leave the buffer where they have more bytes
--- than what is kept then.
-abbrev pub pushed : Pending → Bytes → Pending
-pushed pending piece = record {
+-- A piece comes after them, and the buffer holds so many bytes then.
+abbrev pub pushed : Pending → Bytes → ℕ → Pending
+pushed pending piece buffered = record {
   bytes = pending.bytes ++ piece;
   kept = pending.kept + length piece;
   limit = pending.limit;
-  tests = pending.tests;
+  scanned = pending.scanned;
   unscanned = pending.unscanned + length piece;
-  buffered = (if nat_lt (pending.kept + length piece) (pending.buffered - pending.kept)
-      then pending.kept + length piece else pending.buffered + length piece);
+  buffered = buffered;
   held = max pending.held (pending.buffered + length piece);
 }
 
@@ -119,19 +116,18 @@ cleared pending = record {
   bytes = [];
   kept = 0;
   limit = pending.limit;
-  tests = pending.tests;
+  scanned = pending.scanned;
   unscanned = 0;
   buffered = 0;
   held = pending.held;
 }
 
--- There is no line, and all bytes are scanned; those that are kept are fewer than a line may have.
+-- There is no line, and all bytes are scanned; none are kept of a line that is too long.
 pub record HasNoLine (before after : Pending) : Type 0 where
   pub unended : Lacks LF before.bytes
   pub same : after.bytes ≡ before.bytes
   pub all_scanned : after.unscanned ≡ 0
   pub kept : after.kept ≡ kept_length before.limit before.bytes
-  pub short : IfSome before.limit (λ limit. after.kept < limit)
 
 -- The first line is taken away, and this is its event. No byte after it is scanned.
 pub record TakesLine (before : Pending) (event : FtpEvent) (after : Pending) : Type 0 where

@@ -1,15 +1,19 @@
--- What came of some events: which of them the handler took, what was written, and what was flushed.
-use Rattle.std.specs.Prelude.{◌≡◌, ℕ, ◌+◌, ◌<◌, ◌⊎◌, List, [], ◌∷◌, ◌++◌, Option, Result, Err, MatchResult}
+-- How a run ended: which of its events were answered, why no more were, and what was written and
+-- flushed.
+use Rattle.std.specs.Prelude.{◌≡◌, ⊤, ℕ, ◌+◌, ◌⊎◌, List, [], ◌∷◌, ◌++◌, Option, Result, Err, MatchResult}
 use Rattle.std.specs.Io.KnownBytes.{Appends}
-use Rattle.unftp_control_defs.specs.Events.{Fault, FtpEvent}
-use Rattle.unftp_control_defs.specs.FtpReply.{encoded}
-use Rattle.unftp_control_defs.specs.Run.{Law, last_state, text_of}
 use Rattle.unftp_control_defs.specs.Bytes.{Bytes}
+use Rattle.unftp_control_defs.specs.Events.{Fault, FtpEvent, event_of}
+use Rattle.unftp_control_defs.specs.FtpReply.{Nothing, encoded}
+use Rattle.unftp_control_defs.specs.Lines.{IsLine}
+use Rattle.unftp_control_defs.specs.Outcome.{outcome}
+use Rattle.unftp_control_defs.specs.Run.{Law, last_state, text_of}
 use Rattle.unftp_control_error.specs.ErrorMeaning.{fault_of}
+use Rattle.unftp_control_line_parser.specs.Memory.{MayTakeMemory}
 use Rattle.unftp_control_serve.specs.Writing.{OutputState, output_state_of, Begins, Flushed}
 use Rattle.unftp_control_serve.specs.declared.output.Output.{Output}
 use Rattle.unftp_control_serve.specs.declared.error.ServeError.{ServeError}
-use Rattle.unftp_control_serve.specs.declared.error.ServeError.TheVariants.{Read, Write, WriteZero, Handler, OutOfMemory, TooManyReads}
+use Rattle.unftp_control_serve.specs.declared.error.ServeError.TheVariants as error
 
 -- what contracts see of a handler and an output, before or after a call
 pub record Snapshot (S : Type 0) : Type 0 where
@@ -29,108 +33,110 @@ abbrev pub snapshot_of : {H S W : Type 0} → (H → S) → (H → ℕ) → (W �
 snapshot_of state failures contents =
     snapshot_with state failures (output_state_of contents)
 
--- The handler took all events, and its replies were written and flushed; nothing failed.
-pub record AllAnswered {S : Type 0} (law : Law S) (before : Snapshot S) (events : List FtpEvent)
-    (after : Snapshot S) : Type 0 where
-  pub state : after.state ≡ last_state law before.state events
-  pub written : Appends before.output.written after.output.written (text_of law before.state events)
-  pub flushed : Flushed
-      (text_of law before.state events) [] before.output.unflushed after.output.unflushed
-  pub no_write_failed : after.output.failures ≡ before.output.failures
-  pub handler_kept : after.failures ≡ before.failures
+-- Why a run ended: all its events were answered; the writer failed, after this part of a reply; the
+-- handler failed; or memory ran out, for the command of a line or for a reply.
+pub data Cause : Type 0 where
+  Finished : Cause
+  Write : Bytes → Cause
+  Handler : Fault → Cause
+  LineMemory : Cause
+  ReplyMemory : Cause
 
--- The writer failed at the reply to some event, of which a beginning was written.
-pub record WriteFailed {S : Type 0} (law : Law S) (before : Snapshot S) (events : List FtpEvent)
-    (after : Snapshot S) : Type 0 where
-  pub done : List FtpEvent
-  pub event : FtpEvent
-  pub later : List FtpEvent
-  pub part : Bytes
-  pub split : events ≡ done ++ event ∷ later
-  pub state : after.state ≡ law.next (last_state law before.state done) event
+-- which errors each of them is returned as
+abbrev pub IsCauseOf : Cause → ServeError → Type 0
+IsCauseOf (Write _) (error.Write _) = ⊤
+IsCauseOf (Write _) error.WriteZero = ⊤
+IsCauseOf (Handler fault) (error.Handler failed) = fault ≡ fault_of failed
+IsCauseOf LineMemory error.OutOfMemory = ⊤
+IsCauseOf ReplyMemory error.OutOfMemory = ⊤
+IsCauseOf _ _ = ⊥
+
+-- the event is that of a line that may take memory
+abbrev pub EventMayTakeMemory : FtpEvent → Type 0
+EventMayTakeMemory event = (line : Bytes) × IsLine line × (event ≡ event_of (outcome line))
+    × MayTakeMemory line
+
+-- The handler was in state `s` after the events that were answered. What is so of its last state
+-- and of the first of the events that were not.
+abbrev pub EndsAt : {S : Type 0} → Law S → Cause → S → List FtpEvent → S → Type 0
+EndsAt law Finished s [] s' = s' ≡ s
+EndsAt law (Write part) s (event ∷ _) s' =
+    (s' ≡ law.next s event) × Begins (encoded (law.says s event)) part
+EndsAt law (Handler fault) s (event ∷ _) s' = law.may_fail s event fault
+EndsAt law LineMemory s (event ∷ _) s' = (s' ≡ s) × EventMayTakeMemory event
+EndsAt law ReplyMemory s (event ∷ _) s' =
+    (s' ≡ law.next s event) × ¬ (law.says s event ≡ Nothing)
+EndsAt _ _ _ _ _ = ⊥
+
+-- the part of the next reply that was written, and it after the text of the whole ones
+abbrev pub part_of : Cause → Bytes
+part_of (Write part) = part
+part_of _ = []
+
+abbrev pub text_until : Bytes → Cause → Bytes
+text_until text (Write part) = text ++ part
+text_until text _ = text
+
+-- how often the writer failed, and the handler
+abbrev pub write_failures : Cause → ℕ
+write_failures (Write _) = 1
+write_failures _ = 0
+
+abbrev pub handler_failures : Cause → ℕ
+handler_failures (Handler _) = 1
+handler_failures _ = 0
+
+-- A run ended for this cause, after the whole replies to the events `done`; those of `later` were
+-- not answered.
+pub record RunEnded {S : Type 0} (law : Law S) (before : Snapshot S) (done later : List FtpEvent)
+    (cause : Cause) (after : Snapshot S) : Type 0 where
+  pub ends_at : EndsAt law cause (last_state law before.state done) later after.state
   pub written : Appends before.output.written after.output.written
-      (text_of law before.state done ++ part)
-  pub begins : Begins (encoded (law.says (last_state law before.state done) event)) part
-  pub flushed : Flushed
-      (text_of law before.state done) part before.output.unflushed after.output.unflushed
-  pub write_failed : before.output.failures < after.output.failures
-  pub handler_kept : after.failures ≡ before.failures
+      (text_until (text_of law before.state done) cause)
+  pub flushed : Flushed (text_of law before.state done) (part_of cause)
+      before.output.unflushed after.output.unflushed
+  pub write_failed : after.output.failures ≡ before.output.failures + write_failures cause
+  pub handler_failed : after.failures ≡ before.failures + handler_failures cause
 
--- The handler failed at some event with this fault, with which it may fail there.
-pub record HandlerFailed {S : Type 0} (law : Law S) (before : Snapshot S) (events : List FtpEvent)
-    (after : Snapshot S) (fault : Fault) : Type 0 where
-  pub done : List FtpEvent
-  pub event : FtpEvent
-  pub later : List FtpEvent
-  pub split : events ≡ done ++ event ∷ later
-  pub allowed : law.may_fail (last_state law before.state done) event fault
-  pub written : Appends before.output.written after.output.written (text_of law before.state done)
-  pub flushed : Flushed
-      (text_of law before.state done) [] before.output.unflushed after.output.unflushed
-  pub no_write_failed : after.output.failures ≡ before.output.failures
-  pub handler_failed : after.failures ≡ before.failures + 1
+-- It ended because all events were answered.
+abbrev pub AllAnswered : {S : Type 0} → Law S → Snapshot S → List FtpEvent → Snapshot S → Type 0
+AllAnswered law before events after = RunEnded law before events [] Finished after
 
--- the handler is in this state, or has taken the first of these events too
-abbrev pub TookAtMostOne : {S : Type 0} → Law S → S → List FtpEvent → S → Type 0
-TookAtMostOne law s [] s' = s' ≡ s
-TookAtMostOne law s (event ∷ later) s' = (s' ≡ s) ⊎ (s' ≡ law.next s event)
-
--- Memory ran out after the reply to some event.
-pub record RanOutOfMemory {S : Type 0} (law : Law S) (before : Snapshot S) (events : List FtpEvent)
-    (after : Snapshot S) : Type 0 where
-  pub done : List FtpEvent
+-- It ended with this error, after the whole replies to the events `done`.
+pub record RunFailed {S : Type 0} (law : Law S) (before : Snapshot S) (events : List FtpEvent)
+    (after : Snapshot S) (error : ServeError) (done : List FtpEvent) : Type 0 where
   pub later : List FtpEvent
   pub split : events ≡ done ++ later
-  pub state : TookAtMostOne law (last_state law before.state done) later after.state
-  pub written : Appends before.output.written after.output.written (text_of law before.state done)
-  pub flushed : Flushed
-      (text_of law before.state done) [] before.output.unflushed after.output.unflushed
-  pub no_write_failed : after.output.failures ≡ before.output.failures
-  pub handler_kept : after.failures ≡ before.failures
-
--- which of them an error means
-abbrev pub RunEnded : {S : Type 0} → Law S → Snapshot S → List FtpEvent → Snapshot S → ServeError
-    → Type 0
-RunEnded law before events after (Write _) = WriteFailed law before events after
-RunEnded law before events after WriteZero = WriteFailed law before events after
-RunEnded law before events after (Handler error) =
-    HandlerFailed law before events after (fault_of error)
-RunEnded law before events after OutOfMemory = RanOutOfMemory law before events after
-RunEnded law before events after _ = ⊥
+  pub cause : Cause
+  pub means : IsCauseOf cause error
+  pub ended : RunEnded law before done later cause after
 
 abbrev pub RunOutcome : {S T : Type 0} → Law S → Snapshot S → List FtpEvent → Snapshot S
     → Result T ServeError → Type 0
-RunOutcome law before events after result =
-    MatchResult result (λ _. AllAnswered law before events after) (RunEnded law before events after)
+RunOutcome law before events after result = MatchResult result
+    (λ _. AllAnswered law before events after)
+    (λ failure. (done : List FtpEvent) × RunFailed law before events after failure done)
 
--- the events whose whole replies were written
-abbrev pub done_of : {S : Type 0} (law : Law S) (before : Snapshot S) (events : List FtpEvent)
-    (after : Snapshot S) (error : ServeError) →
-    RunEnded law before events after error → List FtpEvent
-done_of law before events after (Write _) ended = ended.done
-done_of law before events after WriteZero ended = ended.done
-done_of law before events after (Handler error) ended = ended.done
-done_of law before events after OutOfMemory ended = ended.done
-done_of law before events after _ ended = []
+-- There was no memory for a piece, and so nothing was done with it.
+abbrev pub NoRoom : {S : Type 0} → ServeError → Bytes → Snapshot S → Snapshot S → Type 0
+NoRoom failure piece before after =
+    (failure ≡ error.OutOfMemory) × ¬ (piece ≡ []) × (after ≡ before)
+
+-- the same of the events that a piece completes
+abbrev pub PieceOutcome : {S T : Type 0} → Law S → Snapshot S → List FtpEvent → Bytes → Snapshot S
+    → Result T ServeError → Type 0
+PieceOutcome law before events piece after result = MatchResult result
+    (λ _. AllAnswered law before events after)
+    (λ failure. NoRoom failure piece before after
+    ⊎ ((done : List FtpEvent) × RunFailed law before events after failure done))
 
 -- P, where the answer is that the writer failed or took nothing
 abbrev pub OnWrite : {T : Type 0} → Result T ServeError → Type 0 → Type 0
-OnWrite (Err (Write _)) P = P
-OnWrite (Err WriteZero) P = P
-OnWrite _ P = Unit {0}
-
--- P of the fault, where the answer is that the handler failed
-abbrev pub OnHandler : {T : Type 0} → Result T ServeError → (Fault → Type 0) → Type 0
-OnHandler (Err (Handler error)) P = P (fault_of error)
-OnHandler _ P = Unit {0}
+OnWrite (Err (error.Write _)) P = P
+OnWrite (Err error.WriteZero) P = P
+OnWrite _ P = ⊤
 
 -- P, where the answer is that memory ran out
 abbrev pub OnMemory : {T : Type 0} → Result T ServeError → Type 0 → Type 0
-OnMemory (Err OutOfMemory) P = P
-OnMemory _ P = Unit {0}
-
--- the answer is not `Read` or `TooManyReads`
-abbrev pub ReadsNothing : {T : Type 0} → Result T ServeError → Type 0
-ReadsNothing (Err (Read _)) = ⊥
-ReadsNothing (Err TooManyReads) = ⊥
-ReadsNothing _ = Unit {0}
+OnMemory (Err error.OutOfMemory) P = P
+OnMemory _ P = ⊤

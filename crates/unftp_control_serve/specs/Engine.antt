@@ -1,10 +1,9 @@
 -- What contracts see of an engine.
-use Rattle.std.specs.Prelude.{◌≡◌, ℕ, ◌<◌, ◌≤◌, ◌+◌, max, not, Bool, true, false, if◌then◌else◌, List, [], ◌++◌, length, Option, IfSome}
+use Rattle.std.specs.Prelude.{◌≡◌, ℕ, ◌≤◌, ◌+◌, ◌-◌, max, Bool, true, false, if◌then◌else◌, List, [], ◌++◌, length, Option}
 use Rattle.unftp_control_defs.specs.Bytes.{Bytes}
 use Rattle.unftp_control_defs.specs.Lines.{incomplete_line}
 use Rattle.unftp_control_defs.specs.Events.{FtpEvent}
-use Rattle.unftp_control_defs.specs.LineLimit.{events_with_limit, run_with_limit, ends_with_limit, unread, after_end}
-use Rattle.unftp_control_defs.specs.Run.{Law, last_state}
+use Rattle.unftp_control_defs.specs.Run.{Law, run_for, ends_for, unread, after_end}
 use Rattle.unftp_control_serve.specs.Decoder.{kept_length, saturating_u64}
 use Rattle.unftp_control_serve.specs.declared.engine.Phase.{Phase}
 use Rattle.unftp_control_serve.specs.declared.engine.Phase.TheVariants as phase
@@ -18,7 +17,7 @@ pub record EngineState : Type 0 where
   pub failed : Bool
   pub finished : Bool
   -- how many bytes were scanned for a line feed since it was made
-  pub tests : ℕ
+  pub scanned : ℕ
   -- how many bytes a line may have, its LF counted, if that is limited
   pub limit : Option ℕ
   -- how many bytes the buffer holds, and the most that it has held since the engine was made
@@ -32,7 +31,7 @@ fresh limit = record {
   left = 0;
   failed = false;
   finished = false;
-  tests = 0;
+  scanned = 0;
   limit = limit;
   buffered = 0;
   held = 0;
@@ -51,59 +50,53 @@ has_finished _ = false
 abbrev pub IsRunning : EngineState → Type 0
 IsRunning engine = (engine.failed ≡ false) × (engine.finished ≡ false)
 
--- the pending bytes and a piece after them, and their events
+-- the pending bytes and a piece after them
 abbrev pub bytes_with : EngineState → Bytes → Bytes
 bytes_with engine piece = engine.incomplete ++ piece
 
-abbrev pub events_with : EngineState → Bytes → List FtpEvent
-events_with engine piece = events_with_limit engine.limit (bytes_with engine piece)
-
--- the run of a handler over these, and the bytes after its last line
+-- the run of a handler over these, and whether it ends
 abbrev pub run_with : {S : Type 0} → EngineState → Law S → S → Bytes → List FtpEvent
-run_with engine law s piece = run_with_limit engine.limit law s (bytes_with engine piece)
+run_with engine law s piece = run_for engine.limit law s (bytes_with engine piece)
 
 abbrev pub ends_with : {S : Type 0} → EngineState → Law S → S → Bytes → Bool
-ends_with engine law s piece = ends_with_limit engine.limit law s (bytes_with engine piece)
+ends_with engine law s piece = ends_for engine.limit law s (bytes_with engine piece)
 
+-- the bytes after its last line, and those of them that come after its end
 abbrev pub unread_with : {S : Type 0} → EngineState → Law S → S → Bytes → Bytes
 unread_with engine law s piece = unread engine.limit law s (bytes_with engine piece)
+
+abbrev pub after_end_with : {S : Type 0} → EngineState → Law S → S → Bytes → Bytes
+after_end_with engine law s piece = after_end engine.limit law s (bytes_with engine piece)
+
+-- the bytes that are pending then: the incomplete line, or none after the end
+abbrev pub pending_with : {S : Type 0} → EngineState → Law S → S → Bytes → Bytes
+pending_with engine law s piece =
+    if ends_with engine law s piece then [] else incomplete_line (bytes_with engine piece)
+
+-- What a running engine is after a piece at Ok. Each byte of the piece was scanned once, but those
+-- after the end; the buffer has held the piece, and holds what is kept of the pending bytes.
+abbrev pub fed : {S : Type 0} → Law S → S → EngineState → Bytes → EngineState
+fed law s engine piece = record {
+  incomplete = pending_with engine law s piece;
+  left = saturating_u64 (length (unread_with engine law s piece));
+  failed = false;
+  finished = ends_with engine law s piece;
+  scanned = engine.scanned + length piece - length (after_end_with engine law s piece);
+  limit = engine.limit;
+  buffered = kept_length engine.limit (pending_with engine law s piece);
+  held = max engine.held (engine.buffered + length piece);
+}
+
+-- What it is after an error: it has failed. The piece may have been held, and its bytes scanned.
+pub record FailedAfter (before : EngineState) (piece : Bytes) (after : EngineState) : Type 0 where
+  pub failed : after.failed ≡ true
+  pub finished : after.finished ≡ false
+  pub left : after.left ≡ before.left
+  pub limit : after.limit ≡ before.limit
+  pub scanned : (before.scanned ≤ after.scanned)
+      × (after.scanned ≤ before.scanned + length piece)
+  pub held : after.held ≤ max before.held (before.buffered + length piece)
 
 -- a piece that comes after the end of the run is counted
 abbrev pub more_left : EngineState → Bytes → EngineState
 more_left engine piece = record engine { left = saturating_u64 (engine.left + length piece) }
-
--- The lines of the run are taken: the handler is in its last state, and either the run has ended, or
--- the engine goes on after the incomplete line.
-pub record Leaves {S : Type 0} (law : Law S) (before : EngineState) (piece : Bytes) (s s' : S)
-    (after : EngineState) : Type 0 where
-  pub state : s' ≡ last_state law s (run_with before law s piece)
-  pub no_failure : after.failed ≡ false
-  pub finished : after.finished ≡ ends_with before law s piece
-  pub incomplete : after.incomplete
-      ≡ (if after.finished then [] else incomplete_line (bytes_with before piece))
-  pub left : after.left ≡ saturating_u64 (length (unread_with before law s piece))
-
--- What a call that is fed a piece leaves of the engine, whether it returns Ok or an error.
-pub record Fed {S : Type 0} (law : Law S) (before : EngineState) (piece : Bytes) (s : S) (ok : Bool)
-    (after : EngineState) : Type 0 where
-  -- An engine that failed stays as it is. Each error makes it one, and nothing else does.
-  pub stays : before.failed ≡ true → after ≡ before
-  pub failed : after.failed ≡ not ok
-  pub kept : ok ≡ false → (after.left ≡ before.left) × (after.finished ≡ false)
-  -- At Ok each byte of the piece was scanned for a line feed exactly once, but those after the line
-  -- that ended the run; at an error at most once, and the count does not fall.
-  pub tests : after.tests ≤ before.tests + length piece
-  pub tested : IsRunning before → ok ≡ true
-      → after.tests + length (after_end before.limit law s (bytes_with before piece))
-      ≡ before.tests + length piece
-  pub never_fewer : before.tests ≤ after.tests
-  -- With a limit, the buffer never holds more than the limit and the piece together, and at Ok it
-  -- holds fewer bytes than the limit.
-  pub bound : IfSome before.limit (λ limit.
-      after.held ≤ max before.held (limit + length piece))
-  pub room : ok ≡ true → IfSome before.limit (λ limit. after.buffered < limit)
-  -- At Ok it holds only the incomplete line, or nothing of one that is too long.
-  pub buffered : ok ≡ true → after.buffered ≡ kept_length after.limit after.incomplete
-  pub held : IsRunning before → ok ≡ true
-      → after.held ≡ max before.held (before.buffered + length piece)
-  pub limit : after.limit ≡ before.limit

@@ -1,27 +1,48 @@
 -- What a whole service comes to.
-use Rattle.std.specs.Prelude.{◌≡◌, ℕ, ◌+◌, ◌-◌, ◌^◌, ◌<◌, ◌≤◌, max, Bool, true, false, List, [], ◌∷◌, ◌++◌, length, Option, None}
+use Rattle.std.specs.Prelude.{◌≡◌, ℕ, ◌+◌, ◌-◌, ◌^◌, ◌<◌, ◌≤◌, ◌⊎◌, max, true, false, List, [], ◌∷◌, ◌++◌, if◌then◌else◌, length, map, Option, Some}
 use Rattle.std.specs.List.{AllByRecursion, concat}
-use Rattle.std.specs.Io.KnownBytes.{Consumes, IsAtEnd}
+use Rattle.std.specs.Io.KnownBytes.{Appends, Consumes, IsAtEnd}
 use Rattle.unftp_control_defs.specs.Bytes.{Bytes}
-use Rattle.unftp_control_defs.specs.LineLimit.{events_with_limit, run_with_limit, ends_with_limit, unread, after_end}
+use Rattle.unftp_control_defs.specs.Events.{FtpEvent, events}
+use Rattle.unftp_control_defs.specs.FtpReply.{IsPlain}
 use Rattle.unftp_control_defs.specs.Lines.{incomplete_line}
-use Rattle.unftp_control_defs.specs.Run.{Law}
+use Rattle.unftp_control_defs.specs.ReplyReader.{ReadsBack}
+use Rattle.unftp_control_defs.specs.Run.{Law, last_state, replies, run_for, ends_for, text_for, unread, after_end}
 use Rattle.unftp_control_serve.specs.Writing.{Begins}
-use Rattle.unftp_control_serve.specs.Endings.{Snapshot, AllAnswered, RunEnded, done_of}
+use Rattle.unftp_control_serve.specs.Endings.{Snapshot, AllAnswered, RunFailed}
 use Rattle.unftp_control_serve.specs.Decoder.{kept_length, saturating_u64}
+use Rattle.unftp_control_serve.specs.Engine.{EngineState}
 use Rattle.unftp_control_serve.specs.declared.input.Input.{Input}
+use Rattle.unftp_control_serve.specs.declared.service.Served.{Served}
 use Rattle.unftp_control_serve.specs.declared.error.ServeError.{ServeError}
 use Rattle.unftp_control_serve.specs.declared.error.ServeError.TheVariants.{Read, Write, WriteZero, Handler, OutOfMemory, TooManyReads}
 
 -- What contracts see of an input: the bytes that are not read yet, where the reader's contracts
--- know them, and how often a read failed.
+-- know them; how many bytes each read gave; and how often one failed.
 pub record InputState : Type 0 where
   pub remaining : Option Bytes
+  pub reads : List ℕ
   pub failures : ℕ
 
 abbrev pub input_state_of : {R : Type 0} → (R → Option Bytes) → Input R → InputState
-input_state_of remaining input =
-    record { remaining = remaining input.reader; failures = input.failures }
+input_state_of remaining input = record {
+  remaining = remaining input.reader;
+  reads = input.reads;
+  failures = input.failures;
+}
+
+-- Each of these pieces was read, with at most 4,096 bytes, and then as many bytes as `more` says.
+pub record WereRead (input input' : InputState) (pieces : List Bytes) (more : List ℕ) : Type 0 where
+  pub consumed : Consumes input.remaining input'.remaining (concat pieces)
+  pub reads : input'.reads ≡ input.reads ++ (map length pieces ++ more)
+  pub short : AllByRecursion (λ piece. length piece ≤ 4096) pieces
+
+-- what is returned of an engine
+pub record Reports (served : Served) (engine : EngineState) : Type 0 where
+  pub left : served.left ≡ engine.left
+  pub done : served.done ≡ engine.finished
+  pub scanned : served.tests ≡ engine.scanned
+  pub held : served.held ≡ engine.held
 
 -- the most bytes that are held at once of an input that comes in these pieces: what is kept of the
 -- incomplete line, and the piece after it
@@ -31,85 +52,102 @@ most_held limit incomplete (piece ∷ pieces) = max
     (kept_length limit incomplete + length piece)
     (most_held limit (incomplete_line (incomplete ++ piece)) pieces)
 
--- the input came in some pieces of at most 4,096 bytes, and so many bytes were held at once
-pub record HeldInPieces (limit : Option ℕ) (input : Bytes) (held : ℕ) : Type 0 where
-  pub pieces : List Bytes
-  pub whole : input ≡ concat pieces
-  pub short : AllByRecursion (λ piece. length piece ≤ 4096) pieces
-  pub most : held ≡ most_held limit [] pieces
-
 -- What a service under a limit on the length of a line comes to.
 module _ (limit : Option ℕ) {S : Type 0} (law : Law S) (before after : Snapshot S)
     (input input' : InputState) where
-  -- all lines of what was read were answered, and the run goes on
-  pub record Answered : Type 0 where
-    pub read : Bytes
-    pub consumed : Consumes input.remaining input'.remaining read
-    pub answered : AllAnswered law before (events_with_limit limit read) after
-    pub goes_on : ends_with_limit limit law before.state read ≡ false
+  -- All lines of these pieces were answered, and the run goes on.
+  pub record Answered (pieces : List Bytes) : Type 0 where
+    pub answered : AllAnswered law before (events limit (concat pieces)) after
+    pub goes_on : ends_for limit law before.state (concat pieces) ≡ false
 
-  -- The run did not end before the last piece that was read.
-  pub record EndsInLastPiece (read : Bytes) : Type 0 where
-    pub first : Bytes
-    pub piece : Bytes
-    pub whole : read ≡ first ++ piece
-    pub short : length piece ≤ 4096
-    pub goes_on : ends_with_limit limit law before.state first ≡ false
+  -- It goes on after all pieces but the last.
+  pub record EndsInLast (pieces : List Bytes) : Type 0 where
+    pub first : List Bytes
+    pub last : Bytes
+    pub whole : pieces ≡ first ++ last ∷ []
+    pub goes_on : ends_for limit law before.state (concat first) ≡ false
 
-  -- The lines of the run over what was read were answered. Either the run ended, in the last piece,
-  -- or what was read is the whole input. So many bytes came after its last line; each byte that did
-  -- not come after the end was scanned exactly once; and so many were held at once.
-  pub record AnsweredAllWithLimit (left tests held : ℕ) (done : Bool) : Type 0 where
-    pub read : Bytes
-    pub consumed : Consumes input.remaining input'.remaining read
-    pub ended : done ≡ ends_with_limit limit law before.state read
-    pub in_last_piece : done ≡ true → EndsInLastPiece read
-    pub at_end : done ≡ false → IsAtEnd input'.remaining
-    pub answered : AllAnswered law before (run_with_limit limit law before.state read) after
-    pub left_reported : left ≡ saturating_u64 (length (unread limit law before.state read))
-    pub tested : tests + length (after_end limit law before.state read) ≡ length read
-    pub held_of : HeldInPieces limit read held
+  -- The lines of the run over what was read were answered. Either the run ended, in the last piece;
+  -- or the reader came to its end, and gave nothing then. So many bytes came after the run's last
+  -- line; each byte that did not come after its end was scanned exactly once; and so many were held.
+  pub record AnsweredAll (served : Served) : Type 0 where
+    pub pieces : List Bytes
+    pub were_read : WereRead input input' pieces (if served.done then [] else 0 ∷ [])
+    pub ended : served.done ≡ ends_for limit law before.state (concat pieces)
+    pub in_last : served.done ≡ true → EndsInLast pieces
+    pub at_end : served.done ≡ false → IsAtEnd input'.remaining
+    pub answered : AllAnswered law before (run_for limit law before.state (concat pieces)) after
+    pub left : served.left ≡ saturating_u64 (length (unread limit law before.state (concat pieces)))
+    pub scanned : served.tests + length (after_end limit law before.state (concat pieces))
+        ≡ length (concat pieces)
+    pub held : served.held ≡ most_held limit [] pieces
     pub no_read_failed : input'.failures ≡ input.failures
 
-  -- It failed at some line of what was read, and all lines of what was read before the last piece
-  -- were answered.
+  -- It failed at some line of what was read, and all lines of the pieces before the last one were
+  -- answered.
   pub record EndedLate (error : ServeError) : Type 0 where
-    pub read : Bytes
-    pub piece : Bytes
-    pub consumed : Consumes input.remaining input'.remaining (read ++ piece)
-    pub short : length piece ≤ 4096
-    pub ended : RunEnded law before
-        (run_with_limit limit law before.state (read ++ piece)) after error
-    pub late : Begins
-        (done_of law before (run_with_limit limit law before.state (read ++ piece)) after error
-        ended)
-        (events_with_limit limit read)
+    pub pieces : List Bytes
+    pub last : Bytes
+    pub were_read : WereRead input input' (pieces ++ last ∷ []) []
+    pub done : List FtpEvent
+    pub failed : RunFailed law before
+        (run_for limit law before.state (concat pieces ++ last)) after error done
+    pub late : Begins done (events limit (concat pieces))
 
+  -- There was no memory for the last piece, and all lines of those before it were answered.
+  pub record NoRoomForPiece : Type 0 where
+    pub pieces : List Bytes
+    pub last : Bytes
+    pub were_read : WereRead input input' (pieces ++ last ∷ []) []
+    pub some : ¬ (last ≡ [])
+    pub answered : Answered pieces
+
+  -- A read failed, and all lines of what was read were answered.
   pub record ReadFailed : Type 0 where
-    pub answered : Answered
+    pub pieces : List Bytes
+    pub were_read : WereRead input input' pieces []
+    pub answered : Answered pieces
     pub read_failed : input.failures < input'.failures
 
+  -- There were too many reads, and all lines of what was read were answered.
   pub record ReadTooOften : Type 0 where
-    pub answered : Answered
-    pub many : 2 ^ 64 - 1 ≤ length answered.read
+    pub pieces : List Bytes
+    pub were_read : WereRead input input' pieces []
+    pub answered : Answered pieces
+    pub many : 2 ^ 64 - 1 ≤ length (concat pieces)
 
   -- which of them an error means
-  abbrev pub ServeEndedWithLimit : ServeError → Type 0
-  ServeEndedWithLimit (Read _) = ReadFailed
-  ServeEndedWithLimit (Write error) = EndedLate (Write error)
-  ServeEndedWithLimit WriteZero = EndedLate WriteZero
-  ServeEndedWithLimit (Handler error) = EndedLate (Handler error)
-  ServeEndedWithLimit OutOfMemory = EndedLate OutOfMemory
-  ServeEndedWithLimit TooManyReads = ReadTooOften
-  ServeEndedWithLimit _ = ⊥
+  abbrev pub ServeEnded : ServeError → Type 0
+  ServeEnded (Read _) = ReadFailed
+  ServeEnded (Write error) = EndedLate (Write error)
+  ServeEnded WriteZero = EndedLate WriteZero
+  ServeEnded (Handler error) = EndedLate (Handler error)
+  ServeEnded OutOfMemory = NoRoomForPiece ⊎ EndedLate OutOfMemory
+  ServeEnded TooManyReads = ReadTooOften
+  ServeEnded _ = ⊥
 
--- what a service without a limit comes to
-abbrev pub AnsweredAll : {S : Type 0} → Law S → Snapshot S → Snapshot S → InputState → InputState
-    → ℕ → ℕ → ℕ → Bool → Type 0
-AnsweredAll law before after input input' left tests held done =
-    AnsweredAllWithLimit None law before after input input' left tests held done
-
-abbrev pub ServeEnded : {S : Type 0} → Law S → Snapshot S → Snapshot S → InputState → InputState
-    → ServeError → Type 0
-ServeEnded law before after input input' error =
-    ServeEndedWithLimit None law before after input input' error
+-- What it means at Ok that an input was served, whatever pieces it came in.
+pub record Serves (limit : Option ℕ) {S : Type 0} (law : Law S) (before after : Snapshot S)
+    (remaining : Option Bytes) (served : Served) (input : Bytes) : Type 0 where
+  -- Exactly the replies to its lines were written, up to the line that left the handler done,
+  pub written : Appends before.output.written after.output.written
+      (text_for limit law before.state input)
+  -- which is in the last state of this run;
+  pub state : after.state ≡ last_state law before.state (run_for limit law before.state input)
+  pub done : served.done ≡ ends_for limit law before.state input
+  -- and each byte was scanned for a line feed exactly once, but those after that line.
+  pub tested : served.tests + length (after_end limit law before.state input) ≡ length input
+  -- The reader has yet to give these bytes; `left` is how many of those after the last line of the
+  -- run were read.
+  pub rest : Bytes
+  pub to_be_read : remaining ≡ Some rest
+  pub left : served.left
+      ≡ saturating_u64 (length (unread limit law before.state input) - length rest)
+  -- Where the handler ended the session and no byte is left, they are all that come after its end.
+  pub not_read : served.done ≡ true → served.left ≡ 0
+      → after_end limit law before.state input ≡ rest
+  -- What was written is read as what the replies show, and as nothing else, where each is plain.
+  pub read_back : AllByRecursion IsPlain
+      (replies law before.state (run_for limit law before.state input))
+      → ReadsBack (text_for limit law before.state input)
+      (replies law before.state (run_for limit law before.state input))

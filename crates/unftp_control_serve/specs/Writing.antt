@@ -1,5 +1,5 @@
 -- What writing does to an output.
-use Rattle.std.specs.Prelude.{◌≡◌, ℕ, ◌+◌, ◌<◌, ◌≤◌, ◌==◌, ◌&&◌, not, if◌then◌else◌, [], ◌∷◌, ◌++◌, length, List, Option, Some, Result, MatchResult}
+use Rattle.std.specs.Prelude.{◌≡◌, ℕ, ◌+◌, ◌≤◌, ◌==◌, ◌&&◌, not, if◌then◌else◌, [], ◌∷◌, ◌++◌, length, List, Option, Some, Result, MatchResult}
 use Rattle.std.specs.Io.KnownBytes.{Appends}
 use Rattle.std.specs.declared.vec.Vec.{Vec}
 use Rattle.std.specs.declared.alloc.Global.{Global}
@@ -67,7 +67,7 @@ pub record CutShort (bytes : Bytes) (before after : OutputState) : Type 0 where
   pub part : Bytes
   pub begins : Begins bytes part
   pub written : Appends before.written after.written part
-  pub failure : before.failures < after.failures
+  pub failure : after.failures ≡ before.failures + 1
   pub unflushed : after.unflushed ≤ before.unflushed + length part
 
 -- an error of writing, and no other

@@ -1,8 +1,9 @@
 //! The pending bytes, and the events of their lines.
-ghost use Rattle.std.specs.Prelude.{◌≡◌, ◌≤◌, ◌+◌, ◌++◌, max, None, Some, IfOk, IfSome, OnOk, OnErr, length};
+ghost use Rattle.std.specs.Prelude.{◌≡◌, ◌≤◌, ◌+◌, [], None, Some, IfSome, OnOk, OnErr, length};
 ghost use Rattle.unftp_control_serve.specs.Decoder.{MayRunOut, TakesNext, ReturnsEvent, buffered_after, cleared, kept_bytes, no_bytes, pushed, saturating_u64, settled};
 
 use crate::event::Event;
+use crate::send::append;
 use crate::skipped::Skipped;
 use std::alloc::{AllocError, Global};
 use std::marker::Model;
@@ -46,13 +47,7 @@ impl EventDecoder {
     pub fn new(alloc: Global) -> EventDecoder
         ensures { result ≡ no_bytes None }
     {
-        EventDecoder {
-            codec: FtpCodec::new(),
-            buf: Vec::new(alloc),
-            start: 0,
-            skipped: Skipped::none(),
-            held: Count::new(),
-        }
+        EventDecoder::limited(alloc, None)
     }
 
     /// A decoder that was pushed nothing. A line of more than `limit` bytes, its line feed counted,
@@ -62,8 +57,16 @@ impl EventDecoder {
         requires { 1 ≤ limit }
         ensures { result ≡ no_bytes (Some limit) }
     {
+        EventDecoder::limited(alloc, Some(limit))
+    }
+
+    /// A decoder that was pushed nothing, with this limit, if there is one.
+    pub(crate) fn limited(alloc: Global, limit: Option<usize>) -> EventDecoder
+        requires { IfSome limit (λ limit. 1 ≤ limit) }
+        ensures { result ≡ no_bytes limit }
+    {
         EventDecoder {
-            codec: FtpCodec::with_limit(limit),
+            codec: FtpCodec::resume(limit, 0, false),
             buf: Vec::new(alloc),
             start: 0,
             skipped: Skipped::none(),
@@ -91,7 +94,7 @@ impl EventDecoder {
 
     /// How many bytes were scanned for a line feed. Only contracts see it.
     pub fn tests(&self) -> Count
-        ensures { result ≡ self.now.tests }
+        ensures { result ≡ self.now.scanned }
     {
         self.codec.tests()
     }
@@ -103,12 +106,17 @@ impl EventDecoder {
         self.held.same()
     }
 
-    /// Appends a piece to the pending bytes. When out of memory, nothing changes.
+    /// Appends a piece to the pending bytes. When out of memory, nothing changes; it never is for an
+    /// empty piece.
     pub fn push(&mut self, piece: &[u8]) -> Result<(), AllocError>
-        ensures ok { OnOk result (self.new ≡ pushed self.old piece.now) }
+        ensures ok { OnOk result (self.new ≡ pushed self.old piece.now self.new.buffered) }
+        ensures buffered { self.new.buffered ≤ self.old.buffered + length piece.now }
+        // of lines that were taken, the buffer holds no more bytes than of those that are pending
+        ensures moved { OnOk result (self.new.buffered ≤ self.new.kept + self.new.kept) }
         ensures err { OnErr result (self.new ≡ self.old) }
+        ensures some { OnErr result (¬ (piece.now ≡ [])) }
     {
-        self.buf.extend_from_slice(piece)?;
+        append(&mut self.buf, piece)?;
         self.held.raise_to(self.buf.len());
         // each move is paid for by as many bytes that were taken
         if self.start > self.buf.len() - self.start {
@@ -119,7 +127,7 @@ impl EventDecoder {
 
     /// Takes the first line of the pending bytes, and returns its event (RFC 959, section 5.3), or
     /// `None` where no line is complete. When out of memory, the line stays, and the next call finds
-    /// it again.
+    /// it again; it never is for a line that is too long, or whose command takes no value.
     ///
     /// Where it returns `None`, its buffer holds the pending bytes only: so with a limit, where all
     /// events are taken before the next piece is pushed, it never holds more than the limit and one
@@ -129,12 +137,13 @@ impl EventDecoder {
         ensures buffered { self.new.buffered ≡ buffered_after self.old result self.new }
         ensures limit { self.new.limit ≡ self.old.limit }
         ensures held { self.new.held ≡ self.old.held }
-        ensures tests { OnOk result
-            (self.new.tests + self.new.unscanned ≡ self.old.tests + self.old.unscanned) }
-        ensures no_memory { OnErr result (self.new.tests ≤ self.old.tests + self.old.unscanned) }
+        ensures scanned { OnOk result
+            (self.new.scanned + self.new.unscanned ≡ self.old.scanned + self.old.unscanned) }
+        ensures no_memory { OnErr result
+            (self.new.scanned ≤ self.old.scanned + self.old.unscanned) }
         // out of memory is returned only for a complete line that may take some
         ensures may_run_out { OnErr result (MayRunOut self.old) }
-        ensures never_fewer { self.old.tests ≤ self.new.tests }
+        ensures never_fewer { self.old.scanned ≤ self.new.scanned }
     {
         let event = self.take_next()?;
         if event.is_none() {
@@ -149,12 +158,13 @@ impl EventDecoder {
         ensures buffered { self.new.buffered ≡ self.old.buffered }
         ensures limit { self.new.limit ≡ self.old.limit }
         ensures held { self.new.held ≡ self.old.held }
-        ensures tests { OnOk result
-            (self.new.tests + self.new.unscanned ≡ self.old.tests + self.old.unscanned) }
-        ensures no_memory { OnErr result (self.new.tests ≤ self.old.tests + self.old.unscanned) }
+        ensures scanned { OnOk result
+            (self.new.scanned + self.new.unscanned ≡ self.old.scanned + self.old.unscanned) }
+        ensures no_memory { OnErr result
+            (self.new.scanned ≤ self.old.scanned + self.old.unscanned) }
         // out of memory is returned only for a complete line that may take some
         ensures may_run_out { OnErr result (MayRunOut self.old) }
-        ensures never_fewer { self.old.tests ≤ self.new.tests }
+        ensures never_fewer { self.old.scanned ≤ self.new.scanned }
     {
         let (_, pending) = self.buf.as_slice().split_at(self.start);
         let (taken, answer) = self.codec.decode_slice(*self.buf.allocator(), pending);

@@ -1,16 +1,12 @@
 //! The engine: lines in, replies out.
-ghost use Rattle.std.specs.Prelude.{◌≡◌, ◌<◌, ◌≤◌, ◌+◌, ◌↔◌, ◌∷◌, ◌++◌, [], max, None, Some, IfSome, IfOk, OnOk, OnErr, IsErrOf, IsTrue, is_ok, is_err, if◌then◌else◌, true, false, length};
-ghost use Rattle.std.specs.Io.KnownBytes.{Appends};
-ghost use Rattle.unftp_control_defs.specs.FtpReply.{encoded};
-ghost use Rattle.unftp_control_defs.specs.LineLimit.{run_with_limit, ends_with_limit, unread, after_end};
-ghost use Rattle.unftp_control_defs.specs.Lines.{incomplete_line};
-ghost use Rattle.unftp_control_defs.specs.Run.{text_of};
+ghost use Rattle.std.specs.Prelude.{◌≡◌, ◌≤◌, ◌+◌, ◌∷◌, ◌++◌, [], max, None, Some, IfSome, IfOk, OnOk, OnErr, IsErrOf, IsTrue, MatchResult, is_ok, if◌then◌else◌, true, false, length};
+ghost use Rattle.unftp_control_defs.specs.FtpReply.{Nothing, encoded};
+ghost use Rattle.unftp_control_defs.specs.Run.{run_for, ends_for, unread};
 ghost use Rattle.unftp_control_reply.specs.ReplyMeaning.{reply_of};
-ghost use Rattle.unftp_control_serve.specs.Endings.{RunOutcome, WriteFailed, HandlerFailed, RanOutOfMemory, OnWrite, OnHandler, OnMemory, ReadsNothing, snapshot_with};
-ghost use Rattle.unftp_control_serve.specs.Decoder.{kept_length, no_bytes, saturating_u64};
+ghost use Rattle.unftp_control_serve.specs.Endings.{OnWrite, PieceOutcome, RunOutcome, snapshot_with};
+ghost use Rattle.unftp_control_serve.specs.Decoder.{kept_length, saturating_u64};
 ghost use Rattle.unftp_control_serve.specs.EventMeaning.{event_meant};
-ghost use Rattle.unftp_control_serve.specs.Engine.{Fed, IsRunning, Leaves, run_with, fresh, more_left};
-ghost use Rattle.unftp_control_serve.specs.Writing.{Flushed};
+ghost use Rattle.unftp_control_serve.specs.Engine.{FailedAfter, IsRunning, fed, fresh, more_left, run_with};
 
 use crate::decoder::EventDecoder;
 use crate::error::ServeError;
@@ -26,7 +22,8 @@ use unftp_control_reply::Reply;
 
 /// Encodes the reply into a buffer that is used again.
 fn encode_into(reply: &Reply, reply_bytes: &mut Vec<u8>) -> Result<(), ControlChanError>
-    ensures { OnOk result (reply_bytes.new.items ≡ encoded (reply_of reply.now)) }
+    ensures bytes { OnOk result (reply_bytes.new.items ≡ encoded (reply_of reply.now)) }
+    ensures no_memory { OnErr result (¬ (reply_of reply.now ≡ Nothing)) }
 {
     reply_bytes.clear();
     encode_reply(reply, reply_bytes)
@@ -66,26 +63,24 @@ fn answer_lines<H: Handler, K: Sink>(
 ) -> Result<bool, ServeError>
     ensures outcome { RunOutcome H.law
         (snapshot_with H.state H.failures K.state handler.old output.old)
-        (run_with_limit decoder.old.limit H.law (H.state handler.old) decoder.old.bytes)
+        (run_for decoder.old.limit H.law (H.state handler.old) decoder.old.bytes)
         (snapshot_with H.state H.failures K.state handler.new output.new)
         result }
     ensures cuts { OnWrite result K.cuts }
     ensures ended { IfOk result (λ ended. ended
-        ≡ ends_with_limit decoder.old.limit H.law (H.state handler.old) decoder.old.bytes) }
+        ≡ ends_for decoder.old.limit H.law (H.state handler.old) decoder.old.bytes) }
     ensures unread { OnOk result (decoder.new.bytes
         ≡ unread decoder.old.limit H.law (H.state handler.old) decoder.old.bytes) }
     ensures unscanned { IfOk result (λ ended. decoder.new.unscanned
         ≡ (if ended then length decoder.new.bytes else 0)) }
     ensures kept { IfOk result (λ ended. ended ≡ false
         → decoder.new.buffered ≡ kept_length decoder.old.limit decoder.new.bytes) }
-    ensures room { IfOk result (λ ended. ended ≡ false
-        → IfSome decoder.old.limit (λ limit. decoder.new.buffered < limit)) }
     ensures limit { decoder.new.limit ≡ decoder.old.limit }
     ensures held { decoder.new.held ≡ decoder.old.held }
-    ensures tests { decoder.new.tests ≤ decoder.old.tests + decoder.old.unscanned }
-    ensures tested { OnOk result (decoder.new.tests + decoder.new.unscanned
-        ≡ decoder.old.tests + decoder.old.unscanned) }
-    ensures never_fewer { decoder.old.tests ≤ decoder.new.tests }
+    ensures scanned { decoder.new.scanned ≤ decoder.old.scanned + decoder.old.unscanned }
+    ensures scanned_once { OnOk result (decoder.new.scanned + decoder.new.unscanned
+        ≡ decoder.old.scanned + decoder.old.unscanned) }
+    ensures never_fewer { decoder.old.scanned ≤ decoder.new.scanned }
 {
     loop {
         let event = match decoder.next_event()? {
@@ -97,66 +92,6 @@ fn answer_lines<H: Handler, K: Sink>(
             return Ok(true);
         }
     }
-}
-
-/// What a piece leaves.
-#[derive(Drop)]
-struct Answered {
-    /// How many bytes came after the last line of the run, or `u64::MAX` where there are more.
-    left: u64,
-    /// Whether the run has ended.
-    ended: bool,
-}
-
-/// Answers the lines of the pending bytes and a piece after them. Once the run has ended, the bytes
-/// after its last line are dropped.
-fn answer_piece<H: Handler, K: Sink>(
-    decoder: &mut EventDecoder,
-    reply_bytes: &mut Vec<u8>,
-    piece: &[u8],
-    handler: &mut H,
-    output: &mut K,
-) -> Result<Answered, ServeError>
-    ensures outcome { RunOutcome H.law
-        (snapshot_with H.state H.failures K.state handler.old output.old)
-        (run_with_limit decoder.old.limit H.law (H.state handler.old)
-        (decoder.old.bytes ++ piece.now))
-        (snapshot_with H.state H.failures K.state handler.new output.new)
-        result }
-    ensures cuts { OnWrite result K.cuts }
-    ensures ended { IfOk result (λ answered. answered.ended
-        ≡ ends_with_limit decoder.old.limit H.law (H.state handler.old)
-        (decoder.old.bytes ++ piece.now)) }
-    ensures left { IfOk result (λ answered. answered.left
-        ≡ saturating_u64 (length (unread decoder.old.limit H.law (H.state handler.old)
-        (decoder.old.bytes ++ piece.now)))) }
-    ensures incomplete { IfOk result (λ answered. decoder.new.bytes
-        ≡ (if answered.ended then [] else incomplete_line (decoder.old.bytes ++ piece.now))) }
-    ensures unscanned { OnOk result (decoder.new.unscanned ≡ 0) }
-    ensures kept { OnOk result
-        (decoder.new.buffered ≡ kept_length decoder.old.limit decoder.new.bytes) }
-    ensures room { OnOk result
-        (IfSome decoder.old.limit (λ limit. decoder.new.buffered < limit)) }
-    ensures limit { decoder.new.limit ≡ decoder.old.limit }
-    ensures held { OnOk result (decoder.new.held
-        ≡ max decoder.old.held (decoder.old.buffered + length piece.now)) }
-    ensures no_more_held { decoder.new.held
-        ≤ max decoder.old.held (decoder.old.buffered + length piece.now) }
-    ensures tests { decoder.new.tests
-        ≤ decoder.old.tests + decoder.old.unscanned + length piece.now }
-    ensures tested { OnOk result (decoder.new.tests
-        + length (after_end decoder.old.limit H.law (H.state handler.old)
-        (decoder.old.bytes ++ piece.now))
-        ≡ decoder.old.tests + decoder.old.unscanned + length piece.now) }
-    ensures never_fewer { decoder.old.tests ≤ decoder.new.tests }
-{
-    decoder.push(piece)?;
-    let ended = answer_lines(decoder, reply_bytes, handler, output)?;
-    let left = decoder.left();
-    if ended {
-        decoder.clear();
-    }
-    Ok(Answered { left, ended })
 }
 
 /// Where an engine stands.
@@ -180,7 +115,7 @@ pub struct Engine {
 }
 
 impl Model for Engine {
-    ghost use Rattle.std.specs.Prelude.{◌≡◌, ◌<◌, false, IfSome};
+    ghost use Rattle.std.specs.Prelude.{◌≡◌, false};
     ghost use Rattle.unftp_control_serve.specs.Decoder.{kept_length};
     ghost use Rattle.unftp_control_serve.specs.Engine.{EngineState, has_failed, has_finished};
 
@@ -191,7 +126,7 @@ impl Model for Engine {
       left = engine.left;
       failed = has_failed engine.phase;
       finished = has_finished engine.phase;
-      tests = engine.decoder.tests;
+      scanned = engine.decoder.scanned;
       limit = engine.decoder.limit;
       buffered = engine.decoder.buffered;
       held = engine.decoder.held;
@@ -200,8 +135,7 @@ impl Model for Engine {
     ghost invariant = { λ engine. has_failed engine.phase ≡ false
         → (engine.decoder.unscanned ≡ 0)
         × (engine.decoder.buffered
-        ≡ kept_length engine.decoder.limit engine.decoder.bytes)
-        × IfSome engine.decoder.limit (λ limit. engine.decoder.buffered < limit) };
+        ≡ kept_length engine.decoder.limit engine.decoder.bytes) };
 }
 
 impl Engine {
@@ -210,7 +144,7 @@ impl Engine {
     pub fn new(alloc: Global) -> Engine
         ensures { result ≡ fresh None }
     {
-        Engine::over(EventDecoder::new(alloc), alloc)
+        Engine::limited(alloc, None)
     }
 
     /// An engine that was fed nothing. A line of more than `limit` bytes, its line feed counted, is
@@ -220,16 +154,16 @@ impl Engine {
         requires { 1 ≤ limit }
         ensures { result ≡ fresh (Some limit) }
     {
-        Engine::over(EventDecoder::with_limit(alloc, limit), alloc)
+        Engine::limited(alloc, Some(limit))
     }
 
-    /// An engine over a decoder that was pushed nothing.
-    fn over(decoder: EventDecoder, alloc: Global) -> Engine
-        requires { decoder ≡ no_bytes decoder.limit }
-        ensures { result ≡ fresh decoder.limit }
+    /// An engine that was fed nothing, with this limit, if there is one.
+    pub(crate) fn limited(alloc: Global, limit: Option<usize>) -> Engine
+        requires { IfSome limit (λ limit. 1 ≤ limit) }
+        ensures { result ≡ fresh limit }
     {
         Engine {
-            decoder,
+            decoder: EventDecoder::limited(alloc, limit),
             reply_bytes: Vec::new(alloc),
             left: 0,
             phase: Phase::Running,
@@ -255,7 +189,7 @@ impl Engine {
 
     /// How many bytes were scanned for a line feed. Only contracts see it.
     pub fn tests(&self) -> Count
-        ensures { result ≡ self.now.tests }
+        ensures { result ≡ self.now.scanned }
     {
         self.decoder.tests()
     }
@@ -286,75 +220,66 @@ impl Engine {
         handler: &mut H,
         output: &mut K,
     ) -> Result<(), ServeError>
-        // What was written and taken at each answer, over the run of the handler over the lines of
-        // the pending bytes and the piece.
-        ensures outcome { IsRunning self.old → RunOutcome H.law
+        // What was answered, written and flushed at each answer of an engine that runs.
+        ensures outcome { IsRunning self.old → PieceOutcome H.law
             (snapshot_with H.state H.failures K.state handler.old output.old)
-            (run_with self.old H.law (H.state handler.old) piece.now)
-            (snapshot_with H.state H.failures K.state handler.new output.new)
-            result }
-        // What follows from it at each answer.
-        ensures written { IsRunning self.old
-            → OnOk result (Appends (K.state output.old).written (K.state output.new).written
-            (text_of H.law (H.state handler.old)
-            (run_with self.old H.law (H.state handler.old) piece.now))) }
-        ensures flushed { IsRunning self.old
-            → OnOk result (Flushed
-            (text_of H.law (H.state handler.old)
-            (run_with self.old H.law (H.state handler.old) piece.now)) []
-            (K.state output.old).unflushed (K.state output.new).unflushed) }
-        ensures leaves { IsRunning self.old
-            → OnOk result (Leaves H.law self.old piece.now
-            (H.state handler.old) (H.state handler.new) self.new) }
-        ensures quiet { OnOk result (((K.state output.new).failures ≡ (K.state output.old).failures)
-            × (H.failures handler.new ≡ H.failures handler.old)) }
-        ensures write { OnWrite result (WriteFailed H.law
-            (snapshot_with H.state H.failures K.state handler.old output.old)
-            (run_with self.old H.law (H.state handler.old) piece.now)
-            (snapshot_with H.state H.failures K.state handler.new output.new)) }
-        ensures handler { OnHandler result (HandlerFailed H.law
-            (snapshot_with H.state H.failures K.state handler.old output.old)
-            (run_with self.old H.law (H.state handler.old) piece.now)
-            (snapshot_with H.state H.failures K.state handler.new output.new)) }
-        ensures memory { OnMemory result (RanOutOfMemory H.law
-            (snapshot_with H.state H.failures K.state handler.old output.old)
-            (run_with self.old H.law (H.state handler.old) piece.now)
-            (snapshot_with H.state H.failures K.state handler.new output.new)) }
-        ensures never { ReadsNothing result }
+            (run_with self.old H.law (H.state handler.old) piece.now) piece.now
+            (snapshot_with H.state H.failures K.state handler.new output.new) result }
         ensures cuts { OnWrite result K.cuts }
-        // An engine whose run has ended counts the piece, and does nothing else.
+        // What such an engine is then; a limit bounds what the buffer has held.
+        ensures fed { IsRunning self.old → MatchResult result
+            (λ _. self.new ≡ fed H.law (H.state handler.old) self.old piece.now)
+            (λ _. FailedAfter self.old piece.now self.new) }
+        ensures bound { IfSome self.old.limit (λ limit.
+            self.new.held ≤ max self.old.held (limit + length piece.now)) }
+        // One whose run has ended counts the piece, and one that failed does nothing.
         ensures over { self.old.finished ≡ true → IsTrue (is_ok result)
             × (handler.new ≡ handler.old) × (output.new ≡ output.old)
             × (self.new ≡ more_left self.old piece.now) }
-        // An engine that failed asks no handler and writes nothing.
-        ensures stopped { IsErrOf result ServeError.Stopped ↔ (self.old.failed ≡ true) }
-        ensures unchanged { self.old.failed ≡ true
-            → (handler.new ≡ handler.old) × (output.new ≡ output.old) }
-        ensures fed { Fed H.law self.old piece.now (H.state handler.old) (is_ok result) self.new }
+        ensures stopped { self.old.failed ≡ true → IsErrOf result ServeError.Stopped
+            × (handler.new ≡ handler.old) × (output.new ≡ output.old) × (self.new ≡ self.old) }
     {
         match self.phase {
-            Phase::Failed => return Err(ServeError::Stopped),
+            Phase::Failed => Err(ServeError::Stopped),
             Phase::Finished => {
                 self.left = self.left.saturating_add(piece.len() as u64);
-                return Ok(());
+                Ok(())
             }
-            Phase::Running => {}
+            Phase::Running => self.answer(piece, handler, output),
         }
-        let answer = answer_piece(
-            &mut self.decoder,
-            &mut self.reply_bytes,
-            piece,
-            handler,
-            output,
-        );
-        match answer {
-            Ok(answered) => {
-                self.left = answered.left;
-                self.phase = if answered.ended {
-                    Phase::Finished
-                } else {
-                    Phase::Running
-                };
+    }
+
+    /// Answers the lines of the pending bytes and a piece after them. Once the run has ended, the
+    /// bytes after its last line are dropped.
+    fn answer<H: Handler, K: Sink>(
+        &mut self,
+        piece: &[u8],
+        handler: &mut H,
+        output: &mut K,
+    ) -> Result<(), ServeError>
+        requires { IsRunning self.old }
+        ensures outcome { PieceOutcome H.law
+            (snapshot_with H.state H.failures K.state handler.old output.old)
+            (run_with self.old H.law (H.state handler.old) piece.now) piece.now
+            (snapshot_with H.state H.failures K.state handler.new output.new) result }
+        ensures cuts { OnWrite result K.cuts }
+        ensures fed { MatchResult result
+            (λ _. self.new ≡ fed H.law (H.state handler.old) self.old piece.now)
+            (λ _. FailedAfter self.old piece.now self.new) }
+        ensures bound { IfSome self.old.limit (λ limit.
+            self.new.held ≤ max self.old.held (limit + length piece.now)) }
+    {
+        if let Err(error) = self.decoder.push(piece) {
+            self.phase = Phase::Failed;
+            return Err(error.into());
+        }
+        match answer_lines(&mut self.decoder, &mut self.reply_bytes, handler, output) {
+            Ok(ended) => {
+                self.left = self.decoder.left();
+                if ended {
+                    self.decoder.clear();
+                    self.phase = Phase::Finished;
+                }
                 Ok(())
             }
             Err(error) => {

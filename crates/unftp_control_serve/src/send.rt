@@ -1,10 +1,11 @@
 //! Where the replies go.
-ghost use Rattle.std.specs.Prelude.{◌≡◌, [], IsTrue, is_ok};
+ghost use Rattle.std.specs.Prelude.{◌≡◌, [], ◌++◌, IsTrue, OnErr, OnOk, is_ok};
 ghost use Rattle.unftp_control_serve.specs.Endings.{OnMemory, OnWrite};
 ghost use Rattle.unftp_control_serve.specs.Writing.{OutputState, Sends, Writes, appended_state_of, output_state_of};
 
 use crate::error::ServeError;
 use crate::output::Output;
+use std::alloc::AllocError;
 use std::io::Write;
 
 /// Takes the replies of an engine, one after the other: an `Output` writes and flushes each, and a
@@ -54,10 +55,19 @@ impl Sink for Vec<u8> {
     ghost allocates = { Unit {0} };
 
     fn send(&mut self, bytes: &[u8]) -> Result<(), ServeError> {
-        match bytes {
-            [] => Ok(()),
-            _ => Ok(self.extend_from_slice(bytes)?),
-        }
+        Ok(append(self, bytes)?)
+    }
+}
+
+/// Appends the bytes, or none of them when out of memory: never so where there are none.
+pub(crate) fn append(buf: &mut Vec<u8>, bytes: &[u8]) -> Result<(), AllocError>
+    ensures ok { OnOk result (buf.new.items ≡ buf.old.items ++ bytes.now) }
+    ensures err { OnErr result (buf.new.items ≡ buf.old.items) }
+    ensures some { OnErr result (¬ (bytes.now ≡ [])) }
+{
+    match bytes {
+        [] => Ok(()),
+        _ => buf.extend_from_slice(bytes),
     }
 }
 

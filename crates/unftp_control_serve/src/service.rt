@@ -1,16 +1,7 @@
 //! A whole connection, from the first read to the end of the input.
-ghost use Rattle.std.specs.Prelude.{◌≡◌, ◌≤◌, ◌+◌, ◌-◌, true, None, Some, IfOk, IfErr, IfSome, OnOk, length};
-ghost use Rattle.std.specs.Io.KnownBytes.{Appends};
-ghost use Rattle.unftp_control_defs.specs.Events.{events};
-ghost use Rattle.unftp_control_defs.specs.LineLimit.{run_with_limit, ends_with_limit, text_with_limit, unread, after_end};
-ghost use Rattle.unftp_control_defs.specs.Run.{run_of, ends, last_state, replies, text_for};
-ghost use Rattle.unftp_control_defs.specs.FtpReply.{IsPlain};
-ghost use Rattle.unftp_control_defs.specs.ReplyReader.{ReadsBack};
-ghost use Rattle.std.specs.List.{AllByRecursion};
+ghost use Rattle.std.specs.Prelude.{◌≡◌, ◌≤◌, ◌+◌, None, Some, IfOk, IfErr, IfSome};
 ghost use Rattle.unftp_control_serve.specs.Endings.{snapshot_of};
-ghost use Rattle.unftp_control_serve.specs.Decoder.{saturating_u64};
-ghost use Rattle.unftp_control_serve.specs.Engine.{fresh};
-ghost use Rattle.unftp_control_serve.specs.Service.{AnsweredAll, AnsweredAllWithLimit, ServeEnded, ServeEndedWithLimit, input_state_of};
+ghost use Rattle.unftp_control_serve.specs.Service.{AnsweredAll, Reports, ServeEnded, Serves, input_state_of};
 
 use crate::engine::Engine;
 use crate::error::ServeError;
@@ -58,50 +49,20 @@ pub fn serve<R: Read, W: Write, H: Handler>(
     writer: &mut Output<W>,
     handler: &mut H,
 ) -> Result<Served, ServeError>
-    // Whatever pieces the input comes in, at Ok exactly the replies to its lines are written,
-    ensures written { OnOk result (IfSome (R.remaining reader.old.reader) (λ input.
-        Appends (W.contents writer.old.writer) (W.contents writer.new.writer)
-        (text_for H.law (H.state handler.old) input))) }
-    // up to the line that leaves the handler done; it is in the last state of this run,
-    ensures state { OnOk result (IfSome (R.remaining reader.old.reader) (λ input.
-        H.state handler.new ≡ last_state H.law (H.state handler.old)
-        (run_of H.law (H.state handler.old) (events input)))) }
-    ensures done { IfOk result (λ served.
-        IfSome (R.remaining reader.old.reader) (λ input.
-        served.done ≡ ends H.law (H.state handler.old) (events input))) }
-    // and each byte was scanned for a line feed exactly once, but those after that line.
-    ensures tested { IfOk result (λ served.
-        IfSome (R.remaining reader.old.reader) (λ input.
-        served.tests + length (after_end None H.law (H.state handler.old) input)
-        ≡ length input)) }
-    // `left` is how many of the bytes after the last line of the run were read.
-    ensures left { IfOk result (λ served.
-        IfSome (R.remaining reader.old.reader) (λ input.
-        IfSome (R.remaining reader.new.reader) (λ rest.
-        served.left ≡ saturating_u64
-        (length (unread None H.law (H.state handler.old) input) - length rest)))) }
-    // Where the handler ended the session and no byte is left, the reader has yet to give all bytes
-    // after the line that ended it.
-    ensures not_read { IfOk result (λ served. served.done ≡ true → served.left ≡ 0
-        → IfSome (R.remaining reader.old.reader) (λ input.
-        IfSome (R.remaining reader.new.reader) (λ rest.
-        after_end None H.law (H.state handler.old) input ≡ rest))) }
-    // What is written is read as what the replies show, and as nothing else, where each of them is
-    // plain.
-    ensures read_back { OnOk result (IfSome (R.remaining reader.old.reader) (λ input.
-        let run = run_of H.law (H.state handler.old) (events input) in
-        AllByRecursion IsPlain (replies H.law (H.state handler.old) run)
-        → ReadsBack (text_for H.law (H.state handler.old) input)
-        (replies H.law (H.state handler.old) run))) }
-    // What holds of any reader, with what was flushed and what failed, and how much was held; and
-    // what is so at each error.
-    ensures ok { IfOk result (λ served. AnsweredAll H.law
+    // At Ok, of a reader whose bytes contracts know: what was written, in which state the handler
+    // is, and what was read and scanned.
+    ensures serves { IfOk result (λ served. IfSome (R.remaining reader.old.reader)
+        (Serves None H.law
+        (snapshot_of H.state H.failures W.contents handler.old writer.old)
+        (snapshot_of H.state H.failures W.contents handler.new writer.new)
+        (R.remaining reader.new.reader) served)) }
+    // At Ok, of any reader, with what was flushed and held; and what is so at each error.
+    ensures ok { IfOk result (AnsweredAll None H.law
         (snapshot_of H.state H.failures W.contents handler.old writer.old)
         (snapshot_of H.state H.failures W.contents handler.new writer.new)
         (input_state_of R.remaining reader.old)
-        (input_state_of R.remaining reader.new)
-        served.left served.tests served.held served.done) }
-    ensures err { IfErr result (ServeEnded H.law
+        (input_state_of R.remaining reader.new)) }
+    ensures err { IfErr result (ServeEnded None H.law
         (snapshot_of H.state H.failures W.contents handler.old writer.old)
         (snapshot_of H.state H.failures W.contents handler.new writer.new)
         (input_state_of R.remaining reader.old)
@@ -123,52 +84,20 @@ pub fn serve_with_limit<R: Read, W: Write, H: Handler>(
     handler: &mut H,
 ) -> Result<Served, ServeError>
     requires { 1 ≤ limit }
-    // Whatever pieces the input comes in, at Ok exactly the replies to its lines are written,
-    ensures written { OnOk result (IfSome (R.remaining reader.old.reader) (λ input.
-        Appends (W.contents writer.old.writer) (W.contents writer.new.writer)
-        (text_with_limit (Some limit) H.law (H.state handler.old) input))) }
-    // up to the line that leaves the handler done; it is in the last state of this run,
-    ensures state { OnOk result (IfSome (R.remaining reader.old.reader) (λ input.
-        H.state handler.new ≡ last_state H.law (H.state handler.old)
-        (run_with_limit (Some limit) H.law (H.state handler.old) input))) }
-    ensures done { IfOk result (λ served.
-        IfSome (R.remaining reader.old.reader) (λ input.
-        served.done ≡ ends_with_limit (Some limit) H.law (H.state handler.old) input)) }
-    // and each byte was scanned for a line feed exactly once, but those after that line.
-    ensures tested { IfOk result (λ served.
-        IfSome (R.remaining reader.old.reader) (λ input.
-        served.tests + length (after_end (Some limit) H.law (H.state handler.old) input)
-        ≡ length input)) }
-    // `left` is how many of the bytes after the last line of the run were read.
-    ensures left { IfOk result (λ served.
-        IfSome (R.remaining reader.old.reader) (λ input.
-        IfSome (R.remaining reader.new.reader) (λ rest.
-        served.left ≡ saturating_u64
-        (length (unread (Some limit) H.law (H.state handler.old) input) - length rest)))) }
-    // Where the handler ended the session and no byte is left, the reader has yet to give all bytes
-    // after the line that ended it.
-    ensures not_read { IfOk result (λ served. served.done ≡ true → served.left ≡ 0
-        → IfSome (R.remaining reader.old.reader) (λ input.
-        IfSome (R.remaining reader.new.reader) (λ rest.
-        after_end (Some limit) H.law (H.state handler.old) input ≡ rest))) }
-    // What is written is read as what the replies show, and as nothing else, where each of them is
-    // plain.
-    ensures read_back { OnOk result (IfSome (R.remaining reader.old.reader) (λ input.
-        let run = run_with_limit (Some limit) H.law (H.state handler.old) input in
-        AllByRecursion IsPlain (replies H.law (H.state handler.old) run)
-        → ReadsBack (text_with_limit (Some limit) H.law (H.state handler.old) input)
-        (replies H.law (H.state handler.old) run))) }
+    // What `serve` says, under the limit.
+    ensures serves { IfOk result (λ served. IfSome (R.remaining reader.old.reader)
+        (Serves (Some limit) H.law
+        (snapshot_of H.state H.failures W.contents handler.old writer.old)
+        (snapshot_of H.state H.failures W.contents handler.new writer.new)
+        (R.remaining reader.new.reader) served)) }
     // At Ok the buffer has held at most the limit and one piece.
     ensures bound { IfOk result (λ served. served.held ≤ limit + 4096) }
-    // What holds of any reader, with what was flushed and what failed, and how much was held; and
-    // what is so at each error.
-    ensures ok { IfOk result (λ served. AnsweredAllWithLimit (Some limit) H.law
+    ensures ok { IfOk result (AnsweredAll (Some limit) H.law
         (snapshot_of H.state H.failures W.contents handler.old writer.old)
         (snapshot_of H.state H.failures W.contents handler.new writer.new)
         (input_state_of R.remaining reader.old)
-        (input_state_of R.remaining reader.new)
-        served.left served.tests served.held served.done) }
-    ensures err { IfErr result (ServeEndedWithLimit (Some limit) H.law
+        (input_state_of R.remaining reader.new)) }
+    ensures err { IfErr result (ServeEnded (Some limit) H.law
         (snapshot_of H.state H.failures W.contents handler.old writer.old)
         (snapshot_of H.state H.failures W.contents handler.new writer.new)
         (input_state_of R.remaining reader.old)
@@ -187,19 +116,18 @@ fn serve_lines<R: Read, W: Write, H: Handler>(
     handler: &mut H,
 ) -> Result<Served, ServeError>
     requires { IfSome limit (λ limit. 1 ≤ limit) }
-    ensures ok { IfOk result (λ served. AnsweredAllWithLimit limit H.law
+    ensures ok { IfOk result (AnsweredAll limit H.law
         (snapshot_of H.state H.failures W.contents handler.old writer.old)
         (snapshot_of H.state H.failures W.contents handler.new writer.new)
         (input_state_of R.remaining reader.old)
-        (input_state_of R.remaining reader.new)
-        served.left served.tests served.held served.done) }
-    ensures err { IfErr result (ServeEndedWithLimit limit H.law
+        (input_state_of R.remaining reader.new)) }
+    ensures err { IfErr result (ServeEnded limit H.law
         (snapshot_of H.state H.failures W.contents handler.old writer.old)
         (snapshot_of H.state H.failures W.contents handler.new writer.new)
         (input_state_of R.remaining reader.old)
         (input_state_of R.remaining reader.new)) }
 {
-    let mut engine = engine_for(alloc, limit);
+    let mut engine = Engine::limited(alloc, limit);
     let mut piece = [0u8; PIECE];
     for _turn in 0..u64::MAX {
         let n = match reader.read(&mut piece) {
@@ -220,26 +148,12 @@ fn serve_lines<R: Read, W: Write, H: Handler>(
 
 /// What an engine says of the service.
 fn served_by(engine: &Engine) -> Served
-    ensures left { result.left ≡ engine.now.left }
-    ensures done { result.done ≡ engine.now.finished }
-    ensures tests { result.tests ≡ engine.now.tests }
-    ensures held { result.held ≡ engine.now.held }
+    ensures { Reports result engine.now }
 {
     Served {
         left: engine.left(),
         done: engine.finished(),
         tests: engine.tests(),
         held: engine.held(),
-    }
-}
-
-/// An engine for lines of so many bytes at most, or of any length.
-fn engine_for(alloc: Global, limit: Option<usize>) -> Engine
-    requires { IfSome limit (λ limit. 1 ≤ limit) }
-    ensures { result ≡ fresh limit }
-{
-    match limit {
-        Some(limit) => Engine::with_limit(alloc, limit),
-        None => Engine::new(alloc),
     }
 }

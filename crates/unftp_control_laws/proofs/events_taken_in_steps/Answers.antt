@@ -4,7 +4,7 @@ use Rattle.unftp_control_laws.proofs.events_taken_in_steps.Goals as goal
 
 pub returns : goal.returns
 returns c = record {
-  events = λ limit steps pending are. steps-events limit [] steps pending are;
+  same_events = λ limit steps pending are. steps-events limit [] steps pending are;
   incomplete = λ limit steps pending are. steps-incomplete limit [] steps pending are;
   all = λ limit steps pending are unended. steps-all limit steps pending are unended;
 }

@@ -6,7 +6,7 @@ use Rattle.unftp_control_serve.proofs.LineRunLemmas.{halfway-no_memory, Halfway-
 use Rattle.unftp_control_serve.proofs.engine.answer_lines.Goals as goal
 
 pub loop-event-init : goal.loop-event-init
-loop-event-init g c = record { halfway = Halfway-start _ _ _ _; tests = refl; limit = refl; held = refl; never_fewer = omega arith }
+loop-event-init g c = record { halfway = Halfway-start _ _ _ _; scanned = refl; limit = refl; held = refl; never_fewer = omega arith }
 
 pub loop-event-preserved : goal.loop-event-preserved
 loop-event-preserved g c =
@@ -14,7 +14,7 @@ loop-event-preserved g c =
     let first = rw c.in-Some.is at c.in_ok-event.ensures.takes_next in
     record {
       halfway = Halfway-next _ _ _ _ _ _ _ before.halfway before.limit _ first _ c.in_ok-answer_event.ensures.outcome (sym c.done.ensures ∙ c.if-done.false);
-      tests = omega (arith, before.tests, c.in_ok-event.ensures.tests);
+      scanned = omega (arith, before.scanned, c.in_ok-event.ensures.scanned);
       limit = c.in_ok-event.ensures.limit ∙ before.limit;
       held = c.in_ok-event.ensures.held ∙ before.held;
       never_fewer = omega (arith, before.never_fewer, c.in_ok-event.ensures.never_fewer);
@@ -53,9 +53,6 @@ returns-then-done-clause-unscanned g c =
 pub returns-then-done-clause-kept : goal.returns-then-done-clause-kept
 returns-then-done-clause-kept g c = λ on. absurd (false≢true (sym on))
 
-pub returns-then-done-clause-room : goal.returns-then-done-clause-room
-returns-then-done-clause-room g c = λ on. absurd (false≢true (sym on))
-
 pub returns-in-None-clause-outcome : goal.returns-in-None-clause-outcome
 returns-in-None-clause-outcome g c =
     let none = rw c.in-None.is at c.in_ok-event.ensures.takes_next in
@@ -76,12 +73,6 @@ returns-in-None-clause-unscanned g c =
     let none = rw c.in-None.is at c.in_ok-event.ensures.takes_next in
     none.all_scanned
 
-pub returns-in-None-clause-room : goal.returns-in-None-clause-room
-returns-in-None-clause-room g c =
-    let none = rw c.in-None.is at c.in_ok-event.ensures.takes_next in
-    let kept = rw c.in-None.is at c.in_ok-event.ensures.buffered in
-    λ on. rw (kept) (rw c.loop-event.invariant.limit at none.short)
-
 pub returns-in-None-clause-kept : goal.returns-in-None-clause-kept
 returns-in-None-clause-kept g c =
     let none = rw c.in-None.is at c.in_ok-event.ensures.takes_next in
@@ -92,4 +83,4 @@ returns-in-None-clause-kept g c =
 pub returns-in_err-event-clause-outcome : goal.returns-in_err-event-clause-outcome
 returns-in_err-event-clause-outcome g c =
     let error = err_from_is_err_and c.from_residual.result c.from_residual.ensures.1 in
-    rw (error.1, error.2) (halfway-no_memory _ _ _ _ _ _ c.loop-event.invariant.halfway)
+    rw (error.1, error.2) (halfway-no_memory _ _ _ _ _ _ c.loop-event.invariant.limit c.loop-event.invariant.halfway c.in_err-event.ensures.may_run_out)

@@ -9,10 +9,10 @@ invariant-loop-event g l = record {
       (snapshot_with g.H.Handler.state g.H.Handler.failures g.K.Sink.state l.fn.handler l.fn.output)
       (snapshot_with g.H.Handler.state g.H.Handler.failures g.K.Sink.state l.handler l.output)
       l.fn.decoder.bytes l.decoder.bytes;
-  tests : l.decoder.tests + l.decoder.unscanned ≡ l.fn.decoder.tests + l.fn.decoder.unscanned;
+  scanned : l.decoder.scanned + l.decoder.unscanned ≡ l.fn.decoder.scanned + l.fn.decoder.unscanned;
   limit : l.decoder.limit ≡ l.fn.decoder.limit;
   held : l.decoder.held ≡ l.fn.decoder.held;
-  never_fewer : l.fn.decoder.tests ≤ l.decoder.tests;
+  never_fewer : l.fn.decoder.scanned ≤ l.decoder.scanned;
 }
 
 abbrev pub decreases-loop-event : goal.decreases-loop-event

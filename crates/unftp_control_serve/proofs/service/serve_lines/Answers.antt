@@ -1,10 +1,10 @@
-use Rattle.std.proofs.Common.{◌<◌, ◌≤◌, refl, sym, ◌∙◌, length, arith}
+use Rattle.std.proofs.Common.{◌<◌, ◌≤◌, refl, sym, ap, ◌∙◌, length, arith}
 use Rattle.std.proofs.lemmas.Result.{err_from_is_err_and}
-use Rattle.unftp_control_serve.proofs.ServiceLemmas.{Serving-start, Serving-next, Serving-done, Serving-ended, Serving-all, Serving-read_failed, Serving-too_often}
+use Rattle.unftp_control_serve.proofs.ServiceLemmas.{Serving-start, Serving-next, Serving-done, Serving-failed, Serving-all, Serving-read_failed, Serving-too_often}
 use Rattle.unftp_control_serve.proofs.service.serve_lines.Goals as goal
 
 pub loop-turn-init : goal.loop-turn-init
-loop-turn-init g c = record { serving = Serving-start _ _ _ _ _ c.engine_for-engine.ensures; room = refl }
+loop-turn-init g c = record { serving = Serving-start _ _ _ _ _ c.limited-engine.ensures; room = refl }
 
 pub returns-in_err-feed-clause-err : goal.returns-in_err-feed-clause-err
 returns-in_err-feed-clause-err g c =
@@ -12,7 +12,7 @@ returns-in_err-feed-clause-err g c =
     let given = rw (sym c.split_at.ensures.front) at c.in-Ok.ensures.bytes.0 in
     let error = err_from_is_err_and c.from_residual.result c.from_residual.ensures.1 in
     rw (error.1, error.2)
-    (Serving-ended _ _ _ _ _ _ _ _ _ c.loop-turn.invariant.serving _ c.split_at.result.0.now _ given short
+    (Serving-failed _ _ _ _ _ _ _ _ _ c.loop-turn.invariant.serving c.split_at.result.0.now given (rw c.split_at.ensures.front_len c.in-Ok.ensures.reads) short _ _
     (c.in_err-feed.ensures.outcome c.loop-turn.invariant.serving.running))
 
 pub loop-turn-preserved : goal.loop-turn-preserved
@@ -21,10 +21,11 @@ loop-turn-preserved g c =
     let some : 0 < length c.split_at.result.0.now = omega (arith, c.split_at.ensures.front_len, c.if-n-eq0.false) in
     let given = rw (sym c.split_at.ensures.front) at c.in-Ok.ensures.bytes.0 in
     let running = c.loop-turn.invariant.serving.running in
-    let fed = c.in_ok-feed.ensures in
+    let is = c.in_ok-feed.ensures.fed running in
+    let on = ap (λ engine. engine.finished) (sym is) ∙ sym c.finished.ensures ∙ c.if-finished.false in
     record {
-      serving = Serving-next _ _ _ _ _ _ _ _ _ c.loop-turn.invariant.serving c.split_at.result.0.now _ c.feed.new.self given short c.in-Ok.ensures.quiet
-          (fed.outcome running) (fed.leaves running) (fed.fed.tested running refl) (fed.fed.held running refl) some (sym c.finished.ensures ∙ c.if-finished.false) fed.fed.limit (fed.fed.buffered refl);
+      serving = rw is
+          (Serving-next _ _ _ _ _ _ _ _ _ c.loop-turn.invariant.serving c.split_at.result.0.now given (rw c.split_at.ensures.front_len c.in-Ok.ensures.reads) short _ c.in-Ok.ensures.quiet (c.in_ok-feed.ensures.outcome running) some on);
       room = omega (arith, c.loop-turn.invariant.room, c.read.auto.buf);
     }
 
@@ -33,12 +34,10 @@ returns-then-finished-clause-ok g c =
     let short : length c.split_at.result.0.now ≤ 4096 = omega (arith, c.loop-turn.invariant.room, c.read.auto.buf, c.split_at.ensures.front_len, c.in-Ok.ensures.bound.0) in
     let given = rw (sym c.split_at.ensures.front) at c.in-Ok.ensures.bytes.0 in
     let running = c.loop-turn.invariant.serving.running in
-    let fed = c.in_ok-feed.ensures in
-    let finished = sym c.finished.ensures ∙ c.if-finished.true in
-    let served = c.served_by-then-finished.ensures in
-    rw (served.left, served.done, served.tests, served.held)
-    (Serving-done _ _ _ _ _ _ _ _ _ c.loop-turn.invariant.serving c.split_at.result.0.now _ c.feed.new.self given short c.in-Ok.ensures.quiet
-    (fed.outcome running) (fed.leaves running) (fed.fed.tested running refl) (fed.fed.held running refl) finished)
+    let is = c.in_ok-feed.ensures.fed running in
+    let done = ap (λ engine. engine.finished) (sym is) ∙ sym c.finished.ensures ∙ c.if-finished.true in
+    Serving-done _ _ _ _ _ _ _ _ _ c.loop-turn.invariant.serving c.split_at.result.0.now given (rw c.split_at.ensures.front_len c.in-Ok.ensures.reads) short _ c.in-Ok.ensures.quiet (c.in_ok-feed.ensures.outcome running)
+    _ (rw is at c.served_by-then-finished.ensures) done
 
 pub returns-clause-err : goal.returns-clause-err
 returns-clause-err g c = Serving-too_often _ _ _ _ _ _ _ _ c.loop-turn.invariant.serving (omega (arith, c.loop-turn-test.false))
@@ -46,14 +45,12 @@ returns-clause-err g c = Serving-too_often _ _ _ _ _ _ _ _ c.loop-turn.invariant
 pub returns-in-Err-clause-err : goal.returns-in-Err-clause-err
 returns-in-Err-clause-err g c =
     Serving-read_failed _ _ _ _ _ _ _ _ _ c.loop-turn.invariant.serving
-    c.in-Err.ensures.bytes c.in-Err.ensures.counted
+    c.in-Err.ensures.bytes c.in-Err.ensures.reads c.in-Err.ensures.counted
 
 pub returns-then-n-eq0-clause-ok : goal.returns-then-n-eq0-clause-ok
 returns-then-n-eq0-clause-ok g c =
     let room : 0 < length c.read.new.buf =
     omega (arith, c.loop-turn.invariant.room, c.read.auto.buf) in
     let given = c.in-Ok.ensures.bytes in
-    let served = c.served_by.ensures in
-    rw (served.left, served.done, served.tests, served.held)
-    (Serving-all _ _ _ _ _ _ _ _ _ c.loop-turn.invariant.serving c.read.new.buf _ c.if-n-eq0.true
-    given.0 (given.1 c.if-n-eq0.true room) c.in-Ok.ensures.quiet)
+    Serving-all _ _ _ _ _ _ _ _ _ c.loop-turn.invariant.serving c.read.new.buf _ _ c.served_by.ensures c.if-n-eq0.true c.in-Ok.ensures.reads
+    given.0 (given.1 c.if-n-eq0.true room) c.in-Ok.ensures.quiet

@@ -1,11 +1,11 @@
 -- `with` makes the empty struct, with the number that its clause names. Assumes `Logic`.
-use Rattle.std.proofs.Common.{◌++◌, [], ◌∷◌, refl, w8}
+use Rattle.std.proofs.Common.{◌++◌, [], ◌∷◌, refl, w64}
 use Rattle.std.proofs.raw_atomic.Walks.{proved}
 use types.Kit.{‵, raw, ◌⊛◌, ◌$◌, ◌∵◌, !, qed, move, drop, split, fjoin, suffices, done}
 use types.Part.{agg}
 use types.Run.{enter, returns, unit_lit, and_then, no_more}
 use types.ByLocal.{alloc_all, pass_all, free_all, look_at, sets}
-use denote.Builtin.{RefOf, u8}
+use denote.Builtin.{RefOf, usize}
 use denote.Exit.{yes}
 use denote.Plain.{uint_vals, uint_Tells}
 use denote.Ref.{shr_vals, shr_Tells}
@@ -28,11 +28,11 @@ pub with_spec : {M : Type 1} → statement M
 with_spec 𝓤 𝓛 𝓜 𝓡 wired =
     let c = f.clauses 𝓛 𝓜.mem 𝓡.returns in let W = walk_of 𝓛 f.ended stayed c in
     proved 𝓛 f.ended stayed c 𝓜 𝓡
-    (Goes-dropped 𝓛 1 (RefOf (0 ∷ []) tt (plain (λ _. R)) (λ _. tt)) yes (λ κs x w. refl), (Goes-dropped 𝓛 1 (plain (λ _. u8)) yes (λ κs x w. refl), tt))
+    (Goes-dropped 𝓛 1 (RefOf (0 ∷ []) tt (plain (λ _. R)) (λ _. tt)) yes (λ κs x w. refl), (Goes-dropped 𝓛 1 (plain (λ _. usize)) yes (λ κs x w. refl), tt))
     f.Key.name code.function (code.unfolded 𝓤 𝓛.H 𝓜 𝓡 wired)
-    (λ κs. (shr_vals, (uint_vals w8, tt))) (λ κs. (shr_Tells (named 0) κs.0 R, (uint_Tells w8, tt))) (λ κs qs bounds a _ are.
+    (λ κs. (shr_vals, (uint_vals w64, tt))) (λ κs. (shr_Tells (named 0) κs.0 R, (uint_Tells w64, tt))) (λ κs qs bounds a _ are.
     let n = a.0.now ++ a.1.0 ∷ [] in
-    let y : W.Ghost = ((κs, qs, bounds, a, (shr_vals a.0, (uint_vals w8 a.1.0, tt))), tt) in
+    let y : W.Ghost = ((κs, qs, bounds, a, (shr_vals a.0, (uint_vals w64 a.1.0, tt))), tt) in
     qed 𝓛 ((raw (alive 𝓛 f.signature κs qs) ⊛ ‵ (owns (types_at f.signature.params κs) a y.0.4)) ∷ raw ((c κs a).requires tt) ∷ []) ∵ move ! (1 ∷ []) $ drop ! $ split ! $ move ! (1 ∷ []) $ drop ! $
     enter ! _ _ _ _ _ $ alloc_all ! (λ l. pass_all ! refl ((tt, tt), ((tt, record { fits = are.1.0.1 }), tt)) $
     sets ! (agg ! (and_then ! (unit_lit !) (no_more !))) refl (tt, (tt, tt)) $
