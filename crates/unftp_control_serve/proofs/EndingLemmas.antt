@@ -10,7 +10,7 @@ use Rattle.unftp_control_defs.proofs.RunLemmas.{last_state-append, text_of-appen
 use Rattle.unftp_control_error.specs.ErrorParts.{KindAndSource}
 use Rattle.unftp_control_error.specs.ErrorMeaning.{fault_of}
 use Rattle.unftp_control_serve.specs.Writing.{Sends, Sent, CutShort}
-use Rattle.unftp_control_serve.specs.Endings.{Snapshot, Cause, Finished, Write, Handler, LineMemory, ReplyMemory, IsCauseOf, EndsAt, AllAnswered, RunEnded, RunFailed, RunOutcome, part_of, text_until}
+use Rattle.unftp_control_serve.specs.Endings.{Snapshot, Cause, Finished, Write, Handler, LineMemory, ReplyMemory, IsCauseOf, EndsAt, AllAnswered, RunEnded, RunFailed, RunOutcome, part_written, text_until}
 use Rattle.unftp_control_serve.specs.declared.error.ServeError.{ServeError}
 use Rattle.unftp_control_serve.specs.declared.error.ServeError.TheVariants as error
 use Rattle.unftp_control_serve.proofs.SendLemmas.{Appends-nothing, Appends-then, Flushed-then}
@@ -47,7 +47,7 @@ module _ {S : Type 0} (law : Law S) where
       written = rw (text_until-then fs cause)
           (Appends-then m.output.written n.output.written k.output.written (text_of law m.state es) (text_until (text_of law n.state fs) cause) all.written v.written);
       flushed = rw (text-then fs)
-          (Flushed-then (text_of law m.state es) (text_of law n.state fs) (part_of cause) m.output.unflushed n.output.unflushed k.output.unflushed all.flushed v.flushed);
+          (Flushed-then (text_of law m.state es) (text_of law n.state fs) (part_written cause) m.output.unflushed n.output.unflushed k.output.unflushed all.flushed v.flushed);
       write_failed = omega (arith, v.write_failed, all.write_failed);
       handler_failed = omega (arith, v.handler_failed, all.handler_failed);
     }

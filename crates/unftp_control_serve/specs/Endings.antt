@@ -69,9 +69,9 @@ EndsAt law ReplyMemory s (event ∷ _) s' =
 EndsAt _ _ _ _ _ = ⊥
 
 -- the part of the next reply that was written, and it after the text of the whole ones
-abbrev pub part_of : Cause → Bytes
-part_of (Write part) = part
-part_of _ = []
+abbrev pub part_written : Cause → Bytes
+part_written (Write part) = part
+part_written _ = []
 
 abbrev pub text_until : Bytes → Cause → Bytes
 text_until text (Write part) = text ++ part
@@ -93,7 +93,7 @@ pub record RunEnded {S : Type 0} (law : Law S) (before : Snapshot S) (done later
   pub ends_at : EndsAt law cause (last_state law before.state done) later after.state
   pub written : Appends before.output.written after.output.written
       (text_until (text_of law before.state done) cause)
-  pub flushed : Flushed (text_of law before.state done) (part_of cause)
+  pub flushed : Flushed (text_of law before.state done) (part_written cause)
       before.output.unflushed after.output.unflushed
   pub write_failed : after.output.failures ≡ before.output.failures + write_failures cause
   pub handler_failed : after.failures ≡ before.failures + handler_failures cause
