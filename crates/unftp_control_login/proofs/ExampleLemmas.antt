@@ -1,21 +1,25 @@
 -- What the examples need beside computation.
-use Rattle.std.proofs.Common.{◌≡◌, ◌<◌, ℕ, true, false, List, [], ◌∷◌, ◌++◌, length, None, refl, sym, ap, ◌∙◌, arith, codes}
+use Rattle.std.proofs.Common.{◌≡◌, ◌<◌, ◌≤◌, ℕ, true, false, IsTrue, List, [], ◌∷◌, ◌++◌, length, flat_map, None, refl, sym, ap, subst, ◌∙◌, arith, codes, length-append}
 use Rattle.std.specs.Prelude.{bytes_eq}
 use Rattle.std.specs.Fmt.{digits}
 use Rattle.std.specs.List.{AllByRecursion}
 use Rattle.std.proofs.lemmas.Bool.{false≢true}
-use Rattle.unftp_control_defs.specs.Bytes.{Bytes, LF}
-use Rattle.unftp_control_defs.specs.FtpCommand.{Pwd}
+use Rattle.unftp_control_defs.specs.Bytes.{Bytes, LF, crlf}
+use Rattle.unftp_control_defs.specs.FtpCommand.{Noop, Pwd}
 use Rattle.unftp_control_defs.specs.FtpReply.{CodeAndMsg, IsPlain}
 use Rattle.unftp_control_defs.specs.Events.{FtpEvent, Command, events}
+use Rattle.unftp_control_defs.specs.ReplyReader.{AllReplies, IsReply, ReadsBack, code_only, single, several, with_crlf}
+use Rattle.unftp_control_defs.specs.Run.{last_state, run_of}
 use Rattle.unftp_control_defs.proofs.EncodingLemmas.{ReadsBack-encoded}
 use Rattle.unftp_control_defs.proofs.LackLemmas.{Lacks-test}
 use Rattle.unftp_control_login.specs.declared.stage.Stage.{Stage}
 use Rattle.unftp_control_login.specs.declared.stage.Stage.TheVariants.{NoName, Named}
-use Rattle.unftp_control_login.specs.Login.{Accounts, GaveName, IsLoggedIn}
+use Rattle.unftp_control_serve.specs.Endings.{Snapshot, Cause, LineMemory, ReplyMemory, IsCauseOf, EndsAt, RunFailed}
+use Rattle.unftp_control_serve.specs.declared.error.ServeError.TheVariants as error
+use Rattle.unftp_control_login.specs.Login.{Accounts, GaveName, IsLoggedIn, needs_login}
 use Rattle.unftp_control_login.specs.Gate.{is_logged_in}
-use Rattle.unftp_control_login.specs.Promises.{MembersAlone, SendsPlainReplies, ServesMembersAlone}
-use Rattle.unftp_control_login.specs.Examples.{anna, counting, here, only_anna, secret, silent, user, wrong}
+use Rattle.unftp_control_login.specs.Promises.{AllLookAlike, FailsAlike, LooksAlike, MembersAlone, SendsPlainReplies, ServesMembersAlone}
+use Rattle.unftp_control_login.specs.Examples.{anna, anna_and_ben, ben, counting, here, only_anna, pass, secret, silent, user, wrong}
 use Rattle.unftp_control_defs.proofs.LineEventLemmas.{events-canonical_line}
 use Rattle.unftp_control_login.proofs.StageLemmas.{stage_after_all, GaveName-stage, IsLoggedIn-stage}
 
@@ -34,10 +38,76 @@ name-changed h =
     let first : false ≡ true = ap (λ name. bytes_eq name anna) same in
     absurd (false≢true first)
 
-pub apart : ¬ ((name : Bytes) → only_anna name wrong ≡ only_anna name secret)
+-- the name that these two give
+given-name : (accepts : Accounts) (one name : Bytes) → GaveName name (user one ∷ []) → one ≡ name
+given-name accepts one name given = ap name_of (GaveName-stage accepts name (user one ∷ []) given)
+
+gave : (one : Bytes) → GaveName one (user one ∷ [])
+gave one = record { before = []; since = []; whole = refl; kept = tt }
+
+pub alike : LooksAlike only_anna (user anna ∷ []) (pass wrong) (pass (codes "other"))
+alike name given = subst (λ name. only_anna name wrong ≡ only_anna name (codes "other")) (given-name only_anna anna name given) refl
+
+pub another_user : LooksAlike anna_and_ben (user anna ∷ []) (pass wrong) (pass (codes "other"))
+another_user name given =
+    subst (λ name. anna_and_ben name wrong ≡ anna_and_ben name (codes "other")) (given-name anna_and_ben anna name given) refl
+
+pub his_own : ¬ LooksAlike anna_and_ben (user ben ∷ []) (pass wrong) (pass (codes "other"))
+his_own same =
+    let one : true ≡ false = same ben (gave ben) in
+    absurd (false≢true (sym one))
+
+pub apart : ¬ LooksAlike only_anna (user anna ∷ []) (pass wrong) (pass secret)
 apart same =
-    let one : false ≡ true = same anna in
+    let one : false ≡ true = same anna (gave anna) in
     absurd (false≢true one)
+
+pub no_name : LooksAlike only_anna [] (pass wrong) (pass secret)
+no_name name given =
+    let none : NoName ≡ Named name = GaveName-stage only_anna name [] given in
+    absurd (cc)
+
+pub one_by_one : AllLookAlike anna_and_ben [] (user anna ∷ pass wrong ∷ Command Noop ∷ []) (user anna ∷ pass (codes "other") ∷ Command Noop ∷ [])
+one_by_one = (refl, (another_user, (refl, tt)))
+
+pub fails : FailsAlike None counting 0 (codes "NOOP\r\n") (codes "NOOP\r\n")
+fails before after error done same failed = (done, failed)
+
+-- memory runs out for the reply to NOOP, and for none where there is no line
+noop : events None (codes "NOOP\r\n") ≡ Command Noop ∷ []
+noop = events-canonical_line None Noop [] tt tt refl
+
+abbrev at_state : ℕ → Snapshot ℕ
+at_state n = record { state = n; failures = 0; output = record { written = None; failures = 0; unflushed = 0 } }
+
+no_memory : RunFailed counting (at_state 0) (Command Noop ∷ []) (at_state 1) error.OutOfMemory []
+no_memory = record {
+  later = Command Noop ∷ [];
+  split = refl;
+  cause = ReplyMemory;
+  means = tt;
+  ended = record {
+    ends_at = (refl, λ none. absurd (cc));
+    written = tt;
+    flushed = omega arith;
+    write_failed = refl;
+    handler_failed = refl;
+  };
+}
+
+none_fails : (cause : Cause) (done later : List FtpEvent) (s : ℕ) → [] ≡ done ++ later → IsCauseOf cause error.OutOfMemory
+    → ¬ EndsAt counting cause (last_state counting 0 done) later s
+none_fails cause [] (event ∷ later) s e means ends = absurd (cc)
+none_fails cause (event ∷ done) later s e means ends = absurd (cc)
+none_fails LineMemory [] [] s e means ends = ends
+none_fails ReplyMemory [] [] s e means ends = ends
+none_fails cause [] [] s e means ends = means
+
+pub never_fails : ¬ FailsAlike None counting 0 (codes "NOOP\r\n") []
+never_fails same =
+    let other = same (at_state 0) (at_state 1) error.OutOfMemory [] refl
+    (subst (λ events. RunFailed counting (at_state 0) (run_of counting 0 events) (at_state 1) error.OutOfMemory []) (sym noop) no_memory) in
+    none_fails other.1.cause other.0 other.1.later 1 other.1.split other.1.means other.1.ended.ends_at
 
 -- without a login, the event is answered with no failure
 pub anyone-served : ¬ ServesMembersAlone only_anna counting 0
@@ -53,10 +123,10 @@ pub anyone-served-in-bytes : ¬ MembersAlone None only_anna (codes "PWD\r\n") (c
 unfolding digits
 anyone-served-in-bytes h =
     let plain : AllByRecursion IsPlain (here ∷ []) = (((omega arith, omega arith), Lacks-test LF (codes "here") refl), tt) in
-    let read = (ReadsBack-encoded (here ∷ []) plain).0 in
+    let read = h.no_other ((257, codes "here" ∷ []) ∷ []) (ReadsBack-encoded (here ∷ []) plain).0 in
     let low : 257 < 400 = omega arith in
     not-logged-in only_anna [] refl
-    (h ((257, codes "here" ∷ []) ∷ []) read [] [] (Command Pwd) pwd [] [] 257 (codes "here" ∷ []) refl refl refl low)
+    (h.alone [] [] (Command Pwd) pwd [] [] 257 (codes "here" ∷ []) (sym read) refl refl low)
 
 pub not-plain : ¬ SendsPlainReplies silent
 not-plain h = h 0 (Command Pwd)
@@ -70,13 +140,54 @@ stranger-first [] after event e = refl
 stranger-first (first ∷ []) after event e = absurd (cc)
 stranger-first (first ∷ second ∷ before) after event e = absurd (cc)
 
-pub stranger : MembersAlone None only_anna (codes "PWD\r\n") (codes "530 no\r\n")
+refused_reply : ReadsBack (codes "530 no\r\n") (CodeAndMsg 530 (codes "no") ∷ [])
 unfolding digits
-stranger read all before after event cut [] later code lines is place needs low =
-    let plain : AllByRecursion IsPlain (CodeAndMsg 530 (codes "no") ∷ []) = (((omega arith, omega arith), Lacks-test LF (codes "no") refl), tt) in
-    let seen = (ReadsBack-encoded (CodeAndMsg 530 (codes "no") ∷ []) plain).1 read all in
-    let same = ap (λ (p : ℕ × List Bytes). p.0) (ap (λ l. first_read l (code, lines)) (sym is ∙ seen)) in
+refused_reply = ReadsBack-encoded (CodeAndMsg 530 (codes "no") ∷ []) (((omega arith, omega arith), Lacks-test LF (codes "no") refl), tt)
+
+stranger-alone : (before after : List FtpEvent) (event : FtpEvent) → events None (codes "PWD\r\n") ≡ before ++ event ∷ after
+    → (earlier later : List (ℕ × List Bytes)) (code : ℕ) (lines : List Bytes)
+    → (530, codes "no" ∷ []) ∷ [] ≡ earlier ++ (code, lines) ∷ later → length earlier ≡ length before
+    → IsTrue (needs_login event) → code < 400 → IsLoggedIn only_anna before
+stranger-alone before after event cut [] later code lines is place needs low =
+    let same = ap (λ (p : ℕ × List Bytes). p.0) (ap (λ l. first_read l (code, lines)) is) in
     absurd (omega (arith, same, low))
-stranger read all before after event cut (first ∷ earlier) later code lines is place needs low =
+stranger-alone before after event cut (first ∷ earlier) later code lines is place needs low =
     let none = ap length (stranger-first before after event (sym pwd ∙ cut)) in
     absurd (omega (arith, place, none))
+
+pub stranger : MembersAlone None only_anna (codes "PWD\r\n") (codes "530 no\r\n")
+stranger = record {
+  read = (530, codes "no" ∷ []) ∷ [];
+  replies = refused_reply.0;
+  no_other = refused_reply.1;
+  no_more = subst (λ events. 1 ≤ length events) (sym pwd) (omega arith);
+  alone = stranger-alone;
+}
+
+-- more replies than events
+pub no-event : ¬ MembersAlone None only_anna [] (codes "530 no\r\n")
+no-event h =
+    let one = ap length (h.no_other ((530, codes "no" ∷ []) ∷ []) refused_reply.0) in
+    let none = h.no_more in
+    omega (arith, one, none)
+
+-- bytes that are no replies
+whole_lines : (whole : List Bytes) (rest digits : Bytes) (lines : List Bytes) → codes "x" ≡ flat_map with_crlf whole ++ rest → ¬ IsReply digits whole lines
+whole_lines [] rest digits lines cut (code_only one shown) = absurd (cc)
+whole_lines [] rest digits lines cut (single text one shown) = absurd (cc)
+whole_lines [] rest digits lines cut (several text last middle goes_on many shown) = absurd (cc)
+whole_lines (line ∷ whole) rest digits lines cut reply =
+    let long = ap length cut in
+    omega (
+      arith,
+      long,
+      length-append (with_crlf line ++ flat_map with_crlf whole) rest,
+      length-append (with_crlf line) (flat_map with_crlf whole),
+      length-append line crlf,
+    )
+
+pub garbage : ¬ MembersAlone None only_anna (codes "PWD\r\n") (codes "x")
+garbage h = by_read h.read h.replies where
+  by_read : (read : List (ℕ × List Bytes)) → ¬ AllReplies (codes "x") read
+  by_read [] all = absurd (cc)
+  by_read (reply ∷ read) (used, front, all) = whole_lines front.whole front.rest front.digits reply.1 front.cut front.reply

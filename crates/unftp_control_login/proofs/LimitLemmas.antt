@@ -1,7 +1,7 @@
 -- How many logins fail in a run that has a limit.
-use Rattle.std.proofs.Common.{◌≡◌, ◌≤◌, ℕ, zero, suc, ◌+◌, ◌-◌, ◌==◌, Bool, true, false, not, ◌&&◌, ◌||◌, cond, List, [], ◌∷◌, refl, sym, ap, ◌∙◌, arith}
+use Rattle.std.proofs.Common.{◌≡◌, ◌<◌, ◌≤◌, ◌⊎◌, inl, inr, ℕ, zero, suc, ◌+◌, ◌-◌, ◌==◌, Bool, true, false, not, ◌&&◌, ◌||◌, cond, List, [], ◌∷◌, refl, sym, ap, ◌∙◌, arith}
 use Rattle.std.specs.Prelude.{nat_le}
-use Rattle.std.proofs.lemmas.Bool.{false≢true}
+use Rattle.std.proofs.lemmas.Bool.{false≢true, lt-leb, ne_eqb}
 use Rattle.unftp_control_defs.specs.Events.{FtpEvent, Command}
 use Rattle.unftp_control_defs.specs.FtpCommand.{Quit}
 use Rattle.unftp_control_defs.specs.FtpReply.{FtpReply, is_positive}
@@ -79,3 +79,27 @@ module _ {S : Type 0} (law : Law S) where
 
   pub quit-ends : (s : Gated S) → (gated_law law).done ((gated_law law).next s (Command Quit)) ≡ true
   quit-ends s = by_quit s.quit _
+
+-- a limit that changes nothing
+reply-same : (failed : Bool) (left : ℕ) (reply : FtpReply) → (1 < left) ⊎ (failed ≡ false) → cond (failed && nat_le left 1) too_many reply ≡ reply
+reply-same false left reply few = refl
+reply-same true left reply (inl some) = ap (λ last. cond last too_many reply) (lt-leb left 1 some)
+reply-same true left reply (inr none) = absurd (false≢true (sym none))
+
+none-left : (left : ℕ) (done : Bool) → 1 ≤ left → ((left == 0) || done) ≡ done
+none-left left done some = ap (λ none. none || done) (ne_eqb left 0 (λ none. omega (arith, some, none)))
+
+some-left : (failed : Bool) (left : ℕ) → 1 ≤ left → (1 < left) ⊎ (failed ≡ false) → 1 ≤ cond failed (left - 1) left
+some-left false left some few = some
+some-left true left some (inl more) = omega (arith, more)
+some-left true left some (inr none) = absurd (false≢true (sym none))
+
+module _ {S : Type 0} (law : Law S) (s : Limited S) (event : FtpEvent) where
+  pub says-unchanged : (1 < s.left) ⊎ (is_failed_login event (law.says s.inner event) ≡ false)
+      → (limited_law law).says s event ≡ law.says s.inner event
+  says-unchanged few = reply-same (is_failed_login event (law.says s.inner event)) s.left (law.says s.inner event) few
+
+  pub done-unchanged : 1 ≤ s.left → (1 < s.left) ⊎ (is_failed_login event (law.says s.inner event) ≡ false)
+      → (limited_law law).done ((limited_law law).next s event) ≡ law.done (law.next s.inner event)
+  done-unchanged some few =
+      none-left _ (law.done (law.next s.inner event)) (some-left (is_failed_login event (law.says s.inner event)) s.left some few)

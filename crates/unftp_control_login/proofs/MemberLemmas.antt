@@ -1,5 +1,5 @@
 -- Who is served: only who has logged in.
-use Rattle.std.proofs.Common.{◌≡◌, ◌<◌, ◌≤◌, ℕ, Bool, true, false, not, ◌&&◌, cond, IsTrue, List, [], ◌∷◌, Option, Some, None, unwrap_or, ◌⊎◌, inl, inr, refl, sym, ap, ◌∙◌, subst, arith, codes}
+use Rattle.std.proofs.Common.{◌≡◌, ◌<◌, ◌≤◌, ℕ, Bool, true, false, not, ◌&&◌, cond, IsTrue, List, [], ◌∷◌, length, filter_map, Option, Some, None, unwrap_or, ◌⊎◌, inl, inr, refl, sym, ap, ◌∙◌, subst, arith, codes}
 use Rattle.std.specs.Prelude.{nat_le, Result, Ok, Err, OnOk, IfSome}
 use Rattle.std.proofs.lemmas.Option.{same_Some}
 use Rattle.unftp_control_defs.specs.Bytes.{Bytes, LF}
@@ -16,7 +16,8 @@ use Rattle.unftp_control_login.specs.Gate.{Gated, closed, gated_law, inner_after
 use Rattle.unftp_control_login.specs.LoginLimit.{Limited, is_failed_login, limited_law, limited_to, too_many}
 use Rattle.unftp_control_login.specs.Promises.{IsSentPlain, IsTurnedAway, MembersAlone, NoFailure, ReachesHandler, SendsPlainReplies, ServesMembersAlone}
 use Rattle.unftp_control_login.proofs.StageLemmas.{by_test, stage_after_all, accepts-stays, stage-follows, logged_in-stage, GaveName-stage, IsLoggedIn-stage, own-barred, own-open, needs-other}
-use Rattle.unftp_control_defs.proofs.ReplyPlaceLemmas.{read-at, replies-all, reply-at}
+use Rattle.unftp_control_defs.proofs.ReplyPlaceLemmas.{length-replies, read-at, replies-all, reply-at}
+use Rattle.unftp_control_defs.proofs.RunLemmas.{run_of-length}
 
 module _ {S : Type 0} (law : Law S) (accepts : Accounts) (inner : S) where
   abbrev state_after : List FtpEvent → Gated S
@@ -148,17 +149,38 @@ NoFailure-read (CodeAndMsg said text) code lines e low =
 NoFailure-read (MultiLine said texts) code lines e low =
     subst (λ (read : ℕ × List Bytes). read.0 < 400) (sym (same_Some (said, lines_as_read texts) (code, lines) e)) low
 
+-- A client reads at most one reply for each event.
+one-shown : (reply : FtpReply) (replies : List FtpReply) → length (filter_map reply_as_read replies) ≤ length replies
+    → (read : Option (ℕ × List Bytes)) → reply_as_read reply ≡ read
+    → length (filter_map reply_as_read (reply ∷ replies)) ≤ length (reply ∷ replies)
+one-shown reply replies few None e = rw (e) (omega (arith, few))
+one-shown reply replies few (Some read) e = rw (e) (omega (arith, few))
+
+shown-length : (replies : List FtpReply) → length (filter_map reply_as_read replies) ≤ length replies
+shown-length [] = omega arith
+shown-length (reply ∷ replies) = one-shown reply replies (shown-length replies) (reply_as_read reply) refl
+
 -- A handler that serves members alone, and sends plain replies, does so in bytes.
 pub members-alone : {S : Type 0} (law : Law S) (s : S) (accepts : Accounts) (limit : Option ℕ) (input : Bytes)
     → ServesMembersAlone accepts law s → SendsPlainReplies law → MembersAlone limit accepts input (text_for limit law s input)
-members-alone law s accepts limit input serves sends read all before after event cut earlier later code lines is placed needs low =
+members-alone law s accepts limit input serves sends =
     let run = run_for limit law s input in
     let plain_replies = replies-all law IsPlain (λ s event. IsPlain-sent (law.says s event) (sends s event)) s run in
     let sent = replies-all law IsSentPlain sends s run in
-    let seen = (ReadsBack-encoded (replies law s run) plain_replies).1 read all in
-    let at = read-at IsSentPlain shown (replies law s run) sent earlier later (code, lines) (sym seen ∙ is) in
-    let same = reply-at law s (events limit input) before after event at.earlier at.later at.reply cut at.whole (at.placed ∙ placed) in
-    serves before event needs (subst NoFailure same (NoFailure-read at.reply code lines at.shows low))
+    let reads = ReadsBack-encoded (replies law s run) plain_replies in
+    let few = shown-length (replies law s run) in
+    let same = length-replies law s run in
+    let shorter = run_of-length law s (events limit input) in
+    record {
+      read = filter_map reply_as_read (replies law s run);
+      replies = reads.0;
+      no_other = reads.1;
+      no_more = omega (arith, few, same, shorter);
+      alone = λ before after event cut earlier later code lines is placed needs low.
+          let at = read-at IsSentPlain shown (replies law s run) sent earlier later (code, lines) is in
+          let same = reply-at law s (events limit input) before after event at.earlier at.later at.reply cut at.whole (at.placed ∙ placed) in
+          serves before event needs (subst NoFailure same (NoFailure-read at.reply code lines at.shows low));
+    }
 
 pub gate-members-alone : {S : Type 0} (law : Law S) → SendsPlainReplies law
     → (limit : Option ℕ) (accepts : Accounts) (inner : S) (input : Bytes)

@@ -33,7 +33,7 @@ stage-follows law s [] = refl
 stage-follows law s (event ∷ events) = stage-follows law ((gated_law law).next s event) events
 
 -- The events that a stage comes from.
-abbrev Reason : Accounts → Stage → List FtpEvent → Type 0
+abbrev pub Reason : Accounts → Stage → List FtpEvent → Type 0
 Reason accepts NoName past = Unit {0}
 Reason accepts (Named name) past = GaveName name past
 Reason accepts LoggedIn past = IsLoggedIn accepts past
@@ -76,7 +76,7 @@ pub by_test : {X : Type 0} (P : X → Type 0) (test : Bool) (x y : X) → (test 
 by_test P true x y at_true at_false = at_true refl
 by_test P false x y at_true at_false = at_false refl
 
-stage_after-reason : (accepts : Accounts) (stage : Stage) (past : List FtpEvent) (event : FtpEvent) → Reason accepts stage past
+pub stage_after-reason : (accepts : Accounts) (stage : Stage) (past : List FtpEvent) (event : FtpEvent) → Reason accepts stage past
     → Reason accepts (stage_after accepts stage event) (past ++ event ∷ [])
 stage_after-reason accepts stage past (Refused fault) h = stays accepts stage past (Refused fault) refl refl h
 stage_after-reason accepts stage past (Command (User name)) h = record { before = past; since = []; whole = refl; kept = tt }

@@ -1,5 +1,5 @@
 -- What the examples speak of.
-use Rattle.std.specs.Prelude.{◌≡◌, ℕ, ◌+◌, ◌==◌, ◌&&◌, List, [], ◌∷◌, bytes_eq, codes}
+use Rattle.std.specs.Prelude.{◌≡◌, ℕ, ◌+◌, ◌==◌, ◌&&◌, ◌||◌, List, [], ◌∷◌, bytes_eq, codes}
 use Rattle.unftp_control_defs.specs.Bytes.{Bytes}
 use Rattle.unftp_control_defs.specs.FtpCommand.{User, Pass}
 use Rattle.unftp_control_defs.specs.Events.{FtpEvent, Command, out_of_memory}
@@ -19,6 +19,13 @@ wrong = codes "wrong"
 -- one account
 abbrev pub only_anna : Accounts
 only_anna name password = bytes_eq name anna && bytes_eq password secret
+
+abbrev pub ben : Bytes
+ben = codes "ben"
+
+-- and a second one
+abbrev pub anna_and_ben : Accounts
+anna_and_ben name password = only_anna name password || (bytes_eq name ben && bytes_eq password wrong)
 
 abbrev pub user : Bytes → FtpEvent
 user name = Command (User name)

@@ -1,5 +1,5 @@
 -- A login gate before a handler: what it answers itself, and what it passes on to the handler.
-use Rattle.std.specs.Prelude.{◌≡◌, Bool, true, false, if◌then◌else◌, ◌&&◌, ◌||◌, not, Option, Some, None, IfSome, unwrap_or, option_map, ◌⊎◌, codes}
+use Rattle.std.specs.Prelude.{◌≡◌, Bool, true, false, if◌then◌else◌, ◌&&◌, ◌||◌, not, Option, Some, None, IsSome, IsSomeAnd, unwrap_or, option_map, ◌⊎◌, codes}
 use Rattle.unftp_control_defs.specs.Bytes.{Bytes}
 use Rattle.unftp_control_defs.specs.FtpCommand.{User, Pass, Quit}
 use Rattle.unftp_control_defs.specs.Events.{FtpEvent, Command, out_of_memory}
@@ -93,8 +93,11 @@ gated_law law = record {
     quit = s.quit || is_quit event;
     inner = inner_after law s.inner (passed_on s.accepts s.stage event);
   };
-  may_fail = λ s event fault. (fault ≡ out_of_memory)
-      ⊎ IfSome (passed_on s.accepts s.stage event) (λ passed. law.may_fail s.inner passed fault);
+  -- memory runs out for a reply of its own, or the handler fails
+  may_fail = λ s event fault.
+      (IsSome (own_reply s.accepts s.stage event) × (fault ≡ out_of_memory))
+      ⊎ IsSomeAnd (passed_on s.accepts s.stage event)
+      (λ passed. law.may_fail s.inner passed fault);
   done = λ s. s.quit || law.done s.inner;
 }
 

@@ -1,5 +1,6 @@
 pub mod Login
 pub mod Gate
+pub mod GateState
 pub mod LoginLimit
 pub mod Promises
 pub mod Examples

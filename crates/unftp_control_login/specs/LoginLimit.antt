@@ -1,5 +1,5 @@
 -- A limit on the failed logins of a session, before any handler.
-use Rattle.std.specs.Prelude.{◌≡◌, ℕ, ◌+◌, ◌-◌, ◌==◌, nat_le, Bool, true, false, ◌&&◌, ◌||◌, not, if◌then◌else◌, IsTrue, List, [], ◌∷◌, ◌++◌, ◌⊎◌, codes}
+use Rattle.std.specs.Prelude.{◌≡◌, ◌≤◌, ℕ, ◌+◌, ◌-◌, ◌==◌, nat_le, Bool, true, false, ◌&&◌, ◌||◌, not, if◌then◌else◌, IsTrue, List, [], ◌∷◌, ◌++◌, ◌⊎◌, codes}
 use Rattle.unftp_control_defs.specs.FtpCommand.{Pass}
 use Rattle.unftp_control_defs.specs.Events.{FtpEvent, Command, out_of_memory}
 use Rattle.unftp_control_defs.specs.FtpReply.{FtpReply, CodeAndMsg, is_positive}
@@ -52,7 +52,10 @@ limited_law law = record {
     left = left_after s.left event (law.says s.inner event);
     inner = law.next s.inner event;
   };
-  may_fail = λ s event fault. (fault ≡ out_of_memory) ⊎ law.may_fail s.inner event fault;
+  -- the handler fails, or memory runs out for the last reply
+  may_fail = λ s event fault. law.may_fail s.inner event fault
+      ⊎ (IsTrue (is_failed_login event (law.says s.inner event)) × (s.left ≤ 1)
+      × (fault ≡ out_of_memory));
   done = λ s. (s.left == 0) || law.done s.inner;
 }
 

@@ -1,13 +1,15 @@
 -- What a login gate promises of all inputs.
-use Rattle.std.specs.Prelude.{◌≡◌, ℕ, ◌<◌, ⊤, false, IsTrue, length, List, ◌∷◌, ◌++◌, Option}
+use Rattle.std.specs.Prelude.{◌≡◌, ℕ, ◌<◌, ◌≤◌, ⊤, false, IsTrue, length, List, [], ◌∷◌, ◌++◌, Option}
 use Rattle.unftp_control_defs.specs.Bytes.{Bytes, LF, Lacks}
 use Rattle.unftp_control_defs.specs.Canonical.{canonical_line}
 use Rattle.unftp_control_defs.specs.FtpCommand.{User, Pass}
 use Rattle.unftp_control_defs.specs.Events.{FtpEvent, Command, exceeds, events}
 use Rattle.unftp_control_defs.specs.FtpReply.{FtpReply, Nothing, CodeAndMsg, MultiLine, IsPlain}
 use Rattle.unftp_control_defs.specs.ReplyReader.{AllReplies}
-use Rattle.unftp_control_defs.specs.Run.{Law, last_state}
-use Rattle.unftp_control_login.specs.Login.{Accounts, IsLoggedIn, needs_login}
+use Rattle.unftp_control_defs.specs.Run.{Law, last_state, run_for}
+use Rattle.unftp_control_serve.specs.Endings.{Snapshot, RunFailed}
+use Rattle.unftp_control_serve.specs.declared.error.ServeError.{ServeError}
+use Rattle.unftp_control_login.specs.Login.{Accounts, GaveName, IsLoggedIn, needs_login}
 use Rattle.unftp_control_login.specs.Gate.{closed, gated_law, login_needed}
 
 -- The event after these is answered 530, and the handler doesn't receive it.
@@ -50,22 +52,47 @@ IsSentPlain reply = IsPlain reply
 abbrev pub SendsPlainReplies : {S : Type 0} → Law S → Type 0
 SendsPlainReplies {S = S} law = (s : S) (event : FtpEvent) → IsSentPlain (law.says s event)
 
--- Whatever a client reads in the output: a code that reports no failure, at the place of an event
--- that needs a login, comes only after a login.
-abbrev pub MembersAlone : Option ℕ → Accounts → Bytes → Bytes → Type 0
-MembersAlone limit accepts input output =
-    (read : List (ℕ × List Bytes)) → AllReplies output read
-    → (before after : List FtpEvent) (event : FtpEvent)
-    → events limit input ≡ before ++ event ∷ after
-    → (earlier later : List (ℕ × List Bytes)) (code : ℕ) (lines : List Bytes)
-    → read ≡ earlier ++ (code, lines) ∷ later → length earlier ≡ length before
-    → IsTrue (needs_login event) → code < 400 → IsLoggedIn accepts before
+-- The output is a list of replies to the first of the input's events, one for each, and a client
+-- reads no other in it. A code that reports no failure, at the place of an event that needs a login,
+-- comes only after a login.
+pub record MembersAlone (limit : Option ℕ) (accepts : Accounts) (input output : Bytes) : Type 0 where
+  pub read : List (ℕ × List Bytes)
+  pub replies : AllReplies output read
+  pub no_other : (other : List (ℕ × List Bytes)) → AllReplies output other → other ≡ read
+  pub no_more : length read ≤ length (events limit input)
+  pub alone : (before after : List FtpEvent) (event : FtpEvent)
+      → events limit input ≡ before ++ event ∷ after
+      → (earlier later : List (ℕ × List Bytes)) (code : ℕ) (lines : List Bytes)
+      → read ≡ earlier ++ (code, lines) ∷ later → length earlier ≡ length before
+      → IsTrue (needs_login event) → code < 400 → IsLoggedIn accepts before
 
--- The same event, but for passwords that the accounts don't tell apart.
-abbrev pub LooksAlike : Accounts → FtpEvent → FtpEvent → Type 0
-LooksAlike accepts (Command (Pass password)) (Command (Pass other)) =
-    (name : Bytes) → accepts name password ≡ accepts name other
-LooksAlike accepts event other = event ≡ other
+-- The accounts answer alike to both passwords, for the name that was given by these events.
+abbrev pub AnsweredAlike : Accounts → List FtpEvent → Bytes → Bytes → Type 0
+AnsweredAlike accepts before password other =
+    (name : Bytes) → GaveName name before → accepts name password ≡ accepts name other
+
+-- The same event after these, but for passwords that are answered alike.
+abbrev pub LooksAlike : Accounts → List FtpEvent → FtpEvent → FtpEvent → Type 0
+LooksAlike accepts before (Command (Pass password)) (Command (Pass other)) =
+    AnsweredAlike accepts before password other
+LooksAlike accepts before event other = event ≡ other
+
+-- Each of the events after these looks like the other one at its place.
+abbrev pub AllLookAlike : Accounts → List FtpEvent → List FtpEvent → List FtpEvent → Type 0
+AllLookAlike accepts before [] [] = ⊤
+AllLookAlike accepts before (event ∷ events) (other ∷ others) =
+    LooksAlike accepts before event other
+    × AllLookAlike accepts (before ++ event ∷ []) events others
+AllLookAlike accepts before _ _ = ⊥
+
+-- However a session over the first input fails, one over the other may fail too: with the same
+-- error, and with the same bytes written.
+abbrev pub FailsAlike : {S : Type 0} → Option ℕ → Law S → S → Bytes → Bytes → Type 0
+FailsAlike {S = S} limit law s input other =
+    (before after : Snapshot S) (error : ServeError) (done : List FtpEvent) → before.state ≡ s
+    → RunFailed law before (run_for limit law before.state input) after error done
+    → (others : List FtpEvent)
+    × RunFailed law before (run_for limit law before.state other) after error others
 
 -- the line is within the limit
 abbrev pub Fits : Option ℕ → Bytes → Type 0

@@ -1,23 +1,34 @@
 //! Sessions worked out by hand: what the definitions of a login say of them.
-ghost use Rattle.std.specs.Prelude.{◌≡◌, ◌≢◌, ◌++◌, ℕ, true, false, [], ◌∷◌, None, Some, codes};
+ghost use Rattle.std.specs.Prelude.{◌≡◌, ◌≢◌, ◌++◌, ℕ, not, true, false, [], ◌∷◌, None, Some, codes};
+ghost use Rattle.std.specs.List.{list_all};
 ghost use Rattle.unftp_control_defs.specs.Bytes.{Bytes};
-ghost use Rattle.unftp_control_defs.specs.FtpCommand.{Auth, Ccc, Help, Mlst, Noop, Pbsz, Pwd, Quit, Syst};
+ghost use Rattle.unftp_control_defs.specs.FtpCommand.{User, Pass, Acct, Syst, Stat, TypeCode, Stru, Mode, Help, Noop, Pasv, Epsv, Port, Retr, Stor, Appe, List, Nlst, Mlst, Mlsd, Feat, Pwd, Cwd, Cdup, Opts, Dele, Rmd, Quit, Mkd, Allo, Abor, Stou, Rnfr, Rnto, Auth, Ccc, Pbsz, Prot, Size, Rest, Mdtm, Md5, Site, Other};
 ghost use Rattle.unftp_control_defs.specs.Events.{Command, Refused, line_too_long};
 ghost use Rattle.unftp_control_defs.specs.FtpReply.{Nothing, CodeAndMsg, MultiLine};
 ghost use Rattle.unftp_control_defs.specs.Run.{last_state, replies};
 ghost use Rattle.unftp_control_defs.specs.declared.parameters.AuthParam.TheVariants.{Tls};
+ghost use Rattle.unftp_control_defs.specs.declared.parameters.ModeParam.TheVariants.{Stream};
+ghost use Rattle.unftp_control_defs.specs.declared.parameters.Opt.TheVariants.{Utf8};
+ghost use Rattle.unftp_control_defs.specs.declared.parameters.ProtParam.TheVariants.{Private};
+ghost use Rattle.unftp_control_defs.specs.declared.parameters.StruParam.TheVariants.{File};
 ghost use Rattle.unftp_control_login.specs.Login.{GaveName, HasLoggedIn, IsLoggedIn, flushes_login, is_login, needs_login};
 ghost use Rattle.unftp_control_login.specs.Gate.{closed, gated_law, logged_in, login_needed, name_needed, not_accepted, password_needed};
 ghost use Rattle.unftp_control_login.specs.LoginLimit.{EndsWith, failed_in_run, limited_law, limited_to, too_many};
-ghost use Rattle.unftp_control_login.specs.Promises.{CanBeSent, IsRefusedLogin, IsSentPlain, IsTurnedAway, LearnsName, LooksAlike, MembersAlone, NoFailure, ReachesHandler, SendsPlainReplies, ServesMembersAlone, login_lines};
-ghost use Rattle.unftp_control_login.specs.Examples.{anna, counting, here, login, only_anna, pass, secret, silent, user, wrong};
+ghost use Rattle.unftp_control_login.specs.Promises.{AllLookAlike, CanBeSent, FailsAlike, IsRefusedLogin, IsSentPlain, IsTurnedAway, LearnsName, LooksAlike, MembersAlone, NoFailure, ReachesHandler, SendsPlainReplies, ServesMembersAlone, login_lines};
+ghost use Rattle.unftp_control_login.specs.Examples.{anna, anna_and_ben, ben, counting, here, login, only_anna, pass, secret, silent, user, wrong};
 
 /// Which events need a login, and which undo one.
 pub fn logins_are_needed()
-    ensures needed { (needs_login (Command Pwd) ≡ true) × (needs_login (Command (Mlst None)) ≡ true)
-        × (needs_login (Command Ccc) ≡ true) }
-    ensures anyone { (needs_login (Command Noop) ≡ false) × (needs_login (Command Pbsz) ≡ false)
-        × (needs_login (Command Quit) ≡ false) × (needs_login (Refused line_too_long) ≡ false) }
+    ensures needed { list_all (λ command. needs_login (Command command))
+        (Acct [] ∷ Stat None ∷ TypeCode ∷ Stru File ∷ Mode Stream ∷ Pasv ∷ Epsv ∷ Port [] ∷ Retr []
+        ∷ Stor [] ∷ Appe [] ∷ List None None ∷ Nlst None ∷ Mlst None ∷ Mlsd None ∷ Pwd ∷ Cwd []
+        ∷ Cdup ∷ Opts (Utf8 true) ∷ Dele [] ∷ Rmd [] ∷ Mkd [] ∷ Allo ∷ Abor ∷ Stou ∷ Rnfr []
+        ∷ Rnto [] ∷ Ccc ∷ Size [] ∷ Rest 0 ∷ Mdtm [] ∷ Md5 [] ∷ Site [] [] ∷ Other [] [] ∷ [])
+        ≡ true }
+    ensures anyone { list_all (λ command. not (needs_login (Command command)))
+        (User [] ∷ Pass [] ∷ Quit ∷ Auth Tls ∷ Pbsz ∷ Prot Private ∷ Feat ∷ Help ∷ Noop ∷ Syst ∷ [])
+        ≡ true }
+    ensures refused { needs_login (Refused line_too_long) ≡ false }
     ensures halves { (is_login (user anna) ≡ true) × (is_login (pass secret) ≡ true)
         × (is_login (Command Noop) ≡ false) }
     ensures flushed { (flushes_login (user anna) ≡ true)
@@ -75,18 +86,16 @@ pub fn members_are_served()
     ensures anyone_served { ServesMembersAlone only_anna counting 0 → ⊥ }
     ensures anyone_served_in_bytes { MembersAlone None only_anna (codes "PWD\r\n") (codes "257 here\r\n") → ⊥ }
     ensures stranger { MembersAlone None only_anna (codes "PWD\r\n") (codes "530 no\r\n") }
+    ensures garbage { MembersAlone None only_anna (codes "PWD\r\n") (codes "x") → ⊥ }
+    ensures no_event { MembersAlone None only_anna [] (codes "530 no\r\n") → ⊥ }
     ensures plain { IsSentPlain (CodeAndMsg 100 (codes "x")) × SendsPlainReplies counting }
     ensures nothing_sent { SendsPlainReplies silent → ⊥ }
     ensures short_code { IsSentPlain (CodeAndMsg 99 []) → ⊥ }
     ensures line_feed { IsSentPlain (MultiLine 200 (codes "a\n" ∷ [])) → ⊥ }
 {}
 
-/// Which passwords look alike, and which lines can be sent.
+/// Which lines can be sent, and which logins are refused.
 pub fn refused_logins()
-    ensures alike { LooksAlike only_anna (pass wrong) (pass (codes "other")) }
-    ensures told_apart { LooksAlike only_anna (pass wrong) (pass secret) → ⊥ }
-    ensures other_events { LooksAlike only_anna (Command Noop) (Command Quit) → ⊥ }
-    ensures same_events { LooksAlike only_anna (Command Noop) (Command Noop) }
     ensures sent { CanBeSent (Some 13) secret }
     ensures too_long { CanBeSent (Some 12) secret → ⊥ }
     ensures line_feed { CanBeSent None (codes "a\nb") → ⊥ }
@@ -94,6 +103,25 @@ pub fn refused_logins()
         × IsRefusedLogin None only_anna wrong secret }
     ensures accepted { IsRefusedLogin None only_anna anna secret → ⊥ }
     ensures lines { login_lines anna secret ≡ codes "USER anna\r\nPASS secret\r\n" }
+{}
+
+/// Which passwords look alike: after a name, those that are both refused for it, though one is that
+/// of another user.
+pub fn passwords_look_alike()
+    ensures alike { LooksAlike only_anna (user anna ∷ []) (pass wrong) (pass (codes "other")) }
+    ensures another_user { LooksAlike anna_and_ben (user anna ∷ []) (pass wrong)
+        (pass (codes "other")) }
+    ensures his_own { LooksAlike anna_and_ben (user ben ∷ []) (pass wrong)
+        (pass (codes "other")) → ⊥ }
+    ensures told_apart { LooksAlike only_anna (user anna ∷ []) (pass wrong) (pass secret) → ⊥ }
+    ensures no_name { LooksAlike only_anna [] (pass wrong) (pass secret) }
+    ensures other_events { LooksAlike only_anna [] (Command Noop) (Command Quit) → ⊥ }
+    ensures same_events { LooksAlike only_anna [] (Command Noop) (Command Noop) }
+    ensures one_by_one { AllLookAlike anna_and_ben [] (user anna ∷ pass wrong ∷ Command Noop ∷ [])
+        (user anna ∷ pass (codes "other") ∷ Command Noop ∷ []) }
+    ensures one_more { AllLookAlike only_anna [] (Command Noop ∷ []) [] → ⊥ }
+    ensures fails { FailsAlike None counting 0 (codes "NOOP\r\n") (codes "NOOP\r\n") }
+    ensures never_fails { FailsAlike None counting 0 (codes "NOOP\r\n") [] → ⊥ }
 {}
 
 /// What a limit of two failed logins answers: the second is the last.

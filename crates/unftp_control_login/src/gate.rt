@@ -1,12 +1,15 @@
 //! A login gate before a handler.
-ghost use Rattle.std.specs.Prelude.{◌≡◌, ◌+◌, false, IfOk, IfErr, IfSome, OnOk, option_map};
+ghost use Rattle.std.specs.Prelude.{◌≡◌, ◌+◌, false, IfOk, IfErr, IsTrue, OnOk, OnErr};
 ghost use Rattle.unftp_control_defs.specs.Events.{out_of_memory};
+ghost use Rattle.unftp_control_defs.specs.Events as event;
+ghost use Rattle.unftp_control_defs.specs.FtpCommand.{Pass};
 ghost use Rattle.unftp_control_defs.specs.FtpReply.{CodeAndMsg};
 ghost use Rattle.unftp_control_error.specs.ErrorMeaning.{fault_of};
 ghost use Rattle.unftp_control_serve.specs.EventMeaning.{event_meant};
 ghost use Rattle.unftp_control_reply.specs.ReplyMeaning.{number_of, reply_of};
 ghost use Rattle.unftp_control_login.specs.Login.{flushes_login, needs_login};
-ghost use Rattle.unftp_control_login.specs.Gate.{Gated, admitted, closed, gated_law, is_barred, is_quit, password_reply, stage_after_password};
+ghost use Rattle.unftp_control_login.specs.Gate.{Gated, closed, gated_law, is_barred, is_logged_in, is_quit, password_reply};
+ghost use Rattle.unftp_control_login.specs.GateState.{gated};
 
 use crate::accounts::Accounts;
 use crate::stage::Stage;
@@ -77,23 +80,65 @@ impl<A: Accounts, H: Handler> Gate<A, H> {
         }
         reply
     }
+
+    /// Takes a password for the name that was given.
+    fn take_password(&mut self, alloc: Global, password: &[u8]) -> Result<Reply, ControlChanError>
+        ensures says { IfOk result (λ reply. reply_of reply
+            ≡ password_reply (A.accepts self.old.accounts) self.old.stage password.now) }
+        ensures next { OnOk result (gated A.accepts H.state self.new ≡ (gated_law H.law).next
+            (gated A.accepts H.state self.old) (event.Command (Pass password.now))) }
+        ensures quiet { OnOk result (self.new.failures + H.failures self.new.inner
+            ≡ self.old.failures + H.failures self.old.inner) }
+        ensures may_fail { IfErr result (λ error. (gated_law H.law).may_fail
+            (gated A.accepts H.state self.old) (event.Command (Pass password.now)) (fault_of error)) }
+        ensures counted { OnErr result (self.new.failures + H.failures self.new.inner
+            ≡ self.old.failures + H.failures self.old.inner + 1) }
+        ensures nobody { OnErr result (IsTrue (is_logged_in self.new.stage)
+            → IsTrue (is_logged_in self.old.stage)) }
+    {
+        let username = match mem::replace(&mut self.stage, Stage::NoName) {
+            Stage::Named(name) => name,
+            other => {
+                self.stage = other;
+                return self.own_reply(alloc, ReplyCode::BadCommandSequence, "Send USER first");
+            }
+        };
+        if !self.accounts.accepts(username.as_slice(), password) {
+            return self.own_reply(alloc, ReplyCode::NotLoggedIn, "Login incorrect");
+        }
+        let user = Event::Command(Command::User { username });
+        drop(self.inner.handle(alloc, user)?);
+        let reply = self.own_reply(alloc, ReplyCode::UserLoggedIn, "User logged in, proceed")?;
+        self.stage = Stage::LoggedIn;
+        Ok(reply)
+    }
 }
 
 impl<A: Accounts, H: Handler> Handler for Gate<A, H> {
     ghost State = { Gated H.State };
 
-    ghost state = { λ gate. record {
-      accepts = A.accepts gate.accounts;
-      stage = gate.stage;
-      quit = gate.quit;
-      inner = H.state gate.inner;
-    } };
+    ghost state = { gated A.accepts H.state };
 
     ghost law = { gated_law H.law };
 
     ghost failures = { λ gate. gate.failures + H.failures gate.inner };
 
-    fn handle(&mut self, alloc: Global, event: Event) -> Result<Reply, ControlChanError> {
+    /// The reply to an event. Out of memory is returned for a reply of its own, and every other
+    /// error is that of the handler behind it. Nobody is logged in by an event that fails.
+    fn handle(&mut self, alloc: Global, event: Event) -> Result<Reply, ControlChanError>
+        ensures says { IfOk result (λ reply. reply_of reply
+            ≡ (gated_law H.law).says (gated A.accepts H.state self.old) (event_meant event)) }
+        ensures next { OnOk result (gated A.accepts H.state self.new
+            ≡ (gated_law H.law).next (gated A.accepts H.state self.old) (event_meant event)) }
+        ensures quiet { OnOk result (self.new.failures + H.failures self.new.inner
+            ≡ self.old.failures + H.failures self.old.inner) }
+        ensures may_fail { IfErr result (λ error. (gated_law H.law).may_fail
+            (gated A.accepts H.state self.old) (event_meant event) (fault_of error)) }
+        ensures counted { OnErr result (self.new.failures + H.failures self.new.inner
+            ≡ self.old.failures + H.failures self.old.inner + 1) }
+        ensures nobody { OnErr result (IsTrue (is_logged_in self.new.stage)
+            → IsTrue (is_logged_in self.old.stage)) }
+    {
         match event {
             Event::Command(Command::User { username }) => {
                 self.stage = Stage::Named(username);
@@ -104,16 +149,7 @@ impl<A: Accounts, H: Handler> Handler for Gate<A, H> {
                 )
             }
             Event::Command(Command::Pass { password }) => {
-                let Outcome {
-                    admitted,
-                    code,
-                    text,
-                } = take_password(&mut self.stage, &self.accounts, password.as_ref());
-                if let Some(username) = admitted {
-                    let user = Event::Command(Command::User { username });
-                    drop(self.inner.handle(alloc, user)?);
-                }
-                self.own_reply(alloc, code, text)
+                self.take_password(alloc, password.as_ref())
             }
             event => {
                 if needs_login(&event) && !self.stage.is_logged_in() {
@@ -137,51 +173,6 @@ impl<A: Accounts, H: Handler> Handler for Gate<A, H> {
 
     fn done(&self) -> bool {
         self.quit || self.inner.done()
-    }
-}
-
-/// What comes of a password.
-#[derive(Drop)]
-struct Outcome {
-    /// The name that it logs in.
-    admitted: Option<Bytes>,
-    code: ReplyCode,
-    text: &'static str,
-}
-
-/// Takes a password for the name that was given.
-fn take_password<A: Accounts>(stage: &mut Stage, accounts: &A, password: &[u8]) -> Outcome
-    ensures stage { stage.new
-        ≡ stage_after_password (A.accepts accounts.now) stage.old password.now }
-    ensures admitted { result.admitted ≡ admitted (A.accepts accounts.now) stage.old password.now }
-    ensures reply { CodeAndMsg (number_of result.code) result.text.now
-        ≡ password_reply (A.accepts accounts.now) stage.old password.now }
-{
-    match mem::replace(stage, Stage::NoName) {
-        Stage::Named(name) => {
-            if accounts.accepts(name.as_slice(), password) {
-                *stage = Stage::LoggedIn;
-                Outcome {
-                    admitted: Some(name),
-                    code: ReplyCode::UserLoggedIn,
-                    text: "User logged in, proceed",
-                }
-            } else {
-                Outcome {
-                    admitted: None,
-                    code: ReplyCode::NotLoggedIn,
-                    text: "Login incorrect",
-                }
-            }
-        }
-        other => {
-            *stage = other;
-            Outcome {
-                admitted: None,
-                code: ReplyCode::BadCommandSequence,
-                text: "Send USER first",
-            }
-        }
     }
 }
 

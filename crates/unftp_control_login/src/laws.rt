@@ -1,7 +1,6 @@
 //! What a login gate and a limit promise of all inputs, each the contract of a function that does
 //! nothing.
-ghost use Rattle.std.specs.Prelude.{◌≡◌, ◌≤◌, ◌++◌, ◌⊎◌, ℕ, [], true, false, List, Option, IsTrue};
-ghost use Rattle.std.specs.List.{AllZip};
+ghost use Rattle.std.specs.Prelude.{◌≡◌, ◌<◌, ◌≤◌, ◌++◌, ◌⊎◌, ℕ, [], true, false, List, Option, IsTrue};
 ghost use Rattle.unftp_control_defs.specs.Bytes.{Bytes};
 ghost use Rattle.unftp_control_defs.specs.Events.{FtpEvent, Command, events};
 ghost use Rattle.unftp_control_defs.specs.FtpCommand.{Quit};
@@ -9,8 +8,8 @@ ghost use Rattle.unftp_control_defs.specs.Run.{text_for};
 ghost use Rattle.unftp_control_defs.specs.Lines.{incomplete_line};
 ghost use Rattle.unftp_control_login.specs.Login.{Accounts, GaveName, IsLoggedIn, is_login, needs_login};
 ghost use Rattle.unftp_control_login.specs.Gate.{Gated, closed, gated_law};
-ghost use Rattle.unftp_control_login.specs.LoginLimit.{EndsWith, Limited, failed_in_run, limited_law, limited_to, too_many};
-ghost use Rattle.unftp_control_login.specs.Promises.{CanBeSent, IsRefusedLogin, IsTurnedAway, LearnsName, LooksAlike, MembersAlone, ReachesHandler, SendsPlainReplies, ServesMembersAlone, login_lines, pass_line};
+ghost use Rattle.unftp_control_login.specs.LoginLimit.{EndsWith, Limited, failed_in_run, is_failed_login, limited_law, limited_to, too_many};
+ghost use Rattle.unftp_control_login.specs.Promises.{AllLookAlike, AnsweredAlike, CanBeSent, FailsAlike, IsRefusedLogin, IsTurnedAway, LearnsName, MembersAlone, ReachesHandler, SendsPlainReplies, ServesMembersAlone, login_lines, pass_line};
 
 use unftp_control_serve::Handler;
 
@@ -62,30 +61,41 @@ pub fn members_alone_are_served_in_bytes<H: Handler>()
 {}
 
 /// The output reveals about a password only whether it was accepted: two inputs whose events differ
-/// in passwords that the accounts don't tell apart have one output.
+/// in passwords that the accounts answer alike, for the name that was given, have one output.
 pub fn passwords_stay_hidden<H: Handler>()
     ensures gate { (limit : Option ℕ) (accepts : Accounts) (inner : H.State) (input other : Bytes)
-        → AllZip (LooksAlike accepts) (events limit input)
-        (events limit other)
+        → AllLookAlike accepts [] (events limit input) (events limit other)
         → text_for limit (gated_law H.law) (closed accepts inner) input
         ≡ text_for limit (gated_law H.law) (closed accepts inner) other }
     ensures limit { (limit : Option ℕ) (accepts : Accounts) (left : ℕ) (inner : H.State)
         (input other : Bytes)
-        → AllZip (LooksAlike accepts) (events limit input)
-        (events limit other)
+        → AllLookAlike accepts [] (events limit input) (events limit other)
         → text_for limit (limited_law (gated_law H.law))
         (limited_to left (closed accepts inner)) input
         ≡ text_for limit (limited_law (gated_law H.law))
         (limited_to left (closed accepts inner)) other }
 {}
 
-/// In bytes: two passwords that the accounts answer alike for every name, in lines of PASS within the
-/// limit, give one output.
+/// Nor does an error reveal more: however a session over one of two such inputs fails, one over the
+/// other may fail with the same error, and with the same bytes written.
+pub fn errors_hide_passwords<H: Handler>()
+    ensures gate { (limit : Option ℕ) (accepts : Accounts) (inner : H.State) (input other : Bytes)
+        → AllLookAlike accepts [] (events limit input) (events limit other)
+        → FailsAlike limit (gated_law H.law) (closed accepts inner) input other }
+    ensures limit { (limit : Option ℕ) (accepts : Accounts) (left : ℕ) (inner : H.State)
+        (input other : Bytes)
+        → AllLookAlike accepts [] (events limit input) (events limit other)
+        → FailsAlike limit (limited_law (gated_law H.law))
+        (limited_to left (closed accepts inner)) input other }
+{}
+
+/// In bytes: two passwords that the accounts answer alike for the name that was given, in lines of
+/// PASS within the limit, give one output. So a wrong password looks like another user's.
 pub fn refused_passwords_look_alike<H: Handler>()
     ensures gate { (limit : Option ℕ) (accepts : Accounts) (inner : H.State)
         (before after password other : Bytes) → incomplete_line before ≡ []
         → CanBeSent limit password → CanBeSent limit other
-        → ((name : Bytes) → accepts name password ≡ accepts name other)
+        → AnsweredAlike accepts (events limit before) password other
         → text_for limit (gated_law H.law) (closed accepts inner)
         (before ++ (pass_line password ++ after))
         ≡ text_for limit (gated_law H.law) (closed accepts inner)
@@ -93,7 +103,7 @@ pub fn refused_passwords_look_alike<H: Handler>()
     ensures limit { (limit : Option ℕ) (accepts : Accounts) (left : ℕ) (inner : H.State)
         (before after password other : Bytes) → incomplete_line before ≡ []
         → CanBeSent limit password → CanBeSent limit other
-        → ((name : Bytes) → accepts name password ≡ accepts name other)
+        → AnsweredAlike accepts (events limit before) password other
         → text_for limit (limited_law (gated_law H.law))
         (limited_to left (closed accepts inner)) (before ++ (pass_line password ++ after))
         ≡ text_for limit (limited_law (gated_law H.law))
@@ -127,6 +137,18 @@ pub fn failed_logins_are_limited<H: Handler>()
     ensures last { (s : Limited H.State) (events : List FtpEvent) → 1 ≤ s.left
         → failed_in_run (limited_law H.law) s events ≡ s.left
         → EndsWith too_many (limited_law H.law) s events }
+{}
+
+/// While more than one login may fail, and at each event that is no failed login, a limit changes
+/// neither the reply nor whether the session ends.
+pub fn few_failures_change_nothing<H: Handler>()
+    ensures says { (s : Limited H.State) (event : FtpEvent)
+        → (1 < s.left) ⊎ (is_failed_login event ((H.law).says s.inner event) ≡ false)
+        → (limited_law H.law).says s event ≡ (H.law).says s.inner event }
+    ensures done { (s : Limited H.State) (event : FtpEvent) → 1 ≤ s.left
+        → (1 < s.left) ⊎ (is_failed_login event ((H.law).says s.inner event) ≡ false)
+        → (limited_law H.law).done ((limited_law H.law).next s event)
+        ≡ (H.law).done ((H.law).next s.inner event) }
 {}
 
 /// The session ends with the reply to QUIT (RFC 959, section 4.1.1).

@@ -1,0 +1,26 @@
+use Rattle.unftp_control_login.proofs.ExampleLemmas.{alike, another_user, his_own, apart, no_name, one_by_one, fails, never_fails}
+use Rattle.unftp_control_login.proofs.examples.passwords_look_alike.Goals as goal
+
+pub returns-clause-alike : goal.returns-clause-alike
+returns-clause-alike c = alike
+
+pub returns-clause-another_user : goal.returns-clause-another_user
+returns-clause-another_user c = another_user
+
+pub returns-clause-his_own : goal.returns-clause-his_own
+returns-clause-his_own c = his_own
+
+pub returns-clause-told_apart : goal.returns-clause-told_apart
+returns-clause-told_apart c = apart
+
+pub returns-clause-no_name : goal.returns-clause-no_name
+returns-clause-no_name c = no_name
+
+pub returns-clause-one_by_one : goal.returns-clause-one_by_one
+returns-clause-one_by_one c = one_by_one
+
+pub returns-clause-fails : goal.returns-clause-fails
+returns-clause-fails c = fails
+
+pub returns-clause-never_fails : goal.returns-clause-never_fails
+returns-clause-never_fails c = never_fails

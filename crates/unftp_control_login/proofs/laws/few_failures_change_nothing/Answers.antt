@@ -1,0 +1,8 @@
+use Rattle.unftp_control_login.proofs.LimitLemmas.{says-unchanged, done-unchanged}
+use Rattle.unftp_control_login.proofs.laws.few_failures_change_nothing.Goals as goal
+
+pub returns-clause-says : goal.returns-clause-says
+returns-clause-says g c = says-unchanged g.H.Handler.law
+
+pub returns-clause-done : goal.returns-clause-done
+returns-clause-done g c = done-unchanged g.H.Handler.law
