@@ -15,22 +15,18 @@ const _: () = prove!(size_of::<Count>() == 0);
 const _: () = prove!(size_of::<Trace>() == 0);
 
 /// A number without a greatest value that contracts know and no code can read. Outside this crate it
-/// begins at 0, and is only counted up or reset.
+/// begins at 0, and is only counted up or reset. It is the length of a list.
 #[derive(Drop)]
 pub struct Count {
-    seal: (),
-    ghost number: { ℕ },
+    numbers: Trace,
 }
 
 impl Model for Count {
-    ghost use Rattle.std.specs.Prelude.{ℕ};
-    ghost use base.Fml.{ftrue};
+    ghost use Rattle.std.specs.Prelude.{ℕ, length};
 
     ghost Value = { ℕ };
 
-    ghost view = { λ c. c.number };
-
-    ghost also_owns = { λ _. ftrue };
+    ghost view = { λ count. length count.numbers };
 }
 
 impl Count {
@@ -38,21 +34,9 @@ impl Count {
     pub fn new() -> Count
         ensures { result ≡ 0 }
     {
-        Count { seal: () }
-    }
-
-    #[inline(always)]
-    fn after(&self, _amount: usize) -> Count
-        ensures { result ≡ self.now + _amount }
-    {
-        Count { seal: () }
-    }
-
-    #[inline(always)]
-    fn at_least(&self, _amount: usize) -> Count
-        ensures { result ≡ max self.now _amount }
-    {
-        Count { seal: () }
+        Count {
+            numbers: Trace::new(),
+        }
     }
 
     /// A count of this number.
@@ -60,7 +44,9 @@ impl Count {
     pub fn same(&self) -> Count
         ensures { result ≡ self.now }
     {
-        self.after(0)
+        Count {
+            numbers: self.numbers.with(0, 0, 0),
+        }
     }
 
     /// One more.
@@ -68,7 +54,7 @@ impl Count {
     pub fn raise(&mut self)
         ensures { self.new ≡ self.old + 1 }
     {
-        *self = self.after(1);
+        self.raise_by(1);
     }
 
     /// So many more.
@@ -76,7 +62,7 @@ impl Count {
     pub fn raise_by(&mut self, amount: usize)
         ensures { self.new ≡ self.old + amount }
     {
-        *self = self.after(amount);
+        self.numbers = self.numbers.with(0, amount, 0);
     }
 
     /// The greater of the number and `amount`.
@@ -84,7 +70,7 @@ impl Count {
     pub fn raise_to(&mut self, amount: usize)
         ensures { self.new ≡ max self.old amount }
     {
-        *self = self.at_least(amount);
+        self.numbers = self.numbers.with(0, 0, amount);
     }
 
     /// From 0 again.
@@ -92,6 +78,6 @@ impl Count {
     pub fn reset(&mut self)
         ensures { self.new ≡ 0 }
     {
-        *self = Count::new();
+        self.numbers = Trace::new();
     }
 }

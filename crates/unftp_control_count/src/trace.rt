@@ -1,5 +1,5 @@
 //! A list of numbers that only contracts see.
-ghost use Rattle.std.specs.Prelude.{◌≡◌, ◌++◌, ◌∷◌, [], List, ℕ};
+ghost use Rattle.std.specs.Prelude.{◌≡◌, ◌++◌, ◌∷◌, ◌-◌, [], List, ℕ, length, max, replicate};
 
 use std::marker::Model;
 
@@ -30,9 +30,11 @@ impl Trace {
         Trace { seal: () }
     }
 
+    /// The number again and again after the others: so many times, and until there are so many in all.
     #[inline(always)]
-    fn with(&self, _number: usize) -> Trace
-        ensures { result ≡ self.now ++ _number ∷ [] }
+    pub(crate) fn with(&self, _number: usize, _times: usize, _in_all: usize) -> Trace
+        ensures { result
+            ≡ self.now ++ replicate (max _times (_in_all - length self.now)) _number }
     {
         Trace { seal: () }
     }
@@ -42,7 +44,7 @@ impl Trace {
     pub fn push(&mut self, number: usize)
         ensures { self.new ≡ self.old ++ number ∷ [] }
     {
-        *self = self.with(number);
+        *self = self.with(number, 1, 0);
     }
 
     /// These bytes after the others.
