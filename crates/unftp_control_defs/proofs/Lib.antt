@@ -10,7 +10,6 @@ pub mod ReplyCasesLemmas
 pub mod ReplyAppendLemmas
 pub mod ReplyLimitLemmas
 pub mod EncodingLemmas
-pub mod ReplyPlaceLemmas
 pub mod UpperLemmas
 pub mod CaseLemmas
 pub mod LackLemmas

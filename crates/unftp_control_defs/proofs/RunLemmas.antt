@@ -1,7 +1,7 @@
 -- Runs over events and inputs that are put together.
-use Rattle.std.proofs.Common.{◌≡◌, ◌≤◌, ℕ, zero, suc, Bool, true, false, ◌||◌, ◌+◌, List, [], ◌∷◌, ◌++◌, Option, length, map, drop, refl, sym, ap, ◌∙◌, arith, append_assoc, length-append}
+use Rattle.std.proofs.Common.{◌≡◌, ◌≤◌, ℕ, zero, suc, Bool, true, false, ◌||◌, ◌+◌, List, [], ◌∷◌, ◌++◌, Option, length, map, take, drop, refl, sym, ap, ◌∙◌, arith, append_assoc, length-append}
 use Rattle.std.specs.Prelude.{if◌then◌else◌}
-use Rattle.std.specs.List.{concat}
+use Rattle.std.specs.List.{AllByRecursion, concat}
 use Rattle.std.proofs.lemmas.List.{append-nil, drop-append-le, drop_all, length-map}
 use Rattle.std.proofs.lemmas.List.Folds.{concat-append}
 use Rattle.std.proofs.Math.Seq.{drop-append-add}
@@ -28,6 +28,16 @@ pub replies-append : {S : Type 0} (law : Law S) (s : S) (events more : List FtpE
     replies law s (events ++ more) ≡ replies law s events ++ replies law (last_state law s events) more
 replies-append law s [] more = refl
 replies-append law s (event ∷ events) more = ap (λ later. law.says s event ∷ later) (replies-append law (law.next s event) events more)
+
+pub length-replies : {S : Type 0} (law : Law S) (s : S) (events : List FtpEvent) → length (replies law s events) ≡ length events
+length-replies law s [] = refl
+length-replies law s (event ∷ events) = let more = length-replies law (law.next s event) events in omega (arith, more)
+
+-- what holds of every reply holds of these
+pub replies-all : {S : Type 0} (law : Law S) (P : FtpReply → Type 0) → ((s : S) (event : FtpEvent) → P (law.says s event))
+    → (s : S) (events : List FtpEvent) → AllByRecursion P (replies law s events)
+replies-all law P each s [] = tt
+replies-all law P each s (event ∷ events) = (each s event, replies-all law P each (law.next s event) events)
 
 module _ {S : Type 0} (law : Law S) where
   -- one event first, after which the handler is done or goes on
@@ -89,6 +99,17 @@ module _ {S : Type 0} (law : Law S) where
   pub run_of-length : (s : S) (events : List FtpEvent) → length (run_of law s events) ≤ length events
   run_of-length s [] = omega arith
   run_of-length s (event ∷ events) = length-first s event events (run_of-length (law.next s event) events) (law.done (law.next s event)) refl
+
+  -- a run has the first of the events
+  taken-first : (done : Bool) (event : FtpEvent) (events run : List FtpEvent) → take (length run) events ≡ run
+      → take (length (event ∷ (if done then [] else run))) (event ∷ events) ≡ event ∷ (if done then [] else run)
+  taken-first true event events run taken = refl
+  taken-first false event events run taken = ap (λ later. event ∷ later) taken
+
+  pub run_of-taken : (s : S) (events : List FtpEvent) → take (length (run_of law s events)) events ≡ run_of law s events
+  run_of-taken s [] = refl
+  run_of-taken s (event ∷ events) =
+      taken-first (law.done (law.next s event)) event events (run_of law (law.next s event) events) (run_of-taken (law.next s event) events)
 
   -- a handler that is never done takes all events
   pub never_ends : ((s : S) → law.done s ≡ false) → (s : S) (events : List FtpEvent) → ends law s events ≡ false

@@ -26,7 +26,7 @@ use Rattle.unftp_control_login.specs.declared.stage.Stage.TheVariants.{NoName, N
 use Rattle.unftp_control_login.specs.Login.{Accounts}
 use Rattle.unftp_control_login.specs.Gate.{Gated, admitted, closed, gated_law, inner_after, not_accepted, password_reply, stage_after, stage_after_password}
 use Rattle.unftp_control_login.specs.LoginLimit.{Limited, is_pass, limited_law, limited_to, too_many}
-use Rattle.unftp_control_login.specs.Promises.{AllLookAlike, AnsweredAlike, CanBeSent, FailsAlike, IsRefusedLogin, LooksAlike, login_lines, pass_line}
+use Rattle.unftp_control_login.specs.Promises.{AllLookAlike, AnsweredAlike, AtEachPlace, CanBeSent, FailsAlike, IsRefusedLogin, LooksAlike, login_lines, pass_line}
 use Rattle.unftp_control_login.proofs.StageLemmas.{Reason, stage_after-reason}
 
 -- Lines of passwords may take memory.
@@ -73,8 +73,8 @@ all-or-none : (P : FtpEvent → Type 0) (done : Bool) (later : List FtpEvent) �
 all-or-none P true later each = tt
 all-or-none P false later each = each
 
-alike-or-none : (accepts : Accounts) (past : List FtpEvent) (done : Bool) (later others : List FtpEvent) → AllLookAlike accepts past later others
-    → AllLookAlike accepts past (cond done [] later) (cond done [] others)
+alike-or-none : (accepts : Accounts) (past : List FtpEvent) (done : Bool) (later others : List FtpEvent) → AtEachPlace (LooksAlike accepts) past later others
+    → AtEachPlace (LooksAlike accepts) past (cond done [] later) (cond done [] others)
 alike-or-none accepts past true later others alike = tt
 alike-or-none accepts past false later others alike = alike
 
@@ -151,7 +151,7 @@ module _ {S : Type 0} (law : Law S) where
 
     module _ (accepts : Accounts)
         (step : (past : List FtpEvent) (s : S) (event other : FtpEvent) → Holds past s → LooksAlike accepts past event other → SameStep s event other) where
-      pub text-alike : (past : List FtpEvent) (s : S) (events others : List FtpEvent) → Holds past s → AllLookAlike accepts past events others
+      pub text-alike : (past : List FtpEvent) (s : S) (events others : List FtpEvent) → Holds past s → AtEachPlace (LooksAlike accepts) past events others
           → text s events ≡ text s others
       text-alike past s [] [] h alike = refl
       text-alike past s [] (other ∷ others) h alike = absurd alike
@@ -161,20 +161,20 @@ module _ {S : Type 0} (law : Law S) where
           (text-alike (past ++ event ∷ []) (law.next s event) events others (holds past s event h) alike.1)
 
       -- the runs look alike, too
-      run-alike : (past : List FtpEvent) (s : S) (events others : List FtpEvent) → Holds past s → AllLookAlike accepts past events others
-          → AllLookAlike accepts past (run_of law s events) (run_of law s others)
+      run-alike : (past : List FtpEvent) (s : S) (events others : List FtpEvent) → Holds past s → AtEachPlace (LooksAlike accepts) past events others
+          → AtEachPlace (LooksAlike accepts) past (run_of law s events) (run_of law s others)
       run-alike past s [] [] h alike = tt
       run-alike past s [] (other ∷ others) h alike = absurd alike
       run-alike past s (event ∷ events) [] h alike = absurd alike
       run-alike past s (event ∷ events) (other ∷ others) h alike = (
         alike.0,
-        subst (λ t. AllLookAlike accepts (past ++ event ∷ []) (later_run (law.next s event) events) (later_run t others))
+        subst (λ t. AtEachPlace (LooksAlike accepts) (past ++ event ∷ []) (later_run (law.next s event) events) (later_run t others))
             (step past s event other h alike.0).next
             (alike-or-none accepts (past ++ event ∷ []) (law.done (law.next s event)) (run_of law (law.next s event) events) (run_of law (law.next s event) others)
             (run-alike (past ++ event ∷ []) (law.next s event) events others (holds past s event h) alike.1)),
       )
 
-      last-same : (past : List FtpEvent) (s : S) (events others : List FtpEvent) → Holds past s → AllLookAlike accepts past events others
+      last-same : (past : List FtpEvent) (s : S) (events others : List FtpEvent) → Holds past s → AtEachPlace (LooksAlike accepts) past events others
           → last_state law s events ≡ last_state law s others
       last-same past s [] [] h alike = refl
       last-same past s [] (other ∷ others) h alike = absurd alike
@@ -183,7 +183,7 @@ module _ {S : Type 0} (law : Law S) where
           last-same (past ++ event ∷ []) (law.next s event) events others (holds past s event h) alike.1
           ∙ ap (λ t. last_state law t others) (step past s event other h alike.0).next
 
-      replies-same : (past : List FtpEvent) (s : S) (events others : List FtpEvent) → Holds past s → AllLookAlike accepts past events others
+      replies-same : (past : List FtpEvent) (s : S) (events others : List FtpEvent) → Holds past s → AtEachPlace (LooksAlike accepts) past events others
           → text_of law s events ≡ text_of law s others
       replies-same past s [] [] h alike = refl
       replies-same past s [] (other ∷ others) h alike = absurd alike
@@ -199,16 +199,16 @@ module _ {S : Type 0} (law : Law S) where
         done_too : List FtpEvent
         later_too : List FtpEvent
         whole : run ≡ done_too ++ later_too
-        done_alike : AllLookAlike accepts past done done_too
-        later_alike : AllLookAlike accepts (past ++ done) later later_too
+        done_alike : AtEachPlace (LooksAlike accepts) past done done_too
+        later_alike : AtEachPlace (LooksAlike accepts) (past ++ done) later later_too
 
-      split : (past done later run : List FtpEvent) → AllLookAlike accepts past (done ++ later) run → Split past done later run
+      split : (past done later run : List FtpEvent) → AtEachPlace (LooksAlike accepts) past (done ++ later) run → Split past done later run
       split past [] later run alike = record {
         done_too = [];
         later_too = run;
         whole = refl;
         done_alike = tt;
-        later_alike = subst (λ past. AllLookAlike accepts past later run) (sym (append-nil past)) alike;
+        later_alike = subst (λ past. AtEachPlace (LooksAlike accepts) past later run) (sym (append-nil past)) alike;
       }
       split past (event ∷ done) later [] alike = absurd alike
       split past (event ∷ done) later (other ∷ run) alike =
@@ -218,12 +218,12 @@ module _ {S : Type 0} (law : Law S) where
             later_too = rest.later_too;
             whole = ap (λ events. other ∷ events) rest.whole;
             done_alike = (alike.0, rest.done_alike);
-            later_alike = subst (λ past. AllLookAlike accepts past later rest.later_too) (append_assoc past (event ∷ []) done) rest.later_alike;
+            later_alike = subst (λ past. AtEachPlace (LooksAlike accepts) past later rest.later_too) (append_assoc past (event ∷ []) done) rest.later_alike;
           }
 
       module _ (limit : Option ℕ) where
         ends_at-alike : (past : List FtpEvent) (t : S) (cause : Cause) (later others : List FtpEvent) (t' : S) → Holds past t
-            → AllLookAlike accepts past later others → AllByRecursion (FromLine limit) others
+            → AtEachPlace (LooksAlike accepts) past later others → AllByRecursion (FromLine limit) others
             → EndsAt law cause t later t' → EndsAt law cause t others t'
         ends_at-alike past t Finished [] [] t' h alike lines ends = ends
         ends_at-alike past t Finished [] (other ∷ others) t' h alike lines ends = absurd alike
@@ -241,13 +241,13 @@ module _ {S : Type 0} (law : Law S) where
         ends_at-alike past t cause events others t' h alike lines ends = absurd ends
 
         pub fails-alike : (before after : Snapshot S) (error : ServeError) (done events others : List FtpEvent) → Holds [] before.state
-            → AllLookAlike accepts [] events others → AllByRecursion (FromLine limit) others
+            → AtEachPlace (LooksAlike accepts) [] events others → AllByRecursion (FromLine limit) others
             → RunFailed law before (run_of law before.state events) after error done
             → (done_too : List FtpEvent) × RunFailed law before (run_of law before.state others) after error done_too
         fails-alike before after error done events others h alike lines failed =
             let s = before.state in
             let runs = run-alike [] s events others h alike in
-            let cut = split [] done failed.later (run_of law s others) (subst (λ run. AllLookAlike accepts [] run (run_of law s others)) failed.split runs) in
+            let cut = split [] done failed.later (run_of law s others) (subst (λ run. AtEachPlace (LooksAlike accepts) [] run (run_of law s others)) failed.split runs) in
             let from = subst (AllByRecursion (FromLine limit)) cut.whole (all-run (FromLine limit) s others lines) in
             let text = replies-same [] s done cut.done_too h cut.done_alike in (
               cut.done_too,
@@ -396,12 +396,12 @@ alike-itself : (accepts : Accounts) (past : List FtpEvent) (event : FtpEvent) �
 alike-itself accepts past (Command (Pass password)) = λ name given. refl
 alike-itself accepts past event = refl
 
-alike-themselves : (accepts : Accounts) (past events : List FtpEvent) → AllLookAlike accepts past events events
+alike-themselves : (accepts : Accounts) (past events : List FtpEvent) → AtEachPlace (LooksAlike accepts) past events events
 alike-themselves accepts past [] = tt
 alike-themselves accepts past (event ∷ events) = (alike-itself accepts past event, alike-themselves accepts (past ++ event ∷ []) events)
 
 pub alike-after : (accepts : Accounts) (past before more : List FtpEvent) (event other : FtpEvent) → LooksAlike accepts (past ++ before) event other
-    → AllLookAlike accepts past (before ++ event ∷ more) (before ++ other ∷ more)
+    → AtEachPlace (LooksAlike accepts) past (before ++ event ∷ more) (before ++ other ∷ more)
 alike-after accepts past [] more event other same =
     (subst (λ past. LooksAlike accepts past event other) (append-nil past) same, alike-themselves accepts (past ++ event ∷ []) more)
 alike-after accepts past (first ∷ before) more event other same = (
@@ -414,12 +414,12 @@ alike-after accepts past (first ∷ before) more event other same = (
 module _ {S : Type 0} (law : Law S) (s : S) (accepts : Accounts) (Holds : List FtpEvent → S → Type 0) (first : Holds [] s)
     (holds : (past : List FtpEvent) (s : S) (event : FtpEvent) → Holds past s → Holds (past ++ event ∷ []) (law.next s event)) (limit : Option ℕ) where
   module _ (step : (past : List FtpEvent) (s : S) (event other : FtpEvent) → Holds past s → LooksAlike accepts past event other → SameStep law s event other) where
-    pub text-hidden : (input other : Bytes) → AllLookAlike accepts [] (events limit input) (events limit other)
+    pub text-hidden : (input other : Bytes) → AllLookAlike accepts (events limit input) (events limit other)
         → text_for limit law s input ≡ text_for limit law s other
     text-hidden input other alike =
         text-alike law Holds holds accepts step [] s (events limit input) (events limit other) first alike
 
-    pub errors-hidden : (input other : Bytes) → AllLookAlike accepts [] (events limit input) (events limit other) → FailsAlike limit law s input other
+    pub errors-hidden : (input other : Bytes) → AllLookAlike accepts (events limit input) (events limit other) → FailsAlike limit law s input other
     errors-hidden input other alike before after error done same failed =
         fails-alike law Holds holds accepts step limit before after error done (events limit input) (events limit other)
         (subst (Holds []) (sym same) first) alike (from_lines limit (lines_of other) (Lines-lines_of other).each) failed
@@ -451,12 +451,12 @@ module _ {S : Type 0} (law : Law S) (limit : Option ℕ) (accepts : Accounts) (i
   begins : Follows accepts [] (closed accepts inner)
   begins = record { accounts = refl; reason = tt }
 
-  pub gate-text-hidden : (input other : Bytes) → AllLookAlike accepts [] (events limit input) (events limit other)
+  pub gate-text-hidden : (input other : Bytes) → AllLookAlike accepts (events limit input) (events limit other)
       → text_for limit (gated_law law) (closed accepts inner) input ≡ text_for limit (gated_law law) (closed accepts inner) other
   gate-text-hidden =
       text-hidden (gated_law law) (closed accepts inner) accepts (Follows accepts) begins (follows law accepts) limit (gate-step law accepts)
 
-  pub gate-errors-hidden : (input other : Bytes) → AllLookAlike accepts [] (events limit input) (events limit other)
+  pub gate-errors-hidden : (input other : Bytes) → AllLookAlike accepts (events limit input) (events limit other)
       → FailsAlike limit (gated_law law) (closed accepts inner) input other
   gate-errors-hidden =
       errors-hidden (gated_law law) (closed accepts inner) accepts (Follows accepts) begins (follows law accepts) limit (gate-step law accepts)
@@ -502,12 +502,12 @@ module _ {S : Type 0} (law : Law S) (limit : Option ℕ) (accepts : Accounts) (l
   limit-two name password other another one two past s h =
       limit-steps (gated_law law) s name password other another (gate-steps law accepts name password other another one two past s.inner h)
 
-  pub limit-text-hidden : (input other : Bytes) → AllLookAlike accepts [] (events limit input) (events limit other)
+  pub limit-text-hidden : (input other : Bytes) → AllLookAlike accepts (events limit input) (events limit other)
       → text_for limit (limited_law (gated_law law)) (limited_to left (closed accepts inner)) input
       ≡ text_for limit (limited_law (gated_law law)) (limited_to left (closed accepts inner)) other
   limit-text-hidden = text-hidden limited start accepts LimitFollows limit_begins limit_follows limit limit-alike
 
-  pub limit-errors-hidden : (input other : Bytes) → AllLookAlike accepts [] (events limit input) (events limit other)
+  pub limit-errors-hidden : (input other : Bytes) → AllLookAlike accepts (events limit input) (events limit other)
       → FailsAlike limit (limited_law (gated_law law)) (limited_to left (closed accepts inner)) input other
   limit-errors-hidden = errors-hidden limited start accepts LimitFollows limit_begins limit_follows limit limit-alike
 

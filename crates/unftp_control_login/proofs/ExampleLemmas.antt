@@ -1,5 +1,5 @@
 -- What the examples need beside computation.
-use Rattle.std.proofs.Common.{◌≡◌, ◌<◌, ◌≤◌, ℕ, true, false, IsTrue, List, [], ◌∷◌, ◌++◌, length, flat_map, None, refl, sym, ap, subst, ◌∙◌, arith, codes, length-append}
+use Rattle.std.proofs.Common.{◌≡◌, ◌<◌, ℕ, true, false, List, [], ◌∷◌, ◌++◌, length, take, flat_map, None, refl, sym, ap, subst, ◌∙◌, arith, codes, length-append}
 use Rattle.std.specs.Prelude.{bytes_eq}
 use Rattle.std.specs.Fmt.{digits}
 use Rattle.std.specs.List.{AllByRecursion}
@@ -16,9 +16,9 @@ use Rattle.unftp_control_login.specs.declared.stage.Stage.{Stage}
 use Rattle.unftp_control_login.specs.declared.stage.Stage.TheVariants.{NoName, Named}
 use Rattle.unftp_control_serve.specs.Endings.{Snapshot, Cause, LineMemory, ReplyMemory, IsCauseOf, EndsAt, RunFailed}
 use Rattle.unftp_control_serve.specs.declared.error.ServeError.TheVariants as error
-use Rattle.unftp_control_login.specs.Login.{Accounts, GaveName, IsLoggedIn, needs_login}
+use Rattle.unftp_control_login.specs.Login.{Accounts, GaveName, IsLoggedIn}
 use Rattle.unftp_control_login.specs.Gate.{is_logged_in}
-use Rattle.unftp_control_login.specs.Promises.{AllLookAlike, FailsAlike, LooksAlike, MembersAlone, SendsPlainReplies, ServesMembersAlone}
+use Rattle.unftp_control_login.specs.Promises.{AfterLogin, AllLookAlike, AtEachPlace, FailsAlike, LooksAlike, MembersAlone, SendsPlainReplies, ServesMembersAlone}
 use Rattle.unftp_control_login.specs.Examples.{anna, anna_and_ben, ben, counting, here, only_anna, pass, secret, silent, user, wrong}
 use Rattle.unftp_control_defs.proofs.LineEventLemmas.{events-canonical_line}
 use Rattle.unftp_control_login.proofs.StageLemmas.{stage_after_all, GaveName-stage, IsLoggedIn-stage}
@@ -67,8 +67,8 @@ no_name name given =
     let none : NoName ≡ Named name = GaveName-stage only_anna name [] given in
     absurd (cc)
 
-pub one_by_one : AllLookAlike anna_and_ben [] (user anna ∷ pass wrong ∷ Command Noop ∷ []) (user anna ∷ pass (codes "other") ∷ Command Noop ∷ [])
-one_by_one = (refl, (another_user, (refl, tt)))
+pub each : AllLookAlike anna_and_ben (user anna ∷ pass wrong ∷ Command Noop ∷ []) (user anna ∷ pass (codes "other") ∷ Command Noop ∷ [])
+each = (refl, (another_user, (refl, tt)))
 
 pub fails : FailsAlike None counting 0 (codes "NOOP\r\n") (codes "NOOP\r\n")
 fails before after error done same failed = (done, failed)
@@ -125,51 +125,32 @@ anyone-served-in-bytes h =
     let plain : AllByRecursion IsPlain (here ∷ []) = (((omega arith, omega arith), Lacks-test LF (codes "here") refl), tt) in
     let read = h.no_other ((257, codes "here" ∷ []) ∷ []) (ReadsBack-encoded (here ∷ []) plain).0 in
     let low : 257 < 400 = omega arith in
-    not-logged-in only_anna [] refl
-    (h.alone [] [] (Command Pwd) pwd [] [] 257 (codes "here" ∷ []) (sym read) refl refl low)
+    let at_each : AtEachPlace (AfterLogin only_anna) [] (Command Pwd ∷ []) ((257, codes "here" ∷ []) ∷ []) =
+    subst (λ events. AtEachPlace (AfterLogin only_anna) [] (take 1 events) ((257, codes "here" ∷ []) ∷ [])) pwd
+    (subst (λ read. AtEachPlace (AfterLogin only_anna) [] (take (length read) (events None (codes "PWD\r\n"))) read) (sym read) h.alone) in
+    not-logged-in only_anna [] refl (at_each.0 refl low)
 
 pub not-plain : ¬ SendsPlainReplies silent
 not-plain h = h 0 (Command Pwd)
 
-abbrev first_read : List (ℕ × List Bytes) → ℕ × List Bytes → ℕ × List Bytes
-first_read [] read = read
-first_read (read ∷ more) other = read
-
-stranger-first : (before after : List FtpEvent) (event : FtpEvent) → Command Pwd ∷ [] ≡ before ++ event ∷ after → before ≡ []
-stranger-first [] after event e = refl
-stranger-first (first ∷ []) after event e = absurd (cc)
-stranger-first (first ∷ second ∷ before) after event e = absurd (cc)
-
 refused_reply : ReadsBack (codes "530 no\r\n") (CodeAndMsg 530 (codes "no") ∷ [])
 unfolding digits
 refused_reply = ReadsBack-encoded (CodeAndMsg 530 (codes "no") ∷ []) (((omega arith, omega arith), Lacks-test LF (codes "no") refl), tt)
-
-stranger-alone : (before after : List FtpEvent) (event : FtpEvent) → events None (codes "PWD\r\n") ≡ before ++ event ∷ after
-    → (earlier later : List (ℕ × List Bytes)) (code : ℕ) (lines : List Bytes)
-    → (530, codes "no" ∷ []) ∷ [] ≡ earlier ++ (code, lines) ∷ later → length earlier ≡ length before
-    → IsTrue (needs_login event) → code < 400 → IsLoggedIn only_anna before
-stranger-alone before after event cut [] later code lines is place needs low =
-    let same = ap (λ (p : ℕ × List Bytes). p.0) (ap (λ l. first_read l (code, lines)) is) in
-    absurd (omega (arith, same, low))
-stranger-alone before after event cut (first ∷ earlier) later code lines is place needs low =
-    let none = ap length (stranger-first before after event (sym pwd ∙ cut)) in
-    absurd (omega (arith, place, none))
 
 pub stranger : MembersAlone None only_anna (codes "PWD\r\n") (codes "530 no\r\n")
 stranger = record {
   read = (530, codes "no" ∷ []) ∷ [];
   replies = refused_reply.0;
   no_other = refused_reply.1;
-  no_more = subst (λ events. 1 ≤ length events) (sym pwd) (omega arith);
-  alone = stranger-alone;
+  alone = subst (λ events. AtEachPlace (AfterLogin only_anna) [] (take 1 events) ((530, codes "no" ∷ []) ∷ [])) (sym pwd)
+      ((λ needs low. absurd (omega (arith, low))), tt);
 }
 
 -- more replies than events
 pub no-event : ¬ MembersAlone None only_anna [] (codes "530 no\r\n")
 no-event h =
-    let one = ap length (h.no_other ((530, codes "no" ∷ []) ∷ []) refused_reply.0) in
-    let none = h.no_more in
-    omega (arith, one, none)
+    let read = h.no_other ((530, codes "no" ∷ []) ∷ []) refused_reply.0 in
+    subst (λ read. AtEachPlace (AfterLogin only_anna) [] (take (length read) []) read) (sym read) h.alone
 
 -- bytes that are no replies
 whole_lines : (whole : List Bytes) (rest digits : Bytes) (lines : List Bytes) → codes "x" ≡ flat_map with_crlf whole ++ rest → ¬ IsReply digits whole lines

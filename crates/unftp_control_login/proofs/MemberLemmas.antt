@@ -1,6 +1,7 @@
 -- Who is served: only who has logged in.
-use Rattle.std.proofs.Common.{◌≡◌, ◌<◌, ◌≤◌, ℕ, Bool, true, false, not, ◌&&◌, cond, IsTrue, List, [], ◌∷◌, length, filter_map, Option, Some, None, unwrap_or, ◌⊎◌, inl, inr, refl, sym, ap, ◌∙◌, subst, arith, codes}
+use Rattle.std.proofs.Common.{◌≡◌, ◌<◌, ◌≤◌, ℕ, Bool, true, false, not, ◌&&◌, cond, IsTrue, List, [], ◌∷◌, ◌++◌, length, filter_map, take, Option, Some, None, unwrap_or, ◌⊎◌, inl, inr, refl, sym, ap, ◌∙◌, subst, arith, codes}
 use Rattle.std.specs.Prelude.{nat_le, Result, Ok, Err, OnOk, IfSome}
+use Rattle.std.specs.List.{AllByRecursion}
 use Rattle.std.proofs.lemmas.Option.{same_Some}
 use Rattle.unftp_control_defs.specs.Bytes.{Bytes, LF}
 use Rattle.unftp_control_defs.specs.FtpCommand.{User, Pass}
@@ -14,10 +15,9 @@ use Rattle.unftp_control_login.specs.declared.stage.Stage.TheVariants.{NoName, N
 use Rattle.unftp_control_login.specs.Login.{Accounts, GaveName, IsLoggedIn, is_login, needs_login}
 use Rattle.unftp_control_login.specs.Gate.{Gated, closed, gated_law, inner_after, is_barred, is_logged_in, login_needed, password_reply, passed_on}
 use Rattle.unftp_control_login.specs.LoginLimit.{Limited, is_failed_login, limited_law, limited_to, too_many}
-use Rattle.unftp_control_login.specs.Promises.{IsSentPlain, IsTurnedAway, MembersAlone, NoFailure, ReachesHandler, SendsPlainReplies, ServesMembersAlone}
+use Rattle.unftp_control_login.specs.Promises.{AfterLogin, AtEachPlace, IsSentPlain, IsTurnedAway, MembersAlone, NoFailure, ReachesHandler, SendsPlainReplies, ServesMembersAlone}
 use Rattle.unftp_control_login.proofs.StageLemmas.{by_test, stage_after_all, accepts-stays, stage-follows, logged_in-stage, GaveName-stage, IsLoggedIn-stage, own-barred, own-open, needs-other}
-use Rattle.unftp_control_defs.proofs.ReplyPlaceLemmas.{length-replies, read-at, replies-all, reply-at}
-use Rattle.unftp_control_defs.proofs.RunLemmas.{run_of-length}
+use Rattle.unftp_control_defs.proofs.RunLemmas.{last_state-append, length-replies, replies-all, run_of-taken}
 
 module _ {S : Type 0} (law : Law S) (accepts : Accounts) (inner : S) where
   abbrev state_after : List FtpEvent → Gated S
@@ -149,52 +149,55 @@ NoFailure-read (CodeAndMsg said text) code lines e low =
 NoFailure-read (MultiLine said texts) code lines e low =
     subst (λ (read : ℕ × List Bytes). read.0 < 400) (sym (same_Some (said, lines_as_read texts) (code, lines) e)) low
 
--- A client reads at most one reply for each event.
-one-shown : (reply : FtpReply) (replies : List FtpReply) → length (filter_map reply_as_read replies) ≤ length replies
-    → (read : Option (ℕ × List Bytes)) → reply_as_read reply ≡ read
-    → length (filter_map reply_as_read (reply ∷ replies)) ≤ length (reply ∷ replies)
-one-shown reply replies few None e = rw (e) (omega (arith, few))
-one-shown reply replies few (Some read) e = rw (e) (omega (arith, few))
-
-shown-length : (replies : List FtpReply) → length (filter_map reply_as_read replies) ≤ length replies
-shown-length [] = omega arith
-shown-length (reply ∷ replies) = one-shown reply replies (shown-length replies) (reply_as_read reply) refl
+sent-length : (replies : List FtpReply) → AllByRecursion IsSentPlain replies → length (filter_map reply_as_read replies) ≡ length replies
+sent-length [] sent = refl
+sent-length (reply ∷ replies) sent =
+    let same = sent-length replies sent.1 in
+    rw ((shown reply sent.0).1) (omega (arith, same))
 
 -- A handler that serves members alone, and sends plain replies, does so in bytes.
-pub members-alone : {S : Type 0} (law : Law S) (s : S) (accepts : Accounts) (limit : Option ℕ) (input : Bytes)
-    → ServesMembersAlone accepts law s → SendsPlainReplies law → MembersAlone limit accepts input (text_for limit law s input)
-members-alone law s accepts limit input serves sends =
-    let run = run_for limit law s input in
-    let plain_replies = replies-all law IsPlain (λ s event. IsPlain-sent (law.says s event) (sends s event)) s run in
-    let sent = replies-all law IsSentPlain sends s run in
-    let reads = ReadsBack-encoded (replies law s run) plain_replies in
-    let few = shown-length (replies law s run) in
-    let same = length-replies law s run in
-    let shorter = run_of-length law s (events limit input) in
-    record {
-      read = filter_map reply_as_read (replies law s run);
-      replies = reads.0;
-      no_other = reads.1;
-      no_more = omega (arith, few, same, shorter);
-      alone = λ before after event cut earlier later code lines is placed needs low.
-          let at = read-at IsSentPlain shown (replies law s run) sent earlier later (code, lines) is in
-          let same = reply-at law s (events limit input) before after event at.earlier at.later at.reply cut at.whole (at.placed ∙ placed) in
-          serves before event needs (subst NoFailure same (NoFailure-read at.reply code lines at.shows low));
-    }
+module _ {S : Type 0} (law : Law S) (first : S) (accepts : Accounts) (serves : ServesMembersAlone accepts law first) (sends : SendsPlainReplies law) where
+  after_login : (before : List FtpEvent) (s : S) (events : List FtpEvent) → last_state law first before ≡ s
+      → AtEachPlace (AfterLogin accepts) before events (filter_map reply_as_read (replies law s events))
+  after_login before s [] same = tt
+  after_login before s (event ∷ events) same =
+      let read = shown (law.says s event) (sends s event) in
+      rw (read.1) (
+        λ needs low. serves before event needs
+            (subst (λ t. NoFailure (law.says t event)) (sym same) (NoFailure-read (law.says s event) read.0.0 read.0.1 read.1 low)),
+        after_login (before ++ event ∷ []) (law.next s event) events
+            (last_state-append law first before (event ∷ []) ∙ ap (λ t. law.next t event) same),
+      )
+
+  pub members-alone : (limit : Option ℕ) (input : Bytes) → MembersAlone limit accepts input (text_for limit law first input)
+  members-alone limit input =
+      let run = run_for limit law first input in
+      let sent = replies-all law IsSentPlain sends first run in
+      let reads = ReadsBack-encoded (replies law first run) (replies-all law IsPlain (λ s event. IsPlain-sent (law.says s event) (sends s event)) first run) in
+      let same : take (length (filter_map reply_as_read (replies law first run))) (events limit input) ≡ run =
+      ap (λ n. take n (events limit input)) (sent-length (replies law first run) sent ∙ length-replies law first run)
+      ∙ run_of-taken law first (events limit input) in
+      record {
+        read = filter_map reply_as_read (replies law first run);
+        replies = reads.0;
+        no_other = reads.1;
+        alone = subst (λ events. AtEachPlace (AfterLogin accepts) [] events (filter_map reply_as_read (replies law first run))) (sym same)
+            (after_login [] first run refl);
+      }
 
 pub gate-members-alone : {S : Type 0} (law : Law S) → SendsPlainReplies law
     → (limit : Option ℕ) (accepts : Accounts) (inner : S) (input : Bytes)
     → MembersAlone limit accepts input (text_for limit (gated_law law) (closed accepts inner) input)
 gate-members-alone law sends limit accepts inner input =
-    members-alone (gated_law law) (closed accepts inner) accepts limit input (gate_serves-members law accepts inner) (gate-plain law sends)
+    members-alone (gated_law law) (closed accepts inner) accepts (gate_serves-members law accepts inner) (gate-plain law sends) limit input
 
 pub limit-members-alone : {S : Type 0} (law : Law S) → SendsPlainReplies law
     → (limit : Option ℕ) (accepts : Accounts) (left : ℕ) (inner : S) (input : Bytes)
     → MembersAlone limit accepts input (text_for limit (limited_law (gated_law law)) (limited_to left (closed accepts inner)) input)
 limit-members-alone law sends limit accepts left inner input =
-    members-alone (limited_law (gated_law law)) (limited_to left (closed accepts inner)) accepts limit input
+    members-alone (limited_law (gated_law law)) (limited_to left (closed accepts inner)) accepts
     (limit_serves-members (gated_law law) accepts left (closed accepts inner) (gate_serves-members law accepts inner))
-    (limit-plain (gated_law law) (gate-plain law sends))
+    (limit-plain (gated_law law) (gate-plain law sends)) limit input
 
 -- What is written for an input, and what holds of it, as a caller of `serve` states them.
 pub some_output : {V E : Type 0} (result : Result V E) (known : Option Bytes) (Written : Bytes → Type 0) (text : Bytes → Bytes)

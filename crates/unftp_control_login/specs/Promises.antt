@@ -1,5 +1,5 @@
 -- What a login gate promises of all inputs.
-use Rattle.std.specs.Prelude.{◌≡◌, ℕ, ◌<◌, ◌≤◌, ⊤, false, IsTrue, length, List, [], ◌∷◌, ◌++◌, Option}
+use Rattle.std.specs.Prelude.{◌≡◌, ℕ, ◌<◌, ⊤, false, IsTrue, length, take, List, [], ◌∷◌, ◌++◌, Option}
 use Rattle.unftp_control_defs.specs.Bytes.{Bytes, LF, Lacks}
 use Rattle.unftp_control_defs.specs.Canonical.{canonical_line}
 use Rattle.unftp_control_defs.specs.FtpCommand.{User, Pass}
@@ -52,19 +52,28 @@ IsSentPlain reply = IsPlain reply
 abbrev pub SendsPlainReplies : {S : Type 0} → Law S → Type 0
 SendsPlainReplies {S = S} law = (s : S) (event : FtpEvent) → IsSentPlain (law.says s event)
 
--- The output is a list of replies to the first of the input's events, one for each, and a client
--- reads no other in it. A code that reports no failure, at the place of an event that needs a login,
--- comes only after a login.
+-- The lists are of one length, and this holds at each place: of what the first has before it and at
+-- it, and of what the second has at it.
+abbrev pub AtEachPlace : {A B : Type 0} → (List A → A → B → Type 0) → List A → List A → List B
+    → Type 0
+AtEachPlace Holds before [] [] = ⊤
+AtEachPlace Holds before (x ∷ xs) (y ∷ ys) =
+    Holds before x y × AtEachPlace Holds (before ++ x ∷ []) xs ys
+AtEachPlace Holds before _ _ = ⊥
+
+-- A code that reports no failure, read as the reply to an event that needs a login, comes only after
+-- a login.
+abbrev pub AfterLogin : Accounts → List FtpEvent → FtpEvent → ℕ × List Bytes → Type 0
+AfterLogin accepts before event reply =
+    IsTrue (needs_login event) → reply.0 < 400 → IsLoggedIn accepts before
+
+-- The output is a list of replies, and a client reads no other in it: one for each of the input's
+-- events, up to the last that is answered, and each of them as it has to be after a login.
 pub record MembersAlone (limit : Option ℕ) (accepts : Accounts) (input output : Bytes) : Type 0 where
   pub read : List (ℕ × List Bytes)
   pub replies : AllReplies output read
   pub no_other : (other : List (ℕ × List Bytes)) → AllReplies output other → other ≡ read
-  pub no_more : length read ≤ length (events limit input)
-  pub alone : (before after : List FtpEvent) (event : FtpEvent)
-      → events limit input ≡ before ++ event ∷ after
-      → (earlier later : List (ℕ × List Bytes)) (code : ℕ) (lines : List Bytes)
-      → read ≡ earlier ++ (code, lines) ∷ later → length earlier ≡ length before
-      → IsTrue (needs_login event) → code < 400 → IsLoggedIn accepts before
+  pub alone : AtEachPlace (AfterLogin accepts) [] (take (length read) (events limit input)) read
 
 -- The accounts answer alike to both passwords, for the name that was given by these events.
 abbrev pub AnsweredAlike : Accounts → List FtpEvent → Bytes → Bytes → Type 0
@@ -77,13 +86,9 @@ LooksAlike accepts before (Command (Pass password)) (Command (Pass other)) =
     AnsweredAlike accepts before password other
 LooksAlike accepts before event other = event ≡ other
 
--- Each of the events after these looks like the other one at its place.
-abbrev pub AllLookAlike : Accounts → List FtpEvent → List FtpEvent → List FtpEvent → Type 0
-AllLookAlike accepts before [] [] = ⊤
-AllLookAlike accepts before (event ∷ events) (other ∷ others) =
-    LooksAlike accepts before event other
-    × AllLookAlike accepts (before ++ event ∷ []) events others
-AllLookAlike accepts before _ _ = ⊥
+-- They are as many, and each looks like the other one at its place.
+abbrev pub AllLookAlike : Accounts → List FtpEvent → List FtpEvent → Type 0
+AllLookAlike accepts events others = AtEachPlace (LooksAlike accepts) [] events others
 
 -- However a session over the first input fails, one over the other may fail too: with the same
 -- error, and with the same bytes written.

@@ -117,9 +117,9 @@ pub fn passwords_look_alike()
     ensures no_name { LooksAlike only_anna [] (pass wrong) (pass secret) }
     ensures other_events { LooksAlike only_anna [] (Command Noop) (Command Quit) → ⊥ }
     ensures same_events { LooksAlike only_anna [] (Command Noop) (Command Noop) }
-    ensures one_by_one { AllLookAlike anna_and_ben [] (user anna ∷ pass wrong ∷ Command Noop ∷ [])
+    ensures each { AllLookAlike anna_and_ben (user anna ∷ pass wrong ∷ Command Noop ∷ [])
         (user anna ∷ pass (codes "other") ∷ Command Noop ∷ []) }
-    ensures one_more { AllLookAlike only_anna [] (Command Noop ∷ []) [] → ⊥ }
+    ensures one_more { AllLookAlike only_anna (Command Noop ∷ []) [] → ⊥ }
     ensures fails { FailsAlike None counting 0 (codes "NOOP\r\n") (codes "NOOP\r\n") }
     ensures never_fails { FailsAlike None counting 0 (codes "NOOP\r\n") [] → ⊥ }
 {}

@@ -64,12 +64,12 @@ pub fn members_alone_are_served_in_bytes<H: Handler>()
 /// in passwords that the accounts answer alike, for the name that was given, have one output.
 pub fn passwords_stay_hidden<H: Handler>()
     ensures gate { (limit : Option ℕ) (accepts : Accounts) (inner : H.State) (input other : Bytes)
-        → AllLookAlike accepts [] (events limit input) (events limit other)
+        → AllLookAlike accepts (events limit input) (events limit other)
         → text_for limit (gated_law H.law) (closed accepts inner) input
         ≡ text_for limit (gated_law H.law) (closed accepts inner) other }
     ensures limit { (limit : Option ℕ) (accepts : Accounts) (left : ℕ) (inner : H.State)
         (input other : Bytes)
-        → AllLookAlike accepts [] (events limit input) (events limit other)
+        → AllLookAlike accepts (events limit input) (events limit other)
         → text_for limit (limited_law (gated_law H.law))
         (limited_to left (closed accepts inner)) input
         ≡ text_for limit (limited_law (gated_law H.law))
@@ -80,11 +80,11 @@ pub fn passwords_stay_hidden<H: Handler>()
 /// other may fail with the same error, and with the same bytes written.
 pub fn errors_hide_passwords<H: Handler>()
     ensures gate { (limit : Option ℕ) (accepts : Accounts) (inner : H.State) (input other : Bytes)
-        → AllLookAlike accepts [] (events limit input) (events limit other)
+        → AllLookAlike accepts (events limit input) (events limit other)
         → FailsAlike limit (gated_law H.law) (closed accepts inner) input other }
     ensures limit { (limit : Option ℕ) (accepts : Accounts) (left : ℕ) (inner : H.State)
         (input other : Bytes)
-        → AllLookAlike accepts [] (events limit input) (events limit other)
+        → AllLookAlike accepts (events limit input) (events limit other)
         → FailsAlike limit (limited_law (gated_law H.law))
         (limited_to left (closed accepts inner)) input other }
 {}

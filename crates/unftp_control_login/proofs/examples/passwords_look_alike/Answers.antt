@@ -1,4 +1,4 @@
-use Rattle.unftp_control_login.proofs.ExampleLemmas.{alike, another_user, his_own, apart, no_name, one_by_one, fails, never_fails}
+use Rattle.unftp_control_login.proofs.ExampleLemmas.{alike, another_user, his_own, apart, no_name, each, fails, never_fails}
 use Rattle.unftp_control_login.proofs.examples.passwords_look_alike.Goals as goal
 
 pub returns-clause-alike : goal.returns-clause-alike
@@ -16,8 +16,8 @@ returns-clause-told_apart c = apart
 pub returns-clause-no_name : goal.returns-clause-no_name
 returns-clause-no_name c = no_name
 
-pub returns-clause-one_by_one : goal.returns-clause-one_by_one
-returns-clause-one_by_one c = one_by_one
+pub returns-clause-each : goal.returns-clause-each
+returns-clause-each c = each
 
 pub returns-clause-fails : goal.returns-clause-fails
 returns-clause-fails c = fails
