@@ -2,7 +2,7 @@
 ghost use Rattle.std.specs.Prelude.{◌≡◌, ◌++◌, [], List, true, IfErr, IfOk, IfSome, MatchOption};
 ghost use Rattle.unftp_control.specs.Bytes.{Bytes};
 ghost use Rattle.unftp_control.specs.ReplyReader.{FrontReply, IsPartial};
-ghost use Rattle.unftp_control.specs.ReplySteps.{TakesReply};
+ghost use Rattle.unftp_control.specs.TakingSteps.{TakesReply};
 ghost use Rattle.unftp_control.specs.Reading.{ReturnsRefusal};
 
 use std::alloc::Global;

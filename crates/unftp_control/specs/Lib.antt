@@ -11,12 +11,11 @@ pub use Rattle.unftp_control_defs.specs.LossyText
 pub use Rattle.unftp_control_defs.specs.FtpReply
 pub use Rattle.unftp_control_defs.specs.ReplyReader
 pub use Rattle.unftp_control_defs.specs.ReplyLimit
-pub use Rattle.unftp_control_defs.specs.ReplySteps
+pub use Rattle.unftp_control_defs.specs.TakingSteps
 pub use Rattle.unftp_control_defs.specs.Events
 pub use Rattle.unftp_control_defs.specs.Texts
 pub use Rattle.unftp_control_defs.specs.Run
 pub use Rattle.unftp_control_defs.specs.Pieces
-pub use Rattle.unftp_control_defs.specs.EventSteps
 pub use Rattle.unftp_control_defs.specs.Steps
 pub use Rattle.unftp_control_command.specs.CommandMeaning
 pub use Rattle.unftp_control_command.specs.declared.Command

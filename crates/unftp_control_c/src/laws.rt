@@ -1,7 +1,7 @@
 //! What the calls promise one after the other, each the contract of a function that does nothing.
 ghost use Rattle.std.specs.Prelude.{◌≡◌, ◌+◌, ◌++◌, ℕ, [], false, drop, take, None, Some};
 ghost use Rattle.unftp_control_defs.specs.Bytes.{Bytes, LF, Lacks};
-ghost use Rattle.unftp_control_defs.specs.EventSteps.{TakesEvent};
+ghost use Rattle.unftp_control_defs.specs.TakingSteps.{TakesEvent};
 ghost use Rattle.unftp_control_defs.specs.Events.{FtpEvent};
 ghost use Rattle.unftp_control_codecs.specs.LineFeed.{line_feed_from};
 ghost use Rattle.unftp_control_c.specs.Next.{Call, line_limit, next_of};

@@ -3,7 +3,7 @@ use Rattle.std.proofs.Common.{ℕ, List, ◌∷◌, ◌++◌, flat_map, sym, ap,
 use Rattle.std.proofs.lemmas.List.{drop-append-le}
 use Rattle.unftp_control_defs.specs.Bytes.{Bytes, CR, LF}
 use Rattle.unftp_control_defs.specs.ReplyReader.{with_crlf, FrontReply, IsMalformed}
-use Rattle.unftp_control_defs.specs.ReplySteps.{TakesReply}
+use Rattle.unftp_control_defs.specs.TakingSteps.{TakesReply}
 use Rattle.unftp_control_defs.proofs.ReplyCasesLemmas.{front_within}
 
 pub FrontReply-append : (bytes more : Bytes) (code : ℕ) (lines : List Bytes) (used : ℕ) → FrontReply bytes code lines used → FrontReply (bytes ++ more) code lines used

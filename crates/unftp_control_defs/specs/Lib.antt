@@ -12,11 +12,10 @@ pub mod Canonical
 pub mod FtpReply
 pub mod ReplyReader
 pub mod ReplyLimit
-pub mod ReplySteps
+pub mod TakingSteps
 pub mod Events
 pub mod Texts
 pub mod Run
 pub mod Pieces
-pub mod EventSteps
 pub mod Steps
 pub mod LossyText

@@ -1,9 +1,9 @@
 //! Replies as a client reads them.
-ghost use Rattle.std.specs.Prelude.{◌≡◌, [], ◌∷◌, ◌++◌, None, Some, codes};
+ghost use Rattle.std.specs.Prelude.{◌≡◌, ℕ, List, [], ◌∷◌, ◌++◌, None, Some, codes};
 ghost use Rattle.unftp_control_defs.specs.FtpReply.{Nothing, CodeAndMsg};
 ghost use Rattle.unftp_control_defs.specs.ReplyLimit.{IsTooLongReply};
 ghost use Rattle.unftp_control_defs.specs.ReplyReader.{LacksCrlf, SpellsCode, GoesOn, FrontReply, HasFront, Opens, IsMalformed, IsPartial, AllReplies, ReadsBack};
-ghost use Rattle.unftp_control_defs.specs.ReplySteps.{TakesReply, AreReplies, Pushed, Taken, AreReplySteps, pushed_bytes, taken_replies};
+ghost use Rattle.unftp_control_defs.specs.TakingSteps.{TakesReply, AreReplies, Pushed, Taken, AreTakingSteps, all_pushed, all_taken};
 
 /// Where a text has no CR LF.
 pub fn texts_lack_crlf()
@@ -159,17 +159,17 @@ pub fn replies_follow_one_another_so()
 
 /// Which steps of a client lead from no bytes to these.
 pub fn replies_are_taken_so()
-    ensures two_pieces { AreReplySteps []
+    ensures two_pieces { AreTakingSteps TakesReply []
         (Pushed (codes "211 a\r") ∷ Pushed (codes "\n22") ∷ Taken (211, codes "a" ∷ []) ∷ [])
         (codes "22") }
-    ensures not_complete { ¬ AreReplySteps []
+    ensures not_complete { ¬ AreTakingSteps TakesReply []
         (Pushed (codes "211 a\r") ∷ Taken (211, codes "a" ∷ []) ∷ Pushed (codes "\n22") ∷ [])
         (codes "22") }
-    ensures piece_forgotten { ¬ AreReplySteps [] (Pushed (codes "22") ∷ []) [] }
-    ensures input { pushed_bytes
+    ensures piece_forgotten { ¬ AreTakingSteps TakesReply [] (Pushed (codes "22") ∷ []) [] }
+    ensures input { all_pushed {A = ℕ × List Bytes}
         (Pushed (codes "211 a\r") ∷ Pushed (codes "\n22") ∷ Taken (211, codes "a" ∷ []) ∷ [])
         ≡ codes "211 a\r\n22" }
-    ensures replies { taken_replies
+    ensures replies { all_taken {A = ℕ × List Bytes}
         (Pushed (codes "211 a\r\n") ∷ Taken (211, codes "a" ∷ []) ∷ Pushed (codes "22") ∷ [])
         ≡ (211, codes "a" ∷ []) ∷ [] }
 {}

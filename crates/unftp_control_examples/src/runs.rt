@@ -5,7 +5,7 @@ ghost use Rattle.unftp_control_defs.specs.FtpCommand.{Noop, Pwd, Quit, InvalidCo
 ghost use Rattle.unftp_control_defs.specs.FtpReply.{CodeAndMsg};
 ghost use Rattle.unftp_control_defs.specs.Run.{Law, run_of, ends, replies, last_state, text_for, after_lines, unread, after_end};
 ghost use Rattle.unftp_control_defs.specs.Pieces.{events_in_turn, events_in_turn, replies_in_turn};
-ghost use Rattle.unftp_control_defs.specs.EventSteps.{TakesEvent, PiecePushed, EventTaken, AreEventSteps, input_of_steps, taken_events};
+ghost use Rattle.unftp_control_defs.specs.TakingSteps.{TakesEvent, Pushed, Taken, AreTakingSteps, all_pushed, all_taken};
 ghost use Rattle.unftp_control_defs.specs.Steps.{AreSteps, last_place};
 ghost use Rattle.unftp_control_defs.specs.Texts.{error_text, kind_text, parse_error_text, reading_text};
 
@@ -166,17 +166,17 @@ pub fn events_are_taken_so()
 
 /// Which steps of a server lead from no bytes to these.
 pub fn event_steps_are_so()
-    ensures two_pieces { AreEventSteps None []
-        (PiecePushed (codes "NOOP") ∷ PiecePushed (codes "\nNO") ∷ EventTaken (Command Noop) ∷ [])
+    ensures two_pieces { AreTakingSteps (TakesEvent None) []
+        (Pushed (codes "NOOP") ∷ Pushed (codes "\nNO") ∷ Taken (Command Noop) ∷ [])
         (codes "NO") }
-    ensures not_complete { ¬ AreEventSteps None []
-        (PiecePushed (codes "NOOP") ∷ EventTaken (Command Noop) ∷ PiecePushed (codes "\nNO") ∷ [])
+    ensures not_complete { ¬ AreTakingSteps (TakesEvent None) []
+        (Pushed (codes "NOOP") ∷ Taken (Command Noop) ∷ Pushed (codes "\nNO") ∷ [])
         (codes "\nNO") }
-    ensures piece_forgotten { ¬ AreEventSteps None [] (PiecePushed (codes "NO") ∷ []) [] }
-    ensures input { input_of_steps
-        (PiecePushed (codes "NOOP") ∷ PiecePushed (codes "\nNO") ∷ EventTaken (Command Noop) ∷ [])
+    ensures piece_forgotten { ¬ AreTakingSteps (TakesEvent None) [] (Pushed (codes "NO") ∷ []) [] }
+    ensures input { all_pushed
+        (Pushed (codes "NOOP") ∷ Pushed (codes "\nNO") ∷ Taken (Command Noop) ∷ [])
         ≡ codes "NOOP\nNO" }
-    ensures events { taken_events
-        (PiecePushed (codes "NOOP\n") ∷ EventTaken (Command Noop) ∷ PiecePushed (codes "NO") ∷ [])
+    ensures events { all_taken
+        (Pushed (codes "NOOP\n") ∷ Taken (Command Noop) ∷ Pushed (codes "NO") ∷ [])
         ≡ Command Noop ∷ [] }
 {}

@@ -3,22 +3,22 @@ use Rattle.std.proofs.Common.{◌≡◌, ◌↔◌, ℕ, List, [], ◌∷◌, �
 use Rattle.std.proofs.lemmas.List.{append-nil}
 use Rattle.unftp_control_defs.specs.Bytes.{Bytes}
 use Rattle.unftp_control_defs.specs.ReplyReader.{HasFront, AllReplies}
-use Rattle.unftp_control_defs.specs.ReplySteps.{TakesReply, AreReplies, ReplyStep, Pushed, Taken, AreReplySteps, pushed_bytes, taken_replies}
+use Rattle.unftp_control_defs.specs.TakingSteps.{TakesReply, AreReplies, TakingStep, Pushed, Taken, AreTakingSteps, all_pushed, all_taken}
 use Rattle.unftp_control_defs.proofs.ReplyUniqueLemmas.{FrontReply-unique}
 use Rattle.unftp_control_defs.proofs.ReplyAppendLemmas.{TakesReply-append}
 
 -- the replies that are taken are those of all bytes
-pub steps-replies : (before : Bytes) (steps : List ReplyStep) (after : Bytes)
-    → AreReplySteps before steps after
-    → AreReplies (before ++ pushed_bytes steps) (taken_replies steps) after
+pub steps-replies : (before : Bytes) (steps : List (TakingStep (ℕ × List Bytes))) (after : Bytes)
+    → AreTakingSteps TakesReply before steps after
+    → AreReplies (before ++ all_pushed steps) (all_taken steps) after
 steps-replies before [] after are = are ∙ sym (append-nil before)
 steps-replies before (Pushed piece ∷ steps) after are =
-    let whole = append_assoc before piece (pushed_bytes steps) in
-    subst (λ bytes. AreReplies bytes (taken_replies steps) after) whole
+    let whole = append_assoc before piece (all_pushed steps) in
+    subst (λ bytes. AreReplies bytes (all_taken steps) after) whole
     (steps-replies (before ++ piece) steps after are)
 steps-replies before (Taken reply ∷ steps) after (following, taken, are) = (
-  following ++ pushed_bytes steps,
-  TakesReply-append before (pushed_bytes steps) reply following taken,
+  following ++ all_pushed steps,
+  TakesReply-append before (all_pushed steps) reply following taken,
   steps-replies following steps after are,
 )
 

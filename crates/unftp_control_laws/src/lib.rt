@@ -9,7 +9,7 @@ ghost use Rattle.std.specs.Str.Lossy.{utf8_lossy};
 ghost use Rattle.unftp_control_commands.specs.Answers.{port_reply};
 ghost use Rattle.unftp_control_defs.specs.Bytes.{Bytes, LF, crlf, Lacks};
 ghost use Rattle.unftp_control_defs.specs.Canonical.{canonical_line, HasLine};
-ghost use Rattle.unftp_control_defs.specs.EventSteps.{EventStep, AreEventSteps, input_of_steps, taken_events};
+ghost use Rattle.unftp_control_defs.specs.TakingSteps.{TakingStep, TakesEvent, AreTakingSteps, all_pushed, all_taken};
 ghost use Rattle.unftp_control_defs.specs.Pieces.{events_in_turn, events_in_turn, replies_in_turn};
 ghost use Rattle.unftp_control_defs.specs.Events.{FtpEvent, Refused, events, line_too_long, event_for};
 ghost use Rattle.unftp_control_defs.specs.FtpCommand.{FtpCommand, User, HasTypedFields};
@@ -127,17 +127,17 @@ pub fn any_cutting<H: Handler>()
 /// those of the pending bytes, are the events of the input; and where no line is pending, they are
 /// all of them, and the incomplete line is pending.
 pub fn events_taken_in_steps()
-    ensures same_events { (limit : Option ℕ) (steps : List EventStep) (pending : Bytes)
-        → AreEventSteps limit [] steps pending
-        → taken_events steps ++ events limit pending
-        ≡ events limit (input_of_steps steps) }
-    ensures incomplete { (limit : Option ℕ) (steps : List EventStep) (pending : Bytes)
-        → AreEventSteps limit [] steps pending
-        → incomplete_line pending ≡ incomplete_line (input_of_steps steps) }
-    ensures all { (limit : Option ℕ) (steps : List EventStep) (pending : Bytes)
-        → AreEventSteps limit [] steps pending → Lacks LF pending
-        → (taken_events steps ≡ events limit (input_of_steps steps))
-        × (pending ≡ incomplete_line (input_of_steps steps)) }
+    ensures same_events { (limit : Option ℕ) (steps : List (TakingStep FtpEvent)) (pending : Bytes)
+        → AreTakingSteps (TakesEvent limit) [] steps pending
+        → all_taken steps ++ events limit pending
+        ≡ events limit (all_pushed steps) }
+    ensures incomplete { (limit : Option ℕ) (steps : List (TakingStep FtpEvent)) (pending : Bytes)
+        → AreTakingSteps (TakesEvent limit) [] steps pending
+        → incomplete_line pending ≡ incomplete_line (all_pushed steps) }
+    ensures all { (limit : Option ℕ) (steps : List (TakingStep FtpEvent)) (pending : Bytes)
+        → AreTakingSteps (TakesEvent limit) [] steps pending → Lacks LF pending
+        → (all_taken steps ≡ events limit (all_pushed steps))
+        × (pending ≡ incomplete_line (all_pushed steps)) }
 {}
 
 /// Bytes after the line that ended the session change nothing: not what is written, nor the handler's

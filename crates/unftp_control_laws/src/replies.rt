@@ -5,7 +5,7 @@ ghost use Rattle.unftp_control_defs.specs.Bytes.{Bytes};
 ghost use Rattle.unftp_control_defs.specs.FtpReply.{FtpReply, IsPlain, encoded, reply_as_read};
 ghost use Rattle.unftp_control_defs.specs.ReplyLimit.{IsTooLongReply};
 ghost use Rattle.unftp_control_defs.specs.ReplyReader.{LacksCrlf, with_crlf, FrontReply, HasFront, Opens, IsMalformed, IsPartial, AllReplies, ReadsBack};
-ghost use Rattle.unftp_control_defs.specs.ReplySteps.{AreReplies, ReplyStep, AreReplySteps, pushed_bytes, taken_replies};
+ghost use Rattle.unftp_control_defs.specs.TakingSteps.{TakesReply, AreReplies, TakingStep, AreTakingSteps, all_pushed, all_taken};
 
 /// The bytes begin with a reply, or with a part of one, or they are malformed; and exactly one of
 /// these holds (RFC 959, section 4.2).
@@ -49,8 +49,9 @@ pub fn replies_read_back()
 /// whole input, and the bytes after them are pending; once no reply is at the start of the pending
 /// bytes, an input has one list of replies (RFC 959, section 4.2).
 pub fn any_cutting_of_replies()
-    ensures replies { (steps : List ReplyStep) (pending : Bytes) → AreReplySteps [] steps pending
-        → AreReplies (pushed_bytes steps) (taken_replies steps) pending }
+    ensures replies { (steps : List (TakingStep (ℕ × List Bytes))) (pending : Bytes)
+        → AreTakingSteps TakesReply [] steps pending
+        → AreReplies (all_pushed steps) (all_taken steps) pending }
     ensures only { (input : Bytes) (replies others : List (ℕ × List Bytes)) (pending end : Bytes)
         → AreReplies input replies pending → ¬ HasFront pending
         → AreReplies input others end → ¬ HasFront end

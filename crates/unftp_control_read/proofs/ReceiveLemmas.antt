@@ -5,7 +5,7 @@ use Rattle.std.proofs.KnownBytes.{Consumes-nil, Consumes-trans, Consumes-kept}
 use Rattle.std.proofs.Math.Nat.{le-max_left, le-max_right}
 use Rattle.unftp_control_defs.specs.Bytes.{Bytes}
 use Rattle.unftp_control_defs.specs.ReplyReader.{IsPartial}
-use Rattle.unftp_control_defs.specs.ReplySteps.{TakesReply}
+use Rattle.unftp_control_defs.specs.TakingSteps.{TakesReply}
 use Rattle.unftp_control_defs.proofs.ReplyAppendLemmas.{TakesReply-append}
 use Rattle.unftp_control_read.specs.ReplyDecoding.{HasError, HasNoReply, IsShortPart, PendingReplies, TakesFirst, appended, content, copy_scans}
 use Rattle.unftp_control_read.specs.Receiving.{AppendsPending, HasFailure, IsOfRead, Receives, failure_of}

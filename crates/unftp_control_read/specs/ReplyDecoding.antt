@@ -3,7 +3,7 @@ use Rattle.std.specs.Prelude.{◌≡◌, ℕ, ◌+◌, ◌-◌, ◌<◌, ◌≤�
 use Rattle.unftp_control_defs.specs.Bytes.{Bytes}
 use Rattle.unftp_control_defs.specs.ReplyReader.{HasFront, IsMalformed, IsPartial}
 use Rattle.unftp_control_defs.specs.ReplyLimit.{IsTooLongReply}
-use Rattle.unftp_control_defs.specs.ReplySteps.{TakesReply}
+use Rattle.unftp_control_defs.specs.TakingSteps.{TakesReply}
 use Rattle.unftp_control_read.specs.Reading.{contents, scanned_to_copy}
 use Rattle.unftp_control_read.specs.Search.{IsSearched, scan_offset}
 use Rattle.unftp_control_read.specs.declared.search.Search.{Search}

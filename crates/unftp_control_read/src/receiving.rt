@@ -1,7 +1,7 @@
 //! Replies from a reader.
 ghost use Rattle.std.specs.Prelude.{◌≡◌, ◌+◌, ◌*◌, ◌≤◌, length, max, ◌++◌, replicate, IfOk, IfSome, IfNone, OnOk, OnErr};
 ghost use Rattle.unftp_control_defs.specs.ReplyReader.{IsPartial};
-ghost use Rattle.unftp_control_defs.specs.ReplySteps.{TakesReply};
+ghost use Rattle.unftp_control_defs.specs.TakingSteps.{TakesReply};
 ghost use Rattle.unftp_control_read.specs.ReplyDecoding.{content};
 ghost use Rattle.unftp_control_read.specs.Receiving.{AppendsPiece, Receives};
 
