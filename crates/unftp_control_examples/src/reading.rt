@@ -1,5 +1,6 @@
 //! Replies as a client reads them.
 ghost use Rattle.std.specs.Prelude.{◌≡◌, ℕ, List, [], ◌∷◌, ◌++◌, None, Some, codes};
+ghost use Rattle.unftp_control_defs.specs.Bytes.{Bytes};
 ghost use Rattle.unftp_control_defs.specs.FtpReply.{Nothing, CodeAndMsg};
 ghost use Rattle.unftp_control_defs.specs.ReplyLimit.{IsTooLongReply};
 ghost use Rattle.unftp_control_defs.specs.ReplyReader.{LacksCrlf, SpellsCode, GoesOn, FrontReply, HasFront, Opens, IsMalformed, IsPartial, AllReplies, ReadsBack};
