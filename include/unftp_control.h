@@ -132,8 +132,8 @@ enum unftp_result {
  * At UNFTP_OUT_OF_MEMORY, UNFTP_NO_ROOM and UNFTP_INVALID_ARGUMENT nothing is used up, and *offset,
  * *skipping and both areas are as they were.
  */
-uint32_t unftp_next(const uint8_t *bytes, size_t len, size_t *offset, size_t limit, bool *skipping,
-                    uint8_t *name, size_t name_room, size_t *name_len,
+uint32_t unftp_next(const uint8_t *bytes, size_t bytes_len, size_t *offset, size_t limit,
+                    bool *skipping, uint8_t *name, size_t name_room, size_t *name_len,
                     uint8_t *value, size_t value_room, size_t *value_len, size_t *used) UNFTP_NONNULL;
 
 /*
@@ -155,7 +155,7 @@ uint32_t unftp_reply(uint32_t code, const uint8_t *text, size_t text_len,
  * UNFTP_MALFORMED; *code and *used are then 0. A line ends at CR LF, and a bare LF belongs to it. It
  * takes no memory, and scans from the start at each call.
  */
-uint32_t unftp_front_reply(const uint8_t *bytes, size_t len, uint32_t *code, size_t *used)
+uint32_t unftp_front_reply(const uint8_t *bytes, size_t bytes_len, uint32_t *code, size_t *used)
     UNFTP_NONNULL;
 
 /*
