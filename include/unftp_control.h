@@ -140,8 +140,8 @@ uint32_t unftp_next(const uint8_t *bytes, size_t bytes_len, size_t *offset, size
  * Writes the bytes of a reply to the start of out, and *len is how many they are (RFC 959, section
  * 4.2). The text is of one line, or of several that are divided by line feeds. It returns UNFTP_DONE;
  * UNFTP_UNKNOWN_CODE for a number that is no code of a reply; UNFTP_INVALID_UTF8; UNFTP_NO_ROOM, where
- * *len is the room that is needed; or UNFTP_OUT_OF_MEMORY. out is as it was but at UNFTP_DONE. A text of
- * n bytes with k line feeds needs at most n + 2 k + 10.
+ * *len is the room that is needed; or UNFTP_OUT_OF_MEMORY, but never for a text of one line. out is as
+ * it was but at UNFTP_DONE. A text of n bytes with k line feeds needs at most n + 2 k + 10.
  *
  * A client that reads by RFC 959 finds in these bytes exactly this reply, whatever the text holds: a CR
  * of it is written as it is, and a line before the last that begins with a digit follows a space.

@@ -1,14 +1,12 @@
-use Rattle.unftp_control_c.proofs.TakingLemmas.{line_taken, none_taken, begins, grows}
+use Rattle.unftp_control_c.proofs.TakingLemmas.{given_first, given_all, given_none, all_kept, room_again}
 use Rattle.unftp_control_c.proofs.laws.calls_take_events.Goals as goal
 
-pub returns-clause-takes : goal.returns-clause-takes
-returns-clause-takes c = λ call dropped k kept at used. line_taken call dropped kept k at used
-
-pub returns-clause-waits : goal.returns-clause-waits
-returns-clause-waits c = λ call dropped kept none. none_taken call dropped kept none
-
-pub returns-clause-begins : goal.returns-clause-begins
-returns-clause-begins c = begins
-
-pub returns-clause-grows : goal.returns-clause-grows
-returns-clause-grows c = grows
+pub returns : goal.returns
+returns c = record {
+  first = λ limit steps after are. given_first limit after steps are;
+  all = λ limit steps after name value left are leaves more. given_all limit after steps name value left are leaves more;
+  nothing_used = λ limit steps after name value left are leaves used. given_none limit after steps name value left are leaves used;
+  kept = λ limit connection name value left leaves is. all_kept limit connection name value left leaves is;
+  room = λ limit connection name value wider longer left again leaves is wide long later none.
+      room_again limit connection name value wider longer left again leaves is wide long later none;
+}
