@@ -1,4 +1,5 @@
 pub mod AreaLemmas
+pub mod CallLemmas
 pub mod CanonicalLineLemmas
 pub mod NextLemmas
 pub mod ReplyLemmas

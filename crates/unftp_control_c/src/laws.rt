@@ -23,11 +23,16 @@ pub fn calls_take_events()
         (left : Left) → AreSteps limit new_connection steps after
         → Leaves (call_of limit after name value) left → left.result ≡ status_number More
         → all_given steps ≡ map given_for (events (line_limit limit) (input_of steps)) }
-    // A call that uses nothing up gives none; one without room or memory changes nothing.
+    // A call that uses nothing up asks for more, or has no room or no memory.
     ensures nothing_used { (limit : ℕ) (steps : List Step) (after : Connection)
         (name value : Bytes) (left : Left) → AreSteps limit new_connection steps after
         → Leaves (call_of limit after name value) left → left.used ≡ 0
         → gives_none left.result ≡ true }
+{}
+
+/// A call without room or memory may be made again.
+pub fn calls_are_made_again()
+    // Nothing has changed.
     ensures kept { (limit : ℕ) (connection : Connection) (name value : Bytes) (left : Left)
         → Leaves (call_of limit connection name value) left
         → (left.result ≡ status_number NoRoom) ⊎ (left.result ≡ status_number OutOfMemory)

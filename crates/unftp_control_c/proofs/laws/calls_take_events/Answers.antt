@@ -1,5 +1,5 @@
 -- What a caller takes, call after call.
-use Rattle.std.proofs.Common.{◌≡◌, ◌≢◌, ℕ, zero, suc, ◌+◌, ◌<◌, ◌≤◌, Bool, true, false, List, [], ◌∷◌, ◌++◌, ◌⊎◌, map, length, take, drop, Option, Some, None, Ok, Err, refl, sym, ap, subst, ◌∙◌, inl, inr, arith, append_assoc, append-nil, length-append, ne_eqb, eqb-true}
+use Rattle.std.proofs.Common.{◌≡◌, ◌≢◌, ℕ, zero, suc, ◌+◌, ◌<◌, ◌≤◌, Bool, true, false, List, [], ◌∷◌, ◌++◌, ◌⊎◌, map, length, take, drop, Option, Some, None, Ok, Err, refl, sym, ap, ◌∙◌, inl, inr, arith, append_assoc, append-nil, length-append, ne_eqb, eqb-true}
 use Rattle.std.specs.Prelude.{slice_index, if◌then◌else◌, ◌||◌, unwrap_or}
 use Rattle.std.proofs.lemmas.Bool.{cases_lt, le-leb, lt-ltb, ltb-true}
 use Rattle.std.proofs.lemmas.Grind.{common_steps}
@@ -8,7 +8,7 @@ use Rattle.std.proofs.Math.Seq.{take-length, take-append_seam}
 use Rattle.unftp_control_defs.specs.Bytes.{Bytes, LF, Lacks}
 use Rattle.unftp_control_defs.specs.EventSteps.{TakesEvent}
 use Rattle.unftp_control_defs.specs.Events.{FtpEvent, Refused, event_of, exceeds, line_too_long, event_for, events}
-use Rattle.unftp_control_defs.specs.FtpCommand.{Answer, FtpCommand, Refusal, User, InvalidCommand, InvalidUtf8, InvalidEol}
+use Rattle.unftp_control_defs.specs.FtpCommand.{Answer, FtpCommand}
 use Rattle.unftp_control_defs.specs.Lines.{IsLine}
 use Rattle.unftp_control_defs.specs.NameAndValue.{name_and_value}
 use Rattle.unftp_control_defs.specs.Outcome.{outcome}
@@ -17,11 +17,12 @@ use Rattle.unftp_control_defs.proofs.LineLemmas.{events-incomplete}
 use Rattle.unftp_control_defs.proofs.TakenEventLemmas.{TakesEvent-events}
 use Rattle.unftp_control_codecs.specs.LineFeed.{is_line_feed, line_feed_from}
 use Rattle.unftp_control_codecs.proofs.LineFeedLemmas.{NoLineFeed, line_feed_at, line_feed_nowhere}
-use Rattle.unftp_control_c.specs.declared.status.Status.TheVariants.{More, NoRoom, OutOfMemory, InvalidArgument}
+use Rattle.unftp_control_c.specs.declared.status.Status.TheVariants.{More, OutOfMemory}
 use Rattle.unftp_control_c.specs.Next.{Call, Left, Leaves, answered, by_line_feed, ended, gives, has_room, incomplete, is_long, is_within, kept, line_limit, next_of}
-use Rattle.unftp_control_c.specs.Numbers.{command_number, refusal_status, status_number}
+use Rattle.unftp_control_c.specs.Numbers.{status_number}
 use Rattle.unftp_control_c.specs.Taking.{AreSteps, Called, Connection, Given, Received, Step, after_call, after_piece, all_given, call_of, given_by, given_for, gives_none, input_of, new_connection}
 use Rattle.unftp_control_c.proofs.NextLemmas.{status_of_refusal}
+use Rattle.unftp_control_c.proofs.CallLemmas.{NextLeft, invalid, asks, gave, no_room, command_gives, refusal_gives, left_so, gives_some}
 use Rattle.unftp_control_c.proofs.laws.calls_take_events.Goals as goal
 
 not_lf : (b : ℕ) → is_line_feed b ≡ false → b ≢ LF
@@ -94,16 +95,6 @@ kept_with_piece limit now dropped piece kept = record {
   dropped_unended = kept.dropped_unended;
   dropped_well = kept.dropped_well;
 }
-
--- what is given of a command, and of a refused line
-command_gives : (command : FtpCommand) → gives_none (command_number command) ≡ false
-command_gives (User name) = refl
-command_gives _ = refl
-
-refusal_gives : (refusal : Refusal) → gives_none (status_number (refusal_status refusal)) ≡ false
-refusal_gives InvalidCommand = refl
-refusal_gives InvalidUtf8 = refl
-refusal_gives InvalidEol = refl
 
 -- What a step does: nothing is given, and the bytes from the first line on are those from before; or the first line's event is.
 data Does (limit : Option ℕ) (before : Bytes) (left : Left) (after : Connection) : Type 0 where
@@ -279,88 +270,10 @@ module _ (limited : ℕ) (after : Connection) where
     given_first : (later : List Given) × (all_given steps ++ later ≡ map given_for (events (line_limit limited) (input_of steps)))
     given_first = (map given_for (events (line_limit limited) (run.rest ++ after.bytes)), run.in_order)
 
--- the areas have no room for a command's name or value
-abbrev without_room : Call → FtpCommand → Left
-without_room call command = record {
-  result = status_number NoRoom;
-  used = 0;
-  offset = call.offset;
-  skipping = call.skipping;
-  name = call.name;
-  name_length = length (name_and_value command).0;
-  value = call.value;
-  value_length = length (unwrap_or (name_and_value command).1 []);
-}
-
--- what a call leaves, by its result
-data NextLeft (call : Call) (left : Left) : Type 0 where
-  invalid : is_within call.offset call.skipping (length call.bytes) ≡ false → left ≡ kept call InvalidArgument → NextLeft call left
-  asks : line_feed_from call.bytes call.offset ≡ None → left.result ≡ status_number More → NextLeft call left
-  gave : gives_none left.result ≡ false → 0 < left.used → NextLeft call left
-  no_room : (k : ℕ) (command : FtpCommand) → is_within call.offset call.skipping (length call.bytes) ≡ true → line_feed_from call.bytes call.offset ≡ Some k
-      → is_long call (k + 1) ≡ false → outcome (take (k + 1) call.bytes) ≡ Ok command → left ≡ without_room call command → NextLeft call left
-
-module _ (call : Call) where
-  abbrev feed : Option ℕ
-  feed = line_feed_from call.bytes call.offset
-
-  abbrev valid : Bool
-  valid = is_within call.offset call.skipping (length call.bytes)
-
-  left_waiting : feed ≡ None → (long : Bool) → is_long call (length call.bytes + 1) ≡ long → NextLeft call (incomplete call)
-  left_waiting none true e = rw e (asks none refl)
-  left_waiting none false e = rw e (asks none refl)
-
-  left_command : (k : ℕ) (command : FtpCommand) → valid ≡ true → feed ≡ Some k → is_long call (k + 1) ≡ false → outcome (take (k + 1) call.bytes) ≡ Ok command
-      → (room : Bool) → has_room command call.name call.value ≡ room → NextLeft call (gives call (k + 1) command)
-  left_command k command ok at short read true e = rw e (gave (command_gives command) (omega arith))
-  left_command k command ok at short read false e = rw e (no_room k command ok at short read refl)
-
-  left_answer : (k : ℕ) → valid ≡ true → feed ≡ Some k → is_long call (k + 1) ≡ false → (answer : Answer) → outcome (take (k + 1) call.bytes) ≡ answer → NextLeft call (answered call (k + 1) answer)
-  left_answer k ok at short (Ok command) read = left_command k command ok at short read (has_room command call.name call.value) refl
-  left_answer k ok at short (Err refusal) read = gave (refusal_gives refusal) (omega arith)
-
-  left_line : (k : ℕ) → valid ≡ true → feed ≡ Some k → (long : Bool) → is_long call (k + 1) ≡ long → NextLeft call (ended call k)
-  left_line k ok at true e = rw e (gave refl (omega arith))
-  left_line k ok at false e = rw e (left_answer k ok at e (outcome (take (k + 1) call.bytes)) refl)
-
-  left_feed : valid ≡ true → (o : Option ℕ) → feed ≡ o → NextLeft call (by_line_feed call o)
-  left_feed ok None e = left_waiting e (is_long call (length call.bytes + 1)) refl
-  left_feed ok (Some k) e = left_line k ok e (is_long call (k + 1)) refl
-
-  left_by : (ok : Bool) → valid ≡ ok → NextLeft call (next_of call)
-  left_by false e = rw e (invalid e refl)
-  left_by true e = rw e (left_feed e feed refl)
-
-  next_left : NextLeft call (next_of call)
-  next_left = left_by valid refl
-
-  -- with the memory that may be missing
-  left_so : (left : Left) → Leaves call left → NextLeft call left ⊎ (left ≡ kept call OutOfMemory)
-  left_so left (inl next) = inl (rw next next_left)
-  left_so left (inr ran_out) = inr ran_out.1
-
-gives_some : (result : ℕ) → gives_none result ≡ false → (result ≢ status_number More) × (result ≢ status_number NoRoom) × (result ≢ status_number OutOfMemory)
-gives_some result h = (
-  λ e. let found = subst (λ n. gives_none n ≡ false) e h in cc,
-  λ e. let found = subst (λ n. gives_none n ≡ false) e h in cc,
-  λ e. let found = subst (λ n. gives_none n ≡ false) e h in cc,
-)
-
 module _ (limited : ℕ) (now : Connection) (name value : Bytes) (left : Left) where
   abbrev made : Call
   made = call_of limited now name value
 
-  nothing_lost : NextLeft made left ⊎ (left ≡ kept made OutOfMemory) → (left.result ≡ status_number NoRoom) ⊎ (left.result ≡ status_number OutOfMemory) → after_call now left ≡ now
-  nothing_lost (inr e) is = rw e refl
-  nothing_lost (inl (invalid not_within e)) is = rw e refl
-  nothing_lost (inl (asks none more)) (inl is) = absurd (omega (arith, sym more ∙ is))
-  nothing_lost (inl (asks none more)) (inr is) = absurd (omega (arith, sym more ∙ is))
-  nothing_lost (inl (gave some used)) (inl is) = absurd ((gives_some left.result some).1 is)
-  nothing_lost (inl (gave some used)) (inr is) = absurd ((gives_some left.result some).2 is)
-  nothing_lost (inl (no_room k command ok at short read e)) is = rw e refl
-
-  -- a call that is made after some steps
   uses_none : (dropped : Bytes) → IsKept (line_limit limited) now dropped → NextLeft made left ⊎ (left ≡ kept made OutOfMemory) → left.used ≡ 0 → gives_none left.result ≡ true
   uses_none dropped kept_so (inr e) used = rw e refl
   uses_none dropped kept_so (inl (invalid not_within e)) used =
@@ -390,41 +303,10 @@ given_none limited after steps name value left are leaves used =
     let before = run limited after steps are in
     uses_none limited after name value left before.rest before.rest_kept (left_so (call_of limited after name value) left leaves) used
 
-all_kept : (limited : ℕ) (now : Connection) (name value : Bytes) (left : Left) → Leaves (call_of limited now name value) left
-    → (left.result ≡ status_number NoRoom) ⊎ (left.result ≡ status_number OutOfMemory) → after_call now left ≡ now
-all_kept limited now name value left leaves is = nothing_lost limited now name value left (left_so (call_of limited now name value) left leaves) is
-
--- areas as long as a call without room has reported
-room_enough : (command : FtpCommand) (wider longer : Bytes) → length wider ≡ length (name_and_value command).0 → length longer ≡ length (unwrap_or (name_and_value command).1 []) → has_room command wider longer ≡ true
-room_enough command wider longer wide long =
-    rw (le-leb (length (name_and_value command).0) (length wider) (omega arith), le-leb (length (unwrap_or (name_and_value command).1 [])) (length longer) (omega arith)) refl
-
-module _ (limited : ℕ) (now : Connection) (name value wider longer : Bytes) (left again : Left) where
-  in_time : NextLeft (call_of limited now name value) left ⊎ (left ≡ kept (call_of limited now name value) OutOfMemory) → left.result ≡ status_number NoRoom
-      → length wider ≡ left.name_length → length longer ≡ left.value_length
-      → Leaves (call_of limited now wider longer) again → gives_none again.result ≡ true → again.result ≡ status_number OutOfMemory
-  in_time (inr e) is wide long leaves none = absurd (omega (arith, sym (ap (λ l. l.result) e) ∙ is))
-  in_time (inl (invalid not_within e)) is wide long leaves none = absurd (omega (arith, sym (ap (λ l. l.result) e) ∙ is))
-  in_time (inl (asks at more)) is wide long leaves none = absurd (omega (arith, sym more ∙ is))
-  in_time (inl (gave some used)) is wide long leaves none = absurd ((gives_some left.result some).1 is)
-  in_time (inl (no_room k command ok at short read e)) is wide long (inr ran_out) none = ap (λ l. l.result) ran_out.1
-  in_time (inl (no_room k command ok at short read e)) is wide long (inl next) none =
-      let room = room_enough command wider longer (wide ∙ ap (λ l. l.name_length) e) (long ∙ ap (λ l. l.value_length) e) in
-      let answers : again.result ≡ command_number command = ap (λ l. l.result) next ∙ rw (ok, at, short, read, room) refl in
-      absurd (let some = sym (command_gives command) ∙ ap gives_none (sym answers) ∙ none in cc)
-
-  room_again : Leaves (call_of limited now name value) left → left.result ≡ status_number NoRoom
-      → length wider ≡ left.name_length → length longer ≡ left.value_length
-      → Leaves (call_of limited now wider longer) again → gives_none again.result ≡ true → again.result ≡ status_number OutOfMemory
-  room_again leaves = in_time (left_so (call_of limited now name value) left leaves)
-
 -- the law
 pub returns : goal.returns
 returns c = record {
   first = λ limit steps after are. given_first limit after steps are;
   all = λ limit steps after name value left are leaves more. given_all limit after steps name value left are leaves more;
   nothing_used = λ limit steps after name value left are leaves used. given_none limit after steps name value left are leaves used;
-  kept = λ limit connection name value left leaves is. all_kept limit connection name value left leaves is;
-  room = λ limit connection name value wider longer left again leaves is wide long later none.
-      room_again limit connection name value wider longer left again leaves is wide long later none;
 }
