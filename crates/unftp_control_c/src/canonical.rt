@@ -21,10 +21,10 @@ pub extern "C" fn unftp_canonical(
     out: &mut [u8],
     len: &mut usize,
 ) -> u32
+    ensures memory { result ≡ status_number OutOfMemory → CanonicalMayTakeMemory line.now }
     ensures writes { (bytes : Made) × IsCanonical line.now bytes
         × (record { result = result; area = out.new; text_length = len.new }
         ≡ written bytes out.old) }
-    ensures memory { result ≡ status_number OutOfMemory → CanonicalMayTakeMemory line.now }
     ensures has_line { IsLine line.now → result ≢ status_number NoLine }
     ensures read_back { result ≡ status_number Done
         → outcome (take len.new out.new) ≡ outcome line.now }

@@ -28,11 +28,11 @@ pub extern "C" fn unftp_reply(
     out: &mut [u8],
     len: &mut usize,
 ) -> u32
+    // Only a text of several lines takes memory.
+    ensures memory { result ≡ status_number OutOfMemory → ¬ Lacks LF text.now }
     ensures writes { (bytes : Made) × EncodesReply code text.now bytes
         × (record { result = result; area = out.new; text_length = len.new }
         ≡ written bytes out.old) }
-    // Only a text of several lines takes memory.
-    ensures memory { result ≡ status_number OutOfMemory → ¬ Lacks LF text.now }
     // A client finds exactly this reply in the bytes.
     ensures read_back { result ≡ status_number Done
         → (reply : FtpReply) × IsReplyOf code text.now reply
