@@ -132,16 +132,16 @@ enum unftp_result {
  * At UNFTP_OUT_OF_MEMORY, UNFTP_NO_ROOM and UNFTP_INVALID_ARGUMENT nothing is used up, and *offset,
  * *skipping and both areas are as they were.
  */
-uint32_t unftp_next(const uint8_t *bytes, size_t len, size_t *offset, size_t limit, bool *skipping,
-                    uint8_t *name, size_t name_room, size_t *name_len,
+uint32_t unftp_next(const uint8_t *bytes, size_t bytes_len, size_t *offset, size_t limit,
+                    bool *skipping, uint8_t *name, size_t name_room, size_t *name_len,
                     uint8_t *value, size_t value_room, size_t *value_len, size_t *used) UNFTP_NONNULL;
 
 /*
  * Writes the bytes of a reply to the start of out, and *len is how many they are (RFC 959, section
  * 4.2). The text is of one line, or of several that are divided by line feeds. It returns UNFTP_DONE;
  * UNFTP_UNKNOWN_CODE for a number that is no code of a reply; UNFTP_INVALID_UTF8; UNFTP_NO_ROOM, where
- * *len is the room that is needed; or UNFTP_OUT_OF_MEMORY. out is as it was but at UNFTP_DONE. A text of
- * n bytes with k line feeds needs at most n + 2 k + 10.
+ * *len is the room that is needed; or UNFTP_OUT_OF_MEMORY, but never for a text of one line. out is as
+ * it was but at UNFTP_DONE. A text of n bytes with k line feeds needs at most n + 2 k + 10.
  *
  * A client that reads by RFC 959 finds in these bytes exactly this reply, whatever the text holds: a CR
  * of it is written as it is, and a line before the last that begins with a digit follows a space.
@@ -155,7 +155,7 @@ uint32_t unftp_reply(uint32_t code, const uint8_t *text, size_t text_len,
  * UNFTP_MALFORMED; *code and *used are then 0. A line ends at CR LF, and a bare LF belongs to it. It
  * takes no memory, and scans from the start at each call.
  */
-uint32_t unftp_front_reply(const uint8_t *bytes, size_t len, uint32_t *code, size_t *used)
+uint32_t unftp_front_reply(const uint8_t *bytes, size_t bytes_len, uint32_t *code, size_t *used)
     UNFTP_NONNULL;
 
 /*

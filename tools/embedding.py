@@ -7,6 +7,8 @@ usage: tools/embedding.py sessions|session SERVER..        the replies of the se
        tools/embedding.py read|canonical REPLAY..            the replies that servers wrote; the canonical lines of clients' commands
        tools/embedding.py valgrind LOG..                     whether each process ended without an error
        tools/embedding.py numbers                            the numbers of the header and of examples/rust are the definition's
+       tools/embedding.py exports                            header, library and examples/rust have the same functions, which it lists
+       tools/embedding.py parameters FUNCTION                names, order and types of its parameters in the three, and of its result
 
 SERVER.. and REPLAY.. may be the program and what runs it. The last line says what was compared; the status is 0 where all is right.
 """
@@ -386,6 +388,97 @@ def check_numbers():
     return f"{len(commands)} commands and {len(statuses)} other results"
 
 
+# what a type of the library's functions is to C: the type, and what follows the parameter's name, for each parameter that it is
+IN_C = {
+    "Global": [],
+    "&[u8]": [("const uint8_t *", ""), ("size_t", "_len")],
+    "&mut [u8]": [("uint8_t *", ""), ("size_t", "_room")],
+    "&mut usize": [("size_t *", "")],
+    "&mut u32": [("uint32_t *", "")],
+    "&mut bool": [("bool *", "")],
+    "usize": [("size_t", "")],
+    "u32": [("uint32_t", "")],
+}
+
+# what a type of examples/rust is to C
+FROM_RUST = {
+    "*const u8": "const uint8_t *",
+    "*mut u8": "uint8_t *",
+    "*mut usize": "size_t *",
+    "*mut u32": "uint32_t *",
+    "*mut bool": "bool *",
+    "usize": "size_t",
+    "u32": "uint32_t",
+}
+
+
+def functions_in(text, pattern):
+    """The functions that the pattern finds, by name: the texts of their parameters, and that of the result."""
+    found = {}
+    for match in re.finditer(pattern, text):
+        if match["name"] in found:
+            raise Wrong(f"{match['name']} is declared twice")
+        parameters = [" ".join(parameter.split()) for parameter in match["parameters"].split(",")]
+        found[match["name"]] = ([parameter for parameter in parameters if parameter], match["result"])
+    return found
+
+
+def in_the_library(parameters, result):
+    """The parameters of a function of the library, and its result, as C has them."""
+    pairs = [parameter.split(": ") for parameter in parameters]
+    return [(kind, name + end) for name, source in pairs for kind, end in IN_C[source]], IN_C[result][0][0]
+
+
+def in_the_header(parameters, result):
+    """The same of the header."""
+    return [re.fullmatch(r"(.*?) ?(\w+)", parameter).groups() for parameter in parameters], result
+
+
+def in_rust(parameters, result):
+    """The same of examples/rust."""
+    pairs = [parameter.split(": ") for parameter in parameters]
+    return [(FROM_RUST[kind], name) for name, kind in pairs], FROM_RUST[result]
+
+
+def exported():
+    """The functions of the library, of the header and of examples/rust, each as C has it."""
+    sources = sorted((TOP / "crates/unftp_control_c/src").rglob("*.rt"))
+    library = "\n".join(path.read_text(encoding="utf-8") for path in sources)
+    header = re.sub(r"/\*.*?\*/", " ", (TOP / "include/unftp_control.h").read_text(encoding="utf-8"), flags=re.S)
+    rust = (TOP / "examples/rust/src/ffi.rs").read_text(encoding="utf-8")
+    declared = rust[rust.index('extern "C" {'):]
+    return {
+        "the library": (in_the_library, functions_in(library, r'extern "C" fn (?P<name>\w+)\((?P<parameters>[^)]*)\) -> (?P<result>\w+)')),
+        "the header": (in_the_header, functions_in(header, r"(?P<result>\w+) (?P<name>unftp_\w+)\((?P<parameters>[^)]*)\)")),
+        "examples/rust": (in_rust, functions_in(declared[:declared.index("\n}")], r"fn (?P<name>\w+)\((?P<parameters>[^)]*)\) -> (?P<result>\w+);")),
+    }
+
+
+def check_exports():
+    """The three have the same functions."""
+    names = {where: sorted(functions) for where, (_, functions) in exported().items()}
+    for where, found in names.items():
+        wants(where, found, names["the library"])
+    if not names["the library"]:
+        raise Wrong("no function is exported")
+    return "\n".join([*names["the library"], f"{len(names['the library'])} functions"])
+
+
+def check_parameters(name):
+    """A function has the same parameters in the three, and the same result."""
+    found = {}
+    for where, (as_c, functions) in exported().items():
+        if name not in functions:
+            raise Wrong(f"{where} has no {name}")
+        try:
+            found[where] = as_c(*functions[name])
+        except (AttributeError, KeyError) as error:
+            raise Wrong(f"{where}: a parameter of {name} has another form: {error}") from error
+    for where, parameters in found.items():
+        wants(where, parameters, found["the library"])
+    return f"{len(found['the library'][0])} parameters"
+
+
 CHECKS = {
     "sessions": check_sessions,
     "session": check_session,
@@ -395,6 +488,8 @@ CHECKS = {
     "canonical": check_canonical,
     "valgrind": check_valgrind,
     "numbers": check_numbers,
+    "exports": check_exports,
+    "parameters": check_parameters,
 }
 
 

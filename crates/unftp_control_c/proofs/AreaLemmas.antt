@@ -1,9 +1,10 @@
 -- What is in an area after a text was written to it.
-use Rattle.std.proofs.Common.{◌≡◌, Bool, true, false, length, take, drop, arith}
+use Rattle.std.proofs.Common.{◌≡◌, Bool, true, false, ◌++◌, length, take, drop, arith, append_assoc, length-append}
 use Rattle.std.specs.Prelude.{if◌then◌else◌, nat_le}
 use Rattle.std.proofs.Math.Seq.{take-append_seam}
+use Rattle.std.proofs.lemmas.List.{drop-drop}
 use Rattle.unftp_control_defs.specs.Bytes.{Bytes}
-use Rattle.unftp_control_c.specs.declared.status.Status.TheVariants.{Done, NoRoom, NoLine}
+use Rattle.unftp_control_c.specs.declared.status.Status.TheVariants.{Done, NoRoom, NoLine, OutOfMemory}
 use Rattle.unftp_control_c.specs.Numbers.{status_number}
 use Rattle.unftp_control_c.specs.Areas.{Filled, filled, overwritten}
 
@@ -27,3 +28,14 @@ filled_has_line text area none = go (nat_le (length text) (length area)) none
     go : (room : Bool) → (by_room room text area).result ≡ status_number NoLine → ⊥
     go true none = omega (arith, none)
     go false none = omega (arith, none)
+
+pub filled_has_memory : (text area : Bytes) → (filled text area).result ≡ status_number OutOfMemory → ⊥
+filled_has_memory text area out = go (nat_le (length text) (length area)) out
+  where
+    go : (room : Bool) → (by_room room text area).result ≡ status_number OutOfMemory → ⊥
+    go true out = omega (arith, out)
+    go false out = omega (arith, out)
+
+-- two texts
+pub one_after_the_other : (text next area : Bytes) → text ++ overwritten next (drop (length text) area) ≡ overwritten (text ++ next) area
+one_after_the_other text next area = simp (append_assoc, drop-drop, length-append)

@@ -1,14 +1,19 @@
 -- What is reported of a canonical line.
-use Rattle.std.proofs.Common.{◌≡◌, ◌≢◌, Result, Ok, Err, refl, sym, ap, subst, ◌∙◌, Vec, ℕ, Global, take, arith}
+use Rattle.std.proofs.Common.{◌≡◌, ◌≢◌, Bool, true, false, Result, Ok, Err, refl, sym, ap, subst, ◌∙◌, inl, inr, Vec, ℕ, Global, take, arith}
 use Rattle.std.specs.Prelude.{IfOk}
 use Rattle.unftp_control_defs.specs.Bytes.{Bytes}
-use Rattle.unftp_control_defs.specs.FtpCommand.{FtpCommand, Refusal, InvalidCommand, InvalidUtf8, InvalidEol}
+use Rattle.unftp_control_defs.specs.FtpCommand.{FtpCommand, Syst, TypeCode, Help, Epsv, Allo, Noop, Pasv, Feat, Pwd, Cdup, Quit, Abor, Stou, Ccc, Refusal, InvalidCommand, InvalidUtf8, InvalidEol}
 use Rattle.unftp_control_defs.specs.Lines.{IsLine}
-use Rattle.unftp_control_defs.specs.Outcome.{outcome}
+use Rattle.unftp_control_defs.specs.Outcome.{answer_by, outcome}
+use Rattle.unftp_control_defs.specs.Rules.{rule_of}
+use Rattle.unftp_control_defs.specs.Verbs.{parameter_of, upper, verb_of}
+use Rattle.std.specs.Str.{is_utf8}
 use Rattle.unftp_control_defs.specs.Canonical.{HasLine}
+use Rattle.unftp_control_defs.proofs.AnswerLemmas.{passed}
 use Rattle.unftp_control_defs.proofs.CommandLineLemmas.{HasLine-outcome}
 use Rattle.unftp_control_error.specs.declared.parse_error.ParseErrorKind.{ParseErrorKind}
 use Rattle.unftp_control_error.specs.declared.parse_error.ParseErrorKind.TheVariants as kind
+use Rattle.unftp_control_line_parser.specs.Memory.{AnswerMayTakeMemory, IfOutOfMemory, MayTakeMemory, takes_no_memory}
 use Rattle.unftp_control_line_parser.specs.ParseAnswer.{Refuses}
 use Rattle.unftp_control_write.specs.declared.WriteCommandError.{WriteCommandError}
 use Rattle.unftp_control_write.specs.declared.WriteCommandError.TheVariants as error
@@ -16,8 +21,8 @@ use Rattle.unftp_control_c.specs.declared.status.Status.{Status}
 use Rattle.unftp_control_c.specs.declared.status.Status.TheVariants.{Done, NoLine, OutOfMemory}
 use Rattle.unftp_control_c.specs.Numbers.{status_number, kind_status, line_status, refusal_status}
 use Rattle.unftp_control_c.specs.Areas.{Made, made, written}
-use Rattle.unftp_control_c.specs.CanonicalLines.{IsCanonical, canonical, no_line, refused, out_of_memory}
-use Rattle.unftp_control_c.proofs.AreaLemmas.{filled_done, filled_has_line}
+use Rattle.unftp_control_c.specs.CanonicalLines.{CanonicalMayTakeMemory, IsCanonical, canonical, no_line, refused, out_of_memory}
+use Rattle.unftp_control_c.proofs.AreaLemmas.{filled_done, filled_has_line, filled_has_memory}
 
 pub refused_line : (line : Bytes) (why : ParseErrorKind) → Refuses (outcome line) why → IsCanonical line (Err (kind_status why))
 refused_line line kind.InvalidCommand h = refused InvalidCommand h refl
@@ -28,6 +33,40 @@ refused_line line kind.OutOfMemory h = out_of_memory refl
 pub unwritten_line : (line : Bytes) (command : FtpCommand) (why : WriteCommandError) → outcome line ≡ Ok command → (HasLine command → why ≡ error.OutOfMemory) → IsCanonical line (Err (line_status why))
 unwritten_line line command error.NoLine read has_line = no_line command read (λ h. let out = has_line h in cc) refl
 unwritten_line line command error.OutOfMemory read has_line = out_of_memory refl
+
+-- memory that is taken to read the line, or to write its command's
+pub refused_memory : (line : Bytes) (why : ParseErrorKind) → IfOutOfMemory why (MayTakeMemory line) → kind_status why ≡ OutOfMemory → CanonicalMayTakeMemory line
+refused_memory line kind.InvalidCommand h e = absurd (cc)
+refused_memory line kind.InvalidUtf8 h e = absurd (cc)
+refused_memory line kind.InvalidEol h e = absurd (cc)
+refused_memory line kind.OutOfMemory h e = inl h
+
+no_field_has_line : (command : FtpCommand) → takes_no_memory command ≡ true → HasLine command
+no_field_has_line Syst e = tt
+no_field_has_line TypeCode e = tt
+no_field_has_line Help e = tt
+no_field_has_line Epsv e = tt
+no_field_has_line Allo e = tt
+no_field_has_line Noop e = tt
+no_field_has_line Pasv e = tt
+no_field_has_line Feat e = tt
+no_field_has_line Pwd e = tt
+no_field_has_line Cdup e = tt
+no_field_has_line Quit e = tt
+no_field_has_line Abor e = tt
+no_field_has_line Stou e = tt
+no_field_has_line Ccc e = tt
+no_field_has_line _ e = absurd (cc)
+
+pub command_memory : (line : Bytes) (command : FtpCommand) → outcome line ≡ Ok command → CanonicalMayTakeMemory line
+command_memory line command read = by_field (takes_no_memory command) refl
+  where
+    by_field : (none : Bool) → takes_no_memory command ≡ none → CanonicalMayTakeMemory line
+    by_field true e = inr (command, read, no_field_has_line command e)
+    by_field false e = inl (
+      (passed (is_utf8 (verb_of line)) (answer_by (rule_of (upper (verb_of line))) (parameter_of line)) InvalidUtf8 command read).0,
+      subst AnswerMayTakeMemory (sym read) e,
+    )
 
 abbrev not_made : Status → Made
 not_made status = Err status
@@ -57,3 +96,20 @@ pub canonical_back : (line area : Bytes) (result : Result (Vec ℕ Global) Statu
     → (written (made result) area).result ≡ status_number Done → outcome (take (written (made result) area).text_length (written (made result) area).area) ≡ outcome line
 canonical_back line area (Ok buf) is back done = ap outcome (filled_done buf.items area done) ∙ back
 canonical_back line area (Err status) is back done = absurd (undone line status is done)
+
+-- a status is reported by its own number
+refusal_memory : (refusal : Refusal) → status_number (refusal_status refusal) ≢ status_number OutOfMemory
+refusal_memory InvalidCommand = λ e. omega (arith, e)
+refusal_memory InvalidUtf8 = λ e. omega (arith, e)
+refusal_memory InvalidEol = λ e. omega (arith, e)
+
+memory_of_status : (line : Bytes) (status : Status) → IsCanonical line (Err status) → status_number status ≡ status_number OutOfMemory → status ≡ OutOfMemory
+memory_of_status line status (canonical command read has_line e) out = absurd (cc)
+memory_of_status line status (no_line command read has_none e) out = absurd (omega (arith, ap status_number (sym (same_Err status NoLine e)) ∙ out))
+memory_of_status line status (refused refusal read e) out = absurd (refusal_memory refusal (ap status_number (sym (same_Err status (refusal_status refusal) e)) ∙ out))
+memory_of_status line status (out_of_memory e) out = same_Err status OutOfMemory e
+
+pub memory_taken : (line area : Bytes) (bytes : Made) → IsCanonical line bytes → (bytes ≡ Err OutOfMemory → CanonicalMayTakeMemory line)
+    → (written bytes area).result ≡ status_number OutOfMemory → CanonicalMayTakeMemory line
+memory_taken line area (Ok text) is may out = absurd (filled_has_memory text area out)
+memory_taken line area (Err status) is may out = may (ap not_made (memory_of_status line status is out))

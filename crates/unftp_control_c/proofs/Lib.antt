@@ -1,5 +1,5 @@
 pub mod AreaLemmas
+pub mod CallLemmas
 pub mod CanonicalLineLemmas
 pub mod NextLemmas
 pub mod ReplyLemmas
-pub mod TakingLemmas

@@ -13,10 +13,14 @@ use Rattle.unftp_control_c.specs.Areas.{Made}
 abbrev pub IsCode : ℕ → Type 0
 IsCode number = (100 ≤ number) × ((code : ReplyCode) × (number_of code ≡ number))
 
--- one line, or the lines that LFs divide
+-- the lines that LFs divide
+abbrev pub lines_reply : ℕ → Bytes → FtpReply
+lines_reply code text = MultiLine code (slice_split (λ b. b == LF) text)
+
+-- one line, or several
 abbrev pub IsReplyOf : ℕ → Bytes → FtpReply → Type 0
 IsReplyOf code text reply = (Lacks LF text × (reply ≡ CodeAndMsg code text))
-    ⊎ ((¬ Lacks LF text) × (reply ≡ MultiLine code (slice_split (λ b. b == LF) text)))
+    ⊎ ((¬ Lacks LF text) × (reply ≡ lines_reply code text))
 
 -- the reply's bytes, or why there are none
 pub data EncodesReply (code : ℕ) (text : Bytes) (bytes : Made) : Type 0 where

@@ -1,37 +1,110 @@
--- What a caller of `unftp_next` keeps from call to call, and the event that a call gives.
-use Rattle.std.specs.Prelude.{◌≡◌, ℕ, ◌+◌, ◌≤◌, Bool, true, false, [], length, take, drop}
-use Rattle.unftp_control_defs.specs.Bytes.{Bytes, LF, Lacks}
-use Rattle.unftp_control_defs.specs.Events.{FtpEvent, Command, Refused, exceeds}
+-- What a caller of `unftp_next` does with a connection, call after call, and what it is given.
+use Rattle.std.specs.Prelude.{◌≡◌, ℕ, ◌==◌, ◌||◌, ◌⊎◌, Bool, false, if◌then◌else◌, List, [], ◌∷◌, ◌++◌, take, drop, unwrap_or}
+use Rattle.unftp_control_defs.specs.Bytes.{Bytes}
+use Rattle.unftp_control_defs.specs.Events.{FtpEvent, Command, Refused, FaultKind}
+use Rattle.unftp_control_defs.specs.Events as fault
+use Rattle.unftp_control_defs.specs.NameAndValue.{name_and_value}
+use Rattle.unftp_control_c.specs.declared.status.Status.TheVariants.{More, OutOfMemory, NoRoom}
 use Rattle.unftp_control_c.specs.Numbers.{command_number, status_number, fault_status}
-use Rattle.unftp_control_c.specs.Next.{Call, line_limit, next_of}
+use Rattle.unftp_control_c.specs.Next.{Call, Left, Leaves}
 
--- Where bytes were dropped, they begin a line that is longer than the limit, and the search goes on
--- at the start of the pending bytes. Else none were.
-abbrev pub IfSkipping : Bool → Call → Bytes → Type 0
-IfSkipping true call dropped =
-    (exceeds (line_limit call.limit) (length dropped + 1) ≡ true) × (call.offset ≡ 0)
-IfSkipping false call dropped = dropped ≡ []
+-- what a caller keeps of a connection from call to call
+pub record Connection : Type 0 where
+  -- the pending bytes
+  pub bytes : Bytes
+  pub offset : ℕ
+  pub skipping : Bool
 
--- What a caller keeps, after these bytes of the first line were dropped: no line feed is before the
--- offset, nor in what was dropped.
-pub record IsKept (call : Call) (dropped : Bytes) : Type 0 where
-  pub within : call.offset ≤ length call.bytes
-  pub unended : Lacks LF (take call.offset call.bytes)
-  pub dropped_unended : Lacks LF dropped
-  pub dropped_well : IfSkipping call.skipping call dropped
+abbrev pub new_connection : Connection
+new_connection = record { bytes = []; offset = 0; skipping = false }
 
--- the next call, of the bytes that the last one left, with the same limit and areas
-abbrev pub call_after : Call → Call
-call_after call = record {
-  bytes = drop (next_of call).used call.bytes;
-  offset = (next_of call).offset;
-  skipping = (next_of call).skipping;
-  limit = call.limit;
-  name = call.name;
-  value = call.value;
+-- bytes that were received follow the pending ones
+abbrev pub after_piece : Connection → Bytes → Connection
+after_piece connection piece = record {
+  bytes = connection.bytes ++ piece;
+  offset = connection.offset;
+  skipping = connection.skipping;
 }
 
--- the number that a call reports an event with
-abbrev pub event_number : FtpEvent → ℕ
-event_number (Command command) = command_number command
-event_number (Refused fault) = status_number (fault_status fault)
+-- a call with this limit, and these areas for a name and a value
+abbrev pub call_of : ℕ → Connection → Bytes → Bytes → Call
+call_of limit connection name value = record {
+  bytes = connection.bytes;
+  offset = connection.offset;
+  skipping = connection.skipping;
+  limit = limit;
+  name = name;
+  value = value;
+}
+
+-- the bytes that a call used up are dropped
+abbrev pub after_call : Connection → Left → Connection
+after_call connection left = record {
+  bytes = drop left.used connection.bytes;
+  offset = left.offset;
+  skipping = left.skipping;
+}
+
+-- what a caller does: it receives bytes, or it makes a call with these two areas, which leaves this
+pub data Step : Type 0 where
+  Received : Bytes → Step
+  Called : Bytes → Bytes → Left → Step
+
+-- These steps, in any order, lead from the one to the other; each call leaves what it may leave.
+abbrev pub AreSteps : ℕ → Connection → List Step → Connection → Type 0
+AreSteps limit before [] after = after ≡ before
+AreSteps limit before (Received piece ∷ steps) after =
+    AreSteps limit (after_piece before piece) steps after
+AreSteps limit before (Called name value left ∷ steps) after =
+    Leaves (call_of limit before name value) left
+    × AreSteps limit (after_call before left) steps after
+
+-- all bytes that were received
+abbrev pub input_of : List Step → Bytes
+input_of [] = []
+input_of (Received piece ∷ steps) = piece ++ input_of steps
+input_of (Called name value left ∷ steps) = input_of steps
+
+-- what a caller is given for a line: a number, and the name and the value of a command
+pub record Given : Type 0 where
+  pub number : ℕ
+  pub name : Bytes
+  pub value : Bytes
+
+-- the event of a line, as it has to be given
+abbrev pub given_for : FtpEvent → Given
+given_for (Command command) = record {
+  number = command_number command;
+  name = (name_and_value command).0;
+  value = unwrap_or (name_and_value command).1 [];
+}
+given_for (Refused fault) =
+    record { number = status_number (fault_status fault); name = []; value = [] }
+
+-- a call with this result gives no line: it asks for more, or has no room or no memory
+abbrev pub gives_none : ℕ → Bool
+gives_none result = result == status_number More || result == status_number NoRoom
+    || result == status_number OutOfMemory
+
+-- what a call gives: its result, and what it wrote to the areas
+abbrev pub given_by : Left → List Given
+given_by left = if gives_none left.result
+    then []
+    else record {
+      number = left.result;
+      name = take left.name_length left.name;
+      value = take left.value_length left.value;
+    } ∷ []
+
+abbrev pub all_given : List Step → List Given
+all_given [] = []
+all_given (Received piece ∷ steps) = all_given steps
+all_given (Called name value left ∷ steps) = given_by left ++ all_given steps
+
+-- A line that is refused with a fault of this kind is given this number; with no other kind a line
+-- is refused.
+abbrev pub IsNumberOf : FaultKind → ℕ → Type 0
+IsNumberOf fault.InvalidCommand number = (number ≡ 102) ⊎ (number ≡ 104)
+IsNumberOf fault.Utf8Error number = number ≡ 103
+IsNumberOf fault.LineTooLong number = number ≡ 105
+IsNumberOf _ number = ⊥

@@ -1,11 +1,11 @@
 //! The canonical line of a command.
-ghost use Rattle.std.specs.Prelude.{◌≡◌, ◌≢◌, take, IfOk};
+ghost use Rattle.std.specs.Prelude.{◌≡◌, ◌≢◌, take, Err, IfOk};
 ghost use Rattle.unftp_control_defs.specs.Lines.{IsLine};
 ghost use Rattle.unftp_control_defs.specs.Outcome.{outcome};
 ghost use Rattle.unftp_control_c.specs.Areas.{Made, made, written};
-ghost use Rattle.unftp_control_c.specs.CanonicalLines.{IsCanonical};
+ghost use Rattle.unftp_control_c.specs.CanonicalLines.{CanonicalMayTakeMemory, IsCanonical};
 ghost use Rattle.unftp_control_c.specs.Numbers.{status_number};
-ghost use Rattle.unftp_control_c.specs.declared.status.Status.TheVariants.{Done, NoLine};
+ghost use Rattle.unftp_control_c.specs.declared.status.Status.TheVariants.{Done, NoLine, OutOfMemory};
 
 use crate::areas::write;
 use crate::status::{Status, kind_status, line_status};
@@ -21,6 +21,7 @@ pub extern "C" fn unftp_canonical(
     out: &mut [u8],
     len: &mut usize,
 ) -> u32
+    ensures memory { result ≡ status_number OutOfMemory → CanonicalMayTakeMemory line.now }
     ensures writes { (bytes : Made) × IsCanonical line.now bytes
         × (record { result = result; area = out.new; text_length = len.new }
         ≡ written bytes out.old) }
@@ -34,6 +35,7 @@ pub extern "C" fn unftp_canonical(
 /// The canonical line, or why there is none.
 fn canonical_line(alloc: Global, line: &[u8]) -> Result<Vec<u8>, Status>
     ensures canonical { IsCanonical line.now (made result) }
+    ensures memory { made result ≡ Err OutOfMemory → CanonicalMayTakeMemory line.now }
     ensures read_back { IfOk result (λ buf. outcome buf.items ≡ outcome line.now) }
 {
     let command = match parse(alloc, line) {

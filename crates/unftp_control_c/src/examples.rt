@@ -2,10 +2,12 @@
 ghost use Rattle.std.specs.Prelude.{◌≡◌, true, false, [], ◌∷◌, Ok, Err, codes};
 ghost use Rattle.unftp_control_defs.specs.FtpReply.{CodeAndMsg, MultiLine};
 ghost use Rattle.unftp_control_c.specs.Areas.{filled, written};
-ghost use Rattle.unftp_control_c.specs.CanonicalLines.{IsCanonical};
+ghost use Rattle.unftp_control_c.specs.CanonicalLines.{CanonicalMayTakeMemory, IsCanonical};
 ghost use Rattle.unftp_control_c.specs.Next.{LineMayTakeMemory, next_of};
 ghost use Rattle.unftp_control_c.specs.Replies.{EncodesReply, IsCode, IsReplyOf};
 ghost use Rattle.unftp_control_c.specs.declared.status.Status.TheVariants.{InvalidEol, NoLine, UnknownCode};
+
+pub mod calls;
 
 /// Complete lines.
 pub fn lines_are_taken()
@@ -271,4 +273,13 @@ pub fn lines_have_canonical_lines()
     // of bytes that are no line: the name has a line feed
     ensures no_line { IsCanonical (codes "USER a\n\n") (Err NoLine) }
     ensures has_line { ¬ IsCanonical (codes "NOOP\r\n") (Err NoLine) }
+{}
+
+/// Lines for whose canonical lines memory may run out, and none.
+pub fn some_canonical_lines_may_take_memory()
+    // reading it takes none, but its canonical line does
+    ensures no_value { CanonicalMayTakeMemory (codes "NOOP\r\n") }
+    // it has no canonical line, but a value that is read
+    ensures no_line { CanonicalMayTakeMemory (codes "USER a\n\n") }
+    ensures refused_verb { ¬ CanonicalMayTakeMemory (255 ∷ codes "\r\n") }
 {}

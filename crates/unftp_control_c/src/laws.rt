@@ -1,47 +1,63 @@
-//! What the calls promise one after the other, each the contract of a function that does nothing.
-ghost use Rattle.std.specs.Prelude.{◌≡◌, ◌+◌, ◌++◌, ℕ, [], false, drop, take, None, Some};
-ghost use Rattle.unftp_control_defs.specs.Bytes.{Bytes, LF, Lacks};
-ghost use Rattle.unftp_control_defs.specs.TakingSteps.{TakesEvent};
-ghost use Rattle.unftp_control_defs.specs.Events.{FtpEvent};
-ghost use Rattle.unftp_control_codecs.specs.LineFeed.{line_feed_from};
-ghost use Rattle.unftp_control_c.specs.Next.{Call, line_limit, next_of};
+//! What the calls promise one after the other, and what is given says: each the contract of a
+//! function that does nothing.
+ghost use Rattle.std.specs.Prelude.{◌≡◌, ◌++◌, ◌⊎◌, ℕ, List, Option, true, map, length};
+ghost use Rattle.unftp_control_defs.specs.Bytes.{Bytes};
+ghost use Rattle.unftp_control_defs.specs.Canonical.{HasLine};
+ghost use Rattle.unftp_control_defs.specs.Events.{Command, Fault, Refused, event_for, events};
+ghost use Rattle.unftp_control_defs.specs.FtpCommand.{FtpCommand, HasTypedFields};
+ghost use Rattle.unftp_control_defs.specs.Lines.{IsLine};
+ghost use Rattle.unftp_control_c.specs.Next.{Leaves, Left, line_limit};
 ghost use Rattle.unftp_control_c.specs.Numbers.{status_number};
-ghost use Rattle.unftp_control_c.specs.Taking.{IsKept, call_after, event_number};
-ghost use Rattle.unftp_control_c.specs.declared.status.Status.TheVariants.{More};
+ghost use Rattle.unftp_control_c.specs.Taking.{AreSteps, Connection, Given, IsNumberOf, Step, after_call, all_given, call_of, given_for, gives_none, input_of, new_connection};
+ghost use Rattle.unftp_control_c.specs.declared.status.Status.TheVariants.{More, NoRoom, OutOfMemory};
 
-/// The calls of `unftp_next` take the lines of the input one after the other. A call that finds a
-/// complete line and uses it up gives the line's event, that of the whole line where bytes of it
-/// were dropped before. One that finds none asks for more, and the first line goes on with what it
-/// dropped. After each, the next call goes on with what is left, to which more bytes may be
-/// appended.
+/// Whatever a caller receives, and whenever it calls `unftp_next`, with whatever areas: its calls
+/// give the events of what it received, in order, each by its number, name and value.
 pub fn calls_take_events()
-    ensures takes { (call : Call) (dropped : Bytes) (k : ℕ) → IsKept call dropped
-        → line_feed_from call.bytes call.offset ≡ Some k
-        → (next_of call).used ≡ k + 1
-        → (event : FtpEvent)
-        × TakesEvent (line_limit call.limit) (dropped ++ call.bytes) event
-        (drop (k + 1) call.bytes)
-        × ((next_of call).result ≡ event_number event) × IsKept (call_after call) [] }
-    ensures waits { (call : Call) (dropped : Bytes) → IsKept call dropped
-        → line_feed_from call.bytes call.offset ≡ None
-        → ((next_of call).result ≡ status_number More) × Lacks LF (dropped ++ call.bytes)
-        × IsKept (call_after call) (dropped ++ take (next_of call).used call.bytes) }
-    ensures begins { (bytes name value : Bytes) (limit : ℕ) → IsKept
-        (record {
-          bytes = bytes;
-          offset = 0;
-          skipping = false;
-          limit = limit;
-          name = name;
-          value = value;
-        }) [] }
-    ensures grows { (call : Call) (dropped piece : Bytes) → IsKept call dropped → IsKept
-        (record {
-          bytes = call.bytes ++ piece;
-          offset = call.offset;
-          skipping = call.skipping;
-          limit = call.limit;
-          name = call.name;
-          value = call.value;
-        }) dropped }
+    // What was given so far is the first of them, and all of them where a call asks for more.
+    ensures first { (limit : ℕ) (steps : List Step) (after : Connection)
+        → AreSteps limit new_connection steps after
+        → (later : List Given) × (all_given steps ++ later
+        ≡ map given_for (events (line_limit limit) (input_of steps))) }
+    ensures all { (limit : ℕ) (steps : List Step) (after : Connection) (name value : Bytes)
+        (left : Left) → AreSteps limit new_connection steps after
+        → Leaves (call_of limit after name value) left → left.result ≡ status_number More
+        → all_given steps ≡ map given_for (events (line_limit limit) (input_of steps)) }
+    // A call that uses nothing up asks for more, or has no room or no memory.
+    ensures nothing_used { (limit : ℕ) (steps : List Step) (after : Connection)
+        (name value : Bytes) (left : Left) → AreSteps limit new_connection steps after
+        → Leaves (call_of limit after name value) left → left.used ≡ 0
+        → gives_none left.result ≡ true }
+{}
+
+/// A call without room or memory may be made again.
+pub fn calls_are_made_again()
+    // Nothing has changed.
+    ensures kept { (limit : ℕ) (connection : Connection) (name value : Bytes) (left : Left)
+        → Leaves (call_of limit connection name value) left
+        → (left.result ≡ status_number NoRoom) ⊎ (left.result ≡ status_number OutOfMemory)
+        → after_call connection left ≡ connection }
+    // Areas of the lengths that a call without room reports have room.
+    ensures room { (limit : ℕ) (connection : Connection) (name value wider longer : Bytes)
+        (left again : Left) → Leaves (call_of limit connection name value) left
+        → left.result ≡ status_number NoRoom
+        → length wider ≡ left.name_length → length longer ≡ left.value_length
+        → Leaves (call_of limit connection wider longer) again
+        → gives_none again.result ≡ true → again.result ≡ status_number OutOfMemory }
+{}
+
+/// What is given says the event.
+pub fn events_are_given_apart()
+    // Commands that lines give are equal where number, name and value are.
+    ensures commands { (command other : FtpCommand)
+        → HasLine command → HasTypedFields command → HasLine other → HasTypedFields other
+        → given_for (Command command) ≡ given_for (Command other) → command ≡ other }
+    ensures events { (limit other_limit : Option ℕ) (line other : Bytes)
+        → IsLine line → IsLine other
+        → given_for (event_for limit line) ≡ given_for (event_for other_limit other)
+        → event_for limit line ≡ event_for other_limit other }
+    // The number of a refused line says the kind of its fault.
+    ensures kinds { (limit : Option ℕ) (line : Bytes) (fault : Fault)
+        → event_for limit line ≡ Refused fault
+        → IsNumberOf fault.kind (given_for (Refused fault)).number }
 {}

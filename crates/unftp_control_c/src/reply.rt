@@ -1,16 +1,17 @@
 //! Replies: one that is written, and the first of those that were received.
-ghost use Rattle.std.specs.Prelude.{◌≡◌, ◌↔◌, ◌≤◌, ℕ, [], ◌∷◌, length, take, List, Some, IsTrue, IfOk};
-ghost use Rattle.unftp_control_defs.specs.Bytes.{Bytes, LF, Lacks};
-ghost use Rattle.unftp_control_defs.specs.FtpReply.{FtpReply};
+ghost use Rattle.std.specs.Prelude.{◌≡◌, ◌↔◌, ◌≤◌, ◌==◌, ℕ, [], ◌∷◌, ◌++◌, if◌then◌else◌, length, take, List, Some, Err, IsTrue, IfOk, IfErr};
+ghost use Rattle.unftp_control_defs.specs.Bytes.{Bytes, LF, Lacks, crlf};
+ghost use Rattle.unftp_control_defs.specs.FtpReply.{FtpReply, CodeAndMsg, encoded, spaced_line};
 ghost use Rattle.unftp_control_defs.specs.ReplyReader.{FrontReply, IsMalformed, IsPartial, ReadsBack};
 ghost use Rattle.unftp_control_reply.specs.ReplyMeaning.{number_of, reply_of};
-ghost use Rattle.unftp_control_c.specs.Areas.{Made, made, written};
+ghost use Rattle.unftp_control_c.specs.Areas.{Made, filled, made, written};
 ghost use Rattle.unftp_control_c.specs.Numbers.{status_number};
-ghost use Rattle.unftp_control_c.specs.Replies.{EncodesReply, IsReplyOf};
-ghost use Rattle.unftp_control_c.specs.declared.status.Status.TheVariants.{Done, More, Malformed};
+ghost use Rattle.unftp_control_c.specs.Replies.{EncodesReply, IsReplyOf, lines_reply};
+ghost use Rattle.unftp_control_c.specs.declared.status.Status.TheVariants.{Done, More, Malformed, OutOfMemory};
 
-use crate::areas::write;
+use crate::areas::{overwrite_both, write};
 use crate::status::Status;
+use itoa::Buffer;
 use std::alloc::Global;
 use std::str::from_utf8;
 use unftp_control_codecs::encode_reply;
@@ -27,6 +28,8 @@ pub extern "C" fn unftp_reply(
     out: &mut [u8],
     len: &mut usize,
 ) -> u32
+    // Only a text of several lines takes memory.
+    ensures memory { result ≡ status_number OutOfMemory → ¬ Lacks LF text.now }
     ensures writes { (bytes : Made) × EncodesReply code text.now bytes
         × (record { result = result; area = out.new; text_length = len.new }
         ≡ written bytes out.old) }
@@ -35,20 +38,53 @@ pub extern "C" fn unftp_reply(
         → (reply : FtpReply) × IsReplyOf code text.now reply
         × ReadsBack (take len.new out.new) (reply ∷ []) }
 {
-    write(encoded_reply(alloc, code, text), out, len)
-}
-
-/// The bytes of the reply, or why there are none.
-fn encoded_reply(alloc: Global, code: u32, text: &[u8]) -> Result<Vec<u8>, Status>
-    ensures { EncodesReply code text.now (made result) }
-{
     let Some(code) = code_of(code) else {
-        return Err(Status::UnknownCode);
+        return write(Err(Status::UnknownCode), out, len);
     };
     let Ok(text) = from_utf8(text) else {
-        return Err(Status::InvalidUtf8);
+        return write(Err(Status::InvalidUtf8), out, len);
     };
-    let Ok(reply) = reply_with(alloc, code, text) else {
+    if is_one_line(text) {
+        return write_line(code, text, out, len);
+    }
+    write(encoded_lines(alloc, code, text), out, len)
+}
+
+/// Writes the reply of one line to the start of the area, where it has room for it, and reports how
+/// long it is: the number of what has come of it. It takes no memory.
+fn write_line(code: ReplyCode, text: &str, area: &mut [u8], len: &mut usize) -> u32
+    ensures { record { result = result; area = area.new; text_length = len.new }
+        ≡ filled (encoded (CodeAndMsg (number_of code) text.now)) area.old }
+{
+    let mut digits = Buffer::new();
+    let digits = digits.format(code.number()).as_bytes();
+    let space = space_before(text);
+    let front = digits.len() + space.len();
+    *len = front + text.len() + 2;
+    if *len > area.len() {
+        return Status::NoRoom.number();
+    }
+    let (start, rest) = area.split_at_mut(front);
+    overwrite_both(digits, space, start);
+    overwrite_both(text.as_bytes(), b"\r\n", rest);
+    Status::Done.number()
+}
+
+/// The space between a code and the text, or nothing before an empty one.
+fn space_before(text: &str) -> &'static [u8]
+    ensures line { result.now ++ (text.now ++ crlf)
+        ≡ (if length text.now == 0 then crlf else spaced_line text.now) }
+    ensures short { length result.now ≤ 1 }
+{
+    if text.is_empty() { b"" } else { b" " }
+}
+
+/// The bytes of the reply of the text's lines, or why there are none.
+fn encoded_lines(alloc: Global, code: ReplyCode, text: &str) -> Result<Vec<u8>, Status>
+    ensures ok { IfOk result (λ buf. buf.items ≡ encoded (lines_reply (number_of code) text.now)) }
+    ensures err { IfErr result (λ status. status ≡ OutOfMemory) }
+{
+    let Ok(reply) = lines_reply(alloc, code, text) else {
         return Err(Status::OutOfMemory);
     };
     let mut buf = Vec::new(alloc);
@@ -56,6 +92,13 @@ fn encoded_reply(alloc: Global, code: u32, text: &[u8]) -> Result<Vec<u8>, Statu
         Ok(()) => Ok(buf),
         Err(_) => Err(Status::OutOfMemory),
     }
+}
+
+/// The reply of the text's lines.
+fn lines_reply(alloc: Global, code: ReplyCode, text: &str) -> Result<Reply, ControlChanError>
+    ensures { IfOk result (λ reply. reply_of reply ≡ lines_reply (number_of code) text.now) }
+{
+    Reply::new_multiline(alloc, code, text.split('\n'))
 }
 
 /// The code of three digits with this number.
@@ -66,17 +109,6 @@ fn code_of(number: u32) -> Option<ReplyCode>
         return None;
     }
     ReplyCode::from_number(number)
-}
-
-/// The reply of this text, or of its lines where line feeds divide it.
-fn reply_with(alloc: Global, code: ReplyCode, text: &str) -> Result<Reply, ControlChanError>
-    ensures { IfOk result (λ reply. IsReplyOf (number_of code) text.now (reply_of reply)) }
-{
-    if is_one_line(text) {
-        Reply::new(alloc, code, text)
-    } else {
-        Reply::new_multiline(alloc, code, text.split('\n'))
-    }
 }
 
 /// Whether the text has no line feed.

@@ -23,7 +23,7 @@ pub const UNKNOWN_CODE: u32 = 110;
 extern "C" {
     fn unftp_next(
         bytes: *const u8,
-        len: usize,
+        bytes_len: usize,
         offset: *mut usize,
         limit: usize,
         skipping: *mut bool,
@@ -45,7 +45,12 @@ extern "C" {
         len: *mut usize,
     ) -> u32;
 
-    fn unftp_front_reply(bytes: *const u8, len: usize, code: *mut u32, used: *mut usize) -> u32;
+    fn unftp_front_reply(
+        bytes: *const u8,
+        bytes_len: usize,
+        code: *mut u32,
+        used: *mut usize,
+    ) -> u32;
 
     fn unftp_canonical(
         line: *const u8,
