@@ -1,5 +1,5 @@
 -- Replies that are read from a reader.
-use Rattle.std.specs.Prelude.{◌≡◌, ℕ, ◌+◌, ◌*◌, ◌^◌, ◌-◌, ◌≤◌, ◌⊎◌, Option, Result, MatchOption, MatchResult, OnOk, OnErr, ◌++◌, length}
+use Rattle.std.specs.Prelude.{◌≡◌, ℕ, ◌+◌, ◌*◌, ◌^◌, ◌-◌, ◌≤◌, ◌⊎◌, Option, Result, MatchOption, MatchResult, OnOk, OnErr, [], ◌++◌, length}
 use Rattle.std.specs.Io.KnownBytes.{Consumes, IsAtEnd, Keeps}
 use Rattle.unftp_control_defs.specs.Bytes.{Bytes}
 use Rattle.unftp_control_defs.specs.ReplyReader.{HasFront, IsMalformed}
@@ -48,6 +48,19 @@ HasFailure limit count bytes OutOfMemory =
     HasFront (within_limit limit bytes) ⊎ IsShortPart limit bytes
 HasFailure limit count bytes TooManyReads = 2 ^ 64 - 1 ≤ count
 
+-- Before the last bytes that were read, as many as one read gives at most, there was only a part
+-- of a reply.
+pub record LastRead (before : PendingReplies) (read : Bytes) : Type 0 where
+  pub first : Bytes
+  pub piece : Bytes
+  pub whole : read ≡ first ++ piece
+  pub short : length piece ≤ 4096
+  pub part : IsShortPart before.limit (before.bytes ++ first)
+
+-- nothing was read, or only where the bytes before were a part of a reply
+abbrev pub IsNeeded : PendingReplies → Bytes → Type 0
+IsNeeded before read = (read ≡ []) ⊎ LastRead before read
+
 -- Of the pending bytes and those that were read after them: the first reply is taken; or the reader
 -- is at its end, and they are a part of a reply; or there is an error, and they stay.
 pub record Receives (before : PendingReplies) (remaining : Option Bytes)
@@ -72,3 +85,5 @@ pub record Receives (before : PendingReplies) (remaining : Option Bytes)
       (after.tests + after.unscanned + length after.bytes
       ≤ before.tests + before.unscanned + length before.bytes + 2 * length read)
   pub unscanned : OnErr result (after.unscanned ≤ before.unscanned + length read)
+  -- and it was read only where it had to be
+  pub needed : IsNeeded before read
