@@ -161,7 +161,7 @@ module _ (before : PendingReplies) (remaining : Option Bytes) (now : PendingRepl
       needed = r.needed;
     }
       where
-        has : (e : ReceiveError) → IsOfRead e → HasFailure before.limit (length r.read) (before.bytes ++ r.read) e
+        has : (e : ReceiveError) → IsOfRead e → HasFailure before.limit (before.bytes ++ r.read) e
         has (Read _) k = part
         has OutOfMemory k = inr part
         has Malformed k = absurd k
@@ -181,16 +181,17 @@ module _ (before : PendingReplies) (remaining : Option Bytes) (now : PendingRepl
     needed = r.needed;
   }
     where
-      has : (e : NextReplyError) → HasError before.limit (before.bytes ++ r.read) e → HasFailure before.limit (length r.read) (before.bytes ++ r.read) (failure_of e)
+      has : (e : NextReplyError) → HasError before.limit (before.bytes ++ r.read) e → HasFailure before.limit (before.bytes ++ r.read) (failure_of e)
       has next.Malformed k = k
       has next.TooLong k = k
       has next.OutOfMemory k = inl k
 
-  pub too_often : 2 ^ 64 - 1 ≤ reads → Receives before remaining (Err TooManyReads) now remaining'
-  too_often h = record {
+  -- so many reads were not made
+  pub too_often : 2 ^ 64 - 1 ≤ reads → length now.bytes < 2 ^ 64 - 1 → Receives before remaining (Err TooManyReads) now remaining'
+  too_often h held = record {
     read = r.read;
     consumed = r.consumed;
-    takes_next = (omega (arith, r.many, h), r.bytes_are);
+    takes_next = (absurd (omega (arith, r.many, h, held, ap length r.bytes_are, length-append before.bytes r.read)), r.bytes_are);
     counted = omega (arith, r.counted);
     twice = tt;
     unscanned = omega (arith, r.counted, r.never_fewer);

@@ -39,14 +39,15 @@ failure_of next.Malformed = Malformed
 failure_of next.TooLong = TooLong
 failure_of next.OutOfMemory = OutOfMemory
 
--- what an error means for the pending bytes, of which so many were read
-abbrev pub HasFailure : Option ℕ → ℕ → Bytes → ReceiveError → Type 0
-HasFailure limit count bytes (Read _) = IsShortPart limit bytes
-HasFailure limit count bytes Malformed = IsMalformed (within_limit limit bytes)
-HasFailure limit count bytes TooLong = IsTooLongReply limit bytes
-HasFailure limit count bytes OutOfMemory =
+-- what an error means for the pending bytes: there are never too many reads, since so many bytes
+-- are never pending
+abbrev pub HasFailure : Option ℕ → Bytes → ReceiveError → Type 0
+HasFailure limit bytes (Read _) = IsShortPart limit bytes
+HasFailure limit bytes Malformed = IsMalformed (within_limit limit bytes)
+HasFailure limit bytes TooLong = IsTooLongReply limit bytes
+HasFailure limit bytes OutOfMemory =
     HasFront (within_limit limit bytes) ⊎ IsShortPart limit bytes
-HasFailure limit count bytes TooManyReads = 2 ^ 64 - 1 ≤ count
+HasFailure limit bytes TooManyReads = ⊥
 
 -- Before the last bytes that were read, as many as one read gives at most, there was only a part
 -- of a reply.
@@ -72,7 +73,7 @@ pub record Receives (before : PendingReplies) (remaining : Option Bytes)
       (λ next. MatchOption next
       (HasNoReply (appended before read) after × IsAtEnd remaining')
       (λ reply. TakesFirst (appended before read) (content reply) after))
-      (λ error. HasFailure before.limit (length read) (before.bytes ++ read) error
+      (λ error. HasFailure before.limit (before.bytes ++ read) error
       × (after.bytes ≡ before.bytes ++ read))
   -- how many bytes were scanned then: those that were not scanned before, with those that were
   -- read, and at a reply those that its copying scans
