@@ -1,27 +1,30 @@
 //! Passwords within other values.
 use std::alloc::Global;
 use std::fmt;
+use std::fmt::Write;
 use std::process::Abort;
 use unftp_control::command::Command;
 use unftp_control::line_parser::parse;
 use unftp_control::password::Password;
 
-/// Holds the first bytes that it is given, and fails at the first for which it has no room.
+/// Holds the first bytes that it is given, and fails where it has no room for more; what is written
+/// after that, it holds too.
 #[derive(Drop)]
 struct Narrow {
     held: Vec<u8>,
     room: usize,
 }
 
-impl fmt::Write for Narrow {
+impl Write for Narrow {
     fn write_str(&mut self, text: &str) -> fmt::Result {
         let n = text.len().min(self.room);
         let (taken, _) = text.as_bytes().split_at(n);
         self.held.extend_from_slice(taken)?;
-        self.room -= n;
         if n < text.len() {
+            self.room = usize::MAX;
             return Err(fmt::Error);
         }
+        self.room -= n;
         Ok(())
     }
 }
@@ -55,8 +58,8 @@ fn write_password(writer: &mut Narrow, password: &Password, flags: u8) -> fmt::R
     }
 }
 
-/// A writer with room for so many bytes gets the first ones of this text, and fails where there are
-/// more.
+/// A writer with room for so many bytes gets the first ones of this text, fails where there are more,
+/// and gets none after that.
 fn assert_begun(rt: &impl Abort, alloc: Global, flags: u8, room: usize, whole: &str) {
     let mut writer = Narrow {
         held: Vec::new(alloc),
