@@ -6,8 +6,9 @@
  *   FAIL_MARKED=N  fails the Nth after each mark
  *
  * A mark is where the program writes the line "begin" to standard error, in one write; it ends where the program writes "end". What is
- * allocated between the two is counted from 1 again, and where ALLOCATIONS_FD names a file descriptor, the line "marked=N" is written to
- * it at the end of each mark. When the program ends by itself, it writes the line "allocations=N" there.
+ * allocated between the two is counted from 1 again, and where ALLOCATIONS_FD names a file descriptor, the lines "marked=N" and "most=N",
+ * the most bytes that one of these allocations asked for, are written to it at the end of each mark. When the program ends by itself, it
+ * writes the line "allocations=N" there.
  */
 #include <stddef.h>
 #include <stdio.h>
@@ -19,7 +20,7 @@
 extern void *__libc_malloc(size_t size);
 extern void *__libc_realloc(void *memory, size_t size);
 
-static long allocations, marked;
+static long allocations, marked, most;
 static int is_marked;
 
 static long number_in(const char *name)
@@ -28,10 +29,12 @@ static long number_in(const char *name)
     return text == NULL ? 0 : atol(text);
 }
 
-static int has_to_fail(void)
+static int has_to_fail(size_t size)
 {
     long from = number_in("FAIL_FROM");
     allocations++;
+    if (is_marked && (long)size > most)
+        most = (long)size;
     if (is_marked && ++marked == number_in("FAIL_MARKED"))
         return 1;
     return allocations == number_in("FAIL_AT") || (from > 0 && allocations >= from);
@@ -39,12 +42,12 @@ static int has_to_fail(void)
 
 void *malloc(size_t size)
 {
-    return has_to_fail() ? NULL : __libc_malloc(size);
+    return has_to_fail(size) ? NULL : __libc_malloc(size);
 }
 
 void *realloc(void *memory, size_t size)
 {
-    return has_to_fail() ? NULL : __libc_realloc(memory, size);
+    return has_to_fail(size) ? NULL : __libc_realloc(memory, size);
 }
 
 static void report(const char *name, long count)
@@ -66,10 +69,11 @@ ssize_t write(int descriptor, const void *bytes, size_t size)
 {
     if (descriptor == STDERR_FILENO && is_line(bytes, size, "begin\n")) {
         is_marked = 1;
-        marked = 0;
+        marked = most = 0;
     } else if (descriptor == STDERR_FILENO && is_line(bytes, size, "end\n")) {
         is_marked = 0;
         report("marked", marked);
+        report("most", most);
     }
     return syscall(SYS_write, descriptor, bytes, size);
 }

@@ -14,7 +14,8 @@ use Rattle.unftp_control_error.specs.ErrorParts.{KindAndSource}
 use Rattle.unftp_control_error.specs.ErrorMeaning.{fault_of}
 use Rattle.unftp_control_codecs.specs.Codec.{Codec}
 use Rattle.unftp_control_codecs.specs.LineFeed.{line_feed_from}
-use Rattle.unftp_control_codecs.specs.Decoding.{Decoded, Decodes, FindsNone, SkipsAll, CutsLine, KeepsLine, IfTooLong, AnswersNone, AnswersLine, IsOutOfMemory, returned_event}
+use Rattle.unftp_control_codecs.specs.Decoding.{Decoded, Decodes, FindsNone, SkipsAll, CutsLine, KeepsLine, IfTooLong, AnswersNone, AnswersLine, IsOutOfMemory, parser_out_of_memory, returned_event}
+use Rattle.unftp_control_codecs.proofs.MemoryLemmas.{ran_out}
 use Rattle.unftp_control_line_parser.specs.Memory.{MayTakeMemory}
 use Rattle.unftp_control_codecs.proofs.LineFeedLemmas.{line_feed_at}
 use Rattle.unftp_control_c.specs.declared.status.Status.{Status}
@@ -84,7 +85,7 @@ module _ (call : Call) (new : Codec) (taken : ℕ) where
   LineSays k answer long = IfTooLong long
       ((returned_event answer ≡ Some (Refused line_too_long)) × CutsLine k (codec_of call) new call.bytes (drop taken call.bytes))
       (((returned_event answer ≡ Some (event_of (outcome (take (k + 1) call.bytes)))) × CutsLine k (codec_of call) new call.bytes (drop taken call.bytes))
-      ⊎ (IsOutOfMemory answer × MayTakeMemory (take (k + 1) call.bytes) × KeepsLine k (codec_of call) new call.bytes (drop taken call.bytes)))
+      ⊎ ((returned_event answer ≡ Some (Refused parser_out_of_memory)) × MayTakeMemory (take (k + 1) call.bytes) × KeepsLine k (codec_of call) new call.bytes (drop taken call.bytes)))
 
   waiting : call.offset ≤ length call.bytes → Counted
       → (long : Bool) → is_long call (length call.bytes + 1) ≡ long
@@ -106,7 +107,7 @@ module _ (call : Call) (new : Codec) (taken : ℕ) where
       by_long : (long : Bool) → LineSays k (Ok None) long → ended call k ≡ used_up call More taken new.place new.skipping
       by_long true h = absurd (cc)
       by_long false (inl h) = absurd (cc)
-      by_long false (inr h) = absurd h.0
+      by_long false (inr h) = absurd (let refused = h.0 in cc)
 
   cuts : (k : ℕ) → Counted → call.offset ≤ k → CutsLine k (codec_of call) new call.bytes (drop taken call.bytes) → taken ≡ k + 1
   cuts k counted at cut = omega (arith, counted, cut.tests, cut.place, at)
@@ -123,7 +124,7 @@ module _ (call : Call) (new : Codec) (taken : ℕ) where
           let read = command_of_line (outcome (take (k + 1) call.bytes)) (command_of command) h.0 in
           let n = cuts k counted (line_feed_at call.bytes call.offset k at).0 h.1 in
           (rw (e, read, n) refl, h.1.place, h.1.skipping)
-      by_long false e (inr h) = absurd h.0
+      by_long false e (inr h) = absurd (let refused = h.0 in cc)
 
   -- a refusal, or memory ran out
   pub refusal_left : (error : KindAndSource) → (¬ IsOutOfMemory (Err error) → Counted) → (o : Option ℕ) → line_feed_from call.bytes call.offset ≡ o → Says o (Err error)
@@ -149,7 +150,7 @@ module _ (call : Call) (new : Codec) (taken : ℕ) where
           let n = cuts k (counted memory) (line_feed_at call.bytes call.offset k at).0 h.1 in
           let status = ap fault_status read.2 ∙ status_of_refusal read.0 in
           inl (rw (e, read.1, status, n, h.1.place, h.1.skipping) refl, ap keeps_bytes status ∙ refusal_uses read.0)
-      by_long false e (inr h) = inr ((k, at, e, h.1), status_out_of_memory error h.0)
+      by_long false e (inr h) = inr ((k, at, e, h.1), status_out_of_memory error (ran_out (Err error) h.0))
 
   -- what the codec ensures, of one that goes on where the last call stopped
   pub decoded : (old : Codec) (limit : Option ℕ) (answer : Decoded) → limit ≡ line_limit call.limit

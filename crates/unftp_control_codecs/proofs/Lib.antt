@@ -1,2 +1,3 @@
 pub mod LineFeedLemmas
+pub mod MemoryLemmas
 mod EncodingLemmas

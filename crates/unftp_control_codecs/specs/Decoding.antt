@@ -1,7 +1,7 @@
 -- What one call of `decode` does to a codec and its buffer, and what it returns.
 use Rattle.std.specs.Prelude.{◌≡◌, ℕ, ◌+◌, ◌-◌, ◌≤◌, ◌⊎◌, Bool, true, false, [], length, take, drop, Option, None, Some, Result, Ok, Err, MatchOption}
 use Rattle.unftp_control_defs.specs.Bytes.{Bytes}
-use Rattle.unftp_control_defs.specs.Events.{FtpEvent, Command, Refused, event_of, OutOfMemory, line_too_long}
+use Rattle.unftp_control_defs.specs.Events.{Fault, FtpEvent, Command, Refused, event_of, OutOfMemory, Parse, line_too_long}
 use Rattle.unftp_control_command.specs.declared.Command.{Command as RustCommand}
 use Rattle.unftp_control_command.specs.CommandMeaning.{command_of}
 use Rattle.unftp_control_error.specs.ErrorParts.{KindAndSource}
@@ -24,6 +24,10 @@ returned_event (Err error) = Some (Refused (fault_of error))
 abbrev pub IsOutOfMemory : Decoded → Type 0
 IsOutOfMemory (Ok command) = ⊥
 IsOutOfMemory (Err error) = (fault_of error).kind ≡ OutOfMemory
+
+-- the error that it is then: its source is the parser's error, which is out of memory too
+abbrev pub parser_out_of_memory : Fault
+parser_out_of_memory = record { kind = OutOfMemory; source = Parse None }
 
 -- There is no line feed: the buffer stays, and the next search begins at its end. Each byte from
 -- the scan offset on was scanned.
@@ -73,8 +77,8 @@ AnswersLine k old new before after answer = IfTooLong (is_too_long old (k + 1))
     × CutsLine k old new before after)
     (((returned_event answer ≡ Some (event_of (outcome (take (k + 1) before))))
     × CutsLine k old new before after)
-    ⊎ (IsOutOfMemory answer × MayTakeMemory (take (k + 1) before)
-    × KeepsLine k old new before after))
+    ⊎ ((returned_event answer ≡ Some (Refused parser_out_of_memory))
+    × MayTakeMemory (take (k + 1) before) × KeepsLine k old new before after))
 
 abbrev pub Decodes : Codec → Codec → Bytes → Bytes → Decoded → Type 0
 Decodes old new before after answer = MatchOption (line_feed_from before old.place)

@@ -11,3 +11,4 @@ mod SnapshotLemmas
 mod RunEndExampleLemmas
 mod PendingLineLemmas
 mod EventMemoryLemmas
+mod NeededLemmas

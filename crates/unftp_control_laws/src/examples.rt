@@ -3,5 +3,6 @@
 
 pub mod engine;
 pub mod memory;
+pub mod receiving;
 pub mod serving;
 pub mod texts;

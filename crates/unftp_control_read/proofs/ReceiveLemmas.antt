@@ -8,7 +8,7 @@ use Rattle.unftp_control_defs.specs.ReplyReader.{IsPartial}
 use Rattle.unftp_control_defs.specs.TakingSteps.{TakesReply}
 use Rattle.unftp_control_defs.proofs.ReplyAppendLemmas.{TakesReply-append}
 use Rattle.unftp_control_read.specs.ReplyDecoding.{HasError, HasNoReply, IsShortPart, PendingReplies, TakesFirst, appended, content, copy_scans}
-use Rattle.unftp_control_read.specs.Receiving.{AppendsPending, HasFailure, IsOfRead, Receives, failure_of}
+use Rattle.unftp_control_read.specs.Receiving.{AppendsPending, HasFailure, IsNeeded, IsOfRead, LastRead, Receives, failure_of}
 use Rattle.unftp_control_read.specs.declared.reply.ReceivedReply.{ReceivedReply}
 use Rattle.unftp_control_read.specs.declared.errors.NextReplyError.{NextReplyError}
 use Rattle.unftp_control_read.specs.declared.errors.NextReplyError.TheVariants as next
@@ -31,6 +31,7 @@ pub record Reading (before : PendingReplies) (remaining : Option Bytes) (now : P
   pub never_fewer : before.tests ≤ now.tests
   pub many : reads ≤ length read
   pub bounded : Bounded before now
+  pub needed : IsNeeded before read
 
 bounded_start : (limit : Option ℕ) (pending buffered : ℕ) → IfSome limit (λ limit. (pending ≤ max pending (limit + 4095)) × (buffered ≤ max buffered (limit + 4095)))
 bounded_start None pending buffered = tt
@@ -46,6 +47,7 @@ nothing_read before remaining = record {
   never_fewer = omega arith;
   many = omega arith;
   bounded = bounded_start before.limit (length before.bytes) before.buffered;
+  needed = inl refl;
 }
 
 -- fewer bytes are bounded too
@@ -83,6 +85,7 @@ module _ (before : PendingReplies) (remaining : Option Bytes) (now : PendingRepl
     counted = omega (arith, exact, r.counted);
     twice = omega (arith, twice, r.counted, ap length r.bytes_are, length-append before.bytes r.read);
     unscanned = tt;
+    needed = r.needed;
   }
 
   -- there is none
@@ -104,6 +107,7 @@ module _ (before : PendingReplies) (remaining : Option Bytes) (now : PendingRepl
       never_fewer = omega (arith, ap (λ (p : PendingReplies). p.tests) h.1, u.never_fewer, r.never_fewer);
       many = omega (arith, r.many, length-append r.read h.0, h.2, some);
       bounded = by_limit before.limit part.1;
+      needed = inr record { first = r.read; piece = h.0; whole = refl; short = omega (arith, h.2, h.3); part = part };
     }
       where
         by_limit : (limit : Option ℕ) → IfSome limit (λ limit. length (before.bytes ++ r.read) < limit)
@@ -138,6 +142,7 @@ module _ (before : PendingReplies) (remaining : Option Bytes) (now : PendingRepl
           counted = omega (arith, unscanned, tests, u.none.all_scanned, u.counted, r.counted);
           twice = omega (arith, unscanned, tests, u.none.all_scanned, u.counted, r.counted, ap length same, length-append before.bytes r.read);
           unscanned = tt;
+          needed = r.needed;
         }
       where
         none : (piece : Bytes) → length piece ≡ 0 → piece ≡ []
@@ -153,9 +158,10 @@ module _ (before : PendingReplies) (remaining : Option Bytes) (now : PendingRepl
       counted = omega (arith, ap (λ (p : PendingReplies). p.tests) h.0, u.counted, r.counted);
       twice = tt;
       unscanned = omega (arith, ap (λ (p : PendingReplies). p.unscanned) h.0, u.none.all_scanned);
+      needed = r.needed;
     }
       where
-        has : (e : ReceiveError) → IsOfRead e → HasFailure before.limit (length r.read) (before.bytes ++ r.read) e
+        has : (e : ReceiveError) → IsOfRead e → HasFailure before.limit (before.bytes ++ r.read) e
         has (Read _) k = part
         has OutOfMemory k = inr part
         has Malformed k = absurd k
@@ -172,21 +178,24 @@ module _ (before : PendingReplies) (remaining : Option Bytes) (now : PendingRepl
     counted = omega (arith, tests, r.counted, ap length same);
     twice = tt;
     unscanned = omega (arith, less, r.counted, r.never_fewer);
+    needed = r.needed;
   }
     where
-      has : (e : NextReplyError) → HasError before.limit (before.bytes ++ r.read) e → HasFailure before.limit (length r.read) (before.bytes ++ r.read) (failure_of e)
+      has : (e : NextReplyError) → HasError before.limit (before.bytes ++ r.read) e → HasFailure before.limit (before.bytes ++ r.read) (failure_of e)
       has next.Malformed k = k
       has next.TooLong k = k
       has next.OutOfMemory k = inl k
 
-  pub too_often : 2 ^ 64 - 1 ≤ reads → Receives before remaining (Err TooManyReads) now remaining'
-  too_often h = record {
+  -- so many reads were not made
+  pub too_often : 2 ^ 64 - 1 ≤ reads → length now.bytes < 2 ^ 64 - 1 → Receives before remaining (Err TooManyReads) now remaining'
+  too_often h held = record {
     read = r.read;
     consumed = r.consumed;
-    takes_next = (omega (arith, r.many, h), r.bytes_are);
+    takes_next = (absurd (omega (arith, r.many, h, held, ap length r.bytes_are, length-append before.bytes r.read)), r.bytes_are);
     counted = omega (arith, r.counted);
     twice = tt;
     unscanned = omega (arith, r.counted, r.never_fewer);
+    needed = r.needed;
   }
 
 -- fewer bytes are left after a reply

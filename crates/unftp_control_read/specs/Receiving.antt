@@ -1,5 +1,5 @@
 -- Replies that are read from a reader.
-use Rattle.std.specs.Prelude.{◌≡◌, ℕ, ◌+◌, ◌*◌, ◌^◌, ◌-◌, ◌≤◌, ◌⊎◌, Option, Result, MatchOption, MatchResult, OnOk, OnErr, ◌++◌, length}
+use Rattle.std.specs.Prelude.{◌≡◌, ℕ, ◌+◌, ◌*◌, ◌^◌, ◌-◌, ◌≤◌, ◌⊎◌, Option, Result, MatchOption, MatchResult, OnOk, OnErr, [], ◌++◌, length}
 use Rattle.std.specs.Io.KnownBytes.{Consumes, IsAtEnd, Keeps}
 use Rattle.unftp_control_defs.specs.Bytes.{Bytes}
 use Rattle.unftp_control_defs.specs.ReplyReader.{HasFront, IsMalformed}
@@ -39,14 +39,28 @@ failure_of next.Malformed = Malformed
 failure_of next.TooLong = TooLong
 failure_of next.OutOfMemory = OutOfMemory
 
--- what an error means for the pending bytes, of which so many were read
-abbrev pub HasFailure : Option ℕ → ℕ → Bytes → ReceiveError → Type 0
-HasFailure limit count bytes (Read _) = IsShortPart limit bytes
-HasFailure limit count bytes Malformed = IsMalformed (within_limit limit bytes)
-HasFailure limit count bytes TooLong = IsTooLongReply limit bytes
-HasFailure limit count bytes OutOfMemory =
+-- what an error means for the pending bytes: there are never too many reads, since so many bytes
+-- are never pending
+abbrev pub HasFailure : Option ℕ → Bytes → ReceiveError → Type 0
+HasFailure limit bytes (Read _) = IsShortPart limit bytes
+HasFailure limit bytes Malformed = IsMalformed (within_limit limit bytes)
+HasFailure limit bytes TooLong = IsTooLongReply limit bytes
+HasFailure limit bytes OutOfMemory =
     HasFront (within_limit limit bytes) ⊎ IsShortPart limit bytes
-HasFailure limit count bytes TooManyReads = 2 ^ 64 - 1 ≤ count
+HasFailure limit bytes TooManyReads = ⊥
+
+-- Before the last bytes that were read, as many as one read gives at most, there was only a part
+-- of a reply.
+pub record LastRead (before : PendingReplies) (read : Bytes) : Type 0 where
+  pub first : Bytes
+  pub piece : Bytes
+  pub whole : read ≡ first ++ piece
+  pub short : length piece ≤ 4096
+  pub part : IsShortPart before.limit (before.bytes ++ first)
+
+-- nothing was read, or only where the bytes before were a part of a reply
+abbrev pub IsNeeded : PendingReplies → Bytes → Type 0
+IsNeeded before read = (read ≡ []) ⊎ LastRead before read
 
 -- Of the pending bytes and those that were read after them: the first reply is taken; or the reader
 -- is at its end, and they are a part of a reply; or there is an error, and they stay.
@@ -59,7 +73,7 @@ pub record Receives (before : PendingReplies) (remaining : Option Bytes)
       (λ next. MatchOption next
       (HasNoReply (appended before read) after × IsAtEnd remaining')
       (λ reply. TakesFirst (appended before read) (content reply) after))
-      (λ error. HasFailure before.limit (length read) (before.bytes ++ read) error
+      (λ error. HasFailure before.limit (before.bytes ++ read) error
       × (after.bytes ≡ before.bytes ++ read))
   -- how many bytes were scanned then: those that were not scanned before, with those that were
   -- read, and at a reply those that its copying scans
@@ -72,3 +86,5 @@ pub record Receives (before : PendingReplies) (remaining : Option Bytes)
       (after.tests + after.unscanned + length after.bytes
       ≤ before.tests + before.unscanned + length before.bytes + 2 * length read)
   pub unscanned : OnErr result (after.unscanned ≤ before.unscanned + length read)
+  -- and it was read only where it had to be
+  pub needed : IsNeeded before read

@@ -52,7 +52,7 @@ impl ReplyDecoder {
     ///
     /// At an error all bytes stay pending, those that were read too. `Read` is any error of the
     /// reader, also `Interrupted`: after it, and after `OutOfMemory`, the call can be made again.
-    /// `Malformed` and `TooLong` are returned from then on.
+    /// `Malformed` and `TooLong` are returned from then on. `TooManyReads` is never returned.
     pub fn read_reply<R: Read>(
         &mut self,
         reader: &mut R,
@@ -90,6 +90,9 @@ impl ReplyDecoder {
                 return Ok(None);
             }
         }
+        // each read gave a byte, and so many are not held
+        let held = self.pending().len();
+        prove!(held < usize::MAX);
         Err(ReceiveError::TooManyReads)
     }
 }

@@ -16,7 +16,8 @@ use Rattle.unftp_control_defs.proofs.LackLemmas.{Lacks-append}
 use Rattle.unftp_control_line_parser.specs.Memory.{MayTakeMemory}
 use Rattle.unftp_control_codecs.specs.Codec.{Codec, is_too_long}
 use Rattle.unftp_control_codecs.specs.LineFeed.{is_line_feed, line_feed_from}
-use Rattle.unftp_control_codecs.specs.Decoding.{Decoded, Decodes, FindsNone, SkipsAll, CutsLine, KeepsLine, IfTooLong, AnswersNone, AnswersLine, IsOutOfMemory, returned_event}
+use Rattle.unftp_control_codecs.specs.Decoding.{Decoded, Decodes, FindsNone, SkipsAll, CutsLine, KeepsLine, IfTooLong, AnswersNone, AnswersLine, IsOutOfMemory, parser_out_of_memory, returned_event}
+use Rattle.unftp_control_codecs.proofs.MemoryLemmas.{ran_out}
 use Rattle.unftp_control_codecs.proofs.LineFeedLemmas.{NoLineFeed, line_feed_at, line_feed_nowhere}
 use Rattle.unftp_control_serve.specs.declared.event.Event.{Event}
 use Rattle.unftp_control_serve.specs.Decoder.{kept_length}
@@ -123,7 +124,7 @@ module _ (old new : Codec) (before after : Bytes) (answer : Decoded) where
       at_line : (k : ℕ) → line_feed_from before old.place ≡ Some k → (too_long : Bool) → is_too_long old (k + 1) ≡ too_long →
           IfTooLong too_long ((returned_event answer ≡ Some (Refused line_too_long)) × CutsLine k old new before after)
           (((returned_event answer ≡ Some (event_of (outcome (take (k + 1) before)))) × CutsLine k old new before after)
-          ⊎ (IsOutOfMemory answer × MayTakeMemory (take (k + 1) before) × KeepsLine k old new before after)) →
+          ⊎ ((returned_event answer ≡ Some (Refused parser_out_of_memory)) × MayTakeMemory (take (k + 1) before) × KeepsLine k old new before after)) →
           Comes old new before after answer
       at_line k e true long d = inr (inl (cut k e d.1 (rw (line_length k e, long) d.0)))
       at_line k e false short (inl d) = inr (inl (cut k e d.1 (rw (line_length k e, short) d.0)))
@@ -131,7 +132,7 @@ module _ (old new : Codec) (before after : Bytes) (answer : Decoded) where
           let at = line_feed_at before old.place k e in
           let body : Lacks LF (take k before) = lacks_upto k before (omega (arith, at.1)) (none_before before old.place k start at.3) in
           inr (inr record {
-            no_memory = d.0;
+            no_memory = ran_out answer d.0;
             kept = d.2.kept;
             place = d.2.place;
             unskipped = (unskipped old.skipping (exceeds old.limit (k + 1)) short).0;

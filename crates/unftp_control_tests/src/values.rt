@@ -1,24 +1,82 @@
 //! Passwords within other values.
 use std::alloc::Global;
+use std::fmt;
+use std::fmt::Write;
 use std::process::Abort;
+use unftp_control::command::Command;
 use unftp_control::line_parser::parse;
+use unftp_control::password::Password;
 
-/// The text is this one.
-fn assert_text(rt: &impl Abort, text: String, want: &str) {
-    assert_eq!(rt; text.as_str(), want);
+/// Holds the first bytes that it is given, and fails where it has no room for more; what is written
+/// after that, it holds too.
+#[derive(Drop)]
+struct Narrow {
+    held: Vec<u8>,
+    room: usize,
 }
 
-/// What Debug writes of a command of PASS, under its flags.
-fn shown(rt: &impl Abort, alloc: Global, flags: u8) -> String {
-    let command = parse(alloc, b"PASS hunter2\r\n").expect(rt, "a command");
-    let text = match flags {
-        0 => format!(in alloc; "{command:?}"),
-        1 => format!(in alloc; "{command:#?}"),
-        2 => format!(in alloc; "{command:>60?}"),
-        _ => format!(in alloc; "{command:.3?}"),
+impl Write for Narrow {
+    fn write_str(&mut self, text: &str) -> fmt::Result {
+        let n = text.len().min(self.room);
+        let (taken, _) = text.as_bytes().split_at(n);
+        self.held.extend_from_slice(taken)?;
+        if n < text.len() {
+            self.room = usize::MAX;
+            return Err(fmt::Error);
+        }
+        self.room -= n;
+        Ok(())
+    }
+}
+
+/// A command of PASS.
+fn pass(rt: &impl Abort, alloc: Global) -> Command {
+    parse(alloc, b"PASS hunter2\r\n").expect(rt, "a command")
+}
+
+/// Writes what Debug writes of the command, under its flags, or what Display writes.
+fn write_shown(writer: &mut Narrow, command: &Command, flags: u8) -> fmt::Result {
+    match flags {
+        0 => write!(writer, "{command:?}"),
+        1 => write!(writer, "{command:#?}"),
+        2 => write!(writer, "{command:>60?}"),
+        3 => write!(writer, "{command:.3?}"),
+        4 => write!(writer, "{command}"),
+        _ => match command {
+            Command::Pass { password } => write_password(writer, password, flags),
+            _ => Err(fmt::Error),
+        },
+    }
+}
+
+/// Writes what Display and Debug write of the password alone.
+fn write_password(writer: &mut Narrow, password: &Password, flags: u8) -> fmt::Result {
+    match flags {
+        5 => write!(writer, "{password}"),
+        6 => write!(writer, "{password:?}"),
+        _ => write!(writer, "{password:#?}"),
+    }
+}
+
+/// A writer with room for so many bytes gets the first ones of this text, fails where there are more,
+/// and gets none after that.
+fn assert_begun(rt: &impl Abort, alloc: Global, flags: u8, room: usize, whole: &str) {
+    let mut writer = Narrow {
+        held: Vec::new(alloc),
+        room,
     };
+    let command = pass(rt, alloc);
+    let written = write_shown(&mut writer, &command, flags);
     drop(command);
-    text.expect(rt, "memory")
+    assert_eq!(rt; written.is_ok(), room == whole.len());
+    assert_eq!(rt; writer.held.as_slice(), whole.as_bytes().split_at(room).0);
+}
+
+/// This is written, whatever room the writer has.
+fn assert_shown(rt: &impl Abort, alloc: Global, flags: u8, whole: &str) {
+    for room in 0..=whole.len() {
+        assert_begun(rt, alloc, flags, room, whole);
+    }
 }
 
 #[test]
@@ -26,8 +84,13 @@ fn no_flag_of_debug_shows_a_password(rt: HostRuntime) {
     let alloc = rt.alloc();
     let whole = "Pass { password: Password { bytes: ******* } }";
     let lines = "Pass {\n    password: Password { bytes: ******* },\n}";
-    assert_text(&rt, shown(&rt, alloc, 0), whole);
-    assert_text(&rt, shown(&rt, alloc, 1), lines);
-    assert_text(&rt, shown(&rt, alloc, 2), whole);
-    assert_text(&rt, shown(&rt, alloc, 3), whole);
+    assert_shown(&rt, alloc, 0, whole);
+    assert_shown(&rt, alloc, 1, lines);
+    assert_shown(&rt, alloc, 2, whole);
+    assert_shown(&rt, alloc, 3, whole);
+    assert_shown(&rt, alloc, 4, whole);
+    let alone = "Password { bytes: ******* }";
+    assert_shown(&rt, alloc, 5, "*******");
+    assert_shown(&rt, alloc, 6, alone);
+    assert_shown(&rt, alloc, 7, alone);
 }

@@ -62,4 +62,24 @@ impl Forms {
         let is_cut = self.is_alike(other);
         self.put(written, is_alternate && is_padded && is_cut, answers);
     }
+
+    /// Writes what Debug writes, ` alike` where it is so under a width and a precision, and then what
+    /// it writes under `#`, where that is another text.
+    pub fn debug_lines(&mut self, value: &(impl Debug + Drop), answers: &mut Answers) {
+        let written = write!(self.plain, "{value:?}");
+        if written.is_ok() {
+            answers.put(Quoted(self.plain.as_bytes()));
+        }
+        let other = write!(self.other, "{value:>60?}");
+        let is_padded = self.is_alike(other);
+        let other = write!(self.other, "{value:.3?}");
+        let is_cut = self.is_alike(other);
+        answers.put_unless(!(is_padded && is_cut), " alike");
+        let other = write!(self.other, "{value:#?}");
+        if other.is_ok() && self.other != self.plain {
+            answers.put(format_args!(" {}", Quoted(self.other.as_bytes())));
+        }
+        self.plain.clear();
+        self.other.clear();
+    }
 }

@@ -113,6 +113,7 @@ impl Settings {
             "room" => &mut self.writes.room,
             "most_written" => &mut self.writes.most,
             "step" => &mut self.writes.step,
+            "write_fails" => &mut self.writes.failing_write,
             "flush_fails" => &mut self.writes.failing_flush,
             _ => return false,
         };

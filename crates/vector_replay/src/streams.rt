@@ -85,7 +85,8 @@ pub struct Writes {
     pub step: usize,
     /// Whether it fails at a write while bytes of the write before are unflushed.
     pub is_wary: bool,
-    /// The flush that fails, counted from 1.
+    /// The write that fails, and the flush, counted from 1; the next one succeeds.
+    pub failing_write: usize,
     pub failing_flush: usize,
 }
 
@@ -97,6 +98,7 @@ impl Writes {
         most: usize::MAX,
         step: 0,
         is_wary: false,
+        failing_write: 0,
         failing_flush: 0,
     };
 }
@@ -107,6 +109,9 @@ pub struct Room {
     pub held: Vec<u8>,
     /// How many flushes succeeded.
     pub flushes: usize,
+    /// How many writes were made, and how many flushes.
+    writes_made: usize,
+    flushes_made: usize,
     unflushed: usize,
     rules: Writes,
 }
@@ -117,6 +122,8 @@ impl Room {
         Room {
             held,
             flushes: 0,
+            writes_made: 0,
+            flushes_made: 0,
             unflushed: 0,
             rules,
         }
@@ -133,6 +140,10 @@ impl Write for Room {
     ghost contents = { λ room. Some room.held.items };
 
     fn write(&mut self, buf: &[u8]) -> io::Result<usize> {
+        self.writes_made = self.writes_made.saturating_add(1);
+        if self.writes_made == self.rules.failing_write {
+            return Err(ErrorKind::Interrupted.into());
+        }
         let n = buf.len().min(self.rules.room).min(self.rules.most);
         let is_full = n == 0 && !self.rules.is_zero;
         let is_too_soon = self.rules.is_wary && self.unflushed > 0;
@@ -148,11 +159,11 @@ impl Write for Room {
     }
 
     fn flush(&mut self) -> io::Result<()> {
-        let number = self.flushes.saturating_add(1);
-        if number == self.rules.failing_flush {
+        self.flushes_made = self.flushes_made.saturating_add(1);
+        if self.flushes_made == self.rules.failing_flush {
             return Err(ErrorKind::Interrupted.into());
         }
-        self.flushes = number;
+        self.flushes = self.flushes.saturating_add(1);
         self.unflushed = 0;
         Ok(())
     }

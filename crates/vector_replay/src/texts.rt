@@ -3,7 +3,7 @@ use crate::answers::Answers;
 use crate::forms::Forms;
 use crate::words::{Words, no_case};
 use std::alloc::Global;
-use std::fmt::Display;
+use std::fmt::{Debug, Display};
 use std::io;
 use std::io::ErrorKind;
 use unftp_control_error::{ControlChanError, ControlChanErrorKind, ParseError, ParseErrorKind};
@@ -104,9 +104,9 @@ fn receive_error(name: &str) -> io::Result<ReceiveError> {
     }
 }
 
-/// Writes what an error prints, once no word is left.
+/// Writes what Display and Debug write of an error, once no word is left.
 fn print(
-    error: &(impl Display + Drop),
+    error: &(impl Debug + Display + Drop),
     forms: &mut Forms,
     words: &mut Words<'_>,
     answers: &mut Answers,
@@ -114,6 +114,8 @@ fn print(
     words.end()?;
     answers.begin();
     forms.display(error, answers);
+    answers.put(" ");
+    forms.debug_lines(error, answers);
     answers.end();
     Ok(())
 }

@@ -6,7 +6,7 @@ use Rattle.std.proofs.lemmas.Grind.{common_steps}
 use Rattle.std.proofs.lemmas.List.{take_more, take-append-drop, take-append-le, length-take-le, drop_all}
 use Rattle.std.proofs.Math.Seq.{take-length, take-append_seam}
 use Rattle.unftp_control_defs.specs.Bytes.{Bytes, LF, Lacks}
-use Rattle.unftp_control_defs.specs.EventSteps.{TakesEvent}
+use Rattle.unftp_control_defs.specs.TakingSteps.{TakesEvent}
 use Rattle.unftp_control_defs.specs.Events.{FtpEvent, Refused, event_of, exceeds, line_too_long, event_for, events}
 use Rattle.unftp_control_defs.specs.FtpCommand.{Answer, FtpCommand}
 use Rattle.unftp_control_defs.specs.Lines.{IsLine}
