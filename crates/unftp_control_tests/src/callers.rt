@@ -223,14 +223,23 @@ fn the_error_of_a_read_is_returned(rt: HostRuntime) {
 fn the_error_of_a_write_or_a_flush_is_returned(rt: HostRuntime) {
     let alloc = rt.alloc();
     for is_written in [false, true] {
-        let output = NoWrites { error: 32, is_written };
+        let output = NoWrites {
+            error: 32,
+            is_written,
+        };
         let input = b"NOOP\r\n".as_slice();
         let (served, _) = serve_connection(alloc, input, output, &mut Basic::new());
         assert_eq!(rt; write_error(served), Some(32));
-        let output = NoWrites { error: 28, is_written };
+        let output = NoWrites {
+            error: 28,
+            is_written,
+        };
         let (next, _) = serve_until_tls(alloc, input, output);
         assert_eq!(rt; write_error(next), Some(28));
-        let mut output = Output::new(NoWrites { error: 5, is_written });
+        let mut output = Output::new(NoWrites {
+            error: 5,
+            is_written,
+        });
         let answer = answer_pieces(alloc, &[input], &mut Basic::new(), &mut output);
         assert_eq!(rt; write_error(answer), Some(5));
     }

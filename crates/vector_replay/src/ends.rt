@@ -74,11 +74,7 @@ impl From<ServeError> for Outcome {
 
 /// Writes which call of a stream failed, and with which error of the system, where that is not
 /// `INTERRUPTED`.
-fn put_failure<W: Write>(
-    call: &str,
-    error: Option<i32>,
-    f: &mut Formatter<W>,
-) -> fmt::Result {
+fn put_failure<W: Write>(call: &str, error: Option<i32>, f: &mut Formatter<W>) -> fmt::Result {
     match error {
         Some(number) if number == INTERRUPTED => f.write_str(call),
         Some(number) => write!(f, "{call} {number}"),
