@@ -1,2 +1,4 @@
 mod PieceLemmas
 mod ExampleLemmas
+mod CallerLemmas
+mod EventLoopLemmas

@@ -4,3 +4,7 @@ pub mod Basic
 pub mod UntilTls
 pub mod EventLoop
 pub mod NoFiles
+pub mod NextCode
+pub mod LogEntry
+pub mod Sessions
+pub mod Pieces

@@ -1,5 +1,6 @@
 //! A client.
 ghost use Rattle.std.specs.Prelude.{◌≡◌, ◌++◌, [], List, true, IfErr, IfOk, IfSome, MatchOption};
+ghost use Rattle.calling.specs.NextCode.{ReceivesAgreement, ReceivesCode};
 ghost use Rattle.unftp_control.specs.Bytes.{Bytes};
 ghost use Rattle.unftp_control.specs.ReplyReader.{FrontReply, IsPartial};
 ghost use Rattle.unftp_control.specs.TakingSteps.{TakesReply};
@@ -15,10 +16,14 @@ pub fn next_code<R: Read>(
     stream: &mut R,
 ) -> Result<Option<u16>, ReceiveError>
     // it is the first reply of what was received before and of what the stream gives
-    ensures { IfOk result (λ next. IfSome next (λ code.
+    ensures reply { IfOk result (λ next. IfSome next (λ code.
         IfSome (R.remaining stream.old) (λ input. IfSome (R.remaining stream.new) (λ left.
         (lines : List Bytes)
         × TakesReply (replies.old.bytes ++ input) (code, lines) (replies.new.bytes ++ left))))) }
+    // there is none only at the stream's end; at an error all that was read is pending
+    ensures receives { ReceivesCode replies.old (R.remaining stream.old) result
+        replies.new (R.remaining stream.new) }
+    ensures limit { replies.new.limit ≡ replies.old.limit }
 {
     match replies.read_reply(stream)? {
         Some(reply) => Ok(Some(reply.code)),
@@ -26,21 +31,25 @@ pub fn next_code<R: Read>(
     }
 }
 
-/// Reads the reply to AUTH TLS, and returns whether the client may begin TLS: the server agrees, and
-/// nothing was received after its reply.
+/// Reads the reply to AUTH TLS, and returns whether the client may begin TLS: the server agrees,
+/// and nothing was received after its reply.
 ///
 /// Bytes that came after the reply in clear text must not be taken for replies under TLS: where
 /// there are any, the connection has to be closed.
 pub fn tls_agreed<R: Read>(replies: &mut ReplyDecoder, stream: &mut R) -> Result<bool, ReceiveError>
-    // where TLS begins, nothing is pending
-    ensures pending { IfOk result (λ agreed. agreed ≡ true → replies.new.bytes ≡ []) }
-    // and the stream begins with the byte after the reply 234
+    // TLS begins exactly where the next reply is 234 and nothing is pending after it,
+    ensures receives { ReceivesAgreement replies.old (R.remaining stream.old) result
+        replies.new (R.remaining stream.new) }
+    // and the stream then begins with the byte after this reply
     ensures reply { IfOk result (λ agreed. agreed ≡ true →
         IfSome (R.remaining stream.old) (λ input. IfSome (R.remaining stream.new) (λ left.
         (lines : List Bytes) × TakesReply (replies.old.bytes ++ input) (234, lines) left))) }
+    ensures limit { replies.new.limit ≡ replies.old.limit }
 {
-    let code = next_code(replies, stream)?;
-    Ok(code == Some(234) && replies.pending().is_empty())
+    match next_code(replies, stream)? {
+        Some(234) => Ok(replies.pending().is_empty()),
+        _ => Ok(false),
+    }
 }
 
 /// The code of the first reply in `received` and how many bytes it takes, once it is complete.

@@ -1,8 +1,10 @@
 //! The codec without the engine.
-ghost use Rattle.std.specs.Prelude.{◌≡◌, ◌+◌, ◌≤◌, ◌++◌, length, drop, OnErr, OnOk, codes, if◌then◌else◌};
+ghost use Rattle.std.specs.Prelude.{◌≡◌, ◌+◌, ◌≤◌, ◌++◌, length, drop, IfErr, OnErr, OnOk, codes, if◌then◌else◌};
 ghost use Rattle.std.specs.Vec.{vec_len};
 ghost use Rattle.calling.specs.NextNoop.{IsNextNoop};
 ghost use Rattle.unftp_control.specs.Decoding.{Decoded, Decodes};
+ghost use Rattle.unftp_control.specs.ErrorMeaning.{fault_of};
+ghost use Rattle.unftp_control.specs.Events.{out_of_memory};
 ghost use Rattle.unftp_control.specs.FtpReply.{CodeAndMsg, encoded};
 
 use std::alloc::Global;
@@ -45,6 +47,7 @@ pub fn next_is_noop(
         × Decodes codec.old codec.new buf.old.items buf.new.items answer
         × IsNextNoop answer result }
     ensures within { codec.new.place ≤ vec_len buf.new }
+    ensures limit { codec.new.limit ≡ codec.old.limit }
 {
     is_noop(codec.decode(alloc, buf))
 }
@@ -61,6 +64,7 @@ pub fn first_is_noop(
         × Decodes codec.old codec.new bytes.now (drop result.0 bytes.now) answer
         × IsNextNoop answer result.1 }
     ensures within { result.0 + codec.new.place ≤ length bytes.now }
+    ensures limit { codec.new.limit ≡ codec.old.limit }
 {
     let (taken, answer) = codec.decode_slice(alloc, bytes);
     (taken, is_noop(answer))
@@ -77,6 +81,7 @@ pub fn answer(
         (if is_noop then 200 else 502)
         (if is_noop then codes "OK" else codes "Not implemented"))) }
     ensures err { OnErr result (out.new.items ≡ out.old.items) }
+    ensures memory { IfErr result (λ error. fault_of error ≡ out_of_memory) }
     ensures codec { codec.new ≡ codec.old }
 {
     let reply = if is_noop {

@@ -1,9 +1,18 @@
-//! Examples of `IsReason`, worked out by hand: for each error of `forward_line`, lines for which it
-//! holds and lines for which it doesn't.
-ghost use Rattle.std.specs.Prelude.{[], ◌∷◌, ◌++◌, codes};
-ghost use Rattle.calling.specs.Forwarding.{IsReason};
+//! Examples of the definitions of this crate, worked out by hand: values for which each holds and
+//! values for which it doesn't.
+ghost use Rattle.std.specs.Prelude.{◌≡◌, [], ◌∷◌, ◌++◌, None, Ok, Some, codes, true};
+ghost use Rattle.calling.specs.EventLoop.{replies_to, turn_after};
+ghost use Rattle.calling.specs.Forwarding.{IsForwarded, IsReason};
+ghost use Rattle.calling.specs.LogEntry.{log_entry};
+ghost use Rattle.calling.specs.NextCode.{begins_tls};
 ghost use Rattle.unftp_control.specs.Bytes.{Bytes};
+ghost use Rattle.unftp_control.specs.Events.{Command, Refused, refusal_fault};
+ghost use Rattle.unftp_control.specs.FtpCommand.{Auth, InvalidCommand, Pass, Quit, Retr};
+ghost use Rattle.unftp_control.specs.FtpReply.{CodeAndMsg};
+ghost use Rattle.unftp_control.specs.Outcome.{outcome};
+ghost use Rattle.unftp_control.specs.declared.commands.AuthParam.TheVariants.{Ssl, Tls};
 
+use crate::event_loop::Turn;
 use crate::proxy::ForwardError;
 use unftp_control::line_parser::ParseErrorKind;
 use unftp_control::write::WriteCommandError;
@@ -30,19 +39,57 @@ pub fn lines_are_refused()
         → IsReason line (ForwardError.Refused ParseErrorKind.OutOfMemory) }
 {}
 
-/// `Unwritten` says that the bytes are not one line, or that an allocation failed.
+/// `Unwritten` says that the command has no line, or that an allocation failed.
 pub fn lines_are_not_written()
     ensures crlf { IsReason (codes "NOOP\r\n") (ForwardError.Unwritten WriteCommandError.NoLine)
         → ⊥ }
     ensures lf_only { IsReason (codes "\n") (ForwardError.Unwritten WriteCommandError.NoLine) → ⊥ }
     ensures refused_line { IsReason (codes "RETR\r\n")
         (ForwardError.Unwritten WriteCommandError.NoLine) → ⊥ }
-    ensures empty { IsReason [] (ForwardError.Unwritten WriteCommandError.NoLine) }
-    ensures no_lf { IsReason (codes "NOOP\r") (ForwardError.Unwritten WriteCommandError.NoLine) }
-    ensures two_lines { IsReason (codes "NOOP\r\nPWD\r\n")
-        (ForwardError.Unwritten WriteCommandError.NoLine) }
-    ensures bytes_after_the_line { IsReason (codes "NOOP\r\nPWD")
+    ensures no_lf { IsReason (codes "NOOP") (ForwardError.Unwritten WriteCommandError.NoLine) → ⊥ }
+    ensures lf_in_the_name { IsReason (codes "USER a\nb\n")
         (ForwardError.Unwritten WriteCommandError.NoLine) }
     ensures out_of_memory { (line : Bytes)
         → IsReason line (ForwardError.Unwritten WriteCommandError.OutOfMemory) }
+{}
+
+/// What is sent is the canonical line, and not the line as it came.
+pub fn lines_are_forwarded()
+    ensures canonical { IsForwarded (codes "xcwd a\n") (codes "NOOP\r\n")
+        (codes "NOOP\r\nCWD a\r\n") }
+    ensures as_it_came { IsForwarded (codes "xcwd a\n") [] (codes "xcwd a\n") → ⊥ }
+    ensures refused { (sent : Bytes) → IsForwarded (codes "RETR\r\n") [] sent → ⊥ }
+{}
+
+/// An event loop agrees to AUTH TLS only where nothing comes after its line.
+pub fn events_are_answered()
+    ensures tls_reply { replies_to (Command (Auth Tls)) []
+        ≡ CodeAndMsg 234 (codes "Begin TLS") ∷ [] }
+    ensures tls_reply_with_more { replies_to (Command (Auth Tls)) (codes "N")
+        ≡ CodeAndMsg 234 (codes "Begin TLS") ∷ [] → ⊥ }
+    ensures one_reply_to_retr { (path : Bytes)
+        → replies_to (Command (Retr path)) [] ≡ CodeAndMsg 226 (codes "Sent") ∷ [] → ⊥ }
+    ensures tls { turn_after (Command (Auth Tls)) [] ≡ Turn.StartTls }
+    ensures tls_with_more { turn_after (Command (Auth Tls)) (codes "N") ≡ Turn.StartTls → ⊥ }
+    ensures ssl { turn_after (Command (Auth Ssl)) [] ≡ Turn.StartTls → ⊥ }
+    ensures quit { turn_after (Command Quit) (codes "N") ≡ Turn.Close }
+    ensures refused_quit { turn_after (Refused (refusal_fault InvalidCommand)) [] ≡ Turn.Close
+        → ⊥ }
+{}
+
+/// A client begins TLS after 234 with nothing behind it.
+pub fn tls_begins()
+    ensures agreed { begins_tls (Some 234) [] ≡ true }
+    ensures with_more { begins_tls (Some 234) (codes "2") ≡ true → ⊥ }
+    ensures another_code { begins_tls (Some 334) [] ≡ true → ⊥ }
+    ensures closed { begins_tls None [] ≡ true → ⊥ }
+{}
+
+/// An entry of a log doesn't depend on the password.
+pub fn lines_are_logged()
+    ensures command { log_entry (outcome (codes "retr a\n")) ≡ codes "RETR a\r\n" }
+    ensures password { (password : Bytes) → log_entry (Ok (Pass password)) ≡ codes "PASS ***\r\n" }
+    ensures refused { log_entry (outcome (codes "RETR\r\n"))
+        ≡ codes "parse error: Invalid command\r\n" }
+    ensures as_it_came { log_entry (outcome (codes "retr a\n")) ≡ codes "retr a\n" → ⊥ }
 {}

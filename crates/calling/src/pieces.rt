@@ -1,9 +1,13 @@
 //! A server's own loop over the engine.
-ghost use Rattle.std.specs.Prelude.{◌≡◌, None, map, IfOk, OnOk, length};
+ghost use Rattle.std.specs.Prelude.{◌≡◌, [], None, Some, map, IfOk, OnOk, length};
 ghost use Rattle.std.specs.List.{concat};
 ghost use Rattle.std.specs.Io.KnownBytes.{Appends};
+ghost use Rattle.calling.specs.Pieces.{AnswersPieces};
+ghost use Rattle.calling.specs.Sessions.{at_start};
 ghost use Rattle.unftp_control.specs.Decoder.{saturating_u64};
+ghost use Rattle.unftp_control.specs.Endings.{snapshot_of};
 ghost use Rattle.unftp_control.specs.Run.{unread, text_for};
+ghost use Rattle.unftp_control.specs.Writing.{OutputState};
 
 use std::alloc::Global;
 use std::io::Write;
@@ -19,10 +23,16 @@ pub fn answer_pieces<H: Handler, W: Write>(
 ) -> Result<u64, ServeError>
     ensures written { OnOk result
         (Appends (W.contents output.old.writer) (W.contents output.new.writer)
-        (text_for None H.law (H.state handler.old) (concat (map (λ piece. piece.now) pieces.now)))) }
+        (text_for None H.law (H.state handler.old)
+        (concat (map (λ piece. piece.now) pieces.now)))) }
     ensures left { IfOk result (λ left.
         left ≡ saturating_u64 (length (unread None H.law (H.state handler.old)
         (concat (map (λ piece. piece.now) pieces.now))))) }
+    // the handler's last state, what was flushed, and where it failed at an error
+    ensures answered { AnswersPieces H.law
+        (snapshot_of H.state H.failures W.contents handler.old output.old)
+        (map (λ piece. piece.now) pieces.now)
+        (snapshot_of H.state H.failures W.contents handler.new output.new) result }
 {
     let mut engine = Engine::new(alloc);
     for piece in pieces {
@@ -37,8 +47,17 @@ pub fn replies_to_pieces<H: Handler>(
     pieces: &[&[u8]],
     handler: &mut H,
 ) -> Result<Vec<u8>, ServeError>
-    ensures { IfOk result (λ replies. replies.items
-        ≡ text_for None H.law (H.state handler.old) (concat (map (λ piece. piece.now) pieces.now))) }
+    ensures replies { IfOk result (λ replies. replies.items
+        ≡ text_for None H.law (H.state handler.old)
+        (concat (map (λ piece. piece.now) pieces.now))) }
+    ensures answered { (output : OutputState) × AnswersPieces H.law
+        (at_start (H.state handler.old) (H.failures handler.old) (Some []))
+        (map (λ piece. piece.now) pieces.now)
+        (record {
+          state = H.state handler.new;
+          failures = H.failures handler.new;
+          output = output;
+        }) result }
 {
     let mut engine = Engine::new(alloc);
     let mut replies = Vec::new(alloc);

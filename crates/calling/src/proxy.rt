@@ -1,9 +1,6 @@
 //! A proxy that writes each command again.
-ghost use Rattle.std.specs.Prelude.{◌≡◌, ◌++◌, OnErr, OnOk, IfErr};
-ghost use Rattle.calling.specs.Forwarding.{IsReason};
-ghost use Rattle.unftp_control.specs.Bytes.{Bytes};
-ghost use Rattle.unftp_control.specs.Lines.{IsLine};
-ghost use Rattle.unftp_control.specs.Outcome.{outcome};
+ghost use Rattle.std.specs.Prelude.{◌≡◌, OnErr, OnOk, IfErr};
+ghost use Rattle.calling.specs.Forwarding.{IsForwarded, IsReason};
 
 use std::alloc::Global;
 use thiserror::Error;
@@ -24,8 +21,7 @@ pub enum ForwardError {
 
 /// Forwards a client's line: appends a line that means the same, in its canonical form.
 pub fn forward_line(alloc: Global, line: &[u8], out: &mut Vec<u8>) -> Result<(), ForwardError>
-    ensures same { OnOk result ((sent : Bytes) × IsLine sent
-        × (outcome sent ≡ outcome line.now) × (out.new.items ≡ out.old.items ++ sent)) }
+    ensures sent { OnOk result (IsForwarded line.now out.old.items out.new.items) }
     ensures why { IfErr result (λ error. IsReason line.now error) }
     ensures err { OnErr result (out.new.items ≡ out.old.items) }
 {

@@ -1,6 +1,7 @@
 //! A connection served to its end.
 ghost use Rattle.std.specs.Prelude.{◌≡◌, ◌+◌, ◌≤◌, Some, IfOk, IfSome, OnOk};
 ghost use Rattle.std.specs.Io.KnownBytes.{Appends};
+ghost use Rattle.calling.specs.Sessions.{IsSession, at_start};
 ghost use Rattle.unftp_control.specs.Run.{run_for, last_state, text_for};
 
 use std::alloc::Global;
@@ -20,6 +21,11 @@ pub fn serve_connection<R: Read + Drop, W: Write, H: Handler>(
     ensures state { OnOk result.0 (IfSome (R.remaining stream_in) (λ input.
         H.state handler.new ≡ last_state H.law (H.state handler.old)
         (run_for None H.law (H.state handler.old) input))) }
+    // and all that `serve` says at Ok and at each error
+    ensures session { IsSession None H.law
+        (at_start (H.state handler.old) (H.failures handler.old) (W.contents stream_out))
+        (R.remaining stream_in) result.0
+        (H.state handler.new) (H.failures handler.new) (W.contents result.1) }
 {
     let mut input = Input::new(stream_in);
     let mut output = Output::new(stream_out);
@@ -42,6 +48,11 @@ pub fn serve_stranger<R: Read + Drop, W: Write, H: Handler>(
         Appends (W.contents stream_out) (W.contents result.1)
         (text_for (Some 8192) H.law (H.state handler.old) input))) }
     ensures bound { IfOk result.0 (λ served. served.held ≤ 8192 + 4096) }
+    // and all that `serve_with_limit` says at Ok and at each error
+    ensures session { IsSession (Some 8192) H.law
+        (at_start (H.state handler.old) (H.failures handler.old) (W.contents stream_out))
+        (R.remaining stream_in) result.0
+        (H.state handler.new) (H.failures handler.new) (W.contents result.1) }
 {
     let mut input = Input::new(stream_in);
     let mut output = Output::new(stream_out);

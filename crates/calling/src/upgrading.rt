@@ -1,9 +1,10 @@
 //! A connection whose commands come under TLS, after AUTH in clear text (RFC 4217, section 4).
-ghost use Rattle.std.specs.Prelude.{◌≡◌, Bool, None, Some, false, true, IfOk, IfSome, OnOk};
+ghost use Rattle.std.specs.Prelude.{◌≡◌, ℕ, Bool, Err, Some, false, IfErr, IfOk, IfSome, OnOk, option_map};
 ghost use Rattle.std.specs.Io.KnownBytes.{Appends};
-ghost use Rattle.calling.specs.UntilTls.{is_auth_tls, until_tls};
+ghost use Rattle.calling.specs.Sessions.{IsSession, at_start};
+ghost use Rattle.calling.specs.UntilTls.{GivesStream, is_auth_tls, until_tls};
 ghost use Rattle.unftp_control.specs.EventMeaning.{event_meant};
-ghost use Rattle.unftp_control.specs.Run.{after_end, ends_for, text_for};
+ghost use Rattle.unftp_control.specs.Run.{text_for};
 
 use std::alloc::Global;
 use std::io::{Read, Write};
@@ -63,8 +64,8 @@ fn is_auth_tls(event: &Event) -> bool
 /// The most bytes of a line, its line feed counted.
 const LINE_LIMIT: usize = 512;
 
-/// Serves a connection in clear text up to AUTH TLS, and returns the stream from which TLS has to be
-/// read, if the client came so far. The session under TLS is a new engine's.
+/// Serves a connection in clear text up to AUTH TLS, and returns the stream from which TLS has to
+/// be read, if the client came so far. The session under TLS is a new engine's.
 ///
 /// Bytes that came after AUTH in clear text must not be taken for commands under TLS: where there
 /// are any, the answer is `None`, and the connection has to be closed.
@@ -76,11 +77,15 @@ pub fn serve_until_tls<R: Read + Drop, W: Write>(
     ensures written { OnOk result.0 (IfSome (R.remaining stream_in) (λ input.
         Appends (W.contents stream_out) (W.contents result.1)
         (text_for (Some 512) until_tls false input))) }
-    // AUTH TLS was the last line, and the stream begins with the byte after its line feed
-    ensures tls { IfOk result.0 (λ next. IfSome next (λ stream.
-        IfSome (R.remaining stream_in) (λ input. IfSome (R.remaining stream) (λ rest.
-        (ends_for (Some 512) until_tls false input ≡ true)
-        × (after_end (Some 512) until_tls false input ≡ rest))))) }
+    // the stream begins with the byte after the line feed of AUTH TLS; there is none only where the
+    // client never asked for TLS, or bytes came after that line
+    ensures tls { IfOk result.0 (λ next. IfSome (R.remaining stream_in) (λ input.
+        GivesStream input (option_map R.remaining next))) }
+    // and at an error all that `serve_with_limit` says
+    ensures err { IfErr result.0 (λ error. (is_done : Bool) × (failures : ℕ)
+        × IsSession (Some 512) until_tls
+        (at_start false 0 (W.contents stream_out)) (R.remaining stream_in) (Err error)
+        is_done failures (W.contents result.1)) }
 {
     let mut input = Input::new(stream_in);
     let mut output = Output::new(stream_out);

@@ -1,5 +1,6 @@
 pub use Rattle.unftp_control_defs.proofs.LineLemmas
 pub use Rattle.unftp_control_defs.proofs.RunLemmas
 pub use Rattle.unftp_control_serve.proofs.SendLemmas
+pub use Rattle.unftp_control_serve.proofs.EndingLemmas
 pub use Rattle.unftp_control_serve.proofs.ServesLemmas
 pub use Rattle.unftp_control_login.proofs.MemberLemmas

@@ -3,15 +3,17 @@ use calling::client::{first_code, next_code, tls_agreed};
 use calling::codec::{answer, first_is_noop, next_is_noop};
 use calling::event_loop::{Turn, answer_next};
 use calling::handler::Basic;
-use calling::lines::line_text;
+use calling::lines::log_line;
 use calling::pieces::{answer_pieces, replies_to_pieces};
 use calling::proxy::forward_line;
 use calling::serving::{serve_connection, serve_stranger};
 use calling::upgrading::serve_until_tls;
 use std::alloc::Global;
+use std::io;
+use std::io::{Read, Write};
 use std::process::Abort;
 use unftp_control::codecs::FtpCodec;
-use unftp_control::read::ReplyDecoder;
+use unftp_control::read::{ReceiveError, ReplyDecoder};
 use unftp_control::serve::{EventDecoder, Output, ServeError, Served};
 
 /// The buffer holds these bytes.
@@ -20,12 +22,13 @@ fn assert_held(rt: &impl Abort, buf: Vec<u8>, want: &[u8]) {
 }
 
 #[test]
-fn lines_are_printed_and_forwarded(rt: HostRuntime) {
-    let text = line_text(rt.alloc(), b"PASS secret\r\n").expect(&rt, "memory");
-    assert_eq!(rt;
-        text.as_str(),
-        "Pass { password: Password { bytes: ******* } }"
-    );
+fn lines_are_logged_and_forwarded(rt: HostRuntime) {
+    let mut log = Vec::new(rt.alloc());
+    for line in [b"pass secret\r\n".as_slice(), b"retr a\n", b"RETR\r\n"] {
+        assert!(rt; log_line(rt.alloc(), line, &mut log).is_ok());
+    }
+    let want = b"PASS ***\r\nRETR a\r\nparse error: Invalid command\r\n";
+    assert_held(&rt, log, want);
     let mut out = Vec::new(rt.alloc());
     let answer = forward_line(rt.alloc(), b"list -la -- -x\n", &mut out);
     let is_forwarded = answer.is_ok();
@@ -145,4 +148,99 @@ fn an_event_loop_sends_what_it_likes(rt: HostRuntime) {
     assert_held(&rt, out, b"502 Not here\r\n");
     let out = assert_turn(&rt, rt.alloc(), &mut decoder, Turn::Close);
     assert_held(&rt, out, b"221 Bye\r\n");
+}
+
+/// Each read fails with the system's error of this number.
+#[derive(Drop)]
+struct NoReads(i32);
+
+impl Read for NoReads {
+    fn read(&mut self, _buf: &mut [u8]) -> io::Result<usize> {
+        Err(io::Error::from_raw_os_error(self.0))
+    }
+}
+
+/// Each write fails with the system's error of this number; or each flush, where writes succeed.
+#[derive(Drop)]
+struct NoWrites {
+    error: i32,
+    is_written: bool,
+}
+
+impl Write for NoWrites {
+    fn write(&mut self, buf: &[u8]) -> io::Result<usize> {
+        if self.is_written {
+            Ok(buf.len())
+        } else {
+            Err(io::Error::from_raw_os_error(self.error))
+        }
+    }
+
+    fn flush(&mut self) -> io::Result<()> {
+        Err(io::Error::from_raw_os_error(self.error))
+    }
+}
+
+/// The number of the system's error that a read failed with.
+fn read_error<T: Drop>(answer: Result<T, ServeError>) -> Option<i32> {
+    match answer {
+        Err(ServeError::Read(error)) => error.raw_os_error(),
+        _ => None,
+    }
+}
+
+/// The number of the system's error that a write or a flush failed with.
+fn write_error<T: Drop>(answer: Result<T, ServeError>) -> Option<i32> {
+    match answer {
+        Err(ServeError::Write(error)) => error.raw_os_error(),
+        _ => None,
+    }
+}
+
+/// The number of the system's error that receiving failed with.
+fn receive_error<T: Drop>(answer: Result<T, ReceiveError>) -> Option<i32> {
+    match answer {
+        Err(ReceiveError::Read(error)) => error.raw_os_error(),
+        _ => None,
+    }
+}
+
+#[test]
+fn the_error_of_a_read_is_returned(rt: HostRuntime) {
+    let alloc = rt.alloc();
+    let mut replies = ReplyDecoder::new(alloc);
+    let code = next_code(&mut replies, &mut NoReads(104));
+    assert_eq!(rt; receive_error(code), Some(104));
+    let is_agreed = tls_agreed(&mut replies, &mut NoReads(110));
+    assert_eq!(rt; receive_error(is_agreed), Some(110));
+    let (served, _) = serve_connection(alloc, NoReads(104), Vec::new(alloc), &mut Basic::new());
+    assert_eq!(rt; read_error(served), Some(104));
+    let (next, _) = serve_until_tls(alloc, NoReads(110), Vec::new(alloc));
+    assert_eq!(rt; read_error(next), Some(110));
+}
+
+#[test]
+fn the_error_of_a_write_or_a_flush_is_returned(rt: HostRuntime) {
+    let alloc = rt.alloc();
+    for is_written in [false, true] {
+        let output = NoWrites {
+            error: 32,
+            is_written,
+        };
+        let input = b"NOOP\r\n".as_slice();
+        let (served, _) = serve_connection(alloc, input, output, &mut Basic::new());
+        assert_eq!(rt; write_error(served), Some(32));
+        let output = NoWrites {
+            error: 28,
+            is_written,
+        };
+        let (next, _) = serve_until_tls(alloc, input, output);
+        assert_eq!(rt; write_error(next), Some(28));
+        let mut output = Output::new(NoWrites {
+            error: 5,
+            is_written,
+        });
+        let answer = answer_pieces(alloc, &[input], &mut Basic::new(), &mut output);
+        assert_eq!(rt; write_error(answer), Some(5));
+    }
 }

@@ -1,4 +1,5 @@
 //! How the calls of a session end.
+use crate::streams::INTERRUPTED;
 use std::fmt;
 use std::fmt::{Display, Formatter, Write};
 use std::io::ErrorKind;
@@ -10,8 +11,10 @@ use unftp_control_serve::{ServeError, Served};
 #[derive(Clone, Copy)]
 pub enum Outcome {
     Ok,
-    Read,
-    Write,
+    /// A read failed, with the system's error of this number, or another.
+    Read(Option<i32>),
+    /// A write or a flush did.
+    Write(Option<i32>),
     WriteZero,
     /// The handler failed, with an error of this kind and source.
     Handler(&'static str, &'static str),
@@ -56,8 +59,8 @@ fn handler_outcome(error: &ControlChanError) -> Outcome {
 impl From<ServeError> for Outcome {
     fn from(error: ServeError) -> Outcome {
         let outcome = match &error {
-            ServeError::Read(_) => Outcome::Read,
-            ServeError::Write(_) => Outcome::Write,
+            ServeError::Read(error) => Outcome::Read(error.raw_os_error()),
+            ServeError::Write(error) => Outcome::Write(error.raw_os_error()),
             ServeError::WriteZero => Outcome::WriteZero,
             ServeError::Handler(error) => handler_outcome(error),
             ServeError::OutOfMemory => Outcome::OutOfMemory,
@@ -69,12 +72,22 @@ impl From<ServeError> for Outcome {
     }
 }
 
+/// Writes which call of a stream failed, and with which error of the system, where that is not
+/// `INTERRUPTED`.
+fn put_failure<W: Write>(call: &str, error: Option<i32>, f: &mut Formatter<W>) -> fmt::Result {
+    match error {
+        Some(number) if number == INTERRUPTED => f.write_str(call),
+        Some(number) => write!(f, "{call} {number}"),
+        None => write!(f, "{call} another"),
+    }
+}
+
 impl Display for Outcome {
     fn fmt<W: Write>(&self, f: &mut Formatter<W>) -> fmt::Result {
         f.write_str(match self {
             Outcome::Ok => "ok",
-            Outcome::Read => "read",
-            Outcome::Write => "write",
+            Outcome::Read(error) => return put_failure("read", *error, f),
+            Outcome::Write(error) => return put_failure("write", *error, f),
             Outcome::WriteZero => "write-zero",
             Outcome::Handler(kind, source) => return write!(f, "handler {kind} {source}"),
             Outcome::HandlerOutOfMemory => "handler-out-of-memory",

@@ -50,6 +50,9 @@ impl Settings {
         if name == "handler" {
             return self.set_handler(value);
         }
+        if name == "error" {
+            return self.set_error(read_number(value)?);
+        }
         let number = read_number(value)?;
         if self.set_read(name, number) || self.set_write(name, number) {
             Ok(())
@@ -66,6 +69,13 @@ impl Settings {
             "appended" => self.is_appended = true,
             _ => return Err(no_case()),
         }
+        Ok(())
+    }
+
+    /// What fails of the streams fails with the system's error of this number.
+    fn set_error(&mut self, number: i32) -> io::Result<()> {
+        self.reads.error = number;
+        self.writes.error = number;
         Ok(())
     }
 

@@ -1,9 +1,13 @@
-//! Readers that give pieces and writers with little room, which fail when they are asked to. Each
-//! failure is `Interrupted`, which is an error like any other: nothing is tried again.
+//! Readers that give pieces and writers with little room, which fail when they are asked to. A
+//! failure is an error of the system, `INTERRUPTED` where no other is asked for: it is an error like
+//! any other, and nothing is tried again.
 ghost use Rattle.std.specs.Prelude.{Some};
 
 use std::io;
-use std::io::{ErrorKind, Read, Write};
+use std::io::{Read, Write};
+
+/// The number of the system's error EINTR.
+pub const INTERRUPTED: i32 = 4;
 
 /// How a reader gives its bytes.
 #[derive(Clone, Copy)]
@@ -12,8 +16,9 @@ pub struct Reads {
     pub first: usize,
     pub second: usize,
     pub most: usize,
-    /// The read that fails, counted from 1.
+    /// The read that fails, counted from 1, and the number of its error.
     pub failing: usize,
+    pub error: i32,
 }
 
 impl Reads {
@@ -23,6 +28,7 @@ impl Reads {
         second: usize::MAX,
         most: usize::MAX,
         failing: 0,
+        error: INTERRUPTED,
     };
 
     /// The most bytes of the read with this number.
@@ -62,7 +68,7 @@ impl Read for Pieces<'_> {
     fn read(&mut self, buf: &mut [u8]) -> io::Result<usize> {
         self.reads = self.reads.saturating_add(1);
         if self.reads == self.rules.failing {
-            return Err(ErrorKind::Interrupted.into());
+            return Err(io::Error::from_raw_os_error(self.rules.error));
         }
         let most = self.rules.most_of(self.reads).max(1);
         let n = buf.len().min(most).min(self.rest.len());
@@ -88,6 +94,8 @@ pub struct Writes {
     /// The write that fails, and the flush, counted from 1; the next one succeeds.
     pub failing_write: usize,
     pub failing_flush: usize,
+    /// The number of the error of a write or a flush.
+    pub error: i32,
 }
 
 impl Writes {
@@ -100,6 +108,7 @@ impl Writes {
         is_wary: false,
         failing_write: 0,
         failing_flush: 0,
+        error: INTERRUPTED,
     };
 }
 
@@ -142,13 +151,13 @@ impl Write for Room {
     fn write(&mut self, buf: &[u8]) -> io::Result<usize> {
         self.writes_made = self.writes_made.saturating_add(1);
         if self.writes_made == self.rules.failing_write {
-            return Err(ErrorKind::Interrupted.into());
+            return Err(io::Error::from_raw_os_error(self.rules.error));
         }
         let n = buf.len().min(self.rules.room).min(self.rules.most);
         let is_full = n == 0 && !self.rules.is_zero;
         let is_too_soon = self.rules.is_wary && self.unflushed > 0;
         if is_full || is_too_soon {
-            return Err(ErrorKind::Interrupted.into());
+            return Err(io::Error::from_raw_os_error(self.rules.error));
         }
         let (taken, _) = buf.split_at(n);
         self.held.extend_from_slice(taken)?;
@@ -161,7 +170,7 @@ impl Write for Room {
     fn flush(&mut self) -> io::Result<()> {
         self.flushes_made = self.flushes_made.saturating_add(1);
         if self.flushes_made == self.rules.failing_flush {
-            return Err(ErrorKind::Interrupted.into());
+            return Err(io::Error::from_raw_os_error(self.rules.error));
         }
         self.flushes = self.flushes.saturating_add(1);
         self.unflushed = 0;

@@ -1,10 +1,12 @@
 use Rattle.std.proofs.Common.{take, map}
 use Rattle.std.specs.List.{concat}
+use Rattle.unftp_control.specs.Endings.{snapshot_of}
 use Rattle.calling.proofs.PieceLemmas.{AnsweredSoFar}
 use Rattle.calling.proofs.pieces.answer_pieces.Given as goal
 
 abbrev pub invariant-loop-piece : goal.invariant-loop-piece
 invariant-loop-piece g l =
-    AnsweredSoFar g.H.Handler.law (g.H.Handler.state l.fn.handler) (g.W.Write.contents l.fn.output.writer)
-    (concat (map (λ piece. piece.now) (take l.piece-index l.pieces)))
-    l.engine (g.H.Handler.state l.handler) (g.W.Write.contents l.output.writer)
+    AnsweredSoFar g.H.Handler.law
+    (snapshot_of g.H.Handler.state g.H.Handler.failures g.W.Write.contents l.fn.handler l.fn.output)
+    (snapshot_of g.H.Handler.state g.H.Handler.failures g.W.Write.contents l.handler l.output)
+    (concat (map (λ piece. piece.now) (take l.piece-index l.pieces))) l.engine
