@@ -46,21 +46,21 @@ after_call connection left = record {
 }
 
 -- what a caller does: it receives bytes, or it makes a call with these two areas, which leaves this
-pub data Step : Type 0 where
-  Received : Bytes → Step
-  Called : Bytes → Bytes → Left → Step
+pub data CallerStep : Type 0 where
+  Received : Bytes → CallerStep
+  Called : Bytes → Bytes → Left → CallerStep
 
 -- These steps, in any order, lead from the one to the other; each call leaves what it may leave.
-abbrev pub AreSteps : ℕ → Connection → List Step → Connection → Type 0
-AreSteps limit before [] after = after ≡ before
-AreSteps limit before (Received piece ∷ steps) after =
-    AreSteps limit (after_piece before piece) steps after
-AreSteps limit before (Called name value left ∷ steps) after =
+abbrev pub AreCallerSteps : ℕ → Connection → List CallerStep → Connection → Type 0
+AreCallerSteps limit before [] after = after ≡ before
+AreCallerSteps limit before (Received piece ∷ steps) after =
+    AreCallerSteps limit (after_piece before piece) steps after
+AreCallerSteps limit before (Called name value left ∷ steps) after =
     Leaves (call_of limit before name value) left
-    × AreSteps limit (after_call before left) steps after
+    × AreCallerSteps limit (after_call before left) steps after
 
 -- all bytes that were received
-abbrev pub input_of : List Step → Bytes
+abbrev pub input_of : List CallerStep → Bytes
 input_of [] = []
 input_of (Received piece ∷ steps) = piece ++ input_of steps
 input_of (Called name value left ∷ steps) = input_of steps
@@ -96,7 +96,7 @@ given_by left = if gives_none left.result
       value = take left.value_length left.value;
     } ∷ []
 
-abbrev pub all_given : List Step → List Given
+abbrev pub all_given : List CallerStep → List Given
 all_given [] = []
 all_given (Received piece ∷ steps) = all_given steps
 all_given (Called name value left ∷ steps) = given_by left ++ all_given steps

@@ -8,24 +8,24 @@ ghost use Rattle.unftp_control_defs.specs.FtpCommand.{FtpCommand, HasTypedFields
 ghost use Rattle.unftp_control_defs.specs.Lines.{IsLine};
 ghost use Rattle.unftp_control_c.specs.Next.{Leaves, Left, line_limit};
 ghost use Rattle.unftp_control_c.specs.Numbers.{status_number};
-ghost use Rattle.unftp_control_c.specs.Taking.{AreSteps, Connection, Given, IsNumberOf, Step, after_call, all_given, call_of, given_for, gives_none, input_of, new_connection};
+ghost use Rattle.unftp_control_c.specs.Taking.{AreCallerSteps, Connection, Given, IsNumberOf, CallerStep, after_call, all_given, call_of, given_for, gives_none, input_of, new_connection};
 ghost use Rattle.unftp_control_c.specs.declared.status.Status.TheVariants.{More, NoRoom, OutOfMemory};
 
 /// Whatever a caller receives, and whenever it calls `unftp_next`, with whatever areas: its calls
 /// give the events of what it received, in order, each by its number, name and value.
 pub fn calls_take_events()
     // What was given so far is the first of them, and all of them where a call asks for more.
-    ensures first { (limit : ℕ) (steps : List Step) (after : Connection)
-        → AreSteps limit new_connection steps after
+    ensures first { (limit : ℕ) (steps : List CallerStep) (after : Connection)
+        → AreCallerSteps limit new_connection steps after
         → (later : List Given) × (all_given steps ++ later
         ≡ map given_for (events (line_limit limit) (input_of steps))) }
-    ensures all { (limit : ℕ) (steps : List Step) (after : Connection) (name value : Bytes)
-        (left : Left) → AreSteps limit new_connection steps after
+    ensures all { (limit : ℕ) (steps : List CallerStep) (after : Connection) (name value : Bytes)
+        (left : Left) → AreCallerSteps limit new_connection steps after
         → Leaves (call_of limit after name value) left → left.result ≡ status_number More
         → all_given steps ≡ map given_for (events (line_limit limit) (input_of steps)) }
     // A call that uses nothing up asks for more, or has no room or no memory.
-    ensures nothing_used { (limit : ℕ) (steps : List Step) (after : Connection)
-        (name value : Bytes) (left : Left) → AreSteps limit new_connection steps after
+    ensures nothing_used { (limit : ℕ) (steps : List CallerStep) (after : Connection)
+        (name value : Bytes) (left : Left) → AreCallerSteps limit new_connection steps after
         → Leaves (call_of limit after name value) left → left.used ≡ 0
         → gives_none left.result ≡ true }
 {}

@@ -2,12 +2,12 @@
 ghost use Rattle.std.specs.Prelude.{◌≡◌, ◌∷◌, [], None, Some, false, true, codes};
 ghost use Rattle.unftp_control_defs.specs.Events.{Command, Refused, IoError, ParseError, InternalServerError, AuthenticationError, InternalMsgError, Utf8Error, UnknownCommand, InvalidCommand, ControlChannelTimeout, IllegalState, OutOfMemory, LineTooLong, NoSource, Parse, Utf8, Io, line_too_long, refusal_fault};
 ghost use Rattle.unftp_control_defs.specs.FtpCommand.{InvalidCommand as RefusedCommand, InvalidEol as RefusedEol, InvalidUtf8 as RefusedUtf8, Retr, Stat};
-ghost use Rattle.unftp_control_c.specs.Taking.{AreSteps, Called, IsNumberOf, Received, all_given, given_by, given_for, gives_none, input_of, new_connection};
+ghost use Rattle.unftp_control_c.specs.Taking.{AreCallerSteps, Called, IsNumberOf, Received, all_given, given_by, given_for, gives_none, input_of, new_connection};
 
 /// Which steps of a caller lead from a new connection to these pending bytes.
 pub fn callers_make_steps()
     // a line in two pieces, a call before the second, and one with areas that have room
-    ensures line { AreSteps 0 new_connection
+    ensures line { AreCallerSteps 0 new_connection
         (Received (codes "NO") ∷ Called [] [] (record {
           result = 101;
           used = 0;
@@ -27,9 +27,10 @@ pub fn callers_make_steps()
           value = [];
           value_length = 0;
         }) ∷ []) (record { bytes = codes "Q"; offset = 0; skipping = false }) }
-    ensures piece_forgotten { ¬ AreSteps 0 new_connection (Received (codes "N") ∷ []) new_connection }
+    ensures piece_forgotten { ¬ AreCallerSteps 0 new_connection (Received (codes "N") ∷ [])
+        new_connection }
     // no byte is there
-    ensures no_such_call { ¬ AreSteps 0 new_connection (Called (codes "....") [] (record {
+    ensures no_such_call { ¬ AreCallerSteps 0 new_connection (Called (codes "....") [] (record {
       result = 10;
       used = 0;
       offset = 0;
@@ -100,8 +101,8 @@ pub fn refused_lines_have_numbers()
     ensures no_line { ¬ IsNumberOf OutOfMemory 106 }
 {}
 
-/// The numbers of faults of each kind, where no line was read: memory ran out, or the line is too
-/// long; with the other kinds no line is refused.
+/// The numbers of faults of each kind that have no refusal of a line as their source: only where
+/// memory ran out, or a line is too long, `unftp_next` meets one.
 pub fn faults_have_numbers()
     ensures io { (given_for (Refused (record { kind = IoError; source = Io }))).number ≡ 102 }
     ensures parse { (given_for (Refused (record { kind = ParseError; source = NoSource }))).number
@@ -123,8 +124,8 @@ pub fn faults_have_numbers()
         ≡ 102 }
     ensures memory { (given_for (Refused (record { kind = OutOfMemory; source = NoSource }))).number
         ≡ 106 }
-    ensures too_long { (given_for (Refused (record { kind = LineTooLong; source = NoSource }))).number
-        ≡ 105 }
+    ensures too_long { (given_for (Refused
+        (record { kind = LineTooLong; source = NoSource }))).number ≡ 105 }
     ensures parser_memory { (given_for (Refused
         (record { kind = ParseError; source = Parse None }))).number ≡ 106 }
 {}

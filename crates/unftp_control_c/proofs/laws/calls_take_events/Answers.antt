@@ -20,7 +20,7 @@ use Rattle.unftp_control_codecs.proofs.LineFeedLemmas.{NoLineFeed, line_feed_at,
 use Rattle.unftp_control_c.specs.declared.status.Status.TheVariants.{More, OutOfMemory}
 use Rattle.unftp_control_c.specs.Next.{Call, Left, Leaves, answered, by_line_feed, ended, gives, has_room, incomplete, is_long, is_within, kept, line_limit, next_of}
 use Rattle.unftp_control_c.specs.Numbers.{status_number}
-use Rattle.unftp_control_c.specs.Taking.{AreSteps, Called, Connection, Given, Received, Step, after_call, after_piece, all_given, call_of, given_by, given_for, gives_none, input_of, new_connection}
+use Rattle.unftp_control_c.specs.Taking.{AreCallerSteps, Called, Connection, Given, Received, CallerStep, after_call, after_piece, all_given, call_of, given_by, given_for, gives_none, input_of, new_connection}
 use Rattle.unftp_control_c.proofs.NextLemmas.{status_of_refusal}
 use Rattle.unftp_control_c.proofs.CallLemmas.{NextLeft, invalid, asks, gave, no_room, command_gives, refusal_gives, left_so, gives_some}
 use Rattle.unftp_control_c.proofs.laws.calls_take_events.Goals as goal
@@ -222,16 +222,16 @@ module _ (limited : ℕ) (now : Connection) (dropped : Bytes) (kept_so : IsKept 
   does left (inr ran_out) = rw ran_out.1 (unchanged (kept call OutOfMemory) refl refl refl refl)
 
 -- What steps do, one after the other: what is given, and then the events from the first line on, are the events from there on before.
-record Run (limit : Option ℕ) (steps : List Step) (now after : Connection) (dropped : Bytes) : Type 0 where
+record Run (limit : Option ℕ) (steps : List CallerStep) (now after : Connection) (dropped : Bytes) : Type 0 where
   rest : Bytes
   rest_kept : IsKept limit after rest
   in_order : all_given steps ++ map given_for (events limit (rest ++ after.bytes)) ≡ map given_for (events limit ((dropped ++ now.bytes) ++ input_of steps))
 
 module _ (limited : ℕ) (after : Connection) where
-  abbrev RunFrom : List Step → Connection → Bytes → Type 0
+  abbrev RunFrom : List CallerStep → Connection → Bytes → Type 0
   RunFrom steps now dropped = Run (line_limit limited) steps now after dropped
 
-  after_a_call : (now : Connection) (dropped name value : Bytes) (left : Left) (steps : List Step) → Does (line_limit limited) (dropped ++ now.bytes) left (after_call now left)
+  after_a_call : (now : Connection) (dropped name value : Bytes) (left : Left) (steps : List CallerStep) → Does (line_limit limited) (dropped ++ now.bytes) left (after_call now left)
       → ((rest : Bytes) → IsKept (line_limit limited) (after_call now left) rest → RunFrom steps (after_call now left) rest) → RunFrom (Called name value left ∷ steps) now dropped
   after_a_call now dropped name value left steps (waits rest none rest_kept whole) later =
       let run = later rest rest_kept in
@@ -249,7 +249,7 @@ module _ (limited : ℕ) (after : Connection) where
             ∙ ap (map given_for) (sym (TakesEvent-events (line_limit limited) (dropped ++ now.bytes) event (after_call now left).bytes taken (input_of steps))));
       }
 
-  run_of : (steps : List Step) (now : Connection) (dropped : Bytes) → IsKept (line_limit limited) now dropped → AreSteps limited now steps after → RunFrom steps now dropped
+  run_of : (steps : List CallerStep) (now : Connection) (dropped : Bytes) → IsKept (line_limit limited) now dropped → AreCallerSteps limited now steps after → RunFrom steps now dropped
   run_of [] now dropped kept_so are = record {
     rest = dropped;
     rest_kept = rw are kept_so;
@@ -263,7 +263,7 @@ module _ (limited : ℕ) (after : Connection) where
       after_a_call now dropped name value left steps (does limited now dropped kept_so name value left are.0)
       (λ rest rest_kept. run_of steps (after_call now left) rest rest_kept are.1)
 
-  module _ (steps : List Step) (are : AreSteps limited new_connection steps after) where
+  module _ (steps : List CallerStep) (are : AreCallerSteps limited new_connection steps after) where
     run : RunFrom steps new_connection []
     run = run_of steps new_connection [] (kept_from_start (line_limit limited) new_connection refl refl) are
 
@@ -289,7 +289,7 @@ module _ (limited : ℕ) (now : Connection) (name value : Bytes) (left : Left) w
   asks_at_the_end dropped kept_so (inl (gave some used)) is = absurd ((gives_some left.result some).0 is)
   asks_at_the_end dropped kept_so (inl (no_room k command ok at short read e)) is = absurd (omega (arith, sym (ap (λ l. l.result) e) ∙ is))
 
-given_all : (limited : ℕ) (after : Connection) (steps : List Step) (name value : Bytes) (left : Left) → AreSteps limited new_connection steps after → Leaves (call_of limited after name value) left
+given_all : (limited : ℕ) (after : Connection) (steps : List CallerStep) (name value : Bytes) (left : Left) → AreCallerSteps limited new_connection steps after → Leaves (call_of limited after name value) left
     → left.result ≡ status_number More → all_given steps ≡ map given_for (events (line_limit limited) (input_of steps))
 given_all limited after steps name value left are leaves more =
     let before = run limited after steps are in
@@ -297,7 +297,7 @@ given_all limited after steps name value left are leaves more =
     (asks_at_the_end limited after name value left before.rest before.rest_kept (left_so (call_of limited after name value) left leaves) more) in
     sym (append-nil (all_given steps)) ∙ ap (λ later. all_given steps ++ map given_for later) (sym none) ∙ before.in_order
 
-given_none : (limited : ℕ) (after : Connection) (steps : List Step) (name value : Bytes) (left : Left) → AreSteps limited new_connection steps after → Leaves (call_of limited after name value) left
+given_none : (limited : ℕ) (after : Connection) (steps : List CallerStep) (name value : Bytes) (left : Left) → AreCallerSteps limited new_connection steps after → Leaves (call_of limited after name value) left
     → left.used ≡ 0 → gives_none left.result ≡ true
 given_none limited after steps name value left are leaves used =
     let before = run limited after steps are in
