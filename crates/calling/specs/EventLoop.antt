@@ -2,7 +2,7 @@
 use Rattle.std.specs.Prelude.{◌≡◌, ◌⊎◌, List, [], ◌∷◌, ◌++◌, flat_map, codes}
 use Rattle.unftp_control.specs.Bytes.{Bytes}
 use Rattle.unftp_control.specs.Decoder.{HasNoLine, Pending, StaysPending}
-use Rattle.unftp_control.specs.EventSteps.{TakesEvent}
+use Rattle.unftp_control.specs.TakingSteps.{TakesEvent}
 use Rattle.unftp_control.specs.Events.{FtpEvent, Command, Refused}
 use Rattle.unftp_control.specs.FtpCommand.{Auth, Quit, Retr}
 use Rattle.unftp_control.specs.FtpReply.{FtpReply, CodeAndMsg, encoded}
