@@ -8,7 +8,7 @@ use Rattle.unftp_control_defs.specs.ReplyReader.{IsPartial}
 use Rattle.unftp_control_defs.specs.TakingSteps.{TakesReply}
 use Rattle.unftp_control_defs.proofs.ReplyAppendLemmas.{TakesReply-append}
 use Rattle.unftp_control_read.specs.ReplyDecoding.{HasError, HasNoReply, IsShortPart, PendingReplies, TakesFirst, appended, content, copy_scans}
-use Rattle.unftp_control_read.specs.Receiving.{AppendsPending, HasFailure, IsNeeded, IsOfRead, LastRead, Receives, failure_of}
+use Rattle.unftp_control_read.specs.Receiving.{AppendsPending, HasFailure, IsNeeded, IsOfRead, Receives, failure_of}
 use Rattle.unftp_control_read.specs.declared.reply.ReceivedReply.{ReceivedReply}
 use Rattle.unftp_control_read.specs.declared.errors.NextReplyError.{NextReplyError}
 use Rattle.unftp_control_read.specs.declared.errors.NextReplyError.TheVariants as next

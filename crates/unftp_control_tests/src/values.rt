@@ -69,7 +69,8 @@ fn assert_begun(rt: &impl Abort, alloc: Global, flags: u8, room: usize, whole: &
     let written = write_shown(&mut writer, &command, flags);
     drop(command);
     assert_eq!(rt; written.is_ok(), room == whole.len());
-    assert_eq!(rt; writer.held.as_slice(), whole.as_bytes().split_at(room).0);
+    let (begun, _) = whole.as_bytes().split_at(room.min(whole.len()));
+    assert_eq!(rt; writer.held.as_slice(), begun);
 }
 
 /// This is written, whatever room the writer has.
