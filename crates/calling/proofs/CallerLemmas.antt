@@ -38,14 +38,17 @@ two_replies (Ok value) old middle new text more first ok =
     one_text middle new more ok ∙ ap (λ z. z ++ (more ++ [])) first ∙ append_assoc old text (more ++ [])
 two_replies (Err error) old middle new text more first ok = tt
 
+no_such : write.NoLine ≡ write.OutOfMemory → ⊥
+no_such same = cc
+
 -- why a command is not written
 pub IsReason-unwritten : (line : Bytes) (command : FtpCommand) (error : WriteCommandError) → outcome line ≡ Ok command → (HasLine command → error ≡ write.OutOfMemory) →
     (IsLine line → HasLine command) → IsReason line (Unwritten error)
 IsReason-unwritten line command write.NoLine means has_line own = record {
   command = command;
   means = means;
-  no_line = λ has. let no = has_line has in cc;
-  not_one = λ is. let no = has_line (own is) in cc;
+  no_line = λ has. absurd (no_such (has_line has));
+  not_one = λ is. no_such (has_line (own is));
 }
 IsReason-unwritten line command write.OutOfMemory means has_line own = tt
 
