@@ -1,12 +1,13 @@
 //! The command of a line.
 ghost use Rattle.std.specs.Prelude.{◌≡◌, ◌++◌, IfErr, OnErr, OnOk, option_map};
+ghost use Rattle.calling.specs.Forwarding.{IsReason};
 ghost use Rattle.calling.specs.LogEntry.{command_entry, is_pass, log_entry, refusal_entry};
 ghost use Rattle.unftp_control.specs.Canonical.{HasLine};
 ghost use Rattle.unftp_control.specs.CommandMeaning.{command_of};
-ghost use Rattle.unftp_control.specs.Lines.{IsLine};
 ghost use Rattle.unftp_control.specs.Outcome.{outcome};
 ghost use Rattle.unftp_control.specs.ParseRefusal.{refusal_of};
 
+use crate::proxy::ForwardError;
 use std::alloc::Global;
 use unftp_control::command::Command;
 use unftp_control::line_parser::{ParseError, ParseErrorKind, parse};
@@ -63,9 +64,8 @@ fn refusal_entry(refusal: &ParseError) -> Option<&'static str>
 pub fn log_line(alloc: Global, line: &[u8], log: &mut Vec<u8>) -> Result<(), WriteCommandError>
     ensures ok { OnOk result (log.new.items ≡ log.old.items ++ log_entry (outcome line.now)) }
     ensures err { OnErr result (log.new.items ≡ log.old.items) }
-    // a line whose one line feed is its last byte has an entry, where memory is there
-    ensures memory { IsLine line.now
-        → IfErr result (λ error. error ≡ WriteCommandError.OutOfMemory) }
+    // there is no entry only for a command that no line gives, or when out of memory
+    ensures why { IfErr result (λ error. IsReason line.now (ForwardError.Unwritten error)) }
 {
     match parse(alloc, line) {
         Ok(command) => {
