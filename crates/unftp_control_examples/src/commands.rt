@@ -1,4 +1,6 @@
 //! Commands: the types of their fields, their lines, and which of them have one.
+#![tactic(auto, unfolding(crate::proofs::Computing::at_bytes))]
+
 ghost use Rattle.std.specs.Prelude.{◌≡◌, ◌++◌, [], ◌∷◌, true, false, Option, Some, None, codes};
 ghost use Rattle.unftp_control_defs.specs.Bytes.{Bytes};
 ghost use Rattle.unftp_control_defs.specs.Canonical.{canonical_line, HasLine, IsUpperCaseName, IsNonEmptyText, IsOptionalText};

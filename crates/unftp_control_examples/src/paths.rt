@@ -1,4 +1,6 @@
 //! The path of LIST.
+#![tactic(auto, unfolding(crate::proofs::Computing::at_bytes))]
+
 ghost use Rattle.std.specs.Prelude.{◌≡◌, [], Some, None, Ok, codes};
 ghost use Rattle.unftp_control_defs.specs.FtpCommand.{List as Listing};
 ghost use Rattle.unftp_control_defs.specs.Outcome.{outcome};

@@ -1,4 +1,6 @@
 //! Replies as a client reads them.
+#![tactic(auto, unfolding(crate::proofs::Computing::at_bytes))]
+
 ghost use Rattle.std.specs.Prelude.{◌≡◌, ℕ, List, [], ◌∷◌, ◌++◌, None, Some, codes};
 ghost use Rattle.unftp_control_defs.specs.Bytes.{Bytes};
 ghost use Rattle.unftp_control_defs.specs.FtpReply.{Nothing, CodeAndMsg};

@@ -1,4 +1,6 @@
 //! The values of parameters.
+#![tactic(auto, unfolding(crate::proofs::Computing::at_bytes))]
+
 ghost use Rattle.std.specs.Prelude.{◌≡◌, ◌++◌, [], ◌∷◌, Ok, Err, codes};
 ghost use Rattle.unftp_control_defs.specs.FtpCommand.{User, InvalidEol};
 ghost use Rattle.unftp_control_defs.specs.Outcome.{outcome};

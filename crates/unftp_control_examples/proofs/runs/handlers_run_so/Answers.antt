@@ -1,9 +1,0 @@
-use Rattle.std.proofs.Common.{refl}
-use Rattle.std.specs.Str.{is_utf8, chars}
-use Rattle.std.specs.Str.Lossy.{utf8_lossy, utf8_valid_len, utf8_error_len}
-use Rattle.std.specs.Fmt.{digits}
-use Rattle.unftp_control_examples.proofs.runs.handlers_run_so.Goals as goal
-
-pub returns : goal.returns
-unfolding is_utf8 chars utf8_lossy utf8_valid_len utf8_error_len lib.Utf8.encode digits
-returns c = (refl, refl, refl, refl, refl)

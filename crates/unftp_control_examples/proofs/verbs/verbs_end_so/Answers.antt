@@ -1,8 +1,0 @@
-use Rattle.std.proofs.Common.{refl}
-use Rattle.std.specs.Str.{is_utf8, chars}
-use Rattle.std.specs.Str.Lossy.{utf8_lossy, utf8_valid_len, utf8_error_len}
-use Rattle.unftp_control_examples.proofs.verbs.verbs_end_so.Goals as goal
-
-pub returns : goal.returns
-unfolding is_utf8 chars utf8_lossy utf8_valid_len utf8_error_len lib.Utf8.encode
-returns c = record { at_a_cr = refl; at_once = refl; empty_line = refl; only_ascii = refl; site_name = refl }
