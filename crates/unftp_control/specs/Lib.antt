@@ -2,6 +2,7 @@ pub use Rattle.unftp_control_defs.specs.Bytes
 pub use Rattle.unftp_control_defs.specs.Lines
 pub use Rattle.unftp_control_defs.specs.Verbs
 pub use Rattle.unftp_control_defs.specs.Values
+pub use Rattle.unftp_control_defs.specs.ComputedValue
 pub use Rattle.unftp_control_defs.specs.Paths
 pub use Rattle.unftp_control_defs.specs.FtpCommand
 pub use Rattle.unftp_control_defs.specs.Rules

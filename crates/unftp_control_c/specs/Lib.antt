@@ -1,8 +1,8 @@
 -- To be read in this order.
 pub mod Numbers
-pub mod Parts
 pub mod Areas
 pub mod Next
 pub mod Taking
+pub mod Rows
 pub mod Replies
 pub mod CanonicalLines

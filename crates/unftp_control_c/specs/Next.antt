@@ -3,7 +3,7 @@ use Rattle.std.specs.Prelude.{◌≡◌, ℕ, ◌+◌, ◌==◌, ◌&&◌, ◌||
 use Rattle.unftp_control_defs.specs.Bytes.{Bytes}
 use Rattle.unftp_control_defs.specs.FtpCommand.{FtpCommand, Answer}
 use Rattle.unftp_control_defs.specs.Events.{exceeds}
-use Rattle.unftp_control_defs.specs.NameAndValue.{name_and_value}
+use Rattle.unftp_control_defs.specs.NameAndValue.{name_and_value, command_number}
 use Rattle.unftp_control_defs.specs.Outcome.{outcome}
 use Rattle.unftp_control_line_parser.specs.Memory.{MayTakeMemory}
 use Rattle.unftp_control_command.specs.CommandMeaning.{command_of}
@@ -12,7 +12,7 @@ use Rattle.unftp_control_codecs.specs.LineFeed.{line_feed_from}
 use Rattle.unftp_control_codecs.specs.Decoding.{Decoded}
 use Rattle.unftp_control_c.specs.declared.status.Status.{Status}
 use Rattle.unftp_control_c.specs.declared.status.Status.TheVariants.{More, LineTooLong, OutOfMemory, NoRoom, InvalidArgument}
-use Rattle.unftp_control_c.specs.Numbers.{command_number, status_number, fault_status, refusal_status}
+use Rattle.unftp_control_c.specs.Numbers.{status_number, fault_status, refusal_status}
 use Rattle.unftp_control_c.specs.Areas.{overwritten}
 
 pub record Call : Type 0 where

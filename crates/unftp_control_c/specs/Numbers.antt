@@ -1,6 +1,6 @@
 -- The numbers that a caller in C gets; include/unftp_control.h has them by name.
 use Rattle.std.specs.Prelude.{ℕ, Bool, true, false, Some, None}
-use Rattle.unftp_control_defs.specs.FtpCommand.{FtpCommand, User, Pass, Acct, Syst, Stat, TypeCode, Stru, Mode, Help, Noop, Pasv, Epsv, Port, Retr, Stor, Appe, List as Listing, Nlst, Mlst, Mlsd, Feat, Pwd, Cwd, Cdup, Opts, Dele, Rmd, Quit, Mkd, Allo, Abor, Stou, Rnfr, Rnto, Auth, Ccc, Pbsz, Prot, Size, Rest, Mdtm, Md5, Site, Other, Refusal}
+use Rattle.unftp_control_defs.specs.FtpCommand.{Refusal}
 use Rattle.unftp_control_defs.specs.FtpCommand as refusal
 use Rattle.unftp_control_defs.specs.Events.{Fault, FaultKind, FaultSource}
 use Rattle.unftp_control_defs.specs.Events as fault
@@ -10,53 +10,6 @@ use Rattle.unftp_control_write.specs.declared.WriteCommandError.{WriteCommandErr
 use Rattle.unftp_control_write.specs.declared.WriteCommandError.TheVariants as error
 use Rattle.unftp_control_c.specs.declared.status.Status.{Status}
 use Rattle.unftp_control_c.specs.declared.status.Status.TheVariants.{Done, More, InvalidCommand, InvalidUtf8, InvalidEol, LineTooLong, OutOfMemory, NoRoom, NoLine, Malformed, UnknownCode, InvalidArgument}
-
--- which of the 44 commands it is, from 1 on
-abbrev pub command_number : FtpCommand → ℕ
-command_number (User name) = 1
-command_number (Pass password) = 2
-command_number (Acct account) = 3
-command_number Syst = 4
-command_number (Stat path) = 5
-command_number TypeCode = 6
-command_number (Stru structure) = 7
-command_number (Mode mode) = 8
-command_number Help = 9
-command_number Noop = 10
-command_number Pasv = 11
-command_number Epsv = 12
-command_number (Port addr) = 13
-command_number (Retr path) = 14
-command_number (Stor path) = 15
-command_number (Appe path) = 16
-command_number (Listing options path) = 17
-command_number (Nlst path) = 18
-command_number (Mlst path) = 19
-command_number (Mlsd path) = 20
-command_number Feat = 21
-command_number Pwd = 22
-command_number (Cwd path) = 23
-command_number Cdup = 24
-command_number (Opts option) = 25
-command_number (Dele path) = 26
-command_number (Rmd path) = 27
-command_number Quit = 28
-command_number (Mkd path) = 29
-command_number Allo = 30
-command_number Abor = 31
-command_number Stou = 32
-command_number (Rnfr file) = 33
-command_number (Rnto file) = 34
-command_number (Auth protocol) = 35
-command_number Ccc = 36
-command_number Pbsz = 37
-command_number (Prot param) = 38
-command_number (Size file) = 39
-command_number (Rest offset) = 40
-command_number (Mdtm file) = 41
-command_number (Md5 file) = 42
-command_number (Site name arguments) = 43
-command_number (Other name arguments) = 44
 
 -- what a call reports where it gives no command
 abbrev pub status_number : Status → ℕ

@@ -3,9 +3,9 @@ use Rattle.std.specs.Prelude.{◌≡◌, ℕ, ◌==◌, ◌||◌, ◌⊎◌, Boo
 use Rattle.unftp_control_defs.specs.Bytes.{Bytes}
 use Rattle.unftp_control_defs.specs.Events.{FtpEvent, Command, Refused, FaultKind}
 use Rattle.unftp_control_defs.specs.Events as fault
-use Rattle.unftp_control_defs.specs.NameAndValue.{name_and_value}
+use Rattle.unftp_control_defs.specs.NameAndValue.{name_and_value, command_number}
 use Rattle.unftp_control_c.specs.declared.status.Status.TheVariants.{More, OutOfMemory, NoRoom}
-use Rattle.unftp_control_c.specs.Numbers.{command_number, status_number, fault_status}
+use Rattle.unftp_control_c.specs.Numbers.{status_number, fault_status}
 use Rattle.unftp_control_c.specs.Next.{Call, Left, Leaves}
 
 -- what a caller keeps of a connection from call to call

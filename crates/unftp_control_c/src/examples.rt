@@ -1,244 +1,56 @@
 //! Examples of the definitions, worked out by hand: what calls leave, at the boundary.
+#![tactic(auto, unfolding(unftp_control_defs::proofs::Computing::at_bytes))]
+
 ghost use Rattle.std.specs.Prelude.{◌≡◌, true, false, [], ◌∷◌, Ok, Err, codes};
 ghost use Rattle.unftp_control_defs.specs.FtpReply.{CodeAndMsg, MultiLine};
 ghost use Rattle.unftp_control_c.specs.Areas.{filled, written};
 ghost use Rattle.unftp_control_c.specs.CanonicalLines.{CanonicalMayTakeMemory, IsCanonical};
 ghost use Rattle.unftp_control_c.specs.Next.{LineMayTakeMemory, next_of};
+ghost use Rattle.unftp_control_c.specs.Rows.{a_call, leaving};
 ghost use Rattle.unftp_control_c.specs.Replies.{EncodesReply, IsCode, IsReplyOf};
 ghost use Rattle.unftp_control_c.specs.declared.status.Status.TheVariants.{InvalidEol, NoLine, UnknownCode};
 
 pub mod calls;
 
-/// Complete lines.
+/// Complete lines. `a_call` has the pending bytes, the offset, whether bytes were dropped, the limit
+/// and the two areas; `leaving` the result, how many bytes are used, the offset, whether bytes were
+/// dropped, and each area with its length.
 pub fn lines_are_taken()
     // of a limit of 8 bytes, the line has 8; the areas have one byte more, and just enough
-    ensures command { next_of (record {
-      bytes = codes "RETR a\r\nQ";
-      offset = 0;
-      skipping = false;
-      limit = 8;
-      name = codes ".....";
-      value = codes ".";
-    }) ≡ record {
-      result = 14;
-      used = 8;
-      offset = 0;
-      skipping = false;
-      name = codes "RETR.";
-      name_length = 4;
-      value = codes "a";
-      value_length = 1;
-    } }
-    ensures no_room_for_the_name { next_of (record {
-      bytes = codes "RETR a\r\nQ";
-      offset = 3;
-      skipping = false;
-      limit = 8;
-      name = codes "...";
-      value = codes ".";
-    }) ≡ record {
-      result = 107;
-      used = 0;
-      offset = 3;
-      skipping = false;
-      name = codes "...";
-      name_length = 4;
-      value = codes ".";
-      value_length = 1;
-    } }
-    ensures no_room_for_the_value { next_of (record {
-      bytes = codes "RETR a\r\nQ";
-      offset = 0;
-      skipping = false;
-      limit = 0;
-      name = codes "....";
-      value = [];
-    }) ≡ record {
-      result = 107;
-      used = 0;
-      offset = 0;
-      skipping = false;
-      name = codes "....";
-      name_length = 4;
-      value = [];
-      value_length = 1;
-    } }
-    ensures too_long { next_of (record {
-      bytes = codes "RETR a\r\nQ";
-      offset = 0;
-      skipping = false;
-      limit = 7;
-      name = codes "....";
-      value = codes ".";
-    }) ≡ record {
-      result = 105;
-      used = 8;
-      offset = 0;
-      skipping = false;
-      name = codes "....";
-      name_length = 0;
-      value = codes ".";
-      value_length = 0;
-    } }
-    ensures end_of_a_long_line { next_of (record {
-      bytes = codes "\nQUIT\n";
-      offset = 0;
-      skipping = true;
-      limit = 7;
-      name = [];
-      value = [];
-    }) ≡ record {
-      result = 105;
-      used = 1;
-      offset = 0;
-      skipping = false;
-      name = [];
-      name_length = 0;
-      value = [];
-      value_length = 0;
-    } }
-    ensures refused { next_of (record {
-      bytes = codes "NOOP x\r\n";
-      offset = 0;
-      skipping = false;
-      limit = 0;
-      name = codes "....";
-      value = [];
-    }) ≡ record {
-      result = 102;
-      used = 8;
-      offset = 0;
-      skipping = false;
-      name = codes "....";
-      name_length = 0;
-      value = [];
-      value_length = 0;
-    } }
+    ensures command { next_of (a_call (codes "RETR a\r\nQ") 0 false 8 (codes ".....") (codes "."))
+        ≡ leaving 14 8 0 false (codes "RETR.") 4 (codes "a") 1 }
+    ensures short_name { next_of (a_call (codes "RETR a\r\nQ") 3 false 8 (codes "...") (codes "."))
+        ≡ leaving 107 0 3 false (codes "...") 4 (codes ".") 1 }
+    ensures no_value { next_of (a_call (codes "RETR a\r\nQ") 0 false 0 (codes "....") [])
+        ≡ leaving 107 0 0 false (codes "....") 4 [] 1 }
+    ensures too_long { next_of (a_call (codes "RETR a\r\nQ") 0 false 7 (codes "....") (codes "."))
+        ≡ leaving 105 8 0 false (codes "....") 0 (codes ".") 0 }
+    ensures end_of_a_long_line { next_of (a_call (codes "\nQUIT\n") 0 true 7 [] [])
+        ≡ leaving 105 1 0 false [] 0 [] 0 }
+    ensures refused { next_of (a_call (codes "NOOP x\r\n") 0 false 0 (codes "....") [])
+        ≡ leaving 102 8 0 false (codes "....") 0 [] 0 }
 {}
 
 /// Incomplete lines, and what is no call.
 pub fn bytes_are_kept()
-    ensures incomplete { next_of (record {
-      bytes = codes "NOOP";
-      offset = 2;
-      skipping = false;
-      limit = 5;
-      name = [];
-      value = [];
-    }) ≡ record {
-      result = 101;
-      used = 0;
-      offset = 4;
-      skipping = false;
-      name = [];
-      name_length = 0;
-      value = [];
-      value_length = 0;
-    } }
-    ensures too_long_already { next_of (record {
-      bytes = codes "NOOP";
-      offset = 2;
-      skipping = false;
-      limit = 4;
-      name = [];
-      value = [];
-    }) ≡ record {
-      result = 101;
-      used = 4;
-      offset = 0;
-      skipping = true;
-      name = [];
-      name_length = 0;
-      value = [];
-      value_length = 0;
-    } }
-    ensures offset_at_the_end { next_of (record {
-      bytes = [];
-      offset = 0;
-      skipping = false;
-      limit = 0;
-      name = [];
-      value = [];
-    }) ≡ record {
-      result = 101;
-      used = 0;
-      offset = 0;
-      skipping = false;
-      name = [];
-      name_length = 0;
-      value = [];
-      value_length = 0;
-    } }
-    ensures offset_past_the_end { next_of (record {
-      bytes = codes "\n";
-      offset = 2;
-      skipping = false;
-      limit = 0;
-      name = [];
-      value = [];
-    }) ≡ record {
-      result = 111;
-      used = 0;
-      offset = 2;
-      skipping = false;
-      name = [];
-      name_length = 0;
-      value = [];
-      value_length = 0;
-    } }
-    ensures skipping_past_the_start { next_of (record {
-      bytes = codes "a\n";
-      offset = 1;
-      skipping = true;
-      limit = 0;
-      name = [];
-      value = [];
-    }) ≡ record {
-      result = 111;
-      used = 0;
-      offset = 1;
-      skipping = true;
-      name = [];
-      name_length = 0;
-      value = [];
-      value_length = 0;
-    } }
+    ensures incomplete { next_of (a_call (codes "NOOP") 2 false 5 [] [])
+        ≡ leaving 101 0 4 false [] 0 [] 0 }
+    ensures too_long_already { next_of (a_call (codes "NOOP") 2 false 4 [] [])
+        ≡ leaving 101 4 0 true [] 0 [] 0 }
+    ensures offset_at_the_end { next_of (a_call [] 0 false 0 [] [])
+        ≡ leaving 101 0 0 false [] 0 [] 0 }
+    ensures offset_past_the_end { next_of (a_call (codes "\n") 2 false 0 [] [])
+        ≡ leaving 111 0 2 false [] 0 [] 0 }
+    ensures skipping_past_the_start { next_of (a_call (codes "a\n") 1 true 0 [] [])
+        ≡ leaving 111 0 1 true [] 0 [] 0 }
 {}
 
 /// Lines for which memory may run out, and none.
 pub fn some_lines_may_take_memory()
-    ensures path { LineMayTakeMemory (record {
-      bytes = codes "RETR a\n";
-      offset = 0;
-      skipping = false;
-      limit = 0;
-      name = [];
-      value = [];
-    }) }
-    ensures no_value { ¬ LineMayTakeMemory (record {
-      bytes = codes "NOOP\n";
-      offset = 0;
-      skipping = false;
-      limit = 0;
-      name = [];
-      value = [];
-    }) }
-    ensures no_line { ¬ LineMayTakeMemory (record {
-      bytes = codes "RETR a";
-      offset = 0;
-      skipping = false;
-      limit = 0;
-      name = [];
-      value = [];
-    }) }
-    ensures too_long { ¬ LineMayTakeMemory (record {
-      bytes = codes "RETR a\n";
-      offset = 0;
-      skipping = false;
-      limit = 6;
-      name = [];
-      value = [];
-    }) }
+    ensures path { LineMayTakeMemory (a_call (codes "RETR a\n") 0 false 0 [] []) }
+    ensures no_value { ¬ LineMayTakeMemory (a_call (codes "NOOP\n") 0 false 0 [] []) }
+    ensures no_line { ¬ LineMayTakeMemory (a_call (codes "RETR a") 0 false 0 [] []) }
+    ensures too_long { ¬ LineMayTakeMemory (a_call (codes "RETR a\n") 0 false 6 [] []) }
 {}
 
 /// Texts that areas have room for or not.

@@ -6,6 +6,5 @@ mod canonical;
 pub mod examples;
 pub mod laws;
 mod next;
-mod parts;
 mod reply;
 mod status;

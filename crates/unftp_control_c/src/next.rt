@@ -4,13 +4,13 @@ ghost use Rattle.unftp_control_command.specs.CommandMeaning.{command_of};
 ghost use Rattle.unftp_control_c.specs.Next.{Gives, Leaves, Reports, is_within, line_limit};
 
 use crate::areas::overwrite;
-use crate::parts::parts_of;
 use crate::status::{Status, fault_status};
 use itoa::Buffer;
 use std::alloc::Global;
 use unftp_control_codecs::FtpCodec;
 use unftp_control_command::Command;
 use unftp_control_error::ControlChanError;
+use unftp_control_write::parts::parts_of;
 
 /// The next event of the pending bytes: `unftp_next` of include/unftp_control.h.
 #[unsafe(no_mangle)]
@@ -115,7 +115,7 @@ fn give(
 {
     let parts = parts_of(command);
     let mut digits = Buffer::new();
-    let text = parts.value.bytes(&mut digits);
+    let text = parts.value_bytes(&mut digits);
     (*name_len, *value_len) = (parts.name.len(), text.len());
     if parts.name.len() > name.len() || text.len() > value.len() {
         return Err(Status::NoRoom);

@@ -6,7 +6,7 @@ use lib.Pointwise.{bytes_decides}
 use Rattle.unftp_control_defs.specs.Bytes.{Bytes}
 use Rattle.unftp_control_defs.specs.Lines.{IsLine}
 use Rattle.unftp_control_defs.specs.Verbs.{verb_of, parameter_of, upper}
-use Rattle.unftp_control_defs.specs.Values.{value_of}
+use Rattle.unftp_control_defs.specs.ComputedValue.{value_of}
 use Rattle.unftp_control_defs.specs.FtpCommand.{FtpCommand, Md5, Site, Answer, InvalidUtf8, HasTypedFields}
 use Rattle.unftp_control_defs.specs.Rules.{Rule, Ignores, Takes, Splits, any_text, some_text, rule_of, subcommand_answer}
 use Rattle.unftp_control_defs.specs.Outcome.{value_answer, site_answer, answer_by, outcome}

@@ -5,7 +5,8 @@ use Rattle.std.specs.Str.Lossy.{utf8_lossy}
 use Rattle.std.proofs.lemmas.List.{nil_from_length}
 use Rattle.std.proofs.lemmas.Str.{utf8_lossy-IsUtf8}
 use Rattle.unftp_control_defs.specs.Bytes.{Bytes, LF, SP, crlf, Lacks}
-use Rattle.unftp_control_defs.specs.Values.{value_of, escaped}
+use Rattle.unftp_control_defs.specs.Values.{escaped}
+use Rattle.unftp_control_defs.specs.ComputedValue.{value_of}
 use Rattle.unftp_control_defs.specs.FtpCommand.{FtpCommand, Answer, InvalidCommand, IsMaybeUtf8}
 use Rattle.unftp_control_defs.specs.Rules.{raw, some_text, maybe_text, any_text, unless_empty}
 use Rattle.unftp_control_defs.specs.Outcome.{outcome, value_answer}

@@ -3,7 +3,8 @@ use Rattle.std.proofs.Common.{◌≡◌, ◌≢◌, ℕ, true, false, [], ◌∷
 use Rattle.std.specs.Str.{is_utf8, chars}
 use Rattle.std.proofs.lemmas.Bool.{cases_eq}
 use Rattle.unftp_control_defs.specs.Bytes.{Bytes, LF, CR, SP, crlf, Lacks}
-use Rattle.unftp_control_defs.specs.Values.{Fresh, Plain, later_value, value_of, escaped}
+use Rattle.unftp_control_defs.specs.Values.{escaped}
+use Rattle.unftp_control_defs.specs.ComputedValue.{Fresh, Plain, later_value, value_of}
 use Rattle.unftp_control_defs.specs.FtpCommand.{User}
 use Rattle.unftp_control_defs.specs.Rules.{raw}
 use Rattle.unftp_control_defs.specs.Outcome.{outcome, value_answer}

@@ -25,4 +25,5 @@ pub mod LineEndLemmas
 pub mod AnswerLemmas
 pub mod RuleLemmas
 pub mod CommandLineLemmas
+pub mod Computing
 pub mod LineEventLemmas

@@ -4,7 +4,8 @@ use Rattle.std.specs.Bool.{⊤}
 use Rattle.unftp_control_defs.specs.Bytes.{Bytes, LF, Lacks}
 use Rattle.unftp_control_defs.specs.Lines.{IsLine}
 use Rattle.unftp_control_defs.specs.Verbs.{is_separator, verb_of, parameter_of}
-use Rattle.unftp_control_defs.specs.Values.{ValueUnit, Return, Byte, unit_bytes, unit_value, End, Division, Reads, nothing, ended, ended_crlf, one_byte, divided, value_of}
+use Rattle.unftp_control_defs.specs.Values.{ValueUnit, Return, Byte, unit_bytes, unit_value, End, Division, Reads, nothing, ended, ended_crlf, one_byte, divided}
+use Rattle.unftp_control_defs.specs.ComputedValue.{value_of}
 use Rattle.unftp_control_defs.proofs.ValueLemmas.{Reads-value_of}
 use Rattle.unftp_control_defs.proofs.VerbLemmas.{Cut-verb_of}
 

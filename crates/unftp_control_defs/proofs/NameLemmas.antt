@@ -6,7 +6,8 @@ use Rattle.std.proofs.lemmas.Str.{utf8_lossy-IsUtf8, is_utf8-from_IsUtf8}
 use lib.Pointwise.{bytes_decides}
 use Rattle.unftp_control_defs.specs.Bytes.{Bytes, LF, CR, SP, crlf, Lacks}
 use Rattle.unftp_control_defs.specs.Verbs.{is_separator}
-use Rattle.unftp_control_defs.specs.Values.{value_of, escaped}
+use Rattle.unftp_control_defs.specs.Values.{escaped}
+use Rattle.unftp_control_defs.specs.ComputedValue.{value_of}
 use Rattle.unftp_control_defs.specs.FtpCommand.{FtpCommand, Site, Other, Answer}
 use Rattle.unftp_control_defs.specs.Rules.{row_of, verbs, any_text}
 use Rattle.unftp_control_defs.specs.Outcome.{outcome, value_answer, site_answer}

@@ -5,7 +5,8 @@ use Rattle.std.proofs.lemmas.Bool.{cases_Bool, and_parts, and_from, false≢true
 use Rattle.std.proofs.lemmas.Option.{none-some, same_Some}
 use lib.Pointwise.{bytes_decides}
 use Rattle.unftp_control_defs.specs.Bytes.{Bytes, NUL, LF, CR, crlf}
-use Rattle.unftp_control_defs.specs.Values.{ValueUnit, Return, Byte, unit_bytes, unit_value, FirstUnit, LaterUnits, End, Division, Reads, nothing, ended, ended_crlf, one_byte, divided, HasNoValue, Context, Fresh, Plain, Returning, later_value, first_value, value_of}
+use Rattle.unftp_control_defs.specs.Values.{ValueUnit, Return, Byte, unit_bytes, unit_value, FirstUnit, LaterUnits, End, Division, Reads, nothing, ended, ended_crlf, one_byte, divided, HasNoValue}
+use Rattle.unftp_control_defs.specs.ComputedValue.{Context, Fresh, Plain, Returning, later_value, first_value, value_of}
 
 -- the place where later units begin
 abbrev pub context_of : Bool → Context
@@ -47,8 +48,8 @@ later_is true [] end ignored are (inl e) = rw e
 later_is false [] end ignored are (inl e) = rw e
 later_is true [] end ignored are (inr p) = absurd (false≢true (sym p.1))
 later_is false [] end ignored are (inr p) = rw p.0
-later_is fresh (Return ∷ units) end ignored are e = return_step fresh _ _ (later_is true units end ignored are e)
-later_is fresh (Byte b ∷ units) end ignored are e = byte_step fresh b _ _ are.0 are.1 (later_is false units end ignored are.2 e)
+later_is fresh (Return ∷ units) end ignored are e = return_step fresh (flat_map unit_bytes units ++ (end ++ ignored)) (map unit_value units) (later_is true units end ignored are e)
+later_is fresh (Byte b ∷ units) end ignored are e = byte_step fresh b (flat_map unit_bytes units ++ (end ++ ignored)) (map unit_value units) are.0 are.1 (later_is false units end ignored are.2 e)
 
 plain_first : (a b : ℕ) (bytes v : Bytes) → a ≢ LF → bytes_eq (b ∷ bytes) (LF ∷ []) ≡ false → ((a == CR) && (b == NUL)) ≡ false
     → later_value Fresh (b ∷ bytes) ≡ Some v → value_of (a ∷ b ∷ bytes) ≡ Some (a ∷ v)
@@ -141,11 +142,8 @@ Found Plain bytes v = Later false bytes v
 Found Returning bytes v = (fresh : Bool) → Later fresh (CR ∷ bytes) v
 
 module _ (b : ℕ) (bytes v : Bytes) (further : (context : Context) (w : Bytes) → later_value context bytes ≡ Some w → Found context bytes w) where
-  turned : (fresh : Bool) → (b == CR) ≡ true → option_map (λ w. [] ++ w) (later_value Returning bytes) ≡ Some v → Later fresh (b ∷ bytes) v
-  turned fresh e h =
-      let p = option_map_some _ _ v h in
-      let l : Later fresh (CR ∷ bytes) v = subst (Later fresh (CR ∷ bytes)) p.2 (further Returning p.0 p.1 fresh) in
-      subst (λ a. Later fresh (a ∷ bytes) v) (sym (eqb-true b CR e)) l
+  turned : (fresh : Bool) → (b == CR) ≡ true → later_value Returning bytes ≡ Some v → Later fresh (b ∷ bytes) v
+  turned fresh e h = subst (λ a. Later fresh (a ∷ bytes) v) (sym (eqb-true b CR e)) (further Returning v h fresh)
 
   kept : (fresh : Bool) → b ≢ CR → (b ≡ LF → IsTrue fresh) → option_map (λ w. (b ∷ []) ++ w) (later_value Plain bytes) ≡ Some v → Later fresh (b ∷ bytes) v
   kept fresh ne may h =

@@ -3,6 +3,7 @@ pub mod Bytes
 pub mod Lines
 pub mod Verbs
 pub mod Values
+pub mod ComputedValue
 pub mod Paths
 pub mod FtpCommand
 pub mod Rules

@@ -1,7 +1,7 @@
--- A command as a name and a value, which is what its canonical line says: the name is its verb, the
+-- A command as a name, a value and a number. The first two are what its canonical line says: the name is its verb, the
 -- first of those that it has, or its subcommand of SITE; the value is its parameter before any CR
 -- NUL, and none where the command has none (RFC 959, section 5.3).
-use Rattle.std.specs.Prelude.{true, false, Option, Some, None, codes, decimal}
+use Rattle.std.specs.Prelude.{ℕ, true, false, Option, Some, None, codes, decimal}
 use Rattle.unftp_control_defs.specs.Bytes.{Bytes}
 use Rattle.unftp_control_defs.specs.Rules.{unless_empty}
 use Rattle.unftp_control_defs.specs.FtpCommand.{FtpCommand, User, Pass, Acct, Syst, Stat, TypeCode, Stru, Mode, Help, Noop, Pasv, Epsv, Port, Retr, Stor, Appe, List as Listing, Nlst, Mlst, Mlsd, Feat, Pwd, Cwd, Cdup, Opts, Dele, Rmd, Quit, Mkd, Allo, Abor, Stou, Rnfr, Rnto, Auth, Ccc, Pbsz, Prot, Size, Rest, Mdtm, Md5, Site, Other}
@@ -85,3 +85,50 @@ name_and_value (Mdtm file) = (codes "MDTM", Some file)
 name_and_value (Md5 file) = (codes "MD5", Some file)
 name_and_value (Site name arguments) = (name, unless_empty arguments)
 name_and_value (Other name arguments) = (name, unless_empty arguments)
+
+-- which of the 44 commands it is, from 1 on, in the order of the type
+abbrev pub command_number : FtpCommand → ℕ
+command_number (User name) = 1
+command_number (Pass password) = 2
+command_number (Acct account) = 3
+command_number Syst = 4
+command_number (Stat path) = 5
+command_number TypeCode = 6
+command_number (Stru structure) = 7
+command_number (Mode mode) = 8
+command_number Help = 9
+command_number Noop = 10
+command_number Pasv = 11
+command_number Epsv = 12
+command_number (Port addr) = 13
+command_number (Retr path) = 14
+command_number (Stor path) = 15
+command_number (Appe path) = 16
+command_number (Listing options path) = 17
+command_number (Nlst path) = 18
+command_number (Mlst path) = 19
+command_number (Mlsd path) = 20
+command_number Feat = 21
+command_number Pwd = 22
+command_number (Cwd path) = 23
+command_number Cdup = 24
+command_number (Opts option) = 25
+command_number (Dele path) = 26
+command_number (Rmd path) = 27
+command_number Quit = 28
+command_number (Mkd path) = 29
+command_number Allo = 30
+command_number Abor = 31
+command_number Stou = 32
+command_number (Rnfr file) = 33
+command_number (Rnto file) = 34
+command_number (Auth protocol) = 35
+command_number Ccc = 36
+command_number Pbsz = 37
+command_number (Prot param) = 38
+command_number (Size file) = 39
+command_number (Rest offset) = 40
+command_number (Mdtm file) = 41
+command_number (Md5 file) = 42
+command_number (Site name arguments) = 43
+command_number (Other name arguments) = 44

@@ -60,52 +60,6 @@ pub data Reads (parameter v : Bytes) : Type 0 where
 abbrev pub HasNoValue : Bytes → Type 0
 HasNoValue parameter = (v : Bytes) → Reads parameter v → ⊥
 
--- The value, computed from the left.
--- Where a byte is after the first unit: after that unit or a CR NUL; after a byte; after a CR.
-pub data Context : Type 0 where
-  Fresh : Context
-  Plain : Context
-  Returning : Context
-
--- what a byte at a place does: it ends the value, gives bytes of it, or is refused
-pub data Effect : Type 0 where
-  Ends : Effect
-  Gives : Bytes → Effect
-  Refuses : Effect
-
-abbrev pub effect : Context → ℕ → Effect
-effect Fresh b = if b == CR then Gives [] else Gives (b ∷ [])
-effect Plain b = if b == CR then Gives [] else (if b == LF then Ends else Gives (b ∷ []))
-effect Returning b = if b == LF then Ends else (if b == NUL then Gives (CR ∷ []) else Refuses)
-
-abbrev pub context_after : Context → ℕ → Context
-context_after Fresh b = if b == CR then Returning else Plain
-context_after Plain b = if b == CR then Returning else Plain
-context_after Returning b = Fresh
-
-abbrev pub then_value : Effect → Option Bytes → Option Bytes
-then_value Ends more = Some []
-then_value (Gives v) more = option_map (λ w. v ++ w) more
-then_value Refuses more = None
-
-abbrev pub later_value : Context → Bytes → Option Bytes
-later_value context [] = None
-later_value context (b ∷ bytes) =
-    then_value (effect context b) (later_value (context_after context b) bytes)
-
--- from the first unit on
-abbrev pub first_value : ℕ → Bytes → Option Bytes
-first_value a [] = None
-first_value a (b ∷ bytes) = if (a == CR) && (b == NUL)
-    then option_map (λ v. CR ∷ v) (later_value Fresh bytes)
-    else option_map (λ v. a ∷ v) (later_value Fresh (b ∷ bytes))
-
-abbrev pub value_of : Bytes → Option Bytes
-value_of [] = Some []
-value_of (a ∷ bytes) = if a == LF then Some []
-    else (if bytes_eq bytes (LF ∷ []) then Some (if a == CR then [] else a ∷ [])
-    else first_value a bytes)
-
--- The other way: a text as a value is sent, each CR as CR NUL.
+-- A text as a value is sent, each CR as CR NUL.
 abbrev pub escaped : Bytes → Bytes
 escaped text = flat_map (λ b. if b == CR then CR ∷ NUL ∷ [] else b ∷ []) text

@@ -1,3 +1,2 @@
-mod Computing
 mod ExampleLemmas
 mod ReadExampleLemmas

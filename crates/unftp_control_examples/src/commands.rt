@@ -1,5 +1,5 @@
 //! Commands: the types of their fields, their lines, and which of them have one.
-#![tactic(auto, unfolding(crate::proofs::Computing::at_bytes))]
+#![tactic(auto, unfolding(unftp_control_defs::proofs::Computing::at_bytes))]
 
 ghost use Rattle.std.specs.Prelude.{◌≡◌, ◌++◌, [], ◌∷◌, true, false, Option, Some, None, codes};
 ghost use Rattle.unftp_control_defs.specs.Bytes.{Bytes};

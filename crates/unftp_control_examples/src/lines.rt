@@ -1,5 +1,5 @@
 //! Lines, and where a line is cut into its verb and its parameter.
-#![tactic(auto, unfolding(crate::proofs::Computing::at_bytes))]
+#![tactic(auto, unfolding(unftp_control_defs::proofs::Computing::at_bytes))]
 
 ghost use Rattle.std.specs.Prelude.{◌≡◌, [], ◌∷◌, ◌++◌, codes, false, true};
 ghost use Rattle.unftp_control_defs.specs.Bytes.{NUL, LF, CR, SP, DASH, crlf, Lacks};

@@ -1,5 +1,5 @@
 //! Ill-formed UTF-8 in a text.
-#![tactic(auto, unfolding(crate::proofs::Computing::at_bytes))]
+#![tactic(auto, unfolding(unftp_control_defs::proofs::Computing::at_bytes))]
 
 ghost use Rattle.std.specs.Prelude.{◌≡◌, [], ◌∷◌, ◌++◌, codes};
 ghost use Rattle.unftp_control_defs.specs.LossyText.{Character, IllFormed, LossyText, first_part};

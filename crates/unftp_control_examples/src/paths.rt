@@ -1,5 +1,5 @@
 //! The path of LIST.
-#![tactic(auto, unfolding(crate::proofs::Computing::at_bytes))]
+#![tactic(auto, unfolding(unftp_control_defs::proofs::Computing::at_bytes))]
 
 ghost use Rattle.std.specs.Prelude.{◌≡◌, [], Some, None, Ok, codes};
 ghost use Rattle.unftp_control_defs.specs.FtpCommand.{List as Listing};

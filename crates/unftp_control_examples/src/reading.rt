@@ -1,5 +1,5 @@
 //! Replies as a client reads them.
-#![tactic(auto, unfolding(crate::proofs::Computing::at_bytes))]
+#![tactic(auto, unfolding(unftp_control_defs::proofs::Computing::at_bytes))]
 
 ghost use Rattle.std.specs.Prelude.{◌≡◌, ℕ, List, [], ◌∷◌, ◌++◌, None, Some, codes};
 ghost use Rattle.unftp_control_defs.specs.Bytes.{Bytes};

@@ -1,5 +1,5 @@
 //! Events, the texts of errors, runs of a handler, inputs in pieces, and the steps of a codec.
-#![tactic(auto, unfolding(crate::proofs::Computing::at_bytes))]
+#![tactic(auto, unfolding(unftp_control_defs::proofs::Computing::at_bytes))]
 
 ghost use Rattle.std.specs.Prelude.{◌≡◌, ◌+◌, ◌==◌, ℕ, true, false, [], ◌∷◌, ◌++◌, Some, None, codes};
 ghost use Rattle.unftp_control_defs.specs.Events.{FtpEvent, Command, Refused, IoError, ParseError, InternalServerError, AuthenticationError, InternalMsgError, Utf8Error, UnknownCommand, InvalidCommand, ControlChannelTimeout, IllegalState, OutOfMemory, LineTooLong, NoSource, Parse, events, refusal_fault, out_of_memory, line_too_long, event_for};

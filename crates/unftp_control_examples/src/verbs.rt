@@ -1,5 +1,5 @@
 //! What each verb makes of its parameter.
-#![tactic(auto, unfolding(crate::proofs::Computing::at_bytes))]
+#![tactic(auto, unfolding(unftp_control_defs::proofs::Computing::at_bytes))]
 
 ghost use Rattle.std.specs.Prelude.{◌≡◌, ◌++◌, [], ◌∷◌, true, false, Some, None, Ok, Err, codes};
 ghost use Rattle.unftp_control_defs.specs.FtpCommand.{User, Pass, Acct, Syst, Stat, TypeCode, Stru, Mode, Help, Noop, Pasv, Epsv, Port, Retr, Stor, Appe, List as Listing, Nlst, Mlst, Mlsd, Feat, Pwd, Cwd, Cdup, Opts, Dele, Rmd, Quit, Mkd, Allo, Abor, Stou, Rnfr, Rnto, Auth, Ccc, Pbsz, Prot, Size, Rest, Mdtm, Md5, Site, Other, InvalidCommand, InvalidUtf8, InvalidEol};

@@ -3,7 +3,7 @@ use Rattle.std.proofs.Common.{◌≡◌, cond, Err, refl, sym, ap, ◌∙◌, co
 use Rattle.std.specs.Str.{is_utf8, chars}
 use Rattle.unftp_control_defs.specs.Bytes.{Bytes}
 use Rattle.unftp_control_defs.specs.Verbs.{Cut, upper}
-use Rattle.unftp_control_defs.specs.Values.{value_of}
+use Rattle.unftp_control_defs.specs.ComputedValue.{value_of}
 use Rattle.unftp_control_defs.specs.FtpCommand.{Answer, InvalidUtf8}
 use Rattle.unftp_control_defs.specs.Rules.{rule_of, subcommand_answer}
 use Rattle.unftp_control_defs.specs.Outcome.{answer_by, value_answer, site_answer, outcome}

@@ -19,7 +19,8 @@ ghost use Rattle.unftp_control_defs.specs.LossyText.{Character, LossyText, first
 ghost use Rattle.unftp_control_defs.specs.Outcome.{outcome};
 ghost use Rattle.unftp_control_defs.specs.Paths.{ListPath, path_of};
 ghost use Rattle.unftp_control_defs.specs.Steps.{AreSteps, Step, last_place};
-ghost use Rattle.unftp_control_defs.specs.Values.{Reads, HasNoValue, value_of, escaped};
+ghost use Rattle.unftp_control_defs.specs.Values.{Reads, HasNoValue, escaped};
+ghost use Rattle.unftp_control_defs.specs.ComputedValue.{value_of};
 ghost use Rattle.unftp_control_defs.specs.Verbs.{Cut, verb_of, parameter_of, upper};
 ghost use Rattle.unftp_control_laws.specs.RunEnd.{EndsAfter, EndsNowhere};
 

@@ -6,7 +6,7 @@ use Rattle.std.specs.Str.Lossy.{utf8_lossy}
 use Rattle.std.specs.Str.Parse.{without_leading_plus, digits_value}
 use Rattle.unftp_control_defs.specs.Bytes.{Bytes}
 use Rattle.unftp_control_defs.specs.Verbs.{verb_of, parameter_of, upper}
-use Rattle.unftp_control_defs.specs.Values.{value_of}
+use Rattle.unftp_control_defs.specs.ComputedValue.{value_of}
 use Rattle.unftp_control_defs.specs.FtpCommand.{FtpCommand, Answer, InvalidCommand, Rest, Md5, Site, Other}
 use Rattle.unftp_control_defs.specs.Rules.{Rule, row_of, verbs, chosen, any_text, some_text, structures, modes, protections, options, buffer_sizes, mechanisms, auth, offset, subcommand_answer}
 use Rattle.unftp_control_defs.specs.Outcome.{answer_by, value_answer, site_answer, outcome}

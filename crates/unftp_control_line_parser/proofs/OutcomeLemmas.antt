@@ -12,7 +12,7 @@ use Rattle.std.proofs.lemmas.Bool.{and_parts, cases_Bool, false_from_ne_true}
 use Rattle.std.proofs.lemmas.Str.{IsUtf8-from_ascii, is_utf8-from_IsUtf8, IsUtf8-from_is_utf8}
 use Rattle.unftp_control_defs.specs.Bytes.{Bytes}
 use Rattle.unftp_control_defs.specs.Verbs.{upper, verb_of, parameter_of}
-use Rattle.unftp_control_defs.specs.Values.{value_of}
+use Rattle.unftp_control_defs.specs.ComputedValue.{value_of}
 use Rattle.unftp_control_defs.specs.FtpCommand.{FtpCommand, Answer, InvalidUtf8, Other}
 use Rattle.unftp_control_defs.specs.Rules.{Rule, row_of, verbs, any_text, some_text, subcommand_answer}
 use Rattle.unftp_control_defs.specs.Outcome.{site_answer, value_answer, answer_by, outcome}

@@ -3,7 +3,7 @@ use Rattle.std.proofs.Common.{◌≡◌, ◌≢◌, ℕ, suc, zero, ◌+◌, ◌
 use Rattle.std.proofs.lemmas.Bool.{cases_Bool, false_from_ne_true, false≢true}
 use Rattle.std.proofs.lemmas.List.{take_more}
 use Rattle.unftp_control_defs.specs.Bytes.{Bytes, NUL, LF, CR}
-use Rattle.unftp_control_defs.specs.Values.{Context, Fresh, Plain, later_value}
+use Rattle.unftp_control_defs.specs.ComputedValue.{Context, Fresh, Plain, later_value}
 use Rattle.unftp_control_line_parser.specs.Values.{stops, IsRunEnd}
 
 option_nil : (o : Option Bytes) → o ≡ option_map (λ w. [] ++ w) o
@@ -62,6 +62,5 @@ module _ (bytes : Bytes) (n : ℕ) (e : IsRunEnd Fresh bytes n) (lt : n + 1 < le
       let more : Option Bytes = later_value Fresh (drop (n + 2) bytes) in
       let whole : take (n + 1) bytes ≡ take n bytes ++ CR ∷ [] = take_more bytes n 0 first_lt ∙ ap (λ x. take n bytes ++ x ∷ []) (is_cr _ (e.stop first_lt) ne) in
       turned NUL h
-      ∙ ap (option_map (λ w. take n bytes ++ w)) (sym (option_nil (option_map (λ w. (CR ∷ []) ++ w) more)))
       ∙ option_joined (take n bytes) (CR ∷ []) more
       ∙ ap (λ v. option_map (λ w. v ++ w) more) (sym whole)

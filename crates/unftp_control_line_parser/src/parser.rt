@@ -9,7 +9,7 @@ ghost use Rattle.unftp_control_defs.specs.Verbs.{is_separator, parameter_of, upp
 ghost use Rattle.unftp_control_defs.specs.FtpCommand.{Other};
 ghost use Rattle.unftp_control_defs.specs.Outcome.{answer_by, value_answer, outcome, site_answer};
 ghost use Rattle.unftp_control_defs.specs.Rules.{without_parameter, any_text, subcommand_answer};
-ghost use Rattle.unftp_control_defs.specs.Values.{value_of};
+ghost use Rattle.unftp_control_defs.specs.ComputedValue.{value_of};
 ghost use Rattle.unftp_control_line_parser.specs.Meaning.{meaning, parameter_answer, unit_command};
 ghost use Rattle.unftp_control_line_parser.specs.Memory.{AnswerMayTakeMemory, MayTakeMemory, OnOutOfMemory};
 ghost use Rattle.unftp_control_line_parser.specs.ParseAnswer.{Returns};

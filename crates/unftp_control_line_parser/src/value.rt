@@ -1,6 +1,6 @@
 //! The value of a parameter.
 ghost use Rattle.std.specs.Prelude.{◌≡◌, ◌≢◌, Some, []};
-ghost use Rattle.unftp_control_defs.specs.Values.{value_of, later_value, Fresh};
+ghost use Rattle.unftp_control_defs.specs.ComputedValue.{value_of, later_value, Fresh};
 ghost use Rattle.unftp_control_line_parser.specs.Memory.{OnOutOfMemory};
 ghost use Rattle.unftp_control_line_parser.specs.Values.{begins_with_cr_nul, IsPlainEnd, IsFreshEnd, ReturnsValue, IsRun, ReturnsValueFrom, ReturnsJoined};
 

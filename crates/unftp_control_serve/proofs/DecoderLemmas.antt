@@ -18,46 +18,11 @@ use Rattle.unftp_control_codecs.specs.Codec.{Codec, is_too_long}
 use Rattle.unftp_control_codecs.specs.LineFeed.{is_line_feed, line_feed_from}
 use Rattle.unftp_control_codecs.specs.Decoding.{Decoded, Decodes, FindsNone, SkipsAll, CutsLine, KeepsLine, IfTooLong, AnswersNone, AnswersLine, IsOutOfMemory, parser_out_of_memory, returned_event}
 use Rattle.unftp_control_codecs.proofs.MemoryLemmas.{ran_out}
-use Rattle.unftp_control_codecs.proofs.LineFeedLemmas.{NoLineFeed, line_feed_at, line_feed_nowhere}
+use Rattle.unftp_control_codecs.proofs.LineFeedLemmas.{NoLineFeed, line_feed_at, line_feed_nowhere, lacks_upto, none_below, none_before, lf_at, unskipped, longer}
 use Rattle.unftp_control_serve.specs.declared.event.Event.{Event}
 use Rattle.unftp_control_serve.specs.Decoder.{kept_length}
 use Rattle.unftp_control_serve.specs.EventMeaning.{event_meant}
 use Rattle.unftp_control_serve.specs.Decoder.{IsWithin, IsDropped, IsDecoder, MayRunOut, dropped_after, pending_of, TakesNext, ReturnsEvent}
-
-not_lf : (b : ℕ) → is_line_feed b ≡ false → b ≢ LF
-not_lf b h = λ e. grind (arith, common_steps)
-
--- no line feed among the first bytes, said in both ways
-lacks_upto : (n : ℕ) (bytes : Bytes) → n ≤ length bytes → NoLineFeed bytes 0 n → Lacks LF (take n bytes)
-lacks_upto zero bytes within h = tt
-lacks_upto (suc n) [] within h = tt
-lacks_upto (suc n) (b ∷ bytes) within h =
-    (not_lf b (h 0 (omega arith) (omega arith)), lacks_upto n bytes (omega arith) (λ k low high. h (suc k) (omega arith) (omega arith)))
-
-none_below : (n : ℕ) (bytes : Bytes) → n ≤ length bytes → Lacks LF (take n bytes) → NoLineFeed bytes 0 n
-none_below zero bytes within h k low high = absurd (omega arith)
-none_below (suc n) [] within h k low high = absurd (omega arith)
-none_below (suc n) (b ∷ bytes) within h zero low high = ne_eqb b LF h.0
-none_below (suc n) (b ∷ bytes) within h (suc k) low high = none_below n bytes (omega arith) h.1 k (omega arith) (omega arith)
-
-none_before : (bytes : Bytes) (place k : ℕ) → NoLineFeed bytes 0 place → NoLineFeed bytes place k → NoLineFeed bytes 0 k
-none_before bytes place k before later j low high = by_place (cases_lt j place)
-  where
-    by_place : (j < place) ⊎ (place ≤ j) → is_line_feed (slice_index bytes j) ≡ false
-    by_place (inl below) = before j low below
-    by_place (inr above) = later j above high
-
-lf_at : (bytes : Bytes) (k : ℕ) → k < length bytes → is_line_feed (slice_index bytes k) ≡ true → take (k + 1) bytes ≡ take k bytes ++ LF ∷ []
-lf_at bytes k within h = take_more bytes k 0 within ∙ ap (λ b. take k bytes ++ b ∷ []) (eqb-true (slice_index bytes k) LF h)
-
--- a line that is not too long was not skipped so far
-unskipped : (skipping x : Bool) → (skipping || x) ≡ false → (skipping ≡ false) × (x ≡ false)
-unskipped true x h = absurd (cc)
-unskipped false x h = (refl, h)
-
-longer : (limit : Option ℕ) (m n : ℕ) → exceeds limit m ≡ true → m ≤ n → exceeds limit n ≡ true
-longer None m n h le = absurd (cc)
-longer (Some limit) m n h le = lt-ltb limit n (omega (arith, ltb-true limit m h))
 
 -- the event of the first line, of which the codec may have dropped a part
 abbrev first_event : Codec → Bytes → FtpEvent

@@ -1,4 +1,4 @@
-//! Writes the line that a command is sent as.
+//! Writes the line that a command is sent as, and says a command's parts.
 #![tactic(auto)]
 
 ghost use Rattle.std.specs.Prelude.{◌≡◌, ◌++◌, Ok, Err, OnOk, OnErr, IfErr};
@@ -7,10 +7,11 @@ ghost use Rattle.unftp_control_defs.specs.Canonical.{HasLine, canonical_line};
 ghost use Rattle.unftp_control_defs.specs.Lines.{IsLine};
 ghost use Rattle.unftp_control_defs.specs.Outcome.{outcome};
 
+mod canonical;
 mod line;
-mod parts;
+pub mod parts;
 
-use crate::parts::line_of;
+use crate::canonical::line_of;
 use thiserror::Error;
 use unftp_control_command::Command;
 

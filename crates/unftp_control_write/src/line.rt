@@ -4,6 +4,7 @@ ghost use Rattle.unftp_control_defs.specs.Bytes.{crlf};
 ghost use Rattle.unftp_control_defs.specs.Values.{escaped};
 ghost use Rattle.unftp_control_write.specs.Parts.{spaced_part, body_of, bytes_of};
 
+use crate::parts::Value;
 use itoa::Buffer;
 use std::alloc::AllocError;
 
@@ -13,40 +14,15 @@ const ROOM_BESIDE_TEXT: usize = 4;
 /// The digits of the greatest number of 64 bits.
 const MOST_DIGITS: usize = 20;
 
-/// A word after the verb, which is written as it is.
-#[derive(Drop)]
-pub(crate) enum Word<'a> {
-    /// A letter or name, or the mark before a path of LIST.
-    Name(&'a str),
-    /// A number in decimal.
-    Number(u64),
-}
-
-/// A line without its CR LF: a verb, a word after a space, and a text after another.
+/// A line without its CR LF: a verb, a word after a space, and a value after another.
 #[derive(Drop)]
 pub(crate) struct Line<'a> {
     /// The verb.
     pub(crate) verb: &'a str,
-    /// The word, where there is one.
-    pub(crate) word: Option<Word<'a>>,
-    /// The text, where there is one; each CR of it is written as CR NUL.
-    pub(crate) text: Option<&'a [u8]>,
-}
-
-impl<'a> Word<'a> {
-    /// Appends the word, or perhaps a part of it when out of memory.
-    fn append(&self, buf: &mut Vec<u8>) -> Result<(), AllocError>
-        ensures ok { OnOk result (buf.new.items ≡ buf.old.items ++ bytes_of self.now) }
-        ensures kept { take (vec_len buf.old) buf.new.items ≡ buf.old.items }
-    {
-        match self {
-            Word::Name(name) => buf.extend_from_slice(name.as_bytes()),
-            Word::Number(number) => {
-                let mut digits = Buffer::new();
-                buf.extend_from_slice(digits.format(*number).as_bytes())
-            }
-        }
-    }
+    /// A subcommand of SITE, or the mark before a path of LIST, where there is one.
+    pub(crate) word: Option<&'a str>,
+    /// The value, where there is one; each CR of it is written as CR NUL.
+    pub(crate) value: Option<Value<'a>>,
 }
 
 impl<'a> Line<'a> {
@@ -59,51 +35,52 @@ impl<'a> Line<'a> {
         buf.reserve(self.room())?;
         buf.extend_from_slice(self.verb.as_bytes())?;
         self.append_word(buf)?;
-        self.append_text(buf)?;
+        self.append_value(buf)?;
         buf.extend_from_slice(b"\r\n")
     }
 
     /// Appends a space and the word, if there is one.
     fn append_word(&self, buf: &mut Vec<u8>) -> Result<(), AllocError>
-        ensures ok { OnOk result
-            (buf.new.items ≡ buf.old.items ++ spaced_part (option_map bytes_of self.now.word)) }
+        ensures ok { OnOk result (buf.new.items
+            ≡ buf.old.items ++ spaced_part (option_map (λ word. word.now) self.now.word)) }
         ensures kept { take (vec_len buf.old) buf.new.items ≡ buf.old.items }
     {
-        let Some(word) = &self.word else {
+        let Some(word) = self.word else {
             return Ok(());
         };
         buf.push(b' ')?;
-        word.append(buf)
+        buf.extend_from_slice(word.as_bytes())
     }
 
-    /// Appends a space and the text, if there is one.
-    fn append_text(&self, buf: &mut Vec<u8>) -> Result<(), AllocError>
-        ensures ok { OnOk result (buf.new.items
-            ≡ buf.old.items ++ spaced_part (option_map (λ text. escaped text.now) self.now.text)) }
+    /// Appends a space and the value, if there is one.
+    fn append_value(&self, buf: &mut Vec<u8>) -> Result<(), AllocError>
+        ensures ok { OnOk result (buf.new.items ≡ buf.old.items
+            ++ spaced_part (option_map escaped (option_map bytes_of self.now.value))) }
         ensures kept { take (vec_len buf.old) buf.new.items ≡ buf.old.items }
     {
-        let Some(text) = self.text else {
+        let Some(value) = &self.value else {
             return Ok(());
         };
         buf.push(b' ')?;
-        append_escaped(text, buf)
+        let mut digits = Buffer::new();
+        append_escaped(value.bytes(&mut digits), buf)
     }
 
     /// At least as many bytes as the line has, where so many can be counted.
     fn room(&self) -> usize {
-        let word = match &self.word {
-            Some(Word::Name(name)) => name.len(),
-            Some(Word::Number(_)) => MOST_DIGITS,
+        let word = match self.word {
+            Some(word) => word.len(),
             None => 0,
         };
-        let text = match self.text {
-            Some(text) => escaped_len(text),
+        let value = match &self.value {
+            Some(Value::Bytes(text)) => escaped_len(text),
+            Some(Value::Number(_)) => MOST_DIGITS,
             None => 0,
         };
         ROOM_BESIDE_TEXT
             .saturating_add(self.verb.len())
             .saturating_add(word)
-            .saturating_add(text)
+            .saturating_add(value)
     }
 }
 

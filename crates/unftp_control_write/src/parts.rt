@@ -1,283 +1,233 @@
-//! Which commands have a line, and its parts.
-ghost use Rattle.std.specs.Prelude.{◌≡◌, ◌↔◌, ◌∷◌, ◌++◌, ⊤, IsTrue, decimal, option_map, string_bytes};
+//! A command as a number, a name and a value.
+ghost use Rattle.std.specs.Prelude.{◌≡◌, [], None, Some, decimal, option_map, string_bytes, unwrap_or};
 ghost use Rattle.unftp_control_command.specs.CommandMeaning.{command_of};
-ghost use Rattle.unftp_control_defs.specs.Bytes.{LF, Lacks, SP};
-ghost use Rattle.unftp_control_defs.specs.Canonical.{HasLine, IsUpperCaseName, IsNonEmptyText, IsOptionalText, spaced_unless_empty, canonical_body, spaced, with_optional};
-ghost use Rattle.unftp_control_defs.specs.FtpCommand.{Auth, HasTypedFields, List as Listing, Mode, Opts, Other, Prot, Site, Stru};
-ghost use Rattle.unftp_control_write.specs.Parts.{ReturnsLine, is_name_byte};
+ghost use Rattle.unftp_control_defs.specs.FtpCommand.{HasTypedFields};
+ghost use Rattle.unftp_control_defs.specs.NameAndValue.{mechanism, mode_letter, protection_letter, setting, structure_letter};
+ghost use Rattle.unftp_control_defs.specs.Rules.{unless_empty};
+ghost use Rattle.unftp_control_write.specs.Parts.{IsParts, Says, bytes_of};
 
-use crate::line::{Line, Word};
 use bytes::Bytes;
+use itoa::Buffer;
 use unftp_control_command::{AuthParam, Command, ModeParam, Opt, ProtParam, StruParam};
-use unftp_control_line_parser::is_verb;
 
-/// The line of the command, or none where no line gives the command.
+/// The value of a command's parameter.
+#[derive(Drop)]
+pub enum Value<'a> {
+    /// These bytes.
+    Bytes(&'a [u8]),
+    /// A number, in decimal.
+    Number(u64),
+}
+
+/// What a command says.
+#[derive(Drop)]
+pub struct Parts<'a> {
+    /// Which of the 44 it is, from 1 on, in the order of `Command`.
+    pub number: u32,
+    /// Its verb, or its subcommand of SITE.
+    pub name: &'a str,
+    /// Its value, before any CR is written as CR NUL; none where it has none, or it may be empty and
+    /// is.
+    pub value: Option<Value<'a>>,
+}
+
+impl<'a> Value<'a> {
+    /// Its bytes; `digits` has room for those of a number.
+    pub fn bytes<'b>(&'b self, digits: &'b mut Buffer) -> &'b [u8]
+        ensures { result.now ≡ bytes_of self.now }
+    {
+        match self {
+            Value::Bytes(bytes) => bytes,
+            Value::Number(number) => digits.format(*number).as_bytes(),
+        }
+    }
+}
+
+impl<'a> Parts<'a> {
+    /// The bytes of its value, none where it has no value; `digits` has room for those of a number.
+    pub fn value_bytes<'b>(&'b self, digits: &'b mut Buffer) -> &'b [u8]
+        ensures { result.now ≡ unwrap_or (option_map bytes_of self.now.value) [] }
+    {
+        match &self.value {
+            Some(value) => value.bytes(digits),
+            None => &[],
+        }
+    }
+}
+
+/// The parts of the command (RFC 959, section 5.3). No memory is taken.
 #[tactic(auto, using(crate::proofs::Texts::texts))]
-pub(crate) fn line_of(command: &Command) -> Option<Line<'_>>
-    ensures line { ReturnsLine (HasLine (command_of command.now))
-        (canonical_body (command_of command.now)) result }
-
+pub fn parts_of(command: &Command) -> Parts<'_>
+    ensures parts { IsParts (command_of command.now) result }
     // Its texts are UTF-8, and its offset has 64 bits.
-    ensures real { HasTypedFields (command_of command.now) }
+    ensures typed { HasTypedFields (command_of command.now) }
 {
     match command {
-        Command::User { username } => maybe_empty("USER", username.as_slice()),
-        Command::Pass { password } => maybe_empty("PASS", password.as_ref()),
-        Command::Acct { account } => maybe_empty("ACCT", account.as_slice()),
-        Command::Syst => verb("SYST"),
-        Command::Stat { path } => optional_bytes("STAT", path),
-        Command::TypeCode => words("TYPE", "I"),
-        Command::Stru { structure } => stru_line(structure),
-        Command::Mode { mode } => mode_line(mode),
-        Command::Help => verb("HELP"),
-        Command::Noop => verb("NOOP"),
-        Command::Pasv => verb("PASV"),
-        Command::Epsv => verb("EPSV"),
-        Command::Port { addr } => text("PORT", addr.as_bytes()),
-        Command::Retr { path } => text("RETR", path.as_bytes()),
-        Command::Stor { path } => text("STOR", path.as_bytes()),
-        Command::Appe { path } => text("APPE", path.as_bytes()),
-        Command::List { options, path } => list_line(options, path),
-        Command::Nlst { path } => optional("NLST", path),
-        Command::Mlst { path } => optional("MLST", path),
-        Command::Mlsd { path } => optional("MLSD", path),
-        Command::Feat => verb("FEAT"),
-        Command::Pwd => verb("PWD"),
-        Command::Cwd { path } => text("CWD", path.as_bytes()),
-        Command::Cdup => verb("CDUP"),
-        Command::Opts { option } => opts_line(option),
-        Command::Dele { path } => text("DELE", path.as_bytes()),
-        Command::Rmd { path } => text("RMD", path.as_bytes()),
-        Command::Quit => verb("QUIT"),
-        Command::Mkd { path } => text("MKD", path.as_bytes()),
-        Command::Allo {} => words("ALLO", "0"),
-        Command::Abor => verb("ABOR"),
-        Command::Stou => verb("STOU"),
-        Command::Rnfr { file } => text("RNFR", file.as_bytes()),
-        Command::Rnto { file } => text("RNTO", file.as_bytes()),
-        Command::Auth { protocol } => auth_line(protocol),
-        Command::Ccc => verb("CCC"),
-        Command::Pbsz {} => words("PBSZ", "0"),
-        Command::Prot { param } => prot_line(param),
-        Command::Size { file } => text("SIZE", file.as_bytes()),
-        Command::Rest { offset } => number("REST", *offset),
-        Command::Mdtm { file } => text("MDTM", file.as_bytes()),
-        Command::Md5 { file } => text("SITE MD5", file.as_bytes()),
-        Command::Site { command, arguments } => site_line(command.as_str(), arguments.as_bytes()),
+        Command::User { username } => maybe_empty(1, "USER", username.as_slice()),
+        Command::Pass { password } => maybe_empty(2, "PASS", password.as_ref()),
+        Command::Acct { account } => maybe_empty(3, "ACCT", account.as_slice()),
+        Command::Syst => verb(4, "SYST"),
+        Command::Stat { path } => optional_bytes(5, "STAT", path),
+        Command::TypeCode => verb(6, "TYPE"),
+        Command::Stru { structure } => parameter(7, "STRU", structure_letter(structure)),
+        Command::Mode { mode } => parameter(8, "MODE", mode_letter(mode)),
+        Command::Help => verb(9, "HELP"),
+        Command::Noop => verb(10, "NOOP"),
+        Command::Pasv => verb(11, "PASV"),
+        Command::Epsv => verb(12, "EPSV"),
+        Command::Port { addr } => parameter(13, "PORT", addr.as_bytes()),
+        Command::Retr { path } => parameter(14, "RETR", path.as_bytes()),
+        Command::Stor { path } => parameter(15, "STOR", path.as_bytes()),
+        Command::Appe { path } => parameter(16, "APPE", path.as_bytes()),
+        Command::List { path, .. } => optional(17, "LIST", path),
+        Command::Nlst { path } => optional(18, "NLST", path),
+        Command::Mlst { path } => optional(19, "MLST", path),
+        Command::Mlsd { path } => optional(20, "MLSD", path),
+        Command::Feat => verb(21, "FEAT"),
+        Command::Pwd => verb(22, "PWD"),
+        Command::Cwd { path } => parameter(23, "CWD", path.as_bytes()),
+        Command::Cdup => verb(24, "CDUP"),
+        Command::Opts { option } => parameter(25, "OPTS", setting(option)),
+        Command::Dele { path } => parameter(26, "DELE", path.as_bytes()),
+        Command::Rmd { path } => parameter(27, "RMD", path.as_bytes()),
+        Command::Quit => verb(28, "QUIT"),
+        Command::Mkd { path } => parameter(29, "MKD", path.as_bytes()),
+        Command::Allo {} => verb(30, "ALLO"),
+        Command::Abor => verb(31, "ABOR"),
+        Command::Stou => verb(32, "STOU"),
+        Command::Rnfr { file } => parameter(33, "RNFR", file.as_bytes()),
+        Command::Rnto { file } => parameter(34, "RNTO", file.as_bytes()),
+        Command::Auth { protocol } => parameter(35, "AUTH", mechanism(protocol)),
+        Command::Ccc => verb(36, "CCC"),
+        Command::Pbsz {} => parameter(37, "PBSZ", "0".as_bytes()),
+        Command::Prot { param } => parameter(38, "PROT", protection_letter(param)),
+        Command::Size { file } => parameter(39, "SIZE", file.as_bytes()),
+        Command::Rest { offset } => number(40, "REST", *offset),
+        Command::Mdtm { file } => parameter(41, "MDTM", file.as_bytes()),
+        Command::Md5 { file } => parameter(42, "MD5", file.as_bytes()),
+        Command::Site { command, arguments } => {
+            maybe_empty(43, command.as_str(), arguments.as_bytes())
+        }
         Command::Other {
             command_name,
             arguments,
-        } => other_line(command_name.as_str(), arguments.as_bytes()),
+        } => maybe_empty(44, command_name.as_str(), arguments.as_bytes()),
     }
 }
 
-/// Only the verb.
-fn verb(verb: &str) -> Option<Line<'_>>
-    ensures { ReturnsLine ⊤ verb.now result }
+/// A command with this value, or none.
+fn with_value<'a>(number: u32, name: &'a str, value: Option<Value<'a>>) -> Parts<'a>
+    ensures { Says number name.now (option_map bytes_of value.entry) result }
 {
-    Some(Line {
-        verb,
-        word: None,
-        text: None,
-    })
-}
-
-/// The verb and a word.
-fn words<'a>(verb: &'a str, word: &'a str) -> Option<Line<'a>>
-    ensures { ReturnsLine ⊤ (verb.now ++ SP ∷ word.now) result }
-{
-    Some(Line {
-        verb,
-        word: Some(Word::Name(word)),
-        text: None,
-    })
-}
-
-/// The verb and a number.
-fn number(verb: &str, number: u64) -> Option<Line<'_>>
-    ensures { ReturnsLine ⊤ (verb.now ++ SP ∷ decimal number) result }
-{
-    Some(Line {
-        verb,
-        word: Some(Word::Number(number)),
-        text: None,
-    })
-}
-
-/// The verb and a text that is not empty.
-fn text<'a>(verb: &'a str, text: &'a [u8]) -> Option<Line<'a>>
-    ensures { ReturnsLine (IsNonEmptyText text.now) (spaced verb.now text.now) result }
-{
-    if !is_non_empty_text(text) {
-        return None;
-    }
-    Some(Line {
-        verb,
-        word: None,
-        text: Some(text),
-    })
-}
-
-/// The verb and a text that is not empty; only the verb where there is none.
-fn optional<'a>(name: &'a str, path: &'a Option<String>) -> Option<Line<'a>>
-    ensures { ReturnsLine (IsOptionalText (option_map string_bytes path.now))
-        (with_optional name.now (option_map string_bytes path.now)) result }
-{
-    match path {
-        None => verb(name),
-        Some(path) => text(name, path.as_bytes()),
+    Parts {
+        number,
+        name,
+        value,
     }
 }
 
-/// The verb and bytes that are not empty; only the verb where there are none.
-fn optional_bytes<'a>(name: &'a str, path: &'a Option<Bytes>) -> Option<Line<'a>>
-    ensures { ReturnsLine (IsOptionalText path.now) (with_optional name.now path.now) result }
+/// A command without a value.
+fn verb(number: u32, name: &str) -> Parts<'_>
+    ensures { Says number name.now None result }
 {
-    match path {
-        None => verb(name),
-        Some(path) => text(name, path.as_slice()),
-    }
+    with_value(number, name, None)
 }
 
-/// The verb and any text; only the verb where it is empty.
-fn maybe_empty<'a>(name: &'a str, value: &'a [u8]) -> Option<Line<'a>>
-    ensures { ReturnsLine (Lacks LF value.now) (spaced_unless_empty name.now value.now) result }
+/// A command with this value.
+fn parameter<'a>(number: u32, name: &'a str, value: &'a [u8]) -> Parts<'a>
+    ensures { Says number name.now (Some value.now) result }
+{
+    with_value(number, name, Some(Value::Bytes(value)))
+}
+
+/// A command with this number as its value.
+fn number(number: u32, name: &str, value: u64) -> Parts<'_>
+    ensures { Says number name.now (Some (decimal value)) result }
+{
+    with_value(number, name, Some(Value::Number(value)))
+}
+
+/// A command with this value; with none where it is empty.
+fn maybe_empty<'a>(number: u32, name: &'a str, value: &'a [u8]) -> Parts<'a>
+    ensures { Says number name.now (unless_empty value.now) result }
 {
     if value.is_empty() {
-        verb(name)
+        verb(number, name)
     } else {
-        text(name, value)
+        parameter(number, name, value)
     }
 }
 
-/// LIST with its path, which is marked where it begins with a dash.
-fn list_line<'a>(options: &'a Option<String>, path: &'a Option<String>) -> Option<Line<'a>>
-    ensures { ReturnsLine
-        (HasLine (Listing (option_map string_bytes options.now) (option_map string_bytes path.now)))
-        (canonical_body (Listing (option_map string_bytes options.now)
-        (option_map string_bytes path.now))) result }
+/// A command with a text or none.
+fn optional<'a>(number: u32, name: &'a str, text: &'a Option<String>) -> Parts<'a>
+    ensures { Says number name.now (option_map string_bytes text.now) result }
 {
-    if options.is_some() {
-        return None;
-    }
-    match path {
-        Some(path) if path.as_str().starts_with('-') => with_word("LIST", "--", path.as_bytes()),
-        _ => optional("LIST", path),
+    match text {
+        Some(text) => parameter(number, name, text.as_bytes()),
+        None => verb(number, name),
     }
 }
 
-/// SITE with a name and its arguments.
-fn site_line<'a>(name: &'a str, arguments: &'a [u8]) -> Option<Line<'a>>
-    ensures { ReturnsLine (HasLine (Site name.now arguments.now))
-        (canonical_body (Site name.now arguments.now)) result }
+/// A command with bytes or none.
+fn optional_bytes<'a>(number: u32, name: &'a str, bytes: &'a Option<Bytes>) -> Parts<'a>
+    ensures { Says number name.now bytes.now result }
 {
-    if !is_upper_case_name(name) || name == "MD5" {
-        return None;
-    }
-    match (name.is_empty(), arguments.is_empty()) {
-        (true, true) => verb("SITE"),
-        (false, true) => words("SITE", name),
-        (_, false) => with_word("SITE", name, arguments),
+    match bytes {
+        Some(bytes) => parameter(number, name, bytes.as_slice()),
+        None => verb(number, name),
     }
 }
 
-/// A verb with no rule of its own, and its arguments.
-fn other_line<'a>(name: &'a str, arguments: &'a [u8]) -> Option<Line<'a>>
-    ensures { ReturnsLine (HasLine (Other name.now arguments.now))
-        (canonical_body (Other name.now arguments.now)) result }
-{
-    if !is_upper_case_name(name) || is_verb(name.as_bytes()) {
-        return None;
-    }
-    maybe_empty(name, arguments)
-}
-
-/// The verb and a word, followed by a text that is not empty.
-fn with_word<'a>(verb: &'a str, word: &'a str, text: &'a [u8]) -> Option<Line<'a>>
-    ensures { ReturnsLine (IsNonEmptyText text.now)
-        (spaced (verb.now ++ SP ∷ word.now) text.now) result }
-{
-    if !is_non_empty_text(text) {
-        return None;
-    }
-    Some(Line {
-        verb,
-        word: Some(Word::Name(word)),
-        text: Some(text),
-    })
-}
-
-/// Whether the text is not empty and has no line feed.
-fn is_non_empty_text(text: &[u8]) -> bool
-    ensures { IsTrue result ↔ IsNonEmptyText text.now }
-{
-    !text.is_empty() && !text.contains(&b'\n')
-}
-
-/// Whether the name is upper-cased: without separators and letters `a` to `z`.
-fn is_upper_case_name(name: &str) -> bool
-    ensures { IsTrue result ↔ IsUpperCaseName name.now }
-{
-    name.as_bytes().iter().all(|byte| is_name_byte(*byte))
-}
-
-/// Whether the byte is one of such a name.
-fn is_name_byte(byte: u8) -> bool
-    ensures { result ≡ is_name_byte byte }
-{
-    !matches!(byte, b' ' | b'\r' | b'\n' | b'a'..=b'z')
-}
-
-/// STRU with the letter of the structure.
-fn stru_line(structure: &StruParam) -> Option<Line<'_>>
-    ensures { ReturnsLine ⊤ (canonical_body (Stru structure.now)) result }
+/// The letter of a structure (RFC 959, section 4.1.2).
+fn structure_letter(structure: &StruParam) -> &[u8]
+    ensures { result.now ≡ structure_letter structure.now }
 {
     match structure {
-        StruParam::File => words("STRU", "F"),
-        StruParam::Record => words("STRU", "R"),
-        StruParam::Page => words("STRU", "P"),
+        StruParam::File => b"F",
+        StruParam::Record => b"R",
+        StruParam::Page => b"P",
     }
 }
 
-/// MODE with the letter of the mode.
-fn mode_line(mode: &ModeParam) -> Option<Line<'_>>
-    ensures { ReturnsLine ⊤ (canonical_body (Mode mode.now)) result }
+/// The letter of a mode (RFC 959, section 4.1.2).
+fn mode_letter(mode: &ModeParam) -> &[u8]
+    ensures { result.now ≡ mode_letter mode.now }
 {
     match mode {
-        ModeParam::Stream => words("MODE", "S"),
-        ModeParam::Block => words("MODE", "B"),
-        ModeParam::Compressed => words("MODE", "C"),
+        ModeParam::Stream => b"S",
+        ModeParam::Block => b"B",
+        ModeParam::Compressed => b"C",
     }
 }
 
-/// OPTS with the option and its setting.
-fn opts_line(option: &Opt) -> Option<Line<'_>>
-    ensures { ReturnsLine ⊤ (canonical_body (Opts option.now)) result }
+/// An option and its setting (RFC 2389, section 4).
+fn setting(option: &Opt) -> &[u8]
+    ensures { result.now ≡ setting option.now }
 {
     match option {
-        Opt::Utf8 { on: true } => words("OPTS", "UTF8 ON"),
-        Opt::Utf8 { on: false } => words("OPTS", "UTF8 OFF"),
+        Opt::Utf8 { on: true } => b"UTF8 ON",
+        Opt::Utf8 { on: false } => b"UTF8 OFF",
     }
 }
 
-/// AUTH with the mechanism.
-fn auth_line(protocol: &AuthParam) -> Option<Line<'_>>
-    ensures { ReturnsLine ⊤ (canonical_body (Auth protocol.now)) result }
+/// The name of a mechanism (RFC 2228, section 3).
+fn mechanism(protocol: &AuthParam) -> &[u8]
+    ensures { result.now ≡ mechanism protocol.now }
 {
     match protocol {
-        AuthParam::Ssl => words("AUTH", "SSL"),
-        AuthParam::Tls => words("AUTH", "TLS"),
+        AuthParam::Ssl => b"SSL",
+        AuthParam::Tls => b"TLS",
     }
 }
 
-/// PROT with the letter of the protection.
-fn prot_line(param: &ProtParam) -> Option<Line<'_>>
-    ensures { ReturnsLine ⊤ (canonical_body (Prot param.now)) result }
+/// The letter of a protection (RFC 2228, section 3).
+fn protection_letter(param: &ProtParam) -> &[u8]
+    ensures { result.now ≡ protection_letter param.now }
 {
     match param {
-        ProtParam::Clear => words("PROT", "C"),
-        ProtParam::Safe => words("PROT", "S"),
-        ProtParam::Confidential => words("PROT", "E"),
-        ProtParam::Private => words("PROT", "P"),
+        ProtParam::Clear => b"C",
+        ProtParam::Safe => b"S",
+        ProtParam::Confidential => b"E",
+        ProtParam::Private => b"P",
     }
 }

@@ -3,10 +3,10 @@ use Rattle.std.proofs.Common.{◌≡◌, ℕ, true, ◌⊎◌, length, refl, sym
 use Rattle.std.proofs.lemmas.Bool.{le-leb}
 use Rattle.unftp_control_defs.specs.Bytes.{Bytes}
 use Rattle.unftp_control_defs.specs.FtpCommand.{FtpCommand}
-use Rattle.unftp_control_defs.specs.NameAndValue.{name_and_value}
+use Rattle.unftp_control_defs.specs.NameAndValue.{name_and_value, command_number}
 use Rattle.unftp_control_c.specs.declared.status.Status.TheVariants.{NoRoom, OutOfMemory}
 use Rattle.unftp_control_c.specs.Next.{value_of_command, Call, Left, Leaves, has_room, kept}
-use Rattle.unftp_control_c.specs.Numbers.{command_number, status_number}
+use Rattle.unftp_control_c.specs.Numbers.{status_number}
 use Rattle.unftp_control_c.specs.Taking.{Connection, after_call, call_of, gives_none}
 use Rattle.unftp_control_c.proofs.CallLemmas.{NextLeft, invalid, asks, gave, no_room, command_gives, left_so, gives_some}
 use Rattle.unftp_control_c.proofs.laws.calls_are_made_again.Goals as goal

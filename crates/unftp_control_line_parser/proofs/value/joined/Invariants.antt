@@ -1,5 +1,5 @@
 use Rattle.std.proofs.Common.{◌≡◌, ◌++◌, length, option_map}
-use Rattle.unftp_control_defs.specs.Values.{later_value, Fresh}
+use Rattle.unftp_control_defs.specs.ComputedValue.{later_value, Fresh}
 use Rattle.unftp_control_line_parser.proofs.value.joined.Given as goal
 
 abbrev pub invariant-parts : goal.invariant-parts

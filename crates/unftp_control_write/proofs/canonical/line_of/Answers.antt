@@ -1,0 +1,14 @@
+use Rattle.unftp_control_write.proofs.LineLemmas.{plain_line}
+use Rattle.unftp_control_write.proofs.canonical.line_of.Goals as goal
+
+pub returns-in_default-clause-line : goal.returns-in_default-clause-line
+returns-in_default-clause-line c = plain_line c.args.command.now c.parts_of.result c.line-in_default.result
+    (record {
+      no_type = c.in_default.not-TypeCode;
+      no_list = c.in_default.not-List;
+      no_allo = c.in_default.not-Allo;
+      no_md5 = c.in_default.not-Md5;
+      no_site = c.in_default.not-Site;
+      no_other = c.in_default.not-Other;
+    })
+    c.parts_of.ensures.typed c.parts_of.ensures.parts c.line-in_default.ensures
