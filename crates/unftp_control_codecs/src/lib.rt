@@ -18,7 +18,7 @@ use crate::scan::{Scan, ScanCount};
 use std::alloc::Global;
 use std::marker::Model;
 use unftp_control_command::Command;
-use unftp_control_count::Count;
+use unftp_control_defs::count::Count;
 use unftp_control_error::{ControlChanError, ControlChanErrorKind, ParseError};
 use unftp_control_line_parser::parse;
 use unftp_control_reply::Reply;

@@ -3,7 +3,7 @@ ghost use Rattle.std.specs.Prelude.{◌≡◌, ◌+◌, ◌-◌, ◌<◌, ◌≤
 ghost use Rattle.unftp_control_codecs.specs.LineFeed.{line_feed_from};
 
 use std::marker::Model;
-use unftp_control_count::Count;
+use unftp_control_defs::count::Count;
 
 const LINE_FEED: u8 = b'\n';
 

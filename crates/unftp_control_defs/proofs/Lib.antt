@@ -27,3 +27,4 @@ pub mod RuleLemmas
 pub mod CommandLineLemmas
 pub mod Computing
 pub mod LineEventLemmas
+pub mod TraceLemmas

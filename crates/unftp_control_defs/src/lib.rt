@@ -2,4 +2,5 @@
 //! definitions in `specs/`.
 #![tactic(auto)]
 
+pub mod count;
 pub mod parameters;

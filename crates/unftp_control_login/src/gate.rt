@@ -17,7 +17,7 @@ use bytes::Bytes;
 use std::alloc::Global;
 use std::mem;
 use unftp_control_command::Command;
-use unftp_control_count::Count;
+use unftp_control_defs::count::Count;
 use unftp_control_error::ControlChanError;
 use unftp_control_reply::{Reply, ReplyCode};
 use unftp_control_serve::{Event, Handler};

@@ -8,7 +8,7 @@ ghost use Rattle.unftp_control_read.specs.Reading.{contents, Holds, middle_of};
 use crate::finding::Texts;
 use crate::lines::next_line;
 use std::alloc::{AllocError, Global};
-use unftp_control_count::Count;
+use unftp_control_defs::count::Count;
 
 /// The lines that the texts are. Those between the first and the last are scanned for their ends.
 pub(crate) fn copy_lines(

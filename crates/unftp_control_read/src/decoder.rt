@@ -14,7 +14,7 @@ use crate::{Front, read_front};
 use std::alloc::{AllocError, Global};
 use std::io::Read;
 use std::marker::Model;
-use unftp_control_count::Count;
+use unftp_control_defs::count::Count;
 
 /// Cuts replies from an input that comes in pieces: for a client with an event loop of its own. A
 /// piece is pushed, and replies are taken until there is none; between two of them the client does

@@ -27,7 +27,7 @@ pub use crate::reply::{ReceivedReply, same_received_replies};
 use crate::search::Search;
 use std::alloc::Global;
 use thiserror::Error;
-pub use unftp_control_count::Count;
+pub use unftp_control_defs::count::Count;
 
 /// What some bytes begin with.
 #[derive(Debug, PartialEq, Eq, Drop)]

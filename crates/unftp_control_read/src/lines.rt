@@ -4,7 +4,7 @@ ghost use Rattle.unftp_control_defs.specs.Bytes.{CR, LF, SP};
 ghost use Rattle.unftp_control_defs.specs.ReplyReader.{LacksCrlf, GoesOn};
 
 use bstr::ByteSlice;
-use unftp_control_count::Count;
+use unftp_control_defs::count::Count;
 
 /// The position of the first line feed from `from` on. The bytes up to it, or to the end, are
 /// counted.

@@ -8,7 +8,7 @@ ghost use Rattle.unftp_control_read.specs.Search.{IsSearched, IsAtLine, Steps, E
 use crate::finding::{Finding, Texts};
 use crate::lines::{last_text, next_line};
 use crate::opening::{AfterCode, opening_of};
-use unftp_control_count::Count;
+use unftp_control_defs::count::Count;
 
 /// A reply of several lines whose first is complete.
 #[derive(Clone, Copy)]

@@ -9,7 +9,7 @@ use std::alloc::{AllocError, Global};
 use std::marker::Model;
 use unftp_control_codecs::FtpCodec;
 use unftp_control_command::Command;
-use unftp_control_count::Count;
+use unftp_control_defs::count::Count;
 use unftp_control_error::{ControlChanError, ControlChanErrorKind};
 
 /// Cuts an input that comes in pieces into lines, and returns the event of each: for a server with

@@ -16,7 +16,7 @@ use crate::send::Sink;
 use std::alloc::Global;
 use std::marker::Model;
 use unftp_control_codecs::encode_reply;
-use unftp_control_count::Count;
+use unftp_control_defs::count::Count;
 use unftp_control_error::ControlChanError;
 use unftp_control_reply::Reply;
 

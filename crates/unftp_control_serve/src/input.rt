@@ -5,7 +5,7 @@ ghost use Rattle.std.specs.Io.KnownBytes.{ReadConsumes};
 
 use std::io;
 use std::io::Read;
-use unftp_control_count::{Count, Trace};
+use unftp_control_defs::count::{Count, Trace};
 
 /// A reader with a count of its failures and a list of how long each read was. These take no byte, and
 /// only contracts see them.

@@ -23,4 +23,4 @@ pub use input::Input;
 pub use output::Output;
 pub use send::Sink;
 pub use service::{Served, serve, serve_with_limit};
-pub use unftp_control_count::Count;
+pub use unftp_control_defs::count::Count;

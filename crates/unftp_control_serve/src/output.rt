@@ -6,7 +6,7 @@ ghost use Rattle.unftp_control_serve.specs.Writing.{CountsWrite, CountsFlush};
 
 use std::io;
 use std::io::Write;
-use unftp_control_count::Count;
+use unftp_control_defs::count::Count;
 
 /// A writer with a count of its failures and one of the bytes that were written since it was last
 /// flushed, which take no byte and which only contracts see.

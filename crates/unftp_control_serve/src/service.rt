@@ -10,7 +10,7 @@ use crate::input::Input;
 use crate::output::Output;
 use std::alloc::Global;
 use std::io::{Read, Write};
-use unftp_control_count::Count;
+use unftp_control_defs::count::Count;
 
 /// What `serve` returns at the end of its input, or of the session.
 #[derive(Drop)]

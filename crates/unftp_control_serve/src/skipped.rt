@@ -4,7 +4,7 @@ ghost use Rattle.unftp_control_serve.specs.Decoder.{saturating_u64};
 ghost use Rattle.unftp_control_serve.specs.Decoder.{dropped_after};
 
 use std::marker::Model;
-use unftp_control_count::Trace;
+use unftp_control_defs::count::Trace;
 
 /// How many bytes were dropped, or `u64::MAX` where there are more. Which ones, only contracts see.
 #[derive(Drop)]

@@ -1,6 +1,6 @@
 use Rattle.std.proofs.Common.{◌∙◌, ◌++◌, ◌∷◌, [], ap, sym, take, get_or, append_assoc}
 use Rattle.std.proofs.lemmas.List.{take_more}
-use Rattle.unftp_control_count.proofs.trace.Trace.extend.Goals as goal
+use Rattle.unftp_control_defs.proofs.count.trace.Trace.extend.Goals as goal
 
 pub loop-byte-preserved : goal.loop-byte-preserved
 loop-byte-preserved c =

@@ -15,11 +15,11 @@ use denote.Steps.{nothing}
 use mir.Syntax.{named}
 use denote.Triple.Entry.{alive}
 use denote.Triple.Walked.{Stays, walk_of, says, stay_dropped, Goes-dropped, ends_at}
-use Rattle.unftp_control_count.proofs.TraceLemmas.{sealed, trace_made}
-use Rattle.unftp_control_count.specs.contracts.trace.Trace.{the_row as R}
-use Rattle.unftp_control_count.specs.contracts.trace.Trace.with as f
-use Rattle.unftp_control_count.proofs.trace.Trace.with.Statement.{statement}
-use Rattle.unftp_control_count.proofs.trace.Trace.with.Code as code
+use Rattle.unftp_control_defs.proofs.TraceLemmas.{sealed, trace_made}
+use Rattle.unftp_control_defs.specs.contracts.count.trace.Trace.{the_row as R}
+use Rattle.unftp_control_defs.specs.contracts.count.trace.Trace.with as f
+use Rattle.unftp_control_defs.proofs.count.trace.Trace.with.Statement.{statement}
+use Rattle.unftp_control_defs.proofs.count.trace.Trace.with.Code as code
 
 abbrev stayed : Stays f.ended.signature.params f.ended.kept
 stayed = (stay_dropped _ yes, (stay_dropped _ yes, (stay_dropped _ yes, (stay_dropped _ yes, tt))))

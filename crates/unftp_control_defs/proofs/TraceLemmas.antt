@@ -9,9 +9,9 @@ use denote.Builtin.{unit}
 use denote.RattleType.{Valss}
 use denote.Steps.{nothing}
 use denote.Struct.Struct.{within}
-use Rattle.unftp_control_count.specs.contracts.trace.Trace.{the_row, the_view, the_invariant}
-use Rattle.unftp_control_count.specs.contracts.trace.Trace.TheInside as Inside
-use Rattle.unftp_control_count.specs.declared.trace.Trace.TheInside as Fields
+use Rattle.unftp_control_defs.specs.contracts.count.trace.Trace.{the_row, the_view, the_invariant}
+use Rattle.unftp_control_defs.specs.contracts.count.trace.Trace.TheInside as Inside
+use Rattle.unftp_control_defs.specs.declared.count.trace.Trace.TheInside as Fields
 
 -- the machine value of every trace
 abbrev pub sealed : Val

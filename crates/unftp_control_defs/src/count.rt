@@ -1,12 +1,10 @@
 //! A count, and a list of numbers, that only contracts see: they take no byte, and their methods give
 //! nothing that code could read.
-#![tactic(auto)]
-
 ghost use Rattle.std.specs.Prelude.{◌≡◌, ℕ, ◌+◌, max};
 
 mod trace;
 
-pub use crate::trace::Trace;
+pub use trace::Trace;
 use std::marker::Model;
 use std::mem::size_of;
 

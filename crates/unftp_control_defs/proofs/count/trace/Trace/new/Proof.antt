@@ -10,10 +10,10 @@ use denote.Signature.{types_at}
 use denote.Steps.{nothing}
 use denote.Triple.Entry.{alive}
 use denote.Triple.Walked.{Stays, walk_of, says, ends_at}
-use Rattle.unftp_control_count.proofs.TraceLemmas.{sealed, trace_made}
-use Rattle.unftp_control_count.specs.contracts.trace.Trace.new as f
-use Rattle.unftp_control_count.proofs.trace.Trace.new.Statement.{statement}
-use Rattle.unftp_control_count.proofs.trace.Trace.new.Code as code
+use Rattle.unftp_control_defs.proofs.TraceLemmas.{sealed, trace_made}
+use Rattle.unftp_control_defs.specs.contracts.count.trace.Trace.new as f
+use Rattle.unftp_control_defs.proofs.count.trace.Trace.new.Statement.{statement}
+use Rattle.unftp_control_defs.proofs.count.trace.Trace.new.Code as code
 
 abbrev stayed : Stays f.ended.signature.params f.ended.kept
 stayed = tt
