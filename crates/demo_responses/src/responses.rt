@@ -3,7 +3,7 @@ ghost use Rattle.std.specs.Prelude.{◌≡◌, Bool, false, IfOk, IfErr, option_
 ghost use Rattle.unftp_control_command.specs.CommandMeaning.{command_of};
 ghost use Rattle.unftp_control_defs.specs.Events.{out_of_memory, Refused};
 ghost use Rattle.unftp_control_defs.specs.FtpCommand.{Mlst as FtpMlst, Site as FtpSite};
-ghost use Rattle.unftp_control_error.specs.ErrorMeaning.{fault_of};
+ghost use Rattle.unftp_control_reply.specs.ErrorMeaning.{fault_of};
 ghost use Rattle.unftp_control_reply.specs.ReplyMeaning.{reply_of};
 ghost use Rattle.unftp_control_serve.specs.EventMeaning.{event_meant};
 ghost use Rattle.demo_responses.specs.Responses.{command_reply, event_reply, is_quit, not_implemented, responses_law};
@@ -12,7 +12,7 @@ use crate::sample::Sample;
 use std::alloc::Global;
 use unftp_control_command::Command;
 use unftp_control_commands::{Auth, Epsv, Feat, Help, Mlst, Mode, Opts, Passive, Prot, Stru};
-use unftp_control_error::{ControlChanError, Source};
+use unftp_control_reply::error::{ControlChanError, Source};
 use unftp_control_reply::{Reply, ReplyCode};
 use unftp_control_serve::{Count, Event, Handler};
 

@@ -1,6 +1,6 @@
 //! What is said of an entry of the tree, or of none.
 ghost use Rattle.std.specs.Prelude.{◌≡◌, IfOk, IfErr};
-ghost use Rattle.unftp_control_error.specs.ErrorMeaning.{fault_of};
+ghost use Rattle.unftp_control_reply.specs.ErrorMeaning.{fault_of};
 ghost use Rattle.unftp_control_defs.specs.Events.{out_of_memory};
 ghost use Rattle.unftp_control_commands.specs.Facts.{IsFacts};
 ghost use Rattle.unftp_control_reply.specs.ReplyMeaning.{reply_of};
@@ -11,7 +11,7 @@ use crate::tree::{Directory, Entry, File};
 use jiff::Timestamp;
 use std::alloc::Global;
 use unftp_control_commands::{Metadata, Mlst, modify_text, quoted_path};
-use unftp_control_error::ControlChanError;
+use unftp_control_reply::error::ControlChanError;
 use unftp_control_reply::{Reply, ReplyCode};
 
 /// The facts of an entry.

@@ -1,7 +1,7 @@
 //! The replies that don't depend on the working directory.
 ghost use Rattle.std.specs.Prelude.{◌≡◌, ◌++◌, map, string_bytes, IfOk, IfErr, OnOk};
 ghost use Rattle.unftp_control_command.specs.CommandMeaning.{command_of};
-ghost use Rattle.unftp_control_error.specs.ErrorMeaning.{fault_of, kind_meant};
+ghost use Rattle.unftp_control_reply.specs.ErrorMeaning.{fault_of, kind_meant};
 ghost use Rattle.unftp_control_defs.specs.Events.{out_of_memory};
 ghost use Rattle.unftp_control_defs.specs.FtpReply.{CodeAndMsg};
 ghost use Rattle.unftp_control_reply.specs.ReplyMeaning.{number_of, reply_of};
@@ -10,7 +10,7 @@ ghost use Rattle.login_demo.specs.Standing.{fixed_reply, refusal_reply, site_rep
 use std::alloc::Global;
 use unftp_control_command::Command;
 use unftp_control_commands::{Auth, Feat, Help, Mode, Opts, Prot, Stru};
-use unftp_control_error::{ControlChanError, ControlChanErrorKind, Source};
+use unftp_control_reply::error::{ControlChanError, ControlChanErrorKind, Source};
 use unftp_control_reply::{Reply, ReplyCode};
 
 /// The features (RFC 2389, section 3.2), MLST with its facts (RFC 3659, section 7.8).

@@ -22,9 +22,9 @@ pub use Rattle.unftp_control_command.specs.CommandMeaning
 pub use Rattle.unftp_control_command.specs.declared.Command
 pub use Rattle.unftp_control_line_parser.specs.ParseAnswer
 pub use Rattle.unftp_control_line_parser.specs.Memory
-pub use Rattle.unftp_control_error.specs.ParseRefusal
-pub use Rattle.unftp_control_error.specs.ErrorParts
-pub use Rattle.unftp_control_error.specs.ErrorMeaning
+pub use Rattle.unftp_control_reply.specs.ParseRefusal
+pub use Rattle.unftp_control_reply.specs.ErrorParts
+pub use Rattle.unftp_control_reply.specs.ErrorMeaning
 pub use Rattle.unftp_control_reply.specs.ReplyMeaning
 pub use Rattle.unftp_control_codecs.specs.Codec
 pub use Rattle.unftp_control_codecs.specs.LineFeed

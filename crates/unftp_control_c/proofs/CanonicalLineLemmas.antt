@@ -11,8 +11,8 @@ use Rattle.std.specs.Str.{is_utf8}
 use Rattle.unftp_control_defs.specs.Canonical.{HasLine}
 use Rattle.unftp_control_defs.proofs.AnswerLemmas.{passed}
 use Rattle.unftp_control_defs.proofs.CommandLineLemmas.{HasLine-outcome}
-use Rattle.unftp_control_error.specs.declared.parse_error.ParseErrorKind.{ParseErrorKind}
-use Rattle.unftp_control_error.specs.declared.parse_error.ParseErrorKind.TheVariants as kind
+use Rattle.unftp_control_reply.specs.declared.error.parse_error.ParseErrorKind.{ParseErrorKind}
+use Rattle.unftp_control_reply.specs.declared.error.parse_error.ParseErrorKind.TheVariants as kind
 use Rattle.unftp_control_line_parser.specs.Memory.{AnswerMayTakeMemory, IfOutOfMemory, MayTakeMemory, takes_no_memory}
 use Rattle.unftp_control_line_parser.specs.ParseAnswer.{Refuses}
 use Rattle.unftp_control_write.specs.declared.WriteCommandError.{WriteCommandError}

@@ -10,8 +10,8 @@ use Rattle.unftp_control_defs.specs.Events as fault
 use Rattle.unftp_control_defs.specs.Outcome.{outcome}
 use Rattle.unftp_control_command.specs.declared.Command.{Command as RustCommand}
 use Rattle.unftp_control_command.specs.CommandMeaning.{command_of}
-use Rattle.unftp_control_error.specs.ErrorParts.{KindAndSource}
-use Rattle.unftp_control_error.specs.ErrorMeaning.{fault_of}
+use Rattle.unftp_control_reply.specs.ErrorParts.{KindAndSource}
+use Rattle.unftp_control_reply.specs.ErrorMeaning.{fault_of}
 use Rattle.unftp_control_codecs.specs.Codec.{Codec}
 use Rattle.unftp_control_codecs.specs.LineFeed.{line_feed_from}
 use Rattle.unftp_control_codecs.specs.Decoding.{Decoded, Decodes, FindsNone, SkipsAll, CutsLine, KeepsLine, IfTooLong, AnswersNone, AnswersLine, IsOutOfMemory, parser_out_of_memory, returned_event}

@@ -9,7 +9,7 @@ use itoa::Buffer;
 use std::alloc::Global;
 use unftp_control_codecs::FtpCodec;
 use unftp_control_command::Command;
-use unftp_control_error::ControlChanError;
+use unftp_control_reply::error::ControlChanError;
 use unftp_control_write::parts::parts_of;
 
 /// The next event of the pending bytes: `unftp_next` of include/unftp_control.h.

@@ -1,9 +1,9 @@
 //! What a call reports to its caller.
 ghost use Rattle.std.specs.Prelude.{◌≡◌};
-ghost use Rattle.unftp_control_error.specs.ErrorMeaning.{fault_of, source_meant};
+ghost use Rattle.unftp_control_reply.specs.ErrorMeaning.{fault_of, source_meant};
 ghost use Rattle.unftp_control_c.specs.Numbers.{status_number, keeps_bytes, fault_status, kind_status, line_status, source_status};
 
-use unftp_control_error::{ControlChanError, ControlChanErrorKind, ParseErrorKind, Source};
+use unftp_control_reply::error::{ControlChanError, ControlChanErrorKind, ParseErrorKind, Source};
 use unftp_control_write::WriteCommandError;
 
 /// What a call reports where it gives no command.

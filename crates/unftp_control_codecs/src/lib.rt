@@ -4,8 +4,8 @@
 ghost use Rattle.std.specs.Prelude.{◌≡◌, ◌↔◌, ◌+◌, ◌-◌, ◌≤◌, if◌then◌else◌, false, None, IsTrue, ⊤, ◌++◌, length, drop, vec_len, Some, Ok, Err, MatchOption, MatchResult, IsOk, OnOk, OnErr, IfErr};
 ghost use Rattle.unftp_control_defs.specs.Events.{out_of_memory};
 ghost use Rattle.unftp_control_defs.specs.FtpReply.{Nothing, encoded};
-ghost use Rattle.unftp_control_error.specs.ErrorMeaning.{converted, fault_of};
-ghost use Rattle.unftp_control_error.specs.declared.Source.TheVariants.{Parse};
+ghost use Rattle.unftp_control_reply.specs.ErrorMeaning.{converted, fault_of};
+ghost use Rattle.unftp_control_reply.specs.declared.error.Source.TheVariants.{Parse};
 ghost use Rattle.unftp_control_reply.specs.ReplyMeaning.{reply_of};
 ghost use Rattle.unftp_control_codecs.specs.Codec.{is_too_long};
 ghost use Rattle.unftp_control_codecs.specs.Decoding.{Decodes, IsOutOfMemory};
@@ -19,7 +19,7 @@ use std::alloc::Global;
 use std::marker::Model;
 use unftp_control_command::Command;
 use unftp_control_defs::count::Count;
-use unftp_control_error::{ControlChanError, ControlChanErrorKind, ParseError};
+use unftp_control_reply::error::{ControlChanError, ControlChanErrorKind, ParseError};
 use unftp_control_line_parser::parse;
 use unftp_control_reply::Reply;
 

@@ -10,8 +10,8 @@ use Rattle.unftp_control_defs.specs.ComputedValue.{value_of}
 use Rattle.unftp_control_defs.specs.FtpCommand.{FtpCommand, Answer, InvalidCommand, Rest, Md5, Site, Other}
 use Rattle.unftp_control_defs.specs.Rules.{Rule, row_of, verbs, chosen, any_text, some_text, structures, modes, protections, options, buffer_sizes, mechanisms, auth, offset, subcommand_answer}
 use Rattle.unftp_control_defs.specs.Outcome.{answer_by, value_answer, site_answer, outcome}
-use Rattle.unftp_control_error.specs.declared.parse_error.ParseErrorKind.{ParseErrorKind}
-use Rattle.unftp_control_error.specs.declared.parse_error.ParseErrorKind.TheVariants as kind
+use Rattle.unftp_control_reply.specs.declared.error.parse_error.ParseErrorKind.{ParseErrorKind}
+use Rattle.unftp_control_reply.specs.declared.error.parse_error.ParseErrorKind.TheVariants as kind
 use Rattle.unftp_control_line_parser.specs.declared.rule.RawCommand.{RawCommand}
 use Rattle.unftp_control_line_parser.specs.declared.rule.RawCommand.TheVariants as raw_bytes
 use Rattle.unftp_control_line_parser.specs.declared.rule.TextCommand.{TextCommand}

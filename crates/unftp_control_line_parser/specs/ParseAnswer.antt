@@ -3,8 +3,8 @@ use Rattle.std.specs.Prelude.{◌≡◌, ⊤, Result, Ok, Err}
 use Rattle.unftp_control_defs.specs.FtpCommand.{InvalidCommand, InvalidUtf8, InvalidEol, Answer}
 use Rattle.unftp_control_command.specs.declared.Command.{Command}
 use Rattle.unftp_control_command.specs.CommandMeaning.{command_of}
-use Rattle.unftp_control_error.specs.declared.parse_error.ParseErrorKind.{ParseErrorKind}
-use Rattle.unftp_control_error.specs.declared.parse_error.ParseErrorKind.TheVariants as kind
+use Rattle.unftp_control_reply.specs.declared.error.parse_error.ParseErrorKind.{ParseErrorKind}
+use Rattle.unftp_control_reply.specs.declared.error.parse_error.ParseErrorKind.TheVariants as kind
 
 -- the answer is that refusal; running out of memory refuses no line
 abbrev pub Refuses : Answer → ParseErrorKind → Type 0

@@ -5,8 +5,8 @@ use Rattle.std.specs.declared.borrow.CowSlice.{CowSlice}
 use Rattle.std.specs.Str.Lossy.{utf8_lossy}
 use Rattle.unftp_control_defs.specs.Bytes.{Bytes, CR, LF, NUL}
 use Rattle.unftp_control_defs.specs.ComputedValue.{Context, later_value, Fresh, Plain}
-use Rattle.unftp_control_error.specs.declared.parse_error.ParseErrorKind.{ParseErrorKind}
-use Rattle.unftp_control_error.specs.declared.parse_error.ParseErrorKind.TheVariants as kind
+use Rattle.unftp_control_reply.specs.declared.error.parse_error.ParseErrorKind.{ParseErrorKind}
+use Rattle.unftp_control_reply.specs.declared.error.parse_error.ParseErrorKind.TheVariants as kind
 use Rattle.unftp_control_line_parser.specs.declared.value.Run.{Run}
 use Rattle.unftp_control_line_parser.specs.declared.value.Run.TheVariants.{Last, Continued, InvalidEnd}
 

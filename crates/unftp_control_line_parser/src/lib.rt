@@ -9,5 +9,5 @@ mod value;
 mod verb;
 
 pub use parser::parse;
-pub use unftp_control_error::{ParseError, ParseErrorKind, Result, same_parse_errors};
+pub use unftp_control_reply::error::{ParseError, ParseErrorKind, Result, same_parse_errors};
 pub use verb::is_verb;

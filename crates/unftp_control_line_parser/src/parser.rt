@@ -27,7 +27,7 @@ use std::convert::AsSlice;
 use std::result;
 use std::str::from_utf8;
 use unftp_control_command::Command;
-use unftp_control_error::{ParseErrorKind, Result};
+use unftp_control_reply::error::{ParseErrorKind, Result};
 
 type Answer = result::Result<Command, ParseErrorKind>;
 

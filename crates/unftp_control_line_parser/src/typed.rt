@@ -8,7 +8,7 @@ ghost use Rattle.unftp_control_line_parser.specs.ParseAnswer.{Returns};
 use crate::rule::TypedCommand;
 use std::str::from_utf8;
 use unftp_control_command::{AuthParam, Command, ModeParam, Opt, ProtParam, StruParam};
-use unftp_control_error::ParseErrorKind;
+use unftp_control_reply::error::ParseErrorKind;
 
 type Answer = Result<Command, ParseErrorKind>;
 

@@ -7,7 +7,7 @@ ghost use Rattle.unftp_control_line_parser.specs.Values.{begins_with_cr_nul, IsP
 use memchr::memchr2;
 use std::alloc::{AllocError, Global};
 use std::borrow::CowSlice;
-use unftp_control_error::ParseErrorKind;
+use unftp_control_reply::error::ParseErrorKind;
 
 const NUL: u8 = 0;
 

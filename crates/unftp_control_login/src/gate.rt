@@ -4,7 +4,7 @@ ghost use Rattle.unftp_control_defs.specs.Events.{out_of_memory};
 ghost use Rattle.unftp_control_defs.specs.Events as event;
 ghost use Rattle.unftp_control_defs.specs.FtpCommand.{Pass};
 ghost use Rattle.unftp_control_defs.specs.FtpReply.{CodeAndMsg};
-ghost use Rattle.unftp_control_error.specs.ErrorMeaning.{fault_of};
+ghost use Rattle.unftp_control_reply.specs.ErrorMeaning.{fault_of};
 ghost use Rattle.unftp_control_serve.specs.EventMeaning.{event_meant};
 ghost use Rattle.unftp_control_reply.specs.ReplyMeaning.{number_of, reply_of};
 ghost use Rattle.unftp_control_login.specs.Login.{flushes_login, needs_login};
@@ -18,7 +18,7 @@ use std::alloc::Global;
 use std::mem;
 use unftp_control_command::Command;
 use unftp_control_defs::count::Count;
-use unftp_control_error::ControlChanError;
+use unftp_control_reply::error::ControlChanError;
 use unftp_control_reply::{Reply, ReplyCode};
 use unftp_control_serve::{Event, Handler};
 

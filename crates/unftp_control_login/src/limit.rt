@@ -6,7 +6,7 @@ ghost use Rattle.unftp_control_login.specs.LoginLimit.{Limited, is_pass, limited
 use std::alloc::Global;
 use unftp_control_command::Command;
 use unftp_control_defs::count::Count;
-use unftp_control_error::ControlChanError;
+use unftp_control_reply::error::ControlChanError;
 use unftp_control_reply::{Reply, ReplyCode};
 use unftp_control_serve::{Event, Handler};
 

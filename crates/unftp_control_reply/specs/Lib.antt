@@ -1,1 +1,4 @@
+pub mod ErrorParts
+pub mod ErrorMeaning
+pub mod ParseRefusal
 pub mod ReplyMeaning

@@ -1,7 +1,8 @@
-//! The replies of the control connection.
+//! What goes back to a client, and to the caller: replies and errors.
 #![tactic(auto)]
 
 mod code;
+pub mod error;
 mod reply;
 
 pub use code::{ReplyCode, same_codes};

@@ -5,14 +5,14 @@ ghost use Rattle.std.specs.List.{AllByRecursion};
 ghost use Rattle.unftp_control_defs.specs.Bytes.{LF, Lacks};
 ghost use Rattle.unftp_control_defs.specs.Events.{out_of_memory};
 ghost use Rattle.unftp_control_defs.specs.FtpReply.{Nothing, CodeAndMsg, MultiLine, HasThreeDigits, IsPlain, is_positive};
-ghost use Rattle.unftp_control_error.specs.ErrorMeaning.{fault_of};
+ghost use Rattle.unftp_control_reply.specs.ErrorMeaning.{fault_of};
 ghost use Rattle.unftp_control_reply.specs.ReplyMeaning.{number_of, reply_of};
 ghost use Rattle.unftp_control_reply.specs.declared.reply.Reply.{Reply as RustReply};
 
 use crate::code::ReplyCode;
 use std::alloc::{AllocError, Global};
 use std::fmt;
-use unftp_control_error::ControlChanError;
+use crate::error::ControlChanError;
 
 /// What the server answers to a command (RFC 959, section 4.2).
 #[derive(Drop, PartialEq, Eq)]

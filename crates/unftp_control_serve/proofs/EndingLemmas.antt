@@ -7,8 +7,8 @@ use Rattle.unftp_control_defs.specs.Events.{FtpEvent}
 use Rattle.unftp_control_defs.specs.FtpReply.{Nothing, encoded}
 use Rattle.unftp_control_defs.specs.Run.{Law, last_state, text_of}
 use Rattle.unftp_control_defs.proofs.RunLemmas.{last_state-append, text_of-append}
-use Rattle.unftp_control_error.specs.ErrorParts.{KindAndSource}
-use Rattle.unftp_control_error.specs.ErrorMeaning.{fault_of}
+use Rattle.unftp_control_reply.specs.ErrorParts.{KindAndSource}
+use Rattle.unftp_control_reply.specs.ErrorMeaning.{fault_of}
 use Rattle.unftp_control_serve.specs.Writing.{Sends, Sent, CutShort}
 use Rattle.unftp_control_serve.specs.Endings.{Snapshot, Cause, Finished, Write, Handler, LineMemory, ReplyMemory, IsCauseOf, EndsAt, AllAnswered, RunEnded, RunFailed, RunOutcome, part_written, text_until}
 use Rattle.unftp_control_serve.specs.declared.error.ServeError.{ServeError}

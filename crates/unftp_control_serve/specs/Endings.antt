@@ -8,7 +8,7 @@ use Rattle.unftp_control_defs.specs.FtpReply.{Nothing, encoded}
 use Rattle.unftp_control_defs.specs.Lines.{IsLine}
 use Rattle.unftp_control_defs.specs.Outcome.{outcome}
 use Rattle.unftp_control_defs.specs.Run.{Law, last_state, text_of}
-use Rattle.unftp_control_error.specs.ErrorMeaning.{fault_of}
+use Rattle.unftp_control_reply.specs.ErrorMeaning.{fault_of}
 use Rattle.unftp_control_line_parser.specs.Memory.{MayTakeMemory}
 use Rattle.unftp_control_serve.specs.Writing.{OutputState, output_state_of, Begins, Flushed}
 use Rattle.unftp_control_serve.specs.declared.output.Output.{Output}

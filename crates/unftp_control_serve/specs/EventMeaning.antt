@@ -1,7 +1,7 @@
 -- What an event means.
 use Rattle.unftp_control_defs.specs.Events.{FtpEvent, Command, Refused}
 use Rattle.unftp_control_command.specs.CommandMeaning.{command_of}
-use Rattle.unftp_control_error.specs.ErrorMeaning.{fault_of}
+use Rattle.unftp_control_reply.specs.ErrorMeaning.{fault_of}
 use Rattle.unftp_control_serve.specs.declared.event.Event.{Event}
 use Rattle.unftp_control_serve.specs.declared.event.Event.TheVariants as event
 

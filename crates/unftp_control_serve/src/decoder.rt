@@ -10,7 +10,7 @@ use std::marker::Model;
 use unftp_control_codecs::FtpCodec;
 use unftp_control_command::Command;
 use unftp_control_defs::count::Count;
-use unftp_control_error::{ControlChanError, ControlChanErrorKind};
+use unftp_control_reply::error::{ControlChanError, ControlChanErrorKind};
 
 /// Cuts an input that comes in pieces into lines, and returns the event of each: for a server with
 /// an event loop of its own. A piece is pushed, and events are taken until there is none; between

@@ -17,7 +17,7 @@ use std::alloc::Global;
 use std::marker::Model;
 use unftp_control_codecs::encode_reply;
 use unftp_control_defs::count::Count;
-use unftp_control_error::ControlChanError;
+use unftp_control_reply::error::ControlChanError;
 use unftp_control_reply::Reply;
 
 /// Encodes the reply into a buffer that is used again.

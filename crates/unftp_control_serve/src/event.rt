@@ -1,6 +1,6 @@
 //! What a handler receives.
 use unftp_control_command::Command;
-use unftp_control_error::ControlChanError;
+use unftp_control_reply::error::ControlChanError;
 
 /// A line, read: its command, or why it is none.
 #[derive(Debug, Drop)]

@@ -1,13 +1,13 @@
 //! What answers the events, and the law that it keeps.
 ghost use Rattle.std.specs.Prelude.{◌≡◌, ◌+◌, ℕ, IfOk, IfErr, OnOk, OnErr};
 ghost use Rattle.unftp_control_defs.specs.Run.{Law};
-ghost use Rattle.unftp_control_error.specs.ErrorMeaning.{fault_of};
+ghost use Rattle.unftp_control_reply.specs.ErrorMeaning.{fault_of};
 ghost use Rattle.unftp_control_reply.specs.ReplyMeaning.{reply_of};
 ghost use Rattle.unftp_control_serve.specs.EventMeaning.{event_meant};
 
 use crate::event::Event;
 use std::alloc::Global;
-use unftp_control_error::ControlChanError;
+use unftp_control_reply::error::ControlChanError;
 use unftp_control_reply::Reply;
 
 /// Answers the events of a connection, one after the other.

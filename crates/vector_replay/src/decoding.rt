@@ -8,7 +8,7 @@ use std::alloc::{AllocError, Global};
 use std::io;
 use unftp_control_codecs::FtpCodec;
 use unftp_control_command::Command;
-use unftp_control_error::{ControlChanError, ControlChanErrorKind, Source};
+use unftp_control_reply::error::{ControlChanError, ControlChanErrorKind, Source};
 
 /// What `decode` returns.
 type Decoded = Result<Option<Command>, ControlChanError>;

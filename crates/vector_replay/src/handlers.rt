@@ -10,7 +10,7 @@ use demo_responses::Responses;
 use std::alloc::Global;
 use std::io;
 use std::io::ErrorKind;
-use unftp_control_error::{ControlChanError, ControlChanErrorKind};
+use unftp_control_reply::error::{ControlChanError, ControlChanErrorKind};
 use unftp_control_reply::{Reply, ReplyCode};
 use unftp_control_serve::{Count, Event, Handler};
 

@@ -6,7 +6,7 @@ use crate::words::{Words, no_case, or_no_case, read_number};
 use std::alloc::Global;
 use std::io;
 use unftp_control_codecs::encode_reply;
-use unftp_control_error::ControlChanError;
+use unftp_control_reply::error::ControlChanError;
 use unftp_control_reply::{Reply, ReplyCode};
 
 /// The code that the next word is the number of.

@@ -4,7 +4,7 @@ ghost use Rattle.std.specs.List.{concat};
 ghost use Rattle.std.specs.Io.KnownBytes.{Appends, IsAtEnd};
 ghost use Rattle.unftp_control_defs.specs.Bytes.{Bytes};
 ghost use Rattle.unftp_control_defs.specs.Events.{events};
-ghost use Rattle.unftp_control_error.specs.ErrorParts.{KindAndSource};
+ghost use Rattle.unftp_control_reply.specs.ErrorParts.{KindAndSource};
 ghost use Rattle.unftp_control_serve.specs.Endings.{Snapshot, AllAnswered};
 ghost use Rattle.unftp_control_laws.specs.RunEnd.{EndsAfter, EndsNowhere};
 ghost use Rattle.unftp_control_laws.specs.Snapshots.{counting, counting_to_five, noop, snapshot};

@@ -1,7 +1,0 @@
--- What contracts see of an error of the control channel: its two parts.
-use Rattle.unftp_control_error.specs.declared.ControlChanErrorKind.{ControlChanErrorKind}
-use Rattle.unftp_control_error.specs.declared.Source.{Source}
-
-pub record KindAndSource : Type 0 where
-  pub kind : ControlChanErrorKind
-  pub source : Source

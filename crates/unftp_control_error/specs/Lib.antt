@@ -1,3 +1,0 @@
-pub mod ErrorParts
-pub mod ErrorMeaning
-pub mod ParseRefusal
