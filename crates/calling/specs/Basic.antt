@@ -1,6 +1,6 @@
 -- A handler that knows NOOP and QUIT.
-use Rattle.std.specs.Prelude.{◌≡◌, Bool, true, false, codes}
-use Rattle.unftp_control.specs.Events.{FtpEvent, Command, Refused, out_of_memory}
+use Rattle.std.specs.Prelude.{◌≡◌, Bool, codes}
+use Rattle.unftp_control.specs.Events.{FtpEvent, Command, Refused, is_quit, out_of_memory}
 use Rattle.unftp_control.specs.FtpCommand.{Noop, Quit}
 use Rattle.unftp_control.specs.FtpReply.{FtpReply, CodeAndMsg}
 use Rattle.unftp_control.specs.Run.{Law}
@@ -10,10 +10,6 @@ basic_reply (Command Noop) = CodeAndMsg 200 (codes "OK")
 basic_reply (Command Quit) = CodeAndMsg 221 (codes "Bye")
 basic_reply (Command _) = CodeAndMsg 502 (codes "Not implemented")
 basic_reply (Refused _) = CodeAndMsg 500 (codes "Not understood")
-
-abbrev pub is_quit : FtpEvent → Bool
-is_quit (Command Quit) = true
-is_quit _ = false
 
 -- Its state is whether the last event was QUIT, with which it is done.
 abbrev pub basic : Law Bool

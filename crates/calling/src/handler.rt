@@ -1,6 +1,6 @@
 //! A handler with its law.
 ghost use Rattle.std.specs.Prelude.{◌≡◌, Bool, IfErr, IfOk, false};
-ghost use Rattle.calling.specs.Basic.{basic, basic_reply, is_quit};
+ghost use Rattle.calling.specs.Basic.{basic, basic_reply};
 ghost use Rattle.unftp_control.specs.ErrorMeaning.{fault_of};
 ghost use Rattle.unftp_control.specs.EventMeaning.{event_meant};
 ghost use Rattle.unftp_control.specs.Events.{out_of_memory};
@@ -44,7 +44,7 @@ impl Handler for Basic {
     ghost failures = { λ handler. handler.failures };
 
     fn handle(&mut self, alloc: Global, event: Event) -> Result<Reply, ControlChanError> {
-        self.is_done = is_quit(&event);
+        self.is_done = event.is_quit();
         let answer = answer_event(alloc, &event);
         drop(event);
         if answer.is_err() {
@@ -56,13 +56,6 @@ impl Handler for Basic {
     fn done(&self) -> bool {
         self.is_done
     }
-}
-
-/// Whether the event is QUIT.
-fn is_quit(event: &Event) -> bool
-    ensures { result ≡ is_quit (event_meant event.now) }
-{
-    matches!(event, Event::Command(Command::Quit))
 }
 
 /// The reply to an event.

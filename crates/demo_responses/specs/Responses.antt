@@ -2,7 +2,7 @@
 use Rattle.std.specs.Prelude.{◌≡◌, ◌||◌, bytes_eq, if◌then◌else◌, Bool, true, false, unwrap_or, codes}
 use Rattle.unftp_control_defs.specs.Bytes.{Bytes}
 use Rattle.unftp_control_defs.specs.FtpCommand.{FtpCommand, Auth, Prot, Feat, Epsv, Help, Mode, Opts, Stru, Mlst, Noop, Quit, Site}
-use Rattle.unftp_control_defs.specs.Events.{FaultKind, FaultSource, FtpEvent, Command, Refused, Parse, out_of_memory}
+use Rattle.unftp_control_defs.specs.Events.{FaultKind, FaultSource, FtpEvent, Command, Refused, Parse, is_quit, out_of_memory}
 use Rattle.unftp_control_defs.specs.FtpReply.{FtpReply, CodeAndMsg}
 use Rattle.unftp_control_defs.specs.Texts.{reading_text, kind_text}
 use Rattle.unftp_control_defs.specs.Run.{Law}
@@ -43,10 +43,6 @@ refusal_text kind _ = kind_text kind
 abbrev pub event_reply : FtpEvent → FtpReply
 event_reply (Command command) = command_reply command
 event_reply (Refused fault) = CodeAndMsg 500 (refusal_text fault.kind fault.source)
-
-abbrev pub is_quit : FtpEvent → Bool
-is_quit (Command Quit) = true
-is_quit _ = false
 
 -- Its state is whether QUIT came, and then it is done. It may fail with `OutOfMemory` only, without
 -- a source.

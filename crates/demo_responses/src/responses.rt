@@ -6,7 +6,7 @@ ghost use Rattle.unftp_control_defs.specs.FtpCommand.{Mlst as FtpMlst, Site as F
 ghost use Rattle.unftp_control_reply.specs.ErrorMeaning.{fault_of};
 ghost use Rattle.unftp_control_reply.specs.ReplyMeaning.{reply_of};
 ghost use Rattle.unftp_control_serve.specs.EventMeaning.{event_meant};
-ghost use Rattle.demo_responses.specs.Responses.{command_reply, event_reply, is_quit, not_implemented, responses_law};
+ghost use Rattle.demo_responses.specs.Responses.{command_reply, event_reply, not_implemented, responses_law};
 
 use crate::sample::Sample;
 use std::alloc::Global;
@@ -49,7 +49,7 @@ impl Handler for Responses {
     ghost failures = { λ responses. responses.failures };
 
     fn handle(&mut self, alloc: Global, event: Event) -> Result<Reply, ControlChanError> {
-        self.quit = self.quit || is_quit(&event);
+        self.quit = self.quit || event.is_quit();
         let answer = answer_event(alloc, event);
         if answer.is_err() {
             self.failures.raise();
@@ -60,13 +60,6 @@ impl Handler for Responses {
     fn done(&self) -> bool {
         self.quit
     }
-}
-
-/// Whether the event is QUIT.
-fn is_quit(event: &Event) -> bool
-    ensures { result ≡ is_quit (event_meant event.now) }
-{
-    matches!(event, Event::Command(Command::Quit))
 }
 
 /// The response to an event. It fails only when out of memory.

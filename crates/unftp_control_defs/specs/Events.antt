@@ -1,5 +1,5 @@
 -- What a server receives of its input: for each line a command, or why it was refused.
-use Rattle.std.specs.Prelude.{ℕ, Bool, false, nat_lt, if◌then◌else◌, List, map, length, Option, None, Some, Ok, Err}
+use Rattle.std.specs.Prelude.{ℕ, Bool, true, false, nat_lt, if◌then◌else◌, List, map, length, Option, None, Some, Ok, Err}
 use Rattle.unftp_control_defs.specs.Bytes.{Bytes}
 use Rattle.unftp_control_defs.specs.Lines.{lines_of}
 use Rattle.unftp_control_defs.specs.FtpCommand as line
@@ -49,6 +49,11 @@ refusal_fault refusal = record { kind = refusal_kind refusal; source = Parse (So
 pub data FtpEvent : Type 0 where
   Command : FtpCommand → FtpEvent
   Refused : Fault → FtpEvent
+
+-- QUIT, with which a session ends (RFC 959, section 4.1.1)
+abbrev pub is_quit : FtpEvent → Bool
+is_quit (Command line.Quit) = true
+is_quit _ = false
 
 abbrev pub event_of : Answer → FtpEvent
 event_of (Ok command) = Command command

@@ -1,8 +1,8 @@
 -- A login gate before a handler: what it answers itself, and what it passes on to the handler.
 use Rattle.std.specs.Prelude.{◌≡◌, Bool, true, false, if◌then◌else◌, ◌&&◌, ◌||◌, not, Option, Some, None, IsSome, IsSomeAnd, unwrap_or, option_map, ◌⊎◌, codes}
 use Rattle.unftp_control_defs.specs.Bytes.{Bytes}
-use Rattle.unftp_control_defs.specs.FtpCommand.{User, Pass, Quit}
-use Rattle.unftp_control_defs.specs.Events.{FtpEvent, Command, out_of_memory}
+use Rattle.unftp_control_defs.specs.FtpCommand.{User, Pass}
+use Rattle.unftp_control_defs.specs.Events.{FtpEvent, Command, is_quit, out_of_memory}
 use Rattle.unftp_control_defs.specs.FtpReply.{FtpReply, CodeAndMsg}
 use Rattle.unftp_control_defs.specs.Run.{Law}
 use Rattle.unftp_control_login.specs.declared.stage.Stage.{Stage}
@@ -28,10 +28,6 @@ login_needed = CodeAndMsg 530 (codes "Log in with USER and PASS")
 abbrev pub is_logged_in : Stage → Bool
 is_logged_in LoggedIn = true
 is_logged_in stage = false
-
-abbrev pub is_quit : FtpEvent → Bool
-is_quit (Command Quit) = true
-is_quit event = false
 
 -- the name that this password logs in
 abbrev pub admitted : Accounts → Stage → Bytes → Option Bytes

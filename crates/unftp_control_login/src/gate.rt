@@ -8,7 +8,7 @@ ghost use Rattle.unftp_control_reply.specs.ErrorMeaning.{fault_of};
 ghost use Rattle.unftp_control_serve.specs.EventMeaning.{event_meant};
 ghost use Rattle.unftp_control_reply.specs.ReplyMeaning.{number_of, reply_of};
 ghost use Rattle.unftp_control_login.specs.Login.{flushes_login, needs_login};
-ghost use Rattle.unftp_control_login.specs.Gate.{Gated, closed, gated_law, is_barred, is_logged_in, is_quit, password_reply};
+ghost use Rattle.unftp_control_login.specs.Gate.{Gated, closed, gated_law, is_barred, is_logged_in, password_reply};
 ghost use Rattle.unftp_control_login.specs.GateState.{gated};
 
 use crate::accounts::Accounts;
@@ -163,7 +163,7 @@ impl<A: Accounts, H: Handler> Handler for Gate<A, H> {
                 if flushes_login(&event) {
                     self.stage = Stage::NoName;
                 }
-                if is_quit(&event) {
+                if event.is_quit() {
                     self.quit = true;
                 }
                 self.inner.handle(alloc, event)
@@ -206,11 +206,4 @@ fn flushes_login(event: &Event) -> bool
         event,
         Event::Command(Command::User { .. } | Command::Auth { .. })
     )
-}
-
-/// Whether an event ends the session.
-fn is_quit(event: &Event) -> bool
-    ensures { result ≡ is_quit (event_meant event.now) }
-{
-    matches!(event, Event::Command(Command::Quit))
 }

@@ -8,6 +8,7 @@ ghost use Rattle.unftp_control_defs.specs.ReplyReader.{FrontReply, IsPartial, Is
 ghost use Rattle.unftp_control_read.specs.Reading.{ReturnsFront, ReturnsRefusal, ReturnsFound, IsWhole, IsFound, IsWithin, front_of};
 ghost use Rattle.unftp_control_read.specs.Search.{CountsFront, IsSearched, scan_offset};
 ghost use Rattle.unftp_control_read.specs.declared.Front.{Front as RustFront};
+ghost use Rattle.unftp_control_read.specs.declared.FoundReply.{FoundReply as RustFound};
 
 mod copying;
 mod decoder;
@@ -150,4 +151,10 @@ pub fn find_reply(bytes: &[u8]) -> FoundReply
 pub fn same_fronts()
     ensures { (a b : RustFront)
         → IsTrue (⟦<Front as PartialEq>⟧.eq a b) ↔ (front_of a ≡ front_of b) }
+{}
+
+/// `==` of what is found is equality, and a clone is equal.
+pub fn same_found_replies()
+    ensures equal { (a b : RustFound) → IsTrue (⟦<FoundReply as PartialEq>⟧.eq a b) ↔ (a ≡ b) }
+    ensures clone { (a b : RustFound) → ⟦<FoundReply as Clone>⟧.is_clone a b → b ≡ a }
 {}

@@ -1,4 +1,8 @@
 //! What a handler receives.
+ghost use Rattle.std.specs.Prelude.{◌≡◌};
+ghost use Rattle.unftp_control_defs.specs.Events.{is_quit};
+ghost use Rattle.unftp_control_serve.specs.EventMeaning.{event_meant};
+
 use unftp_control_command::Command;
 use unftp_control_reply::error::ControlChanError;
 
@@ -11,4 +15,13 @@ pub enum Event {
     /// source; or the kind is `LineTooLong`, of a line that is longer than the limit, and there is
     /// no source.
     Refused(ControlChanError),
+}
+
+impl Event {
+    /// Whether it is QUIT, with which a session ends (RFC 959, section 4.1.1).
+    pub fn is_quit(&self) -> bool
+        ensures { result ≡ is_quit (event_meant self.now) }
+    {
+        matches!(self, Event::Command(Command::Quit))
+    }
 }
