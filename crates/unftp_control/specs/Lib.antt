@@ -17,7 +17,6 @@ pub use Rattle.unftp_control_defs.specs.Events
 pub use Rattle.unftp_control_defs.specs.Texts
 pub use Rattle.unftp_control_defs.specs.Run
 pub use Rattle.unftp_control_defs.specs.Pieces
-pub use Rattle.unftp_control_defs.specs.Steps
 pub use Rattle.unftp_control_command.specs.CommandMeaning
 pub use Rattle.unftp_control_command.specs.declared.Command
 pub use Rattle.unftp_control_line_parser.specs.ParseAnswer
@@ -29,6 +28,7 @@ pub use Rattle.unftp_control_reply.specs.ReplyMeaning
 pub use Rattle.unftp_control_codecs.specs.Codec
 pub use Rattle.unftp_control_codecs.specs.LineFeed
 pub use Rattle.unftp_control_codecs.specs.Decoding
+pub use Rattle.unftp_control_codecs.specs.Calls
 pub use Rattle.unftp_control_commands.specs.Answers
 pub use Rattle.unftp_control_commands.specs.Facts
 pub use Rattle.unftp_control_commands.specs.ReplyTexts

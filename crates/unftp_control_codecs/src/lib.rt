@@ -7,7 +7,7 @@ ghost use Rattle.unftp_control_defs.specs.FtpReply.{Nothing, encoded};
 ghost use Rattle.unftp_control_reply.specs.ErrorMeaning.{converted, fault_of};
 ghost use Rattle.unftp_control_reply.specs.declared.error.Source.TheVariants.{Parse};
 ghost use Rattle.unftp_control_reply.specs.ReplyMeaning.{reply_of};
-ghost use Rattle.unftp_control_codecs.specs.Codec.{is_too_long};
+ghost use Rattle.unftp_control_codecs.specs.Codec.{is_too_long, new_codec};
 ghost use Rattle.unftp_control_codecs.specs.Decoding.{Decodes, IsOutOfMemory};
 
 mod encoding;
@@ -57,7 +57,7 @@ impl Model for FtpCodec {
 impl FtpCodec {
     /// A new codec: nothing scanned, no limit.
     pub fn new() -> FtpCodec
-        ensures { result ≡ record { place = 0; tests = 0; limit = None; skipping = false } }
+        ensures { result ≡ new_codec None }
     {
         FtpCodec::at(0)
     }
@@ -66,7 +66,7 @@ impl FtpCodec {
     /// whatever it holds (RFC 959 names no limit).
     pub fn with_limit(limit: usize) -> FtpCodec
         requires { 1 ≤ limit }
-        ensures { result ≡ record { place = 0; tests = 0; limit = Some limit; skipping = false } }
+        ensures { result ≡ new_codec (Some limit) }
     {
         FtpCodec::resume(Some(limit), 0, false)
     }

@@ -18,5 +18,4 @@ pub mod Events
 pub mod Texts
 pub mod Run
 pub mod Pieces
-pub mod Steps
 pub mod LossyText

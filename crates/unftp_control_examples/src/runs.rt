@@ -1,4 +1,4 @@
-//! Events, the texts of errors, runs of a handler, inputs in pieces, and the steps of a codec.
+//! Events, the texts of errors, runs of a handler, inputs in pieces.
 #![tactic(auto, unfolding(unftp_control_defs::proofs::Computing::at_bytes))]
 
 ghost use Rattle.std.specs.Prelude.{◌≡◌, ◌+◌, ◌==◌, ℕ, true, false, [], ◌∷◌, ◌++◌, Some, None, codes};
@@ -8,7 +8,6 @@ ghost use Rattle.unftp_control_defs.specs.FtpReply.{CodeAndMsg};
 ghost use Rattle.unftp_control_defs.specs.Run.{Law, run_of, ends, replies, last_state, text_for, after_lines, unread, after_end};
 ghost use Rattle.unftp_control_defs.specs.Pieces.{events_in_turn, events_in_turn, replies_in_turn};
 ghost use Rattle.unftp_control_defs.specs.TakingSteps.{TakesEvent, Pushed, Taken, AreTakingSteps, all_pushed, all_taken};
-ghost use Rattle.unftp_control_defs.specs.Steps.{AreSteps, last_place};
 ghost use Rattle.unftp_control_defs.specs.Texts.{error_text, kind_text, parse_error_text, reading_text};
 
 /// The fault that a refused line is reported as.
@@ -124,35 +123,6 @@ pub fn runs_end_so()
         × (replies_in_turn None law 0 []
         (codes "NO" ∷ codes "OP\nNOOP\nNO" ∷ codes "OP\n" ∷ [])
         ≡ CodeAndMsg 200 [] ∷ CodeAndMsg 201 [] ∷ []) }
-{}
-
-/// Steps of a codec.
-pub fn steps_follow_so()
-    ensures none { AreSteps 0 0 [] }
-    // four bytes without a line feed; seven more, which end a line of six bytes and one of five;
-    // these two lines
-    ensures lines { AreSteps 0 0
-        (record { added = 4; tests = 4; removed = 0; place = 4 }
-        ∷ record { added = 7; tests = 2; removed = 6; place = 0 }
-        ∷ record { added = 0; tests = 5; removed = 5; place = 0 } ∷ []) }
-    ensures more_tests { ¬ AreSteps 0 0
-        (record { added = 4; tests = 5; removed = 0; place = 4 } ∷ []) }
-    ensures fewer_tests { ¬ AreSteps 0 0
-        (record { added = 4; tests = 3; removed = 0; place = 4 } ∷ []) }
-    ensures place_past_the_end { ¬ AreSteps 0 0
-        (record { added = 4; tests = 5; removed = 0; place = 5 } ∷ []) }
-    ensures removed_past_the_end { ¬ AreSteps 0 0
-        (record { added = 4; tests = 5; removed = 5; place = 0 } ∷ []) }
-    ensures tested_again { ¬ AreSteps 0 0
-        (record { added = 4; tests = 4; removed = 0; place = 4 }
-        ∷ record { added = 1; tests = 5; removed = 5; place = 0 } ∷ []) }
-    ensures removed_again { ¬ AreSteps 0 0
-        (record { added = 4; tests = 4; removed = 4; place = 0 }
-        ∷ record { added = 0; tests = 4; removed = 4; place = 0 } ∷ []) }
-    ensures first_place { last_place 3 [] ≡ 3 }
-    ensures last_place { last_place 3
-        (record { added = 1; tests = 1; removed = 0; place = 4 }
-        ∷ record { added = 3; tests = 2; removed = 6; place = 0 } ∷ []) ≡ 0 }
 {}
 
 /// Which event the first line of pending bytes is, and which bytes are pending after it.

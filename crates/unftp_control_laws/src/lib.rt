@@ -18,7 +18,8 @@ ghost use Rattle.unftp_control_defs.specs.Lines.{IsLine, Lines, lines_of, incomp
 ghost use Rattle.unftp_control_defs.specs.LossyText.{Character, LossyText, first_part};
 ghost use Rattle.unftp_control_defs.specs.Outcome.{outcome};
 ghost use Rattle.unftp_control_defs.specs.Paths.{ListPath, path_of};
-ghost use Rattle.unftp_control_defs.specs.Steps.{AreSteps, Step, last_place};
+ghost use Rattle.unftp_control_codecs.specs.Calls.{AreDecodeCalls, DecodeCall};
+ghost use Rattle.unftp_control_codecs.specs.Codec.{Codec, new_codec};
 ghost use Rattle.unftp_control_defs.specs.Values.{Reads, HasNoValue, escaped};
 ghost use Rattle.unftp_control_defs.specs.ComputedValue.{value_of};
 ghost use Rattle.unftp_control_defs.specs.Verbs.{Cut, verb_of, parameter_of, upper};
@@ -199,12 +200,14 @@ pub fn limit_refuses_long_lines()
         → event_for (Some limit) line ≡ Refused line_too_long }
 {}
 
-/// Step by step from an empty buffer, a codec scans as many bytes as leave it and its place moves
-/// by, so at most those that were appended.
+/// From an empty buffer on, a codec scans as many bytes as left the buffer, and up to its scan offset
+/// those that are left: so at most those that were appended.
 pub fn tests_add_up()
-    ensures total { (steps : List Step) → AreSteps 0 0 steps
-        → sum_by (λ step. step.tests) steps
-        ≡ sum_by (λ step. step.removed) steps + last_place 0 steps }
-    ensures bound { (steps : List Step) → AreSteps 0 0 steps
-        → sum_by (λ step. step.tests) steps ≤ sum_by (λ step. step.added) steps }
+    ensures total { (limit : Option ℕ) (calls : List DecodeCall) (codec : Codec) (buffer : Bytes)
+        → AreDecodeCalls (new_codec limit) [] calls codec buffer
+        → codec.tests + length buffer
+        ≡ codec.place + sum_by (λ call. length call.appended) calls }
+    ensures bound { (limit : Option ℕ) (calls : List DecodeCall) (codec : Codec) (buffer : Bytes)
+        → AreDecodeCalls (new_codec limit) [] calls codec buffer
+        → codec.tests ≤ sum_by (λ call. length call.appended) calls }
 {}
