@@ -77,7 +77,7 @@ pub fn events_are_answered()
         → ⊥ }
 {}
 
-/// A client begins TLS after 234 with nothing behind it.
+/// A client begins TLS after 234 with nothing after it.
 pub fn tls_begins()
     ensures agreed { begins_tls (Some 234) [] ≡ true }
     ensures with_more { begins_tls (Some 234) (codes "2") ≡ true → ⊥ }

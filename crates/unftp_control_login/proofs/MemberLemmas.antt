@@ -155,7 +155,7 @@ sent-length (reply ∷ replies) sent =
     let same = sent-length replies sent.1 in
     rw ((shown reply sent.0).1) (omega (arith, same))
 
--- A handler that serves members alone, and sends plain replies, does so in bytes.
+-- A handler that serves only members, and sends plain replies, does so in bytes.
 module _ {S : Type 0} (law : Law S) (first : S) (accepts : Accounts) (serves : ServesMembersAlone accepts law first) (sends : SendsPlainReplies law) where
   after_login : (before : List FtpEvent) (s : S) (events : List FtpEvent) → last_state law first before ≡ s
       → AtEachPlace (AfterLogin accepts) before events (filter_map reply_as_read (replies law s events))

@@ -1,4 +1,4 @@
--- Who has logged in, by the events of the session alone (RFC 959, section 4.1.1).
+-- Who has logged in, by only the events of the session (RFC 959, section 4.1.1).
 use Rattle.std.specs.Prelude.{◌≡◌, Bool, true, false, IsTrue, List, ◌∷◌, ◌++◌}
 use Rattle.std.specs.List.{AllByRecursion}
 use Rattle.unftp_control_defs.specs.Bytes.{Bytes}

@@ -78,7 +78,7 @@ pub fn events_are_gated()
     ensures no_name { LearnsName counting only_anna 0 (user anna ∷ []) anna wrong → ⊥ }
 {}
 
-/// What serving members alone means, of events and of bytes.
+/// What serving only members means, of events and of bytes.
 pub fn members_are_served()
     ensures no_failure { NoFailure (CodeAndMsg 399 []) × NoFailure Nothing }
     ensures failure { NoFailure (CodeAndMsg 400 []) → ⊥ }

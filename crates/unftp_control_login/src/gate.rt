@@ -22,7 +22,7 @@ use unftp_control_reply::error::ControlChanError;
 use unftp_control_reply::{Reply, ReplyCode};
 use unftp_control_serve::{Event, Handler};
 
-/// Takes names and passwords, and passes on to the handler behind it what is allowed (RFC 959,
+/// Takes names and passwords, and passes on to its handler what is allowed (RFC 959,
 /// section 4.1.1).
 ///
 /// - USER is answered 331, whatever the name, and flushes the login. PASS is answered 230 where the
@@ -45,7 +45,7 @@ pub struct Gate<A: Accounts, H: Handler> {
 }
 
 impl<A: Accounts, H: Handler> Gate<A, H> {
-    /// A gate before the first event, in front of this handler.
+    /// A gate before the first event, over this handler.
     pub fn new(accounts: A, inner: H) -> Gate<A, H>
         ensures accounts { result.accounts ≡ accounts }
         ensures stage { result.stage ≡ Stage.NoName }
@@ -124,7 +124,7 @@ impl<A: Accounts, H: Handler> Handler for Gate<A, H> {
     ghost failures = { λ gate. gate.failures + H.failures gate.inner };
 
     /// The reply to an event. Out of memory is returned for a reply of its own, and every other
-    /// error is that of the handler behind it. Nobody is logged in by an event that fails.
+    /// error is that of its handler. Nobody is logged in by an event that fails.
     fn handle(&mut self, alloc: Global, event: Event) -> Result<Reply, ControlChanError>
         ensures says { IfOk result (λ reply. reply_of reply
             ≡ (gated_law H.law).says (gated A.accepts H.state self.old) (event_meant event)) }

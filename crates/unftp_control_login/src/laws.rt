@@ -13,7 +13,7 @@ ghost use Rattle.unftp_control_login.specs.Promises.{AllLookAlike, AnsweredAlike
 
 use unftp_control_serve::Handler;
 
-/// Whatever handler is behind the gate, and whatever came before: an event that needs a login comes
+/// Whatever handler the gate has, and whatever came before: an event that needs a login comes
 /// after one, or it is answered 530 and the handler doesn't receive it (RFC 959, section 5.4).
 pub fn gated_by_login<H: Handler>()
     ensures { (accepts : Accounts) (inner : H.State) (before : List FtpEvent) (event : FtpEvent)
@@ -35,7 +35,7 @@ pub fn members_reach_the_handler<H: Handler>()
         → LearnsName H.law accepts inner before name password }
 {}
 
-/// Whatever handler is behind the gate, and whatever a client sends: an event that needs a login is
+/// Whatever handler the gate has, and whatever a client sends: an event that needs a login is
 /// answered with no failure only after a login. With a limit before the gate, it stays so.
 pub fn members_alone_are_served<H: Handler>()
     ensures gate { (accepts : Accounts) (inner : H.State)

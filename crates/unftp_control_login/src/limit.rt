@@ -10,7 +10,7 @@ use unftp_control_reply::error::ControlChanError;
 use unftp_control_reply::{Reply, ReplyCode};
 use unftp_control_serve::{Event, Handler};
 
-/// Passes each event on to the handler behind it, and counts the logins that fail: each PASS whose
+/// Passes each event on to its handler, and counts the logins that fail: each PASS whose
 /// reply reports a failure. The last one that may fail is answered 421, and ends the session (RFC
 /// 959, section 5.4). A login that succeeds doesn't change the count.
 #[derive(Drop)]
@@ -21,7 +21,7 @@ pub struct LoginLimit<H: Handler> {
 }
 
 impl<H: Handler> LoginLimit<H> {
-    /// A limit before the first event, in front of this handler: `limit` logins may fail, and the
+    /// A limit before the first event, over this handler: `limit` logins may fail, and the
     /// last of them ends the session. It has to be at least 1.
     pub fn new(limit: u32, inner: H) -> LoginLimit<H>
         requires { 1 ≤ limit }

@@ -94,7 +94,7 @@ fn answer_lines<H: Handler, K: Sink>(
     }
 }
 
-/// Where an engine stands.
+/// How far an engine is.
 #[derive(Drop)]
 enum Phase {
     /// It takes the lines of what it is fed.

@@ -49,7 +49,7 @@ fn write_shown(writer: &mut Narrow, command: &Command, flags: u8) -> fmt::Result
     }
 }
 
-/// Writes what Display and Debug write of the password alone.
+/// Writes what Display and Debug write of only the password.
 fn write_password(writer: &mut Narrow, password: &Password, flags: u8) -> fmt::Result {
     match flags {
         5 => write!(writer, "{password}"),

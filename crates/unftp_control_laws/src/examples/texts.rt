@@ -26,7 +26,7 @@ pub fn quoted_paths_end_so()
     ensures two_paths { quoted (codes "a") ++ codes "\"b\"" ≡ quoted (codes "a\"b") }
 {}
 
-/// Texts in one line. A NUL of the text is not told from a line feed.
+/// Texts in one line. A NUL of the text is given as a line feed is.
 pub fn texts_are_single_lines_so()
     ensures empty { single_line [] ≡ [] }
     ensures plain { single_line (codes "a b") ≡ codes "a b" }
