@@ -94,7 +94,7 @@ fn answer_lines<H: Handler, K: Sink>(
     }
 }
 
-/// How far an engine is.
+/// Whether its session goes on.
 #[derive(Drop)]
 enum Phase {
     /// It takes the lines of what it is fed.
