@@ -1,23 +1,29 @@
 use Rattle.std.proofs.Common.{◌∙◌, ◌≡◌, ◌++◌, [], ◌∷◌, codes, refl, ap}
 use Rattle.unftp_control_defs.specs.Bytes.{Bytes}
-use Rattle.unftp_control_defs.specs.LossyText.{LossyText, ended, begun, first_part, part_text}
+use Rattle.unftp_control_defs.specs.LossyText.{LossyText, ended, character, ill_formed, first_part}
 use Rattle.unftp_control_examples.proofs.lossy.ill_formed_parts_are_replaced.Goals as goal
 
 pub returns : goal.returns
-unfolding lib.Utf8.encode
 returns c = record {
-  empty = ended [] [] refl refl;
-  text = begun (codes "ab") _ (codes "b") (λ e. cc) refl (begun (codes "b") _ [] (λ e. cc) refl (ended [] [] refl refl));
-  parts = begun (255 ∷ 226 ∷ 130 ∷ codes "b") _ (239 ∷ 191 ∷ 189 ∷ codes "b") (λ e. cc) refl (begun (226 ∷ 130 ∷ codes "b") _ (codes "b") (λ e. cc) refl (begun (codes "b") _ [] (λ e. cc) refl (ended [] [] refl refl)));
+  empty = ended;
+  text = character (codes "ab") (codes "b") 1 refl (character (codes "b") [] 1 refl ended);
+  parts = ill_formed (255 ∷ 226 ∷ 130 ∷ codes "b") _ 1 (λ e. cc) refl (ill_formed (226 ∷ 130 ∷ codes "b") _ 2 (λ e. cc) refl (character (codes "b") [] 1 refl ended));
+  overlong_kept = λ lossy. kept _ _ lossy refl refl;
   byte_dropped = λ lossy. dropped _ _ lossy refl refl;
   text_added = λ lossy. added _ _ lossy refl refl;
 }
   where
+    kept : (bytes text : Bytes) → LossyText bytes text → bytes ≡ 193 ∷ 128 ∷ [] → text ≡ 193 ∷ 128 ∷ [] → ⊥
+    kept _ _ ended p q = cc
+    kept _ _ (character bytes text n is rest) p q = let first = ap first_part p in cc
+    kept _ _ (ill_formed bytes text n some is rest) p q = cc
+
     dropped : (bytes text : Bytes) → LossyText bytes text → bytes ≡ 255 ∷ [] → text ≡ [] → ⊥
-    dropped _ _ (ended bytes text no_bytes no_text) p q = cc
-    dropped _ _ (begun bytes text more some is rest) p q =
-        let begins : text ≡ 239 ∷ 191 ∷ 189 ∷ more = is ∙ ap (λ b. part_text (first_part b) ++ more) p in cc
+    dropped _ _ ended p q = cc
+    dropped _ _ (character bytes text n is rest) p q = let first = ap first_part p in cc
+    dropped _ _ (ill_formed bytes text n some is rest) p q = cc
 
     added : (bytes text : Bytes) → LossyText bytes text → bytes ≡ [] → text ≡ codes "a" → ⊥
-    added _ _ (ended bytes text no_bytes no_text) p q = cc
-    added _ _ (begun bytes text more some is rest) p q = some p
+    added _ _ ended p q = cc
+    added _ _ (character bytes text n is rest) p q = let first = ap first_part p in cc
+    added _ _ (ill_formed bytes text n some is rest) p q = some p
