@@ -3,7 +3,7 @@
 use Rattle.std.proofs.Common.{◌≡◌, ◌≢◌, ◌<◌, ◌≤◌, ℕ, zero, suc, ◌+◌, Bool, true, false, cond, Option, Some, None, List, [], ◌∷◌, ◌++◌, length, take, drop, length-drop, encode_utf8, encode_utf8_all, refl, sym, ap, ◌∙◌, subst, arith, ⊎_elim}
 use Rattle.std.specs.Prelude.{◌==◌, is_some, fold, max}
 use Rattle.std.specs.Char.{IsScalar}
-use Rattle.std.specs.Int.{is_in_range}
+use Rattle.std.specs.Int.{is_in_range, IsInRange}
 use Rattle.std.specs.List.{list_any}
 use Rattle.std.specs.Str.Lossy.{utf8_lossy}
 use Rattle.std.proofs.lemmas.Bool.{cases_lt}
@@ -27,20 +27,24 @@ Decodes bytes n is_character = (n ≡ (decoded bytes).size) × (is_character ≡
 abbrev Fits : ℕ → List (ℕ × ℕ) → Bytes → Type 0
 Fits b others rest = Decodes (b ∷ rest) (1 + fitting_len others rest) (1 + fitting_len others rest == 1 + length others)
 
-two : (b : ℕ) (rest : Bytes) → 0xC2 ≤ b → b < 0xE0 → Fits b ((0x80, 0xBF) ∷ []) rest
-two b [] low high = grind (arith, nat_tests)
-two b (c ∷ rest) low high = grind (arith, nat_tests)
+two : (b : ℕ) (rest : Bytes) → IsInRange 0xC2 0xDF b → Fits b ((0x80, 0xBF) ∷ []) rest
+two b [] within = grind (arith, nat_tests)
+two b (c ∷ rest) within = grind (arith, nat_tests)
 
-three : (b lo hi : ℕ) (rest : Bytes) → 0xE0 ≤ b → b < 0xF0 → ((c : ℕ) → second b c ≡ is_in_range lo hi c) → Fits b ((lo, hi) ∷ (0x80, 0xBF) ∷ []) rest
-three b lo hi [] low high narrows = grind (arith, nat_tests)
-three b lo hi (c ∷ []) low high narrows = let t = narrows c in grind (arith, nat_tests, t)
-three b lo hi (c ∷ d ∷ rest) low high narrows = let t = narrows c in (grind (arith, nat_tests, t), grind (arith, nat_tests, t))
+-- the range that a row which begins with b has next
+abbrev Next : ℕ → ℕ × ℕ → Type 0
+Next b range = (c : ℕ) → second b c ≡ is_in_range range.0 range.1 c
 
-four : (b lo hi : ℕ) (rest : Bytes) → 0xF0 ≤ b → b ≤ 0xF4 → ((c : ℕ) → second b c ≡ is_in_range lo hi c) → Fits b ((lo, hi) ∷ (0x80, 0xBF) ∷ (0x80, 0xBF) ∷ []) rest
-four b lo hi [] low high narrows = grind (arith, nat_tests)
-four b lo hi (c ∷ []) low high narrows = let t = narrows c in grind (arith, nat_tests, t)
-four b lo hi (c ∷ d ∷ []) low high narrows = let t = narrows c in grind (arith, nat_tests, t)
-four b lo hi (c ∷ d ∷ e ∷ rest) low high narrows = let t = narrows c in (grind (arith, nat_tests, t), grind (arith, nat_tests, t))
+three : (b : ℕ) (range : ℕ × ℕ) (rest : Bytes) → IsInRange 0xE0 0xEF b → Next b range → Fits b (range ∷ (0x80, 0xBF) ∷ []) rest
+three b range [] within next = grind (arith, nat_tests)
+three b range (c ∷ []) within next = let t = next c in grind (arith, nat_tests, t)
+three b range (c ∷ d ∷ rest) within next = let t = next c in (grind (arith, nat_tests, t), grind (arith, nat_tests, t))
+
+four : (b : ℕ) (range : ℕ × ℕ) (rest : Bytes) → IsInRange 0xF0 0xF4 b → Next b range → Fits b (range ∷ (0x80, 0xBF) ∷ (0x80, 0xBF) ∷ []) rest
+four b range [] within next = grind (arith, nat_tests)
+four b range (c ∷ []) within next = let t = next c in grind (arith, nat_tests, t)
+four b range (c ∷ d ∷ []) within next = let t = next c in grind (arith, nat_tests, t)
+four b range (c ∷ d ∷ e ∷ rest) within next = let t = next c in (grind (arith, nat_tests, t), grind (arith, nat_tests, t))
 
 abbrev part_from : Option ℕ → ℕ → Part
 part_from None n = IllFormed n
@@ -54,9 +58,9 @@ abbrev IsFirst : Bytes → ℕ → Bool → Type 0
 IsFirst bytes n is_character = (fold (λ longest row. max longest (fitting_len row bytes)) 1 rows ≡ n)
     × (list_any (λ row. fitting_len row bytes == length row) rows ≡ is_character)
 
-by_row : (bytes : Bytes) (n : ℕ) (is_character : Bool) → IsFirst bytes n is_character → Decodes bytes n is_character
+by_row : {n : ℕ} {is_character : Bool} (bytes : Bytes) → IsFirst bytes n is_character → Decodes bytes n is_character
     → first_part bytes ≡ part_from (decoded bytes).char (decoded bytes).size
-by_row bytes n is_character first decodes =
+by_row bytes first decodes =
     let size = first.0 ∙ decodes.0 in
     let test = first.1 ∙ decodes.1 in
     (λ i. cond (test i) (Character (size i)) (IllFormed (size i))) ∙ part_from-test _ _
@@ -64,17 +68,17 @@ by_row bytes n is_character first decodes =
 first_part-decoded : (bytes : Bytes) → bytes ≢ [] → first_part bytes ≡ part_from (decoded bytes).char (decoded bytes).size
 first_part-decoded [] some = absurd (some refl)
 first_part-decoded (b ∷ rest) some =
-    ⊎_elim (λ u. by_row (b ∷ rest) 1 true (grind (arith, nat_tests)) (grind (arith, nat_tests))) (λ l.
-    ⊎_elim (λ u. by_row (b ∷ rest) 1 false (grind (arith, nat_tests)) (grind (arith, nat_tests))) (λ l.
-    ⊎_elim (λ u. by_row (b ∷ rest) _ _ (grind (arith, nat_tests)) (two b rest l u)) (λ l.
-    ⊎_elim (λ u. by_row (b ∷ rest) _ _ (grind (arith, nat_tests)) (three b 0xA0 0xBF rest l (omega arith) (λ c. grind (arith, nat_tests)))) (λ l.
-    ⊎_elim (λ u. by_row (b ∷ rest) _ _ (grind (arith, nat_tests)) (three b 0x80 0xBF rest (omega arith) (omega arith) (λ c. grind (arith, nat_tests)))) (λ l.
-    ⊎_elim (λ u. by_row (b ∷ rest) _ _ (grind (arith, nat_tests)) (three b 0x80 0x9F rest (omega arith) (omega arith) (λ c. grind (arith, nat_tests)))) (λ l.
-    ⊎_elim (λ u. by_row (b ∷ rest) _ _ (grind (arith, nat_tests)) (three b 0x80 0xBF rest (omega arith) u (λ c. grind (arith, nat_tests)))) (λ l.
-    ⊎_elim (λ u. by_row (b ∷ rest) _ _ (grind (arith, nat_tests)) (four b 0x90 0xBF rest l (omega arith) (λ c. grind (arith, nat_tests)))) (λ l.
-    ⊎_elim (λ u. by_row (b ∷ rest) _ _ (grind (arith, nat_tests)) (four b 0x80 0xBF rest (omega arith) (omega arith) (λ c. grind (arith, nat_tests)))) (λ l.
-    ⊎_elim (λ u. by_row (b ∷ rest) _ _ (grind (arith, nat_tests)) (four b 0x80 0x8F rest (omega arith) (omega arith) (λ c. grind (arith, nat_tests))))
-    (λ l. by_row (b ∷ rest) 1 false (grind (arith, nat_tests)) (grind (arith, nat_tests)))
+    ⊎_elim (λ u. by_row {n = 1} {is_character = true} (b ∷ rest) (grind (arith, nat_tests)) (grind (arith, nat_tests))) (λ l.
+    ⊎_elim (λ u. by_row {n = 1} {is_character = false} (b ∷ rest) (grind (arith, nat_tests)) (grind (arith, nat_tests))) (λ l.
+    ⊎_elim (λ u. by_row (b ∷ rest) (grind (arith, nat_tests)) (two b rest (omega arith))) (λ l.
+    ⊎_elim (λ u. by_row (b ∷ rest) (grind (arith, nat_tests)) (three b (0xA0, 0xBF) rest (omega arith) (λ c. grind (arith, nat_tests)))) (λ l.
+    ⊎_elim (λ u. by_row (b ∷ rest) (grind (arith, nat_tests)) (three b (0x80, 0xBF) rest (omega arith) (λ c. grind (arith, nat_tests)))) (λ l.
+    ⊎_elim (λ u. by_row (b ∷ rest) (grind (arith, nat_tests)) (three b (0x80, 0x9F) rest (omega arith) (λ c. grind (arith, nat_tests)))) (λ l.
+    ⊎_elim (λ u. by_row (b ∷ rest) (grind (arith, nat_tests)) (three b (0x80, 0xBF) rest (omega arith) (λ c. grind (arith, nat_tests)))) (λ l.
+    ⊎_elim (λ u. by_row (b ∷ rest) (grind (arith, nat_tests)) (four b (0x90, 0xBF) rest (omega arith) (λ c. grind (arith, nat_tests)))) (λ l.
+    ⊎_elim (λ u. by_row (b ∷ rest) (grind (arith, nat_tests)) (four b (0x80, 0xBF) rest (omega arith) (λ c. grind (arith, nat_tests)))) (λ l.
+    ⊎_elim (λ u. by_row (b ∷ rest) (grind (arith, nat_tests)) (four b (0x80, 0x8F) rest (omega arith) (λ c. grind (arith, nat_tests))))
+    (λ l. by_row {n = 1} {is_character = false} (b ∷ rest) (grind (arith, nat_tests)) (grind (arith, nat_tests)))
     (cases_lt b 0xF5)) (cases_lt b 0xF4)) (cases_lt b 0xF1)) (cases_lt b 0xF0)) (cases_lt b 0xEE)) (cases_lt b 0xED)) (cases_lt b 0xE1)) (cases_lt b 0xE0)) (cases_lt b 0xC2)) (cases_lt b 0x80)
 
 abbrev size_of : Part → ℕ
@@ -106,30 +110,27 @@ size-first : (bytes : Bytes) → bytes ≢ [] → size_of (first_part bytes) ≡
 size-first bytes some = ap size_of (first_part-decoded bytes some) ∙ size_of-from _ _
 
 -- part by part
-utf8_lossy-first : (bytes : Bytes) → bytes ≢ [] → utf8_lossy bytes ≡ text_of bytes (first_part bytes) ++ utf8_lossy (drop (size_of (first_part bytes)) bytes)
-utf8_lossy-first bytes some =
+utf8_lossy-first : (bytes : Bytes) (p : Part) → bytes ≢ [] → first_part bytes ≡ p → utf8_lossy bytes ≡ text_of bytes p ++ utf8_lossy (drop (size_of p) bytes)
+utf8_lossy-first bytes p some is =
     let first = sym (ap (text_of bytes) (first_part-decoded bytes some) ∙ text_of-from bytes _ refl) in
     let rest = lossy_chars-utf8_lossy (drop (decoded bytes).size bytes) ∙ ap (λ k. utf8_lossy (drop k bytes)) (sym (size-first bytes some)) in
     sym (lossy_chars-utf8_lossy bytes) ∙ ap encode_utf8_all (lossy_chars-step bytes (some_bytes bytes some)) ∙ (λ i. first i ++ rest i)
+    ∙ ap (λ q. text_of bytes q ++ utf8_lossy (drop (size_of q) bytes)) is
 
 utf8_lossy-nil : utf8_lossy [] ≡ []
 utf8_lossy-nil = sym (lossy_chars-utf8_lossy []) ∙ ap encode_utf8_all lossy_chars-nil
-
-utf8_lossy-from : (bytes text : Bytes) (p : Part) → bytes ≢ [] → first_part bytes ≡ p → utf8_lossy (drop (size_of p) bytes) ≡ text
-    → utf8_lossy bytes ≡ text_of bytes p ++ text
-utf8_lossy-from bytes text p some is rest =
-    utf8_lossy-first bytes some ∙ ap (λ q. text_of bytes q ++ utf8_lossy (drop (size_of q) bytes)) is ∙ ap (λ t. text_of bytes p ++ t) rest
 
 pub LossyText-unique : (bytes text : Bytes) → LossyText bytes text → utf8_lossy bytes ≡ text
 LossyText-unique _ _ ended = utf8_lossy-nil
 LossyText-unique _ _ (character bytes text n is rest) =
     let some : bytes ≢ [] = λ none. let first = ap first_part none in cc in
-    utf8_lossy-from bytes text _ some is (LossyText-unique _ _ rest)
-LossyText-unique _ _ (ill_formed bytes text n some is rest) = utf8_lossy-from bytes text _ some is (LossyText-unique _ _ rest)
+    utf8_lossy-first bytes _ some is ∙ ap (λ t. take n bytes ++ t) (LossyText-unique _ _ rest)
+LossyText-unique _ _ (ill_formed bytes text n some is rest) =
+    utf8_lossy-first bytes _ some is ∙ ap (λ t. 0xEF ∷ 0xBF ∷ 0xBD ∷ t) (LossyText-unique _ _ rest)
 
-begun : (bytes text : Bytes) (p : Part) → bytes ≢ [] → first_part bytes ≡ p → LossyText (drop (size_of p) bytes) text → LossyText bytes (text_of bytes p ++ text)
-begun bytes text (Character n) some is rest = character bytes text n is rest
-begun bytes text (IllFormed n) some is rest = ill_formed bytes text n some is rest
+begun : {bytes text : Bytes} (p : Part) → bytes ≢ [] → first_part bytes ≡ p → LossyText (drop (size_of p) bytes) text → LossyText bytes (text_of bytes p ++ text)
+begun (Character n) some is rest = character _ _ n is rest
+begun (IllFormed n) some is rest = ill_formed _ _ n some is rest
 
 LossyText-up_to : (n : ℕ) (bytes : Bytes) → length bytes ≤ n → LossyText bytes (utf8_lossy bytes)
 LossyText-up_to n [] h = subst (LossyText []) (sym utf8_lossy-nil) ended
@@ -139,9 +140,8 @@ LossyText-up_to (suc n) (b ∷ bytes) h =
     let some : all ≢ [] = λ e. cc in
     let bounds = piece-bounds all (omega arith) in
     let size = size-first all some in
-    let rest = drop (size_of (first_part all)) all in
-    subst (LossyText all) (sym (utf8_lossy-first all some))
-    (begun all (utf8_lossy rest) (first_part all) some refl (LossyText-up_to n rest (omega (arith, h, bounds.0, bounds.2, size, length-drop (size_of (first_part all)) all))))
+    let shorter = length-drop (size_of (first_part all)) all in
+    subst (LossyText all) (sym (utf8_lossy-first all _ some refl)) (begun (first_part all) some refl (LossyText-up_to n _ (omega (arith, h, bounds.0, bounds.2, size, shorter))))
 
 pub LossyText-utf8_lossy : (bytes : Bytes) → LossyText bytes (utf8_lossy bytes)
 LossyText-utf8_lossy bytes = LossyText-up_to (length bytes) bytes (omega arith)
