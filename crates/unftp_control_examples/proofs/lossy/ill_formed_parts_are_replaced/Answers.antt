@@ -1,4 +1,4 @@
-use Rattle.std.proofs.Common.{◌∙◌, ◌≡◌, ◌++◌, [], ◌∷◌, codes, refl, ap}
+use Rattle.std.proofs.Common.{◌≡◌, [], ◌∷◌, codes, refl, ap}
 use Rattle.unftp_control_defs.specs.Bytes.{Bytes}
 use Rattle.unftp_control_defs.specs.LossyText.{LossyText, ended, character, ill_formed, first_part}
 use Rattle.unftp_control_examples.proofs.lossy.ill_formed_parts_are_replaced.Goals as goal
