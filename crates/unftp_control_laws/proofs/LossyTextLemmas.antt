@@ -19,32 +19,32 @@ use Rattle.bstr.proofs.lemmas.UnicodeLemmas.{replacement_bytes}
 use Rattle.unftp_control_defs.specs.Bytes.{Bytes}
 use Rattle.unftp_control_defs.specs.LossyText.{rows, fitting_len, Part, Character, IllFormed, first_part, LossyText, ended, character, ill_formed}
 
--- `decoded` takes so many bytes, as a character or not
+-- how many bytes `decoded` takes, and whether they are a character
 abbrev Decodes : Bytes → ℕ → Bool → Type 0
 Decodes bytes n is_character = (n ≡ (decoded bytes).size) × (is_character ≡ is_some (decoded bytes).char)
 
--- `decoded` takes what fits a row whose first range has b, and whose others these are
+-- `decoded` takes what fits the row of b, of which these are the other ranges
 abbrev Fits : ℕ → List (ℕ × ℕ) → Bytes → Type 0
 Fits b others rest = Decodes (b ∷ rest) (1 + fitting_len others rest) (1 + fitting_len others rest == 1 + length others)
 
-two : (b : ℕ) (rest : Bytes) → IsInRange 0xC2 0xDF b → Fits b ((0x80, 0xBF) ∷ []) rest
-two b [] within = grind (arith, nat_tests)
-two b (c ∷ rest) within = grind (arith, nat_tests)
+Fits-two : (b : ℕ) (rest : Bytes) → IsInRange 0xC2 0xDF b → Fits b ((0x80, 0xBF) ∷ []) rest
+Fits-two b [] within = grind (arith, nat_tests)
+Fits-two b (c ∷ rest) within = grind (arith, nat_tests)
 
--- the range that a row which begins with b has next
-abbrev Next : ℕ → ℕ × ℕ → Type 0
-Next b range = (c : ℕ) → second b c ≡ is_in_range range.0 range.1 c
+-- after b `decoded` takes a byte of this range
+abbrev IsNext : ℕ → ℕ × ℕ → Type 0
+IsNext b range = (c : ℕ) → second b c ≡ is_in_range range.0 range.1 c
 
-three : (b : ℕ) (range : ℕ × ℕ) (rest : Bytes) → IsInRange 0xE0 0xEF b → Next b range → Fits b (range ∷ (0x80, 0xBF) ∷ []) rest
-three b range [] within next = grind (arith, nat_tests)
-three b range (c ∷ []) within next = let t = next c in grind (arith, nat_tests, t)
-three b range (c ∷ d ∷ rest) within next = let t = next c in (grind (arith, nat_tests, t), grind (arith, nat_tests, t))
+Fits-three : (b : ℕ) (range : ℕ × ℕ) (rest : Bytes) → IsInRange 0xE0 0xEF b → IsNext b range → Fits b (range ∷ (0x80, 0xBF) ∷ []) rest
+Fits-three b range [] within next = grind (arith, nat_tests)
+Fits-three b range (c ∷ []) within next = let t = next c in grind (arith, nat_tests, t)
+Fits-three b range (c ∷ d ∷ rest) within next = let t = next c in (grind (arith, nat_tests, t), grind (arith, nat_tests, t))
 
-four : (b : ℕ) (range : ℕ × ℕ) (rest : Bytes) → IsInRange 0xF0 0xF4 b → Next b range → Fits b (range ∷ (0x80, 0xBF) ∷ (0x80, 0xBF) ∷ []) rest
-four b range [] within next = grind (arith, nat_tests)
-four b range (c ∷ []) within next = let t = next c in grind (arith, nat_tests, t)
-four b range (c ∷ d ∷ []) within next = let t = next c in grind (arith, nat_tests, t)
-four b range (c ∷ d ∷ e ∷ rest) within next = let t = next c in (grind (arith, nat_tests, t), grind (arith, nat_tests, t))
+Fits-four : (b : ℕ) (range : ℕ × ℕ) (rest : Bytes) → IsInRange 0xF0 0xF4 b → IsNext b range → Fits b (range ∷ (0x80, 0xBF) ∷ (0x80, 0xBF) ∷ []) rest
+Fits-four b range [] within next = grind (arith, nat_tests)
+Fits-four b range (c ∷ []) within next = let t = next c in grind (arith, nat_tests, t)
+Fits-four b range (c ∷ d ∷ []) within next = let t = next c in grind (arith, nat_tests, t)
+Fits-four b range (c ∷ d ∷ e ∷ rest) within next = let t = next c in (grind (arith, nat_tests, t), grind (arith, nat_tests, t))
 
 abbrev part_from : Option ℕ → ℕ → Part
 part_from None n = IllFormed n
@@ -70,14 +70,14 @@ first_part-decoded [] some = absurd (some refl)
 first_part-decoded (b ∷ rest) some =
     ⊎_elim (λ u. by_row {n = 1} {is_character = true} (b ∷ rest) (grind (arith, nat_tests)) (grind (arith, nat_tests))) (λ l.
     ⊎_elim (λ u. by_row {n = 1} {is_character = false} (b ∷ rest) (grind (arith, nat_tests)) (grind (arith, nat_tests))) (λ l.
-    ⊎_elim (λ u. by_row (b ∷ rest) (grind (arith, nat_tests)) (two b rest (omega arith))) (λ l.
-    ⊎_elim (λ u. by_row (b ∷ rest) (grind (arith, nat_tests)) (three b (0xA0, 0xBF) rest (omega arith) (λ c. grind (arith, nat_tests)))) (λ l.
-    ⊎_elim (λ u. by_row (b ∷ rest) (grind (arith, nat_tests)) (three b (0x80, 0xBF) rest (omega arith) (λ c. grind (arith, nat_tests)))) (λ l.
-    ⊎_elim (λ u. by_row (b ∷ rest) (grind (arith, nat_tests)) (three b (0x80, 0x9F) rest (omega arith) (λ c. grind (arith, nat_tests)))) (λ l.
-    ⊎_elim (λ u. by_row (b ∷ rest) (grind (arith, nat_tests)) (three b (0x80, 0xBF) rest (omega arith) (λ c. grind (arith, nat_tests)))) (λ l.
-    ⊎_elim (λ u. by_row (b ∷ rest) (grind (arith, nat_tests)) (four b (0x90, 0xBF) rest (omega arith) (λ c. grind (arith, nat_tests)))) (λ l.
-    ⊎_elim (λ u. by_row (b ∷ rest) (grind (arith, nat_tests)) (four b (0x80, 0xBF) rest (omega arith) (λ c. grind (arith, nat_tests)))) (λ l.
-    ⊎_elim (λ u. by_row (b ∷ rest) (grind (arith, nat_tests)) (four b (0x80, 0x8F) rest (omega arith) (λ c. grind (arith, nat_tests))))
+    ⊎_elim (λ u. by_row (b ∷ rest) (grind (arith, nat_tests)) (Fits-two b rest (omega arith))) (λ l.
+    ⊎_elim (λ u. by_row (b ∷ rest) (grind (arith, nat_tests)) (Fits-three b (0xA0, 0xBF) rest (omega arith) (λ c. grind (arith, nat_tests)))) (λ l.
+    ⊎_elim (λ u. by_row (b ∷ rest) (grind (arith, nat_tests)) (Fits-three b (0x80, 0xBF) rest (omega arith) (λ c. grind (arith, nat_tests)))) (λ l.
+    ⊎_elim (λ u. by_row (b ∷ rest) (grind (arith, nat_tests)) (Fits-three b (0x80, 0x9F) rest (omega arith) (λ c. grind (arith, nat_tests)))) (λ l.
+    ⊎_elim (λ u. by_row (b ∷ rest) (grind (arith, nat_tests)) (Fits-three b (0x80, 0xBF) rest (omega arith) (λ c. grind (arith, nat_tests)))) (λ l.
+    ⊎_elim (λ u. by_row (b ∷ rest) (grind (arith, nat_tests)) (Fits-four b (0x90, 0xBF) rest (omega arith) (λ c. grind (arith, nat_tests)))) (λ l.
+    ⊎_elim (λ u. by_row (b ∷ rest) (grind (arith, nat_tests)) (Fits-four b (0x80, 0xBF) rest (omega arith) (λ c. grind (arith, nat_tests)))) (λ l.
+    ⊎_elim (λ u. by_row (b ∷ rest) (grind (arith, nat_tests)) (Fits-four b (0x80, 0x8F) rest (omega arith) (λ c. grind (arith, nat_tests))))
     (λ l. by_row {n = 1} {is_character = false} (b ∷ rest) (grind (arith, nat_tests)) (grind (arith, nat_tests)))
     (cases_lt b 0xF5)) (cases_lt b 0xF4)) (cases_lt b 0xF1)) (cases_lt b 0xF0)) (cases_lt b 0xEE)) (cases_lt b 0xED)) (cases_lt b 0xE1)) (cases_lt b 0xE0)) (cases_lt b 0xC2)) (cases_lt b 0x80)
 
@@ -93,14 +93,14 @@ size_of-from : (o : Option ℕ) (n : ℕ) → size_of (part_from o n) ≡ n
 size_of-from None n = refl
 size_of-from (Some c) n = refl
 
-spelled : (bytes : Bytes) (c : ℕ) → (decoded bytes).char ≡ Some c → take (decoded bytes).size bytes ≡ encode_utf8 c
-spelled bytes c is =
+take-decoded : (bytes : Bytes) (c : ℕ) → (decoded bytes).char ≡ Some c → take (decoded bytes).size bytes ≡ encode_utf8 c
+take-decoded bytes c is =
     let spells = SpellsChar-decoded bytes c is in
     ap (take (decoded bytes).size) spells.bytes ∙ take_at (encode_utf8 c) _ _ spells.width
 
 text_of-from : (bytes : Bytes) (o : Option ℕ) → (decoded bytes).char ≡ o → text_of bytes (part_from o (decoded bytes).size) ≡ encode_utf8 (or_replacement o)
 text_of-from bytes None is = sym replacement_bytes
-text_of-from bytes (Some c) is = spelled bytes c is
+text_of-from bytes (Some c) is = take-decoded bytes c is
 
 some_bytes : (bytes : Bytes) → bytes ≢ [] → 0 < length bytes
 some_bytes [] some = absurd (some refl)
@@ -159,4 +159,4 @@ first_part-scalar bytes n is =
   where
     by : (o : Option ℕ) → (decoded bytes).char ≡ o → Character n ≡ part_from o (decoded bytes).size → (c : ℕ) × IsScalar c × (take n bytes ≡ encode_utf8 c)
     by None found same = cc
-    by (Some c) found same = let size : n ≡ (decoded bytes).size = cc in (c, (SpellsChar-decoded bytes c found).scalar, ap (λ k. take k bytes) size ∙ spelled bytes c found)
+    by (Some c) found same = let size : n ≡ (decoded bytes).size = cc in (c, (SpellsChar-decoded bytes c found).scalar, ap (λ k. take k bytes) size ∙ take-decoded bytes c found)
