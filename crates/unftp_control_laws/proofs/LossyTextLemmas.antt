@@ -47,12 +47,7 @@ Fits-four b range (c ∷ d ∷ []) within next = let t = next c in grind (arith,
 Fits-four b range (c ∷ d ∷ e ∷ rest) within next = let t = next c in (grind (arith, nat_tests, t), grind (arith, nat_tests, t))
 
 abbrev part_from : Option ℕ → ℕ → Part
-part_from None n = IllFormed n
-part_from (Some c) n = Character n
-
-part_from-test : (o : Option ℕ) (n : ℕ) → cond (is_some o) (Character n) (IllFormed n) ≡ part_from o n
-part_from-test None n = refl
-part_from-test (Some c) n = refl
+part_from o n = cond (is_some o) (Character n) (IllFormed n)
 
 abbrev IsFirst : Bytes → ℕ → Bool → Type 0
 IsFirst bytes n is_character = (fold (λ longest row. max longest (fitting_len row bytes)) 1 rows ≡ n)
@@ -63,7 +58,7 @@ by_row : {n : ℕ} {is_character : Bool} (bytes : Bytes) → IsFirst bytes n is_
 by_row bytes first decodes =
     let size = first.0 ∙ decodes.0 in
     let test = first.1 ∙ decodes.1 in
-    (λ i. cond (test i) (Character (size i)) (IllFormed (size i))) ∙ part_from-test _ _
+    λ i. cond (test i) (Character (size i)) (IllFormed (size i))
 
 first_part-decoded : (bytes : Bytes) → bytes ≢ [] → first_part bytes ≡ part_from (decoded bytes).char (decoded bytes).size
 first_part-decoded [] some = absurd (some refl)
@@ -106,16 +101,13 @@ some_bytes : (bytes : Bytes) → bytes ≢ [] → 0 < length bytes
 some_bytes [] some = absurd (some refl)
 some_bytes (b ∷ bytes) some = omega arith
 
-size-first : (bytes : Bytes) → bytes ≢ [] → size_of (first_part bytes) ≡ (decoded bytes).size
-size-first bytes some = ap size_of (first_part-decoded bytes some) ∙ size_of-from _ _
-
 -- part by part
 utf8_lossy-first : (bytes : Bytes) (p : Part) → bytes ≢ [] → first_part bytes ≡ p → utf8_lossy bytes ≡ text_of bytes p ++ utf8_lossy (drop (size_of p) bytes)
 utf8_lossy-first bytes p some is =
-    let first = sym (ap (text_of bytes) (first_part-decoded bytes some) ∙ text_of-from bytes _ refl) in
-    let rest = lossy_chars-utf8_lossy (drop (decoded bytes).size bytes) ∙ ap (λ k. utf8_lossy (drop k bytes)) (sym (size-first bytes some)) in
+    let first = sym (text_of-from bytes _ refl) in
+    let rest = lossy_chars-utf8_lossy (drop (decoded bytes).size bytes) ∙ ap (λ k. utf8_lossy (drop k bytes)) (sym (size_of-from (decoded bytes).char _)) in
     sym (lossy_chars-utf8_lossy bytes) ∙ ap encode_utf8_all (lossy_chars-step bytes (some_bytes bytes some)) ∙ (λ i. first i ++ rest i)
-    ∙ ap (λ q. text_of bytes q ++ utf8_lossy (drop (size_of q) bytes)) is
+    ∙ ap (λ q. text_of bytes q ++ utf8_lossy (drop (size_of q) bytes)) (sym (first_part-decoded bytes some) ∙ is)
 
 utf8_lossy-nil : utf8_lossy [] ≡ []
 utf8_lossy-nil = sym (lossy_chars-utf8_lossy []) ∙ ap encode_utf8_all lossy_chars-nil
@@ -139,7 +131,7 @@ LossyText-up_to (suc n) (b ∷ bytes) h =
     let all = b ∷ bytes in
     let some : all ≢ [] = λ e. cc in
     let bounds = piece-bounds all (omega arith) in
-    let size = size-first all some in
+    let size = ap size_of (first_part-decoded all some) ∙ size_of-from (decoded all).char _ in
     let shorter = length-drop (size_of (first_part all)) all in
     subst (LossyText all) (sym (utf8_lossy-first all _ some refl)) (begun (first_part all) some refl (LossyText-up_to n _ (omega (arith, h, bounds.0, bounds.2, size, shorter))))
 
