@@ -61,8 +61,8 @@ pub fn one_path()
 {}
 
 /// The text of bytes, with U+FFFD for each ill-formed part, is the one that
-/// `String::from_utf8_lossy` gives, and no other. The bytes of a character are its part, whatever
-/// follows, and a character's part has no other bytes (Unicode, section 3.9).
+/// `String::from_utf8_lossy` gives, and no other. The encoding of a scalar value is one part,
+/// whatever follows, and no other part is a character (Unicode, section 3.9).
 pub fn one_lossy_text()
     ensures text { (bytes text : Bytes) → LossyText bytes text ↔ (utf8_lossy bytes ≡ text) }
     ensures character { (c : ℕ) (more : Bytes) → IsScalar c
