@@ -1,61 +1,43 @@
--- A text whose ill-formed UTF-8 is replaced, from left to right: U+FFFD replaces the longest part
--- that begins a character, or for one byte where none begins (Unicode, section 3.9 and table 3-7).
--- Rust's `String::from_utf8_lossy` gives it.
-use Rattle.std.specs.Prelude.{◌≡◌, ◌≢◌, ℕ, ◌+◌, ◌-◌, ◌*◌, Bool, nat_lt, ◌==◌, ◌&&◌, if◌then◌else◌, [], ◌∷◌, ◌++◌, length, drop, slice_index, encode_utf8}
+-- A text whose ill-formed UTF-8 is replaced by U+FFFD, part by part (Unicode, section 3.9, "U+FFFD
+-- Substitution of Maximal Subparts"). Rust's `String::from_utf8_lossy` gives it.
+use Rattle.std.specs.Prelude.{◌≡◌, ◌≢◌, ℕ, max, ◌==◌, if◌then◌else◌, List, [], ◌∷◌, ◌++◌, length, take, drop, fold}
+use Rattle.std.specs.Int.{is_in_range}
+use Rattle.std.specs.List.{common_prefix_len, list_any}
 use Rattle.unftp_control_defs.specs.Bytes.{Bytes}
 
--- what some bytes begin with: a character and the number of its bytes, or so many bytes that are
--- none
+-- the bytes of a character: in each row the first and the last value of each (Unicode, table 3-7,
+-- "Well-Formed UTF-8 Byte Sequences")
+abbrev pub rows : List (List (ℕ × ℕ))
+rows = ((0x00, 0x7F) ∷ [])
+    ∷ ((0xC2, 0xDF) ∷ (0x80, 0xBF) ∷ [])
+    ∷ ((0xE0, 0xE0) ∷ (0xA0, 0xBF) ∷ (0x80, 0xBF) ∷ [])
+    ∷ ((0xE1, 0xEC) ∷ (0x80, 0xBF) ∷ (0x80, 0xBF) ∷ [])
+    ∷ ((0xED, 0xED) ∷ (0x80, 0x9F) ∷ (0x80, 0xBF) ∷ [])
+    ∷ ((0xEE, 0xEF) ∷ (0x80, 0xBF) ∷ (0x80, 0xBF) ∷ [])
+    ∷ ((0xF0, 0xF0) ∷ (0x90, 0xBF) ∷ (0x80, 0xBF) ∷ (0x80, 0xBF) ∷ [])
+    ∷ ((0xF1, 0xF3) ∷ (0x80, 0xBF) ∷ (0x80, 0xBF) ∷ (0x80, 0xBF) ∷ [])
+    ∷ ((0xF4, 0xF4) ∷ (0x80, 0x8F) ∷ (0x80, 0xBF) ∷ (0x80, 0xBF) ∷ [])
+    ∷ []
+
+-- how many bytes at the start are in the row's ranges, each in its own
+abbrev pub fitting_len : List (ℕ × ℕ) → Bytes → ℕ
+fitting_len row bytes = common_prefix_len (λ (first, last) b. is_in_range first last b) row bytes
+
+-- what bytes begin with: a character of so many bytes, or so many ill-formed bytes
 pub data Part : Type 0 where
-  Character : ℕ → ℕ → Part
+  Character : ℕ → Part
   IllFormed : ℕ → Part
 
--- the byte may be a character's third or fourth
-abbrev pub continues : ℕ → Bool
-continues c = nat_lt 0x7F c && nat_lt c 0xC0
-
--- the byte c may come after the first byte b
-abbrev pub may_follow : ℕ → ℕ → Bool
-may_follow b c = if b == 0xE0 then nat_lt 0x9F c && nat_lt c 0xC0
-    else (if b == 0xED then nat_lt 0x7F c && nat_lt c 0xA0
-    else (if b == 0xF0 then nat_lt 0x8F c && nat_lt c 0xC0
-    else (if b == 0xF4 then nat_lt 0x7F c && nat_lt c 0x90
-    else continues c)))
-
--- the part at the start of n bytes, of which the first are b, c, d and e
-abbrev pub part_of : ℕ → ℕ → ℕ → ℕ → ℕ → Part
-part_of n b c d e =
-    if n == 0 then IllFormed 0
-    else (if nat_lt b 0x80 then Character b 1
-    else (if nat_lt b 0xC2 then IllFormed 1
-    else (if nat_lt 0xF4 b then IllFormed 1
-    else (if nat_lt n 2 then IllFormed 1
-    else (if may_follow b c then (if nat_lt b 0xE0 then Character ((b - 0xC0) * 64 + (c - 0x80)) 2
-    else (if nat_lt n 3 then IllFormed 2
-    else (if continues d
-    then (if nat_lt b 0xF0 then Character (((b - 0xE0) * 64 + (c - 0x80)) * 64 + (d - 0x80)) 3
-    else (if nat_lt n 4 then IllFormed 3
-    else (if continues e
-    then Character ((((b - 0xF0) * 64 + (c - 0x80)) * 64 + (d - 0x80)) * 64 + (e - 0x80)) 4
-    else IllFormed 3)))
-    else IllFormed 2)))
-    else IllFormed 1)))))
-
+-- A character fits a row in full. Any other part is as many bytes as fit a row, but at least one.
 abbrev pub first_part : Bytes → Part
-first_part bytes = part_of (length bytes) (slice_index bytes 0) (slice_index bytes 1)
-    (slice_index bytes 2) (slice_index bytes 3)
+first_part bytes =
+    let n = fold (λ longest row. max longest (fitting_len row bytes)) 1 rows in
+    if list_any (λ row. fitting_len row bytes == length row) rows then Character n else IllFormed n
 
-abbrev pub part_len : Part → ℕ
-part_len (Character c n) = n
-part_len (IllFormed n) = n
-
--- the bytes that spell it
-abbrev pub part_text : Part → Bytes
-part_text (Character c n) = encode_utf8 c
-part_text (IllFormed n) = 0xEF ∷ 0xBF ∷ 0xBD ∷ []
-
--- the text of the bytes, part by part
+-- the text of the bytes: a character stays, and U+FFFD replaces any other part
 pub data LossyText : Bytes → Bytes → Type 0 where
-  ended : (bytes text : Bytes) → bytes ≡ [] → text ≡ [] → LossyText bytes text
-  begun : (bytes text more : Bytes) → bytes ≢ [] → text ≡ part_text (first_part bytes) ++ more
-      → LossyText (drop (part_len (first_part bytes)) bytes) more → LossyText bytes text
+  ended : LossyText [] []
+  character : (bytes text : Bytes) (n : ℕ) → first_part bytes ≡ Character n
+      → LossyText (drop n bytes) text → LossyText bytes (take n bytes ++ text)
+  ill_formed : (bytes text : Bytes) (n : ℕ) → bytes ≢ [] → first_part bytes ≡ IllFormed n
+      → LossyText (drop n bytes) text → LossyText bytes (0xEF ∷ 0xBF ∷ 0xBD ∷ text)

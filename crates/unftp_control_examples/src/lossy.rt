@@ -4,37 +4,54 @@
 ghost use Rattle.std.specs.Prelude.{◌≡◌, [], ◌∷◌, ◌++◌, codes};
 ghost use Rattle.unftp_control_defs.specs.LossyText.{Character, IllFormed, LossyText, first_part};
 
-/// What bytes begin with, at the bounds of Unicode's table 3-7.
-pub fn bytes_begin_so()
-    ensures ascii { first_part (127 ∷ []) ≡ Character 127 1 }
-    ensures continuation { first_part (128 ∷ []) ≡ IllFormed 1 }
-    ensures overlong_two { first_part (193 ∷ 128 ∷ []) ≡ IllFormed 1 }
-    ensures least_of_two { first_part (194 ∷ 128 ∷ []) ≡ Character 128 2 }
-    ensures greatest_of_two { first_part (223 ∷ 191 ∷ []) ≡ Character 2047 2 }
-    ensures overlong_three { first_part (224 ∷ 159 ∷ 191 ∷ []) ≡ IllFormed 1 }
-    ensures least_of_three { first_part (224 ∷ 160 ∷ 128 ∷ []) ≡ Character 2048 3 }
-    ensures before_the_surrogates { first_part (237 ∷ 159 ∷ 191 ∷ []) ≡ Character 55295 3 }
-    ensures surrogate { first_part (237 ∷ 160 ∷ 128 ∷ []) ≡ IllFormed 1 }
-    ensures greatest_of_three { first_part (239 ∷ 191 ∷ 191 ∷ []) ≡ Character 65535 3 }
-    ensures overlong_four { first_part (240 ∷ 143 ∷ 191 ∷ 191 ∷ []) ≡ IllFormed 1 }
-    ensures least_of_four { first_part (240 ∷ 144 ∷ 128 ∷ 128 ∷ []) ≡ Character 65536 4 }
-    ensures greatest_of_four { first_part (244 ∷ 143 ∷ 191 ∷ 191 ∷ []) ≡ Character 1114111 4 }
-    ensures past_the_last { first_part (244 ∷ 144 ∷ 128 ∷ 128 ∷ []) ≡ IllFormed 1 }
-    ensures no_first_byte { first_part (245 ∷ 128 ∷ 128 ∷ 128 ∷ []) ≡ IllFormed 1 }
-    ensures second_missing { first_part (226 ∷ []) ≡ IllFormed 1 }
-    ensures third_missing { first_part (226 ∷ 130 ∷ []) ≡ IllFormed 2 }
-    ensures third_other { first_part (226 ∷ 130 ∷ 65 ∷ []) ≡ IllFormed 2 }
-    ensures third_above { first_part (226 ∷ 130 ∷ 192 ∷ []) ≡ IllFormed 2 }
-    ensures fourth_missing { first_part (240 ∷ 159 ∷ 146 ∷ []) ≡ IllFormed 3 }
-    ensures fourth_other { first_part (240 ∷ 159 ∷ 146 ∷ 127 ∷ []) ≡ IllFormed 3 }
+/// The least and the greatest character of each row of Unicode's table 3-7.
+pub fn rows_have_characters()
+    ensures least_of_00_to_7f { first_part (0x00 ∷ []) ≡ Character 1 }
+    ensures greatest_of_00_to_7f { first_part (0x7F ∷ []) ≡ Character 1 }
+    ensures least_of_c2_to_df { first_part (0xC2 ∷ 0x80 ∷ []) ≡ Character 2 }
+    ensures greatest_of_c2_to_df { first_part (0xDF ∷ 0xBF ∷ []) ≡ Character 2 }
+    ensures least_of_e0 { first_part (0xE0 ∷ 0xA0 ∷ 0x80 ∷ []) ≡ Character 3 }
+    ensures greatest_of_e0 { first_part (0xE0 ∷ 0xBF ∷ 0xBF ∷ []) ≡ Character 3 }
+    ensures least_of_e1_to_ec { first_part (0xE1 ∷ 0x80 ∷ 0x80 ∷ []) ≡ Character 3 }
+    ensures greatest_of_e1_to_ec { first_part (0xEC ∷ 0xBF ∷ 0xBF ∷ []) ≡ Character 3 }
+    ensures least_of_ed { first_part (0xED ∷ 0x80 ∷ 0x80 ∷ []) ≡ Character 3 }
+    ensures greatest_of_ed { first_part (0xED ∷ 0x9F ∷ 0xBF ∷ []) ≡ Character 3 }
+    ensures least_of_ee_to_ef { first_part (0xEE ∷ 0x80 ∷ 0x80 ∷ []) ≡ Character 3 }
+    ensures greatest_of_ee_to_ef { first_part (0xEF ∷ 0xBF ∷ 0xBF ∷ []) ≡ Character 3 }
+    ensures least_of_f0 { first_part (0xF0 ∷ 0x90 ∷ 0x80 ∷ 0x80 ∷ []) ≡ Character 4 }
+    ensures greatest_of_f0 { first_part (0xF0 ∷ 0xBF ∷ 0xBF ∷ 0xBF ∷ []) ≡ Character 4 }
+    ensures least_of_f1_to_f3 { first_part (0xF1 ∷ 0x80 ∷ 0x80 ∷ 0x80 ∷ []) ≡ Character 4 }
+    ensures greatest_of_f1_to_f3 { first_part (0xF3 ∷ 0xBF ∷ 0xBF ∷ 0xBF ∷ []) ≡ Character 4 }
+    ensures least_of_f4 { first_part (0xF4 ∷ 0x80 ∷ 0x80 ∷ 0x80 ∷ []) ≡ Character 4 }
+    ensures greatest_of_f4 { first_part (0xF4 ∷ 0x8F ∷ 0xBF ∷ 0xBF ∷ []) ≡ Character 4 }
+    ensures bytes_after_it { first_part (0xC2 ∷ 0x80 ∷ 0x80 ∷ []) ≡ Character 2 }
 {}
 
-/// Texts in which U+FFFD, 239 191 189, replaces each ill-formed part.
+/// Bytes that begin no character, and how many of them one U+FFFD replaces.
+pub fn ill_formed_parts_begin_so()
+    ensures continuation { first_part (0x80 ∷ []) ≡ IllFormed 1 }
+    ensures overlong_two { first_part (0xC1 ∷ 0x80 ∷ []) ≡ IllFormed 1 }
+    ensures overlong_three { first_part (0xE0 ∷ 0x9F ∷ 0xBF ∷ []) ≡ IllFormed 1 }
+    ensures surrogate { first_part (0xED ∷ 0xA0 ∷ 0x80 ∷ []) ≡ IllFormed 1 }
+    ensures overlong_four { first_part (0xF0 ∷ 0x8F ∷ 0xBF ∷ 0xBF ∷ []) ≡ IllFormed 1 }
+    ensures past_the_last { first_part (0xF4 ∷ 0x90 ∷ 0x80 ∷ 0x80 ∷ []) ≡ IllFormed 1 }
+    ensures no_first_byte { first_part (0xF5 ∷ 0x80 ∷ 0x80 ∷ 0x80 ∷ []) ≡ IllFormed 1 }
+    ensures second_missing { first_part (0xE2 ∷ []) ≡ IllFormed 1 }
+    ensures third_missing { first_part (0xE2 ∷ 0x82 ∷ []) ≡ IllFormed 2 }
+    ensures third_below { first_part (0xE2 ∷ 0x82 ∷ 0x7F ∷ []) ≡ IllFormed 2 }
+    ensures third_above { first_part (0xE2 ∷ 0x82 ∷ 0xC0 ∷ []) ≡ IllFormed 2 }
+    ensures fourth_missing { first_part (0xF0 ∷ 0x9F ∷ 0x92 ∷ []) ≡ IllFormed 3 }
+    ensures fourth_below { first_part (0xF0 ∷ 0x9F ∷ 0x92 ∷ 0x7F ∷ []) ≡ IllFormed 3 }
+    ensures fourth_above { first_part (0xF0 ∷ 0x9F ∷ 0x92 ∷ 0xC0 ∷ []) ≡ IllFormed 3 }
+{}
+
+/// Texts in which U+FFFD, EF BF BD, replaces each ill-formed part.
 pub fn ill_formed_parts_are_replaced()
     ensures empty { LossyText [] [] }
     ensures text { LossyText (codes "ab") (codes "ab") }
-    ensures parts { LossyText (255 ∷ 226 ∷ 130 ∷ codes "b")
-        (239 ∷ 191 ∷ 189 ∷ 239 ∷ 191 ∷ 189 ∷ codes "b") }
-    ensures byte_dropped { ¬ LossyText (255 ∷ []) [] }
+    ensures parts { LossyText (0xFF ∷ 0xE2 ∷ 0x82 ∷ codes "b")
+        (0xEF ∷ 0xBF ∷ 0xBD ∷ 0xEF ∷ 0xBF ∷ 0xBD ∷ codes "b") }
+    ensures overlong_kept { ¬ LossyText (0xC1 ∷ 0x80 ∷ []) (0xC1 ∷ 0x80 ∷ []) }
+    ensures byte_dropped { ¬ LossyText (0xFF ∷ []) [] }
     ensures text_added { ¬ LossyText [] (codes "a") }
 {}

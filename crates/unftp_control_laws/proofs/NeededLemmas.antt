@@ -1,5 +1,5 @@
 -- Reads that a client needs, and reads that it does not need.
-use Rattle.std.proofs.Common.{◌≡◌, ℕ, ◌+◌, ◌≤◌, [], ◌∷◌, ◌++◌, codes, replicate, take, Some, None, inl, inr, length, refl, sym, ap, ◌∙◌, subst, arith, lit<, lit≤, length-append}
+use Rattle.std.proofs.Common.{[], ◌∷◌, ◌++◌, codes, Some, None, inl, inr, refl, arith, lit<, lit≤, length-append}
 use Rattle.std.specs.Fmt.{digits}
 use Rattle.unftp_control_defs.specs.Bytes.{Bytes, LF, Lacks}
 use Rattle.unftp_control_defs.specs.FtpReply.{CodeAndMsg}
@@ -7,7 +7,6 @@ use Rattle.unftp_control_defs.specs.ReplyReader.{FrontReply, IsPartial, LacksCrl
 use Rattle.unftp_control_defs.proofs.LackLemmas.{Lacks-test}
 use Rattle.unftp_control_defs.proofs.EncodingLemmas.{FrontReply-encoded}
 use Rattle.unftp_control_defs.proofs.ReplyCasesLemmas.{lacks_nil, lacks_one, lacks_more, front_is_whole}
-use Rattle.unftp_control_defs.proofs.ReplyLimitLemmas.{IsPartial-take}
 use Rattle.unftp_control_read.specs.ReplyDecoding.{appended, nothing_pending}
 use Rattle.unftp_control_read.specs.Receiving.{IsNeeded}
 

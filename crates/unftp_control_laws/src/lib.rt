@@ -63,12 +63,14 @@ pub fn one_path()
 {}
 
 /// The text of bytes, with U+FFFD for each ill-formed part, is the one that
-/// `String::from_utf8_lossy` gives, and no other; and the bytes of a character are its part,
-/// whatever follows (Unicode, section 3.9).
+/// `String::from_utf8_lossy` gives, and no other. The encoding of a scalar value is one part,
+/// whatever follows, and no other part is a character (Unicode, section 3.9).
 pub fn one_lossy_text()
     ensures text { (bytes text : Bytes) → LossyText bytes text ↔ (utf8_lossy bytes ≡ text) }
     ensures character { (c : ℕ) (more : Bytes) → IsScalar c
-        → first_part (encode_utf8 c ++ more) ≡ Character c (length (encode_utf8 c)) }
+        → first_part (encode_utf8 c ++ more) ≡ Character (length (encode_utf8 c)) }
+    ensures no_other { (bytes : Bytes) (n : ℕ) → first_part bytes ≡ Character n
+        → (c : ℕ) × IsScalar c × (take n bytes ≡ encode_utf8 c) }
 {}
 
 /// Lines that differ only in the case of the ASCII letters of their verb have one outcome, and so

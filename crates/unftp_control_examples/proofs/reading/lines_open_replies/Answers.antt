@@ -1,6 +1,5 @@
-use Rattle.std.proofs.Common.{[], codes, refl, arith, inl, inr}
-use Rattle.unftp_control_defs.proofs.ReplyCasesLemmas.{opens_not}
-use Rattle.unftp_control_examples.proofs.ReadExampleLemmas.{spells_211, length-Opens, third-Opens}
+use Rattle.std.proofs.Common.{[], codes, refl, inl, inr}
+use Rattle.unftp_control_examples.proofs.ReadExampleLemmas.{spells_211}
 use Rattle.unftp_control_examples.proofs.reading.lines_open_replies.Goals as goal
 
 pub returns-clause-code_only : goal.returns-clause-code_only
