@@ -1,4 +1,4 @@
-use Rattle.std.proofs.Common.{arith}
+use Rattle.std.proofs.Common.{[], arith}
 use Rattle.unftp_control_laws.proofs.StepLemmas.{scans_of_calls}
 use Rattle.unftp_control_laws.proofs.tests_add_up.Goals as goal
 
