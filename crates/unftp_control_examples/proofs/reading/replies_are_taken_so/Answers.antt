@@ -1,6 +1,5 @@
-use Rattle.std.proofs.Common.{codes, refl, inl}
-use Rattle.unftp_control_defs.proofs.ReplyCasesLemmas.{front_is_whole}
-use Rattle.unftp_control_examples.proofs.ReadExampleLemmas.{LacksCrlf-test, front_of_text}
+use Rattle.std.proofs.Common.{codes, refl}
+use Rattle.unftp_control_examples.proofs.ReadExampleLemmas.{front_of_text}
 use Rattle.unftp_control_examples.proofs.reading.replies_are_taken_so.Goals as goal
 
 pub returns-clause-two_pieces : goal.returns-clause-two_pieces

@@ -1,6 +1,4 @@
-use Rattle.std.proofs.Common.{[], codes, refl, inl}
-use Rattle.unftp_control_defs.proofs.ReplyUniqueLemmas.{FrontReply-unique}
-use Rattle.unftp_control_defs.proofs.ReplyCasesLemmas.{lacks_nil, front_is_whole}
+use Rattle.std.proofs.Common.{codes, refl}
 use Rattle.unftp_control_examples.proofs.ReadExampleLemmas.{front_of_text}
 use Rattle.unftp_control_examples.proofs.reading.replies_follow_one_another_so.Goals as goal
 
