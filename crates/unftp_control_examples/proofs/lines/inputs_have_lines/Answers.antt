@@ -1,4 +1,4 @@
-use Rattle.std.proofs.Common.{[], codes}
+use Rattle.std.proofs.Common.{codes}
 use Rattle.unftp_control_defs.proofs.LineLemmas.{Lines-lines_of, Lines-unique}
 use Rattle.unftp_control_examples.proofs.lines.inputs_have_lines.Goals as goal
 

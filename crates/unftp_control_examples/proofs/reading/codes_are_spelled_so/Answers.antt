@@ -1,5 +1,4 @@
-use Rattle.std.proofs.Common.{◌≡◌, ◌+◌, codes, refl, arith, lit<}
-use Rattle.unftp_control_defs.proofs.ReplyUniqueLemmas.{code_length, code_unique}
+use Rattle.std.proofs.Common.{refl, lit<}
 use Rattle.unftp_control_examples.proofs.reading.codes_are_spelled_so.Goals as goal
 
 pub returns-clause-each_place : goal.returns-clause-each_place

@@ -1,5 +1,4 @@
 use Rattle.std.proofs.Common.{[], codes, refl}
-use Rattle.unftp_control_examples.proofs.ReadExampleLemmas.{GoesOn-test}
 use Rattle.unftp_control_examples.proofs.reading.lines_go_on_so.Goals as goal
 
 pub returns-clause-text : goal.returns-clause-text
