@@ -89,6 +89,9 @@ pushed_kept p piece h = rw h refl
 pub record WithinLimit (limit : Option ℕ) (bytes searched : Bytes) : Type 0 where
   pub is : searched ≡ within_limit limit bytes
 
+pub within : (limit : Option ℕ) (start : ℕ) {buf slice pending searched : Bytes} → slice ≡ buf → pending ≡ drop start slice → searched ≡ within_limit limit pending → WithinLimit limit (drop start buf) searched
+within limit start is back first = record { is = first ∙ ap (within_limit limit) (back ∙ ap (drop start) is) }
+
 module _ {limit : Option ℕ} {bytes searched : Bytes} (w : WithinLimit limit bytes searched) where
   pub searched_length : length searched ≤ length bytes
   searched_length = rw w.is (no_longer limit bytes)

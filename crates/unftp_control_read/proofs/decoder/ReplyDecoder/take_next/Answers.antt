@@ -2,18 +2,15 @@ use Rattle.std.proofs.Common.{◌≡◌, ◌∙◌, ◌+◌, ◌<◌, Err, refl,
 use Rattle.std.specs.Prelude.{IfSome}
 use Rattle.std.proofs.lemmas.List.{drop-drop}
 use Rattle.std.proofs.lemmas.Result.{err_from_is_err_and}
-use Rattle.unftp_control_defs.specs.ReplyReader.{FrontReply, IsMalformed, IsPartial}
+use Rattle.unftp_control_defs.specs.ReplyReader.{IsMalformed, IsPartial}
 use Rattle.unftp_control_read.specs.Reading.{contents}
-use Rattle.unftp_control_read.specs.ReplyDecoding.{within_limit}
-use Rattle.unftp_control_read.proofs.DecoderLemmas.{WithinLimit, offset_pending, searched_length, front_of_all, front_short, front_searched, partial_searched, too_long_searched, is_too_long, not_too_long, all_within, error_at, error_counts, ok_is_no_error, error_is_not_ok, whole_is_not_partial, malformed_error, memory_error}
+use Rattle.unftp_control_read.proofs.DecoderLemmas.{within, offset_pending, searched_length, front_of_all, front_short, front_searched, partial_searched, too_long_searched, is_too_long, not_too_long, all_within, error_at, error_counts, ok_is_no_error, error_is_not_ok, whole_is_not_partial, malformed_error, memory_error}
 use Rattle.unftp_control_read.proofs.decoder.ReplyDecoder.take_next.Goals as goal
 
 pub returns-in_err-code : goal.returns-in_err-code
 returns-in_err-code c =
     let d = c.self.inside in
-    let bytes = drop d.start d.buf.items in
-    let searched = c.first_bytes-searched.result.now in
-    let w : WithinLimit d.limit bytes searched = record { is = c.first_bytes-searched.ensures ∙ ap (within_limit d.limit) (c.split_at.ensures.back ∙ ap (drop d.start) c.as_slice.ensures.value) } in
+    let w = within d.limit d.start c.as_slice.ensures.value c.split_at.ensures.back c.first_bytes-searched.ensures in
     let error = err_from_is_err_and c.from_residual.result c.from_residual.ensures.1 in
     let r = c.in_err-code.ensures in
     rw (error.1, error.2, ← c.self.view_is) (record {
@@ -30,16 +27,14 @@ returns-in_err-code c =
 pub returns-in-Whole : goal.returns-in-Whole
 returns-in-Whole c =
     let d = c.self.inside in
-    let bytes = drop d.start d.buf.items in
-    let searched = c.first_bytes-searched.result.now in
-    let w : WithinLimit d.limit bytes searched = record { is = c.first_bytes-searched.ensures ∙ ap (within_limit d.limit) (c.split_at.ensures.back ∙ ap (drop d.start) c.as_slice.ensures.value) } in
+    let w = within d.limit d.start c.as_slice.ensures.value c.split_at.ensures.back c.first_bytes-searched.ensures in
     let r = c.in_ok-code.ensures in
     let code = c.in-Whole.code in
     let lines = contents c.in-Whole.lines in
     let used = c.in-Whole.used in
-    let front : FrontReply searched code lines used = rw c.in-Whole.is at r.front in
+    let front = rw c.in-Whole.is at r.front in
     let counted = rw c.in-Whole.is at r.counts in
-    let within = rw c.in-Whole.is at r.within in
+    let ends = rw c.in-Whole.is at r.within in
     let whole = rw c.in-Whole.is at r.whole in
     let partial = rw c.in-Whole.is at r.partial in
     let malformed = rw c.in-Whole.is at r.malformed in
@@ -56,13 +51,13 @@ returns-in-Whole c =
       buffered = refl;
       limit = refl;
       counts =
-          let offset = offset_pending d.limit bytes d.search c.self.invariant.searched in
+          let offset = offset_pending d.limit (drop d.start d.buf.items) d.search c.self.invariant.searched in
           let long = searched_length w in
           let pending = length-drop d.start d.buf.items in
           let left = length-drop (d.start + used) d.buf.items in
           record {
-            exact = omega (arith, counted, within, offset, long, pending, left, c.new-self-inside.ensures.offset);
-            twice = omega (arith, counted, within, offset, long, pending, left, c.new-self-inside.ensures.offset);
+            exact = omega (arith, counted, ends, offset, long, pending, left, c.new-self-inside.ensures.offset);
+            twice = omega (arith, counted, ends, offset, long, pending, left, c.new-self-inside.ensures.offset);
             error = tt;
             unscanned = tt;
             never_fewer = r.never_fewer;
@@ -72,11 +67,9 @@ returns-in-Whole c =
 pub returns-then-is_full : goal.returns-then-is_full
 returns-then-is_full c =
     let d = c.self.inside in
-    let bytes = drop d.start d.buf.items in
-    let searched = c.first_bytes-searched.result.now in
-    let w : WithinLimit d.limit bytes searched = record { is = c.first_bytes-searched.ensures ∙ ap (within_limit d.limit) (c.split_at.ensures.back ∙ ap (drop d.start) c.as_slice.ensures.value) } in
+    let w = within d.limit d.start c.as_slice.ensures.value c.split_at.ensures.back c.first_bytes-searched.ensures in
     let r = c.in_ok-code.ensures in
-    let part : IsPartial searched = rw c.in-Partial.is at r.front in
+    let part = rw c.in-Partial.is at r.front in
     let whole = rw c.in-Partial.is at r.whole in
     let malformed = rw c.in-Partial.is at r.malformed in
     let full = c.is_full.ensures.yes c.if-is_full.true in
@@ -95,17 +88,15 @@ returns-then-is_full c =
 pub returns-else-is_full : goal.returns-else-is_full
 returns-else-is_full c =
     let d = c.self.inside in
-    let bytes = drop d.start d.buf.items in
-    let searched = c.first_bytes-searched.result.now in
-    let w : WithinLimit d.limit bytes searched = record { is = c.first_bytes-searched.ensures ∙ ap (within_limit d.limit) (c.split_at.ensures.back ∙ ap (drop d.start) c.as_slice.ensures.value) } in
+    let w = within d.limit d.start c.as_slice.ensures.value c.split_at.ensures.back c.first_bytes-searched.ensures in
     let r = c.in_ok-code.ensures in
-    let part : IsPartial searched = rw c.in-Partial.is at r.front in
+    let part = rw c.in-Partial.is at r.front in
     let counted = rw c.in-Partial.is at r.counts in
     let whole = rw c.in-Partial.is at r.whole in
     let malformed = rw c.in-Partial.is at r.malformed in
     let short = c.is_full.ensures.no c.if-is_full.false in
-    let all : searched ≡ bytes = all_within w short in
-    let offset = offset_pending d.limit bytes d.search c.self.invariant.searched in
+    let all = all_within w short in
+    let offset = offset_pending d.limit (drop d.start d.buf.items) d.search c.self.invariant.searched in
     rw (← c.self.view_is) (record {
       takes_next = record {
         partial = subst IsPartial all part;
@@ -116,7 +107,7 @@ returns-else-is_full c =
       whole = λ m ls n f in_limit. absurd (whole m ls n (front_searched w m ls n f in_limit));
       partial = λ p not_long. refl;
       malformed = λ m. absurd (ok_is_no_error _ _ (malformed (subst IsMalformed (sym w.is) m)));
-      too_long = λ l. absurd (not_too_long d.limit bytes (subst (λ b. IfSome d.limit (λ most. length b < most)) all short) l);
+      too_long = λ l. absurd (not_too_long d.limit (drop d.start d.buf.items) (subst (λ b. IfSome d.limit (λ most. length b < most)) all short) l);
       buffered = refl;
       limit = refl;
       counts = record {
