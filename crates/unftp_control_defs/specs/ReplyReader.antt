@@ -1,5 +1,5 @@
--- Replies as a client reads them (RFC 959, section 4.2). A line of only three digits is a reply too,
--- whose text is empty.
+-- Replies as a client reads them (RFC 959, section 4.2). A line of only three digits is a reply
+-- too, whose text is empty.
 use Rattle.std.specs.Prelude.{◌≡◌, ◌≢◌, ℕ, ◌<◌, ◌+◌, ◌*◌, List, [], ◌∷◌, ◌++◌, length, drop, flat_map, filter_map}
 use Rattle.std.specs.List.{AllByRecursion}
 use Rattle.unftp_control_defs.specs.Bytes.{Bytes, CR, LF, SP, DASH, crlf}
@@ -21,9 +21,9 @@ SpellsCode digits code = (a : ℕ) × (b : ℕ) × (c : ℕ) × (a < 10) × (b <
 abbrev pub GoesOn : Bytes → Bytes → Type 0
 GoesOn digits line = (text : Bytes) → line ≢ digits ++ SP ∷ text
 
--- Whole lines, without their CR LF, that are one reply, with the lines that are read from it: just the
--- digits; or the digits, a space and a text; or the digits, a dash and a text, lines that don't begin
--- with the digits and a space, and one that does.
+-- Whole lines, without their CR LF, that are one reply, with the lines that are read from it: just
+-- the digits; or the digits, a space and a text; or the digits, a dash and a text, lines that don't
+-- begin with the digits and a space, and one that does.
 pub data IsReply (digits : Bytes) (whole lines : List Bytes) : Type 0 where
   code_only : whole ≡ digits ∷ [] → lines ≡ [] ∷ [] → IsReply digits whole lines
   single : (text : Bytes) → whole ≡ (digits ++ SP ∷ text) ∷ [] → lines ≡ text ∷ []
