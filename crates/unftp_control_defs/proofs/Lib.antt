@@ -6,6 +6,7 @@ pub mod ValueLemmas
 pub mod PathLemmas
 pub mod RunLemmas
 pub mod ReplyUniqueLemmas
+pub mod ReplyPartLemmas
 pub mod ReplyCasesLemmas
 pub mod ReplyAppendLemmas
 pub mod ReplyLimitLemmas

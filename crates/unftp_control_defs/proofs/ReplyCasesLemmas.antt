@@ -1,10 +1,11 @@
--- Any bytes begin with a reply, or are partial, or are malformed, and no two of these.
+-- Any bytes begin with a reply, or are a part of one, or are malformed.
 use Rattle.std.proofs.Common.{◌≡◌, ◌≢◌, ℕ, zero, suc, ◌+◌, ◌-◌, ◌*◌, ◌<◌, ◌≤◌, List, [], ◌∷◌, ◌++◌, ◌⊎◌, flat_map, length, refl, sym, ap, subst, ◌∙◌, inl, inr, ⊎_elim, append-nil, length-append, arith}
 use Rattle.std.proofs.lemmas.Bool.{cases_eq, cases_lt}
 use Rattle.std.specs.List.{AllByRecursion}
 use Rattle.unftp_control_defs.specs.Bytes.{Bytes, CR, LF, SP, DASH, crlf}
-use Rattle.unftp_control_defs.specs.ReplyReader.{LacksCrlf, with_crlf, SpellsCode, GoesOn, IsReply, code_only, single, several, FrontReply, HasFront, Opens, IsMalformed, IsEnded, IsUnended, IsOpened, IsPartial}
-use Rattle.unftp_control_defs.proofs.ReplyUniqueLemmas.{first_crlf, cut_first, line_apart, same_front, no_longer, code_length}
+use Rattle.unftp_control_defs.specs.ReplyReader.{LacksCrlf, with_crlf, SpellsCode, GoesOn, code_only, single, several, FrontReply, HasFront, Opens, IsMalformed, IsPartial}
+use Rattle.unftp_control_defs.proofs.ReplyUniqueLemmas.{first_crlf, line_apart, same_front, no_longer, code_length}
+use Rattle.unftp_control_defs.proofs.ReplyPartLemmas.{IsEnded, IsUnended, IsOpened, IsPart, IsFirstLine, opens_as, reply_opens, part_is_partial}
 
 -- the first whole line of the bytes, and what follows
 pub record FirstLine (bytes : Bytes) : Type 0 where
@@ -92,7 +93,7 @@ ended_here digits text rest is_line = record {
   goes_on = tt;
 }
 
-pub ended_or_not : (digits : Bytes) (n : ℕ) (bytes : Bytes) → length bytes ≤ n → IsEnded digits bytes ⊎ IsUnended digits bytes
+ended_or_not : (digits : Bytes) (n : ℕ) (bytes : Bytes) → length bytes ≤ n → IsEnded digits bytes ⊎ IsUnended digits bytes
 ended_or_not digits zero bytes short = inr (record { middle = []; rest = bytes; cut = refl; each = tt; goes_on = tt; unended = λ before after e. omega (arith, ap length e, length-append before (CR ∷ LF ∷ after)) })
 ended_or_not digits (suc n) bytes short = ⊎_elim
     (λ (h : LacksCrlf bytes). inr (record { middle = []; rest = bytes; cut = refl; each = tt; goes_on = tt; unended = h }))
@@ -148,13 +149,17 @@ code_or_not (a ∷ b ∷ c ∷ rest) = by_digits (digit_or_not a) (digit_or_not 
 
 -- a line that opens a reply begins with its code
 pub opens_code : (line : Bytes) → Opens line → BeginsWithCode line
-opens_code line (digits, code, spells, inl e) = (digits, code, [], spells, e ∙ sym (append-nil digits))
-opens_code line (digits, code, spells, inr (text, inl e)) = (digits, code, SP ∷ text, spells, e)
-opens_code line (digits, code, spells, inr (text, inr e)) = (digits, code, DASH ∷ text, spells, e)
+opens_code line opened = by_first (opens_as line opened)
+  where
+    by_first : IsFirstLine line → BeginsWithCode line
+    by_first (digits, code, spells, inl e) = (digits, code, [], spells, e ∙ sym (append-nil digits))
+    by_first (digits, code, spells, inr (text, inl e)) = (digits, code, SP ∷ text, spells, e)
+    by_first (digits, code, spells, inr (text, inr e)) = (digits, code, DASH ∷ text, spells, e)
 
 -- a space or a dash follows the code, or nothing
 pub opens_not : (digits line : Bytes) (code b : ℕ) (text : Bytes) → SpellsCode digits code → line ≡ digits ++ b ∷ text → b ≢ SP → b ≢ DASH → ¬ Opens line
-opens_not digits line code b text spells is no_space no_dash opened =
+opens_not digits line code b text spells is no_space no_dash opens =
+    let opened = opens_as line opens in
     let long : length opened.0 ≡ length digits = code_length opened.0 opened.1 opened.2 ∙ sym (code_length digits code spells) in
     ⊎_elim
     (λ (e : line ≡ opened.0). no_longer opened.0 digits b text long (sym e ∙ is))
@@ -164,10 +169,10 @@ opens_not digits line code b text spells is no_space no_dash opened =
     h.1)
     opened.3
 
-pub opens_or_not : (line : Bytes) → Opens line ⊎ ¬ Opens line
+opens_or_not : (line : Bytes) → IsFirstLine line ⊎ ¬ Opens line
 opens_or_not line = ⊎_elim (λ (s : BeginsWithCode line). following s.0 s.1 s.2 s.3 s.4) (λ (no : ¬ BeginsWithCode line). inr (λ opened. no (opens_code line opened))) (code_or_not line)
   where
-    following : (digits : Bytes) (code : ℕ) (rest : Bytes) → SpellsCode digits code → line ≡ digits ++ rest → Opens line ⊎ ¬ Opens line
+    following : (digits : Bytes) (code : ℕ) (rest : Bytes) → SpellsCode digits code → line ≡ digits ++ rest → IsFirstLine line ⊎ ¬ Opens line
     following digits code [] spells e = inl (digits, code, spells, inl (e ∙ append-nil digits))
     following digits code (b ∷ text) spells e = ⊎_elim
         (λ (is : b ≡ SP). inl (digits, code, spells, inr (text, inl (e ∙ ap (λ x. digits ++ x ∷ text) is))))
@@ -223,7 +228,7 @@ several_front bytes digits text following code spells cut is_line f = record {
   length_is = refl;
 }
 
-pub opened_front : (bytes digits text following : Bytes) (code : ℕ) → SpellsCode digits code → bytes ≡ (digits ++ DASH ∷ text) ++ CR ∷ LF ∷ following
+opened_front : (bytes digits text following : Bytes) (code : ℕ) → SpellsCode digits code → bytes ≡ (digits ++ DASH ∷ text) ++ CR ∷ LF ∷ following
     → LacksCrlf (digits ++ DASH ∷ text) → IsUnended digits following → IsOpened bytes
 opened_front bytes digits text following code spells cut is_line f = record {
   digits = digits;
@@ -238,19 +243,20 @@ opened_front bytes digits text following code spells cut is_line f = record {
   unended = f.unended;
 }
 
-pub some_reading : (bytes : Bytes) → HasFront bytes ⊎ (IsPartial bytes ⊎ IsMalformed bytes)
-some_reading bytes = by_line (first_line bytes)
+-- the split by the first line
+front_part_or_malformed : (bytes : Bytes) → HasFront bytes ⊎ (IsPart bytes ⊎ IsMalformed bytes)
+front_part_or_malformed bytes = by_line (first_line bytes)
   where
-    by_line : LacksCrlf bytes ⊎ FirstLine bytes → HasFront bytes ⊎ (IsPartial bytes ⊎ IsMalformed bytes)
+    by_line : LacksCrlf bytes ⊎ FirstLine bytes → HasFront bytes ⊎ (IsPart bytes ⊎ IsMalformed bytes)
     by_line (inl h) = inr (inl (inl h))
     by_line (inr f) = ⊎_elim
-        (λ (opened : Opens f.line). by_opening opened.0 opened.1 opened.2 opened.3)
+        (λ (opened : IsFirstLine f.line). by_opening opened.0 opened.1 opened.2 opened.3)
         (λ (no : ¬ Opens f.line). inr (inr (record { first = f.line; rest = f.rest; cut = f.cut; is_line = f.is_line; opens_none = no })))
         (opens_or_not f.line)
       where
         by_opening : (digits : Bytes) (code : ℕ) → SpellsCode digits code
             → (f.line ≡ digits) ⊎ ((text : Bytes) × ((f.line ≡ digits ++ SP ∷ text) ⊎ (f.line ≡ digits ++ DASH ∷ text)))
-            → HasFront bytes ⊎ (IsPartial bytes ⊎ IsMalformed bytes)
+            → HasFront bytes ⊎ (IsPart bytes ⊎ IsMalformed bytes)
         by_opening digits code spells (inl e) = inl (code, _, _, bare_front bytes digits f.rest code spells (f.cut ∙ ap (λ l. l ++ CR ∷ LF ∷ f.rest) e) (subst LacksCrlf e f.is_line))
         by_opening digits code spells (inr (text, inl e)) = inl (code, _, _, single_front bytes digits text f.rest code spells (f.cut ∙ ap (λ l. l ++ CR ∷ LF ∷ f.rest) e) (subst LacksCrlf e f.is_line))
         by_opening digits code spells (inr (text, inr e)) =
@@ -261,31 +267,23 @@ some_reading bytes = by_line (first_line bytes)
             (λ (h : IsUnended digits f.rest). inr (inl (inr (opened_front bytes digits text f.rest code spells cut is_line h))))
             (ended_or_not digits (length f.rest) f.rest (omega arith))
 
--- No two of them.
+pub some_reading : (bytes : Bytes) → HasFront bytes ⊎ (IsPartial bytes ⊎ IsMalformed bytes)
+some_reading bytes = by_kind (front_part_or_malformed bytes)
+  where
+    by_kind : HasFront bytes ⊎ (IsPart bytes ⊎ IsMalformed bytes) → HasFront bytes ⊎ (IsPartial bytes ⊎ IsMalformed bytes)
+    by_kind (inl front) = inl front
+    by_kind (inr (inl part)) = inr (inl (part_is_partial bytes part))
+    by_kind (inr (inr malformed)) = inr (inr malformed)
 
--- bytes with a whole line have a CR LF
-line_is_first : (bytes k : Bytes) (ks : List Bytes) (x : Bytes) → LacksCrlf bytes → bytes ≡ flat_map with_crlf (k ∷ ks) ++ x → ⊥
-line_is_first bytes k ks x h e = h k (flat_map with_crlf ks ++ x) (e ∙ line_apart k ks x)
+pub partial_is_part : (bytes : Bytes) → IsPartial bytes → IsPart bytes
+partial_is_part bytes partial = by_kind (front_part_or_malformed bytes)
+  where
+    by_kind : HasFront bytes ⊎ (IsPart bytes ⊎ IsMalformed bytes) → IsPart bytes
+    by_kind (inl front) = absurd (partial.0 front)
+    by_kind (inr (inl part)) = part
+    by_kind (inr (inr malformed)) = absurd (partial.1 malformed)
 
--- the first line of a reply opens it
-reply_opens : (digits : Bytes) (code : ℕ) (whole lines : List Bytes) → SpellsCode digits code → IsReply digits whole lines
-    → (k : Bytes) × (ks : List Bytes) × (whole ≡ k ∷ ks) × Opens k
-reply_opens digits code whole lines spells (code_only e f) = (digits, [], e, (digits, code, spells, inl refl))
-reply_opens digits code whole lines spells (single text e f) = (digits ++ SP ∷ text, [], e, (digits, code, spells, inr (text, inl refl)))
-reply_opens digits code whole lines spells (several text last middle go e f) = (digits ++ DASH ∷ text, middle ++ (digits ++ SP ∷ last) ∷ [], e, (digits, code, spells, inr (text, inr refl)))
-
--- lines with a last one are no lines that all go on, with an unfinished one after them
-no_end : (d e : Bytes) (ms ns : List Bytes) (s x y : Bytes) → d ≡ e → AllByRecursion (GoesOn e) ns → LacksCrlf y
-    → AllByRecursion LacksCrlf (ms ++ (d ++ SP ∷ s) ∷ []) → AllByRecursion LacksCrlf ns
-    → flat_map with_crlf (ms ++ (d ++ SP ∷ s) ∷ []) ++ x ≡ flat_map with_crlf ns ++ y → ⊥
-no_end d e [] [] s x y same go lacks p q h = line_is_first y (d ++ SP ∷ s) [] x lacks (sym h)
-no_end d e (m ∷ ms) [] s x y same go lacks p q h = line_is_first y m (ms ++ (d ++ SP ∷ s) ∷ []) x lacks (sym h)
-no_end d e [] (n ∷ ns) s x y same go lacks p q h =
-    let first = (cut_first (d ++ SP ∷ s) n [] ns x y p.0 q.0 h).0 in
-    go.0 s (sym first ∙ ap (λ c. c ++ SP ∷ s) same)
-no_end d e (m ∷ ms) (n ∷ ns) s x y same go lacks p q h =
-    let cut = cut_first m n (ms ++ (d ++ SP ∷ s) ∷ []) ns x y p.0 q.0 h in
-    no_end d e ms ns s x y same go.1 lacks p.1 q.1 cut.1
+-- ---- a reply at the start
 
 pub front_within : (bytes : Bytes) (code : ℕ) (lines : List Bytes) (used : ℕ) → FrontReply bytes code lines used → (0 < used) × (used ≤ length bytes)
 front_within bytes code lines used f =
@@ -295,37 +293,6 @@ front_within bytes code lines used f =
       omega (arith, f.length_is, ap length f.cut, length-append (flat_map with_crlf f.whole) f.rest),
     )
 
-front_opened : (bytes : Bytes) (code : ℕ) (lines : List Bytes) (used : ℕ) → FrontReply bytes code lines used → IsOpened bytes → ⊥
-front_opened bytes code lines used f o = by_kind f.whole f.each f.cut f.reply
-  where
-    long : length f.digits ≡ length o.digits
-    long = code_length f.digits code f.code_is ∙ sym (code_length o.digits o.code o.code_is)
-
-    by_kind : (whole : List Bytes) → AllByRecursion LacksCrlf whole → bytes ≡ flat_map with_crlf whole ++ f.rest → IsReply f.digits whole lines → ⊥
-    by_kind whole each cut (code_only e g) =
-        let each' = subst (AllByRecursion LacksCrlf) e each in
-        let cut' = ap (λ (u : List Bytes). flat_map with_crlf u ++ f.rest) (sym e) ∙ sym cut ∙ o.cut in
-        no_longer f.digits o.digits DASH o.text long (cut_first f.digits (o.digits ++ DASH ∷ o.text) [] o.middle f.rest o.rest each'.0 o.each.0 cut').0
-    by_kind whole each cut (single text e g) =
-        let each' = subst (AllByRecursion LacksCrlf) e each in
-        let cut' = ap (λ (u : List Bytes). flat_map with_crlf u ++ f.rest) (sym e) ∙ sym cut ∙ o.cut in
-        let first = (cut_first (f.digits ++ SP ∷ text) (o.digits ++ DASH ∷ o.text) [] o.middle f.rest o.rest each'.0 o.each.0 cut').0 in
-        let parts = same_front f.digits o.digits (SP ∷ text) (DASH ∷ o.text) long first in
-        let clash : SP ≡ DASH = cc in omega arith
-    by_kind whole each cut (several text last middle go e g) =
-        let each' = subst (AllByRecursion LacksCrlf) e each in
-        let cut' = ap (λ (u : List Bytes). flat_map with_crlf u ++ f.rest) (sym e) ∙ sym cut ∙ o.cut in
-        let first = cut_first (f.digits ++ DASH ∷ text) (o.digits ++ DASH ∷ o.text) (middle ++ (f.digits ++ SP ∷ last) ∷ []) o.middle f.rest o.rest each'.0 o.each.0 cut' in
-        let parts = same_front f.digits o.digits (DASH ∷ text) (DASH ∷ o.text) long first.0 in
-        no_end f.digits o.digits middle o.middle last f.rest o.rest parts.0 o.goes_on o.unended each'.1 o.each.1 first.1
-
-pub front_is_whole : (bytes : Bytes) → HasFront bytes → ¬ IsPartial bytes
-front_is_whole bytes h (inl lacks) =
-    let f = h.3 in
-    let k = reply_opens f.digits h.0 f.whole h.1 f.code_is f.reply in
-    line_is_first bytes k.0 k.1 f.rest lacks (f.cut ∙ ap (λ (u : List Bytes). flat_map with_crlf u ++ f.rest) k.2)
-front_is_whole bytes h (inr o) = front_opened bytes h.0 h.1 h.2 h.3 o
-
 pub front_is_formed : (bytes : Bytes) → HasFront bytes → ¬ IsMalformed bytes
 front_is_formed bytes h m =
     let f = h.3 in
@@ -334,9 +301,3 @@ front_is_formed bytes h m =
     let cut = f.cut ∙ ap (λ (u : List Bytes). flat_map with_crlf u ++ f.rest) k.2 ∙ line_apart k.0 k.1 f.rest in
     let same = (first_crlf k.0 m.first _ _ each.0 m.is_line (sym cut ∙ m.cut)).0 in
     m.opens_none (subst Opens same k.3)
-
-pub partial_is_formed : (bytes : Bytes) → IsPartial bytes → ¬ IsMalformed bytes
-partial_is_formed bytes (inl lacks) m = lacks m.first m.rest m.cut
-partial_is_formed bytes (inr o) m =
-    let same = (first_crlf (o.digits ++ DASH ∷ o.text) m.first _ _ o.each.0 m.is_line (sym (line_apart (o.digits ++ DASH ∷ o.text) o.middle o.rest) ∙ sym o.cut ∙ m.cut)).0 in
-    m.opens_none (subst Opens same (o.digits, o.code, o.code_is, inr (o.text, inr refl)))

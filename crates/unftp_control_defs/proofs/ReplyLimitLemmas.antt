@@ -6,7 +6,7 @@ use Rattle.unftp_control_defs.specs.Bytes.{Bytes, CR, LF, crlf}
 use Rattle.unftp_control_defs.specs.ReplyReader.{LacksCrlf, with_crlf, FrontReply, HasFront, Opens, IsMalformed, IsPartial}
 use Rattle.unftp_control_defs.specs.ReplyLimit.{IsTooLongReply}
 use Rattle.unftp_control_defs.proofs.ReplyUniqueLemmas.{first_crlf, FrontReply-unique}
-use Rattle.unftp_control_defs.proofs.ReplyCasesLemmas.{some_reading, front_within, front_is_whole, front_is_formed, partial_is_formed}
+use Rattle.unftp_control_defs.proofs.ReplyCasesLemmas.{front_within, front_is_formed}
 use Rattle.unftp_control_defs.proofs.ReplyAppendLemmas.{FrontReply-append, IsMalformed-append}
 
 -- The first n bytes.
@@ -51,16 +51,11 @@ IsMalformed-from_take n bytes m =
     subst IsMalformed (take-append-drop n bytes)
     (IsMalformed-append (take n bytes) (drop n bytes) m)
 
-partial-otherwise : (bytes : Bytes) → ¬ HasFront bytes → ¬ IsMalformed bytes → IsPartial bytes
-partial-otherwise bytes no_front formed = ⊎_elim
-    (λ (h : HasFront bytes). absurd (no_front h))
-    (⊎_elim (λ (h : IsPartial bytes). h) (λ (h : IsMalformed bytes). absurd (formed h)))
-    (some_reading bytes)
-
 pub IsPartial-take : (n : ℕ) (bytes : Bytes) → IsPartial bytes → IsPartial (take n bytes)
-IsPartial-take n bytes partial = partial-otherwise (take n bytes)
-    (λ h. front_is_whole bytes (HasFront-from_take n bytes h) partial)
-    (λ h. partial_is_formed bytes partial (IsMalformed-from_take n bytes h))
+IsPartial-take n bytes partial = (
+  (λ (h : HasFront (take n bytes)). partial.0 (HasFront-from_take n bytes h)),
+  (λ (h : IsMalformed (take n bytes)). partial.1 (IsMalformed-from_take n bytes h)),
+)
 
 -- Bytes that are too long.
 
@@ -82,11 +77,11 @@ IsTooLongReply-front limit bytes code lines used f = (longer, too_long)
         (λ (less : limit < used). less)
         (λ (within : used ≤ limit).
         let front = FrontReply-take limit bytes code lines used f within in
-        absurd (front_is_whole (take limit bytes) (code, lines, used, front) h.1))
+        absurd (h.1.0 (code, lines, used, front)))
         (cases_lt limit used)
 
     too_long : limit < used → IsTooLongReply (Some limit) bytes
-    too_long less = (enough, partial-otherwise (take limit bytes) no_front formed)
+    too_long less = (enough, (no_front, formed))
       where
         enough : limit ≤ length bytes
         enough = omega (arith, less, (front_within bytes code lines used f).1)
@@ -145,11 +140,11 @@ IsTooLongReply-malformed limit first rest is_line opens_none = (longer, too_long
         (λ (less : limit < length (with_crlf first)). less)
         (λ (within : length (with_crlf first) ≤ limit).
         let more = take_after limit (with_crlf first) rest within in
-        absurd (partial_is_formed (take limit bytes) h.1 (malformed _ more.0 more.1)))
+        absurd (h.1.1 (malformed _ more.0 more.1)))
         (cases_lt limit (length (with_crlf first)))
 
     too_long : limit < length (with_crlf first) → IsTooLongReply (Some limit) bytes
-    too_long less = (enough, partial-otherwise (take limit bytes) no_front formed)
+    too_long less = (enough, (no_front, formed))
       where
         enough : limit ≤ length bytes
         enough = omega (arith, less, length-append (with_crlf first) rest)

@@ -4,7 +4,8 @@ use Rattle.std.specs.Prelude.{ℕ, ◌≤◌, length, take, Option, None, Some}
 use Rattle.unftp_control_defs.specs.Bytes.{Bytes}
 use Rattle.unftp_control_defs.specs.ReplyReader.{IsPartial}
 
--- the first `limit` bytes are only a part of a reply; without a limit, never
+-- The first `limit` bytes are there, and only a part of a reply, so it has more of them. Without a
+-- limit no reply is too long.
 abbrev pub IsTooLongReply : Option ℕ → Bytes → Type 0
 IsTooLongReply None bytes = ⊥
 IsTooLongReply (Some limit) bytes = (limit ≤ length bytes) × IsPartial (take limit bytes)

@@ -1,6 +1,6 @@
--- Replies as a client reads them (RFC 959, section 4.2). Just three digits are a reply too, with
--- one empty line.
-use Rattle.std.specs.Prelude.{◌≡◌, ◌≢◌, ℕ, ◌<◌, ◌+◌, ◌*◌, List, [], ◌∷◌, ◌++◌, length, drop, flat_map, filter_map, ◌⊎◌}
+-- Replies as a client reads them (RFC 959, section 4.2). A line of only three digits is a reply
+-- too, whose text is empty.
+use Rattle.std.specs.Prelude.{◌≡◌, ◌≢◌, ℕ, ◌<◌, ◌+◌, ◌*◌, List, [], ◌∷◌, ◌++◌, length, drop, flat_map, filter_map}
 use Rattle.std.specs.List.{AllByRecursion}
 use Rattle.unftp_control_defs.specs.Bytes.{Bytes, CR, LF, SP, DASH, crlf}
 use Rattle.unftp_control_defs.specs.FtpReply.{FtpReply, reply_as_read}
@@ -21,9 +21,9 @@ SpellsCode digits code = (a : ℕ) × (b : ℕ) × (c : ℕ) × (a < 10) × (b <
 abbrev pub GoesOn : Bytes → Bytes → Type 0
 GoesOn digits line = (text : Bytes) → line ≢ digits ++ SP ∷ text
 
--- Whole lines, without their CR LF, that are one reply: just the digits; the digits, a space and a
--- text; or the digits, a dash and a text, lines that don't begin with the digits and a space, and
--- one that does.
+-- Whole lines, without their CR LF, that are one reply, with the lines that are read from it: just
+-- the digits; or the digits, a space and a text; or the digits, a dash and a text, lines that don't
+-- begin with the digits and a space, and one that does.
 pub data IsReply (digits : Bytes) (whole lines : List Bytes) : Type 0 where
   code_only : whole ≡ digits ∷ [] → lines ≡ [] ∷ [] → IsReply digits whole lines
   single : (text : Bytes) → whole ≡ (digits ++ SP ∷ text) ∷ [] → lines ≡ text ∷ []
@@ -47,6 +47,23 @@ pub record FrontReply (bytes : Bytes) (code : ℕ) (lines : List Bytes) (used : 
 abbrev pub HasFront : Bytes → Type 0
 HasFront bytes = (code : ℕ) × (lines : List Bytes) × (used : ℕ) × FrontReply bytes code lines used
 
+-- some reply begins with the line
+abbrev pub Opens : Bytes → Type 0
+Opens line = (digits : Bytes) × (code : ℕ) × (others : List Bytes) × (lines : List Bytes)
+    × SpellsCode digits code × IsReply digits (line ∷ others) lines
+
+-- the bytes begin with a whole line that no reply begins with
+pub record IsMalformed (bytes : Bytes) : Type 0 where
+  pub first : Bytes
+  pub rest : Bytes
+  pub cut : bytes ≡ first ++ CR ∷ LF ∷ rest
+  pub is_line : LacksCrlf first
+  pub opens_none : ¬ Opens first
+
+-- the bytes don't begin with a reply, and are not malformed: more of them are needed
+abbrev pub IsPartial : Bytes → Type 0
+IsPartial bytes = (¬ HasFront bytes) × (¬ IsMalformed bytes)
+
 -- the bytes are replies one after the other, to the end, with these codes and lines
 abbrev pub AllReplies : Bytes → List (ℕ × List Bytes) → Type 0
 AllReplies bytes [] = bytes ≡ []
@@ -58,52 +75,3 @@ abbrev pub ReadsBack : Bytes → List FtpReply → Type 0
 ReadsBack bytes replies = AllReplies bytes (filter_map reply_as_read replies)
     × ((others : List (ℕ × List Bytes)) → AllReplies bytes others
     → others ≡ filter_map reply_as_read replies)
-
--- the line opens a reply
-abbrev pub Opens : Bytes → Type 0
-Opens line = (digits : Bytes) × (code : ℕ) × SpellsCode digits code
-    × ((line ≡ digits)
-    ⊎ ((text : Bytes) × ((line ≡ digits ++ SP ∷ text) ⊎ (line ≡ digits ++ DASH ∷ text))))
-
--- the first whole line opens no reply
-pub record IsMalformed (bytes : Bytes) : Type 0 where
-  pub first : Bytes
-  pub rest : Bytes
-  pub cut : bytes ≡ first ++ CR ∷ LF ∷ rest
-  pub is_line : LacksCrlf first
-  pub opens_none : ¬ Opens first
-
--- after the first line of a reply of several: lines that go on, and the last one
-pub record IsEnded (digits bytes : Bytes) : Type 0 where
-  pub middle : List Bytes
-  pub last : Bytes
-  pub rest : Bytes
-  pub cut : bytes ≡ flat_map with_crlf (middle ++ (digits ++ SP ∷ last) ∷ []) ++ rest
-  pub each : AllByRecursion LacksCrlf (middle ++ (digits ++ SP ∷ last) ∷ [])
-  pub goes_on : AllByRecursion (GoesOn digits) middle
-
--- after it: lines that go on, and an incomplete line
-pub record IsUnended (digits bytes : Bytes) : Type 0 where
-  pub middle : List Bytes
-  pub rest : Bytes
-  pub cut : bytes ≡ flat_map with_crlf middle ++ rest
-  pub each : AllByRecursion LacksCrlf middle
-  pub goes_on : AllByRecursion (GoesOn digits) middle
-  pub unended : LacksCrlf rest
-
--- the first line opens a reply of several, and none of the whole lines after it is the last one
-pub record IsOpened (bytes : Bytes) : Type 0 where
-  pub digits : Bytes
-  pub code : ℕ
-  pub code_is : SpellsCode digits code
-  pub text : Bytes
-  pub middle : List Bytes
-  pub rest : Bytes
-  pub cut : bytes ≡ flat_map with_crlf ((digits ++ DASH ∷ text) ∷ middle) ++ rest
-  pub each : AllByRecursion LacksCrlf ((digits ++ DASH ∷ text) ∷ middle)
-  pub goes_on : AllByRecursion (GoesOn digits) middle
-  pub unended : LacksCrlf rest
-
--- the first line is unfinished, or the reply that it opens is
-abbrev pub IsPartial : Bytes → Type 0
-IsPartial bytes = LacksCrlf bytes ⊎ IsOpened bytes

@@ -1,12 +1,14 @@
 -- What the examples of reading share.
-use Rattle.std.proofs.Common.{◌≡◌, ◌≤◌, ℕ, ◌+◌, Bool, true, false, [], ◌∷◌, ◌++◌, ◌==◌, ◌&&◌, not, length, codes, refl, sym, ap, ◌∙◌, arith, inr, lit<, lit≤, true≢false, eq-eqb, append_assoc, length-append}
+use Rattle.std.proofs.Common.{◌≡◌, ◌≤◌, ℕ, ◌+◌, Bool, true, false, [], ◌∷◌, ◌++◌, ◌==◌, ◌&&◌, not, length, codes, refl, sym, ap, ◌∙◌, arith, inl, inr, List, flat_map, lit<, lit≤, true≢false, eq-eqb, append_assoc, length-append}
 use Rattle.std.specs.Fmt.{digits}
+use Rattle.std.specs.List.{AllByRecursion}
 use Rattle.std.proofs.lemmas.Bool.{and_parts}
 use Rattle.unftp_control_defs.specs.Bytes.{Bytes, CR, LF, SP}
 use Rattle.unftp_control_defs.specs.FtpReply.{CodeAndMsg}
-use Rattle.unftp_control_defs.specs.ReplyReader.{LacksCrlf, SpellsCode, GoesOn, Opens, FrontReply, IsMalformed, IsPartial}
+use Rattle.unftp_control_defs.specs.ReplyReader.{LacksCrlf, with_crlf, SpellsCode, GoesOn, Opens, FrontReply, IsMalformed, IsPartial}
 use Rattle.unftp_control_defs.proofs.LackLemmas.{Lacks-test}
 use Rattle.unftp_control_defs.proofs.ReplyUniqueLemmas.{code_length}
+use Rattle.unftp_control_defs.proofs.ReplyPartLemmas.{part_is_partial}
 use Rattle.unftp_control_defs.proofs.ReplyCasesLemmas.{lacks_nil, lacks_one, lacks_more, opens_code}
 use Rattle.unftp_control_defs.proofs.EncodingLemmas.{FrontReply-encoded}
 
@@ -59,21 +61,33 @@ pub front_of_text : (more : Bytes) → FrontReply (codes "211 a\r\n" ++ more) 21
 unfolding digits
 front_of_text more = FrontReply-encoded (CodeAndMsg 211 (codes "a")) more ((lit≤ tt, lit< tt), Lacks-test 10 (codes "a") refl) 211 (codes "a" ∷ []) refl
 
--- a reply whose last line has not come, and a line that opens none
-pub no_last_line : IsPartial (codes "211-a\r\n212 b\r\n211\r\n")
-no_last_line = inr (record {
+-- an incomplete line
+pub line_part : (text : Bytes) → lacks_crlf text ≡ true → IsPartial text
+line_part text h = part_is_partial text (inl (LacksCrlf-test text h))
+
+-- a first line that opens a reply of several, lines that don't end it, and an incomplete line
+pub several_part : (middle : List Bytes) (rest : Bytes) → AllByRecursion LacksCrlf middle → AllByRecursion (GoesOn (codes "211")) middle
+    → LacksCrlf rest → IsPartial (flat_map with_crlf (codes "211-a" ∷ middle) ++ rest)
+several_part middle rest each goes_on unended = part_is_partial _ (inr (record {
   digits = codes "211";
   code = 211;
   code_is = spells_211;
   text = codes "a";
-  middle = codes "212 b" ∷ codes "211" ∷ [];
-  rest = [];
+  middle = middle;
+  rest = rest;
   cut = refl;
-  each = (LacksCrlf-test (codes "211-a") refl, (LacksCrlf-test (codes "212 b") refl, (LacksCrlf-test (codes "211") refl, tt)));
-  goes_on = (GoesOn-test (codes "211") (codes "212 b") refl, (GoesOn-test (codes "211") (codes "211") refl, tt));
-  unended = lacks_nil;
-})
+  each = (LacksCrlf-test (codes "211-a") refl, each);
+  goes_on = goes_on;
+  unended = unended;
+}))
 
+pub no_last_line : IsPartial (codes "211-a\r\n212 b\r\n211\r\n")
+no_last_line = several_part (codes "212 b" ∷ codes "211" ∷ []) []
+    (LacksCrlf-test (codes "212 b") refl, (LacksCrlf-test (codes "211") refl, tt))
+    (GoesOn-test (codes "211") (codes "212 b") refl, (GoesOn-test (codes "211") (codes "211") refl, tt))
+    lacks_nil
+
+-- a line that opens no reply
 pub two_digits : IsMalformed (codes "21 a\r\n")
 two_digits = record {
   first = codes "21 a";

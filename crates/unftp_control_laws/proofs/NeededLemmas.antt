@@ -6,7 +6,8 @@ use Rattle.unftp_control_defs.specs.FtpReply.{CodeAndMsg}
 use Rattle.unftp_control_defs.specs.ReplyReader.{FrontReply, IsPartial, LacksCrlf}
 use Rattle.unftp_control_defs.proofs.LackLemmas.{Lacks-test}
 use Rattle.unftp_control_defs.proofs.EncodingLemmas.{FrontReply-encoded}
-use Rattle.unftp_control_defs.proofs.ReplyCasesLemmas.{lacks_nil, lacks_one, lacks_more, front_is_whole}
+use Rattle.unftp_control_defs.proofs.ReplyPartLemmas.{part_is_partial}
+use Rattle.unftp_control_defs.proofs.ReplyCasesLemmas.{lacks_nil, lacks_one, lacks_more}
 use Rattle.unftp_control_read.specs.ReplyDecoding.{appended, nothing_pending}
 use Rattle.unftp_control_read.specs.Receiving.{IsNeeded}
 
@@ -16,17 +17,17 @@ no_crlf (a ∷ []) h = lacks_one a
 no_crlf (a ∷ b ∷ text) h = lacks_more a b text (λ _ is_lf. h.1.0 is_lf) (no_crlf (b ∷ text) h.1)
 
 pub part : IsPartial (codes "211 a\r")
-part = inl (no_crlf (codes "211 a\r") (Lacks-test 10 (codes "211 a\r") refl))
+part = part_is_partial _ (inl (no_crlf (codes "211 a\r") (Lacks-test 10 (codes "211 a\r") refl)))
 
 pub empty_part : IsPartial []
-empty_part = inl lacks_nil
+empty_part = part_is_partial _ (inl lacks_nil)
 
 front : (more : Bytes) → FrontReply (codes "211 a\r\n" ++ more) 211 (codes "a" ∷ []) 7
 unfolding digits
 front more = FrontReply-encoded (CodeAndMsg 211 (codes "a")) more ((lit≤ tt, lit< tt), Lacks-test 10 (codes "a") refl) 211 (codes "a" ∷ []) refl
 
 no_part : (more : Bytes) → IsPartial (codes "211 a\r\n" ++ more) → ⊥
-no_part more partial = front_is_whole _ (211, codes "a" ∷ [], 7, front more) partial
+no_part more partial = partial.0 (211, codes "a" ∷ [], 7, front more)
 
 pub after_a_reply : IsNeeded (appended (nothing_pending None) (codes "211 a\r\n")) (codes "2") → ⊥
 after_a_reply (inl none) = absurd (cc)

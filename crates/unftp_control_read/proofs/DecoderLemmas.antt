@@ -1,5 +1,5 @@
 -- The pending bytes of a reply decoder, of which a search sees those that a reply may have.
-use Rattle.std.proofs.Common.{◌≡◌, ℕ, ◌+◌, ◌-◌, ◌<◌, ◌≤◌, true, false, Option, Some, None, Result, Ok, Err, List, [], ◌++◌, ◌⊎◌, ⊎_elim, length, take, drop, flat_map, refl, sym, ap, subst, ◌∙◌, Vec, Global, arith, append-nil, length-append}
+use Rattle.std.proofs.Common.{◌≡◌, ℕ, ◌+◌, ◌-◌, ◌*◌, ◌<◌, ◌≤◌, true, false, Option, Some, None, Result, Ok, Err, List, [], ◌++◌, ⊎_elim, length, take, drop, flat_map, refl, sym, ap, subst, ◌∙◌, Vec, Global, arith, append-nil, length-append}
 use Rattle.std.specs.Prelude.{IfSome, nat_lt}
 use Rattle.std.proofs.Math.Seq.{take-append-add}
 use Rattle.std.proofs.lemmas.Bool.{cases_lt}
@@ -8,15 +8,16 @@ use Rattle.unftp_control_defs.specs.Bytes.{Bytes}
 use Rattle.unftp_control_defs.specs.ReplyReader.{with_crlf, FrontReply, HasFront, IsMalformed, IsPartial}
 use Rattle.unftp_control_defs.specs.ReplyLimit.{IsTooLongReply}
 use Rattle.unftp_control_defs.proofs.ReplyAppendLemmas.{FrontReply-append, IsMalformed-append}
-use Rattle.unftp_control_defs.proofs.ReplyCasesLemmas.{some_reading, front_is_whole, front_within, partial_is_formed}
+use Rattle.unftp_control_defs.proofs.ReplyCasesLemmas.{front_within}
 use Rattle.unftp_control_read.specs.Reading.{ReturnsRefusal}
 use Rattle.unftp_control_read.specs.Search.{IsSearched, scan_offset}
-use Rattle.unftp_control_read.specs.ReplyDecoding.{HasError, IsReplyDecoder, PendingReplies, appended, error_of, only_pending, pending_replies, piece_pushed, within_limit}
+use Rattle.unftp_control_read.specs.ReplyDecoding.{CountsNextReply, HasError, IsReplyDecoder, PendingReplies, appended, error_of, only_pending, pending_replies, piece_pushed, within_limit}
 use Rattle.unftp_control_read.specs.Receiving.{AppendsPiece, AppendsPending}
 use Rattle.unftp_control_read.specs.declared.errors.ReceiveError.{ReceiveError}
 use Rattle.unftp_control_read.specs.declared.search.Search.{Search}
 use Rattle.unftp_control_read.specs.declared.Front.{Front}
 use Rattle.unftp_control_read.specs.declared.Front.TheVariants.{Whole, Partial}
+use Rattle.unftp_control_read.specs.declared.errors.NextReplyError.{NextReplyError}
 use Rattle.unftp_control_read.specs.declared.errors.NextReplyError.TheVariants as next
 use Rattle.unftp_control_read.specs.declared.ReadReplyError.{ReadReplyError}
 use Rattle.unftp_control_read.specs.declared.ReadReplyError.TheVariants as refusal
@@ -84,19 +85,26 @@ pushed_kept p piece h = rw h refl
 
 -- ---- what a search of them means for all
 
-module _ (limit : Option ℕ) (bytes searched : Bytes) (e : searched ≡ within_limit limit bytes) where
+-- the bytes that are searched
+pub record WithinLimit (limit : Option ℕ) (bytes searched : Bytes) : Type 0 where
+  pub is : searched ≡ within_limit limit bytes
+
+pub within : (limit : Option ℕ) (start : ℕ) {buf slice pending searched : Bytes} → slice ≡ buf → pending ≡ drop start slice → searched ≡ within_limit limit pending → WithinLimit limit (drop start buf) searched
+within limit start is back first = record { is = first ∙ ap (within_limit limit) (back ∙ ap (drop start) is) }
+
+module _ {limit : Option ℕ} {bytes searched : Bytes} (w : WithinLimit limit bytes searched) where
   pub searched_length : length searched ≤ length bytes
-  searched_length = rw e (no_longer limit bytes)
+  searched_length = rw w.is (no_longer limit bytes)
 
   pub front_of_all : (code : ℕ) (lines : List Bytes) (used : ℕ) → FrontReply searched code lines used → FrontReply bytes code lines used
   front_of_all code lines used f =
-      subst (λ b. FrontReply b code lines used) (ap (λ b. b ++ past_limit limit bytes) e ∙ limit_apart limit bytes) (FrontReply-append searched (past_limit limit bytes) code lines used f)
+      subst (λ b. FrontReply b code lines used) (ap (λ b. b ++ past_limit limit bytes) w.is ∙ limit_apart limit bytes) (FrontReply-append searched (past_limit limit bytes) code lines used f)
 
   malformed_of_all : IsMalformed searched → IsMalformed bytes
-  malformed_of_all m = subst IsMalformed (ap (λ b. b ++ past_limit limit bytes) e ∙ limit_apart limit bytes) (IsMalformed-append searched (past_limit limit bytes) m)
+  malformed_of_all m = subst IsMalformed (ap (λ b. b ++ past_limit limit bytes) w.is ∙ limit_apart limit bytes) (IsMalformed-append searched (past_limit limit bytes) m)
 
   pub front_short : (code : ℕ) (lines : List Bytes) (used : ℕ) → FrontReply searched code lines used → IfSome limit (λ limit. used ≤ limit)
-  front_short code lines used f = by_limit limit (subst (λ b. used ≤ length b) e (front_within searched code lines used f).1)
+  front_short code lines used f = by_limit limit (subst (λ b. used ≤ length b) w.is (front_within searched code lines used f).1)
     where
       by_limit : (limit : Option ℕ) → used ≤ length (within_limit limit bytes) → IfSome limit (λ limit. used ≤ limit)
       by_limit None h = tt
@@ -106,7 +114,7 @@ module _ (limit : Option ℕ) (bytes searched : Bytes) (e : searched ≡ within_
           (cases_lt (length bytes) limit)
 
   pub front_searched : (code : ℕ) (lines : List Bytes) (used : ℕ) → FrontReply bytes code lines used → IfSome limit (λ limit. used ≤ limit) → FrontReply searched code lines used
-  front_searched code lines used f short = subst (λ b. FrontReply b code lines used) (sym e) (by_limit limit short)
+  front_searched code lines used f short = subst (λ b. FrontReply b code lines used) (sym w.is) (by_limit limit short)
     where
       by_limit : (limit : Option ℕ) → IfSome limit (λ limit. used ≤ limit) → FrontReply (within_limit limit bytes) code lines used
       by_limit None h = f
@@ -125,16 +133,13 @@ module _ (limit : Option ℕ) (bytes searched : Bytes) (e : searched ≡ within_
           }
 
   pub partial_searched : IsPartial bytes → IsPartial searched
-  partial_searched p = ⊎_elim
-      (λ (f : HasFront searched). absurd (front_is_whole bytes (f.0, f.1, f.2, front_of_all f.0 f.1 f.2 f.3) p))
-      (λ (r : IsPartial searched ⊎ IsMalformed searched). ⊎_elim
-      (λ (q : IsPartial searched). q)
-      (λ (m : IsMalformed searched). absurd (partial_is_formed bytes p (malformed_of_all m)))
-      r)
-      (some_reading searched)
+  partial_searched p = (
+    (λ (f : HasFront searched). p.0 (f.0, f.1, f.2, front_of_all f.0 f.1 f.2 f.3)),
+    (λ (m : IsMalformed searched). p.1 (malformed_of_all m)),
+  )
 
   pub too_long_searched : IsTooLongReply limit bytes → IsPartial searched
-  too_long_searched h = subst IsPartial (sym e) (by_limit limit h)
+  too_long_searched h = subst IsPartial (sym w.is) (by_limit limit h)
     where
       by_limit : (limit : Option ℕ) → IsTooLongReply limit bytes → IsPartial (within_limit limit bytes)
       by_limit None h = absurd h
@@ -142,11 +147,11 @@ module _ (limit : Option ℕ) (bytes searched : Bytes) (e : searched ≡ within_
 
   pub is_too_long : (most : ℕ) → limit ≡ Some most → most ≤ length searched → IsPartial searched → IsTooLongReply limit bytes
   is_too_long most is full p =
-      let e' : searched ≡ take most bytes = e ∙ ap (λ l. within_limit l bytes) is in
+      let e' : searched ≡ take most bytes = w.is ∙ ap (λ l. within_limit l bytes) is in
       subst (λ l. IsTooLongReply l bytes) (sym is) (omega (arith, full, searched_length), subst IsPartial e' p)
 
   pub all_within : IfSome limit (λ most. length searched < most) → searched ≡ bytes
-  all_within short = e ∙ by_limit limit (subst (λ b. IfSome limit (λ most. length b < most)) e short)
+  all_within short = w.is ∙ by_limit limit (subst (λ b. IfSome limit (λ most. length b < most)) w.is short)
     where
       by_limit : (limit : Option ℕ) → IfSome limit (λ most. length (within_limit limit bytes) < most) → within_limit limit bytes ≡ bytes
       by_limit None h = refl
@@ -156,8 +161,19 @@ module _ (limit : Option ℕ) (bytes searched : Bytes) (e : searched ≡ within_
           (cases_lt (length bytes) limit)
 
   pub error_at : (r : ReadReplyError) → ReturnsRefusal searched r → HasError limit bytes (error_of r)
-  error_at refusal.Malformed h = subst IsMalformed e h
-  error_at refusal.OutOfMemory h = subst HasFront e h
+  error_at refusal.Malformed h = subst IsMalformed w.is h
+  error_at refusal.OutOfMemory h = subst HasFront w.is h
+
+  pub error_counts : {error : NextReplyError} {tests tests' buffered : ℕ} (s s' : Search) → IsSearched (within_limit limit bytes) s
+      → tests' + scan_offset s ≤ tests + 2 * length searched → scan_offset s ≤ scan_offset s' → tests ≤ tests'
+      → CountsNextReply (pending_replies limit s tests bytes buffered) (Err error) (pending_replies limit s' tests' bytes buffered)
+  error_counts s s' well no_more never_back never_fewer = record {
+    exact = tt;
+    twice = tt;
+    error = omega (arith, no_more, searched_length, offset_pending limit bytes s well);
+    unscanned = omega (arith, never_back);
+    never_fewer = never_fewer;
+  }
 
 -- ---- one read, seen from where the pending bytes begin
 

@@ -1,13 +1,13 @@
 -- Replies that are read from a reader.
-use Rattle.std.proofs.Common.{◌≡◌, ℕ, ◌+◌, ◌-◌, ◌*◌, ◌^◌, ◌<◌, ◌≤◌, max, Option, Some, None, Result, Ok, Err, List, IfOk, IfSome, IfNone, OnOk, [], ◌∷◌, ◌++◌, inl, inr, length, refl, sym, ap, subst, ◌∙◌, append_assoc, append-nil, length-append, length-drop, arith}
+use Rattle.std.proofs.Common.{◌≡◌, ℕ, ◌+◌, ◌*◌, ◌<◌, ◌≤◌, max, Option, Some, None, Result, Ok, Err, IfOk, IfSome, IfNone, OnOk, [], ◌∷◌, ◌++◌, inl, inr, length, refl, sym, ap, subst, ◌∙◌, append_assoc, append-nil, length-append, arith}
 use Rattle.std.specs.Io.KnownBytes.{Consumes}
-use Rattle.std.proofs.KnownBytes.{Consumes-nil, Consumes-trans, Consumes-kept}
-use Rattle.std.proofs.Math.Nat.{le-max_left, le-max_right}
+use Rattle.std.proofs.KnownBytes.{Consumes-trans, Consumes-kept}
+use Rattle.std.proofs.Math.Nat.{le-max_right}
 use Rattle.unftp_control_defs.specs.Bytes.{Bytes}
 use Rattle.unftp_control_defs.specs.ReplyReader.{IsPartial}
 use Rattle.unftp_control_defs.specs.TakingSteps.{TakesReply}
 use Rattle.unftp_control_defs.proofs.ReplyAppendLemmas.{TakesReply-append}
-use Rattle.unftp_control_read.specs.ReplyDecoding.{HasError, HasNoReply, IsShortPart, PendingReplies, TakesFirst, appended, content, copy_scans}
+use Rattle.unftp_control_read.specs.ReplyDecoding.{HasError, HasNoReply, IsShortPart, PendingReplies, TakesFirst, TakesNextReply, content, copy_scans, held_after}
 use Rattle.unftp_control_read.specs.Receiving.{AppendsPending, HasFailure, IsNeeded, IsOfRead, Receives, failure_of}
 use Rattle.unftp_control_read.specs.declared.reply.ReceivedReply.{ReceivedReply}
 use Rattle.unftp_control_read.specs.declared.errors.NextReplyError.{NextReplyError}
@@ -33,23 +33,6 @@ pub record Reading (before : PendingReplies) (remaining : Option Bytes) (now : P
   pub bounded : Bounded before now
   pub needed : IsNeeded before read
 
-bounded_start : (limit : Option ℕ) (pending buffered : ℕ) → IfSome limit (λ limit. (pending ≤ max pending (limit + 4095)) × (buffered ≤ max buffered (limit + 4095)))
-bounded_start None pending buffered = tt
-bounded_start (Some limit) pending buffered = (le-max_left pending (limit + 4095), le-max_left buffered (limit + 4095))
-
-pub nothing_read : (before : PendingReplies) (remaining : Option Bytes) → Reading before remaining before remaining 0
-nothing_read before remaining = record {
-  read = [];
-  consumed = Consumes-nil remaining;
-  bytes_are = sym (append-nil before.bytes);
-  limit_is = refl;
-  counted = omega arith;
-  never_fewer = omega arith;
-  many = omega arith;
-  bounded = bounded_start before.limit (length before.bytes) before.buffered;
-  needed = inl refl;
-}
-
 -- fewer bytes are bounded too
 pub fewer_bounded : (limit : Option ℕ) (pending buffered pending' buffered' most held : ℕ) → pending' ≤ pending → buffered' ≤ buffered
     → IfSome limit (λ limit. (pending ≤ max most (limit + 4095)) × (buffered ≤ max held (limit + 4095)))
@@ -65,16 +48,24 @@ pub record IsUnended (now after : PendingReplies) : Type 0 where
   pub counted : after.tests + after.unscanned ≡ now.tests + now.unscanned
   pub never_fewer : now.tests ≤ after.tests
 
-module _ (before : PendingReplies) (remaining : Option Bytes) (now : PendingReplies) (remaining' : Option Bytes) (reads : ℕ) (r : Reading before remaining now remaining' reads) where
-  here : now.bytes ≡ (appended before r.read).bytes
-  here = r.bytes_are
+pub unended : (now after : PendingReplies) (next : Option ReceivedReply) → next ≡ None → TakesNextReply now (Ok next) after
+    → after.buffered ≡ held_after {E = NextReplyError} now (Ok next) after → after.limit ≡ now.limit
+    → after.tests + after.unscanned ≡ now.tests + now.unscanned + copy_scans {E = NextReplyError} (Ok next) → now.tests ≤ after.tests → IsUnended now after
+unended now after next is takes buffered limit_is counted never_fewer = record {
+  none = rw is at takes;
+  buffered = rw is at buffered;
+  limit_is = limit_is;
+  counted = let exact = rw is at counted in omega (arith, exact);
+  never_fewer = never_fewer;
+}
 
+module _ {before : PendingReplies} {remaining : Option Bytes} {now : PendingReplies} {remaining' : Option Bytes} {reads : ℕ} (r : Reading before remaining now remaining' reads) where
   -- a reply is taken
-  pub received : (reply : ReceivedReply) (after : PendingReplies) → TakesFirst now (content reply) after
+  pub received : {reply : ReceivedReply} {after : PendingReplies} → TakesFirst now (content reply) after
       → after.tests + after.unscanned ≡ now.tests + now.unscanned + copy_scans {E = ReceiveError} (Ok (Some reply))
       → after.tests + after.unscanned + length after.bytes ≤ now.tests + now.unscanned + length now.bytes
       → Receives before remaining (Ok (Some reply)) after remaining'
-  received reply after t exact twice = record {
+  received t exact twice = record {
     read = r.read;
     consumed = r.consumed;
     takes_next = record {
@@ -89,7 +80,7 @@ module _ (before : PendingReplies) (remaining : Option Bytes) (now : PendingRepl
   }
 
   -- there is none
-  module _ (mid : PendingReplies) (u : IsUnended now mid) where
+  module _ {mid : PendingReplies} (u : IsUnended now mid) where
     part : IsShortPart before.limit (before.bytes ++ r.read)
     part = (
       subst IsPartial r.bytes_are u.none.partial,
@@ -97,8 +88,8 @@ module _ (before : PendingReplies) (remaining : Option Bytes) (now : PendingRepl
     )
 
     -- one more piece
-    pub more_read : (after : PendingReplies) (left : Option Bytes) (n : ℕ) → AppendsPending 4096 mid after remaining' left (Ok n) → 0 < n → Reading before remaining after left (reads + 1)
-    more_read after left n h some = record {
+    pub more_read : {after : PendingReplies} {left : Option Bytes} (n : ℕ) → AppendsPending 4096 mid after remaining' left (Ok n) → 0 < n → Reading before remaining after left (reads + 1)
+    more_read {after} {left} n h some = record {
       read = r.read ++ h.0;
       consumed = Consumes-trans remaining remaining' left r.read h.0 r.consumed h.4;
       bytes_are = ap (λ (p : PendingReplies). p.bytes) h.1 ∙ ap (λ b. b ++ h.0) (u.none.same ∙ r.bytes_are) ∙ append_assoc before.bytes r.read h.0;
@@ -120,8 +111,8 @@ module _ (before : PendingReplies) (remaining : Option Bytes) (now : PendingRepl
             )
 
     -- what is pending is a part of a reply, at the end
-    pub at_end : (after : PendingReplies) (left : Option Bytes) → AppendsPending 4096 mid after remaining' left (Ok 0) → Receives before remaining (Ok None) after left
-    at_end after left h =
+    pub at_end : {after : PendingReplies} {left : Option Bytes} → AppendsPending 4096 mid after remaining' left (Ok 0) → Receives before remaining (Ok None) after left
+    at_end {after} {left} h =
         let nothing : h.0 ≡ [] = none h.0 h.2 in
         let consumed : Consumes remaining' left [] = subst (λ p. Consumes remaining' left p) nothing h.4 in
         let same : after.bytes ≡ before.bytes ++ r.read = ap (λ (p : PendingReplies). p.bytes) h.1 ∙ ap (λ p. mid.bytes ++ p) nothing ∙ append-nil mid.bytes ∙ u.none.same ∙ r.bytes_are in
@@ -150,8 +141,8 @@ module _ (before : PendingReplies) (remaining : Option Bytes) (now : PendingRepl
         none (b ∷ piece) e = absurd (omega (arith, e))
 
     -- a failure of reading
-    pub failed : (error : ReceiveError) (after : PendingReplies) (left : Option Bytes) → AppendsPending 4096 mid after remaining' left (Err error) → Receives before remaining (Err error) after left
-    failed error after left h = record {
+    pub failed : {error : ReceiveError} {after : PendingReplies} {left : Option Bytes} → AppendsPending 4096 mid after remaining' left (Err error) → Receives before remaining (Err error) after left
+    failed {error} {after} {left} h = record {
       read = r.read;
       consumed = Consumes-kept remaining remaining' left r.read r.consumed h.1;
       takes_next = (has error h.2, ap (λ (p : PendingReplies). p.bytes) h.0 ∙ u.none.same ∙ r.bytes_are);
@@ -169,9 +160,9 @@ module _ (before : PendingReplies) (remaining : Option Bytes) (now : PendingRepl
         has TooManyReads k = absurd k
 
   -- a refusal
-  pub refused : (error : NextReplyError) (after : PendingReplies) → HasError now.limit now.bytes error → after.bytes ≡ now.bytes
+  pub refused : (error : NextReplyError) {after : PendingReplies} → HasError now.limit now.bytes error → after.bytes ≡ now.bytes
       → after.tests ≤ now.tests + now.unscanned + length now.bytes → after.unscanned ≤ now.unscanned → Receives before remaining (Err (failure_of error)) after remaining'
-  refused error after h same tests less = record {
+  refused error h same tests less = record {
     read = r.read;
     consumed = r.consumed;
     takes_next = (has error (subst (λ limit. HasError limit (before.bytes ++ r.read) error) r.limit_is (subst (λ b. HasError now.limit b error) r.bytes_are h)), same ∙ r.bytes_are);
@@ -186,51 +177,35 @@ module _ (before : PendingReplies) (remaining : Option Bytes) (now : PendingRepl
       has next.TooLong k = k
       has next.OutOfMemory k = inl k
 
-  -- so many reads were not made
-  pub too_often : 2 ^ 64 - 1 ≤ reads → length now.bytes < 2 ^ 64 - 1 → Receives before remaining (Err TooManyReads) now remaining'
-  too_often h held = record {
-    read = r.read;
-    consumed = r.consumed;
-    takes_next = (absurd (omega (arith, r.many, h, held, ap length r.bytes_are, length-append before.bytes r.read)), r.bytes_are);
-    counted = omega (arith, r.counted);
-    twice = tt;
-    unscanned = omega (arith, r.counted, r.never_fewer);
-    needed = r.needed;
-  }
-
--- fewer bytes are left after a reply
-pub takes_fewer : (before : PendingReplies) (reply : ℕ × List Bytes) (after : PendingReplies) → TakesFirst before reply after → length after.bytes ≤ length before.bytes
-takes_fewer before reply after t = omega (arith, ap length t.takes.after_is, length-drop t.takes.used before.bytes)
-
 -- ---- the same of the remaining input, where it is known
 
-pub whole_reply : (before : PendingReplies) (remaining : Option Bytes) (result : Result (Option ReceivedReply) ReceiveError) (after : PendingReplies) (remaining' : Option Bytes)
+pub whole_reply : {before : PendingReplies} {remaining : Option Bytes} {result : Result (Option ReceivedReply) ReceiveError} {after : PendingReplies} {remaining' : Option Bytes}
     → Receives before remaining result after remaining'
     → IfOk result (λ next. IfSome next (λ reply. IfSome remaining (λ input. IfSome remaining' (λ left. TakesReply (before.bytes ++ input) (content reply) (after.bytes ++ left)))))
-whole_reply before remaining (Err error) after remaining' h = tt
-whole_reply before remaining (Ok None) after remaining' h = tt
-whole_reply before None (Ok (Some reply)) after remaining' h = tt
-whole_reply before (Some input) (Ok (Some reply)) after None h = tt
-whole_reply before (Some input) (Ok (Some reply)) after (Some left) h =
+whole_reply {result = Err error} h = tt
+whole_reply {result = Ok None} h = tt
+whole_reply {remaining = None} {result = Ok (Some reply)} h = tt
+whole_reply {remaining = Some input} {result = Ok (Some reply)} {remaining' = None} h = tt
+whole_reply {before} {remaining = Some input} {result = Ok (Some reply)} {after} {remaining' = Some left} h =
     subst (λ b. TakesReply b (content reply) (after.bytes ++ left)) (append_assoc before.bytes h.read left ∙ ap (λ b. before.bytes ++ b) (sym h.consumed))
     (TakesReply-append (before.bytes ++ h.read) left (content reply) after.bytes h.takes_next.takes)
 
-pub whole_end : (before : PendingReplies) (remaining : Option Bytes) (result : Result (Option ReceivedReply) ReceiveError) (after : PendingReplies) (remaining' : Option Bytes)
+pub whole_end : {before : PendingReplies} {remaining : Option Bytes} {result : Result (Option ReceivedReply) ReceiveError} {after : PendingReplies} {remaining' : Option Bytes}
     → Receives before remaining result after remaining'
     → IfOk result (λ next. IfNone next (IfSome remaining (λ input. IsPartial (before.bytes ++ input) × (after.bytes ≡ before.bytes ++ input))))
-whole_end before remaining (Err error) after remaining' h = tt
-whole_end before remaining (Ok (Some reply)) after remaining' h = tt
-whole_end before None (Ok None) after remaining' h = tt
-whole_end before (Some input) (Ok None) after None h = absurd h.consumed
-whole_end before (Some input) (Ok None) after (Some left) h =
+whole_end {result = Err error} h = tt
+whole_end {result = Ok (Some reply)} h = tt
+whole_end {remaining = None} {result = Ok None} h = tt
+whole_end {remaining = Some input} {result = Ok None} {remaining' = None} h = absurd h.consumed
+whole_end {before} {remaining = Some input} {result = Ok None} {after} {remaining' = Some left} h =
     let same : h.read ≡ input = sym (append-nil h.read) ∙ ap (λ b. h.read ++ b) (sym h.takes_next.1) ∙ sym h.consumed in
     (subst (λ b. IsPartial (before.bytes ++ b)) same h.takes_next.0.partial, h.takes_next.0.same ∙ ap (λ b. before.bytes ++ b) same)
 
-pub counted_known : (before : PendingReplies) (remaining : Option Bytes) (result : Result (Option ReceivedReply) ReceiveError) (after : PendingReplies) (remaining' : Option Bytes)
+pub counted_known : {before : PendingReplies} {remaining : Option Bytes} {result : Result (Option ReceivedReply) ReceiveError} {after : PendingReplies} {remaining' : Option Bytes}
     → Receives before remaining result after remaining'
     → OnOk result (IfSome remaining (λ input. IfSome remaining' (λ left.
     after.tests + after.unscanned + length after.bytes + 2 * length left ≤ before.tests + before.unscanned + length before.bytes + 2 * length input)))
-counted_known before remaining (Err error) after remaining' h = tt
-counted_known before None (Ok next) after remaining' h = tt
-counted_known before (Some input) (Ok next) after None h = tt
-counted_known before (Some input) (Ok next) after (Some left) h = omega (arith, h.twice, ap length h.consumed, length-append h.read left)
+counted_known {result = Err error} h = tt
+counted_known {remaining = None} {result = Ok next} h = tt
+counted_known {remaining = Some input} {result = Ok next} {remaining' = None} h = tt
+counted_known {remaining = Some input} {result = Ok next} {remaining' = Some left} h = omega (arith, h.twice, ap length h.consumed, length-append h.read left)

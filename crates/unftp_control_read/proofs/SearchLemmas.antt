@@ -4,8 +4,9 @@ use Rattle.std.proofs.Math.Seq.{take-length}
 use Rattle.std.proofs.lemmas.List.{take-append-le, take-append-drop}
 use Rattle.std.specs.List.{AllByRecursion}
 use Rattle.unftp_control_defs.specs.Bytes.{Bytes, CR, LF, SP, DASH, crlf}
-use Rattle.unftp_control_defs.specs.ReplyReader.{LacksCrlf, with_crlf, SpellsCode, GoesOn, FrontReply, Opens, IsEnded, IsPartial, IsMalformed}
+use Rattle.unftp_control_defs.specs.ReplyReader.{LacksCrlf, with_crlf, SpellsCode, GoesOn, FrontReply, Opens, IsPartial, IsMalformed}
 use Rattle.unftp_control_defs.proofs.ReplyUniqueLemmas.{code_length, line_apart}
+use Rattle.unftp_control_defs.proofs.ReplyPartLemmas.{IsEnded, IsPart, part_is_partial}
 use Rattle.unftp_control_defs.proofs.ReplyCasesLemmas.{lacks_nil}
 use Rattle.unftp_control_read.specs.Search.{scan_offset, EndsAt, Counts, IsOpenReply, IsBegun, IsSearched, IsAtLine}
 use Rattle.unftp_control_read.specs.declared.search.Opened.{Opened}
@@ -60,7 +61,7 @@ pub all_searched : (bytes rest : Bytes) (s : Search) → IsSearched bytes s → 
     → IsSearched bytes (record s { searched = length rest }) × IsPartial bytes
 all_searched bytes rest s h is lacks = (
   record { lines = h.lines; rest = h.rest; cut = h.cut; each = h.each; begun = h.begun; line_is = h.line_is; within = omega (arith, ap length same); lacks = subst LacksCrlf whole lacks },
-  partial s.opened h.begun,
+  part_is_partial bytes (part s.opened h.begun),
 )
   where
     same : rest ≡ h.rest
@@ -69,9 +70,9 @@ all_searched bytes rest s h is lacks = (
     whole : rest ≡ take (length rest) h.rest
     whole = same ∙ sym (take-length h.rest) ∙ ap (λ n. take n h.rest) (ap length (sym same))
 
-    partial : (opened : Option Opened) → IsBegun opened h.lines → IsPartial bytes
-    partial None none = inl (subst LacksCrlf (same ∙ sym (h.cut ∙ ap (λ (ls : List Bytes). flat_map with_crlf ls ++ h.rest) none)) lacks)
-    partial (Some opened) o = inr (record {
+    part : (opened : Option Opened) → IsBegun opened h.lines → IsPart bytes
+    part None none = inl (subst LacksCrlf (same ∙ sym (h.cut ∙ ap (λ (ls : List Bytes). flat_map with_crlf ls ++ h.rest) none)) lacks)
+    part (Some opened) o = inr (record {
       digits = o.digits;
       code = opened.code;
       code_is = o.code_is;

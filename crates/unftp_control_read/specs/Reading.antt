@@ -18,11 +18,11 @@ use Rattle.unftp_control_read.specs.declared.finding.Texts.TheVariants as text
 use Rattle.unftp_control_read.specs.declared.finding.Finding.{Finding}
 use Rattle.unftp_control_read.specs.declared.finding.Finding.TheVariants as find
 
--- the bytes of the lines, whatever room they take
+-- the bytes of the lines, whatever their capacity
 abbrev pub contents : Vec (Vec ℕ Global) Global → List Bytes
 contents lines = map (λ line. line.items) lines.items
 
--- what an answer holds, whatever room its lines take
+-- what an answer holds, whatever the capacity of its lines
 pub data FrontContent : Type 0 where
   whole : ℕ → List Bytes → ℕ → FrontContent
   partial : FrontContent
@@ -72,12 +72,14 @@ abbrev pub IsFound : ℕ → ℕ → FoundReply → Type 0
 IsFound code used (found.Whole read taken) = (read ≡ code) × (taken ≡ used)
 IsFound code used _ = ⊥
 
--- how the line opens a reply after these digits
+-- what follows these digits in the line that opens a reply: nothing, a space and the one text, or a
+-- dash and the first of several
 abbrev pub IsAfterCode : Bytes → Bytes → AfterCode → Type 0
 IsAfterCode line digits (One text) =
     ((line ≡ digits) × (text.now ≡ [])) ⊎ (line ≡ digits ++ SP ∷ text.now)
 IsAfterCode line digits (Several text) = line ≡ digits ++ DASH ∷ text.now
 
+-- the line opens a reply of this code: its digits, and what follows them
 abbrev pub IsOpening : Bytes → ℕ → Bytes → AfterCode → Type 0
 IsOpening line code digits kind = SpellsCode digits code × IsAfterCode line digits kind
 
@@ -93,7 +95,7 @@ abbrev pub middle_of : Texts → Bytes
 middle_of (text.One one) = []
 middle_of (text.Several first middle last) = middle.now
 
--- what a search returns means the same for the bytes
+-- what the result of a search means for the bytes, before the lines are copied
 abbrev pub Finds : Bytes → Finding → Type 0
 Finds bytes (find.Whole code texts used) =
     (lines : List Bytes) × Holds texts lines × FrontReply bytes code lines used

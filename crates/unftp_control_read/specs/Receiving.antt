@@ -16,22 +16,24 @@ IsOfRead (Read _) = Unit {0}
 IsOfRead OutOfMemory = Unit {0}
 IsOfRead _ = ⊥
 
--- what one read appends to the bytes: at Ok what was read, which is nothing only at the end, and
--- nothing at an error
-abbrev pub AppendsPiece :
-    ℕ → Bytes → Bytes → Option Bytes → Option Bytes → Result ℕ ReceiveError → Type 0
-AppendsPiece most before after remaining remaining' result = MatchResult result
-    (λ n. (piece : Bytes) × (after ≡ before ++ piece) × (length piece ≡ n) × (n ≤ most)
+-- What one read appends: at Ok what was read, which is nothing only at the end, and at an error
+-- nothing.
+abbrev pub Appends : {A : Type 0} → (A → Bytes → A)
+    → ℕ → A → A → Option Bytes → Option Bytes → Result ℕ ReceiveError → Type 0
+Appends append most before after remaining remaining' result = MatchResult result
+    (λ n. (piece : Bytes) × (after ≡ append before piece) × (length piece ≡ n) × (n ≤ most)
     × Consumes remaining remaining' piece × (n ≡ 0 → IsAtEnd remaining'))
     (λ error. (after ≡ before) × Keeps remaining remaining' × IsOfRead error)
+
+-- to the bytes of the buffer
+abbrev pub AppendsPiece :
+    ℕ → Bytes → Bytes → Option Bytes → Option Bytes → Result ℕ ReceiveError → Type 0
+AppendsPiece = Appends (λ bytes piece. bytes ++ piece)
 
 -- and to the pending bytes
 abbrev pub AppendsPending : ℕ → PendingReplies → PendingReplies
     → Option Bytes → Option Bytes → Result ℕ ReceiveError → Type 0
-AppendsPending most before after remaining remaining' result = MatchResult result
-    (λ n. (piece : Bytes) × (after ≡ appended before piece) × (length piece ≡ n) × (n ≤ most)
-    × Consumes remaining remaining' piece × (n ≡ 0 → IsAtEnd remaining'))
-    (λ error. (after ≡ before) × Keeps remaining remaining' × IsOfRead error)
+AppendsPending = Appends appended
 
 -- the error of `next_reply`, as an error of `read_reply`
 abbrev pub failure_of : NextReplyError → ReceiveError

@@ -13,7 +13,7 @@ use Rattle.unftp_control_read.specs.declared.reply.ReceivedReply.{ReceivedReply}
 use Rattle.unftp_control_read.specs.declared.errors.NextReplyError.{NextReplyError}
 use Rattle.unftp_control_read.specs.declared.errors.NextReplyError.TheVariants.{Malformed, TooLong, OutOfMemory}
 
--- the code and the lines, whatever room they take
+-- the code and the lines, whatever their capacity
 abbrev pub content : ReceivedReply → ℕ × List Bytes
 content reply = (reply.code, contents reply.lines)
 
@@ -22,7 +22,8 @@ abbrev pub within_limit : Option ℕ → Bytes → Bytes
 within_limit None bytes = bytes
 within_limit (Some limit) bytes = take limit bytes
 
--- What is so of a decoder: the replies before `start` are taken.
+-- What holds of a decoder: the pending bytes begin at `start`, and the search has come so far in
+-- them.
 pub record IsReplyDecoder (limit : Option ℕ) (search : Search) (buf : Bytes)
     (start : ℕ) : Type 0 where
   pub start_within : start ≤ length buf
@@ -150,8 +151,8 @@ copy_scans (Ok (Some reply)) = scanned_to_copy (contents reply.lines)
 copy_scans (Ok None) = 0
 copy_scans (Err _) = 0
 
--- how many bytes were scanned then: all that were not scanned before, and at a reply those that its
--- copying scans; at an error at most those, and all once more
+-- How many bytes were scanned then: all that were not scanned before, and at a reply those that its
+-- copying scans, so each byte at most twice; at an error at most those, and all once more.
 pub record CountsNextReply (before : PendingReplies) (result : NextReply NextReplyError)
     (after : PendingReplies) : Type 0 where
   pub exact : OnOk result

@@ -21,6 +21,7 @@ pub record IsOpenReply (opened : Opened) (lines : List Bytes) : Type 0 where
   pub middle : List Bytes
   pub lines_are : lines ≡ (digits ++ DASH ∷ text) ∷ middle
   pub goes_on : AllByRecursion (GoesOn digits) middle
+  -- where the second line begins
   pub second_is : opened.second ≡ length (with_crlf (digits ++ DASH ∷ text))
 
 -- those lines, or none

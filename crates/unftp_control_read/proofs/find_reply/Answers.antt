@@ -1,6 +1,6 @@
 use Rattle.std.proofs.Common.{refl}
 use Rattle.unftp_control_defs.proofs.ReplyUniqueLemmas.{FrontReply-unique}
-use Rattle.unftp_control_defs.proofs.ReplyCasesLemmas.{front_is_whole, front_within, front_is_formed, partial_is_formed}
+use Rattle.unftp_control_defs.proofs.ReplyCasesLemmas.{front_within, front_is_formed}
 use Rattle.unftp_control_read.proofs.find_reply.Goals as goal
 
 pub returns-in-Whole : goal.returns-in-Whole
@@ -13,18 +13,17 @@ returns-in-Whole c =
       whole = λ code lines used front.
           let same = FrontReply-unique bytes c.in-Whole.code code finds.0 lines c.in-Whole.used used finds.2 front in
           (same.0, same.2);
-      partial = λ partial. absurd (front_is_whole bytes (_, _, _, finds.2) partial);
+      partial = λ partial. absurd (partial.0 (_, _, _, finds.2));
       malformed = λ malformed. absurd (front_is_formed bytes (_, _, _, finds.2) malformed);
     }
 
 pub returns-in-Partial : goal.returns-in-Partial
 returns-in-Partial c =
-    let bytes = c.args.bytes.now in
     record {
       found = c.in-Partial.ensures.finds;
-      whole = λ code lines used front. front_is_whole bytes (code, lines, used, front) c.in-Partial.ensures.finds;
+      whole = λ code lines used front. c.in-Partial.ensures.finds.0 (code, lines, used, front);
       partial = λ partial. refl;
-      malformed = λ malformed. absurd (partial_is_formed bytes c.in-Partial.ensures.finds malformed);
+      malformed = λ malformed. absurd (c.in-Partial.ensures.finds.1 malformed);
     }
 
 pub returns-in-Malformed : goal.returns-in-Malformed
@@ -33,6 +32,6 @@ returns-in-Malformed c =
     record {
       found = c.in-Malformed.ensures.finds;
       whole = λ code lines used front. absurd (front_is_formed bytes (code, lines, used, front) c.in-Malformed.ensures.finds);
-      partial = λ partial. absurd (partial_is_formed bytes partial c.in-Malformed.ensures.finds);
+      partial = λ partial. absurd (partial.1 c.in-Malformed.ensures.finds);
       malformed = λ malformed. refl;
     }

@@ -1,6 +1,6 @@
-use Rattle.std.proofs.Common.{Some, Ok, length, ap, ◌∙◌, arith}
+use Rattle.std.proofs.Common.{length, ap, ◌∙◌, arith}
 use Rattle.std.proofs.lemmas.Result.{err_from_is_err_and}
-use Rattle.unftp_control_read.proofs.ReceiveLemmas.{IsUnended, received, more_read, at_end, failed, refused, fewer_bounded, whole_reply, counted_known}
+use Rattle.unftp_control_read.proofs.ReceiveLemmas.{received, unended, more_read, at_end, failed, refused, fewer_bounded, whole_reply, whole_end, counted_known}
 use Rattle.unftp_control_read.proofs.decoder.ReplyDecoder.read_reply.Goals as goal
 
 pub returns-in_err-reply : goal.returns-in_err-reply
@@ -16,8 +16,7 @@ returns-in_err-reply g c =
       reply = tt;
       end = tt;
       tests = tt;
-      receives = refused before (g.R.Read.remaining c.args.reader.now) now (g.R.Read.remaining c.loop-turn.reader) c.loop-turn._turn i
-          c.in_err-reply.field-0.0 c.next_reply.new.self n.takes_next.0 n.takes_next.1 n.error n.unscanned;
+      receives = refused i c.in_err-reply.field-0.0 n.takes_next.0 n.takes_next.1 n.error n.unscanned;
       limit = n.limit ∙ i.limit_is;
       pending = fewer.0;
       buffered = fewer.1;
@@ -29,58 +28,33 @@ returns-in-Some-clause-receives g c =
     let n = c.in_ok-reply.ensures in
     let takes = rw c.in-Some.is at n.takes_next in
     let exact = rw c.in-Some.is at n.tests in
-    received c.args.self.now (g.R.Read.remaining c.args.reader.now) c.loop-turn.self (g.R.Read.remaining c.loop-turn.reader) c.loop-turn._turn c.loop-turn.invariant
-    c.in-Some.reply c.next_reply.new.self takes exact n.twice
+    received c.loop-turn.invariant takes exact n.twice
 
 pub returns-in-Some-clause-reply : goal.returns-in-Some-clause-reply
-returns-in-Some-clause-reply g c =
-    whole_reply c.args.self.now (g.R.Read.remaining c.args.reader.now) (Ok (Some c.in-Some.reply)) c.next_reply.new.self (g.R.Read.remaining c.loop-turn.reader) (returns-in-Some-clause-receives g c)
+returns-in-Some-clause-reply g c = whole_reply (returns-in-Some-clause-receives g c)
 
 pub returns-in-Some-clause-tests : goal.returns-in-Some-clause-tests
-returns-in-Some-clause-tests g c =
-    counted_known c.args.self.now (g.R.Read.remaining c.args.reader.now) (Ok (Some c.in-Some.reply)) c.next_reply.new.self (g.R.Read.remaining c.loop-turn.reader) (returns-in-Some-clause-receives g c)
+returns-in-Some-clause-tests g c = counted_known (returns-in-Some-clause-receives g c)
 
 pub returns-in_err-fill_from-clause-receives : goal.returns-in_err-fill_from-clause-receives
 returns-in_err-fill_from-clause-receives g c =
     let n = c.in_ok-reply.ensures in
-    let mid = c.next_reply.new.self in
     let error = err_from_is_err_and c.from_residual-in_err-fill_from.result c.from_residual-in_err-fill_from.ensures.1 in
-    let u : IsUnended c.loop-turn.self mid = record {
-      none = rw c.in_default.is at n.takes_next;
-      buffered = rw c.in_default.is at n.buffered;
-      limit_is = n.limit;
-      counted = let exact = rw c.in_default.is at n.tests in omega (arith, exact);
-      never_fewer = n.never_fewer;
-    } in
-    rw (error.1, error.2)
-    (failed c.args.self.now (g.R.Read.remaining c.args.reader.now) c.loop-turn.self (g.R.Read.remaining c.loop-turn.reader) c.loop-turn._turn c.loop-turn.invariant mid u
-    c.in_err-fill_from.field-0.0 c.fill_from.new.self (g.R.Read.remaining c.fill_from.new.reader) c.in_err-fill_from.ensures)
+    let u = unended c.loop-turn.self c.next_reply.new.self _ c.in_default.is n.takes_next n.buffered n.limit n.tests n.never_fewer in
+    rw (error.1, error.2) (failed c.loop-turn.invariant u c.in_err-fill_from.ensures)
 
 pub returns-then-branch-eq0-clause-receives : goal.returns-then-branch-eq0-clause-receives
 returns-then-branch-eq0-clause-receives g c =
     let n = c.in_ok-reply.ensures in
-    let mid = c.next_reply.new.self in
-    let u : IsUnended c.loop-turn.self mid = record {
-      none = rw c.in_default.is at n.takes_next;
-      buffered = rw c.in_default.is at n.buffered;
-      limit_is = n.limit;
-      counted = let exact = rw c.in_default.is at n.tests in omega (arith, exact);
-      never_fewer = n.never_fewer;
-    } in
+    let u = unended c.loop-turn.self c.next_reply.new.self _ c.in_default.is n.takes_next n.buffered n.limit n.tests n.never_fewer in
     let ended = rw c.if-branch-eq0.true at c.in_ok-fill_from.ensures in
-    at_end c.args.self.now (g.R.Read.remaining c.args.reader.now) c.loop-turn.self (g.R.Read.remaining c.loop-turn.reader) c.loop-turn._turn c.loop-turn.invariant mid u
-    c.fill_from.new.self (g.R.Read.remaining c.fill_from.new.reader) ended
+    at_end c.loop-turn.invariant u ended
+
+pub returns-then-branch-eq0-clause-end : goal.returns-then-branch-eq0-clause-end
+returns-then-branch-eq0-clause-end g c = whole_end (returns-then-branch-eq0-clause-receives g c)
 
 pub loop-turn-preserved : goal.loop-turn-preserved
 loop-turn-preserved g c =
     let n = c.in_ok-reply.ensures in
-    let mid = c.next_reply.new.self in
-    let u : IsUnended c.loop-turn.self mid = record {
-      none = rw c.in_default.is at n.takes_next;
-      buffered = rw c.in_default.is at n.buffered;
-      limit_is = n.limit;
-      counted = let exact = rw c.in_default.is at n.tests in omega (arith, exact);
-      never_fewer = n.never_fewer;
-    } in
-    more_read c.args.self.now (g.R.Read.remaining c.args.reader.now) c.loop-turn.self (g.R.Read.remaining c.loop-turn.reader) c.loop-turn._turn c.loop-turn.invariant mid u
-    c.fill_from.new.self (g.R.Read.remaining c.fill_from.new.reader) c.in_ok-fill_from.field-0 c.in_ok-fill_from.ensures (omega (arith, c.if-branch-eq0.false))
+    let u = unended c.loop-turn.self c.next_reply.new.self _ c.in_default.is n.takes_next n.buffered n.limit n.tests n.never_fewer in
+    more_read c.loop-turn.invariant u c.in_ok-fill_from.field-0 c.in_ok-fill_from.ensures (omega (arith, c.if-branch-eq0.false))
