@@ -8,10 +8,10 @@ use std::time::Instant;
 use std::{fmt, io};
 use unftp_control_codecs::FtpCodec;
 use unftp_control_command::Command;
-use unftp_control_reply::error::ControlChanError;
 use unftp_control_line_parser as line_parser;
 use unftp_control_line_parser::parse;
 use unftp_control_read::{Front, ReadReplyError, read_reply};
+use unftp_control_reply::error::ControlChanError;
 use unftp_control_reply::{Reply, ReplyCode};
 use unftp_control_serve::{Event, EventDecoder};
 

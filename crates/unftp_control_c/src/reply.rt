@@ -15,8 +15,8 @@ use itoa::Buffer;
 use std::alloc::Global;
 use std::str::from_utf8;
 use unftp_control_codecs::encode_reply;
-use unftp_control_reply::error::ControlChanError;
 use unftp_control_read::{FoundReply, find_reply};
+use unftp_control_reply::error::ControlChanError;
 use unftp_control_reply::{Reply, ReplyCode};
 
 /// The bytes of a reply: `unftp_reply` of include/unftp_control.h.

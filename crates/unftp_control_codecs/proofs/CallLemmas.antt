@@ -1,5 +1,5 @@
 -- What one call of `decode` scans.
-use Rattle.std.proofs.Common.{◌≡◌, ℕ, ◌+◌, ◌-◌, ◌≤◌, Bool, true, false, ◌⊎◌, length, drop, Option, Some, None, refl, sym, ⊎_elim, arith, length-drop}
+use Rattle.std.proofs.Common.{◌≡◌, ℕ, ◌+◌, ◌≤◌, Bool, true, false, length, Option, Some, None, refl, ⊎_elim, arith, length-drop}
 use Rattle.std.specs.Option.{MatchOption}
 use Rattle.unftp_control_defs.specs.Bytes.{Bytes}
 use Rattle.unftp_control_codecs.specs.Codec.{Codec, is_too_long}

@@ -19,9 +19,9 @@ use std::alloc::Global;
 use std::marker::Model;
 use unftp_control_command::Command;
 use unftp_control_defs::count::Count;
-use unftp_control_reply::error::{ControlChanError, ControlChanErrorKind, ParseError};
 use unftp_control_line_parser::parse;
 use unftp_control_reply::Reply;
+use unftp_control_reply::error::{ControlChanError, ControlChanErrorKind, ParseError};
 
 /// Decodes the commands of a control connection, and encodes its replies.
 ///

@@ -1,7 +1,7 @@
 -- The value of a parameter: a CR is sent as CR NUL, and CR LF ends the line (RFC 854, "The NVT
 -- printer and keyboard"). Two points are wider than the standard: a bare LF may end a value, and a
 -- bare CR is read where it comes first.
-use Rattle.std.specs.Prelude.{◌≡◌, ◌≢◌, ℕ, Bool, true, false, IsTrue, ◌==◌, ◌&&◌, if◌then◌else◌, List, [], ◌∷◌, ◌++◌, map, flat_map, ◌⊎◌, ⊤, Option, Some, None, option_map, bytes_eq}
+use Rattle.std.specs.Prelude.{◌≡◌, ◌≢◌, ℕ, Bool, true, false, IsTrue, ◌==◌, if◌then◌else◌, List, [], ◌∷◌, ◌++◌, map, flat_map, ◌⊎◌, ⊤}
 use Rattle.unftp_control_defs.specs.Bytes.{Bytes, NUL, LF, CR, crlf}
 
 -- a carriage return, or a byte that is written as it is

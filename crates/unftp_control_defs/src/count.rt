@@ -4,9 +4,9 @@ ghost use Rattle.std.specs.Prelude.{◌≡◌, ℕ, ◌+◌, max};
 
 mod trace;
 
-pub use trace::Trace;
 use std::marker::Model;
 use std::mem::size_of;
+pub use trace::Trace;
 
 const _: () = prove!(size_of::<Count>() == 0);
 

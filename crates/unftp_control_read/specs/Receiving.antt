@@ -18,9 +18,9 @@ IsOfRead _ = ⊥
 
 -- What one read appends: at Ok what was read, which is nothing only at the end, and at an error
 -- nothing.
-abbrev pub Appends : {A : Type 0} → (A → Bytes → A)
+abbrev pub AppendsRead : {A : Type 0} → (A → Bytes → A)
     → ℕ → A → A → Option Bytes → Option Bytes → Result ℕ ReceiveError → Type 0
-Appends append most before after remaining remaining' result = MatchResult result
+AppendsRead append most before after remaining remaining' result = MatchResult result
     (λ n. (piece : Bytes) × (after ≡ append before piece) × (length piece ≡ n) × (n ≤ most)
     × Consumes remaining remaining' piece × (n ≡ 0 → IsAtEnd remaining'))
     (λ error. (after ≡ before) × Keeps remaining remaining' × IsOfRead error)
@@ -28,12 +28,12 @@ Appends append most before after remaining remaining' result = MatchResult resul
 -- to the bytes of the buffer
 abbrev pub AppendsPiece :
     ℕ → Bytes → Bytes → Option Bytes → Option Bytes → Result ℕ ReceiveError → Type 0
-AppendsPiece = Appends (λ bytes piece. bytes ++ piece)
+AppendsPiece = AppendsRead (λ bytes piece. bytes ++ piece)
 
 -- and to the pending bytes
 abbrev pub AppendsPending : ℕ → PendingReplies → PendingReplies
     → Option Bytes → Option Bytes → Result ℕ ReceiveError → Type 0
-AppendsPending = Appends appended
+AppendsPending = AppendsRead appended
 
 -- the error of `next_reply`, as an error of `read_reply`
 abbrev pub failure_of : NextReplyError → ReceiveError

@@ -10,9 +10,9 @@ ghost use Rattle.unftp_control_reply.specs.ReplyMeaning.{number_of, reply_of};
 ghost use Rattle.unftp_control_reply.specs.declared.reply.Reply.{Reply as RustReply};
 
 use crate::code::ReplyCode;
+use crate::error::ControlChanError;
 use std::alloc::{AllocError, Global};
 use std::fmt;
-use crate::error::ControlChanError;
 
 /// What the server answers to a command (RFC 959, section 4.2).
 #[derive(Drop, PartialEq, Eq)]

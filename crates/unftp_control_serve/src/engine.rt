@@ -17,8 +17,8 @@ use std::alloc::Global;
 use std::marker::Model;
 use unftp_control_codecs::encode_reply;
 use unftp_control_defs::count::Count;
-use unftp_control_reply::error::ControlChanError;
 use unftp_control_reply::Reply;
+use unftp_control_reply::error::ControlChanError;
 
 /// Encodes the reply into a buffer that is used again.
 fn encode_into(reply: &Reply, reply_bytes: &mut Vec<u8>) -> Result<(), ControlChanError>

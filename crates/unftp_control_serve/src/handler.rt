@@ -7,8 +7,8 @@ ghost use Rattle.unftp_control_serve.specs.EventMeaning.{event_meant};
 
 use crate::event::Event;
 use std::alloc::Global;
-use unftp_control_reply::error::ControlChanError;
 use unftp_control_reply::Reply;
+use unftp_control_reply::error::ControlChanError;
 
 /// Answers the events of a connection, one after the other.
 ///

@@ -19,8 +19,6 @@ use Rattle.unftp_control_command.specs.declared.Command.{Command}
 use Rattle.unftp_control_command.specs.declared.Command.TheVariants as rust
 use Rattle.unftp_control_write.specs.declared.line.Line.{Line}
 use Rattle.unftp_control_write.specs.declared.parts.Parts.{Parts}
-use Rattle.unftp_control_write.specs.declared.parts.Value.{Value}
-use Rattle.unftp_control_write.specs.declared.parts.Value.TheVariants as value
 use Rattle.unftp_control_write.specs.Parts.{IsParts, ReturnsLine, bytes_of, line_body}
 
 -- a text that may be empty, where an empty one is left out

@@ -32,11 +32,7 @@ pub(crate) fn line_of(command: &Command) -> Option<Line<'_>>
 
 /// The verb, a word and a value, of which there may be none; no line where the value has no place in
 /// one.
-fn line<'a>(
-    verb: &'a str,
-    word: Option<&'a str>,
-    value: Option<Value<'a>>,
-) -> Option<Line<'a>>
+fn line<'a>(verb: &'a str, word: Option<&'a str>, value: Option<Value<'a>>) -> Option<Line<'a>>
     ensures { ReturnsLine (IsOptionalText (option_map bytes_of value.entry))
         (line_body verb.now (option_map (λ word. word.now) word.entry) (option_map bytes_of value.entry)) result }
 {

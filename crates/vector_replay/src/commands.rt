@@ -12,8 +12,8 @@ use unftp_control_commands::{
     Auth, Epsv, Feat, Help, Metadata, Mlst, Mode, Opts, Passive, Prot, SessionChange, Stru,
     format_facts, make_epsv_reply, quoted_path, single_line_text,
 };
-use unftp_control_reply::error::ControlChanError;
 use unftp_control_reply::Reply;
+use unftp_control_reply::error::ControlChanError;
 
 /// How many bytes a reply may have without taking memory for them.
 const ROOM: usize = 1024;

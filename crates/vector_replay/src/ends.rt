@@ -3,8 +3,8 @@ use crate::streams::INTERRUPTED;
 use std::fmt;
 use std::fmt::{Display, Formatter, Write};
 use std::io::ErrorKind;
-use unftp_control_reply::error::{ControlChanError, ControlChanErrorKind, Source};
 use unftp_control_line_parser::ParseErrorKind;
+use unftp_control_reply::error::{ControlChanError, ControlChanErrorKind, Source};
 use unftp_control_serve::{ServeError, Served};
 
 /// What a call returned.

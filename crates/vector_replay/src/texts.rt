@@ -6,8 +6,10 @@ use std::alloc::Global;
 use std::fmt::{Debug, Display};
 use std::io;
 use std::io::ErrorKind;
-use unftp_control_reply::error::{ControlChanError, ControlChanErrorKind, ParseError, ParseErrorKind};
 use unftp_control_read::{NextReplyError, ReadReplyError, ReceiveError};
+use unftp_control_reply::error::{
+    ControlChanError, ControlChanErrorKind, ParseError, ParseErrorKind,
+};
 use unftp_control_serve::ServeError;
 use unftp_control_write::WriteCommandError;
 

@@ -1,4 +1,4 @@
-use Rattle.std.proofs.Common.{◌≡◌, ◌∙◌, ◌+◌, ◌<◌, Err, refl, sym, ap, subst, length, drop, arith, length-drop}
+use Rattle.std.proofs.Common.{◌+◌, ◌<◌, Err, refl, sym, ap, subst, length, drop, arith, length-drop}
 use Rattle.std.specs.Prelude.{IfSome}
 use Rattle.std.proofs.lemmas.List.{drop-drop}
 use Rattle.std.proofs.lemmas.Result.{err_from_is_err_and}
