@@ -372,10 +372,9 @@ def numbers_in(path, pattern):
 
 
 def check_numbers():
-    """The definition's numbers, which the contracts tie to the code, are those of the header, and those of examples/rust are among them."""
-    definition = "crates/unftp_control_c/specs/Numbers.antt"
-    commands = numbers_in(definition, r"^command_number \(?(\w+).* = (\d+)$")
-    statuses = numbers_in(definition, r"^status_number (\w+) = (\d+)$")
+    """The definitions' numbers, which the contracts tie to the code, are those of the header, and those of examples/rust are among them."""
+    commands = numbers_in("crates/unftp_control_defs/specs/NameAndValue.antt", r"^command_number \(?(\w+).* = (\d+)$")
+    statuses = numbers_in("crates/unftp_control_c/specs/Numbers.antt", r"^status_number (\w+) = (\d+)$")
     header = numbers_in("include/unftp_control.h", r"^    UNFTP_(\w+) = (\d+)")
     if header != {**commands, **statuses} or len(header) != len(commands) + len(statuses):
         raise Wrong(f"the header has other numbers: {sorted(set(header.items()) ^ set({**commands, **statuses}.items()))}")
