@@ -13,7 +13,7 @@ ghost use Rattle.unftp_control_serve.specs.Decoder.{saturating_u64};
 ghost use Rattle.unftp_control_serve.specs.Service.{ServeEnded, input_state_of};
 ghost use Rattle.unftp_control_serve.specs.Writing.{output_state_of};
 ghost use Rattle.login_demo.specs.declared.session.Session.{Session};
-ghost use Rattle.login_demo.specs.Guarded.{guarded_law, guarded_session};
+ghost use Rattle.login_demo.specs.Guarded.{guarded_law, guarded_session, snapshot};
 
 mod accounts;
 mod examples;
@@ -84,18 +84,9 @@ pub fn run<R: Read, W: Write, A: Accounts + Drop>(
     // What is so at each error, for some last state of the session and count of its failures.
     ensures err { IfErr result (λ error. (session : Limited (Gated Session)) × (failures : ℕ)
         × ServeEnded (Some LIMIT) guarded_law
-        (record {
-          state = guarded_session (A.accepts accounts);
-          failures = 0;
-          output = output_state_of W.contents writer.old;
-        })
-        (record {
-          state = session;
-          failures = failures;
-          output = output_state_of W.contents writer.new;
-        })
-        (input_state_of R.remaining reader.old)
-        (input_state_of R.remaining reader.new) error) }
+        (snapshot (guarded_session (A.accepts accounts)) 0 (output_state_of W.contents writer.old))
+        (snapshot session failures (output_state_of W.contents writer.new))
+        (input_state_of R.remaining reader.old) (input_state_of R.remaining reader.new) error) }
 {
     let gate = Gate::new(accounts, Files::new());
     serve_with_limit(
