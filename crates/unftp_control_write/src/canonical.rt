@@ -1,4 +1,4 @@
-//! Which commands have a line, and which.
+//! The lines of commands, and which commands have none.
 ghost use Rattle.std.specs.Prelude.{◌≡◌, ◌≢◌, ◌↔◌, None, IsTrue, codes, option_map, string_bytes};
 ghost use Rattle.unftp_control_command.specs.CommandMeaning.{command_of};
 ghost use Rattle.unftp_control_defs.specs.Canonical.{HasLine, IsNonEmptyText, IsOptionalText, IsUpperCaseName, canonical_body, site_body, with_optional};
@@ -30,11 +30,12 @@ pub(crate) fn line_of(command: &Command) -> Option<Line<'_>>
     }
 }
 
-/// The verb, a word and a value, of which there may be none; no line where the value has no place in
-/// one.
+/// The line with this verb, a word and a value, where it has them; none where the value is empty or has
+/// a line feed.
 fn line<'a>(verb: &'a str, word: Option<&'a str>, value: Option<Value<'a>>) -> Option<Line<'a>>
     ensures { ReturnsLine (IsOptionalText (option_map bytes_of value.entry))
-        (line_body verb.now (option_map (λ word. word.now) word.entry) (option_map bytes_of value.entry)) result }
+        (line_body verb.now (option_map (λ word. word.now) word.entry)
+        (option_map bytes_of value.entry)) result }
 {
     match &value {
         Some(value) if !has_place(value) => None,
@@ -66,7 +67,8 @@ fn list_line<'a>(options: &'a Option<String>, path: &'a Option<String>) -> Optio
 /// SITE with a name and its arguments; only SITE where there is neither.
 fn site_line<'a>(name: &'a str, arguments: Option<Value<'a>>) -> Option<Line<'a>>
     ensures { ReturnsLine
-        (IsUpperCaseName name.now × (name.now ≢ codes "MD5") × IsOptionalText (option_map bytes_of arguments.entry))
+        (IsUpperCaseName name.now × (name.now ≢ codes "MD5")
+        × IsOptionalText (option_map bytes_of arguments.entry))
         (site_body name.now (option_map bytes_of arguments.entry)) result }
 {
     if !is_upper_case_name(name) || name == "MD5" {
@@ -81,7 +83,8 @@ fn site_line<'a>(name: &'a str, arguments: Option<Value<'a>>) -> Option<Line<'a>
 /// A verb with no rule of its own, and its arguments.
 fn other_line<'a>(name: &'a str, arguments: Option<Value<'a>>) -> Option<Line<'a>>
     ensures { ReturnsLine
-        (IsUpperCaseName name.now × (row_of name.now verbs ≡ None) × IsOptionalText (option_map bytes_of arguments.entry))
+        (IsUpperCaseName name.now × (row_of name.now verbs ≡ None)
+        × IsOptionalText (option_map bytes_of arguments.entry))
         (with_optional name.now (option_map bytes_of arguments.entry)) result }
 {
     if !is_upper_case_name(name) || is_verb(name.as_bytes()) {

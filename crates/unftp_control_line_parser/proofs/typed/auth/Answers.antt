@@ -1,4 +1,4 @@
-use Rattle.std.proofs.Common.{◌≡◌, ◌≤◌, Ok, codes, length, bytes_eq, true, false, refl, sym, ap, ◌∙◌}
+use Rattle.std.proofs.Common.{rules, ◌≡◌, ◌≤◌, Ok, codes, length, bytes_eq, true, false, refl, sym, ap, ◌∙◌}
 use Rattle.std.specs.Str.{IsUtf8}
 use Rattle.std.proofs.lemmas.Bool.{le-ltb}
 use Rattle.std.proofs.lemmas.Str.{is_utf8-from_IsUtf8}
@@ -14,6 +14,9 @@ use Rattle.unftp_control_line_parser.proofs.typed.auth.Goals.{then-eq_ignore_asc
 -- at most three bytes of UTF-8 may be a mechanism
 mechanism : (v : Bytes) → length v ≤ 3 → IsUtf8 v → auth v ≡ chosen mechanisms (upper v)
 mechanism v short utf8 = rw (le-ltb 3 (length v) short, is_utf8-from_IsUtf8 v utf8) refl
+
+pub returns-then-value-gt3-clause-answer : goal.returns-then-value-gt3-clause-answer
+returns-then-value-gt3-clause-answer c = search rules
 
 pub returns-in_err-from_utf8-clause-answer : goal.returns-in_err-from_utf8-clause-answer
 returns-in_err-from_utf8-clause-answer c = refused_utf8 c.args.value.now _ _ c.in_err-from_utf8.ensures.cases.0 (λ ill. rw (le-ltb 3 _ c.if-value-gt3.false, ill) refl) c.from_residual.ensures.1

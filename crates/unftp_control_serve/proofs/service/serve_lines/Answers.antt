@@ -1,4 +1,4 @@
-use Rattle.std.proofs.Common.{◌<◌, ◌≤◌, refl, sym, ap, ◌∙◌, length, arith}
+use Rattle.std.proofs.Common.{rules, ◌<◌, ◌≤◌, refl, sym, ap, ◌∙◌, length, arith}
 use Rattle.std.proofs.lemmas.Result.{err_from_is_err_and}
 use Rattle.unftp_control_serve.proofs.ServiceLemmas.{Serving-start, Serving-next, Serving-done, Serving-failed, Serving-all, Serving-read_failed, Serving-too_often}
 use Rattle.unftp_control_serve.proofs.service.serve_lines.Goals as goal
@@ -54,3 +54,6 @@ returns-then-n-eq0-clause-ok g c =
     let given = c.in-Ok.ensures.bytes in
     Serving-all _ _ _ _ _ _ _ _ _ c.loop-turn.invariant.serving c.read.new.buf _ _ c.served_by.ensures c.if-n-eq0.true c.in-Ok.ensures.reads
     given.0 (given.1 c.if-n-eq0.true room) c.in-Ok.ensures.quiet
+
+pub returns-clause-ok : goal.returns-clause-ok
+returns-clause-ok g c = search rules

@@ -1,4 +1,4 @@
-use Rattle.std.proofs.Common.{◌≡◌, false, sym, ap, ◌∙◌}
+use Rattle.std.proofs.Common.{rules, ◌≡◌, false, sym, ap, ◌∙◌}
 use Rattle.unftp_control_serve.specs.Engine.{has_failed, has_finished}
 use Rattle.unftp_control_serve.proofs.EngineLemmas.{fed-ended, fed-on}
 use Rattle.unftp_control_serve.proofs.engine.Engine.answer.Goals.{then-ended, else-ended}
@@ -24,3 +24,6 @@ returns-after-ended-clause-fed g c =
           c.in_default.ensures.ok before.0 lines.ended lines.unread lines.unscanned lines.limit lines.held lines.scanned_once w.if-ended.false
           (lines.kept w.if-ended.false))
     ])
+
+pub returns-in-Err-answer_lines-clause-fed : goal.returns-in-Err-answer_lines-clause-fed
+returns-in-Err-answer_lines-clause-fed g c = search rules
