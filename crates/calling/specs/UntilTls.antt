@@ -21,9 +21,9 @@ until_tls = record {
   done = λ is_done. is_done;
 }
 
--- The stream from which TLS is read, by what it has yet to give: of an input in lines of at most 512
--- bytes AUTH TLS came, and these come after its line. There is none only where AUTH TLS didn't
--- come, or bytes came after it.
+-- The stream from which TLS is read, by what it has yet to give: of an input in lines of at most
+-- 512 bytes AUTH TLS came, and these come after its line. There is none only where AUTH TLS
+-- didn't come, or bytes came after it.
 abbrev pub GivesStream : Bytes → Option (Option Bytes) → Type 0
 GivesStream input (Some remaining) = (ends_for (Some 512) until_tls false input ≡ true)
     × IfSome remaining (λ rest. after_end (Some 512) until_tls false input ≡ rest)

@@ -10,7 +10,7 @@ use unftp_control_commands::Metadata;
 const MODIFIED: i64 = 1_701_432_000;
 
 /// A file of 1,234 bytes.
-#[derive(Debug, Drop)]
+#[derive(Drop)]
 pub struct Sample {
     modified: Option<Timestamp>,
 }

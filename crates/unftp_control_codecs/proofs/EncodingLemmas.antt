@@ -1,5 +1,5 @@
 -- The bytes of a reply of several lines, from its parts.
-use Rattle.std.proofs.Common.{◌≡◌, ℕ, Result, Ok, Err, is_ok, OnOk, if◌then◌else◌, List, [], ◌∷◌, ◌++◌, map, flat_map, decimal, string_bytes, String, Global, refl, sym, ap, ◌∙◌, append_assoc}
+use Rattle.std.proofs.Common.{◌≡◌, ℕ, List, [], ◌∷◌, ◌++◌, map, flat_map, decimal, string_bytes, String, Global, refl, sym, ap, ◌∙◌, append_assoc}
 use Rattle.std.proofs.lemmas.List.{map-append}
 use Rattle.unftp_control_defs.specs.Bytes.{Bytes, DASH}
 use Rattle.unftp_control_defs.specs.FtpReply.{MultiLine, encoded, lines_after_code, spaced_line}
@@ -41,8 +41,3 @@ appended-lines code lines front last start opened coded parts a b =
     ∙ append_assoc start (lines_before_last code texts) (decimal code ++ end)
     ∙ ap (λ t. start ++ t) (sym (encoded-lines_before_last code texts (string_bytes last)))
     ∙ ap (λ t. start ++ encoded (MultiLine code t)) (sym (map-append string_bytes front (last ∷ [])) ∙ ap (map string_bytes) (sym parts))
-
--- what `extend_from_slice` appends, where it succeeds
-pub appended_where_ok : {T E : Type 0} (r : Result T E) (new old more target : Bytes) → new ≡ (if is_ok r then old ++ more else old) → old ++ more ≡ target → OnOk r (new ≡ target)
-appended_where_ok (Ok x) new old more target e t = e ∙ t
-appended_where_ok (Err x) new old more target e t = tt

@@ -1,7 +1,7 @@
 //! The bytes of replies.
-ghost use Rattle.std.specs.Prelude.{◌≡◌, ◌==◌, ◌++◌, take, length, map, flat_map, vec_len, decimal, string_bytes, IsOk, OnOk, if◌then◌else◌};
-ghost use Rattle.unftp_control_defs.specs.Bytes.{crlf};
-ghost use Rattle.unftp_control_defs.specs.FtpReply.{Nothing, MultiLine, encoded, spaced_line};
+ghost use Rattle.std.specs.Prelude.{◌≡◌, ◌==◌, ◌∷◌, ◌++◌, take, length, map, flat_map, vec_len, decimal, string_bytes, IsOk, OnOk, if◌then◌else◌};
+ghost use Rattle.unftp_control_defs.specs.Bytes.{SP, crlf};
+ghost use Rattle.unftp_control_defs.specs.FtpReply.{Nothing, MultiLine, encoded, padded, spaced_line};
 ghost use Rattle.unftp_control_reply.specs.ReplyMeaning.{number_of, reply_of};
 ghost use Rattle.unftp_control_codecs.specs.Encoding.{padded_line, lines_before_last};
 
@@ -69,14 +69,32 @@ fn append_text(text: &str, buf: &mut Vec<u8>) -> Result<(), AllocError>
     append_spaced_line(text, buf)
 }
 
+/// Appends the text and CR LF.
+fn append_ended(text: &str, buf: &mut Vec<u8>) -> Result<(), AllocError>
+    ensures ok { OnOk result (buf.new.items ≡ buf.old.items ++ (text.now ++ crlf)) }
+    ensures kept { take (vec_len buf.old) buf.new.items ≡ buf.old.items }
+{
+    buf.extend_from_slice(text.as_bytes())?;
+    buf.extend_from_slice(b"\r\n")
+}
+
 /// Appends a space, the text and CR LF.
 fn append_spaced_line(text: &str, buf: &mut Vec<u8>) -> Result<(), AllocError>
     ensures ok { OnOk result (buf.new.items ≡ buf.old.items ++ spaced_line text.now) }
     ensures kept { take (vec_len buf.old) buf.new.items ≡ buf.old.items }
 {
     buf.push(b' ')?;
-    buf.extend_from_slice(text.as_bytes())?;
-    buf.extend_from_slice(b"\r\n")
+    append_ended(text, buf)
+}
+
+/// Whether the text begins with a digit.
+fn begins_with_digit(text: &str) -> bool
+    ensures { padded text.now ≡ (if result then SP ∷ text.now else text.now) }
+{
+    match text.as_bytes() {
+        [first, ..] => first.is_ascii_digit(),
+        [] => false,
+    }
 }
 
 /// Appends a line before the last: a space where it begins with a digit, the line and CR LF.
@@ -84,13 +102,10 @@ fn append_padded_line(line: &str, buf: &mut Vec<u8>) -> Result<(), AllocError>
     ensures ok { OnOk result (buf.new.items ≡ buf.old.items ++ padded_line line.now) }
     ensures kept { take (vec_len buf.old) buf.new.items ≡ buf.old.items }
 {
-    if let [first, ..] = line.as_bytes() {
-        if first.is_ascii_digit() {
-            buf.push(b' ')?;
-        }
+    if begins_with_digit(line) {
+        return append_spaced_line(line, buf);
     }
-    buf.extend_from_slice(line.as_bytes())?;
-    buf.extend_from_slice(b"\r\n")
+    append_ended(line, buf)
 }
 
 /// Appends lines before the last.

@@ -18,6 +18,7 @@ use crate::scan::{Scan, ScanCount};
 use std::alloc::Global;
 use std::marker::Model;
 use unftp_control_command::Command;
+use unftp_control_defs::buffer::remove_front;
 use unftp_control_defs::count::Count;
 use unftp_control_line_parser::parse;
 use unftp_control_reply::Reply;
@@ -283,20 +284,6 @@ fn decoded(answer: Result<Command, ParseError>) -> Result<Option<Command>, Contr
         Ok(command) => Ok(Some(command)),
         Err(error) => Err(error.into()),
     }
-}
-
-/// Removes this many bytes from the start of the buffer. The rest is moved once, where `drain`
-/// would turn the whole buffer.
-fn remove_front(buf: &mut Vec<u8>, count: usize)
-    requires { count ≤ vec_len buf.old }
-    ensures { buf.new.items ≡ drop count buf.old.items }
-{
-    if count == 0 {
-        return;
-    }
-    let rest = buf.len() - count;
-    buf.copy_within(count.., 0);
-    buf.truncate(rest);
 }
 
 /// Whether the answer is that memory ran out.

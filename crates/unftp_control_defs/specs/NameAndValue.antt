@@ -1,6 +1,6 @@
--- A command as a name, a value and a number. The first two are what its canonical line says: the name is its verb, the
--- first of those that it has, or its subcommand of SITE; the value is its parameter before any CR
--- NUL, and none where the command has none (RFC 959, section 5.3).
+-- A command as a name, a value and a number. The first two are what its canonical line says: the
+-- name is its verb, the first of those that it has, or its subcommand of SITE; the value is its
+-- parameter before any CR NUL, and none where the command has none (RFC 959, section 5.3).
 use Rattle.std.specs.Prelude.{ℕ, true, false, Option, Some, None, codes, decimal}
 use Rattle.unftp_control_defs.specs.Bytes.{Bytes}
 use Rattle.unftp_control_defs.specs.Rules.{unless_empty}

@@ -31,8 +31,8 @@ pub data TakingStep (A : Type 0) : Type 0 where
   Pushed : Bytes → TakingStep A
   Taken : A → TakingStep A
 
--- These steps, in any order, make the pending bytes `before` the pending bytes `after`, where `Takes`
--- says what is taken, and which bytes are then pending.
+-- These steps, in any order, make the pending bytes `before` the pending bytes `after`, where
+-- `Takes` says what is taken, and which bytes are then pending.
 abbrev pub AreTakingSteps : {A : Type 0} → (Bytes → A → Bytes → Type 0) → Bytes
     → List (TakingStep A) → Bytes → Type 0
 AreTakingSteps Takes before [] after = after ≡ before

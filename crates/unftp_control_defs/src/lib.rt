@@ -2,5 +2,6 @@
 //! definitions in `specs/`.
 #![tactic(auto)]
 
+pub mod buffer;
 pub mod count;
 pub mod parameters;

@@ -25,7 +25,8 @@ ben = codes "ben"
 
 -- and a second one
 abbrev pub anna_and_ben : Accounts
-anna_and_ben name password = only_anna name password || (bytes_eq name ben && bytes_eq password wrong)
+anna_and_ben name password =
+    only_anna name password || (bytes_eq name ben && bytes_eq password wrong)
 
 abbrev pub user : Bytes → FtpEvent
 user name = Command (User name)

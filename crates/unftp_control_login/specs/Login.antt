@@ -9,10 +9,10 @@ use Rattle.unftp_control_defs.specs.Events.{FtpEvent, Command, Refused}
 abbrev pub Accounts : Type 0
 Accounts = Bytes → Bytes → Bool
 
--- What is done without a login: the login itself, and QUIT (RFC 959, section 4.1.1); the security of
--- the connection, which comes before the login (RFC 4217, sections 4 and 9); HELP, which RFC 959
--- suggests to allow before USER, NOOP and SYST (section 4.1.3); FEAT (RFC 2389, section 3). A line
--- that is no command is refused whoever sends it. All else needs a login.
+-- What is done without a login: the login itself, and QUIT (RFC 959, section 4.1.1); the security
+-- of the connection, which comes before the login (RFC 4217, sections 4 and 9); HELP, which RFC
+-- 959 suggests to allow before USER, NOOP and SYST (section 4.1.3); FEAT (RFC 2389, section 3). A
+-- line that is no command is refused whoever sends it. All else needs a login.
 abbrev pub needs_login : FtpEvent → Bool
 needs_login (Refused fault) = false
 needs_login (Command (User name)) = false
@@ -33,8 +33,8 @@ is_login (Command (User name)) = true
 is_login (Command (Pass password)) = true
 is_login event = false
 
--- What makes a client log in again: a new USER, which begins the login (RFC 959, section 4.1.1), and
--- AUTH, which asks for a new one (RFC 2228, section 3; RFC 4217, section 4).
+-- What makes a client log in again: a new USER, which begins the login (RFC 959, section 4.1.1),
+-- and AUTH, which asks for a new one (RFC 2228, section 3; RFC 4217, section 4).
 abbrev pub flushes_login : FtpEvent → Bool
 flushes_login (Command (User name)) = true
 flushes_login (Command (Auth mechanism)) = true

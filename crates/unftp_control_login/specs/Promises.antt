@@ -61,15 +61,16 @@ AtEachPlace Holds before (x ∷ xs) (y ∷ ys) =
     Holds before x y × AtEachPlace Holds (before ++ x ∷ []) xs ys
 AtEachPlace Holds before _ _ = ⊥
 
--- A code that reports no failure, read as the reply to an event that needs a login, comes only after
--- a login.
+-- A code that reports no failure, read as the reply to an event that needs a login, comes only
+-- after a login.
 abbrev pub AfterLogin : Accounts → List FtpEvent → FtpEvent → ℕ × List Bytes → Type 0
 AfterLogin accepts before event reply =
     IsTrue (needs_login event) → reply.0 < 400 → IsLoggedIn accepts before
 
 -- The output is a list of replies, and a client reads no other in it: one for each of the input's
 -- events, up to the last that is answered, and each of them as it has to be after a login.
-pub record MembersAlone (limit : Option ℕ) (accepts : Accounts) (input output : Bytes) : Type 0 where
+pub record MembersAlone (limit : Option ℕ) (accepts : Accounts) (input output : Bytes)
+    : Type 0 where
   pub read : List (ℕ × List Bytes)
   pub replies : AllReplies output read
   pub no_other : (other : List (ℕ × List Bytes)) → AllReplies output other → other ≡ read
@@ -114,7 +115,8 @@ abbrev pub CanBeSent : Option ℕ → Bytes → Type 0
 CanBeSent limit password = Lacks LF password × Fits limit (pass_line password)
 
 -- A name and a password that lines within the limit can give, and that the accounts refuse.
-pub record IsRefusedLogin (limit : Option ℕ) (accepts : Accounts) (name password : Bytes) : Type 0 where
+pub record IsRefusedLogin (limit : Option ℕ) (accepts : Accounts) (name password : Bytes)
+    : Type 0 where
   pub name_sent : Lacks LF name × Fits limit (canonical_line (User name))
   pub password_sent : CanBeSent limit password
   pub refused : accepts name password ≡ false

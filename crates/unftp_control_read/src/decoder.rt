@@ -14,6 +14,7 @@ use crate::{Front, read_front};
 use std::alloc::{AllocError, Global};
 use std::io::Read;
 use std::marker::Model;
+use unftp_control_defs::buffer::remove_front;
 use unftp_control_defs::count::Count;
 
 /// Cuts replies from an input that comes in pieces: for a client with an event loop of its own. A
@@ -183,12 +184,7 @@ impl ReplyDecoder {
     fn settle(&mut self)
         ensures { self.new ≡ only_pending self.old }
     {
-        if self.start == 0 {
-            return;
-        }
-        let kept = self.buf.len() - self.start;
-        self.buf.copy_within(self.start.., 0);
-        self.buf.truncate(kept);
+        remove_front(&mut self.buf, self.start);
         self.start = 0;
     }
 

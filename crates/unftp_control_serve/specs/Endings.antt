@@ -21,7 +21,8 @@ pub record Snapshot (S : Type 0) : Type 0 where
   pub failures : ℕ
   pub output : OutputState
 
-abbrev pub snapshot_with : {H S K : Type 0} → (H → S) → (H → ℕ) → (K → OutputState) → H → K → Snapshot S
+abbrev pub snapshot_with : {H S K : Type 0} → (H → S) → (H → ℕ) → (K → OutputState)
+    → H → K → Snapshot S
 snapshot_with state failures output_state handler output = record {
   state = state handler;
   failures = failures handler;

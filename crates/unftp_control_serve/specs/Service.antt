@@ -67,9 +67,10 @@ module _ (limit : Option ℕ) {S : Type 0} (law : Law S) (before after : Snapsho
     pub whole : pieces ≡ first ++ last ∷ []
     pub goes_on : ends_for limit law before.state (concat first) ≡ false
 
-  -- The lines of the run over what was read were answered. Either the run ended, in the last piece;
-  -- or the reader came to its end, and gave nothing then. So many bytes came after the run's last
-  -- line; each byte that did not come after its end was scanned exactly once; and so many were held.
+  -- The lines of the run over what was read were answered. Either the run ended, in the last
+  -- piece; or the reader came to its end, and gave nothing then. So many bytes came after the
+  -- run's last line; each byte that did not come after its end was scanned exactly once; and so
+  -- many were held.
   pub record AnsweredAll (served : Served) : Type 0 where
     pub pieces : List Bytes
     pub were_read : WereRead input input' pieces (if served.done then [] else 0 ∷ [])

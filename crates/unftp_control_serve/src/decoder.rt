@@ -9,6 +9,7 @@ use std::alloc::{AllocError, Global};
 use std::marker::Model;
 use unftp_control_codecs::FtpCodec;
 use unftp_control_command::Command;
+use unftp_control_defs::buffer::remove_front;
 use unftp_control_defs::count::Count;
 use unftp_control_reply::error::{ControlChanError, ControlChanErrorKind};
 
@@ -178,12 +179,7 @@ impl EventDecoder {
     fn settle(&mut self)
         ensures { self.new ≡ settled self.old }
     {
-        if self.start == 0 {
-            return;
-        }
-        let kept = self.buf.len() - self.start;
-        self.buf.copy_within(self.start.., 0);
-        self.buf.truncate(kept);
+        remove_front(&mut self.buf, self.start);
         self.start = 0;
     }
 
