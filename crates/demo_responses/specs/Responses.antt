@@ -1,5 +1,5 @@
 -- What the handler answers, and when it is done.
-use Rattle.std.specs.Prelude.{◌≡◌, ◌||◌, bytes_eq, if◌then◌else◌, Bool, true, false, unwrap_or, codes}
+use Rattle.std.specs.Prelude.{◌≡◌, ◌||◌, bytes_eq, if◌then◌else◌, Bool, false, unwrap_or, codes}
 use Rattle.unftp_control_defs.specs.Bytes.{Bytes}
 use Rattle.unftp_control_defs.specs.FtpCommand.{FtpCommand, Auth, Prot, Feat, Epsv, Help, Mode, Opts, Stru, Mlst, Noop, Quit, Site}
 use Rattle.unftp_control_defs.specs.Events.{FaultKind, FaultSource, FtpEvent, Command, Refused, Parse, is_quit, out_of_memory}
