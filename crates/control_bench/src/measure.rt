@@ -6,7 +6,7 @@ use std::alloc::{AllocError, Global};
 use std::fmt::{Display, Formatter, Write};
 use std::time::Instant;
 use std::{fmt, io};
-use unftp_control_codecs::FtpCodec;
+use unftp_control_serve::codecs::FtpCodec;
 use unftp_control_command::Command;
 use unftp_control_line_parser as line_parser;
 use unftp_control_line_parser::parse;

@@ -10,7 +10,7 @@ pub mod error;
 pub mod write;
 
 pub use bytes;
-pub use unftp_control_codecs as codecs;
+pub use unftp_control_serve::codecs;
 pub use unftp_control_command::password;
 pub use unftp_control_commands as commands;
 pub use unftp_control_laws as laws;

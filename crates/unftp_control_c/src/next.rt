@@ -7,7 +7,7 @@ use crate::areas::overwrite;
 use crate::status::{Status, fault_status};
 use itoa::Buffer;
 use std::alloc::Global;
-use unftp_control_codecs::FtpCodec;
+use unftp_control_serve::codecs::FtpCodec;
 use unftp_control_command::Command;
 use unftp_control_reply::error::ControlChanError;
 use unftp_control_write::parts::parts_of;

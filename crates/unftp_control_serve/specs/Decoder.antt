@@ -5,8 +5,8 @@ use Rattle.unftp_control_defs.specs.Events.{FtpEvent, exceeds}
 use Rattle.unftp_control_defs.specs.Lines.{IsLine}
 use Rattle.unftp_control_line_parser.specs.Memory.{MayTakeMemory}
 use Rattle.unftp_control_defs.specs.TakingSteps.{TakesEvent}
-use Rattle.unftp_control_codecs.specs.Codec.{Codec}
-use Rattle.unftp_control_codecs.specs.Decoding.{Decoded, IsOutOfMemory, IfTooLong, returned_event}
+use Rattle.unftp_control_serve.specs.Codec.{Codec}
+use Rattle.unftp_control_serve.specs.Decoding.{Decoded, IsOutOfMemory, IfTooLong, returned_event}
 use Rattle.unftp_control_serve.specs.declared.event.Event.{Event}
 use Rattle.unftp_control_serve.specs.EventMeaning.{event_meant}
 

@@ -2,12 +2,12 @@
 ghost use Rattle.std.specs.Prelude.{◌≡◌, ◌≤◌, ◌+◌, [], None, Some, IfSome, OnOk, OnErr, length};
 ghost use Rattle.unftp_control_serve.specs.Decoder.{MayRunOut, TakesNext, ReturnsEvent, buffered_after, cleared, kept_bytes, no_bytes, pushed, saturating_u64, settled};
 
+use crate::codecs::FtpCodec;
 use crate::event::Event;
 use crate::send::append;
 use crate::skipped::Skipped;
 use std::alloc::{AllocError, Global};
 use std::marker::Model;
-use unftp_control_codecs::FtpCodec;
 use unftp_control_command::Command;
 use unftp_control_defs::buffer::remove_front;
 use unftp_control_defs::count::Count;

@@ -6,7 +6,7 @@ use crate::shown::Shown;
 use crate::words::{Words, no_case};
 use std::alloc::{AllocError, Global};
 use std::io;
-use unftp_control_codecs::FtpCodec;
+use unftp_control_serve::codecs::FtpCodec;
 use unftp_control_command::Command;
 use unftp_control_reply::error::{ControlChanError, ControlChanErrorKind, Source};
 

@@ -5,7 +5,7 @@ use crate::shown::Quoted;
 use crate::words::{Words, no_case, or_no_case, read_number};
 use std::alloc::Global;
 use std::io;
-use unftp_control_codecs::encode_reply;
+use unftp_control_serve::codecs::encode_reply;
 use unftp_control_reply::error::ControlChanError;
 use unftp_control_reply::{Reply, ReplyCode};
 

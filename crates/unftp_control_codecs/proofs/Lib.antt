@@ -1,4 +1,0 @@
-pub mod LineFeedLemmas
-pub mod CallLemmas
-pub mod MemoryLemmas
-mod EncodingLemmas

@@ -1,5 +1,0 @@
-pub mod Codec
-pub mod LineFeed
-pub mod Decoding
-pub mod Calls
-pub mod Encoding
