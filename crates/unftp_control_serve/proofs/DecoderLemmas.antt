@@ -19,8 +19,8 @@ use Rattle.unftp_control_serve.proofs.MemoryLemmas.{ran_out}
 use Rattle.unftp_control_serve.proofs.LineFeedLemmas.{NoLineFeed, line_feed_at, line_feed_nowhere, lacks_upto, none_below, none_before, lf_at, unskipped, longer}
 use Rattle.unftp_control_serve.specs.declared.event.Event.{Event}
 use Rattle.unftp_control_serve.specs.Decoder.{kept_length}
-use Rattle.unftp_control_serve.specs.EventMeaning.{event_meant}
-use Rattle.unftp_control_serve.specs.Decoder.{IsWithin, IsDropped, IsDecoder, MayRunOut, dropped_after, pending_of, TakesNext, ReturnsEvent}
+use Rattle.unftp_control_serve.specs.EventMeaning.{event_meant, refuses_length}
+use Rattle.unftp_control_serve.specs.Decoder.{IsWithin, IsDropped, IsDecoder, MayRunOut, dropped_after, line_length, pending_of, TakesNext, ReturnsEvent}
 
 -- the event of the first line, of which the codec may have dropped a part
 abbrev first_event : Codec → Bytes → FtpEvent
@@ -232,12 +232,12 @@ module _ (old new : Codec) (dropped before : Bytes) (taken : ℕ) (answer : Deco
           let off : new.skipping ≡ false = no_memory.skipping ∙ no_memory.unskipped in
           none_dropped new dropped' off (unskipped_now off)
 
-  takes_next : {E : Type 0} (buffered held : ℕ) (result : Result (Option Event) E) → ReturnsEvent answer result →
-      TakesNext (pending_of old dropped before buffered held) result (pending_of new dropped' after buffered held)
-  takes_next {E} buffered held result tells = by_result result tells came
+  takes_next : {E : Type 0} (line line' : Bytes) (buffered held : ℕ) (result : Result (Option Event) E) → ReturnsEvent answer result →
+      TakesNext (pending_of old dropped line before buffered held) result (pending_of new dropped' line' after buffered held)
+  takes_next {E} line line' buffered held result tells = by_result result tells came
     where
       by_result : (result : Result (Option Event) E) → ReturnsEvent answer result → Comes old new before after answer →
-          TakesNext (pending_of old dropped before buffered held) result (pending_of new dropped' after buffered held)
+          TakesNext (pending_of old dropped line before buffered held) result (pending_of new dropped' line' after buffered held)
       by_result (Ok None) tells (inl none) = record {
         unended = Lacks-append LF dropped before lost.unended none.unended;
         same = none_same none (is_too_long old (length before + 1)) refl none.leaves;
@@ -272,12 +272,12 @@ module _ (old new : Codec) (dropped before : Bytes) (taken : ℕ) (answer : Deco
         unscanned = rw (no_memory.kept, no_memory.place) refl;
       }
 
-  runs_out : {E : Type 0} (buffered held : ℕ) (result : Result (Option Event) E) → ReturnsEvent answer result →
-      OnErr result (MayRunOut (pending_of old dropped before buffered held))
-  runs_out {E} buffered held result tells = by_result result tells came
+  runs_out : {E : Type 0} (line : Bytes) (buffered held : ℕ) (result : Result (Option Event) E) → ReturnsEvent answer result →
+      OnErr result (MayRunOut (pending_of old dropped line before buffered held))
+  runs_out {E} line buffered held result tells = by_result result tells came
     where
       by_result : (result : Result (Option Event) E) → ReturnsEvent answer result → Comes old new before after answer →
-          OnErr result (MayRunOut (pending_of old dropped before buffered held))
+          OnErr result (MayRunOut (pending_of old dropped line before buffered held))
       by_result (Ok event) tells comes = tt
       by_result (Err error) tells (inl none) = absurd (none_no_memory answer none.returned tells)
       by_result (Err error) tells (inr (inl first)) = absurd (line_no_memory old first.line answer first.returned tells)
@@ -290,8 +290,33 @@ module _ (old new : Codec) (dropped before : Bytes) (taken : ℕ) (answer : Deco
         takes_memory = no_memory.takes_memory;
       }
 
+  -- the line of an event that is not that of one too long: none of its bytes were dropped
+  line_taken : {E : Type 0} (result : Result (Option Event) E) → ReturnsEvent answer result →
+      take (line_length result taken) before ≡ take (line_length result (length (dropped ++ before) - length (dropped' ++ after))) (dropped ++ before)
+  line_taken (Ok None) tells = refl
+  line_taken (Err error) tells = refl
+  line_taken (Ok (Some event)) tells = by_length (refuses_length (event_meant event)) refl came
+    where
+      off : (skipping : Bool) → old.skipping ≡ skipping → (line : Bytes) → event_meant event ≡ first_event old line →
+          refuses_length (event_meant event) ≡ false → old.skipping ≡ false
+      off false none line same short = none
+      off true on line same short =
+          let long : first_event old line ≡ Refused line_too_long = rw on refl in
+          absurd (cc (ap refuses_length (same ∙ long), short))
+
+      by_length : (too_long : Bool) → refuses_length (event_meant event) ≡ too_long → Comes old new before after answer →
+          take (if too_long then 0 else taken) before
+          ≡ take (if too_long then 0 else (length (dropped ++ before) - length (dropped' ++ after))) (dropped ++ before)
+      by_length true long comes = refl
+      by_length false short (inl none) = absurd (none-some _ (sym none.returned ∙ tells.0))
+      by_length false short (inr (inl first)) =
+          let same = same_Some (event_meant event) (first_event old first.line) (sym tells.0 ∙ first.returned) in
+          let none : dropped ≡ [] = dropped_none old dropped lost (off old.skipping refl first.line same short) in
+          rw (unskipped_now first.skipping, none) (ap (λ n. take n before) (omega (arith, within, length-drop taken before)))
+      by_length false short (inr (inr no_memory)) = absurd (tells.1 no_memory.no_memory)
+
 -- the same of the bytes of a buffer from a place on
-module _ (old new : Codec) (dropped dropped' buf pending front : Bytes) (start taken held : ℕ) (skipping : Bool) (answer : Decoded) (well : IsDecoder old dropped buf start held)
+module _ (old new : Codec) (dropped dropped' buf pending front : Bytes) (start line taken held : ℕ) (skipping : Bool) (answer : Decoded) (well : IsDecoder old dropped buf start line held)
     (from_start : pending ≡ drop start buf) (to_taken : front ≡ take taken pending) (goes_on : dropped' ≡ dropped_after skipping dropped front) (skips : skipping ≡ new.skipping)
     (limit : new.limit ≡ old.limit) (within : taken + new.place ≤ length pending) (decodes : Decodes old new pending (drop taken pending) answer) where
   abbrev rest : Bytes
@@ -306,21 +331,50 @@ module _ (old new : Codec) (dropped dropped' buf pending front : Bytes) (start t
   dropped_of_the_rest : dropped' ≡ dropped_after new.skipping dropped (take taken rest)
   dropped_of_the_rest = goes_on ∙ ap (λ b. dropped_after b dropped front) skips ∙ ap (dropped_after new.skipping dropped) (to_taken ∙ ap (take taken) from_start)
 
-  pub decoder-after : IsDecoder new dropped' buf (start + taken) held
-  decoder-after = record {
+  line_length-within : {E : Type 0} (result : Result (Option Event) E) → line_length result taken ≤ taken
+  line_length-within (Ok None) = omega arith
+  line_length-within (Err error) = omega arith
+  line_length-within (Ok (Some event)) = by_length (refuses_length (event_meant event))
+    where
+      by_length : (too_long : Bool) → (if too_long then 0 else taken) ≤ taken
+      by_length true = omega arith
+      by_length false = omega arith
+
+  from_line : {E : Type 0} (result : Result (Option Event) E) →
+      take (line_length result taken) (drop (start + taken - line_length result taken) buf) ≡ take (line_length result taken) rest
+  from_line (Ok None) = refl
+  from_line (Err error) = refl
+  from_line (Ok (Some event)) = by_length (refuses_length (event_meant event))
+    where
+      by_length : (too_long : Bool) →
+          take (if too_long then 0 else taken) (drop (start + taken - (if too_long then 0 else taken)) buf) ≡ take (if too_long then 0 else taken) rest
+      by_length true = refl
+      by_length false = ap (λ n. take taken (drop n buf)) (omega arith)
+
+  pub decoder-after : {E : Type 0} (result : Result (Option Event) E) → IsDecoder new dropped' buf (start + taken) (line_length result taken) held
+  decoder-after result = record {
     start_within = omega (arith, well.start_within, within_the_rest, length-drop start buf);
+    line_within = omega (arith, line_length-within result);
     place_within = rw (← drop-drop taken start buf) (within-after old new dropped rest taken answer well.place_within well.dropped_well well.limited limit within_the_rest of_the_rest);
     dropped_well = rw dropped_of_the_rest (dropped-after old new dropped rest taken answer well.place_within well.dropped_well well.limited limit within_the_rest of_the_rest);
     limited = rw limit well.limited;
     no_more = well.no_more;
   }
 
-  pub takes_next-after : {E : Type 0} (result : Result (Option Event) E) → ReturnsEvent answer result →
-      TakesNext (pending_of old dropped rest (length buf) held) result (pending_of new dropped' (drop (start + taken) buf) (length buf) held)
-  takes_next-after result tells =
+  pub takes_next-after : {E : Type 0} (line' : Bytes) (result : Result (Option Event) E) → ReturnsEvent answer result →
+      TakesNext (pending_of old dropped (take line (drop (start - line) buf)) rest (length buf) held) result (pending_of new dropped' line' (drop (start + taken) buf) (length buf) held)
+  takes_next-after line' result tells =
       rw (← drop-drop taken start buf, dropped_of_the_rest)
-      (takes_next old new dropped rest taken answer well.place_within well.dropped_well well.limited limit within_the_rest of_the_rest (length buf) held result tells)
+      (takes_next old new dropped rest taken answer well.place_within well.dropped_well well.limited limit within_the_rest of_the_rest (take line (drop (start - line) buf)) line' (length buf) held result tells)
 
-  pub runs_out-after : {E : Type 0} (result : Result (Option Event) E) → ReturnsEvent answer result → OnErr result (MayRunOut (pending_of old dropped rest (length buf) held))
+  pub line-after : {E : Type 0} (result : Result (Option Event) E) → ReturnsEvent answer result →
+      take (line_length result taken) (drop (start + taken - line_length result taken) buf)
+      ≡ take (line_length result (length (dropped ++ rest) - length (dropped' ++ drop (start + taken) buf))) (dropped ++ rest)
+  line-after result tells =
+      rw (← drop-drop taken start buf, dropped_of_the_rest)
+      (from_line result ∙ line_taken old new dropped rest taken answer well.place_within well.dropped_well well.limited limit within_the_rest of_the_rest result tells)
+
+  pub runs_out-after : {E : Type 0} (result : Result (Option Event) E) → ReturnsEvent answer result →
+      OnErr result (MayRunOut (pending_of old dropped (take line (drop (start - line) buf)) rest (length buf) held))
   runs_out-after result tells =
-      runs_out old new dropped rest taken answer well.place_within well.dropped_well well.limited limit within_the_rest of_the_rest (length buf) held result tells
+      runs_out old new dropped rest taken answer well.place_within well.dropped_well well.limited limit within_the_rest of_the_rest (take line (drop (start - line) buf)) (length buf) held result tells

@@ -8,7 +8,7 @@ use Rattle.unftp_control_defs.specs.TakingSteps.{TakesEvent}
 use Rattle.unftp_control_serve.specs.Codec.{Codec}
 use Rattle.unftp_control_serve.specs.Decoding.{Decoded, IsOutOfMemory, IfTooLong, returned_event}
 use Rattle.unftp_control_serve.specs.declared.event.Event.{Event}
-use Rattle.unftp_control_serve.specs.EventMeaning.{event_meant}
+use Rattle.unftp_control_serve.specs.EventMeaning.{event_meant, refuses_length}
 
 -- a number as 64 bits hold it, the greatest for each greater one
 abbrev pub saturating_u64 : ℕ → ℕ
@@ -35,9 +35,11 @@ pub record IsDropped (codec : Codec) (dropped : Bytes) : Type 0 where
 abbrev pub dropped_after : Bool → Bytes → Bytes → Bytes
 dropped_after skipping dropped bytes = if skipping then dropped ++ bytes else []
 
--- What is so of a decoder: the lines before `start` are taken.
-pub record IsDecoder (codec : Codec) (dropped buf : Bytes) (start held : ℕ) : Type 0 where
+-- What is so of a decoder: the lines before `start` are taken, and the last of them has so many
+-- bytes.
+pub record IsDecoder (codec : Codec) (dropped buf : Bytes) (start line held : ℕ) : Type 0 where
   pub start_within : start ≤ length buf
+  pub line_within : line ≤ start
   pub place_within : IsWithin codec (drop start buf)
   pub dropped_well : IsDropped codec dropped
   pub limited : IfSome codec.limit (λ limit. 1 ≤ limit)
@@ -49,6 +51,9 @@ pub record Pending : Type 0 where
   pub bytes : Bytes
   pub kept : ℕ
   pub limit : Option ℕ
+  -- the line of the event that was returned last, where nothing was called since that changes the
+  -- decoder; empty where it is too long
+  pub line : Bytes
   -- how many bytes were scanned for a line feed since the buffer was made, and how many of those
   -- that are kept have not been
   pub scanned : ℕ
@@ -64,18 +69,21 @@ no_bytes limit = record {
   bytes = [];
   kept = 0;
   limit = limit;
+  line = [];
   scanned = 0;
   unscanned = 0;
   buffered = 0;
   held = 0;
 }
 
--- of these bytes, which the codec scanned up to its scan offset, after those that were dropped
-abbrev pub pending_of : Codec → Bytes → Bytes → ℕ → ℕ → Pending
-pending_of codec dropped bytes buffered held = record {
+-- of these bytes, which the codec scanned up to its scan offset, after those that were dropped and
+-- after this line
+abbrev pub pending_of : Codec → Bytes → Bytes → Bytes → ℕ → ℕ → Pending
+pending_of codec dropped line bytes buffered held = record {
   bytes = dropped ++ bytes;
   kept = length bytes;
   limit = codec.limit;
+  line = line;
   scanned = codec.tests;
   unscanned = length bytes - codec.place;
   buffered = buffered;
@@ -92,6 +100,7 @@ settled pending = record {
   bytes = pending.bytes;
   kept = pending.kept;
   limit = pending.limit;
+  line = [];
   scanned = pending.scanned;
   unscanned = pending.unscanned;
   buffered = pending.kept;
@@ -104,6 +113,7 @@ pushed pending piece buffered = record {
   bytes = pending.bytes ++ piece;
   kept = pending.kept + length piece;
   limit = pending.limit;
+  line = [];
   scanned = pending.scanned;
   unscanned = pending.unscanned + length piece;
   buffered = buffered;
@@ -116,6 +126,7 @@ cleared pending = record {
   bytes = [];
   kept = 0;
   limit = pending.limit;
+  line = [];
   scanned = pending.scanned;
   unscanned = 0;
   buffered = 0;
@@ -162,6 +173,16 @@ abbrev pub buffered_after : {E : Type 0} → Pending → Result (Option Event) E
 buffered_after before (Ok None) after = after.kept
 buffered_after before (Ok (Some _)) after = before.buffered
 buffered_after before (Err _) after = before.buffered
+
+-- the line of a returned event, of the bytes that were taken: nothing of one that is too long
+abbrev pub line_length : {E : Type 0} → Result (Option Event) E → ℕ → ℕ
+line_length (Ok None) taken = 0
+line_length (Ok (Some event)) taken = if refuses_length (event_meant event) then 0 else taken
+line_length (Err _) taken = 0
+
+abbrev pub line_after : {E : Type 0} → Pending → Result (Option Event) E → Pending → Bytes
+line_after before result after =
+    take (line_length result (length before.bytes - length after.bytes)) before.bytes
 
 -- the event that an answer of the codec is, if any; or out of memory
 abbrev pub ReturnsEvent : {E : Type 0} → Decoded → Result (Option Event) E → Type 0

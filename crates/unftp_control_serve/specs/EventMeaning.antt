@@ -1,5 +1,6 @@
 -- What an event means.
-use Rattle.unftp_control_defs.specs.Events.{FtpEvent, Command, Refused}
+use Rattle.std.specs.Prelude.{Bool, true, false}
+use Rattle.unftp_control_defs.specs.Events.{FaultKind, FtpEvent, Command, LineTooLong, Refused}
 use Rattle.unftp_control_command.specs.CommandMeaning.{command_of}
 use Rattle.unftp_control_reply.specs.ErrorMeaning.{fault_of}
 use Rattle.unftp_control_serve.specs.declared.event.Event.{Event}
@@ -8,3 +9,12 @@ use Rattle.unftp_control_serve.specs.declared.event.Event.TheVariants as event
 abbrev pub event_meant : Event → FtpEvent
 event_meant (event.Command command) = Command (command_of command)
 event_meant (event.Refused error) = Refused (fault_of error)
+
+abbrev pub is_line_too_long : FaultKind → Bool
+is_line_too_long LineTooLong = true
+is_line_too_long _ = false
+
+-- its line is longer than the limit
+abbrev pub refuses_length : FtpEvent → Bool
+refuses_length (Command command) = false
+refuses_length (Refused fault) = is_line_too_long fault.kind

@@ -1,6 +1,6 @@
 //! The pending bytes, and the events of their lines.
 ghost use Rattle.std.specs.Prelude.{◌≡◌, ◌≤◌, ◌+◌, [], None, Some, IfSome, OnOk, OnErr, length};
-ghost use Rattle.unftp_control_serve.specs.Decoder.{MayRunOut, TakesNext, ReturnsEvent, buffered_after, cleared, kept_bytes, no_bytes, pushed, saturating_u64, settled};
+ghost use Rattle.unftp_control_serve.specs.Decoder.{MayRunOut, TakesNext, ReturnsEvent, buffered_after, cleared, kept_bytes, line_after, line_length, no_bytes, pushed, saturating_u64, settled};
 
 use crate::codecs::FtpCodec;
 use crate::event::Event;
@@ -18,28 +18,31 @@ use unftp_control_reply::error::{ControlChanError, ControlChanErrorKind};
 /// two of them the server does what it likes, and after the last it may clear what is pending.
 // The pending bytes begin at `start`: the lines before it are taken. There is no line feed between
 // `start` and the codec's scan offset, which counts from `start`. Where the codec has a limit, it
-// keeps no bytes of a line that is longer: they are `skipped`.
+// keeps no bytes of a line that is longer: they are `skipped`. The `line` bytes before `start` are
+// those of the event that was returned last.
 #[derive(Drop)]
 pub struct EventDecoder {
     codec: FtpCodec,
     buf: Vec<u8>,
     start: usize,
+    line: usize,
     skipped: Skipped,
     held: Count,
 }
 
 impl Model for EventDecoder {
-    ghost use Rattle.std.specs.Prelude.{length, drop};
+    ghost use Rattle.std.specs.Prelude.{◌-◌, length, drop, take};
     ghost use Rattle.unftp_control_serve.specs.Decoder.{IsDecoder, Pending, pending_of};
 
     ghost Value = { Pending };
 
     ghost view = { λ decoder. pending_of decoder.codec decoder.skipped
+        (take decoder.line (drop (decoder.start - decoder.line) decoder.buf.items))
         (drop decoder.start decoder.buf.items)
         (length decoder.buf.items) decoder.held };
 
     ghost invariant = { λ decoder. IsDecoder decoder.codec decoder.skipped
-        decoder.buf.items decoder.start decoder.held };
+        decoder.buf.items decoder.start decoder.line decoder.held };
 }
 
 impl EventDecoder {
@@ -70,6 +73,7 @@ impl EventDecoder {
             codec: FtpCodec::resume(limit, 0, false),
             buf: Vec::new(alloc),
             start: 0,
+            line: 0,
             skipped: Skipped::none(),
             held: Count::new(),
         }
@@ -82,6 +86,15 @@ impl EventDecoder {
         ensures { result.now ≡ kept_bytes self.now }
     {
         self.buf.as_slice().split_at(self.start).1
+    }
+
+    /// The bytes of the line whose event the last call returned, its line feed among them; empty
+    /// where the line is too long, where that call returned no event, and after `push` or `clear`.
+    pub fn line(&self) -> &[u8]
+        ensures { result.now ≡ self.now.line }
+    {
+        let (_, line_on) = self.buf.as_slice().split_at(self.start - self.line);
+        line_on.split_at(self.line).0
     }
 
     /// How many bytes are pending, with those of a line that is too long, or `u64::MAX` where there
@@ -119,6 +132,7 @@ impl EventDecoder {
     {
         append(&mut self.buf, piece)?;
         self.held.raise_to(self.buf.len());
+        self.line = 0;
         // each move is paid for by as many bytes that were taken
         if self.start > self.buf.len() - self.start {
             self.settle();
@@ -135,6 +149,7 @@ impl EventDecoder {
     /// piece.
     pub fn next_event(&mut self) -> Result<Option<Event>, AllocError>
         ensures takes_next { TakesNext self.old result self.new }
+        ensures line { self.new.line ≡ line_after self.old result self.new }
         ensures buffered { self.new.buffered ≡ buffered_after self.old result self.new }
         ensures limit { self.new.limit ≡ self.old.limit }
         ensures held { self.new.held ≡ self.old.held }
@@ -156,6 +171,7 @@ impl EventDecoder {
     /// Takes the first line, whose bytes stay in the buffer.
     fn take_next(&mut self) -> Result<Option<Event>, AllocError>
         ensures takes_next { TakesNext self.old result self.new }
+        ensures line { self.new.line ≡ line_after self.old result self.new }
         ensures buffered { self.new.buffered ≡ self.old.buffered }
         ensures limit { self.new.limit ≡ self.old.limit }
         ensures held { self.new.held ≡ self.old.held }
@@ -172,7 +188,9 @@ impl EventDecoder {
         let (front, _) = pending.split_at(taken);
         self.skipped.go_on(self.codec.skipping(), front);
         self.start += taken;
-        event_from(answer)
+        let event = event_from(answer);
+        self.line = line_length(&event, taken);
+        event
     }
 
     /// Removes the lines that were taken: the pending bytes move to the start of the buffer.
@@ -181,6 +199,7 @@ impl EventDecoder {
     {
         remove_front(&mut self.buf, self.start);
         self.start = 0;
+        self.line = 0;
     }
 
     /// Drops all pending bytes, as a server does where the session ends, or before TLS begins: no
@@ -192,6 +211,7 @@ impl EventDecoder {
         self.codec.reset();
         self.buf.clear();
         self.start = 0;
+        self.line = 0;
         self.skipped = Skipped::none();
     }
 }
@@ -208,5 +228,15 @@ fn event_from(
             ControlChanErrorKind::OutOfMemory => Err(AllocError),
             _ => Ok(Some(Event::Refused(error))),
         },
+    }
+}
+
+/// How many of the bytes that were taken are those of the event's line: none where it is too long.
+fn line_length(event: &Result<Option<Event>, AllocError>, taken: usize) -> usize
+    ensures { result ≡ line_length event.now taken }
+{
+    match event {
+        Ok(Some(event)) if !event.is_line_too_long() => taken,
+        _ => 0,
     }
 }
