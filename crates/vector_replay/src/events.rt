@@ -1,7 +1,7 @@
 //! Calls of a decoder of events.
 use crate::answers::Answers;
 use crate::decoding::put_refusal;
-use crate::shown::Shown;
+use crate::shown::{Quoted, Shown};
 use crate::steps::{Action, Step, read_steps};
 use crate::words::Words;
 use std::alloc::{AllocError, Global};
@@ -25,30 +25,31 @@ fn next_event(
 /// Writes an event.
 fn put_event(event: &Event, answers: &mut Answers) {
     match event {
-        Event::Command(command) => answers.put(format_args!("ok {} | ", Shown(command))),
-        Event::Refused(error) => {
-            put_refusal(error, answers);
-            answers.put(" | ");
-        }
+        Event::Command(command) => answers.put(format_args!("ok {}", Shown(command))),
+        Event::Refused(error) => put_refusal(error, answers),
     }
 }
 
-/// Takes an event and writes it; whether there was one.
-fn take_event(decoder: &mut EventDecoder, answers: &mut Answers) -> bool {
+/// Takes an event and writes it, and its line where that is asked for; whether there was one.
+fn take_event(decoder: &mut EventDecoder, has_lines: bool, answers: &mut Answers) -> bool {
     let taken = next_event(decoder, answers);
     let is_event = matches!(&taken, Ok(Some(_)));
     if let Ok(Some(event)) = &taken {
         put_event(event, answers);
     }
     drop(taken);
+    if is_event && has_lines {
+        answers.put(format_args!(" of {}", Quoted(decoder.line())));
+    }
+    answers.put_unless(!is_event, " | ");
     is_event
 }
 
 /// Takes all events.
-fn take_events(decoder: &mut EventDecoder, answers: &mut Answers) {
+fn take_events(decoder: &mut EventDecoder, has_lines: bool, answers: &mut Answers) {
     // a line has at least one byte, so the last call finds none
     for _ in 0..=decoder.pending().len() {
-        if !take_event(decoder, answers) {
+        if !take_event(decoder, has_lines, answers) {
             break;
         }
     }
@@ -65,15 +66,15 @@ fn push(decoder: &mut EventDecoder, piece: &[u8], answers: &mut Answers) {
 }
 
 /// Makes a step.
-fn make_step(decoder: &mut EventDecoder, step: &Step, answers: &mut Answers) {
+fn make_step(decoder: &mut EventDecoder, has_lines: bool, step: &Step, answers: &mut Answers) {
     match step.action {
         Action::Feed => {
             push(decoder, step.piece.as_slice(), answers);
-            take_events(decoder, answers);
+            take_events(decoder, has_lines, answers);
         }
         Action::Push => push(decoder, step.piece.as_slice(), answers),
         Action::Next => {
-            let _ = take_event(decoder, answers);
+            let _ = take_event(decoder, has_lines, answers);
         }
         Action::Clear => decoder.clear(),
     }
@@ -89,19 +90,20 @@ fn put_left(decoder: &EventDecoder, answers: &mut Answers) {
 }
 
 /// Makes all steps.
-fn make_steps(decoder: &mut EventDecoder, steps: &[Step], answers: &mut Answers) {
+fn make_steps(decoder: &mut EventDecoder, has_lines: bool, steps: &[Step], answers: &mut Answers) {
     let mut separator = "";
     for step in steps {
         answers.put(separator);
-        make_step(decoder, step, answers);
+        make_step(decoder, has_lines, step, answers);
         put_left(decoder, answers);
         separator = " | ";
     }
 }
 
-/// `events LIMIT STEP..`
+/// `events LIMIT STEP..`, or `event_lines LIMIT STEP..`, which writes each event's line too.
 pub fn answer_events(
     alloc: Global,
+    has_lines: bool,
     words: &mut Words<'_>,
     answers: &mut Answers,
 ) -> io::Result<()> {
@@ -111,7 +113,7 @@ pub fn answer_events(
     };
     let steps = read_steps(alloc, words)?;
     answers.begin();
-    make_steps(&mut decoder, steps.as_slice(), answers);
+    make_steps(&mut decoder, has_lines, steps.as_slice(), answers);
     answers.end();
     Ok(())
 }
