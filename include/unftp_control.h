@@ -113,7 +113,9 @@ enum unftp_result {
 /*
  * Takes the next line of the pending bytes (RFC 959, section 5.3). It returns the number of a command,
  * UNFTP_INVALID_COMMAND, UNFTP_INVALID_UTF8, UNFTP_INVALID_EOL, UNFTP_LINE_TOO_LONG or UNFTP_MORE;
- * *used is how many bytes the caller drops from the front of the pending bytes before the next call.
+ * *used is how many bytes the caller drops from the front of the pending bytes before the next call. At
+ * a command and at a refused line they are the line, with what its command drops: the `A` of `TYPE A`,
+ * the `ALL` of `EPSV ALL`. At UNFTP_LINE_TOO_LONG they are its end, or all of it.
  *
  * *offset and *skipping are the caller's to keep with its pending bytes: 0 and false at the start of a
  * connection. No byte before *offset is scanned again, so the time is linear in what was received, and

@@ -6,6 +6,7 @@ mod FirstEndLemmas
 mod StepLemmas
 mod LossyTextLemmas
 mod EventStepLemmas
+mod EventLineLemmas
 mod ReplyStepLemmas
 mod SnapshotLemmas
 mod RunEndExampleLemmas

@@ -2,7 +2,7 @@
 //! that is computed to the relation that a reader believes.
 #![tactic(auto)]
 
-ghost use Rattle.std.specs.Prelude.{◌≡◌, ◌↔◌, ◌<◌, ◌≤◌, ◌+◌, ◌^◌, ℕ, Option, true, false, List, [], ◌∷◌, ◌++◌, length, take, Some, None, Ok, codes};
+ghost use Rattle.std.specs.Prelude.{◌≡◌, ◌↔◌, if◌then◌else◌, ◌<◌, ◌≤◌, ◌+◌, ◌^◌, ℕ, Option, true, false, List, [], ◌∷◌, ◌++◌, length, take, Some, None, Ok, codes};
 ghost use Rattle.std.specs.Char.{IsScalar, encode_utf8};
 ghost use Rattle.std.specs.List.{AllByRecursion, concat, sum_by};
 ghost use Rattle.std.specs.Str.Lossy.{utf8_lossy};
@@ -11,7 +11,7 @@ ghost use Rattle.unftp_control_defs.specs.Bytes.{Bytes, LF, crlf, Lacks};
 ghost use Rattle.unftp_control_defs.specs.Canonical.{canonical_line, HasLine};
 ghost use Rattle.unftp_control_defs.specs.TakingSteps.{TakingStep, TakesEvent, AreTakingSteps, all_pushed, all_taken};
 ghost use Rattle.unftp_control_defs.specs.Pieces.{events_in_turn, events_in_turn, replies_in_turn};
-ghost use Rattle.unftp_control_defs.specs.Events.{FtpEvent, Refused, events, line_too_long, event_for};
+ghost use Rattle.unftp_control_defs.specs.Events.{FtpEvent, Refused, events, exceeds, line_too_long, event_for};
 ghost use Rattle.unftp_control_defs.specs.FtpCommand.{FtpCommand, User, HasTypedFields};
 ghost use Rattle.unftp_control_defs.specs.Run.{run_for, ends_for, text_for, unread, after_end, ends, last_state, replies, run_of};
 ghost use Rattle.unftp_control_defs.specs.Lines.{IsLine, Lines, lines_of, incomplete_line};
@@ -20,6 +20,9 @@ ghost use Rattle.unftp_control_defs.specs.Outcome.{outcome};
 ghost use Rattle.unftp_control_defs.specs.Paths.{ListPath, path_of};
 ghost use Rattle.unftp_control_serve.specs.Calls.{AreDecodeCalls, DecodeCall};
 ghost use Rattle.unftp_control_serve.specs.Codec.{Codec, new_codec};
+ghost use Rattle.unftp_control_serve.specs.Decoder.{Pending, TakesLine, line_after};
+ghost use Rattle.unftp_control_serve.specs.EventMeaning.{event_meant, refuses_length};
+ghost use Rattle.unftp_control_serve.specs.declared.event.Event.{Event};
 ghost use Rattle.unftp_control_defs.specs.Values.{Reads, HasNoValue, escaped};
 ghost use Rattle.unftp_control_defs.specs.ComputedValue.{value_of};
 ghost use Rattle.unftp_control_defs.specs.Verbs.{Cut, verb_of, parameter_of, upper};
@@ -142,6 +145,17 @@ pub fn events_taken_in_steps()
         → AreTakingSteps (TakesEvent limit) [] steps pending → Lacks LF pending
         → (all_taken steps ≡ events limit (all_pushed steps))
         × (pending ≡ incomplete_line (all_pushed steps)) }
+{}
+
+/// The line that a decoder shows is that of the event, whole, and nothing where it is too long, which
+/// is where the event says so.
+pub fn lines_of_events()
+    ensures line { (before after : Pending) (event : Event)
+        (taken : TakesLine before (event_meant event) after)
+        → line_after {E = Unit {0}} before (Ok (Some event)) after
+        ≡ (if refuses_length (event_meant event) then [] else taken.takes.line) }
+    ensures too_long { (limit : Option ℕ) (line : Bytes)
+        → refuses_length (event_for limit line) ≡ exceeds limit (length line) }
 {}
 
 /// Bytes after the line that ended the session change nothing: not what is written, nor the handler's

@@ -13,6 +13,8 @@ pub struct Pending {
     received: Vec<u8>,
     /// How many of the received bytes are used up. `push` drops them.
     used: usize,
+    /// How many of the used bytes, at their end, are the last line.
+    line: usize,
     offset: usize,
     skipping: bool,
     name: Vec<u8>,
@@ -27,6 +29,7 @@ impl Pending {
             limit: limit.map_or(0, NonZeroUsize::get),
             received: Vec::new(),
             used: 0,
+            line: 0,
             offset: 0,
             skipping: false,
             name: Vec::new(),
@@ -41,7 +44,7 @@ impl Pending {
     /// [`Error::OutOfMemory`]; the pending bytes are then as before.
     pub fn push(&mut self, bytes: &[u8]) -> Result<(), Error> {
         self.received.drain(..self.used);
-        self.used = 0;
+        (self.used, self.line) = (0, 0);
         self.received
             .try_reserve(bytes.len())
             .map_err(|_| Error::OutOfMemory)?;
@@ -55,9 +58,13 @@ impl Pending {
     ///
     /// [`Error::OutOfMemory`]; the line is then still pending.
     pub fn next_event(&mut self) -> Result<Option<Event<'_>>, Error> {
+        self.line = 0;
         let next = self.take_line()?;
         if next.status == ffi::MORE {
             return Ok(None);
+        }
+        if next.status != ffi::LINE_TOO_LONG {
+            self.line = next.used;
         }
         if let Some(refusal) = Refusal::of_status(next.status) {
             return Ok(Some(Event::Refused(refusal)));
@@ -70,6 +77,12 @@ impl Pending {
             name: str::from_utf8(&self.name[..next.name_len]).expect("a verb is UTF-8"),
             value: &self.value[..next.value_len],
         })))
+    }
+
+    /// The bytes of the line whose event the last call returned, its line feed among them. It is
+    /// empty where the line is too long, where that call returned no event, and after `push`.
+    pub fn line(&self) -> &[u8] {
+        &self.received[self.used - self.line..self.used]
     }
 
     /// The bytes that are pending.

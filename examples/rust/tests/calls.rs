@@ -60,6 +60,21 @@ fn a_line_over_the_limit_is_refused() -> Result<(), Error> {
 }
 
 #[test]
+fn the_line_has_what_its_command_drops() -> Result<(), Error> {
+    let mut pending = Pending::new(NonZeroUsize::new(10));
+    pending.push(b"TYPE A\r\nMODE s\r\nNOOP NOOP NOOP\r\nNO")?;
+    for line in [&b"TYPE A\r\n"[..], b"MODE s\r\n", b"", b""] {
+        pending.next_event()?;
+        assert_eq!(pending.line(), line);
+    }
+    pending.push(b"OP\n")?;
+    assert_eq!(pending.line(), b"");
+    pending.next_event()?;
+    assert_eq!(pending.line(), b"NOOP\n");
+    Ok(())
+}
+
+#[test]
 fn debug_shows_no_password() -> Result<(), Error> {
     let mut pending = Pending::new(None);
     pending.push(b"PASS secret\r\n")?;
