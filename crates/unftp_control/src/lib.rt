@@ -10,7 +10,6 @@ pub mod error;
 pub mod write;
 
 pub use bytes;
-pub use unftp_control_serve::codecs;
 pub use unftp_control_command::password;
 pub use unftp_control_commands as commands;
 pub use unftp_control_laws as laws;
@@ -19,3 +18,4 @@ pub use unftp_control_login as login;
 pub use unftp_control_read as read;
 pub use unftp_control_reply as reply;
 pub use unftp_control_serve as serve;
+pub use unftp_control_serve::codecs;
