@@ -8,3 +8,4 @@ pub mod NextCode
 pub mod LogEntry
 pub mod Sessions
 pub mod Pieces
+pub mod WholeLine

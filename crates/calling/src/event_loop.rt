@@ -32,7 +32,7 @@ pub enum Turn {
 }
 
 /// Appends a reply to what is to be sent.
-fn reply(
+pub(crate) fn reply(
     alloc: Global,
     out: &mut Vec<u8>,
     code: ReplyCode,

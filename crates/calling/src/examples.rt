@@ -1,19 +1,21 @@
 //! Examples of the definitions of this crate, worked out by hand: values for which each holds and
 //! values for which it doesn't.
-ghost use Rattle.std.specs.Prelude.{◌≡◌, [], ◌∷◌, ◌++◌, None, Ok, Some, codes, true};
+ghost use Rattle.std.specs.Prelude.{◌≡◌, [], ◌∷◌, ◌++◌, None, Ok, Some, codes, false, true};
 ghost use Rattle.calling.specs.EventLoop.{replies_to, turn_after};
 ghost use Rattle.calling.specs.Forwarding.{IsForwarded, IsReason};
 ghost use Rattle.calling.specs.LogEntry.{log_entry};
 ghost use Rattle.calling.specs.NextCode.{begins_tls};
+ghost use Rattle.calling.specs.WholeLine.{AsksFor, modes_after, reply_to};
 ghost use Rattle.unftp_control.specs.Bytes.{Bytes};
 ghost use Rattle.unftp_control.specs.Events.{Command, Refused, refusal_fault};
-ghost use Rattle.unftp_control.specs.FtpCommand.{Auth, InvalidCommand, Pass, Quit, Retr};
+ghost use Rattle.unftp_control.specs.FtpCommand.{Auth, Epsv, InvalidCommand, Pass, Pasv, Quit, Retr, TypeCode};
 ghost use Rattle.unftp_control.specs.FtpReply.{CodeAndMsg};
 ghost use Rattle.unftp_control.specs.Outcome.{outcome};
 ghost use Rattle.unftp_control.specs.declared.commands.AuthParam.TheVariants.{Ssl, Tls};
 
 use crate::event_loop::Turn;
 use crate::proxy::ForwardError;
+use crate::whole_line::{Asked, Modes};
 use unftp_control::line_parser::ParseErrorKind;
 use unftp_control::write::WriteCommandError;
 
@@ -92,4 +94,37 @@ pub fn lines_are_logged()
     ensures refused { log_entry (outcome (codes "RETR\r\n"))
         ≡ codes "parse error: Invalid command\r\n" }
     ensures as_it_came { log_entry (outcome (codes "retr a\n")) ≡ codes "retr a\n" → ⊥ }
+{}
+
+/// The case of letters is ignored, and what follows counts.
+pub fn lines_ask()
+    ensures ascii { AsksFor (codes "type a") Asked.Ascii }
+    ensures local { AsksFor (codes "TYPE L 8") Asked.Image → ⊥ }
+    ensures image { AsksFor (codes "TYPE i") Asked.Image }
+    ensures all { AsksFor (codes "EPSV all") Asked.EpsvOnly }
+    ensures not_all { AsksFor (codes "EPSV") Asked.EpsvOnly → ⊥ }
+    ensures facts { AsksFor (codes "OPTS mlst Size;") Asked.Facts }
+    ensures other_option { AsksFor (codes "OPTS UTF8 ON") Asked.Facts → ⊥ }
+    ensures nothing { AsksFor (codes "NOOP") Asked.Nothing }
+    ensures something { AsksFor (codes "TYPE A") Asked.Nothing → ⊥ }
+{}
+
+/// What a line asks is answered, and PASV and PORT are refused once EPSV ALL came.
+pub fn whole_lines_are_answered()
+    ensures image { reply_to false (Command TypeCode) Asked.Image
+        ≡ CodeAndMsg 200 (codes "Type is I") }
+    ensures no_type { reply_to false (Command TypeCode) Asked.Nothing
+        ≡ CodeAndMsg 504 (codes "No such type") }
+    ensures pasv { reply_to false (Command Pasv) Asked.Nothing
+        ≡ CodeAndMsg 502 (codes "Not here") }
+    ensures pasv_later { reply_to true (Command Pasv) Asked.Nothing
+        ≡ CodeAndMsg 503 (codes "EPSV only") }
+    ensures epsv_later { reply_to true (Command Epsv) Asked.Nothing
+        ≡ CodeAndMsg 502 (codes "Not here") }
+    ensures no_facts { reply_to false (Refused (refusal_fault InvalidCommand)) Asked.Nothing
+        ≡ CodeAndMsg 500 (codes "Not understood") }
+    ensures told { modes_after (record { image = true; epsv_only = false }) (Command Epsv)
+        Asked.EpsvOnly ≡ record { image = true; epsv_only = true } }
+    ensures not_told { modes_after (record { image = true; epsv_only = false }) (Command Epsv)
+        Asked.Nothing ≡ record { image = true; epsv_only = false } }
 {}

@@ -14,3 +14,4 @@ pub mod pieces;
 pub mod proxy;
 pub mod serving;
 pub mod upgrading;
+pub mod whole_line;

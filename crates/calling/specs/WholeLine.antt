@@ -1,0 +1,57 @@
+-- A server that serves what the grammar drops of a line: what each line asks, and what it replies.
+use Rattle.std.specs.Prelude.{◌≡◌, Bool, true, false, Ok, Some, ◌++◌, take, codes}
+use Rattle.std.specs.Str.{IsTrimAsciiEnd, str_to_ascii_lowercase}
+use Rattle.unftp_control.specs.Bytes.{Bytes}
+use Rattle.unftp_control.specs.Decoder.{Pending, TakesLine, line_after}
+use Rattle.unftp_control.specs.EventMeaning.{event_meant}
+use Rattle.unftp_control.specs.Events.{FtpEvent, Command, Refused}
+use Rattle.unftp_control.specs.FtpCommand.{Epsv, Pasv, Port, TypeCode}
+use Rattle.unftp_control.specs.FtpReply.{FtpReply, CodeAndMsg, encoded}
+use Rattle.unftp_control.specs.declared.serve.Event.{Event}
+use Rattle.calling.specs.declared.whole_line.Asked.{Asked}
+use Rattle.calling.specs.declared.whole_line.Asked.TheVariants.{Ascii, Image, EpsvOnly, Facts, Nothing}
+use Rattle.calling.specs.declared.whole_line.Modes.{Modes}
+
+-- the case of letters is ignored (RFC 959, section 5.3)
+abbrev pub Says : Bytes → Bytes → Type 0
+Says text words = str_to_ascii_lowercase text ≡ str_to_ascii_lowercase words
+
+-- TYPE A and TYPE I (RFC 959, section 3.1.1), EPSV ALL (RFC 2428, section 4), OPTS MLST and the
+-- names of facts (RFC 3659, section 7.9)
+abbrev pub AsksFor : Bytes → Asked → Type 0
+AsksFor text Ascii = Says text (codes "TYPE A")
+AsksFor text Image = Says text (codes "TYPE I")
+AsksFor text EpsvOnly = Says text (codes "EPSV ALL")
+AsksFor text Facts = Says (take 10 text) (codes "OPTS MLST ")
+AsksFor text Nothing = (¬ Says text (codes "TYPE A")) × (¬ Says text (codes "TYPE I"))
+    × (¬ Says text (codes "EPSV ALL")) × (¬ Says (take 10 text) (codes "OPTS MLST "))
+
+-- After EPSV ALL, PORT and PASV are refused (RFC 2428, section 4).
+abbrev pub reply_to : Bool → FtpEvent → Asked → FtpReply
+reply_to epsv_only (Command TypeCode) Ascii = CodeAndMsg 200 (codes "Type is A")
+reply_to epsv_only (Command TypeCode) Image = CodeAndMsg 200 (codes "Type is I")
+reply_to epsv_only (Command TypeCode) _ = CodeAndMsg 504 (codes "No such type")
+reply_to epsv_only (Command Epsv) EpsvOnly = CodeAndMsg 200 (codes "EPSV only")
+reply_to true (Command Pasv) _ = CodeAndMsg 503 (codes "EPSV only")
+reply_to true (Command (Port _)) _ = CodeAndMsg 503 (codes "EPSV only")
+reply_to epsv_only (Command _) _ = CodeAndMsg 502 (codes "Not here")
+reply_to epsv_only (Refused _) Facts = CodeAndMsg 200 (codes "MLST OPTS type;size;")
+reply_to epsv_only (Refused _) _ = CodeAndMsg 500 (codes "Not understood")
+
+abbrev pub modes_after : Modes → FtpEvent → Asked → Modes
+modes_after modes (Command TypeCode) Ascii = record { image = false; epsv_only = modes.epsv_only }
+modes_after modes (Command TypeCode) Image = record { image = true; epsv_only = modes.epsv_only }
+modes_after modes (Command Epsv) EpsvOnly = record { image = modes.image; epsv_only = true }
+modes_after modes _ _ = modes
+
+-- The first line is taken, and what it asks is answered and remembered.
+pub record AnswersLine (before : Pending) (modes : Modes) (sent : Bytes)
+    (after : Pending) (modes' : Modes) (sent' : Bytes) : Type 0 where
+  pub event : Event
+  pub takes : TakesLine before (event_meant event) after
+  pub text : Bytes
+  pub is_text : IsTrimAsciiEnd (line_after {E = Unit {0}} before (Ok (Some event)) after) text
+  pub asked : Asked
+  pub asks : AsksFor text asked
+  pub modes_are : modes' ≡ modes_after modes (event_meant event) asked
+  pub appended : sent' ≡ sent ++ encoded (reply_to modes.epsv_only (event_meant event) asked)
