@@ -1,5 +1,5 @@
 -- A server that serves what the grammar drops of a line: what each line asks, and what it replies.
-use Rattle.std.specs.Prelude.{◌≡◌, Bool, true, false, Ok, Some, ◌++◌, take, codes}
+use Rattle.std.specs.Prelude.{◌≡◌, Bool, true, false, Ok, Some, ◌++◌, ◌⊎◌, codes}
 use Rattle.std.specs.Str.{IsTrimAsciiEnd, str_to_ascii_lowercase}
 use Rattle.unftp_control.specs.Bytes.{Bytes}
 use Rattle.unftp_control.specs.Decoder.{Pending, TakesLine, line_after}
@@ -9,22 +9,24 @@ use Rattle.unftp_control.specs.FtpCommand.{Epsv, Pasv, Port, TypeCode}
 use Rattle.unftp_control.specs.FtpReply.{FtpReply, CodeAndMsg, encoded}
 use Rattle.unftp_control.specs.declared.serve.Event.{Event}
 use Rattle.calling.specs.declared.whole_line.Asked.{Asked}
-use Rattle.calling.specs.declared.whole_line.Asked.TheVariants.{Ascii, Image, EpsvOnly, Facts, Nothing}
+use Rattle.calling.specs.declared.whole_line.Asked.TheVariants.{Ascii, Image, EpsvOnly, Nothing}
 use Rattle.calling.specs.declared.whole_line.Modes.{Modes}
 
 -- the case of letters is ignored (RFC 959, section 5.3)
 abbrev pub Says : Bytes → Bytes → Type 0
 Says text words = str_to_ascii_lowercase text ≡ str_to_ascii_lowercase words
 
--- TYPE A and TYPE I (RFC 959, section 3.1.1), EPSV ALL (RFC 2428, section 4), OPTS MLST and the
--- names of facts (RFC 3659, section 7.9)
+abbrev pub SaysOneOf : Bytes → Bytes → Bytes → Type 0
+SaysOneOf text words others = Says text words ⊎ Says text others
+
+-- The types ASCII and image, the latter also as bytes of 8 bits (RFC 959, section 3.1.1; RFC 1123,
+-- section 4.1.2.1), and EPSV ALL (RFC 2428, section 4).
 abbrev pub AsksFor : Bytes → Asked → Type 0
-AsksFor text Ascii = Says text (codes "TYPE A")
-AsksFor text Image = Says text (codes "TYPE I")
+AsksFor text Ascii = SaysOneOf text (codes "TYPE A") (codes "TYPE A N")
+AsksFor text Image = SaysOneOf text (codes "TYPE I") (codes "TYPE L 8")
 AsksFor text EpsvOnly = Says text (codes "EPSV ALL")
-AsksFor text Facts = Says (take 10 text) (codes "OPTS MLST ")
-AsksFor text Nothing = (¬ Says text (codes "TYPE A")) × (¬ Says text (codes "TYPE I"))
-    × (¬ Says text (codes "EPSV ALL")) × (¬ Says (take 10 text) (codes "OPTS MLST "))
+AsksFor text Nothing = (¬ SaysOneOf text (codes "TYPE A") (codes "TYPE A N"))
+    × (¬ SaysOneOf text (codes "TYPE I") (codes "TYPE L 8")) × (¬ Says text (codes "EPSV ALL"))
 
 -- After EPSV ALL, PORT and PASV are refused (RFC 2428, section 4).
 abbrev pub reply_to : Bool → FtpEvent → Asked → FtpReply
@@ -35,7 +37,6 @@ reply_to epsv_only (Command Epsv) EpsvOnly = CodeAndMsg 200 (codes "EPSV only")
 reply_to true (Command Pasv) _ = CodeAndMsg 503 (codes "EPSV only")
 reply_to true (Command (Port _)) _ = CodeAndMsg 503 (codes "EPSV only")
 reply_to epsv_only (Command _) _ = CodeAndMsg 502 (codes "Not here")
-reply_to epsv_only (Refused _) Facts = CodeAndMsg 200 (codes "MLST OPTS type;size;")
 reply_to epsv_only (Refused _) _ = CodeAndMsg 500 (codes "Not understood")
 
 abbrev pub modes_after : Modes → FtpEvent → Asked → Modes

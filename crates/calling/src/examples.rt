@@ -99,12 +99,13 @@ pub fn lines_are_logged()
 /// The case of letters is ignored, and what follows counts.
 pub fn lines_ask()
     ensures ascii { AsksFor (codes "type a") Asked.Ascii }
-    ensures local { AsksFor (codes "TYPE L 8") Asked.Image → ⊥ }
+    ensures print { AsksFor (codes "TYPE A N") Asked.Ascii }
+    ensures carriage { AsksFor (codes "TYPE A C") Asked.Ascii → ⊥ }
     ensures image { AsksFor (codes "TYPE i") Asked.Image }
+    ensures eight_bits { AsksFor (codes "TYPE L 8") Asked.Image }
+    ensures nine_bits { AsksFor (codes "TYPE L 9") Asked.Image → ⊥ }
     ensures all { AsksFor (codes "EPSV all") Asked.EpsvOnly }
     ensures not_all { AsksFor (codes "EPSV") Asked.EpsvOnly → ⊥ }
-    ensures facts { AsksFor (codes "OPTS mlst Size;") Asked.Facts }
-    ensures other_option { AsksFor (codes "OPTS UTF8 ON") Asked.Facts → ⊥ }
     ensures nothing { AsksFor (codes "NOOP") Asked.Nothing }
     ensures something { AsksFor (codes "TYPE A") Asked.Nothing → ⊥ }
 {}
@@ -121,10 +122,10 @@ pub fn whole_lines_are_answered()
         ≡ CodeAndMsg 503 (codes "EPSV only") }
     ensures epsv_later { reply_to true (Command Epsv) Asked.Nothing
         ≡ CodeAndMsg 502 (codes "Not here") }
-    ensures no_facts { reply_to false (Refused (refusal_fault InvalidCommand)) Asked.Nothing
+    ensures refused { reply_to false (Refused (refusal_fault InvalidCommand)) Asked.Nothing
         ≡ CodeAndMsg 500 (codes "Not understood") }
-    ensures told { modes_after (record { image = true; epsv_only = false }) (Command Epsv)
+    ensures remembered { modes_after (record { image = true; epsv_only = false }) (Command Epsv)
         Asked.EpsvOnly ≡ record { image = true; epsv_only = true } }
-    ensures not_told { modes_after (record { image = true; epsv_only = false }) (Command Epsv)
+    ensures unchanged { modes_after (record { image = true; epsv_only = false }) (Command Epsv)
         Asked.Nothing ≡ record { image = true; epsv_only = false } }
 {}

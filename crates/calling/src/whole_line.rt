@@ -1,14 +1,14 @@
-//! A server that serves what the grammar drops of a line: the type of TYPE, EPSV ALL, and the facts
-//! of OPTS MLST.
-ghost use Rattle.std.specs.Prelude.{◌≡◌, false, true, IfErr, IfOk, OnErr};
-ghost use Rattle.std.specs.Str.{IsTrimAsciiEnd};
+//! A server that serves what the grammar drops of a line: the type of TYPE, and EPSV ALL. Its data
+//! connections are left out: EPSV alone is not implemented.
+ghost use Rattle.std.specs.Prelude.{◌≡◌, ◌↔◌, false, true, IfErr, IfOk, IsTrue, OnErr};
 ghost use Rattle.unftp_control.specs.Decoder.{HasNoLine};
 ghost use Rattle.unftp_control.specs.ErrorMeaning.{fault_of};
 ghost use Rattle.unftp_control.specs.EventMeaning.{event_meant};
 ghost use Rattle.unftp_control.specs.Events.{out_of_memory};
 ghost use Rattle.unftp_control.specs.FtpReply.{CodeAndMsg};
 ghost use Rattle.unftp_control.specs.ReplyMeaning.{number_of};
-ghost use Rattle.calling.specs.WholeLine.{AnswersLine, AsksFor, modes_after, reply_to};
+ghost use Rattle.calling.specs.EventLoop.{LeavesUnanswered};
+ghost use Rattle.calling.specs.WholeLine.{AnswersLine, AsksFor, SaysOneOf, modes_after, reply_to};
 
 use crate::event_loop::reply;
 use std::alloc::Global;
@@ -26,8 +26,6 @@ pub enum Asked {
     Image,
     /// No data connections but those of EPSV, as EPSV ALL does.
     EpsvOnly,
-    /// Some facts of files, as OPTS MLST does.
-    Facts,
     /// None of these.
     Nothing,
 }
@@ -41,22 +39,23 @@ pub struct Modes {
     pub epsv_only: bool,
 }
 
-/// What a line begins with that asks for facts.
-const FACTS: &[u8] = b"OPTS MLST ";
+/// Whether the text is one of these, whatever the case of its letters.
+fn says_one_of(text: &[u8], words: &[u8], others: &[u8]) -> bool
+    ensures { IsTrue result ↔ SaysOneOf text.now words.now others.now }
+{
+    text.eq_ignore_ascii_case(words) || text.eq_ignore_ascii_case(others)
+}
 
 /// What the text asks, whatever the case of its letters.
 fn asked_by(text: &[u8]) -> Asked
     ensures { AsksFor text.now result }
 {
-    let (start, _) = text.split_at(FACTS.len().min(text.len()));
-    if text.eq_ignore_ascii_case(b"TYPE A") {
+    if says_one_of(text, b"TYPE A", b"TYPE A N") {
         Asked::Ascii
-    } else if text.eq_ignore_ascii_case(b"TYPE I") {
+    } else if says_one_of(text, b"TYPE I", b"TYPE L 8") {
         Asked::Image
     } else if text.eq_ignore_ascii_case(b"EPSV ALL") {
         Asked::EpsvOnly
-    } else if start.eq_ignore_ascii_case(FACTS) {
-        Asked::Facts
     } else {
         Asked::Nothing
     }
@@ -88,14 +87,14 @@ fn agree(modes: &mut Modes, event: &Event, asked: Asked) -> (ReplyCode, &'static
             (ReplyCode::BadCommandSequence, "EPSV only")
         }
         (Event::Command(_), _) => (ReplyCode::CommandNotImplemented, "Not here"),
-        (Event::Refused(_), Asked::Facts) => (ReplyCode::CommandOkay, "MLST OPTS type;size;"),
         (Event::Refused(_), _) => (ReplyCode::CommandSyntaxError, "Not understood"),
     }
 }
 
 /// Answers the next event by what its line asks, and remembers that; whether there was one.
 ///
-/// It fails only when out of memory: nothing is appended then, and the modes are as before.
+/// It fails only when out of memory: nothing is appended then, and the modes are as before; the line
+/// stays, or is taken and not answered.
 pub fn answer_line(
     alloc: Global,
     decoder: &mut EventDecoder,
@@ -106,8 +105,10 @@ pub fn answer_line(
         × (modes.new ≡ modes.old) × (out.new.items ≡ out.old.items)) }
     ensures line { IfOk result (λ more. (more ≡ true) → AnswersLine
         decoder.old modes.old out.old.items decoder.new modes.new out.new.items) }
-    ensures err { OnErr result ((modes.new ≡ modes.old) × (out.new.items ≡ out.old.items)) }
+    ensures err { OnErr result ((modes.new ≡ modes.old)
+        × LeavesUnanswered decoder.old out.old.items decoder.new out.new.items) }
     ensures memory { IfErr result (λ error. fault_of error ≡ out_of_memory) }
+    ensures limit { decoder.new.limit ≡ decoder.old.limit }
 {
     let Some(event) = decoder.next_event()? else {
         return Ok(false);

@@ -3,6 +3,7 @@
 
 pub mod decoding;
 pub mod engine;
+pub mod lines;
 pub mod memory;
 pub mod receiving;
 pub mod serving;

@@ -147,8 +147,8 @@ pub fn events_taken_in_steps()
         × (pending ≡ incomplete_line (all_pushed steps)) }
 {}
 
-/// The line that a decoder shows is that of the event, whole, and nothing where it is too long, which
-/// is where the event says so.
+/// The line that a decoder returns is the one that its last event is of. Where the line is longer
+/// than the limit it is empty; the event then says so, and no other does.
 pub fn lines_of_events()
     ensures line { (before after : Pending) (event : Event)
         (taken : TakesLine before (event_meant event) after)
