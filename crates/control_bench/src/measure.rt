@@ -6,13 +6,13 @@ use std::alloc::{AllocError, Global};
 use std::fmt::{Display, Formatter, Write};
 use std::time::Instant;
 use std::{fmt, io};
+use unftp_control_codecs::FtpCodec;
 use unftp_control_command::Command;
 use unftp_control_line_parser as line_parser;
 use unftp_control_line_parser::parse;
 use unftp_control_read::{Front, ReadReplyError, read_reply};
 use unftp_control_reply::error::ControlChanError;
 use unftp_control_reply::{Reply, ReplyCode};
-use unftp_control_serve::codecs::FtpCodec;
 use unftp_control_serve::{Event, EventDecoder};
 
 /// Lines of a session, about as long as those that clients send.

@@ -25,10 +25,10 @@ pub use Rattle.unftp_control_reply.specs.ParseRefusal
 pub use Rattle.unftp_control_reply.specs.ErrorParts
 pub use Rattle.unftp_control_reply.specs.ErrorMeaning
 pub use Rattle.unftp_control_reply.specs.ReplyMeaning
-pub use Rattle.unftp_control_serve.specs.Codec
-pub use Rattle.unftp_control_serve.specs.LineFeed
-pub use Rattle.unftp_control_serve.specs.Decoding
-pub use Rattle.unftp_control_serve.specs.Calls
+pub use Rattle.unftp_control_codecs.specs.Codec
+pub use Rattle.unftp_control_codecs.specs.LineFeed
+pub use Rattle.unftp_control_codecs.specs.Decoding
+pub use Rattle.unftp_control_codecs.specs.Calls
 pub use Rattle.unftp_control_commands.specs.Answers
 pub use Rattle.unftp_control_commands.specs.Facts
 pub use Rattle.unftp_control_commands.specs.ReplyTexts

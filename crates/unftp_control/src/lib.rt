@@ -10,6 +10,7 @@ pub mod error;
 pub mod write;
 
 pub use bytes;
+pub use unftp_control_codecs as codecs;
 pub use unftp_control_command::password;
 pub use unftp_control_commands as commands;
 pub use unftp_control_laws as laws;
@@ -18,4 +19,3 @@ pub use unftp_control_login as login;
 pub use unftp_control_read as read;
 pub use unftp_control_reply as reply;
 pub use unftp_control_serve as serve;
-pub use unftp_control_serve::codecs;

@@ -3,7 +3,7 @@ use Rattle.std.proofs.Common.{◌≡◌, ◌≢◌, ℕ, ◌+◌, ◌<◌, Bool,
 use Rattle.unftp_control_defs.specs.FtpCommand.{Answer, FtpCommand, Refusal, User, InvalidCommand, InvalidUtf8, InvalidEol}
 use Rattle.unftp_control_defs.specs.NameAndValue.{name_and_value, command_number}
 use Rattle.unftp_control_defs.specs.Outcome.{outcome}
-use Rattle.unftp_control_serve.specs.LineFeed.{line_feed_from}
+use Rattle.unftp_control_codecs.specs.LineFeed.{line_feed_from}
 use Rattle.unftp_control_c.specs.declared.status.Status.TheVariants.{More, NoRoom, OutOfMemory, InvalidArgument}
 use Rattle.unftp_control_c.specs.Next.{value_of_command, Call, Left, Leaves, answered, by_line_feed, ended, gives, has_room, incomplete, is_long, is_within, kept, next_of}
 use Rattle.unftp_control_c.specs.Numbers.{refusal_status, status_number}

@@ -12,12 +12,12 @@ use Rattle.unftp_control_command.specs.declared.Command.{Command as RustCommand}
 use Rattle.unftp_control_command.specs.CommandMeaning.{command_of}
 use Rattle.unftp_control_reply.specs.ErrorParts.{KindAndSource}
 use Rattle.unftp_control_reply.specs.ErrorMeaning.{fault_of}
-use Rattle.unftp_control_serve.specs.Codec.{Codec}
-use Rattle.unftp_control_serve.specs.LineFeed.{line_feed_from}
-use Rattle.unftp_control_serve.specs.Decoding.{Decoded, Decodes, FindsNone, SkipsAll, CutsLine, KeepsLine, IfTooLong, AnswersNone, AnswersLine, IsOutOfMemory, parser_out_of_memory, returned_event}
-use Rattle.unftp_control_serve.proofs.MemoryLemmas.{ran_out}
+use Rattle.unftp_control_codecs.specs.Codec.{Codec}
+use Rattle.unftp_control_codecs.specs.LineFeed.{line_feed_from}
+use Rattle.unftp_control_codecs.specs.Decoding.{Decoded, Decodes, FindsNone, SkipsAll, CutsLine, KeepsLine, IfTooLong, AnswersNone, AnswersLine, IsOutOfMemory, parser_out_of_memory, returned_event}
+use Rattle.unftp_control_codecs.proofs.MemoryLemmas.{ran_out}
 use Rattle.unftp_control_line_parser.specs.Memory.{MayTakeMemory}
-use Rattle.unftp_control_serve.proofs.LineFeedLemmas.{line_feed_at}
+use Rattle.unftp_control_codecs.proofs.LineFeedLemmas.{line_feed_at}
 use Rattle.unftp_control_c.specs.declared.status.Status.{Status}
 use Rattle.unftp_control_c.specs.declared.status.Status.TheVariants.{More, NoRoom, OutOfMemory}
 use Rattle.unftp_control_c.specs.Numbers.{fault_status, keeps_bytes, refusal_status, status_number}

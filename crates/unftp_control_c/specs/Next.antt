@@ -8,8 +8,8 @@ use Rattle.unftp_control_defs.specs.Outcome.{outcome}
 use Rattle.unftp_control_line_parser.specs.Memory.{MayTakeMemory}
 use Rattle.unftp_control_command.specs.CommandMeaning.{command_of}
 use Rattle.unftp_control_reply.specs.ErrorMeaning.{fault_of}
-use Rattle.unftp_control_serve.specs.LineFeed.{line_feed_from}
-use Rattle.unftp_control_serve.specs.Decoding.{Decoded}
+use Rattle.unftp_control_codecs.specs.LineFeed.{line_feed_from}
+use Rattle.unftp_control_codecs.specs.Decoding.{Decoded}
 use Rattle.unftp_control_c.specs.declared.status.Status.{Status}
 use Rattle.unftp_control_c.specs.declared.status.Status.TheVariants.{More, LineTooLong, OutOfMemory, NoRoom, InvalidArgument}
 use Rattle.unftp_control_c.specs.Numbers.{status_number, fault_status, refusal_status}

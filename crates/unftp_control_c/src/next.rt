@@ -7,9 +7,9 @@ use crate::areas::overwrite;
 use crate::status::{Status, fault_status};
 use itoa::Buffer;
 use std::alloc::Global;
+use unftp_control_codecs::FtpCodec;
 use unftp_control_command::Command;
 use unftp_control_reply::error::ControlChanError;
-use unftp_control_serve::codecs::FtpCodec;
 use unftp_control_write::parts::parts_of;
 
 /// The next event of the pending bytes: `unftp_next` of include/unftp_control.h.

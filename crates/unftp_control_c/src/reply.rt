@@ -14,10 +14,10 @@ use crate::status::Status;
 use itoa::Buffer;
 use std::alloc::Global;
 use std::str::from_utf8;
+use unftp_control_codecs::encode_reply;
 use unftp_control_read::{FoundReply, find_reply};
 use unftp_control_reply::error::ControlChanError;
 use unftp_control_reply::{Reply, ReplyCode};
-use unftp_control_serve::codecs::encode_reply;
 
 /// The bytes of a reply: `unftp_reply` of include/unftp_control.h.
 #[unsafe(no_mangle)]

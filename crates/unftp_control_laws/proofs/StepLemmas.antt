@@ -3,9 +3,9 @@ use Rattle.std.proofs.Common.{◌≡◌, ◌+◌, ◌≤◌, List, [], ◌∷◌
 use Rattle.std.specs.List.{sum_by}
 use Rattle.std.proofs.lemmas.List.Sums.{sum_by-cons}
 use Rattle.unftp_control_defs.specs.Bytes.{Bytes}
-use Rattle.unftp_control_serve.specs.Calls.{AreDecodeCalls, DecodeCall}
-use Rattle.unftp_control_serve.specs.Codec.{Codec}
-use Rattle.unftp_control_serve.proofs.CallLemmas.{counts_decode}
+use Rattle.unftp_control_codecs.specs.Calls.{AreDecodeCalls, DecodeCall}
+use Rattle.unftp_control_codecs.specs.Codec.{Codec}
+use Rattle.unftp_control_codecs.proofs.CallLemmas.{counts_decode}
 
 pub scans_of_calls : (old : Codec) (before : Bytes) (calls : List DecodeCall) (new : Codec) (after : Bytes) → old.place ≤ length before → AreDecodeCalls old before calls new after
     → (new.tests + old.place + length after ≡ old.tests + new.place + (length before + sum_by (λ call. length call.appended) calls)) × (new.place ≤ length after)

@@ -18,8 +18,8 @@ ghost use Rattle.unftp_control_defs.specs.Lines.{IsLine, Lines, lines_of, incomp
 ghost use Rattle.unftp_control_defs.specs.LossyText.{Character, LossyText, first_part};
 ghost use Rattle.unftp_control_defs.specs.Outcome.{outcome};
 ghost use Rattle.unftp_control_defs.specs.Paths.{ListPath, path_of};
-ghost use Rattle.unftp_control_serve.specs.Calls.{AreDecodeCalls, DecodeCall};
-ghost use Rattle.unftp_control_serve.specs.Codec.{Codec, new_codec};
+ghost use Rattle.unftp_control_codecs.specs.Calls.{AreDecodeCalls, DecodeCall};
+ghost use Rattle.unftp_control_codecs.specs.Codec.{Codec, new_codec};
 ghost use Rattle.unftp_control_serve.specs.Decoder.{Pending, TakesLine, line_after};
 ghost use Rattle.unftp_control_serve.specs.EventMeaning.{event_meant, refuses_length};
 ghost use Rattle.unftp_control_serve.specs.declared.event.Event.{Event};

@@ -1,7 +1,3 @@
-pub mod LineFeedLemmas
-pub mod CallLemmas
-pub mod MemoryLemmas
-mod EncodingLemmas
 pub mod DecoderLemmas
 pub mod SendLemmas
 pub mod EndingLemmas

@@ -5,8 +5,8 @@ use Rattle.unftp_control_defs.specs.Events.{FtpEvent, exceeds}
 use Rattle.unftp_control_defs.specs.Lines.{IsLine}
 use Rattle.unftp_control_line_parser.specs.Memory.{MayTakeMemory}
 use Rattle.unftp_control_defs.specs.TakingSteps.{TakesEvent}
-use Rattle.unftp_control_serve.specs.Codec.{Codec}
-use Rattle.unftp_control_serve.specs.Decoding.{Decoded, IsOutOfMemory, IfTooLong, returned_event}
+use Rattle.unftp_control_codecs.specs.Codec.{Codec}
+use Rattle.unftp_control_codecs.specs.Decoding.{Decoded, IsOutOfMemory, IfTooLong, returned_event}
 use Rattle.unftp_control_serve.specs.declared.event.Event.{Event}
 use Rattle.unftp_control_serve.specs.EventMeaning.{event_meant, refuses_length}
 
@@ -180,6 +180,7 @@ line_length (Ok None) taken = 0
 line_length (Ok (Some event)) taken = if refuses_length (event_meant event) then 0 else taken
 line_length (Err _) taken = 0
 
+-- the line of the event that was returned: the bytes that were taken, unless it is too long
 abbrev pub line_after : {E : Type 0} → Pending → Result (Option Event) E → Pending → Bytes
 line_after before result after =
     take (line_length result (length before.bytes - length after.bytes)) before.bytes

@@ -1,9 +1,4 @@
 -- To be read in this order.
-pub mod Codec
-pub mod LineFeed
-pub mod Decoding
-pub mod Calls
-pub mod Encoding
 pub mod EventMeaning
 pub mod Decoder
 pub mod ErrorTexts

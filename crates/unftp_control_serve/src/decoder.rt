@@ -2,12 +2,12 @@
 ghost use Rattle.std.specs.Prelude.{◌≡◌, ◌≤◌, ◌+◌, [], None, Some, IfSome, OnOk, OnErr, length};
 ghost use Rattle.unftp_control_serve.specs.Decoder.{MayRunOut, TakesNext, ReturnsEvent, buffered_after, cleared, kept_bytes, line_after, line_length, no_bytes, pushed, saturating_u64, settled};
 
-use crate::codecs::FtpCodec;
 use crate::event::Event;
 use crate::send::append;
 use crate::skipped::Skipped;
 use std::alloc::{AllocError, Global};
 use std::marker::Model;
+use unftp_control_codecs::FtpCodec;
 use unftp_control_command::Command;
 use unftp_control_defs::buffer::remove_front;
 use unftp_control_defs::count::Count;
@@ -88,8 +88,9 @@ impl EventDecoder {
         self.buf.as_slice().split_at(self.start).1
     }
 
-    /// The bytes of the line whose event the last call returned, its line feed among them; empty
-    /// where the line is too long, where that call returned no event, and after `push` or `clear`.
+    /// The bytes of the line whose event the last call of `next_event` returned, its line feed among
+    /// them; empty where the line is too long, where that call returned no event, and after `push` or
+    /// `clear`.
     pub fn line(&self) -> &[u8]
         ensures { result.now ≡ self.now.line }
     {

@@ -8,7 +8,6 @@ ghost use Rattle.unftp_control_serve.specs.Decoder.{kept_length, saturating_u64}
 ghost use Rattle.unftp_control_serve.specs.EventMeaning.{event_meant};
 ghost use Rattle.unftp_control_serve.specs.Engine.{FailedAfter, IsRunning, fed, fresh, more_left, run_with};
 
-use crate::codecs::encode_reply;
 use crate::decoder::EventDecoder;
 use crate::error::ServeError;
 use crate::event::Event;
@@ -16,6 +15,7 @@ use crate::handler::Handler;
 use crate::send::Sink;
 use std::alloc::Global;
 use std::marker::Model;
+use unftp_control_codecs::encode_reply;
 use unftp_control_defs::count::Count;
 use unftp_control_reply::Reply;
 use unftp_control_reply::error::ControlChanError;

@@ -1,10 +1,8 @@
 //! A control connection served: pieces of its input come in, the command or the refusal of each line
 //! is an event, a handler answers it, and the replies go out. A server with a loop of its own takes
-//! the events, or lets an engine answer a piece; `serve` takes a reader and a writer. All stands on
-//! the codec, which takes lines from the start of a buffer and appends replies to the end of one.
+//! the events, or lets an engine answer a piece; `serve` takes a reader and a writer.
 #![tactic(auto)]
 
-pub mod codecs;
 mod decoder;
 mod engine;
 mod error;

@@ -6,9 +6,9 @@ use crate::shown::Shown;
 use crate::words::{Words, no_case};
 use std::alloc::{AllocError, Global};
 use std::io;
+use unftp_control_codecs::FtpCodec;
 use unftp_control_command::Command;
 use unftp_control_reply::error::{ControlChanError, ControlChanErrorKind, Source};
-use unftp_control_serve::codecs::FtpCodec;
 
 /// What `decode` returns.
 type Decoded = Result<Option<Command>, ControlChanError>;

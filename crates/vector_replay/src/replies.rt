@@ -5,9 +5,9 @@ use crate::shown::Quoted;
 use crate::words::{Words, no_case, or_no_case, read_number};
 use std::alloc::Global;
 use std::io;
+use unftp_control_codecs::encode_reply;
 use unftp_control_reply::error::ControlChanError;
 use unftp_control_reply::{Reply, ReplyCode};
-use unftp_control_serve::codecs::encode_reply;
 
 /// The code that the next word is the number of.
 fn read_code(words: &mut Words<'_>) -> io::Result<ReplyCode> {

@@ -2,8 +2,8 @@
 #![tactic(auto, unfolding(unftp_control_defs::proofs::Computing::at_bytes))]
 
 ghost use Rattle.std.specs.Prelude.{[], ◌∷◌, false, None, Some, Ok, codes};
-ghost use Rattle.unftp_control_serve.specs.Calls.{AreDecodeCalls};
-ghost use Rattle.unftp_control_serve.specs.Codec.{new_codec};
+ghost use Rattle.unftp_control_codecs.specs.Calls.{AreDecodeCalls};
+ghost use Rattle.unftp_control_codecs.specs.Codec.{new_codec};
 ghost use Rattle.unftp_control_command.specs.declared.Command.TheVariants.{Noop};
 
 /// Which calls lead from a new codec and an empty buffer to a codec and a buffer.

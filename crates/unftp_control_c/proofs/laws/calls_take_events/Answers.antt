@@ -14,8 +14,8 @@ use Rattle.unftp_control_defs.specs.Outcome.{outcome}
 use Rattle.unftp_control_defs.proofs.LackLemmas.{Lacks-append}
 use Rattle.unftp_control_defs.proofs.LineLemmas.{events-incomplete}
 use Rattle.unftp_control_defs.proofs.TakenEventLemmas.{TakesEvent-events}
-use Rattle.unftp_control_serve.specs.LineFeed.{is_line_feed, line_feed_from}
-use Rattle.unftp_control_serve.proofs.LineFeedLemmas.{NoLineFeed, line_feed_at, line_feed_nowhere, lacks_upto, none_below, none_before, lf_at, unskipped, longer}
+use Rattle.unftp_control_codecs.specs.LineFeed.{is_line_feed, line_feed_from}
+use Rattle.unftp_control_codecs.proofs.LineFeedLemmas.{NoLineFeed, line_feed_at, line_feed_nowhere, lacks_upto, none_below, none_before, lf_at, unskipped, longer}
 use Rattle.unftp_control_c.specs.declared.status.Status.TheVariants.{More, OutOfMemory}
 use Rattle.unftp_control_c.specs.Next.{Call, Left, Leaves, answered, by_line_feed, ended, gives, has_room, incomplete, is_long, is_within, kept, line_limit, next_of}
 use Rattle.unftp_control_c.specs.Numbers.{status_number}

@@ -1,0 +1,4 @@
+pub mod LineFeedLemmas
+pub mod CallLemmas
+pub mod MemoryLemmas
+mod EncodingLemmas

@@ -1,0 +1,11 @@
+use Rattle.std.proofs.Common.{◌≡◌, ◌+◌, ◌-◌}
+use Rattle.unftp_control_codecs.proofs.LineFeedLemmas.{NoLineFeed}
+use Rattle.unftp_control_codecs.proofs.scan.Scan.find_line_feed.Given as goal
+
+abbrev pub invariant-loop-at : goal.invariant-loop-at
+invariant-loop-at l = record {
+  bytes : l.self.bytes.now ≡ l.initial.self.bytes.now;
+  same_reference : l.self.tests.ghost_name ≡ l.initial.self.tests.ghost_name;
+  tests : l.self.tests.now ≡ l.initial.self.tests.now + (l.at - l.from);
+  before : NoLineFeed l.initial.self.bytes.now l.from l.at;
+}

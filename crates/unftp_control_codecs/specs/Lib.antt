@@ -1,0 +1,5 @@
+pub mod Codec
+pub mod LineFeed
+pub mod Decoding
+pub mod Calls
+pub mod Encoding

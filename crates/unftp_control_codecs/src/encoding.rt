@@ -1,0 +1,154 @@
+//! The bytes of replies.
+ghost use Rattle.std.specs.Prelude.{◌≡◌, ◌==◌, ◌∷◌, ◌++◌, take, length, map, flat_map, vec_len, decimal, string_bytes, IsOk, OnOk, if◌then◌else◌};
+ghost use Rattle.unftp_control_defs.specs.Bytes.{SP, crlf};
+ghost use Rattle.unftp_control_defs.specs.FtpReply.{Nothing, MultiLine, encoded, padded, spaced_line};
+ghost use Rattle.unftp_control_reply.specs.ReplyMeaning.{number_of, reply_of};
+ghost use Rattle.unftp_control_codecs.specs.Encoding.{padded_line, lines_before_last};
+
+use std::alloc::AllocError;
+use unftp_control_reply::{Reply, ReplyCode};
+
+/// More bytes than a line of a reply has beside its text: the code and a sign, or a space put
+/// before it, and CR LF.
+const ROOM_BESIDE_TEXT: usize = 16;
+
+/// Appends the bytes of the reply, or perhaps a part of them when out of memory. The buffer grows
+/// once at most.
+pub fn append_reply(reply: &Reply, buf: &mut Vec<u8>) -> Result<(), AllocError>
+    ensures ok { OnOk result (buf.new.items ≡ buf.old.items ++ encoded (reply_of reply.now)) }
+    ensures kept { take (vec_len buf.old) buf.new.items ≡ buf.old.items }
+    ensures no_memory { reply_of reply.now ≡ Nothing → IsOk result }
+{
+    match reply {
+        Reply::None => Ok(()),
+        Reply::CodeAndMsg { code, msg } => {
+            buf.reserve(room_for(msg.as_str()))?;
+            append_code(*code, buf)?;
+            append_text(msg.as_str(), buf)
+        }
+        Reply::MultiLine { code, lines } => {
+            buf.reserve(room_for_all(lines.as_slice()))?;
+            append_lines(*code, lines.as_slice(), buf)
+        }
+    }
+}
+
+/// At least as many bytes as a line of a reply with this text has, where so many can be counted.
+fn room_for(text: &str) -> usize {
+    text.len().saturating_add(ROOM_BESIDE_TEXT)
+}
+
+/// At least as many bytes as all lines of a reply have.
+fn room_for_all(lines: &[String]) -> usize {
+    let mut room = ROOM_BESIDE_TEXT;
+    for line in lines {
+        room = room.saturating_add(room_for(line.as_str()));
+    }
+    room
+}
+
+/// Appends the code in decimal.
+fn append_code(code: ReplyCode, buf: &mut Vec<u8>) -> Result<(), AllocError>
+    ensures ok { OnOk result (buf.new.items ≡ buf.old.items ++ decimal (number_of code)) }
+    ensures kept { take (vec_len buf.old) buf.new.items ≡ buf.old.items }
+{
+    let mut digits = itoa::Buffer::new();
+    buf.extend_from_slice(digits.format(code.number()).as_bytes())
+}
+
+/// Appends what follows the code of a reply of one line: a space and the text, or nothing where it
+/// is empty, and CR LF.
+fn append_text(text: &str, buf: &mut Vec<u8>) -> Result<(), AllocError>
+    ensures ok { OnOk result (buf.new.items
+        ≡ buf.old.items ++ (if length text.now == 0 then crlf else spaced_line text.now)) }
+    ensures kept { take (vec_len buf.old) buf.new.items ≡ buf.old.items }
+{
+    if text.is_empty() {
+        return buf.extend_from_slice(b"\r\n");
+    }
+    append_spaced_line(text, buf)
+}
+
+/// Appends the text and CR LF.
+fn append_ended(text: &str, buf: &mut Vec<u8>) -> Result<(), AllocError>
+    ensures ok { OnOk result (buf.new.items ≡ buf.old.items ++ (text.now ++ crlf)) }
+    ensures kept { take (vec_len buf.old) buf.new.items ≡ buf.old.items }
+{
+    buf.extend_from_slice(text.as_bytes())?;
+    buf.extend_from_slice(b"\r\n")
+}
+
+/// Appends a space, the text and CR LF.
+fn append_spaced_line(text: &str, buf: &mut Vec<u8>) -> Result<(), AllocError>
+    ensures ok { OnOk result (buf.new.items ≡ buf.old.items ++ spaced_line text.now) }
+    ensures kept { take (vec_len buf.old) buf.new.items ≡ buf.old.items }
+{
+    buf.push(b' ')?;
+    append_ended(text, buf)
+}
+
+/// Whether the text begins with a digit.
+fn begins_with_digit(text: &str) -> bool
+    ensures { padded text.now ≡ (if result then SP ∷ text.now else text.now) }
+{
+    match text.as_bytes() {
+        [first, ..] => first.is_ascii_digit(),
+        [] => false,
+    }
+}
+
+/// Appends a line before the last: a space where it begins with a digit, the line and CR LF.
+fn append_padded_line(line: &str, buf: &mut Vec<u8>) -> Result<(), AllocError>
+    ensures ok { OnOk result (buf.new.items ≡ buf.old.items ++ padded_line line.now) }
+    ensures kept { take (vec_len buf.old) buf.new.items ≡ buf.old.items }
+{
+    if begins_with_digit(line) {
+        return append_spaced_line(line, buf);
+    }
+    append_ended(line, buf)
+}
+
+/// Appends lines before the last.
+fn append_padded_lines(lines: &[String], buf: &mut Vec<u8>) -> Result<(), AllocError>
+    ensures ok { OnOk result
+        (buf.new.items ≡ buf.old.items ++ flat_map padded_line (map string_bytes lines.now)) }
+    ensures kept { take (vec_len buf.old) buf.new.items ≡ buf.old.items }
+{
+    for line in lines {
+        append_padded_line(line.as_str(), buf)?;
+    }
+    Ok(())
+}
+
+/// Appends the code, a dash and all lines before the last, if there are any.
+fn append_lines_before_last(
+    code: ReplyCode,
+    lines: &[String],
+    buf: &mut Vec<u8>,
+) -> Result<(), AllocError>
+    ensures ok { OnOk result (buf.new.items
+        ≡ buf.old.items ++ lines_before_last (number_of code) (map string_bytes lines.now)) }
+    ensures kept { take (vec_len buf.old) buf.new.items ≡ buf.old.items }
+{
+    if lines.is_empty() {
+        return Ok(());
+    }
+    append_code(code, buf)?;
+    buf.push(b'-')?;
+    append_padded_lines(lines, buf)
+}
+
+/// Appends a reply of these lines.
+fn append_lines(code: ReplyCode, lines: &[String], buf: &mut Vec<u8>) -> Result<(), AllocError>
+    ensures ok { OnOk result (buf.new.items
+        ≡ buf.old.items ++ encoded (MultiLine (number_of code) (map string_bytes lines.now))) }
+    ensures kept { take (vec_len buf.old) buf.new.items ≡ buf.old.items }
+{
+    let Some((last, front)) = lines.split_last() else {
+        append_code(code, buf)?;
+        return append_spaced_line("", buf);
+    };
+    append_lines_before_last(code, front, buf)?;
+    append_code(code, buf)?;
+    append_spaced_line(last.as_str(), buf)
+}

@@ -1,0 +1,297 @@
+//! Takes lines from the start of a buffer, and appends replies to the end of one.
+#![tactic(auto)]
+
+ghost use Rattle.std.specs.Prelude.{◌≡◌, ◌↔◌, ◌+◌, ◌-◌, ◌≤◌, if◌then◌else◌, false, None, IsTrue, ⊤, ◌++◌, length, drop, vec_len, Some, Ok, Err, MatchOption, MatchResult, IsOk, OnOk, OnErr, IfErr};
+ghost use Rattle.unftp_control_defs.specs.Events.{out_of_memory};
+ghost use Rattle.unftp_control_defs.specs.FtpReply.{Nothing, encoded};
+ghost use Rattle.unftp_control_reply.specs.ErrorMeaning.{converted, fault_of};
+ghost use Rattle.unftp_control_reply.specs.declared.error.Source.TheVariants.{Parse};
+ghost use Rattle.unftp_control_reply.specs.ReplyMeaning.{reply_of};
+ghost use Rattle.unftp_control_codecs.specs.Codec.{is_too_long, new_codec};
+ghost use Rattle.unftp_control_codecs.specs.Decoding.{Decodes, IsOutOfMemory};
+
+mod encoding;
+mod scan;
+
+use crate::encoding::append_reply;
+use crate::scan::{Scan, ScanCount};
+use std::alloc::Global;
+use std::marker::Model;
+use unftp_control_command::Command;
+use unftp_control_defs::buffer::remove_front;
+use unftp_control_defs::count::Count;
+use unftp_control_line_parser::parse;
+use unftp_control_reply::Reply;
+use unftp_control_reply::error::{ControlChanError, ControlChanErrorKind, ParseError};
+
+/// Decodes the commands of a control connection, and encodes its replies.
+///
+/// It keeps the scan offset of its buffer, where the search for a line feed goes on, so that no
+/// byte is scanned twice. `place` returns it.
+///
+/// With a limit it keeps no line that is longer: the bytes of such a line leave the buffer as they
+/// come, and `skipping` returns whether some did. The scan offset is then 0.
+#[derive(Drop)]
+pub struct FtpCodec {
+    place: usize,
+    tests: ScanCount,
+    limit: Option<usize>,
+    skipping: bool,
+}
+
+impl Model for FtpCodec {
+    ghost use Rattle.std.specs.Prelude.{◌≡◌, IsTrue};
+    ghost use Rattle.unftp_control_codecs.specs.Codec.{Codec};
+
+    ghost Value = { Codec };
+
+    ghost view = { λ codec. record {
+      place = codec.place;
+      tests = codec.tests;
+      limit = codec.limit;
+      skipping = codec.skipping;
+    } };
+
+    ghost invariant = { λ codec. IsTrue codec.skipping → codec.place ≡ 0 };
+}
+
+impl FtpCodec {
+    /// A new codec: nothing scanned, no limit.
+    pub fn new() -> FtpCodec
+        ensures { result ≡ new_codec None }
+    {
+        FtpCodec::at(0)
+    }
+
+    /// A new codec with a limit: a line of more than `limit` bytes, its line feed counted, is refused,
+    /// whatever it holds (RFC 959 names no limit).
+    pub fn with_limit(limit: usize) -> FtpCodec
+        requires { 1 ≤ limit }
+        ensures { result ≡ new_codec (Some limit) }
+    {
+        FtpCodec::resume(Some(limit), 0, false)
+    }
+
+    /// A codec with this scan offset and no limit, for a caller that keeps only the offset. The first
+    /// line then ends at the first line feed at or after it, so there should be none before it.
+    pub fn at(place: usize) -> FtpCodec
+        ensures { result ≡ record { place = place; tests = 0; limit = None; skipping = false } }
+    {
+        FtpCodec::resume(None, place, false)
+    }
+
+    /// A codec that goes on where another one with this limit stopped, for a caller that keeps only
+    /// what `place` and `skipping` returned. It has scanned nothing itself.
+    pub fn resume(limit: Option<usize>, place: usize, skipping: bool) -> FtpCodec
+        requires limit { MatchOption limit ⊤ (λ most. 1 ≤ most) }
+        requires place { IsTrue skipping → place ≡ 0 }
+        ensures { result
+            ≡ record { place = place; tests = 0; limit = limit; skipping = skipping } }
+    {
+        FtpCodec {
+            place,
+            tests: ScanCount::none(),
+            limit,
+            skipping,
+        }
+    }
+
+    /// Whether the bytes so far of a line that is longer than the limit were dropped. The rest of
+    /// it is dropped too, and at its line feed it is refused.
+    pub fn skipping(&self) -> bool
+        ensures skipping { result ≡ self.now.skipping }
+        ensures place { IsTrue result → self.now.place ≡ 0 }
+    {
+        self.skipping
+    }
+
+    /// Forgets the line that it has begun: its scan offset is 0, and it drops no bytes. The limit and
+    /// the count of scanned bytes stay.
+    pub fn reset(&mut self)
+        ensures { self.new ≡ record {
+          place = 0;
+          tests = self.old.tests;
+          limit = self.old.limit;
+          skipping = false;
+        } }
+    {
+        (self.place, self.skipping) = (0, false);
+    }
+
+    /// The scan offset: where the next search for a line feed begins, in bytes from the start of
+    /// the buffer.
+    pub fn place(&self) -> usize
+        ensures { result ≡ self.now.place }
+    {
+        self.place
+    }
+
+    /// How many bytes were scanned for a line feed. Only contracts see it.
+    pub fn tests(&self) -> Count
+        ensures { result ≡ self.now.tests }
+    {
+        self.tests.count()
+    }
+
+    /// Decodes the first line of `bytes`: returns its length in bytes, and its command (RFC 959,
+    /// section 5.3). While no line is complete, these are 0 and `None`. A line ends at its line
+    /// feed.
+    ///
+    /// With a limit, a line that is longer is refused with `LineTooLong`, without a source, whatever
+    /// it holds. Its bytes are dropped before it ends: where `bytes` has no line feed, and holds
+    /// `limit` bytes or more or goes on with a line of which some were dropped, the length of all of
+    /// `bytes` is returned with `None`, and the caller goes on after them.
+    ///
+    /// It is for bytes that hold many lines: the next call gets the bytes after the line, and
+    /// nothing is moved. The scan offset has to be within `bytes`, as it is after each call: within
+    /// the bytes after the line, or the same bytes with more at their end. The bytes before it are
+    /// not scanned again.
+    ///
+    /// A line that is no command is refused with `Utf8Error` (the parser's `InvalidUtf8`) or
+    /// `InvalidCommand` (its `InvalidCommand` and `InvalidEol`), with the parser's error as source;
+    /// the length is that of the refused line. When out of memory, with the kind `OutOfMemory`, the
+    /// length is 0, and the scan offset is as before.
+    pub fn decode_slice(
+        &mut self,
+        alloc: Global,
+        bytes: &[u8],
+    ) -> (usize, Result<Option<Command>, ControlChanError>)
+        requires { self.old.place ≤ length bytes.now }
+        ensures decodes { Decodes self.old self.new
+            bytes.now (drop result.0 bytes.now) result.1 }
+        ensures within { result.0 + self.new.place ≤ length bytes.now }
+        ensures limit { self.new.limit ≡ self.old.limit }
+        ensures counted { ¬ IsOutOfMemory result.1
+            → self.new.tests + self.old.place ≡ self.old.tests + self.new.place + result.0 }
+        ensures never_fewer { self.old.tests ≤ self.new.tests }
+    {
+        let mut scan = Scan::over(bytes, &mut self.tests);
+        let Some(end) = scan.find_line_feed(self.place) else {
+            return (self.drop_or_keep(bytes.len()), Ok(None));
+        };
+        let answer = if self.is_too_long(end) {
+            Err(ControlChanErrorKind::LineTooLong.into())
+        } else {
+            let (line, _) = bytes.split_at(end + 1);
+            decoded(parse(alloc, line))
+        };
+        if is_out_of_memory(&answer) {
+            return (0, answer);
+        }
+        self.place = 0;
+        self.skipping = false;
+        (end + 1, answer)
+    }
+
+    /// Whether the first line is too long, where so many bytes come before its line feed.
+    fn is_too_long(&self, length: usize) -> bool
+        ensures { result ≡ is_too_long self.now (length + 1) }
+    {
+        match self.limit {
+            _ if self.skipping => true,
+            Some(limit) => limit <= length,
+            None => false,
+        }
+    }
+
+    /// Goes on after so many bytes without a line feed: returns how many of them are dropped, which
+    /// is all of them where the line is too long already.
+    fn drop_or_keep(&mut self, length: usize) -> usize
+        ensures dropped { self.new ≡ record {
+          place = length - result;
+          tests = self.old.tests;
+          limit = self.old.limit;
+          skipping = is_too_long self.old (length + 1);
+        } }
+        ensures all { result ≡ if is_too_long self.old (length + 1) then length else 0 }
+    {
+        self.skipping = self.is_too_long(length);
+        let dropped = if self.skipping { length } else { 0 };
+        self.place = length - dropped;
+        dropped
+    }
+
+    /// Takes the first line from the start of `buf` and returns its command, or `None` while no
+    /// line is complete: it is `decode_slice`, and then the line is removed.
+    ///
+    /// It is for a buffer that holds one line or a few. What follows the line is moved to the start
+    /// of `buf`, so the time grows with what `buf` holds: many lines in one buffer are faster
+    /// decoded by `decode_slice`.
+    ///
+    /// The scan offset has to be within `buf`, as it is after each call, also where `buf` has grown
+    /// at its end since. The errors are those of `decode_slice`: a refused line leaves `buf` as any
+    /// other does, and what follows it stays; when out of memory, `buf` and the scan offset are as
+    /// before. With a limit, `buf` is emptied where `decode_slice` drops all bytes.
+    pub fn decode(
+        &mut self,
+        alloc: Global,
+        buf: &mut Vec<u8>,
+    ) -> Result<Option<Command>, ControlChanError>
+        requires { self.old.place ≤ vec_len buf.old }
+        ensures decodes { Decodes self.old self.new buf.old.items buf.new.items result }
+        ensures within { self.new.place ≤ vec_len buf.new }
+        ensures limit { self.new.limit ≡ self.old.limit }
+        ensures counted { ¬ IsOutOfMemory result
+            → self.new.tests + self.old.place + vec_len buf.new
+            ≡ self.old.tests + self.new.place + vec_len buf.old }
+        ensures never_fewer { self.old.tests ≤ self.new.tests }
+    {
+        let (taken, answer) = self.decode_slice(alloc, buf.as_slice());
+        remove_front(buf, taken);
+        answer
+    }
+
+    /// Appends the bytes of the reply to `buf` and changes no earlier byte (RFC 959, section 4.2);
+    /// `Reply::None` has none. It is `encode_reply`, and the reply is dropped.
+    ///
+    /// It fails only when out of memory, with the kind `OutOfMemory`: `buf` is then as it was.
+    pub fn encode(&mut self, reply: Reply, buf: &mut Vec<u8>) -> Result<(), ControlChanError>
+        ensures ok { OnOk result (buf.new.items ≡ buf.old.items ++ encoded (reply_of reply)) }
+        ensures err { OnErr result (buf.new.items ≡ buf.old.items) }
+        ensures memory { IfErr result (λ error. fault_of error ≡ out_of_memory) }
+        ensures no_memory { reply_of reply ≡ Nothing → IsOk result }
+        ensures codec { self.new ≡ self.old }
+    {
+        encode_reply(&reply, buf)
+    }
+}
+
+/// Appends the bytes of the reply to `buf` and changes no earlier byte (RFC 959, section 4.2);
+/// `Reply::None` has none. `buf` grows once at most.
+///
+/// It fails only when out of memory, with the kind `OutOfMemory`: `buf` is then as it was.
+pub fn encode_reply(reply: &Reply, buf: &mut Vec<u8>) -> Result<(), ControlChanError>
+    ensures ok { OnOk result (buf.new.items ≡ buf.old.items ++ encoded (reply_of reply.now)) }
+    ensures err { OnErr result (buf.new.items ≡ buf.old.items) }
+    ensures memory { IfErr result (λ error. fault_of error ≡ out_of_memory) }
+    ensures no_memory { reply_of reply.now ≡ Nothing → IsOk result }
+{
+    let length = buf.len();
+    if let Err(refused) = append_reply(reply, buf) {
+        buf.truncate(length);
+        return Err(refused.into());
+    }
+    Ok(())
+}
+
+/// The codec's answer for a line that the parser answered so.
+fn decoded(answer: Result<Command, ParseError>) -> Result<Option<Command>, ControlChanError>
+    ensures { MatchResult answer
+        (λ command. result ≡ Ok (Some command))
+        (λ error. result ≡ Err (record { kind = converted error; source = Parse error })) }
+{
+    match answer {
+        Ok(command) => Ok(Some(command)),
+        Err(error) => Err(error.into()),
+    }
+}
+
+/// Whether the answer is that memory ran out.
+fn is_out_of_memory(answer: &Result<Option<Command>, ControlChanError>) -> bool
+    ensures { IsTrue result ↔ IsOutOfMemory answer.now }
+{
+    match answer {
+        Ok(_) => false,
+        Err(error) => matches!(error.kind(), ControlChanErrorKind::OutOfMemory),
+    }
+}

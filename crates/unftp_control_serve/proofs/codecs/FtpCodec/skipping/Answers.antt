@@ -1,4 +1,0 @@
-use Rattle.unftp_control_serve.proofs.codecs.FtpCodec.skipping.Goals as goal
-
-pub returns-clause-skipping : goal.returns-clause-skipping
-returns-clause-skipping c = cc

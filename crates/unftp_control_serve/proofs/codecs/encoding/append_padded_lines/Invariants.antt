@@ -1,6 +1,0 @@
-use Rattle.std.proofs.Common.{◌≡◌, ◌++◌, take, map, flat_map, string_bytes}
-use Rattle.unftp_control_serve.specs.Encoding.{padded_line}
-use Rattle.unftp_control_serve.proofs.codecs.encoding.append_padded_lines.Given as goal
-
-abbrev pub invariant-loop-line : goal.invariant-loop-line
-invariant-loop-line l = l.buf.items ≡ l.fn.buf.items ++ flat_map padded_line (map string_bytes (take l.line-index l.lines))
