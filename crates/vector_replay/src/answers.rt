@@ -97,18 +97,17 @@ impl Answers {
 }
 
 /// What the call returns; where it fails, which only means that memory ran out, it is made again.
-pub fn once_more<T, E: Drop, F: Fn() -> Result<T, E> + Drop>(
-    answers: &mut Answers,
-    call: F,
-) -> Result<T, E>
-    requires { F.IsAlwaysCallable call }
-{
-    match call() {
-        Ok(made) => Ok(made),
-        Err(error) => {
-            drop(error);
-            answers.out_of_memory();
-            call()
+macro_rules! once_more {
+    ($answers:expr, $call:expr) => {
+        match $call {
+            Ok(made) => Ok(made),
+            Err(error) => {
+                drop(error);
+                $answers.out_of_memory();
+                $call
+            }
         }
-    }
+    };
 }
+
+pub(crate) use once_more;

@@ -251,7 +251,7 @@ fn put_reply_to(
     buf: &mut Vec<u8>,
     answers: &mut Answers,
 ) {
-    match once_more(answers, || request.reply(alloc, settings)) {
+    match once_more!(answers, request.reply(alloc, settings)) {
         Ok((reply, change)) => {
             put_reply(&reply, buf, answers);
             drop(reply);
@@ -306,7 +306,7 @@ fn put_reply_with(
         lines[i] = texts[i].as_str();
     }
     let lines = &lines[..count];
-    let made = once_more(answers, || reply_with(alloc, is_help, lines));
+    let made = once_more!(answers, reply_with(alloc, is_help, lines));
     put_made(made, buf, answers);
 }
 
@@ -333,7 +333,7 @@ pub fn answer_epsv(alloc: Global, words: &mut Words<'_>, answers: &mut Answers) 
     let mut buf = Vec::with_capacity(alloc, ROOM)?;
     let port = read_number(words.last()?)?;
     answers.begin();
-    let made = once_more(answers, || make_epsv_reply(alloc, port));
+    let made = once_more!(answers, make_epsv_reply(alloc, port));
     put_made(made, &mut buf, answers);
     answers.end();
     Ok(())
@@ -349,7 +349,7 @@ fn put_text(made: Result<String, ControlChanError>, answers: &mut Answers) {
 
 /// Writes the facts of a file.
 fn put_facts(alloc: Global, file: &File, answers: &mut Answers) {
-    let made = once_more(answers, || format_facts(alloc, file));
+    let made = once_more!(answers, format_facts(alloc, file));
     put_text(made, answers);
 }
 
@@ -373,7 +373,7 @@ pub fn answer_quoted_path(
 ) -> io::Result<()> {
     let path = read_text(alloc, words.last()?)?;
     answers.begin();
-    let made = once_more(answers, || quoted_path(alloc, path.as_str()));
+    let made = once_more!(answers, quoted_path(alloc, path.as_str()));
     put_text(made, answers);
     answers.end();
     Ok(())
@@ -387,7 +387,7 @@ pub fn answer_single_line(
 ) -> io::Result<()> {
     let text = read_text(alloc, words.last()?)?;
     answers.begin();
-    let made = once_more(answers, || single_line_text(alloc, text.as_str()));
+    let made = once_more!(answers, single_line_text(alloc, text.as_str()));
     put_text(made, answers);
     answers.end();
     Ok(())

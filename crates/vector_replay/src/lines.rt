@@ -60,7 +60,7 @@ pub fn answer_parse(alloc: Global, words: &mut Words<'_>, answers: &mut Answers)
 
 /// Writes the text of a clone of the command after that is gone.
 fn put_clone(alloc: Global, command: Command, forms: &mut Forms, answers: &mut Answers) {
-    let cloned = once_more(answers, || command.clone(alloc));
+    let cloned = once_more!(answers, command.clone(alloc));
     let is_same = matches!(&cloned, Ok(copy) if *copy == command);
     drop(command);
     if let Ok(copy) = &cloned {
@@ -87,7 +87,7 @@ pub fn answer_display(
 
 /// Writes the texts and the bytes of a clone of the password after that is gone.
 fn put_password(password: Password, forms: &mut Forms, answers: &mut Answers) {
-    let cloned = once_more(answers, || password.clone());
+    let cloned = once_more!(answers, password.clone());
     let is_same = matches!(&cloned, Ok(copy) if *copy == password);
     drop(password);
     if let Ok(copy) = &cloned {
@@ -121,7 +121,7 @@ pub fn answer_password_from_text(
 ) -> io::Result<()> {
     let text = read_text(alloc, words.last()?)?;
     answers.begin();
-    match once_more(answers, || Password::from_text(alloc, text.as_str())) {
+    match once_more!(answers, Password::from_text(alloc, text.as_str())) {
         Ok(password) => answers.put(Quoted(password.as_ref())),
         Err(_) => answers.put("failed"),
     }

@@ -93,7 +93,7 @@ fn put_encoded(alloc: Global, reply: Reply, mut buf: Vec<u8>, answers: &mut Answ
     let is_appended = append_reply(&reply, &mut buf, answers);
     answers.put_unless(is_appended, "failed ");
     let of_reply = buf.len().saturating_sub(1);
-    let cloned = once_more(answers, || reply.clone(alloc));
+    let cloned = once_more!(answers, reply.clone(alloc));
     let is_same = matches!(&cloned, Ok(copy) if *copy == reply);
     drop(reply);
     if let Ok(copy) = &cloned {
@@ -107,7 +107,7 @@ fn put_encoded(alloc: Global, reply: Reply, mut buf: Vec<u8>, answers: &mut Answ
 
 /// Writes the bytes of the reply that is made of these.
 fn put_made_of(alloc: Global, parts: &Parts, buf: Vec<u8>, answers: &mut Answers) {
-    match once_more(answers, || parts.reply(alloc)) {
+    match once_more!(answers, parts.reply(alloc)) {
         Ok(reply) => put_encoded(alloc, reply, buf, answers),
         Err(_) => answers.put("failed"),
     }
