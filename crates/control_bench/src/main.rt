@@ -6,7 +6,7 @@
 mod measure;
 mod received;
 
-use measure::Measure;
+use measure::{FIGURES, Measure};
 use std::process::ExitCode;
 use std::{env, io};
 
@@ -22,8 +22,8 @@ fn rounds_asked(rt: &HostRuntime) -> io::Result<Option<usize>> {
     }
 }
 
-/// Prints what a measure gave in each of these rounds.
-fn report(rt: &HostRuntime, measure: Measure, rounds: usize) -> io::Result<()> {
+/// Prints what a measure gave in so many rounds.
+fn report(rt: &HostRuntime, name: &str, measure: Measure, rounds: usize) -> io::Result<()> {
     let mut figures = Vec::new(rt.alloc());
     for _ in 0..rounds {
         figures.push(measure.nanoseconds(rt)?)?;
@@ -34,7 +34,7 @@ fn report(rt: &HostRuntime, measure: Measure, rounds: usize) -> io::Result<()> {
         figures.get(figures.len() / 2),
         figures.last(),
     ) {
-        println!(rt; "{measure}: {median} ns ({least} to {greatest})")?;
+        println!(rt; "{name}: {median} ns ({least} to {greatest})")?;
     }
     Ok(())
 }
@@ -42,12 +42,12 @@ fn report(rt: &HostRuntime, measure: Measure, rounds: usize) -> io::Result<()> {
 fn measure_all(rt: &HostRuntime) -> io::Result<()> {
     match rounds_asked(rt)? {
         Some(rounds) => {
-            for measure in Measure::ALL {
-                report(rt, measure, rounds)?;
+            for (name, measure) in FIGURES {
+                report(rt, name, measure, rounds)?;
             }
         }
         None => {
-            for measure in Measure::ALL {
+            for (_, measure) in FIGURES {
                 measure.nanoseconds(rt)?;
             }
         }

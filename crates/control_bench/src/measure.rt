@@ -1,19 +1,15 @@
 //! What is measured.
-ghost use Rattle.std.specs.Prelude.{◌≡◌, IfOk};
+ghost use Rattle.std.specs.Prelude.{◌≡◌};
 
 use crate::received::{receive_large_reply, receive_long_reply, receive_short_replies};
-use std::alloc::{AllocError, Global};
-use std::fmt::{Display, Formatter, Write};
+use std::alloc::Global;
+use std::io;
 use std::time::Instant;
-use std::{fmt, io};
 use unftp_control_codecs::FtpCodec;
-use unftp_control_command::Command;
-use unftp_control_line_parser as line_parser;
 use unftp_control_line_parser::parse;
-use unftp_control_read::{Front, ReadReplyError, read_reply};
-use unftp_control_reply::error::ControlChanError;
+use unftp_control_read::read_reply;
 use unftp_control_reply::{Reply, ReplyCode};
-use unftp_control_serve::{Event, EventDecoder};
+use unftp_control_serve::EventDecoder;
 
 /// Lines of a session, about as long as those that clients send.
 const SESSION: &[&[u8]] = &[
@@ -88,79 +84,97 @@ pub enum Measure {
     DigitLines,
     ReadShortReplies,
     ReadLongReply,
-    /// In pieces of so many bytes, or whole.
-    ReceiveLongReply(Option<usize>),
+    /// In pieces of so many bytes.
+    ReceiveLongReply(usize),
     ReceiveLargeReply,
     /// So many of one line.
     ReceiveShortReplies(usize),
 }
 
-impl Display for Measure {
-    fn fmt<W: Write>(&self, f: &mut Formatter<W>) -> fmt::Result {
-        f.write_str(match self {
-            Measure::DecodeSlice(lines) => {
-                return write!(f, "a line of {lines} in one slice, decoded");
-            }
-            Measure::DecodeLimited(lines) => {
-                return write!(f, "a line of {lines} in one slice, decoded with a limit");
-            }
-            Measure::Events(bytes) => {
-                return write!(f, "a line of {bytes} bytes in one piece, as an event");
-            }
-            Measure::ReceiveLongReply(Some(bytes)) => {
-                return write!(
-                    f,
-                    "1,000 bytes of a reply of 10,000 lines in pieces of {bytes} bytes, received"
-                );
-            }
-            Measure::ReceiveShortReplies(replies) => {
-                return write!(f, "a reply of {replies} of one line in one piece, received");
-            }
-            Measure::ReceiveLongReply(None) => {
-                "1,000 bytes of a reply of 10,000 lines in one piece, received"
-            }
-            Measure::ReceiveLargeReply => {
-                "1,000 bytes of a reply of 15 MB in pieces of 4096 bytes, received"
-            }
-            Measure::Decode => "a line of 1,000 in one buffer, decoded",
-            Measure::Parse => "the same lines, each parsed where it lies",
-            Measure::LongParameter => "a line with a parameter of 4,096 bytes, parsed",
-            Measure::ReplyOfOneLine => "a reply of one line, made and encoded",
-            Measure::Features => "a reply of 13 lines, made and encoded",
-            Measure::DigitLines => "a reply of 100 lines that begin with digits, made and encoded",
-            Measure::ReadShortReplies => "a line of replies of 100 lines, read",
-            Measure::ReadLongReply => "a line of a reply of 10,000 lines, read",
-        })
-    }
-}
+/// The figures: what each is of, and how it is measured.
+pub const FIGURES: [(&str, Measure); 22] = [
+    ("a line of 1,000 in one buffer, decoded", Measure::Decode),
+    (
+        "a line of 1,000 in one slice, decoded",
+        Measure::DecodeSlice(1_000),
+    ),
+    (
+        "a line of 1,000 in one slice, decoded with a limit",
+        Measure::DecodeLimited(1_000),
+    ),
+    (
+        "a line of 10,000 in one slice, decoded",
+        Measure::DecodeSlice(10_000),
+    ),
+    (
+        "a line of 100,000 in one slice, decoded",
+        Measure::DecodeSlice(100_000),
+    ),
+    (
+        "a line of 4 KiB in one piece, as an event",
+        Measure::Events(4 << 10),
+    ),
+    (
+        "a line of 64 KiB in one piece, as an event",
+        Measure::Events(64 << 10),
+    ),
+    (
+        "a line of 1 MiB in one piece, as an event",
+        Measure::Events(1 << 20),
+    ),
+    ("the same lines, each parsed where it lies", Measure::Parse),
+    (
+        "a line with a parameter of 4 KiB, parsed",
+        Measure::LongParameter,
+    ),
+    (
+        "a reply of one line, made and encoded",
+        Measure::ReplyOfOneLine,
+    ),
+    ("a reply of 13 lines, made and encoded", Measure::Features),
+    (
+        "a reply of 100 lines that begin with digits, made and encoded",
+        Measure::DigitLines,
+    ),
+    (
+        "a line of replies of 100 lines, read",
+        Measure::ReadShortReplies,
+    ),
+    (
+        "a line of a reply of 10,000 lines, read",
+        Measure::ReadLongReply,
+    ),
+    (
+        "1 kB of a reply of 10,000 lines in pieces of 1 byte, received",
+        Measure::ReceiveLongReply(1),
+    ),
+    (
+        "1 kB of it in pieces of 64 bytes, received",
+        Measure::ReceiveLongReply(64),
+    ),
+    (
+        "1 kB of it in pieces of 4 KiB, received",
+        Measure::ReceiveLongReply(4096),
+    ),
+    (
+        "1 kB of it in one piece, received",
+        Measure::ReceiveLongReply(usize::MAX),
+    ),
+    (
+        "1 kB of a reply of 15 MB in pieces of 4 KiB, received",
+        Measure::ReceiveLargeReply,
+    ),
+    (
+        "a reply of 1,000 of one line in one piece, received",
+        Measure::ReceiveShortReplies(1_000),
+    ),
+    (
+        "a reply of 10,000 of one line in one piece, received",
+        Measure::ReceiveShortReplies(10_000),
+    ),
+];
 
 impl Measure {
-    /// All of them.
-    pub const ALL: [Measure; 22] = [
-        Measure::Decode,
-        Measure::DecodeSlice(1_000),
-        Measure::DecodeLimited(1_000),
-        Measure::DecodeSlice(10_000),
-        Measure::DecodeSlice(100_000),
-        Measure::Events(4 << 10),
-        Measure::Events(64 << 10),
-        Measure::Events(1 << 20),
-        Measure::Parse,
-        Measure::LongParameter,
-        Measure::ReplyOfOneLine,
-        Measure::Features,
-        Measure::DigitLines,
-        Measure::ReadShortReplies,
-        Measure::ReadLongReply,
-        Measure::ReceiveLongReply(Some(1)),
-        Measure::ReceiveLongReply(Some(64)),
-        Measure::ReceiveLongReply(Some(4096)),
-        Measure::ReceiveLongReply(None),
-        Measure::ReceiveLargeReply,
-        Measure::ReceiveShortReplies(1_000),
-        Measure::ReceiveShortReplies(10_000),
-    ];
-
     /// How long one line or reply takes, over one round.
     pub fn nanoseconds(self, rt: &HostRuntime) -> io::Result<u128> {
         match self {
@@ -186,14 +200,23 @@ impl Measure {
     }
 }
 
-/// The error of a round whose lines are not all commands, as when out of memory.
-fn no_command() -> io::Error {
-    io::ErrorKind::InvalidData.into()
+/// What a call returned; it is an error that it failed.
+pub fn made<T, E: Drop>(answer: Result<T, E>) -> io::Result<T> {
+    match answer {
+        Ok(made) => Ok(made),
+        Err(error) => {
+            drop(error);
+            Err(io::ErrorKind::InvalidData.into())
+        }
+    }
 }
 
-/// The error of a round that runs out of memory.
-pub fn no_memory() -> io::Error {
-    io::ErrorKind::OutOfMemory.into()
+/// What a call found; it is an error that it found none.
+fn found<T, E: Drop>(answer: Result<Option<T>, E>) -> io::Result<T> {
+    match made(answer)? {
+        Some(found) => Ok(found),
+        None => Err(io::ErrorKind::InvalidData.into()),
+    }
 }
 
 /// Nanoseconds for each of so many lines or replies since the start of a round.
@@ -211,61 +234,12 @@ fn sessions(alloc: Global, repeats: usize) -> io::Result<Vec<u8>> {
     Ok(buf)
 }
 
-/// Drops the command that was decoded; it is an error that there is none.
-fn drop_decoded(decoded: Result<Option<Command>, ControlChanError>) -> io::Result<()> {
-    match decoded {
-        Ok(Some(command)) => {
-            drop(command);
-            Ok(())
-        }
-        Ok(None) => Err(no_command()),
-        Err(error) => {
-            drop(error);
-            Err(no_command())
-        }
-    }
-}
-
-/// How many bytes were taken; the command is dropped, and it is an error that there is none.
-fn taken(answer: (usize, Result<Option<Command>, ControlChanError>)) -> io::Result<usize>
-    ensures { IfOk result (λ taken. taken ≡ answer.0) }
-{
-    let (taken, decoded) = answer;
-    drop_decoded(decoded)?;
-    Ok(taken)
-}
-
-/// Drops the command that was parsed; it is an error that there is none.
-fn drop_parsed(parsed: line_parser::Result<Command>) -> io::Result<()> {
-    match parsed {
-        Ok(command) => {
-            drop(command);
-            Ok(())
-        }
-        Err(error) => {
-            drop(error);
-            Err(no_command())
-        }
-    }
-}
-
-/// The reply that was made.
-fn made(reply: Result<Reply, ControlChanError>) -> io::Result<Reply> {
-    match reply {
-        Ok(reply) => Ok(reply),
-        Err(error) => {
-            drop(error);
-            Err(no_memory())
-        }
-    }
-}
-
 fn decode_session(rt: &HostRuntime) -> io::Result<u128> {
     let mut buf = sessions(rt.alloc(), REPEATS)?;
     let mut codec = FtpCodec::new();
     let start = Instant::now(rt)?;
     for _ in 0..LINES {
-        drop_decoded(codec.decode(rt.alloc(), &mut buf))?;
+        drop(found(codec.decode(rt.alloc(), &mut buf))?);
     }
     a_line(rt, start, LINES)
 }
@@ -278,22 +252,11 @@ fn decode_slice(rt: &HostRuntime, repeats: usize, mut codec: FtpCodec) -> io::Re
     let mut rest = bytes.as_slice();
     let start = Instant::now(rt)?;
     for _ in 0..lines {
-        let taken = taken(codec.decode_slice(rt.alloc(), rest))?;
+        let (taken, decoded) = codec.decode_slice(rt.alloc(), rest);
+        drop(found(decoded)?);
         rest = rest.split_at(taken).1;
     }
     a_line(rt, start, lines)
-}
-
-/// Drops the event that was taken; it is an error that there is none.
-fn drop_event(taken: Result<Option<Event>, AllocError>) -> io::Result<()> {
-    match taken {
-        Ok(Some(event)) => {
-            drop(event);
-            Ok(())
-        }
-        Ok(None) => Err(no_command()),
-        Err(_) => Err(no_memory()),
-    }
 }
 
 /// Takes the events of the sessions that so many bytes hold, in one piece.
@@ -305,7 +268,7 @@ fn take_events(rt: &HostRuntime, most: usize) -> io::Result<u128> {
     let start = Instant::now(rt)?;
     decoder.push(piece.as_slice())?;
     for _ in 0..lines {
-        drop_event(decoder.next_event())?;
+        drop(found(decoder.next_event())?);
     }
     a_line(rt, start, lines)
 }
@@ -314,7 +277,7 @@ fn parse_session(rt: &HostRuntime) -> io::Result<u128> {
     let start = Instant::now(rt)?;
     for _ in 0..REPEATS {
         for line in SESSION {
-            drop_parsed(parse(rt.alloc(), line))?;
+            drop(made(parse(rt.alloc(), line))?);
         }
     }
     a_line(rt, start, LINES)
@@ -324,7 +287,7 @@ fn parse_long_lines(rt: &HostRuntime) -> io::Result<u128> {
     let line = long_line(rt.alloc())?;
     let start = Instant::now(rt)?;
     for _ in 0..LINES {
-        drop_parsed(parse(rt.alloc(), line.as_slice()))?;
+        drop(made(parse(rt.alloc(), line.as_slice()))?);
     }
     a_line(rt, start, LINES)
 }
@@ -338,22 +301,14 @@ fn long_line(alloc: Global) -> io::Result<Vec<u8>> {
     Ok(line)
 }
 
-/// Appends the bytes of a reply to an empty buffer.
-fn encode(codec: &mut FtpCodec, reply: Reply, buf: &mut Vec<u8>) -> io::Result<()> {
-    buf.clear();
-    match codec.encode(reply, buf) {
-        Ok(()) => Ok(()),
-        Err(_) => Err(no_memory()),
-    }
-}
-
 fn encode_one_line(rt: &HostRuntime) -> io::Result<u128> {
     let mut codec = FtpCodec::new();
     let mut buf = Vec::new(rt.alloc());
     let start = Instant::now(rt)?;
     for _ in 0..LINES {
         let reply = Reply::new(rt.alloc(), ReplyCode::CommandOkay, "OK");
-        encode(&mut codec, made(reply)?, &mut buf)?;
+        buf.clear();
+        made(codec.encode(made(reply)?, &mut buf))?;
     }
     a_line(rt, start, LINES)
 }
@@ -365,7 +320,8 @@ fn encode_lines(rt: &HostRuntime, lines: &[&'static str]) -> io::Result<u128> {
     for _ in 0..LINES {
         let lines = lines.iter().copied();
         let reply = Reply::new_multiline(rt.alloc(), ReplyCode::SystemStatus, lines);
-        encode(&mut codec, made(reply)?, &mut buf)?;
+        buf.clear();
+        made(codec.encode(made(reply)?, &mut buf))?;
     }
     a_line(rt, start, LINES)
 }
@@ -380,26 +336,12 @@ pub fn reply_of(alloc: Global, lines: usize) -> io::Result<Vec<u8>> {
     Ok(bytes)
 }
 
-/// Drops the reply that was read; it is an error that there is none.
-fn drop_read(read: Result<Front, ReadReplyError>) -> io::Result<()> {
-    match read {
-        Ok(front) => {
-            drop(front);
-            Ok(())
-        }
-        Err(error) => {
-            drop(error);
-            Err(no_memory())
-        }
-    }
-}
-
 /// Nanoseconds a line, where this many replies of so many lines are read.
 fn read_replies(rt: &HostRuntime, replies: usize, lines: usize) -> io::Result<u128> {
     let bytes = reply_of(rt.alloc(), lines)?;
     let start = Instant::now(rt)?;
     for _ in 0..replies {
-        drop_read(read_reply(rt.alloc(), bytes.as_slice()))?;
+        drop(made(read_reply(rt.alloc(), bytes.as_slice()))?);
     }
     Ok(start.elapsed(rt)?.as_nanos() / READ_LINES as u128)
 }

@@ -1,5 +1,5 @@
 //! Replies that a client receives in pieces.
-use crate::measure::{no_memory, reply_of};
+use crate::measure::{made, reply_of};
 use std::alloc::Global;
 use std::io;
 use std::time::Instant;
@@ -13,21 +13,6 @@ const MANY_LINES: usize = 483_871;
 
 /// How many bytes a client reads at once.
 const PIECE: usize = 4096;
-
-/// Takes and drops the next reply: returns whether there was one.
-fn take(decoder: &mut ReplyDecoder) -> io::Result<bool> {
-    match decoder.next_reply() {
-        Ok(Some(reply)) => {
-            drop(reply);
-            Ok(true)
-        }
-        Ok(None) => Ok(false),
-        Err(error) => {
-            drop(error);
-            Err(no_memory())
-        }
-    }
-}
 
 /// Takes the replies of bytes that come in pieces of so many: returns how many there were.
 fn take_all(alloc: Global, bytes: &[u8], piece: usize) -> io::Result<usize> {
@@ -43,8 +28,9 @@ fn take_all(alloc: Global, bytes: &[u8], piece: usize) -> io::Result<usize> {
 /// Takes the pending replies, `most` at most: returns how many there were.
 fn take_pending(decoder: &mut ReplyDecoder, most: usize) -> io::Result<usize> {
     for taken in 0..most {
-        if !take(decoder)? {
-            return Ok(taken);
+        match made(decoder.next_reply())? {
+            Some(reply) => drop(reply),
+            None => return Ok(taken),
         }
     }
     Ok(most)
@@ -62,10 +48,9 @@ fn receive_reply(rt: &HostRuntime, lines: usize, piece: usize) -> io::Result<u12
     Ok(time.saturating_mul(1000) / bytes.len().max(1) as u128)
 }
 
-/// Nanoseconds for 1,000 bytes of a reply of 10,000 lines that comes in pieces of so many bytes, or
-/// whole where it is `None`.
-pub fn receive_long_reply(rt: &HostRuntime, piece: Option<usize>) -> io::Result<u128> {
-    receive_reply(rt, LINES, piece.unwrap_or(usize::MAX))
+/// Nanoseconds for 1,000 bytes of a reply of 10,000 lines that comes in pieces of so many bytes.
+pub fn receive_long_reply(rt: &HostRuntime, piece: usize) -> io::Result<u128> {
+    receive_reply(rt, LINES, piece)
 }
 
 /// Nanoseconds for 1,000 bytes of a reply of 15 MB that comes in pieces of 4,096 bytes.
