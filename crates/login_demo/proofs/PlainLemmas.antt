@@ -1,5 +1,5 @@
 -- Each reply is sent, and a client can read it back.
-use Rattle.std.proofs.Common.{◌≡◌, ◌≢◌, ℕ, Bool, true, false, ◌&&◌, nat_le, nat_lt, List, [], ◌∷◌, ◌++◌, Option, Some, None, bytes_eq, cond, decimal, codes, refl, lit<}
+use Rattle.std.proofs.Common.{◌≡◌, ◌≢◌, ℕ, Bool, true, false, ◌&&◌, nat_le, nat_lt, List, [], ◌∷◌, Option, Some, None, bytes_eq, cond, codes, refl}
 use Rattle.std.specs.Fmt.{digits}
 use Rattle.std.specs.List.{AllByRecursion, list_all}
 use Rattle.std.proofs.lemmas.Bool.{and_parts, ltb-true, leb-true}
@@ -11,7 +11,7 @@ use Rattle.unftp_control_defs.specs.FtpCommand as command
 use Rattle.unftp_control_defs.specs.FtpCommand.{FtpCommand}
 use Rattle.unftp_control_defs.specs.FtpReply.{FtpReply, Nothing, CodeAndMsg, MultiLine, HasThreeDigits, IsPlain}
 use Rattle.unftp_control_login.specs.Promises.{IsSentPlain, SendsPlainReplies}
-use Rattle.unftp_control_defs.proofs.LackLemmas.{lacks, Lacks-test, Lacks-append, Lacks-decimal}
+use Rattle.unftp_control_defs.proofs.LackLemmas.{lacks, Lacks-test}
 use Rattle.unftp_control_defs.specs.declared.parameters.ModeParam.TheVariants as mode
 use Rattle.unftp_control_defs.specs.declared.parameters.Opt.TheVariants as opt
 use Rattle.unftp_control_defs.specs.declared.parameters.StruParam.TheVariants as structure
@@ -22,7 +22,7 @@ use Rattle.login_demo.specs.declared.tree.File.TheVariants as file
 use Rattle.login_demo.specs.declared.tree.Entry.{Entry}
 use Rattle.login_demo.specs.declared.tree.Entry.TheVariants as entry
 use Rattle.login_demo.specs.Facts.{mdtm_reply, mlst_reply, pwd_reply, size_reply}
-use Rattle.login_demo.specs.Standing.{fixed_reply, refusal_text, site_reply, standing_reply}
+use Rattle.login_demo.specs.Standing.{fixed_reply, refusal_code, refusal_text, site_reply, standing_reply}
 use Rattle.login_demo.specs.Session.{command_reply, event_reply, files_law, moved_reply, tree_reply}
 
 abbrev pub IsSent : FtpReply → Type 0
@@ -101,6 +101,8 @@ IsSent-fixed command.Stou = IsSent-test _ refl
 IsSent-fixed (command.List x y) = IsSent-test _ refl
 IsSent-fixed (command.Nlst x) = IsSent-test _ refl
 IsSent-fixed (command.Mlsd x) = IsSent-test _ refl
+IsSent-fixed (command.Rnto x) = IsSent-test _ refl
+IsSent-fixed (command.Other x y) = IsSent-test _ refl
 IsSent-fixed _ = IsSent-test _ refl
 
 IsSent-prot : (param : _) → IsSent (prot_reply false param)
@@ -122,10 +124,6 @@ IsSent-site : (name : Bytes) → IsSent (site_reply name)
 IsSent-site name = elim (bytes_eq name (codes "HELP")) as (λ v. IsSent (cond v (CodeAndMsg 214 (codes "SITE has HELP only")) (CodeAndMsg 504 (codes "SITE has HELP only"))))
     [ true ↦ IsSent-test _ refl | false ↦ IsSent-test _ refl ]
 
-IsSent-rest : (offset : ℕ) → IsSent (CodeAndMsg 350 (codes "Restarting at " ++ decimal offset ++ codes "."))
-IsSent-rest offset =
-    line 350 _ refl (Lacks-append LF (codes "Restarting at " ++ decimal offset) (codes ".") (Lacks-append LF (codes "Restarting at ") (decimal offset) (Lacks-test LF (codes "Restarting at ") refl) (Lacks-decimal LF offset (lit< tt))) (Lacks-test LF (codes ".") refl))
-
 IsSent-standing : (c : FtpCommand) → IsSent (standing_reply c)
 IsSent-standing (command.Auth protocol) = IsSent-test _ refl
 IsSent-standing (command.Prot param) = IsSent-test _ refl
@@ -134,7 +132,6 @@ IsSent-standing (command.Opts option) = IsSent-opts option
 IsSent-standing (command.Stru s) = IsSent-stru s
 IsSent-standing command.Feat = IsSent-test _ refl
 IsSent-standing command.Help = IsSent-test _ refl
-IsSent-standing (command.Rest offset) = IsSent-rest offset
 IsSent-standing (command.Site name arguments) = IsSent-site name
 IsSent-standing c = IsSent-fixed c
 
@@ -152,7 +149,7 @@ IsSent-command d (command.User name) = IsSent-test _ refl
 IsSent-command d command.Quit = IsSent-test _ refl
 IsSent-command d c = IsSent-tree d c
 
-IsSent-refusal : (kind : FaultKind) (source : FaultSource) → IsSent (CodeAndMsg 500 (refusal_text kind source))
+IsSent-refusal : (kind : FaultKind) (source : FaultSource) → IsSent (CodeAndMsg (refusal_code source) (refusal_text kind source))
 IsSent-refusal kind (event.Parse None) = IsSent-test _ refl
 IsSent-refusal kind (event.Parse (Some command.InvalidCommand)) = IsSent-test _ refl
 IsSent-refusal kind (event.Parse (Some command.InvalidUtf8)) = IsSent-test _ refl

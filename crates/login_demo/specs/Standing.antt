@@ -1,9 +1,9 @@
 -- The replies that don't depend on the working directory.
-use Rattle.std.specs.Prelude.{false, bytes_eq, decimal, if◌then◌else◌, [], ◌∷◌, ◌++◌, codes}
+use Rattle.std.specs.Prelude.{ℕ, false, bytes_eq, if◌then◌else◌, [], ◌∷◌, Some, codes}
 use Rattle.unftp_control_defs.specs.Bytes.{Bytes}
 use Rattle.unftp_control_commands.specs.Answers.{auth_reply, feat_reply_with, help_reply_with, prot_reply, mode_reply, opts_reply, stru_reply}
 use Rattle.unftp_control_defs.specs.Events.{FaultKind, FaultSource, Fault, LineTooLong, Parse}
-use Rattle.unftp_control_defs.specs.FtpCommand.{FtpCommand, Pass, Acct, Syst, TypeCode, Stru, Mode, Help, Noop, Retr, Stor, Appe, List as Listing, Nlst, Mlsd, Feat, Opts, Allo, Abor, Stou, Auth, Prot, Rest, Site}
+use Rattle.unftp_control_defs.specs.FtpCommand.{FtpCommand, Pass, Acct, Syst, TypeCode, Stru, Mode, Help, Noop, Retr, Stor, Appe, List as Listing, Nlst, Mlsd, Feat, Opts, Allo, Abor, Stou, Rnto, Auth, Prot, Site, Other, InvalidCommand}
 use Rattle.unftp_control_defs.specs.FtpReply.{FtpReply, CodeAndMsg}
 use Rattle.unftp_control_defs.specs.Texts.{kind_text, reading_text}
 
@@ -26,19 +26,22 @@ fixed_reply Stou = no_data_connection
 fixed_reply (Listing options path) = no_data_connection
 fixed_reply (Nlst path) = no_data_connection
 fixed_reply (Mlsd path) = no_data_connection
+-- no RNFR is accepted
+fixed_reply (Rnto file) = CodeAndMsg 503 (codes "Send RNFR first")
+-- a verb that is not known, and then a known one that does nothing here (RFC 959, section 4.2.2)
+fixed_reply (Other name arguments) = CodeAndMsg 500 (codes "Unknown command")
 fixed_reply command = CodeAndMsg 502 (codes "Not implemented")
 
 -- FEAT (RFC 2389, section 3.2), with MLST's facts (RFC 3659, section 7.8)
 abbrev pub features_reply : FtpReply
 features_reply = feat_reply_with
-    (codes "MDTM" ∷ codes "MLST type*;size*;modify*;" ∷ codes "REST STREAM" ∷ codes "SIZE"
-    ∷ codes "UTF8" ∷ [])
+    (codes "MDTM" ∷ codes "MLST type*;size*;modify*;" ∷ codes "SIZE" ∷ codes "UTF8" ∷ [])
 
 -- HELP (RFC 959, section 4.1.3): the commands that do something
 abbrev pub commands_reply : FtpReply
 commands_reply = help_reply_with
     (codes "Commands:" ∷ codes " ABOR ACCT ALLO CDUP CWD FEAT HELP MDTM MLST MODE NOOP OPTS"
-    ∷ codes " PASS PWD QUIT REST SITE SIZE STRU SYST TYPE USER" ∷ codes "END" ∷ [])
+    ∷ codes " PASS PWD QUIT SITE SIZE STRU SYST TYPE USER" ∷ codes "END" ∷ [])
 
 abbrev pub site_reply : Bytes → FtpReply
 site_reply name = if bytes_eq name (codes "HELP")
@@ -54,8 +57,6 @@ standing_reply (Opts option) = opts_reply option
 standing_reply (Stru structure) = stru_reply structure
 standing_reply Feat = features_reply
 standing_reply Help = commands_reply
-standing_reply (Rest offset) =
-    CodeAndMsg 350 (codes "Restarting at " ++ decimal offset ++ codes ".")
 standing_reply (Site name arguments) = site_reply name
 standing_reply command = fixed_reply command
 
@@ -69,5 +70,10 @@ abbrev pub refusal_text : FaultKind → FaultSource → Bytes
 refusal_text kind (Parse why) = reading_text why
 refusal_text kind _ = unread_text kind
 
+-- 501 for a parameter that a known verb doesn't take, else 500 (RFC 959, section 4.2.2)
+abbrev pub refusal_code : FaultSource → ℕ
+refusal_code (Parse (Some InvalidCommand)) = 501
+refusal_code _ = 500
+
 abbrev pub refusal_reply : Fault → FtpReply
-refusal_reply fault = CodeAndMsg 500 (refusal_text fault.kind fault.source)
+refusal_reply fault = CodeAndMsg (refusal_code fault.source) (refusal_text fault.kind fault.source)

@@ -2,31 +2,26 @@
 ghost use Rattle.std.specs.Prelude.{◌≡◌, ◌++◌, map, string_bytes, IfOk, IfErr, OnOk};
 ghost use Rattle.unftp_control_command.specs.CommandMeaning.{command_of};
 ghost use Rattle.unftp_control_reply.specs.ErrorMeaning.{fault_of, kind_meant};
-ghost use Rattle.unftp_control_defs.specs.Events.{out_of_memory};
+ghost use Rattle.unftp_control_defs.specs.Events.{Parse, out_of_memory};
 ghost use Rattle.unftp_control_defs.specs.FtpReply.{CodeAndMsg};
 ghost use Rattle.unftp_control_reply.specs.ReplyMeaning.{number_of, reply_of};
-ghost use Rattle.login_demo.specs.Standing.{fixed_reply, refusal_reply, site_reply, standing_reply, unread_text};
+ghost use Rattle.login_demo.specs.Standing.{fixed_reply, refusal_code, refusal_reply, site_reply, standing_reply, unread_text};
+ghost use Rattle.unftp_control_reply.specs.ParseRefusal.{refusal_of};
 
 use std::alloc::Global;
 use unftp_control_command::Command;
 use unftp_control_commands::{Auth, Feat, Help, Mode, Opts, Prot, Stru};
-use unftp_control_reply::error::{ControlChanError, ControlChanErrorKind, Source};
+use unftp_control_reply::error::{ControlChanError, ControlChanErrorKind, ParseErrorKind, Source};
 use unftp_control_reply::{Reply, ReplyCode};
 
 /// The features (RFC 2389, section 3.2), MLST with its facts (RFC 3659, section 7.8).
-const FEATURES: &[&str] = &[
-    "MDTM",
-    "MLST type*;size*;modify*;",
-    "REST STREAM",
-    "SIZE",
-    "UTF8",
-];
+const FEATURES: &[&str] = &["MDTM", "MLST type*;size*;modify*;", "SIZE", "UTF8"];
 
 /// The commands that do something (RFC 959, section 4.1.3).
 const COMMANDS: &[&str] = &[
     "Commands:",
     " ABOR ACCT ALLO CDUP CWD FEAT HELP MDTM MLST MODE NOOP OPTS",
-    " PASS PWD QUIT REST SITE SIZE STRU SYST TYPE USER",
+    " PASS PWD QUIT SITE SIZE STRU SYST TYPE USER",
     "END",
 ];
 
@@ -43,10 +38,6 @@ pub fn standing_reply(alloc: Global, command: Command) -> Result<Reply, ControlC
         Command::Stru { structure } => Stru::new(structure).reply(alloc),
         Command::Feat => Feat.reply_with(alloc, FEATURES),
         Command::Help => Help.reply_with(alloc, COMMANDS),
-        Command::Rest { offset } => {
-            let text = format!(in alloc; "Restarting at {offset}.")?;
-            Ok(Reply::new_with_string(ReplyCode::FileActionPending, text))
-        }
         Command::Site { command, arguments } => {
             drop(arguments);
             site_reply(alloc, command.as_str())
@@ -99,21 +90,39 @@ fn fixed_line(command: &Command) -> (ReplyCode, &'static str)
         | Command::List { .. }
         | Command::Nlst { .. }
         | Command::Mlsd { .. } => (ReplyCode::CantOpenDataConnection, "No data connection"),
+        Command::Rnto { .. } => (ReplyCode::BadCommandSequence, "Send RNFR first"),
+        Command::Other { .. } => (ReplyCode::CommandSyntaxError, "Unknown command"),
         _ => (ReplyCode::CommandNotImplemented, "Not implemented"),
     }
 }
 
-/// The reply to a line that is no command: why the parser refused it, or that it was too long. It
-/// fails only when out of memory.
+/// The reply to a line that is no command: why the parser refused it, or that it was too long (RFC
+/// 959, section 5.4). It fails only when out of memory.
 pub fn refusal_reply(alloc: Global, error: ControlChanError) -> Result<Reply, ControlChanError>
     ensures ok { IfOk result (λ reply. reply_of reply ≡ refusal_reply (fault_of error)) }
     ensures err { IfErr result (λ error. fault_of error ≡ out_of_memory) }
 {
-    let text = match error.source() {
-        Source::Parse(parse) => format!(in alloc; "{}", parse.kind())?,
-        _ => String::from_str(alloc, unread_text(error.kind()))?,
+    let (code, text) = match error.source() {
+        Source::Parse(parse) => (
+            refusal_code(parse.kind()),
+            format!(in alloc; "{}", parse.kind())?,
+        ),
+        _ => (
+            ReplyCode::CommandSyntaxError,
+            String::from_str(alloc, unread_text(error.kind()))?,
+        ),
     };
-    Ok(Reply::new_with_string(ReplyCode::CommandSyntaxError, text))
+    Ok(Reply::new_with_string(code, text))
+}
+
+/// The code for what the parser refused: 501 for a parameter that a known verb doesn't take.
+fn refusal_code(kind: &ParseErrorKind) -> ReplyCode
+    ensures { number_of result ≡ refusal_code (Parse (refusal_of kind.now)) }
+{
+    match kind {
+        ParseErrorKind::InvalidCommand => ReplyCode::ParameterSyntaxError,
+        _ => ReplyCode::CommandSyntaxError,
+    }
 }
 
 /// What is said of an error that has no line.

@@ -1,7 +1,7 @@
 //! What is said of entries, and to commands that ask for none.
 ghost use Rattle.std.specs.Prelude.{◌≡◌, [], ◌∷◌, Some, None, codes};
 ghost use Rattle.unftp_control_defs.specs.Events.{InvalidCommand, LineTooLong, NoSource, OutOfMemory, Parse, UnknownCommand, refusal_fault, line_too_long};
-ghost use Rattle.unftp_control_defs.specs.FtpCommand.{Abor, Acct, Allo, Dele, Epsv, InvalidCommand as NoCommand, InvalidEol, Noop, Other, Pass, Port, Rest, Retr, Site, Syst, TypeCode};
+ghost use Rattle.unftp_control_defs.specs.FtpCommand.{Abor, Acct, Allo, Dele, Epsv, InvalidCommand as NoCommand, InvalidEol, InvalidUtf8, Noop, Other, Pass, Port, Rest, Retr, Rnfr, Rnto, Site, Syst, TypeCode};
 ghost use Rattle.unftp_control_defs.specs.FtpReply.{CodeAndMsg, MultiLine, encoded};
 ghost use Rattle.login_demo.specs.Facts.{entry_facts, mdtm_reply, mlst_reply, pwd_reply, size_reply};
 ghost use Rattle.login_demo.specs.Standing.{commands_reply, features_reply, refusal_reply, site_reply, standing_reply};
@@ -39,9 +39,9 @@ pub fn entries_are_shown_so()
 /// FEAT (RFC 2389, section 3.2; RFC 3659, section 7.8) and HELP.
 pub fn lists_are_sent_so()
     ensures features { encoded features_reply ≡ codes
-        "211-Extensions supported:\r\n MDTM\r\n MLST type*;size*;modify*;\r\n REST STREAM\r\n SIZE\r\n UTF8\r\n211 END\r\n" }
+        "211-Extensions supported:\r\n MDTM\r\n MLST type*;size*;modify*;\r\n SIZE\r\n UTF8\r\n211 END\r\n" }
     ensures commands { encoded commands_reply ≡ codes
-        "214-Commands:\r\n ABOR ACCT ALLO CDUP CWD FEAT HELP MDTM MLST MODE NOOP OPTS\r\n PASS PWD QUIT REST SITE SIZE STRU SYST TYPE USER\r\n214 END\r\n" }
+        "214-Commands:\r\n ABOR ACCT ALLO CDUP CWD FEAT HELP MDTM MLST MODE NOOP OPTS\r\n PASS PWD QUIT SITE SIZE STRU SYST TYPE USER\r\n214 END\r\n" }
     ensures site { site_reply (codes "HELP") ≡ CodeAndMsg 214 (codes "SITE has HELP only") }
     ensures other_site { site_reply (codes "HELPX") ≡ CodeAndMsg 504 (codes "SITE has HELP only") }
     ensures no_site { site_reply [] ≡ CodeAndMsg 504 (codes "SITE has HELP only") }
@@ -56,9 +56,9 @@ pub fn commands_are_answered_so()
     ensures password { standing_reply (Pass []) ≡ CodeAndMsg 503 (codes "Send USER first") }
     ensures space { standing_reply Allo ≡ CodeAndMsg 202 (codes "No space has to be reserved") }
     ensures abort { standing_reply Abor ≡ CodeAndMsg 226 (codes "No transfer is under way") }
-    ensures restart { standing_reply (Rest 0) ≡ CodeAndMsg 350 (codes "Restarting at 0.") }
-    ensures late_restart { standing_reply (Rest 18446744073709551615)
-        ≡ CodeAndMsg 350 (codes "Restarting at 18446744073709551615.") }
+    ensures restart { standing_reply (Rest 0) ≡ CodeAndMsg 502 (codes "Not implemented") }
+    ensures renamed { standing_reply (Rnfr (codes "a")) ≡ CodeAndMsg 502 (codes "Not implemented") }
+    ensures new_name { standing_reply (Rnto (codes "b")) ≡ CodeAndMsg 503 (codes "Send RNFR first") }
     ensures transfer { standing_reply (Retr (codes "/pub/readme.txt"))
         ≡ CodeAndMsg 425 (codes "No data connection") }
     ensures subcommand { standing_reply (Site (codes "HELP") []) ≡ site_reply (codes "HELP") }
@@ -67,13 +67,15 @@ pub fn commands_are_answered_so()
     ensures change { standing_reply (Dele (codes "/pub/readme.txt"))
         ≡ CodeAndMsg 502 (codes "Not implemented") }
     ensures unknown { standing_reply (Other (codes "XYZ") [])
-        ≡ CodeAndMsg 502 (codes "Not implemented") }
+        ≡ CodeAndMsg 500 (codes "Unknown command") }
 {}
 
 /// Lines that are no command. A kind with a text of its own shows none of it.
 pub fn refusals_are_answered_so()
-    ensures command { refusal_reply (refusal_fault NoCommand)
-        ≡ CodeAndMsg 500 (codes "Invalid command") }
+    ensures parameter { refusal_reply (refusal_fault NoCommand)
+        ≡ CodeAndMsg 501 (codes "Invalid command") }
+    ensures verb { refusal_reply (refusal_fault InvalidUtf8)
+        ≡ CodeAndMsg 500 (codes "Non-UTF8 character while parsing") }
     ensures line_ending { refusal_reply (refusal_fault InvalidEol)
         ≡ CodeAndMsg 500 (codes "Invalid end-of-line") }
     ensures too_long { refusal_reply line_too_long ≡ CodeAndMsg 500 (codes "Line too long") }
