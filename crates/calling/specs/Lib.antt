@@ -8,4 +8,5 @@ pub mod NextCode
 pub mod LogEntry
 pub mod Sessions
 pub mod Pieces
+pub mod FactList
 pub mod WholeLine

@@ -2,10 +2,11 @@
 //! values for which it doesn't.
 ghost use Rattle.std.specs.Prelude.{◌≡◌, [], ◌∷◌, ◌++◌, None, Ok, Some, codes, false, true};
 ghost use Rattle.calling.specs.EventLoop.{replies_to, turn_after};
+ghost use Rattle.calling.specs.FactList.{facts_asked, facts_text};
 ghost use Rattle.calling.specs.Forwarding.{IsForwarded, IsReason};
 ghost use Rattle.calling.specs.LogEntry.{log_entry};
 ghost use Rattle.calling.specs.NextCode.{begins_tls};
-ghost use Rattle.calling.specs.WholeLine.{AsksFor, modes_after, reply_to};
+ghost use Rattle.calling.specs.WholeLine.{AsksFor, all_facts, image_modes, modes_after, no_facts, reply_to};
 ghost use Rattle.unftp_control.specs.Bytes.{Bytes};
 ghost use Rattle.unftp_control.specs.Events.{Command, Refused, refusal_fault};
 ghost use Rattle.unftp_control.specs.FtpCommand.{Auth, Epsv, InvalidCommand, Pass, Pasv, Quit, Retr, TypeCode};
@@ -106,8 +107,25 @@ pub fn lines_ask()
     ensures nine_bits { AsksFor (codes "TYPE L 9") Asked.Image → ⊥ }
     ensures all { AsksFor (codes "EPSV all") Asked.EpsvOnly }
     ensures not_all { AsksFor (codes "EPSV") Asked.EpsvOnly → ⊥ }
+    ensures facts { AsksFor (codes "opts mlst Size;")
+        (Asked.FactsOnly (record { kind = false; size = true; modify = false })) }
+    ensures other_facts { AsksFor (codes "OPTS MLST size;") (Asked.FactsOnly all_facts) → ⊥ }
     ensures nothing { AsksFor (codes "NOOP") Asked.Nothing }
     ensures something { AsksFor (codes "TYPE A") Asked.Nothing → ⊥ }
+{}
+
+/// A fact that the server doesn't have is left out, and no list asks for none.
+pub fn facts_are_asked()
+    ensures all { facts_asked (codes "OPTS MLST Modify;type;SIZE;") ≡ Some all_facts }
+    ensures unknown { facts_asked (codes "OPTS MLST perm;size;")
+        ≡ Some (record { kind = false; size = true; modify = false }) }
+    ensures none { facts_asked (codes "opts mlst") ≡ Some no_facts }
+    ensures part { facts_asked (codes "OPTS MLST sizes;") ≡ Some no_facts }
+    ensures no_space { facts_asked (codes "OPTS MLSTsize;") ≡ None }
+    ensures other_option { facts_asked (codes "OPTS UTF8 ON") ≡ None }
+    ensures text { facts_text (record { kind = true; size = false; modify = true })
+        ≡ codes "MLST OPTS type;modify;" }
+    ensures text_of_none { facts_text no_facts ≡ codes "MLST OPTS" }
 {}
 
 /// What a line asks is answered, and PASV and PORT are refused once EPSV ALL came.
@@ -124,8 +142,13 @@ pub fn whole_lines_are_answered()
         ≡ CodeAndMsg 502 (codes "Not here") }
     ensures refused { reply_to false (Refused (refusal_fault InvalidCommand)) Asked.Nothing
         ≡ CodeAndMsg 500 (codes "Not understood") }
-    ensures remembered { modes_after (record { image = true; epsv_only = false }) (Command Epsv)
-        Asked.EpsvOnly ≡ record { image = true; epsv_only = true } }
-    ensures unchanged { modes_after (record { image = true; epsv_only = false }) (Command Epsv)
-        Asked.Nothing ≡ record { image = true; epsv_only = false } }
+    ensures facts { reply_to false (Refused (refusal_fault InvalidCommand))
+        (Asked.FactsOnly no_facts) ≡ CodeAndMsg 200 (codes "MLST OPTS") }
+    ensures facts_of_a_command { reply_to false (Command Epsv) (Asked.FactsOnly no_facts)
+        ≡ CodeAndMsg 502 (codes "Not here") }
+    ensures remembered { modes_after image_modes (Command Epsv) Asked.EpsvOnly
+        ≡ record { image = true; epsv_only = true; facts = all_facts } }
+    ensures facts_remembered { modes_after image_modes (Refused (refusal_fault InvalidCommand))
+        (Asked.FactsOnly no_facts) ≡ record { image = true; epsv_only = false; facts = no_facts } }
+    ensures unchanged { modes_after image_modes (Command Epsv) Asked.Nothing ≡ image_modes }
 {}

@@ -5,6 +5,7 @@ pub mod client;
 pub mod codec;
 pub mod event_loop;
 pub mod examples;
+pub mod fact_list;
 pub mod first;
 pub mod handler;
 pub mod lines;

@@ -1,5 +1,5 @@
-//! A server that serves what the grammar drops of a line: the type of TYPE, and EPSV ALL. Its data
-//! connections are left out: EPSV alone is not implemented.
+//! A server that serves what the grammar drops of a line: the type of TYPE, EPSV ALL, and the facts
+//! of OPTS MLST. Its data connections are left out: EPSV alone is not implemented.
 ghost use Rattle.std.specs.Prelude.{◌≡◌, ◌↔◌, false, true, IfErr, IfOk, IsTrue, OnErr};
 ghost use Rattle.unftp_control.specs.Decoder.{HasNoLine};
 ghost use Rattle.unftp_control.specs.ErrorMeaning.{fault_of};
@@ -11,6 +11,7 @@ ghost use Rattle.calling.specs.EventLoop.{LeavesUnanswered};
 ghost use Rattle.calling.specs.WholeLine.{AnswersLine, AsksFor, SaysOneOf, modes_after, reply_to};
 
 use crate::event_loop::reply;
+use crate::fact_list::{Facts, facts_asked, facts_text};
 use std::alloc::Global;
 use unftp_control::command::Command;
 use unftp_control::error::ControlChanError;
@@ -26,6 +27,8 @@ pub enum Asked {
     Image,
     /// No data connections but those of EPSV, as EPSV ALL does.
     EpsvOnly,
+    /// Only these facts in listings, as OPTS MLST does.
+    FactsOnly(Facts),
     /// None of these.
     Nothing,
 }
@@ -37,6 +40,8 @@ pub struct Modes {
     pub image: bool,
     /// Whether data connections are those of EPSV only.
     pub epsv_only: bool,
+    /// The facts that listings have.
+    pub facts: Facts,
 }
 
 /// Whether the text is one of these, whatever the case of its letters.
@@ -56,6 +61,8 @@ fn asked_by(text: &[u8]) -> Asked
         Asked::Image
     } else if text.eq_ignore_ascii_case(b"EPSV ALL") {
         Asked::EpsvOnly
+    } else if let Some(facts) = facts_asked(text) {
+        Asked::FactsOnly(facts)
     } else {
         Asked::Nothing
     }
@@ -85,6 +92,10 @@ fn agree(modes: &mut Modes, event: &Event, asked: Asked) -> (ReplyCode, &'static
         }
         (Event::Command(Command::Pasv | Command::Port { .. }), _) if modes.epsv_only => {
             (ReplyCode::BadCommandSequence, "EPSV only")
+        }
+        (Event::Refused(_), Asked::FactsOnly(facts)) => {
+            modes.facts = facts;
+            (ReplyCode::CommandOkay, facts_text(facts))
         }
         (Event::Command(_), _) => (ReplyCode::CommandNotImplemented, "Not here"),
         (Event::Refused(_), _) => (ReplyCode::CommandSyntaxError, "Not understood"),
