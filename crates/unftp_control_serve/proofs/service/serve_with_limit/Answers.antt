@@ -7,3 +7,9 @@ returns-clause-serves g c = IfOk-weaker c.serve_lines.result _ _ (λ served all.
 
 pub returns-clause-bound : goal.returns-clause-bound
 returns-clause-bound g c = IfOk-weaker c.serve_lines.result _ _ (λ served all. AnsweredAll-bound _ _ _ _ _ _ served all) c.serve_lines.ensures.ok
+
+pub returns-clause-ok : goal.returns-clause-ok
+returns-clause-ok g c = c.serve_lines.ensures.ok
+
+pub returns-clause-err : goal.returns-clause-err
+returns-clause-err g c = c.serve_lines.ensures.err
