@@ -38,10 +38,10 @@ facts_asked text = if same_letters (take 9 text) (codes "OPTS MLST")
 abbrev pub name_where : Bool → Bytes → Bytes
 name_where is_wanted name = if is_wanted then name else []
 
-abbrev pub spaced : Bytes → Bytes
-spaced [] = []
-spaced (byte ∷ list) = SP ∷ byte ∷ list
+abbrev pub after_space_if_any : Bytes → Bytes
+after_space_if_any [] = []
+after_space_if_any (byte ∷ list) = SP ∷ byte ∷ list
 
 abbrev pub facts_text : Facts → Bytes
-facts_text facts = codes "MLST OPTS" ++ spaced (name_where facts.kind (codes "type;")
+facts_text facts = codes "MLST OPTS" ++ after_space_if_any (name_where facts.kind (codes "type;")
     ++ name_where facts.size (codes "size;") ++ name_where facts.modify (codes "modify;"))
