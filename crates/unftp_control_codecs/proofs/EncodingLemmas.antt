@@ -1,9 +1,13 @@
--- The bytes of a reply of several lines, from its parts.
-use Rattle.std.proofs.Common.{◌≡◌, ℕ, List, [], ◌∷◌, ◌++◌, map, flat_map, decimal, string_bytes, String, Global, refl, sym, ap, ◌∙◌, append_assoc}
-use Rattle.std.proofs.lemmas.List.{map-append}
-use Rattle.unftp_control_defs.specs.Bytes.{Bytes, DASH}
-use Rattle.unftp_control_defs.specs.FtpReply.{MultiLine, encoded, lines_after_code, spaced_line}
+-- The bytes of a reply of several lines, from its parts, and as a client reads them.
+use Rattle.std.proofs.Common.{◌≡◌, ℕ, List, [], ◌∷◌, ◌++◌, length, drop, map, flat_map, decimal, refl, sym, ap, subst, ◌∙◌, append_assoc, append-nil, arith}
+use Rattle.std.specs.List.{AllByRecursion}
+use Rattle.std.proofs.lemmas.List.{drop_at, map-append}
+use Rattle.unftp_control_defs.specs.Bytes.{Bytes, LF, DASH, Lacks}
+use Rattle.unftp_control_defs.specs.FtpReply.{FtpReply, MultiLine, HasThreeDigits, IsPlain, encoded, lines_after_code, spaced_line}
+use Rattle.unftp_control_defs.specs.ReplyReader.{ReadsBack}
+use Rattle.unftp_control_defs.proofs.EncodingLemmas.{ReadsBack-encoded}
 use Rattle.unftp_control_codecs.specs.Encoding.{padded_line, lines_before_last}
+use Rattle.unftp_control_codecs.specs.ReplyCodes.{IsReplyCode}
 
 abbrev ending : ℕ → Bytes → Bytes
 ending code last = decimal code ++ spaced_line last
@@ -26,18 +30,30 @@ encoded-lines_before_last code [] last = refl
 encoded-lines_before_last code (line ∷ []) last = ap (λ t. decimal code ++ DASH ∷ t) (lines_after_code-front code line [] last) ∙ lines_before_last-back code line [] last
 encoded-lines_before_last code (line ∷ next ∷ lines) last = ap (λ t. decimal code ++ DASH ∷ t) (lines_after_code-front code line (next ∷ lines) last) ∙ lines_before_last-back code line (next ∷ lines) last
 
-abbrev Text : Type 0
-Text = String Global
-
 -- so a reply of these lines is appended part by part
-pub appended-lines : (code : ℕ) (lines front : List Text) (last : Text) (start opened coded : Bytes) → lines ≡ front ++ last ∷ []
-    → opened ≡ start ++ lines_before_last code (map string_bytes front) → coded ≡ opened ++ decimal code
-    → coded ++ spaced_line (string_bytes last) ≡ start ++ encoded (MultiLine code (map string_bytes lines))
-appended-lines code lines front last start opened coded parts a b =
-    let texts = map string_bytes front in
-    let end = spaced_line (string_bytes last) in
+pub appended-lines : {S : Type 0} (text : S → Bytes) (code : ℕ) (lines front : List S) (last : S) (start opened coded : Bytes) → lines ≡ front ++ last ∷ []
+    → opened ≡ start ++ lines_before_last code (map text front) → coded ≡ opened ++ decimal code
+    → coded ++ spaced_line (text last) ≡ start ++ encoded (MultiLine code (map text lines))
+appended-lines text code lines front last start opened coded parts a b =
+    let texts = map text front in
+    let end = spaced_line (text last) in
     ap (λ t. t ++ end) (b ∙ ap (λ t. t ++ decimal code) a)
     ∙ append_assoc (start ++ lines_before_last code texts) (decimal code) end
     ∙ append_assoc start (lines_before_last code texts) (decimal code ++ end)
-    ∙ ap (λ t. start ++ t) (sym (encoded-lines_before_last code texts (string_bytes last)))
-    ∙ ap (λ t. start ++ encoded (MultiLine code t)) (sym (map-append string_bytes front (last ∷ [])) ∙ ap (map string_bytes) (sym parts))
+    ∙ ap (λ t. start ++ t) (sym (encoded-lines_before_last code texts (text last)))
+    ∙ ap (λ t. start ++ encoded (MultiLine code t)) (sym (map-append text front (last ∷ [])) ∙ ap (map text) (sym parts))
+
+-- ---- as a client reads them
+
+pub one_back : (reply : FtpReply) → IsPlain reply → ReadsBack (encoded reply) (reply ∷ [])
+one_back reply plain = subst (λ bytes. ReadsBack bytes (reply ∷ [])) (append-nil (encoded reply)) (ReadsBack-encoded (reply ∷ []) (plain, tt))
+
+pub three_digits : (code : ℕ) → IsReplyCode code → HasThreeDigits code
+three_digits code is_code = (is_code.0, omega arith)
+
+-- these lines, after the bytes that were there before
+pub appended_back : (code : ℕ) (lines : List Bytes) (start whole : Bytes) (n : ℕ) → IsReplyCode code → n ≡ length start
+    → whole ≡ start ++ encoded (MultiLine code lines) → AllByRecursion (Lacks LF) lines → ReadsBack (drop n whole) (MultiLine code lines ∷ [])
+appended_back code lines start whole n is_code n_is whole_is lack =
+    let reply = MultiLine code lines in
+    subst (λ bytes. ReadsBack bytes (reply ∷ [])) (sym (ap (drop n) whole_is ∙ drop_at start (encoded reply) n (sym n_is))) (one_back reply (three_digits code is_code, lack))

@@ -1,4 +1,4 @@
 pub mod LineFeedLemmas
 pub mod CallLemmas
 pub mod MemoryLemmas
-mod EncodingLemmas
+pub mod EncodingLemmas

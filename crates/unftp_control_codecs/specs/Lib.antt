@@ -3,3 +3,4 @@ pub mod LineFeed
 pub mod Decoding
 pub mod Calls
 pub mod Encoding
+pub mod ReplyCodes

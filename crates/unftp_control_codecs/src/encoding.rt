@@ -1,12 +1,13 @@
 //! The bytes of replies.
-ghost use Rattle.std.specs.Prelude.{◌≡◌, ◌==◌, ◌∷◌, ◌++◌, take, length, map, flat_map, vec_len, decimal, string_bytes, IsOk, OnOk, if◌then◌else◌};
+ghost use Rattle.std.specs.Prelude.{◌≡◌, ◌==◌, ◌∷◌, ◌++◌, take, length, map, flat_map, vec_len, decimal, IsOk, OnOk, if◌then◌else◌};
 ghost use Rattle.unftp_control_defs.specs.Bytes.{SP, crlf};
 ghost use Rattle.unftp_control_defs.specs.FtpReply.{Nothing, MultiLine, encoded, padded, spaced_line};
-ghost use Rattle.unftp_control_reply.specs.ReplyMeaning.{number_of, reply_of};
+ghost use Rattle.unftp_control_reply.specs.ReplyMeaning.{reply_of};
 ghost use Rattle.unftp_control_codecs.specs.Encoding.{padded_line, lines_before_last};
 
 use std::alloc::AllocError;
-use unftp_control_reply::{Reply, ReplyCode};
+use std::convert::AsStr;
+use unftp_control_reply::Reply;
 
 /// More bytes than a line of a reply has beside its text: the code and a sign, or a space put
 /// before it, and CR LF.
@@ -23,13 +24,10 @@ pub fn append_reply(reply: &Reply, buf: &mut Vec<u8>) -> Result<(), AllocError>
         Reply::None => Ok(()),
         Reply::CodeAndMsg { code, msg } => {
             buf.reserve(room_for(msg.as_str()))?;
-            append_code(*code, buf)?;
+            append_code(code.number(), buf)?;
             append_text(msg.as_str(), buf)
         }
-        Reply::MultiLine { code, lines } => {
-            buf.reserve(room_for_all(lines.as_slice()))?;
-            append_lines(*code, lines.as_slice(), buf)
-        }
+        Reply::MultiLine { code, lines } => append_lines(code.number(), lines.as_slice(), buf),
     }
 }
 
@@ -39,7 +37,7 @@ fn room_for(text: &str) -> usize {
 }
 
 /// At least as many bytes as all lines of a reply have.
-fn room_for_all(lines: &[String]) -> usize {
+fn room_for_all<S: AsStr>(lines: &[S]) -> usize {
     let mut room = ROOM_BESIDE_TEXT;
     for line in lines {
         room = room.saturating_add(room_for(line.as_str()));
@@ -48,12 +46,12 @@ fn room_for_all(lines: &[String]) -> usize {
 }
 
 /// Appends the code in decimal.
-fn append_code(code: ReplyCode, buf: &mut Vec<u8>) -> Result<(), AllocError>
-    ensures ok { OnOk result (buf.new.items ≡ buf.old.items ++ decimal (number_of code)) }
+fn append_code(code: u32, buf: &mut Vec<u8>) -> Result<(), AllocError>
+    ensures ok { OnOk result (buf.new.items ≡ buf.old.items ++ decimal code) }
     ensures kept { take (vec_len buf.old) buf.new.items ≡ buf.old.items }
 {
     let mut digits = itoa::Buffer::new();
-    buf.extend_from_slice(digits.format(code.number()).as_bytes())
+    buf.extend_from_slice(digits.format(code).as_bytes())
 }
 
 /// Appends what follows the code of a reply of one line: a space and the text, or nothing where it
@@ -109,9 +107,9 @@ fn append_padded_line(line: &str, buf: &mut Vec<u8>) -> Result<(), AllocError>
 }
 
 /// Appends lines before the last.
-fn append_padded_lines(lines: &[String], buf: &mut Vec<u8>) -> Result<(), AllocError>
+fn append_padded_lines<S: AsStr>(lines: &[S], buf: &mut Vec<u8>) -> Result<(), AllocError>
     ensures ok { OnOk result
-        (buf.new.items ≡ buf.old.items ++ flat_map padded_line (map string_bytes lines.now)) }
+        (buf.new.items ≡ buf.old.items ++ flat_map padded_line (map S.text lines.now)) }
     ensures kept { take (vec_len buf.old) buf.new.items ≡ buf.old.items }
 {
     for line in lines {
@@ -121,13 +119,13 @@ fn append_padded_lines(lines: &[String], buf: &mut Vec<u8>) -> Result<(), AllocE
 }
 
 /// Appends the code, a dash and all lines before the last, if there are any.
-fn append_lines_before_last(
-    code: ReplyCode,
-    lines: &[String],
+fn append_lines_before_last<S: AsStr>(
+    code: u32,
+    lines: &[S],
     buf: &mut Vec<u8>,
 ) -> Result<(), AllocError>
     ensures ok { OnOk result (buf.new.items
-        ≡ buf.old.items ++ lines_before_last (number_of code) (map string_bytes lines.now)) }
+        ≡ buf.old.items ++ lines_before_last code (map S.text lines.now)) }
     ensures kept { take (vec_len buf.old) buf.new.items ≡ buf.old.items }
 {
     if lines.is_empty() {
@@ -138,12 +136,14 @@ fn append_lines_before_last(
     append_padded_lines(lines, buf)
 }
 
-/// Appends a reply of these lines.
-fn append_lines(code: ReplyCode, lines: &[String], buf: &mut Vec<u8>) -> Result<(), AllocError>
+/// Appends a reply with this code and these lines, or perhaps a part of it when out of memory. The
+/// buffer grows once at most.
+pub fn append_lines<S: AsStr>(code: u32, lines: &[S], buf: &mut Vec<u8>) -> Result<(), AllocError>
     ensures ok { OnOk result (buf.new.items
-        ≡ buf.old.items ++ encoded (MultiLine (number_of code) (map string_bytes lines.now))) }
+        ≡ buf.old.items ++ encoded (MultiLine code (map S.text lines.now))) }
     ensures kept { take (vec_len buf.old) buf.new.items ≡ buf.old.items }
 {
+    buf.reserve(room_for_all(lines))?;
     let Some((last, front)) = lines.split_last() else {
         append_code(code, buf)?;
         return append_spaced_line("", buf);

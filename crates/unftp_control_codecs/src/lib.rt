@@ -11,9 +11,11 @@ ghost use Rattle.unftp_control_codecs.specs.Codec.{is_too_long, new_codec};
 ghost use Rattle.unftp_control_codecs.specs.Decoding.{Decodes, IsOutOfMemory};
 
 mod encoding;
+mod lines;
 mod scan;
 
 use crate::encoding::append_reply;
+pub use crate::lines::{EncodeLinesError, encode_lines, is_reply_code};
 use crate::scan::{Scan, ScanCount};
 use std::alloc::Global;
 use std::marker::Model;
