@@ -104,10 +104,68 @@ enum unftp_result {
     UNFTP_NO_LINE = 108,
     /* The first line opens no reply. */
     UNFTP_MALFORMED = 109,
-    /* No reply has this code. */
+    /* No reply has this code: it is not from 100 to 599. */
     UNFTP_UNKNOWN_CODE = 110,
     /* The offset is past the bytes, or is not 0 while bytes are skipped. */
     UNFTP_INVALID_ARGUMENT = 111
+};
+
+/* Codes of replies by name, those of RFC 959 (section 4.2.2) where no other RFC is named. unftp_reply
+   takes any other number from 100 to 599 too. */
+enum unftp_code {
+    UNFTP_CODE_RESTART_MARKER = 110,
+    UNFTP_CODE_IN_N_MINUTES = 120,
+    UNFTP_CODE_CONNECTION_ALREADY_OPEN = 125,
+    UNFTP_CODE_FILE_STATUS_OKAY = 150,
+    UNFTP_CODE_COMMAND_OKAY = 200,
+    UNFTP_CODE_COMMAND_OKAY_NOT_IMPLEMENTED = 202,
+    UNFTP_CODE_SYSTEM_STATUS = 211,
+    UNFTP_CODE_DIRECTORY_STATUS = 212,
+    UNFTP_CODE_FILE_STATUS = 213,
+    UNFTP_CODE_HELP_MESSAGE = 214,
+    UNFTP_CODE_SYSTEM_TYPE = 215,
+    UNFTP_CODE_SERVICE_READY = 220,
+    UNFTP_CODE_CLOSING_CONTROL_CONNECTION = 221,
+    UNFTP_CODE_DATA_CONNECTION_OPEN = 225,
+    UNFTP_CODE_CLOSING_DATA_CONNECTION = 226,
+    UNFTP_CODE_ENTERING_PASSIVE_MODE = 227,
+    UNFTP_CODE_ENTERING_LONG_PASSIVE_MODE = 228, /* RFC 1639 */
+    UNFTP_CODE_ENTERING_EXTENDED_PASSIVE_MODE = 229, /* RFC 2428 */
+    UNFTP_CODE_USER_LOGGED_IN = 230,
+    UNFTP_CODE_USER_LOGGED_IN_VIA_CERT = 232, /* RFC 2228 */
+    UNFTP_CODE_AUTH_OKAY_NO_DATA_NEEDED = 234, /* RFC 2228 */
+    UNFTP_CODE_FILE_ACTION_OKAY = 250,
+    UNFTP_CODE_DIR_CREATED = 257,
+    UNFTP_CODE_NEED_PASSWORD = 331,
+    UNFTP_CODE_NEED_ACCOUNT = 332,
+    UNFTP_CODE_AUTH_OKAY_DATA_NEEDED = 334, /* RFC 2228 */
+    UNFTP_CODE_MORE_SECURITY_DATA_NEEDED = 335, /* RFC 2228 */
+    UNFTP_CODE_NEED_PASSWORD_FOR_CHALLENGE = 336, /* RFC 2228 */
+    UNFTP_CODE_FILE_ACTION_PENDING = 350,
+    UNFTP_CODE_SERVICE_NOT_AVAILABLE = 421,
+    UNFTP_CODE_CANT_OPEN_DATA_CONNECTION = 425,
+    UNFTP_CODE_CONNECTION_CLOSED = 426,
+    UNFTP_CODE_SECURITY_RESOURCE_UNAVAILABLE = 431, /* RFC 2228 */
+    UNFTP_CODE_TRANSIENT_FILE_ERROR = 450,
+    UNFTP_CODE_LOCAL_ERROR = 451,
+    UNFTP_CODE_OUT_OF_SPACE = 452,
+    UNFTP_CODE_COMMAND_SYNTAX_ERROR = 500,
+    UNFTP_CODE_PARAMETER_SYNTAX_ERROR = 501,
+    UNFTP_CODE_COMMAND_NOT_IMPLEMENTED = 502,
+    UNFTP_CODE_BAD_COMMAND_SEQUENCE = 503,
+    UNFTP_CODE_COMMAND_NOT_IMPLEMENTED_FOR_PARAMETER = 504,
+    UNFTP_CODE_NETWORK_PROTOCOL_NOT_SUPPORTED = 522, /* RFC 2428 */
+    UNFTP_CODE_NOT_LOGGED_IN = 530,
+    UNFTP_CODE_NEED_ACCOUNT_TO_STORE = 532,
+    UNFTP_CODE_RESP533 = 533, /* RFC 2228 */
+    UNFTP_CODE_FTPS_REQUIRED = 534, /* RFC 2228 */
+    UNFTP_CODE_FAILED_SECURITY_CHECK = 535, /* RFC 2228 */
+    UNFTP_CODE_PROT_LEVEL_NOT_SUPPORTED = 536, /* RFC 2228 */
+    UNFTP_CODE_COMMAND_PROTECTION_NOT_SUPPORTED = 537, /* RFC 2228 */
+    UNFTP_CODE_FILE_ERROR = 550,
+    UNFTP_CODE_PAGE_TYPE_UNKNOWN = 551,
+    UNFTP_CODE_EXCEEDED_STORAGE_ALLOCATION = 552,
+    UNFTP_CODE_BAD_FILE_NAME = 553
 };
 
 /*
@@ -140,10 +198,11 @@ uint32_t unftp_next(const uint8_t *bytes, size_t bytes_len, size_t *offset, size
 
 /*
  * Writes the bytes of a reply to the start of out, and *len is how many they are (RFC 959, section
- * 4.2). The text is of one line, or of several that are divided by line feeds. It returns UNFTP_DONE;
- * UNFTP_UNKNOWN_CODE for a number that is no code of a reply; UNFTP_INVALID_UTF8; UNFTP_NO_ROOM, where
- * *len is the room that is needed; or UNFTP_OUT_OF_MEMORY, but never for a text of one line. out is as
- * it was but at UNFTP_DONE. A text of n bytes with k line feeds needs at most n + 2 k + 10.
+ * 4.2). The code is any number from 100 to 599. The text is of one line, or of several that are divided
+ * by line feeds. It returns UNFTP_DONE; UNFTP_UNKNOWN_CODE for another number; UNFTP_INVALID_UTF8;
+ * UNFTP_NO_ROOM, where *len is the room that is needed; or UNFTP_OUT_OF_MEMORY, but never for a text of
+ * one line. out is as it was but at UNFTP_DONE. A text of n bytes with k line feeds needs at most
+ * n + 2 k + 10.
  *
  * A client that reads by RFC 959 finds in these bytes exactly this reply, whatever the text holds: a CR
  * of it is written as it is, and a line before the last that begins with a digit follows a space.

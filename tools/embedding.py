@@ -6,7 +6,8 @@ usage: tools/embedding.py sessions|session SERVER..        the replies of the se
        tools/embedding.py answers REPLAY FILE SKIPPED        the answers to a vector file, of which so many may be skipped
        tools/embedding.py read|canonical REPLAY..            the replies that servers wrote; the canonical lines of clients' commands
        tools/embedding.py valgrind LOG..                     whether each process ended without an error
-       tools/embedding.py numbers                            the numbers of the header and of examples/rust are the definition's
+       tools/embedding.py numbers                            the numbers of the header and of examples/rust are the definition's, and those
+                                                             of replies also the documents'
        tools/embedding.py exports                            header, library and examples/rust have the same functions, which it lists
        tools/embedding.py parameters FUNCTION                names, order and types of its parameters in the three, and of its result
 
@@ -357,9 +358,9 @@ def check_valgrind(*logs):
 
 
 def constant(name):
-    """The header's name, without UNFTP_, of a constructor: InvalidUtf8 is INVALID_UTF8."""
+    """The header's name, without UNFTP_, of a constructor: InvalidUtf8 is INVALID_UTF8, and InNMinutes IN_N_MINUTES."""
     special = {"TypeCode": "TYPE", "Listing": "LIST"}
-    return special.get(name) or re.sub(r"(?<=[a-z])(?=[A-Z])", "_", name).upper()
+    return special.get(name) or re.sub(r"(?<=[a-z])(?=[A-Z])|(?<=[A-Z])(?=[A-Z][a-z])", "_", name).upper()
 
 
 def numbers_in(path, pattern):
@@ -371,20 +372,35 @@ def numbers_in(path, pattern):
     return found
 
 
+def wants_numbers(what, found, expected):
+    if found != expected:
+        raise Wrong(f"{what} has other numbers: {sorted(set(found.items()) ^ set(expected.items()))}")
+
+
+def check_codes():
+    """The codes of ReplyCode are those that docs/REPLIES.md lists; those of three digits, and the others that it names, are the header's."""
+    codes = numbers_in("crates/unftp_control_reply/src/code.rt", r"^    (\w+) = (\d+),$")
+    wants_numbers("the table of REPLIES.md", numbers_in("docs/REPLIES.md", r"\b(\d+) `(\w+)`"), codes)
+    others = numbers_in("docs/REPLIES.md", r"^\| (\d{3}) \| `(\w+)` \|")
+    named = {name: number for name, number in codes.items() if number >= 100} | others
+    wants_numbers("enum unftp_code", numbers_in("include/unftp_control.h", r"^    UNFTP_CODE_(\w+) = (\d+)"), named)
+    if not others or len({*codes.values(), *others.values()}) != len(codes) + len(others):
+        raise Wrong("REPLIES.md names no other code, or one twice")
+    return f"{len(named)} codes of replies"
+
+
 def check_numbers():
     """The definitions' numbers, which the contracts tie to the code, are those of the header, and those of examples/rust are among them."""
     commands = numbers_in("crates/unftp_control_defs/specs/NameAndValue.antt", r"^command_number \(?(\w+).* = (\d+)$")
     statuses = numbers_in("crates/unftp_control_c/specs/Numbers.antt", r"^status_number (\w+) = (\d+)$")
-    header = numbers_in("include/unftp_control.h", r"^    UNFTP_(\w+) = (\d+)")
-    if header != {**commands, **statuses} or len(header) != len(commands) + len(statuses):
-        raise Wrong(f"the header has other numbers: {sorted(set(header.items()) ^ set({**commands, **statuses}.items()))}")
-    kinds = numbers_in("examples/rust/src/command.rs", r"^    (\d+) (\w+) \"")
-    if kinds != commands:
-        raise Wrong(f"command.rs has other numbers: {sorted(set(kinds.items()) ^ set(commands.items()))}")
+    header = numbers_in("include/unftp_control.h", r"^    UNFTP_(?!CODE_)(\w+) = (\d+)")
+    wants_numbers("the header", header, {**commands, **statuses})
+    wants("the number of the header's names", len(header), len(commands) + len(statuses))
+    wants_numbers("command.rs", numbers_in("examples/rust/src/command.rs", r"^    (\d+) (\w+) \""), commands)
     used = numbers_in("examples/rust/src/ffi.rs", r"^pub const (\w+): u32 = (\d+);")
     if not used or not used.items() <= statuses.items():
         raise Wrong(f"ffi.rs has other numbers: {sorted(set(used.items()) - set(statuses.items()))}")
-    return f"{len(commands)} commands and {len(statuses)} other results"
+    return f"{len(commands)} commands, {len(statuses)} other results and {check_codes()}"
 
 
 # what a type of the library's functions is to C: the type, and what follows the parameter's name, for each parameter that it is

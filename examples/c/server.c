@@ -102,7 +102,7 @@ static bool send_reply(const struct client *client, uint32_t code, const uint8_t
     case UNFTP_OUT_OF_MEMORY:
         return end_out_of_memory(client);
     case UNFTP_NO_ROOM:      /* a text with line feeds is one of this program's, and short */
-    case UNFTP_UNKNOWN_CODE: /* as are all codes, and known */
+    case UNFTP_UNKNOWN_CODE: /* as are all codes, each from 100 to 599 */
     default:
         abort();
     }
@@ -139,7 +139,7 @@ static bool answer_not_implemented(const struct client *client, const struct com
         append(&text, command->value, command->value_len);
     }
     append_string(&text, ": not implemented");
-    return send_reply(client, 502, text.bytes, text.len);
+    return send_reply(client, UNFTP_CODE_COMMAND_NOT_IMPLEMENTED, text.bytes, text.len);
 }
 
 static bool answer_site(const struct client *client, const struct command *command)
@@ -147,7 +147,7 @@ static bool answer_site(const struct client *client, const struct command *comma
     static const char echo[] = "ECHO";
 
     if (command->name_len == sizeof echo - 1 && memcmp(command->name, echo, command->name_len) == 0)
-        return send_reply(client, 200, command->value, command->value_len);
+        return send_reply(client, UNFTP_CODE_COMMAND_OKAY, command->value, command->value_len);
     return answer_not_implemented(client, command);
 }
 
@@ -156,26 +156,27 @@ static bool answer_command(const struct client *client, const struct command *co
 {
     switch (command->number) {
     case UNFTP_USER:
-        return send_text(client, 331, "Password required");
+        return send_text(client, UNFTP_CODE_NEED_PASSWORD, "Password required");
     case UNFTP_PASS:
-        return send_text(client, 230, "Logged in");
+        return send_text(client, UNFTP_CODE_USER_LOGGED_IN, "Logged in");
     case UNFTP_ACCT:
-        return send_text(client, 202, "No account needed");
+        return send_text(client, UNFTP_CODE_COMMAND_OKAY_NOT_IMPLEMENTED, "No account needed");
     case UNFTP_SYST:
-        return send_text(client, 215, "UNIX Type: L8");
+        return send_text(client, UNFTP_CODE_SYSTEM_TYPE, "UNIX Type: L8");
     case UNFTP_TYPE:
     case UNFTP_NOOP:
-        return send_text(client, 200, "OK");
+        return send_text(client, UNFTP_CODE_COMMAND_OKAY, "OK");
     case UNFTP_FEAT:
-        return send_text(client, 211, "Features:\n UTF8\nEnd");
+        return send_text(client, UNFTP_CODE_SYSTEM_STATUS, "Features:\n UTF8\nEnd");
     case UNFTP_HELP:
-        return send_text(client, 214, "Commands:\n ACCT FEAT HELP NOOP PASS PWD\n QUIT SITE SYST TYPE USER\nEnd");
+        return send_text(client, UNFTP_CODE_HELP_MESSAGE,
+                         "Commands:\n ACCT FEAT HELP NOOP PASS PWD\n QUIT SITE SYST TYPE USER\nEnd");
     case UNFTP_PWD:
-        return send_text(client, 257, "\"/\" is the current directory");
+        return send_text(client, UNFTP_CODE_DIR_CREATED, "\"/\" is the current directory");
     case UNFTP_SITE:
         return answer_site(client, command);
     case UNFTP_QUIT:
-        send_text(client, 221, "Bye");
+        send_text(client, UNFTP_CODE_CLOSING_CONTROL_CONNECTION, "Bye");
         return false;
     default:
         return answer_not_implemented(client, command);
@@ -187,13 +188,13 @@ static bool answer_line(const struct client *client, uint32_t status, const stru
 {
     switch (status) {
     case UNFTP_INVALID_COMMAND:
-        return send_text(client, 500, "Invalid command");
+        return send_text(client, UNFTP_CODE_COMMAND_SYNTAX_ERROR, "Invalid command");
     case UNFTP_INVALID_UTF8:
-        return send_text(client, 500, "Non-UTF8 character while parsing");
+        return send_text(client, UNFTP_CODE_COMMAND_SYNTAX_ERROR, "Non-UTF8 character while parsing");
     case UNFTP_INVALID_EOL:
-        return send_text(client, 500, "Invalid end-of-line");
+        return send_text(client, UNFTP_CODE_COMMAND_SYNTAX_ERROR, "Invalid end-of-line");
     case UNFTP_LINE_TOO_LONG:
-        return send_text(client, 500, "Line too long");
+        return send_text(client, UNFTP_CODE_COMMAND_SYNTAX_ERROR, "Line too long");
     case UNFTP_OUT_OF_MEMORY:
         return end_out_of_memory(client);
     case UNFTP_NO_ROOM:          /* a command's line is within the limit, and the areas have room for it */
@@ -272,7 +273,7 @@ static void finish(int socket)
 static void serve(int socket)
 {
     struct client client = {.socket = socket};
-    bool open = send_text(&client, 220, "Ready");
+    bool open = send_text(&client, UNFTP_CODE_SERVICE_READY, "Ready");
 
     while (open && receive(&client))
         open = answer_lines(&client);

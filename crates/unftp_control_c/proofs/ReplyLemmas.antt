@@ -1,27 +1,20 @@
 -- A client finds the reply in the bytes that are written.
-use Rattle.std.proofs.Common.{◌≡◌, ◌≢◌, ◌<◌, ℕ, ◌⊎◌, inl, inr, [], ◌∷◌, ◌==◌, List, Result, Ok, Err, Vec, Global, refl, sym, subst, take, arith, eq-eqb, ne_eqb, append-nil}
+use Rattle.std.proofs.Common.{◌≡◌, ◌≢◌, ℕ, ◌⊎◌, inl, inr, [], ◌∷◌, ◌==◌, List, Result, Ok, Err, Vec, Global, refl, sym, subst, take, arith, eq-eqb, ne_eqb}
 use Rattle.std.specs.Prelude.{IfOk, IfErr}
 use Rattle.std.specs.Str.{IsUtf8}
 use Rattle.std.specs.List.{AllByRecursion, slice_split, onto_first}
 use Rattle.std.proofs.lemmas.Bool.{cases_eq}
 use Rattle.unftp_control_defs.specs.Bytes.{Bytes, LF, Lacks}
-use Rattle.unftp_control_defs.specs.FtpReply.{FtpReply, CodeAndMsg, encoded, HasThreeDigits, IsPlain}
+use Rattle.unftp_control_defs.specs.FtpReply.{FtpReply, CodeAndMsg, encoded, IsPlain}
 use Rattle.unftp_control_defs.specs.ReplyReader.{ReadsBack}
-use Rattle.unftp_control_defs.proofs.EncodingLemmas.{ReadsBack-encoded}
-use Rattle.unftp_control_reply.specs.declared.code.ReplyCode.{ReplyCode}
-use Rattle.unftp_control_reply.specs.ReplyMeaning.{number_of}
+use Rattle.unftp_control_codecs.specs.ReplyCodes.{IsReplyCode}
+use Rattle.unftp_control_codecs.proofs.EncodingLemmas.{one_back, three_digits}
 use Rattle.unftp_control_c.specs.declared.status.Status.{Status}
 use Rattle.unftp_control_c.specs.declared.status.Status.TheVariants.{Done, OutOfMemory}
 use Rattle.unftp_control_c.specs.Numbers.{status_number}
 use Rattle.unftp_control_c.specs.Areas.{Made, made, written}
-use Rattle.unftp_control_c.specs.Replies.{IsCode, IsReplyOf, EncodesReply, lines_reply, encodes, unknown_code, not_utf8, out_of_memory}
+use Rattle.unftp_control_c.specs.Replies.{IsReplyOf, EncodesReply, lines_reply, encodes, unknown_code, not_utf8, out_of_memory}
 use Rattle.unftp_control_c.proofs.AreaLemmas.{filled_done}
-
-below_1000 : (code : ReplyCode) → number_of code < 1000
-below_1000 code = grind arith
-
-three_digits : (number : ℕ) → IsCode number → HasThreeDigits number
-three_digits number (least, (code, e)) = (least, rw (← e) (below_1000 code))
 
 first_lacks : (b : ℕ) (parts : List Bytes) → b ≢ LF → AllByRecursion (Lacks LF) parts → AllByRecursion (Lacks LF) (onto_first b parts)
 first_lacks b [] ne all = ((ne, tt), tt)
@@ -35,12 +28,9 @@ parts_lack : (text : Bytes) → AllByRecursion (Lacks LF) (slice_split (λ b. b 
 parts_lack [] = (tt, tt)
 parts_lack (b ∷ text) = next_part b text (cases_eq b LF) (parts_lack text)
 
-plain : (code : ℕ) (text : Bytes) (reply : FtpReply) → IsCode code → IsReplyOf code text reply → IsPlain reply
+plain : (code : ℕ) (text : Bytes) (reply : FtpReply) → IsReplyCode code → IsReplyOf code text reply → IsPlain reply
 plain code text reply is_code (inl one) = subst IsPlain (sym one.1) (three_digits code is_code, one.0)
 plain code text reply is_code (inr several) = subst IsPlain (sym several.1) (three_digits code is_code, parts_lack text)
-
-one_back : (reply : FtpReply) → IsPlain reply → ReadsBack (encoded reply) (reply ∷ [])
-one_back reply is_plain = subst (λ bytes. ReadsBack bytes (reply ∷ [])) (append-nil (encoded reply)) (ReadsBack-encoded (reply ∷ []) (is_plain, tt))
 
 pub reads_back : (code : ℕ) (text area : Bytes) (bytes : Made) → EncodesReply code text bytes → (written bytes area).result ≡ status_number Done
     → (reply : FtpReply) × IsReplyOf code text reply × ReadsBack (take (written bytes area).text_length (written bytes area).area) (reply ∷ [])
@@ -52,11 +42,11 @@ reads_back code text area bytes (not_utf8 is_code ill_formed e) done = absurd (o
 reads_back code text area bytes (out_of_memory is_code utf8 e) done = absurd (omega (arith, subst (λ b. (written b area).result ≡ status_number Done) e done))
 
 -- the reply of one line, and that of several, whose memory may run out
-pub line_encodes : (code : ℕ) (text : Bytes) → IsCode code → IsUtf8 text → Lacks LF text → EncodesReply code text (Ok (encoded (CodeAndMsg code text)))
+pub line_encodes : (code : ℕ) (text : Bytes) → IsReplyCode code → IsUtf8 text → Lacks LF text → EncodesReply code text (Ok (encoded (CodeAndMsg code text)))
 line_encodes code text is_code utf8 one = encodes is_code utf8 (CodeAndMsg code text) (inl (one, refl)) refl
 
-pub lines_encode : (code : ℕ) (text : Bytes) (number : ℕ) (lines : Bytes) (result : Result (Vec ℕ Global) Status) → number ≡ code → lines ≡ text → IsCode code → IsUtf8 text → ¬ Lacks LF text
-    → IfOk result (λ buf. buf.items ≡ encoded (lines_reply number lines)) → IfErr result (λ status. status ≡ OutOfMemory) → EncodesReply code text (made result)
-lines_encode code text number lines (Ok buf) same same_text is_code utf8 several ok err =
-    encodes is_code utf8 (lines_reply code text) (inr (several, refl)) (rw (← same, ← same_text, ok) refl)
-lines_encode code text number lines (Err status) same same_text is_code utf8 several ok err = out_of_memory is_code utf8 (rw err refl)
+pub lines_encode : (code : ℕ) (text lines : Bytes) (result : Result (Vec ℕ Global) Status) → lines ≡ text → IsReplyCode code → IsUtf8 text → ¬ Lacks LF text
+    → IfOk result (λ buf. buf.items ≡ encoded (lines_reply code lines)) → IfErr result (λ status. status ≡ OutOfMemory) → EncodesReply code text (made result)
+lines_encode code text lines (Ok buf) same is_code utf8 several ok err =
+    encodes is_code utf8 (lines_reply code text) (inr (several, refl)) (rw (← same, ok) refl)
+lines_encode code text lines (Err status) same is_code utf8 several ok err = out_of_memory is_code utf8 (rw err refl)

@@ -1,17 +1,12 @@
 -- The reply that a caller has written, by its code and its text.
-use Rattle.std.specs.Prelude.{◌≡◌, ℕ, ◌≤◌, ◌==◌, ◌⊎◌, Ok, Err}
+use Rattle.std.specs.Prelude.{◌≡◌, ℕ, ◌==◌, ◌⊎◌, Ok, Err}
 use Rattle.std.specs.List.{slice_split}
 use Rattle.std.specs.Str.{IsUtf8}
 use Rattle.unftp_control_defs.specs.Bytes.{Bytes, LF, Lacks}
 use Rattle.unftp_control_defs.specs.FtpReply.{FtpReply, CodeAndMsg, MultiLine, encoded}
-use Rattle.unftp_control_reply.specs.declared.code.ReplyCode.{ReplyCode}
-use Rattle.unftp_control_reply.specs.ReplyMeaning.{number_of}
+use Rattle.unftp_control_codecs.specs.ReplyCodes.{IsReplyCode}
 use Rattle.unftp_control_c.specs.declared.status.Status.TheVariants.{UnknownCode, InvalidUtf8, OutOfMemory}
 use Rattle.unftp_control_c.specs.Areas.{Made}
-
--- the number of a reply's code, which has three digits
-abbrev pub IsCode : ℕ → Type 0
-IsCode number = (100 ≤ number) × ((code : ReplyCode) × (number_of code ≡ number))
 
 -- the lines that LFs divide
 abbrev pub lines_reply : ℕ → Bytes → FtpReply
@@ -24,9 +19,9 @@ IsReplyOf code text reply = (Lacks LF text × (reply ≡ CodeAndMsg code text))
 
 -- the reply's bytes, or why there are none
 pub data EncodesReply (code : ℕ) (text : Bytes) (bytes : Made) : Type 0 where
-  encodes : IsCode code → IsUtf8 text → (reply : FtpReply) → IsReplyOf code text reply
+  encodes : IsReplyCode code → IsUtf8 text → (reply : FtpReply) → IsReplyOf code text reply
       → bytes ≡ Ok (encoded reply) → EncodesReply code text bytes
-  unknown_code : ¬ IsCode code → bytes ≡ Err UnknownCode → EncodesReply code text bytes
-  not_utf8 : IsCode code → ¬ IsUtf8 text → bytes ≡ Err InvalidUtf8 → EncodesReply code text bytes
-  out_of_memory : IsCode code → IsUtf8 text → bytes ≡ Err OutOfMemory
+  unknown_code : ¬ IsReplyCode code → bytes ≡ Err UnknownCode → EncodesReply code text bytes
+  not_utf8 : IsReplyCode code → ¬ IsUtf8 text → bytes ≡ Err InvalidUtf8 → EncodesReply code text bytes
+  out_of_memory : IsReplyCode code → IsUtf8 text → bytes ≡ Err OutOfMemory
       → EncodesReply code text bytes

@@ -7,7 +7,7 @@ ghost use Rattle.unftp_control_c.specs.Areas.{filled, written};
 ghost use Rattle.unftp_control_c.specs.CanonicalLines.{CanonicalMayTakeMemory, IsCanonical};
 ghost use Rattle.unftp_control_c.specs.Next.{LineMayTakeMemory, next_of};
 ghost use Rattle.unftp_control_c.specs.Rows.{a_call, leaving};
-ghost use Rattle.unftp_control_c.specs.Replies.{EncodesReply, IsCode, IsReplyOf};
+ghost use Rattle.unftp_control_c.specs.Replies.{EncodesReply, IsReplyOf};
 ghost use Rattle.unftp_control_c.specs.declared.status.Status.TheVariants.{InvalidEol, NoLine, UnknownCode};
 
 pub mod calls;
@@ -67,9 +67,12 @@ pub fn areas_are_filled()
 
 /// Replies of one line and of several, and what is no code.
 pub fn replies_have_codes_and_lines()
-    ensures code { IsCode 200 }
-    ensures one_digit { ¬ IsCode 2 }
-    ensures no_code { ¬ EncodesReply 299 [] (Ok (codes "299\r\n")) }
+    ensures least_code { ¬ EncodesReply 100 [] (Err UnknownCode) }
+    ensures greatest_code { ¬ EncodesReply 599 [] (Err UnknownCode) }
+    ensures two_digits { EncodesReply 99 [] (Err UnknownCode) }
+    ensures sixth_kind { EncodesReply 600 [] (Err UnknownCode) }
+    ensures not_encoded { ¬ EncodesReply 600 [] (Ok (codes "600\r\n")) }
+    ensures code_without_a_name { EncodesReply 299 [] (Ok (codes "299\r\n")) }
     ensures one_line { IsReplyOf 200 (codes "a") (CodeAndMsg 200 (codes "a")) }
     ensures empty { IsReplyOf 200 [] (CodeAndMsg 200 []) }
     ensures two_lines { IsReplyOf 200 (codes "a\n") (MultiLine 200 (codes "a" ∷ [] ∷ [])) }

@@ -1,9 +1,10 @@
 //! Replies: one that is written, and the first of those that were received.
-ghost use Rattle.std.specs.Prelude.{◌≡◌, ◌↔◌, ◌≤◌, ◌==◌, ℕ, [], ◌∷◌, ◌++◌, if◌then◌else◌, length, take, List, Some, Err, IsTrue, IfOk, IfErr};
+ghost use Rattle.std.specs.Prelude.{◌≡◌, ◌↔◌, ◌≤◌, ◌==◌, ℕ, [], ◌∷◌, ◌++◌, if◌then◌else◌, length, map, take, List, Err, IsTrue, IfOk, IfErr};
+ghost use Rattle.std.specs.List.{slice_split};
 ghost use Rattle.unftp_control_defs.specs.Bytes.{Bytes, LF, Lacks, crlf};
 ghost use Rattle.unftp_control_defs.specs.FtpReply.{FtpReply, CodeAndMsg, encoded, spaced_line};
 ghost use Rattle.unftp_control_defs.specs.ReplyReader.{FrontReply, IsMalformed, IsPartial, ReadsBack};
-ghost use Rattle.unftp_control_reply.specs.ReplyMeaning.{number_of, reply_of};
+ghost use Rattle.unftp_control_codecs.specs.ReplyCodes.{IsReplyCode};
 ghost use Rattle.unftp_control_c.specs.Areas.{Made, filled, made, written};
 ghost use Rattle.unftp_control_c.specs.Numbers.{status_number};
 ghost use Rattle.unftp_control_c.specs.Replies.{EncodesReply, IsReplyOf, lines_reply};
@@ -12,12 +13,10 @@ ghost use Rattle.unftp_control_c.specs.declared.status.Status.TheVariants.{Done,
 use crate::areas::{overwrite_both, write};
 use crate::status::Status;
 use itoa::Buffer;
-use std::alloc::Global;
+use std::alloc::{AllocError, Global};
 use std::str::from_utf8;
-use unftp_control_codecs::encode_reply;
+use unftp_control_codecs::{encode_lines, is_reply_code};
 use unftp_control_read::{FoundReply, find_reply};
-use unftp_control_reply::error::ControlChanError;
-use unftp_control_reply::{Reply, ReplyCode};
 
 /// The bytes of a reply: `unftp_reply` of include/unftp_control.h.
 #[unsafe(no_mangle)]
@@ -38,9 +37,9 @@ pub extern "C" fn unftp_reply(
         → (reply : FtpReply) × IsReplyOf code text.now reply
         × ReadsBack (take len.new out.new) (reply ∷ []) }
 {
-    let Some(code) = code_of(code) else {
+    if !is_reply_code(code) {
         return write(Err(Status::UnknownCode), out, len);
-    };
+    }
     let Ok(text) = from_utf8(text) else {
         return write(Err(Status::InvalidUtf8), out, len);
     };
@@ -52,12 +51,12 @@ pub extern "C" fn unftp_reply(
 
 /// Writes the reply of one line to the start of the area, where it has room for it, and reports how
 /// long it is: the number of what has come of it. It takes no memory.
-fn write_line(code: ReplyCode, text: &str, area: &mut [u8], len: &mut usize) -> u32
+fn write_line(code: u32, text: &str, area: &mut [u8], len: &mut usize) -> u32
     ensures { record { result = result; area = area.new; text_length = len.new }
-        ≡ filled (encoded (CodeAndMsg (number_of code) text.now)) area.old }
+        ≡ filled (encoded (CodeAndMsg code text.now)) area.old }
 {
     let mut digits = Buffer::new();
-    let digits = digits.format(code.number()).as_bytes();
+    let digits = digits.format(code).as_bytes();
     let space = space_before(text);
     let front = digits.len() + space.len();
     *len = front + text.len() + 2;
@@ -80,35 +79,32 @@ fn space_before(text: &str) -> &'static [u8]
 }
 
 /// The bytes of the reply of the text's lines, or why there are none.
-fn encoded_lines(alloc: Global, code: ReplyCode, text: &str) -> Result<Vec<u8>, Status>
-    ensures ok { IfOk result (λ buf. buf.items ≡ encoded (lines_reply (number_of code) text.now)) }
+fn encoded_lines(alloc: Global, code: u32, text: &str) -> Result<Vec<u8>, Status>
+    requires { IsReplyCode code }
+    ensures ok { IfOk result (λ buf. buf.items ≡ encoded (lines_reply code text.now)) }
     ensures err { IfErr result (λ status. status ≡ OutOfMemory) }
 {
-    let Ok(reply) = lines_reply(alloc, code, text) else {
+    let Ok(lines) = lines_of(alloc, text) else {
         return Err(Status::OutOfMemory);
     };
     let mut buf = Vec::new(alloc);
-    match encode_reply(&reply, &mut buf) {
+    match encode_lines(code, lines.as_slice(), &mut buf) {
         Ok(()) => Ok(buf),
         Err(_) => Err(Status::OutOfMemory),
     }
 }
 
-/// The reply of the text's lines.
-fn lines_reply(alloc: Global, code: ReplyCode, text: &str) -> Result<Reply, ControlChanError>
-    ensures { IfOk result (λ reply. reply_of reply ≡ lines_reply (number_of code) text.now) }
+/// The lines of the text, which line feeds divide.
+fn lines_of(alloc: Global, text: &str) -> Result<Vec<&str>, AllocError>
+    ensures { IfOk result (λ lines.
+        map (λ line. line.now) lines.items ≡ slice_split (λ b. b == LF) text.now) }
 {
-    Reply::new_multiline(alloc, code, text.split('\n'))
-}
-
-/// The code of three digits with this number.
-fn code_of(number: u32) -> Option<ReplyCode>
-    ensures { (code : _) → (result ≡ Some code) ↔ ((100 ≤ number) × (number_of code ≡ number)) }
-{
-    if number < 100 {
-        return None;
+    let mut lines = Vec::new(alloc);
+    // not by `collect`: where an allocation fails, it tries a smaller one
+    for line in text.split('\n') {
+        lines.push(line)?;
     }
-    ReplyCode::from_number(number)
+    Ok(lines)
 }
 
 /// Whether the text has no line feed.

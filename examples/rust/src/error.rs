@@ -9,7 +9,7 @@ use std::fmt::{self, Display, Formatter};
 pub enum Error {
     /// An allocation failed. The same call may be made again.
     OutOfMemory,
-    /// No reply has this code.
+    /// No reply has this code: it is not from 100 to 599.
     UnknownCode,
     /// The line is no command.
     Refused(Refusal),

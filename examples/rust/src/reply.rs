@@ -2,12 +2,12 @@ use crate::area::written;
 use crate::error::Error;
 use crate::ffi;
 
-/// The bytes of a reply (RFC 959, section 4.2). The text is of one line, or of several that are
-/// divided by line feeds.
+/// The bytes of a reply (RFC 959, section 4.2). The code is any number from 100 to 599, and the text
+/// of one line, or of several that are divided by line feeds.
 ///
 /// # Errors
 ///
-/// [`Error::UnknownCode`] for a number that is no code of a reply, and [`Error::OutOfMemory`].
+/// [`Error::UnknownCode`] for a code that is not from 100 to 599, and [`Error::OutOfMemory`].
 pub fn reply(code: u32, text: &str) -> Result<Vec<u8>, Error> {
     written(text.len() + 16, |out| {
         ffi::reply(code, text.as_bytes(), out)

@@ -95,7 +95,18 @@ fn a_reply_is_found_again() -> Result<(), Error> {
     assert_eq!(front_reply(&bytes), FrontReply::Whole { code, used });
     assert_eq!(front_reply(b""), FrontReply::Partial);
     assert_eq!(front_reply(b"OK\r\n"), FrontReply::Malformed);
-    assert_eq!(reply(2, "OK"), Err(Error::UnknownCode));
+    Ok(())
+}
+
+#[test]
+fn a_reply_has_any_code_from_100_to_599() -> Result<(), Error> {
+    assert_eq!(reply(334, "ADAT=YWI=")?, b"334 ADAT=YWI=\r\n");
+    assert_eq!(reply(431, "1\n2")?, b"431- 1\r\n431 2\r\n");
+    assert_eq!(reply(100, "")?, b"100\r\n");
+    assert_eq!(reply(599, "")?, b"599\r\n");
+    for code in [2, 99, 600, u32::MAX] {
+        assert_eq!(reply(code, "OK"), Err(Error::UnknownCode));
+    }
     Ok(())
 }
 

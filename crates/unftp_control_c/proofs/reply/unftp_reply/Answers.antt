@@ -8,56 +8,56 @@ use Rattle.unftp_control_c.specs.Replies.{not_utf8, unknown_code}
 use Rattle.unftp_control_c.proofs.ReplyLemmas.{line_encodes, lines_encode, reads_back}
 use Rattle.unftp_control_c.proofs.reply.unftp_reply.Goals as goal
 
+pub returns-then-not-is_reply_code-clause-writes : goal.returns-then-not-is_reply_code-clause-writes
+returns-then-not-is_reply_code-clause-writes c =
+    (Err UnknownCode, unknown_code (λ is_code. false≢true (c.if-not-is_reply_code.ensures.1 is_code)) refl, c.write.ensures)
+
 pub returns-in_default-clause-writes : goal.returns-in_default-clause-writes
 returns-in_default-clause-writes c =
-    (Err UnknownCode, unknown_code (λ is_code. let found = (c.in_default.ensures is_code.1.0).1 (is_code.0, is_code.1.1) in cc) refl, c.write.ensures)
-
-pub returns-in_default-from_utf8-clause-writes : goal.returns-in_default-from_utf8-clause-writes
-returns-in_default-from_utf8-clause-writes c =
-    let code = (c.in-Some.ensures c.in-Some.code).0 refl in
-    (Err InvalidUtf8, not_utf8 (code.0, (c.in-Some.code, code.1)) c.in_default-from_utf8.ensures.cases.0 refl, c.write-in_default-from_utf8.ensures)
+    let code = c.if-not-is_reply_code.ensures.0 refl in
+    (Err InvalidUtf8, not_utf8 code c.in_default.ensures.cases.0 refl, c.write-in_default.ensures)
 
 pub returns-then-is_one_line-clause-writes : goal.returns-then-is_one_line-clause-writes
 returns-then-is_one_line-clause-writes c =
-    let code = (c.in-Some.ensures c.in-Some.code).0 refl in
+    let code = c.if-not-is_reply_code.ensures.0 refl in
     let text = c.in-Ok.ensures.cases in
     let one = subst (Lacks LF) text.0 (c.if-is_one_line.ensures.0 refl) in (
       Ok (encoded (CodeAndMsg c.args.code c.args.text.now)),
-      line_encodes c.args.code c.args.text.now (code.0, (c.in-Some.code, code.1)) text.1 one,
-      rw (← code.1, ← text.0) c.write_line.ensures,
+      line_encodes c.args.code c.args.text.now code text.1 one,
+      rw (← text.0) c.write_line.ensures,
     )
 
 pub returns-then-is_one_line-clause-read_back : goal.returns-then-is_one_line-clause-read_back
 returns-then-is_one_line-clause-read_back c = λ done.
-    let code = (c.in-Some.ensures c.in-Some.code).0 refl in
+    let code = c.if-not-is_reply_code.ensures.0 refl in
     let text = c.in-Ok.ensures.cases in
     let one = subst (Lacks LF) text.0 (c.if-is_one_line.ensures.0 refl) in
     let left = c.write_line.ensures in
     let bytes : Made = Ok (encoded (CodeAndMsg c.args.code c.args.text.now)) in
-    rw (ap (λ filled. filled.text_length) left, ap (λ filled. filled.area) left, code.1, text.0)
+    rw (ap (λ filled. filled.text_length) left, ap (λ filled. filled.area) left, text.0)
     (reads_back c.args.code c.args.text.now c.args.out.now bytes
-    (line_encodes c.args.code c.args.text.now (code.0, (c.in-Some.code, code.1)) text.1 one)
-    (rw (← code.1, ← text.0) (sym (ap (λ filled. filled.result) left) ∙ done)))
+    (line_encodes c.args.code c.args.text.now code text.1 one)
+    (rw (← text.0) (sym (ap (λ filled. filled.result) left) ∙ done)))
 
 pub returns-clause-writes : goal.returns-clause-writes
 returns-clause-writes c =
-    let code = (c.in-Some.ensures c.in-Some.code).0 refl in
+    let code = c.if-not-is_reply_code.ensures.0 refl in
     let text = c.in-Ok.ensures.cases in
     let several = λ (one : Lacks LF c.args.text.now). false≢true (c.if-is_one_line.ensures.1 (subst (Lacks LF) (sym text.0) one)) in (
       made c.encoded_lines.result,
-      lines_encode c.args.code c.args.text.now _ _ c.encoded_lines.result code.1 text.0 (code.0, (c.in-Some.code, code.1)) text.1 several c.encoded_lines.ensures.ok
+      lines_encode c.args.code c.args.text.now _ c.encoded_lines.result text.0 code text.1 several c.encoded_lines.ensures.ok
           c.encoded_lines.ensures.err,
       c.write-2.ensures,
     )
 
 pub returns-clause-read_back : goal.returns-clause-read_back
 returns-clause-read_back c = λ done.
-    let code = (c.in-Some.ensures c.in-Some.code).0 refl in
+    let code = c.if-not-is_reply_code.ensures.0 refl in
     let text = c.in-Ok.ensures.cases in
     let several = λ (one : Lacks LF c.args.text.now). false≢true (c.if-is_one_line.ensures.1 (subst (Lacks LF) (sym text.0) one)) in
     let left = c.write-2.ensures in
     rw (ap (λ filled. filled.text_length) left, ap (λ filled. filled.area) left)
     (reads_back c.args.code c.args.text.now c.args.out.now (made c.encoded_lines.result)
-    (lines_encode c.args.code c.args.text.now _ _ c.encoded_lines.result code.1 text.0 (code.0, (c.in-Some.code, code.1)) text.1 several c.encoded_lines.ensures.ok
+    (lines_encode c.args.code c.args.text.now _ c.encoded_lines.result text.0 code text.1 several c.encoded_lines.ensures.ok
     c.encoded_lines.ensures.err)
     (sym (ap (λ filled. filled.result) left) ∙ done))
