@@ -3,6 +3,7 @@
 
 pub mod client;
 pub mod codec;
+pub mod codes;
 pub mod event_loop;
 pub mod examples;
 pub mod fact_list;

@@ -29,6 +29,7 @@ pub use Rattle.unftp_control_codecs.specs.Codec
 pub use Rattle.unftp_control_codecs.specs.LineFeed
 pub use Rattle.unftp_control_codecs.specs.Decoding
 pub use Rattle.unftp_control_codecs.specs.Calls
+pub use Rattle.unftp_control_codecs.specs.ReplyCodes
 pub use Rattle.unftp_control_commands.specs.Answers
 pub use Rattle.unftp_control_commands.specs.Facts
 pub use Rattle.unftp_control_commands.specs.ReplyTexts
