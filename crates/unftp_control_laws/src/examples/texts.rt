@@ -3,6 +3,7 @@
 ghost use Rattle.std.specs.Prelude.{◌≡◌, ◌≢◌, ◌∷◌, ◌++◌, [], true, false, codes};
 ghost use Rattle.unftp_control_defs.specs.Bytes.{NUL, LF};
 ghost use Rattle.unftp_control_defs.specs.FtpReply.{MultiLine};
+ghost use Rattle.unftp_control_codecs.specs.ReplyCodes.{IsReplyCode};
 ghost use Rattle.unftp_control_commands.specs.Answers.{feat_reply, feat_reply_with, help_reply, help_reply_with};
 ghost use Rattle.unftp_control_commands.specs.ReplyTexts.{HasNoFirstQuote, quoted, single_line};
 
@@ -36,6 +37,14 @@ pub fn texts_are_single_lines_so()
     ensures line_end { single_line (codes "\r\n") ≡ codes "\r" ++ NUL ∷ NUL ∷ [] }
     ensures end_of_both { single_line (codes "\n\r") ≡ NUL ∷ codes "\r" ++ NUL ∷ [] }
     ensures nul { single_line (NUL ∷ []) ≡ single_line (LF ∷ []) }
+{}
+
+/// Codes that a reply can have (RFC 959, section 4.2).
+pub fn replies_have_codes_so()
+    ensures two_digits { ¬ IsReplyCode 99 }
+    ensures least { IsReplyCode 100 }
+    ensures greatest { IsReplyCode 599 }
+    ensures sixth_kind { ¬ IsReplyCode 600 }
 {}
 
 /// Replies to FEAT (RFC 2389, section 3.2).
