@@ -1,0 +1,2 @@
+pub mod ShownTextLemmas
+pub mod PrintableLemmas

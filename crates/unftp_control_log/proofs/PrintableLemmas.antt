@@ -1,0 +1,165 @@
+-- Each byte of a log line is printable.
+use Rattle.std.proofs.Common.{◌≡◌, ◌≢◌, ◌≤◌, ◌<◌, ◌+◌, ◌/◌, ◌%◌, ℕ, nat_lt, nat_le, ◌==◌, ◌&&◌, Bool, true, false, cond, [], ◌∷◌, ◌++◌, Option, Some, None, option_map, codes, arith, refl, sym, subst, inl, inr, ◌⊎◌, List, find, bytes_eq, mod-lt, ltb-true, ltb-false, leb-true}
+use Rattle.std.specs.Char.{digit_char}
+use Rattle.std.specs.Char.Escape.{escape_ascii, hex_digit_at, short_escape}
+use Rattle.std.specs.List.{AllByRecursion, list_all}
+use Rattle.std.proofs.lemmas.Bool.{and_parts}
+use Rattle.unftp_control_defs.specs.Bytes.{Bytes}
+use Rattle.unftp_control_defs.specs.Events as fault
+use Rattle.unftp_control_defs.specs.Events.{FaultKind, FaultSource, FtpEvent, Command, Refused, Parse, NoSource, Utf8, Io}
+use Rattle.unftp_control_defs.specs.FtpCommand.{FtpCommand, Refusal, InvalidCommand, InvalidUtf8, InvalidEol}
+use Rattle.unftp_control_defs.specs.NameAndValue.{name_and_value}
+use Rattle.unftp_control_defs.specs.Rules.{row_of, unless_empty, verbs}
+use Rattle.unftp_control_defs.specs.Texts.{reading_text}
+use Rattle.unftp_control_defs.specs.Verbs.{upper, verb_of}
+use lib.Pointwise.{bytes_decides}
+use Rattle.unftp_control_log.specs.LogLine.{IsPrintable, asterisks, is_of_site, is_secret, is_unknown, kind_reason, known_verb, log_line, reason, shown, shown_name, shown_value}
+use Rattle.unftp_control_write.specs.Parts.{spaced_part}
+
+abbrev pub ArePrintable : Bytes → Type 0
+ArePrintable text = AllByRecursion IsPrintable text
+
+abbrev pub IfPrintable : Option Bytes → Type 0
+IfPrintable None = Unit {0}
+IfPrintable (Some text) = ArePrintable text
+
+-- for texts that are written out
+abbrev all_printable : Bytes → Bool
+all_printable [] = true
+all_printable (b ∷ text) = (nat_le 32 b && nat_le b 126) && all_printable text
+
+written : (text : Bytes) → all_printable text ≡ true → ArePrintable text
+written [] is = tt
+written (b ∷ text) is =
+    let parts = and_parts (nat_le 32 b && nat_le b 126) (all_printable text) is in
+    let here = and_parts (nat_le 32 b) (nat_le b 126) parts.0 in
+    ((leb-true 32 b here.0, leb-true b 126 here.1), written text parts.1)
+
+joined : (text more : Bytes) → ArePrintable text → ArePrintable more → ArePrintable (text ++ more)
+joined [] more first second = second
+joined (b ∷ text) more first second = (first.0, joined text more first.1 second)
+
+-- one of two
+either_prints : (test : Bool) (one other : Bytes) → ArePrintable one → ArePrintable other → ArePrintable (cond test one other)
+either_prints true one other p q = p
+either_prints false one other p q = q
+
+-- the digits of an escape
+digit_prints : (d : ℕ) → d < 16 → IsPrintable (digit_char d)
+digit_prints d small = by_test (nat_lt d 10) refl
+  where
+    by_test : (test : Bool) → nat_lt d 10 ≡ test → IsPrintable (cond test (48 + d) (87 + d))
+    by_test true is = let low = ltb-true d 10 is in (omega arith, omega arith)
+    by_test false is = let high = ltb-false d 10 is in (omega arith, omega arith)
+
+hex_prints : (place b : ℕ) → IsPrintable (hex_digit_at place b)
+hex_prints place b = digit_prints (b / place % 16) (mod-lt (b / place) (omega arith))
+
+coded_prints : (b : ℕ) → ArePrintable (92 ∷ 120 ∷ hex_digit_at 0x10 b ∷ hex_digit_at 1 b ∷ [])
+coded_prints b = ((omega arith, omega arith), ((omega arith, omega arith), (hex_prints 0x10 b, (hex_prints 1 b, tt))))
+
+-- the letter after a backslash, where there is one
+abbrev IsShort : ℕ → Type 0
+IsShort n = (n ≡ 0) ⊎ IsPrintable n
+
+short_one : (test : Bool) (n m : ℕ) → IsShort n → IsShort m → IsShort (cond test n m)
+short_one true n m p q = p
+short_one false n m p q = q
+
+short_prints : (b : ℕ) → IsShort (short_escape b)
+short_prints b =
+    short_one (b == 9) 116 _ (inr (omega arith, omega arith)) (
+    short_one (b == 13) 114 _ (inr (omega arith, omega arith)) (
+    short_one (b == 10) 110 _ (inr (omega arith, omega arith)) (
+    short_one (b == 39) 39 _ (inr (omega arith, omega arith)) (
+    short_one (b == 34) 34 _ (inr (omega arith, omega arith)) (
+    short_one (b == 92) 92 0 (inr (omega arith, omega arith)) (inl refl))))))
+
+with_short : (n : ℕ) (more : Bytes) → IsShort n → ArePrintable more → ArePrintable (cond (nat_lt 0 n) (92 ∷ n ∷ []) more)
+with_short n more (inl is) h = rw is h
+with_short n more (inr is) h = either_prints (nat_lt 0 n) (92 ∷ n ∷ []) more ((omega arith, omega arith), (is, tt)) h
+
+plain_prints : (b : ℕ) → ArePrintable (cond (nat_lt b 32) (92 ∷ 120 ∷ hex_digit_at 0x10 b ∷ hex_digit_at 1 b ∷ [])
+    (cond (nat_lt b 127) (b ∷ []) (92 ∷ 120 ∷ hex_digit_at 0x10 b ∷ hex_digit_at 1 b ∷ [])))
+plain_prints b = by_tests (nat_lt b 32) refl (nat_lt b 127) refl
+  where
+    by_tests : (low : Bool) → nat_lt b 32 ≡ low → (ascii : Bool) → nat_lt b 127 ≡ ascii →
+        ArePrintable (cond low (92 ∷ 120 ∷ hex_digit_at 0x10 b ∷ hex_digit_at 1 b ∷ [])
+        (cond ascii (b ∷ []) (92 ∷ 120 ∷ hex_digit_at 0x10 b ∷ hex_digit_at 1 b ∷ [])))
+    by_tests true is ascii is_ascii = coded_prints b
+    by_tests false is true is_ascii = ((ltb-false b 32 is, let below = ltb-true b 127 is_ascii in omega arith), tt)
+    by_tests false is false is_ascii = coded_prints b
+
+byte_prints : (b : ℕ) → ArePrintable (escape_ascii b)
+byte_prints b = with_short (short_escape b) _ (short_prints b) (plain_prints b)
+
+pub shown_prints : (text : Bytes) → ArePrintable (shown text)
+shown_prints [] = tt
+shown_prints (b ∷ text) = joined (escape_ascii b) (shown text) (byte_prints b) (shown_prints text)
+
+-- after a space
+spaced_prints : (value : Option Bytes) → IfPrintable value → ArePrintable (spaced_part value)
+spaced_prints None h = tt
+spaced_prints (Some text) h = ((omega arith, omega arith), h)
+
+shown_part_prints : (value : Option Bytes) → IfPrintable (option_map shown value)
+shown_part_prints None = tt
+shown_part_prints (Some text) = shown_prints text
+
+-- a command
+name_prints : (of_site : Bool) (name : Bytes) → ArePrintable (shown_name of_site name)
+name_prints true name = joined (codes "SITE") _ (written (codes "SITE") refl) (spaced_prints _ (shown_part_prints (unless_empty name)))
+name_prints false name = shown_prints name
+
+value_prints : (command : FtpCommand) (value : Option Bytes) → IfPrintable (shown_value command value)
+value_prints command value = by_tests (is_secret command) (is_unknown command) value
+  where
+    by_tests : (secret unknown : Bool) (value : Option Bytes) →
+        IfPrintable (cond secret (Some asterisks) (option_map (λ text. cond unknown asterisks (shown text)) value))
+    by_tests true unknown value = written asterisks refl
+    by_tests false unknown None = tt
+    by_tests false true (Some text) = written asterisks refl
+    by_tests false false (Some text) = shown_prints text
+
+-- a known verb
+rows_print : {A : Type 0} (rows : List (Bytes × A)) → list_all (λ row. all_printable row.0) rows ≡ true → AllByRecursion (λ row. ArePrintable row.0) rows
+rows_print [] is = tt
+rows_print (row ∷ rows) is = let parts = and_parts _ _ is in (written row.0 parts.0, rows_print rows parts.1)
+
+row_prints : {A : Type 0} (name : Bytes) (rows : List (Bytes × A)) → AllByRecursion (λ row. ArePrintable row.0) rows →
+    IfPrintable (option_map (λ _. name) (row_of name rows))
+row_prints name [] each = tt
+row_prints name (row ∷ rows) each = by_test (bytes_eq name row.0) refl (row_prints name rows each.1)
+  where
+    by_test : (test : Bool) → bytes_eq name row.0 ≡ test → IfPrintable (option_map (λ _. name) (row_of name rows)) →
+        IfPrintable (option_map (λ _. name) (option_map (λ r. r.1) (cond test (Some row) (find (λ r. bytes_eq name r.0) rows))))
+    by_test true is others = subst ArePrintable (sym ((bytes_decides name row.0).0 is)) each.0
+    by_test false is others = others
+
+verb_prints : (line : Bytes) → IfPrintable (known_verb line)
+verb_prints line = row_prints (upper (verb_of line)) verbs (rows_print verbs refl)
+
+-- a reason
+kind_prints : (kind : FaultKind) → ArePrintable (kind_reason kind)
+kind_prints (fault.UnknownCommand command) = written (codes "Unknown command") refl
+kind_prints kind = written (kind_reason kind) refl
+
+reason_prints : (source : FaultSource) (kind : FaultKind) → ArePrintable (reason source kind)
+reason_prints (Parse None) kind = written (reading_text None) refl
+reason_prints (Parse (Some InvalidCommand)) kind = written (reading_text (Some InvalidCommand)) refl
+reason_prints (Parse (Some InvalidUtf8)) kind = written (reading_text (Some InvalidUtf8)) refl
+reason_prints (Parse (Some InvalidEol)) kind = written (reading_text (Some InvalidEol)) refl
+reason_prints NoSource kind = kind_prints kind
+reason_prints Utf8 kind = kind_prints kind
+reason_prints Io kind = kind_prints kind
+
+pub log_line_prints : (event : FtpEvent) (line : Bytes) → ArePrintable (log_line event line)
+log_line_prints (Command command) line =
+    joined (shown_name (is_of_site command) (name_and_value command).0) _
+    (name_prints (is_of_site command) (name_and_value command).0)
+    (spaced_prints _ (value_prints command (name_and_value command).1))
+log_line_prints (Refused fault) line =
+    let word = written (codes "refused") refl in
+    let verb = joined (codes "refused") (spaced_part (known_verb line)) word (spaced_prints (known_verb line) (verb_prints line)) in
+    let colon = joined (codes "refused" ++ spaced_part (known_verb line)) (codes ": ") verb (written (codes ": ") refl) in
+    joined (codes "refused" ++ spaced_part (known_verb line) ++ codes ": ") (reason fault.source fault.kind) colon (reason_prints fault.source fault.kind)
