@@ -6,7 +6,6 @@ mod FirstEndLemmas
 mod StepLemmas
 mod LossyTextLemmas
 mod EventStepLemmas
-mod EventLineLemmas
 mod ReplyStepLemmas
 mod SnapshotLemmas
 mod RunEndExampleLemmas

@@ -1,4 +1,5 @@
 pub mod DecoderLemmas
+pub mod EventLineLemmas
 pub mod SendLemmas
 pub mod EndingLemmas
 mod EngineLemmas

@@ -1,4 +1,4 @@
-use Rattle.unftp_control_laws.proofs.EventLineLemmas.{line_after-taken, refuses_length-exceeds}
+use Rattle.unftp_control_serve.proofs.EventLineLemmas.{line_after-taken, refuses_length-exceeds}
 use Rattle.unftp_control_laws.proofs.lines_of_events.Goals as goal
 
 pub returns : goal.returns
