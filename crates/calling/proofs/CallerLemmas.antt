@@ -52,16 +52,6 @@ IsReason-unwritten line command write.NoLine means has_line own = record {
 }
 IsReason-unwritten line command write.OutOfMemory means has_line own = tt
 
-pub IfErr-unwritten : {T : Type 0} (result : Result T WriteCommandError) (line : Bytes) (command : FtpCommand) → outcome line ≡ Ok command →
-    (HasLine command → IfErr result (λ error. error ≡ write.OutOfMemory)) → (IsLine line → HasLine command) → IfErr result (λ error. IsReason line (Unwritten error))
-IfErr-unwritten (Ok value) line command means has_line own = tt
-IfErr-unwritten (Err error) line command means has_line own = IsReason-unwritten line command error means has_line own
-
-pub IfErr-no_memory : {T : Type 0} (result : Result T WriteCommandError) (line : Bytes) → IfErr result (λ error. error ≡ write.OutOfMemory) → IfErr result (λ error. IsReason line (Unwritten error))
-IfErr-no_memory (Ok value) line none = tt
-IfErr-no_memory (Err write.NoLine) line none = absurd (no_such none)
-IfErr-no_memory (Err write.OutOfMemory) line none = tt
-
 -- the last state, whatever the answer was
 pub some_state : {T E S : Type 0} (result : Result T E) (P : S → ℕ → T → Type 0) (Q : S → ℕ → E → Type 0) →
     IfOk result (λ value. (s : S) × (n : ℕ) × P s n value) → IfErr result (λ error. (s : S) × (n : ℕ) × Q s n error) →

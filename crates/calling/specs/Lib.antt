@@ -5,7 +5,6 @@ pub mod UntilTls
 pub mod EventLoop
 pub mod NoFiles
 pub mod NextCode
-pub mod LogEntry
 pub mod Sessions
 pub mod Pieces
 pub mod FactList

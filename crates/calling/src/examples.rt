@@ -4,7 +4,6 @@ ghost use Rattle.std.specs.Prelude.{◌≡◌, [], ◌∷◌, ◌++◌, None, Ok
 ghost use Rattle.calling.specs.EventLoop.{replies_to, turn_after};
 ghost use Rattle.calling.specs.FactList.{facts_asked, facts_text};
 ghost use Rattle.calling.specs.Forwarding.{IsForwarded, IsReason};
-ghost use Rattle.calling.specs.LogEntry.{log_entry};
 ghost use Rattle.calling.specs.NextCode.{begins_tls};
 ghost use Rattle.calling.specs.WholeLine.{AsksFor, all_facts, image_modes, modes_after, no_facts, reply_to};
 ghost use Rattle.unftp_control.specs.Bytes.{Bytes};
@@ -86,15 +85,6 @@ pub fn tls_begins()
     ensures with_more { begins_tls (Some 234) (codes "2") ≡ true → ⊥ }
     ensures another_code { begins_tls (Some 334) [] ≡ true → ⊥ }
     ensures closed { begins_tls None [] ≡ true → ⊥ }
-{}
-
-/// An entry of a log doesn't depend on the password.
-pub fn lines_are_logged()
-    ensures command { log_entry (outcome (codes "retr a\n")) ≡ codes "RETR a\r\n" }
-    ensures password { (password : Bytes) → log_entry (Ok (Pass password)) ≡ codes "PASS ***\r\n" }
-    ensures refused { log_entry (outcome (codes "RETR\r\n"))
-        ≡ codes "parse error: Invalid command\r\n" }
-    ensures as_it_came { log_entry (outcome (codes "retr a\n")) ≡ codes "retr a\n" → ⊥ }
 {}
 
 /// The case of letters is ignored, and what follows counts.

@@ -48,3 +48,4 @@ pub use Rattle.unftp_control_read.specs.Reading
 pub use Rattle.unftp_control_read.specs.ReplyDecoding
 pub use Rattle.unftp_control_read.specs.Receiving
 pub use Rattle.unftp_control_write.specs.declared.WriteCommandError
+pub use Rattle.unftp_control_log.specs.LogLine

@@ -15,6 +15,7 @@ pub use unftp_control_command::password;
 pub use unftp_control_commands as commands;
 pub use unftp_control_laws as laws;
 pub use unftp_control_line_parser as line_parser;
+pub use unftp_control_log as log;
 pub use unftp_control_login as login;
 pub use unftp_control_read as read;
 pub use unftp_control_reply as reply;

@@ -26,8 +26,9 @@ fn lines_are_logged_and_forwarded(rt: HostRuntime) {
     let mut log = Vec::new(rt.alloc());
     for line in [b"pass secret\r\n".as_slice(), b"retr a\n", b"RETR\r\n"] {
         assert!(rt; log_line(rt.alloc(), line, &mut log).is_ok());
+        assert!(rt; log.push(b'\n').is_ok());
     }
-    let want = b"PASS ***\r\nRETR a\r\nparse error: Invalid command\r\n";
+    let want = b"PASS ***\nRETR a\nrefused RETR: Invalid command\n";
     assert_held(&rt, log, want);
     let mut out = Vec::new(rt.alloc());
     let answer = forward_line(rt.alloc(), b"list -la -- -x\n", &mut out);
