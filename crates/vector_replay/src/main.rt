@@ -65,6 +65,7 @@ fn answer_reply_call(
 ) -> io::Result<()> {
     match call {
         "encode" => replies::answer_encode(alloc, words, answers),
+        "lines" => replies::answer_lines(alloc, words, answers),
         "says" => replies::answer_says(alloc, words, answers),
         "code" => replies::answer_code(words, answers),
         "read" => reading::answer_read(alloc, words, answers),

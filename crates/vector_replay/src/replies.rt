@@ -5,7 +5,7 @@ use crate::shown::Quoted;
 use crate::words::{Words, no_case, or_no_case, read_number};
 use std::alloc::Global;
 use std::io;
-use unftp_control_codecs::encode_reply;
+use unftp_control_codecs::{EncodeLinesError, encode_lines, encode_reply};
 use unftp_control_reply::error::ControlChanError;
 use unftp_control_reply::{Reply, ReplyCode};
 
@@ -124,6 +124,43 @@ pub fn answer_encode(
     words.end()?;
     answers.begin();
     put_made_of(alloc, &parts, buf, answers);
+    answers.end();
+    Ok(())
+}
+
+/// Appends a reply of these lines, once more where memory ran out.
+fn append_lines(
+    code: u32,
+    lines: &[String],
+    buf: &mut Vec<u8>,
+    answers: &mut Answers,
+) -> Result<(), EncodeLinesError> {
+    let appended = encode_lines(code, lines, buf);
+    if !matches!(appended, Err(EncodeLinesError::OutOfMemory)) {
+        return appended;
+    }
+    answers.out_of_memory();
+    encode_lines(code, lines, buf)
+}
+
+/// Writes the bytes that a buffer with one byte has after it, or why none were appended.
+fn put_lines(appended: Result<(), EncodeLinesError>, buf: &[u8], answers: &mut Answers) {
+    match (appended, buf) {
+        (Ok(()), [b'x', bytes @ ..]) => answers.put(Quoted(bytes)),
+        (Err(EncodeLinesError::CodeOutOfRange), [b'x']) => answers.put("code-out-of-range"),
+        (Err(EncodeLinesError::OutOfMemory), [b'x']) => answers.put("failed"),
+        _ => answers.put("changed"),
+    }
+}
+
+/// `lines CODE LINE..`
+pub fn answer_lines(alloc: Global, words: &mut Words<'_>, answers: &mut Answers) -> io::Result<()> {
+    let code = words.number()?;
+    let lines = words.texts(alloc)?;
+    let mut buf = Vec::from_slice(alloc, b"x")?;
+    answers.begin();
+    let appended = append_lines(code, lines.as_slice(), &mut buf, answers);
+    put_lines(appended, buf.as_slice(), answers);
     answers.end();
     Ok(())
 }

@@ -6,6 +6,7 @@ use std::alloc::Global;
 use std::fmt::{Debug, Display};
 use std::io;
 use std::io::ErrorKind;
+use unftp_control_codecs::EncodeLinesError;
 use unftp_control_read::{NextReplyError, ReadReplyError, ReceiveError};
 use unftp_control_reply::error::{
     ControlChanError, ControlChanErrorKind, ParseError, ParseErrorKind,
@@ -62,6 +63,15 @@ fn serve_error(name: &str) -> io::Result<ServeError> {
         "OutOfMemory" => Ok(ServeError::OutOfMemory),
         "Stopped" => Ok(ServeError::Stopped),
         "TooManyReads" => Ok(ServeError::TooManyReads),
+        _ => Err(no_case()),
+    }
+}
+
+/// The error of encoding lines of this name.
+fn lines_error(name: &str) -> io::Result<EncodeLinesError> {
+    match name {
+        "CodeOutOfRange" => Ok(EncodeLinesError::CodeOutOfRange),
+        "OutOfMemory" => Ok(EncodeLinesError::OutOfMemory),
         _ => Err(no_case()),
     }
 }
@@ -159,6 +169,7 @@ pub fn answer_text(alloc: Global, words: &mut Words<'_>, answers: &mut Answers) 
             print(&error, &mut forms, words, answers)
         }
         "ServeError" => print(&serve_error(name)?, &mut forms, words, answers),
+        "EncodeLinesError" => print(&lines_error(name)?, &mut forms, words, answers),
         error => print_client_error(error, name, &mut forms, words, answers),
     }
 }
