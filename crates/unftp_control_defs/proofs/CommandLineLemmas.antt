@@ -33,10 +33,10 @@ value_gives answer gives parameter ends command e = by_option (value_of paramete
     by_option (Some v) q f = gives v command (value_of-lacks parameter v ends q) f
 
 -- the verb that is cut off, in upper case
-uppercased_name : (line : Bytes) → IsUpperCaseName (upper (verb_of line))
+pub uppercased_name : (line : Bytes) → IsUpperCaseName (upper (verb_of line))
 uppercased_name line = IsUpperCaseName-upper (verb_of line) (Cut-verb_of line).no_separator
 
-uppercased_utf8 : (line : Bytes) → is_utf8 (verb_of line) ≡ true → IsUtf8 (upper (verb_of line))
+pub uppercased_utf8 : (line : Bytes) → is_utf8 (verb_of line) ≡ true → IsUtf8 (upper (verb_of line))
 uppercased_utf8 line t = IsUtf8-upper (verb_of line) (IsUtf8-from_is_utf8 (verb_of line) t)
 
 site_gives : (parameter : Bytes) → EndsAtLf parameter → (command : FtpCommand) → site_answer parameter ≡ Ok command → IsSound command

@@ -10,6 +10,7 @@ pub mod Rules
 pub mod Outcome
 pub mod NameAndValue
 pub mod Canonical
+pub mod Forwarded
 pub mod FtpReply
 pub mod ReplyReader
 pub mod ReplyLimit

@@ -3,6 +3,7 @@
 #![tactic(auto)]
 
 pub mod commands;
+pub mod forwarding;
 pub mod lines;
 pub mod lossy;
 pub mod paths;

@@ -1,0 +1,46 @@
+-- The line that a proxy sends to a server for a client's line (RFC 959, section 5.3). It is the
+-- canonical line of the line's command; but a command holds nothing of a parameter that is ignored,
+-- and of LIST only the path, so the lines of these verbs keep the bytes of their parameter.
+use Rattle.std.specs.Prelude.{ℕ, Bool, true, false, ◌==◌, ◌&&◌, ◌||◌, if◌then◌else◌, [], ◌∷◌, ◌++◌, bytes_eq, codes}
+use Rattle.unftp_control_defs.specs.Bytes.{Bytes, LF, CR, SP, crlf}
+use Rattle.unftp_control_defs.specs.Verbs.{verb_of, parameter_of, upper}
+use Rattle.unftp_control_defs.specs.FtpCommand.{FtpCommand}
+use Rattle.unftp_control_defs.specs.Rules.{Rule, Ignores, Takes, Splits, rule_of}
+use Rattle.unftp_control_defs.specs.Canonical.{canonical_line}
+
+abbrev pub ignores_parameter : Rule → Bool
+ignores_parameter (Ignores command) = true
+ignores_parameter (Takes answer) = false
+ignores_parameter Splits = false
+
+-- a verb in upper case whose parameter is forwarded as it came: it says more than the command
+abbrev pub keeps_parameter : Bytes → Bool
+keeps_parameter verb = ignores_parameter (rule_of verb) || bytes_eq verb (codes "LIST")
+
+abbrev pub begins_with_lf : Bytes → Bool
+begins_with_lf [] = false
+begins_with_lf (b ∷ bytes) = b == LF
+
+-- a byte and what follows it begin with the line's end, which is an LF or CR LF
+abbrev pub begins_end : ℕ → Bytes → Bool
+begins_end b bytes = (b == LF) || ((b == CR) && begins_with_lf bytes)
+
+-- the bytes before it
+abbrev pub before_end : Bytes → Bytes
+before_end [] = []
+before_end (b ∷ bytes) = if begins_end b bytes then [] else b ∷ before_end bytes
+
+-- a verb, a space and these bytes as they are; only the verb where there is none
+abbrev pub with_parameter : Bytes → Bytes → Bytes
+with_parameter verb [] = verb
+with_parameter verb (b ∷ bytes) = verb ++ SP ∷ b ∷ bytes
+
+-- the verb in upper case and the parameter's bytes, with CR LF in place of the line's end
+abbrev pub kept_line : Bytes → Bytes
+kept_line line =
+    with_parameter (upper (verb_of line)) (before_end (parameter_of line)) ++ crlf
+
+-- what a server is sent for the line, which is this command
+abbrev pub forwarded_line : Bytes → FtpCommand → Bytes
+forwarded_line line command =
+    if keeps_parameter (upper (verb_of line)) then kept_line line else canonical_line command
