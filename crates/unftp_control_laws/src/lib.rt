@@ -9,6 +9,7 @@ ghost use Rattle.std.specs.Str.Lossy.{utf8_lossy};
 ghost use Rattle.unftp_control_commands.specs.Answers.{port_reply};
 ghost use Rattle.unftp_control_defs.specs.Bytes.{Bytes, LF, crlf, Lacks};
 ghost use Rattle.unftp_control_defs.specs.Canonical.{canonical_line, HasLine};
+ghost use Rattle.unftp_control_defs.specs.Forwarded.{before_end, forwarded_line, keeps_parameter};
 ghost use Rattle.unftp_control_defs.specs.TakingSteps.{TakingStep, TakesEvent, AreTakingSteps, all_pushed, all_taken};
 ghost use Rattle.unftp_control_defs.specs.Pieces.{events_in_turn, events_in_turn, replies_in_turn};
 ghost use Rattle.unftp_control_defs.specs.Events.{FtpEvent, Refused, events, exceeds, line_too_long, event_for};
@@ -112,6 +113,24 @@ pub fn canonical_lines_read_back()
 pub fn commands_of_lines()
     ensures { (command : FtpCommand) → (HasLine command × HasTypedFields command)
         ↔ ((line : Bytes) × IsLine line × (outcome line ≡ Ok command)) }
+{}
+
+/// The line that is forwarded for a line has one LF, its last byte, and means the same command.
+/// Where the parameter is kept, so are its bytes up to the line's end, after the verb in upper case
+/// (RFC 959, section 5.3).
+pub fn forwarded_lines_read_back()
+    ensures line { (line : Bytes) (command : FtpCommand) → IsLine line → outcome line ≡ Ok command
+        → IsLine (forwarded_line line command) }
+    ensures read_back { (line : Bytes) (command : FtpCommand)
+        → IsLine line → outcome line ≡ Ok command
+        → outcome (forwarded_line line command) ≡ Ok command }
+    ensures verb { (line : Bytes) (command : FtpCommand)
+        → keeps_parameter (upper (verb_of line)) ≡ true
+        → verb_of (forwarded_line line command) ≡ upper (verb_of line) }
+    ensures parameter { (line : Bytes) (command : FtpCommand)
+        → keeps_parameter (upper (verb_of line)) ≡ true
+        → before_end (parameter_of (forwarded_line line command))
+        ≡ before_end (parameter_of line) }
 {}
 
 /// Two ports whose EPSV replies are equal are equal (RFC 2428, section 3).
