@@ -8,6 +8,6 @@ mod typed;
 mod value;
 mod verb;
 
-pub use parser::parse;
+pub use parser::{parse, split};
 pub use unftp_control_reply::error::{ParseError, ParseErrorKind, Result, same_parse_errors};
-pub use verb::is_verb;
+pub use verb::{is_verb, keeps_parameter};

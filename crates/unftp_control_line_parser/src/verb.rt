@@ -3,7 +3,8 @@ ghost use Rattle.std.specs.Prelude.{◌≡◌, ◌↔◌, IsTrue, IsSome, map, o
 ghost use Rattle.std.specs.Int.{from_be_bytes, w32};
 ghost use Rattle.std.specs.List.Sorted.{IsStrictlyIncreasing};
 ghost use Rattle.unftp_control_defs.specs.Bytes.{Bytes};
-ghost use Rattle.unftp_control_defs.specs.Rules.{row_of, verbs};
+ghost use Rattle.unftp_control_defs.specs.Forwarded.{ignores_parameter, keeps_parameter};
+ghost use Rattle.unftp_control_defs.specs.Rules.{row_of, rule_of, verbs};
 ghost use Rattle.unftp_control_defs.specs.Verbs.{upper};
 ghost use Rattle.unftp_control_line_parser.specs.Meaning.{meaning};
 ghost use Rattle.unftp_control_line_parser.specs.Words.{to_four_bytes, from_four_bytes};
@@ -124,4 +125,22 @@ pub fn is_verb(word: &[u8]) -> bool
         Some(word) => rule_of(&word).is_some(),
         None => false,
     }
+}
+
+/// Whether the parameter of this verb, ignoring ASCII case, is ignored.
+fn ignores_parameter(verb: &[u8]) -> bool
+    ensures { result ≡ ignores_parameter (rule_of (upper verb.now)) }
+{
+    match rule_named(verb) {
+        Some(Ignores(_)) => true,
+        Some(Takes(_) | Splits) | None => false,
+    }
+}
+
+/// Whether a line of this verb, ignoring ASCII case, is forwarded with its own parameter, since its
+/// command holds nothing of that, or only a part (RFC 959, section 5.3). It takes no memory.
+pub fn keeps_parameter(verb: &[u8]) -> bool
+    ensures { result ≡ keeps_parameter (upper verb.now) }
+{
+    ignores_parameter(verb) || verb.eq_ignore_ascii_case(b"LIST")
 }

@@ -8,10 +8,12 @@ ghost use Rattle.unftp_control_defs.specs.Lines.{IsLine};
 ghost use Rattle.unftp_control_defs.specs.Outcome.{outcome};
 
 mod canonical;
+mod forwarding;
 mod line;
 pub mod parts;
 
 use crate::canonical::line_of;
+pub use forwarding::{ForwardError, forward};
 use thiserror::Error;
 use unftp_control_command::Command;
 
