@@ -4,14 +4,6 @@ use Rattle.std.specs.Prelude.{IfErr, IfOk, MatchResult, OnOk}
 use Rattle.std.proofs.lemmas.Bool.{false≢true}
 use Rattle.std.proofs.lemmas.List.{append-nil}
 use Rattle.unftp_control.specs.Bytes.{Bytes}
-use Rattle.unftp_control.specs.Canonical.{HasLine}
-use Rattle.unftp_control.specs.FtpCommand.{FtpCommand}
-use Rattle.unftp_control.specs.Lines.{IsLine}
-use Rattle.unftp_control.specs.Outcome.{outcome}
-use Rattle.unftp_control.specs.WriteCommandError.{WriteCommandError}
-use Rattle.unftp_control.specs.WriteCommandError.TheVariants as write
-use Rattle.calling.specs.declared.proxy.ForwardError.TheVariants.{Unwritten}
-use Rattle.calling.specs.Forwarding.{IsReason}
 use Rattle.calling.specs.Sessions.{IsSession, unused_input}
 use Rattle.unftp_control.specs.Endings.{Snapshot}
 use Rattle.unftp_control.specs.Run.{Law}
@@ -37,20 +29,6 @@ pub two_replies : {T E : Type 0} (result : Result T E) (old middle new text more
 two_replies (Ok value) old middle new text more first ok =
     one_text middle new more ok ∙ ap (λ z. z ++ (more ++ [])) first ∙ append_assoc old text (more ++ [])
 two_replies (Err error) old middle new text more first ok = tt
-
-no_such : write.NoLine ≡ write.OutOfMemory → ⊥
-no_such same = cc
-
--- why a command is not written
-pub IsReason-unwritten : (line : Bytes) (command : FtpCommand) (error : WriteCommandError) → outcome line ≡ Ok command → (HasLine command → error ≡ write.OutOfMemory) →
-    (IsLine line → HasLine command) → IsReason line (Unwritten error)
-IsReason-unwritten line command write.NoLine means has_line own = record {
-  command = command;
-  means = means;
-  no_line = λ has. absurd (no_such (has_line has));
-  not_one = λ is. no_such (has_line (own is));
-}
-IsReason-unwritten line command write.OutOfMemory means has_line own = tt
 
 -- the last state, whatever the answer was
 pub some_state : {T E S : Type 0} (result : Result T E) (P : S → ℕ → T → Type 0) (Q : S → ℕ → E → Type 0) →

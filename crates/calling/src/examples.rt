@@ -3,64 +3,64 @@
 ghost use Rattle.std.specs.Prelude.{◌≡◌, [], ◌∷◌, ◌++◌, None, Ok, Some, codes, false, true};
 ghost use Rattle.calling.specs.EventLoop.{replies_to, turn_after};
 ghost use Rattle.calling.specs.FactList.{facts_asked, facts_text};
-ghost use Rattle.calling.specs.Forwarding.{IsForwarded, IsReason};
+ghost use Rattle.calling.specs.Forwarding.{IsReplyInPlace};
 ghost use Rattle.calling.specs.NextCode.{begins_tls};
 ghost use Rattle.calling.specs.WholeLine.{AsksFor, all_facts, image_modes, modes_after, no_facts, reply_to};
 ghost use Rattle.unftp_control.specs.Bytes.{Bytes};
 ghost use Rattle.unftp_control.specs.Events.{Command, Refused, refusal_fault};
 ghost use Rattle.unftp_control.specs.FtpCommand.{Auth, Epsv, InvalidCommand, Pass, Pasv, Quit, Retr, TypeCode};
+ghost use Rattle.unftp_control.specs.Forwarding.{IsForwardError, IsForwarded};
 ghost use Rattle.unftp_control.specs.FtpReply.{CodeAndMsg};
 ghost use Rattle.unftp_control.specs.Outcome.{outcome};
 ghost use Rattle.unftp_control.specs.declared.commands.AuthParam.TheVariants.{Ssl, Tls};
 
 use crate::event_loop::Turn;
-use crate::proxy::ForwardError;
 use crate::whole_line::{Asked, Modes};
 use unftp_control::line_parser::ParseErrorKind;
-use unftp_control::write::WriteCommandError;
+use unftp_control::write::ForwardError;
 
-/// `Refused` names the refusal of the line, or says that an allocation failed.
+/// `Refused` names the refusal of the line, and `NotALine` is for bytes that are not one.
 pub fn lines_are_refused()
-    ensures path { IsReason (codes "RETR a\r\n")
+    ensures path { IsForwardError (codes "RETR a\r\n")
         (ForwardError.Refused ParseErrorKind.InvalidCommand) → ⊥ }
-    ensures command { IsReason (codes "NOOP\r\n")
-        (ForwardError.Refused ParseErrorKind.InvalidCommand) → ⊥ }
-    ensures empty_path { IsReason (codes "RETR\r\n")
+    ensures empty_path { IsForwardError (codes "RETR\r\n")
         (ForwardError.Refused ParseErrorKind.InvalidCommand) }
-    ensures other_refusal { IsReason (codes "RETR\r\n")
+    ensures other_refusal { IsForwardError (codes "RETR\r\n")
         (ForwardError.Refused ParseErrorKind.InvalidEol) → ⊥ }
-    ensures utf8 { IsReason (codes "NOOP\r\n") (ForwardError.Refused ParseErrorKind.InvalidUtf8)
-        → ⊥ }
-    ensures not_utf8 { IsReason (255 ∷ codes "\r\n")
+    ensures not_utf8 { IsForwardError (255 ∷ codes "\r\n")
         (ForwardError.Refused ParseErrorKind.InvalidUtf8) }
-    ensures cr_nul { IsReason (codes "USER a\r" ++ 0 ∷ codes "\r\n")
+    ensures cr_nul { IsForwardError (codes "USER a\r" ++ 0 ∷ codes "\r\n")
         (ForwardError.Refused ParseErrorKind.InvalidEol) → ⊥ }
-    ensures bare_cr { IsReason (codes "USER a\rb\r\n")
+    ensures bare_cr { IsForwardError (codes "USER a\rb\r\n")
         (ForwardError.Refused ParseErrorKind.InvalidEol) }
-    ensures out_of_memory { (line : Bytes)
-        → IsReason line (ForwardError.Refused ParseErrorKind.OutOfMemory) }
+    ensures crlf { IsForwardError (codes "NOOP\r\n") ForwardError.NotALine → ⊥ }
+    ensures no_lf { IsForwardError (codes "NOOP") ForwardError.NotALine }
+    ensures two_lines { IsForwardError (codes "TYPE A\nNOOP\n") ForwardError.NotALine }
+    ensures memory { IsForwardError (codes "NOOP\r\n") ForwardError.OutOfMemory }
+    ensures no_memory { IsForwardError (255 ∷ codes "\r\n") ForwardError.OutOfMemory → ⊥ }
+    ensures refused_memory { (line : Bytes) → IsForwardError line
+        (ForwardError.Refused ParseErrorKind.OutOfMemory) → ⊥ }
 {}
 
-/// `Unwritten` says that the command has no line, or that an allocation failed.
-pub fn lines_are_not_written()
-    ensures crlf { IsReason (codes "NOOP\r\n") (ForwardError.Unwritten WriteCommandError.NoLine)
-        → ⊥ }
-    ensures lf_only { IsReason (codes "\n") (ForwardError.Unwritten WriteCommandError.NoLine) → ⊥ }
-    ensures refused_line { IsReason (codes "RETR\r\n")
-        (ForwardError.Unwritten WriteCommandError.NoLine) → ⊥ }
-    ensures no_lf { IsReason (codes "NOOP") (ForwardError.Unwritten WriteCommandError.NoLine) → ⊥ }
-    ensures lf_in_the_name { IsReason (codes "USER a\nb\n")
-        (ForwardError.Unwritten WriteCommandError.NoLine) }
-    ensures out_of_memory { (line : Bytes)
-        → IsReason line (ForwardError.Unwritten WriteCommandError.OutOfMemory) }
-{}
-
-/// What is sent is the canonical line, and not the line as it came.
+/// What is sent is the canonical line, and not the line as it came; but with the parameter of TYPE.
 pub fn lines_are_forwarded()
     ensures canonical { IsForwarded (codes "xcwd a\n") (codes "NOOP\r\n")
         (codes "NOOP\r\nCWD a\r\n") }
     ensures as_it_came { IsForwarded (codes "xcwd a\n") [] (codes "xcwd a\n") → ⊥ }
+    ensures parameter { IsForwarded (codes "type a\n") [] (codes "TYPE a\r\n") }
+    ensures other_parameter { IsForwarded (codes "type a\n") [] (codes "TYPE I\r\n") → ⊥ }
     ensures refused { (sent : Bytes) → IsForwarded (codes "RETR\r\n") [] sent → ⊥ }
+{}
+
+/// A client is replied 500 where its line is refused or not one line, and 421 when out of memory.
+pub fn clients_are_replied()
+    ensures refused { IsReplyInPlace (codes "RETR\r\n") (codes "500 Not understood\r\n") }
+    ensures command { IsReplyInPlace (codes "NOOP\r\n") (codes "500 Not understood\r\n") → ⊥ }
+    ensures no_lf { IsReplyInPlace (codes "NOOP") (codes "500 Not one line\r\n") }
+    ensures memory { IsReplyInPlace (codes "NOOP\r\n") (codes "421 Out of memory\r\n") }
+    ensures no_memory { IsReplyInPlace (255 ∷ codes "\r\n") (codes "421 Out of memory\r\n")
+        → ⊥ }
+    ensures other_reply { IsReplyInPlace (codes "RETR\r\n") (codes "502 Not here\r\n") → ⊥ }
 {}
 
 /// An event loop agrees to AUTH TLS only where nothing comes after its line.

@@ -1,38 +1,21 @@
-//! A proxy that writes each command again.
-ghost use Rattle.std.specs.Prelude.{◌≡◌, OnErr, OnOk, IfErr};
-ghost use Rattle.calling.specs.Forwarding.{IsForwarded, IsReason};
+//! A proxy that forwards each line of a client to a server.
+ghost use Rattle.std.specs.Prelude.{◌≡◌, MatchOption};
+ghost use Rattle.calling.specs.Forwarding.{IsReplyInPlace};
+ghost use Rattle.unftp_control.specs.Forwarding.{IsForwarded};
 
 use std::alloc::Global;
-use thiserror::Error;
-use unftp_control::line_parser::{ParseError, parse};
-use unftp_control::write::{WriteCommandError, write_command};
+use unftp_control::write::{ForwardError, forward};
 
-/// Why a line is not forwarded.
-#[derive(Debug, Drop, Error)]
-pub enum ForwardError {
-    /// It is no command, or an allocation for the command failed.
-    #[error("{0}")]
-    Refused(ParseError),
-    /// Its command has no line, or an allocation for the line failed. The first never happens for a
-    /// line whose only line feed is its last byte.
-    #[error("{0}")]
-    Unwritten(WriteCommandError),
-}
-
-/// Forwards a client's line: appends a line that means the same, in its canonical form.
-pub fn forward_line(alloc: Global, line: &[u8], out: &mut Vec<u8>) -> Result<(), ForwardError>
-    ensures sent { OnOk result (IsForwarded line.now out.old.items out.new.items) }
-    ensures why { IfErr result (λ error. IsReason line.now error) }
-    ensures err { OnErr result (out.new.items ≡ out.old.items) }
+/// Forwards a client's line: appends what the server is sent. Where it is not forwarded, nothing is
+/// appended, and the client gets the reply that is returned.
+pub fn forward_line(alloc: Global, line: &[u8], out: &mut Vec<u8>) -> Option<&'static str>
+    ensures { MatchOption result (IsForwarded line.now out.old.items out.new.items)
+        (λ reply. (out.new.items ≡ out.old.items) × IsReplyInPlace line.now reply.now) }
 {
-    let command = match parse(alloc, line) {
-        Ok(command) => command,
-        Err(refused) => return Err(ForwardError::Refused(refused)),
-    };
-    let written = write_command(&command, out);
-    drop(command);
-    match written {
-        Ok(()) => Ok(()),
-        Err(refused) => Err(ForwardError::Unwritten(refused)),
+    match forward(alloc, line, out) {
+        Ok(()) => None,
+        Err(ForwardError::NotALine) => Some("500 Not one line\r\n"),
+        Err(ForwardError::Refused(_)) => Some("500 Not understood\r\n"),
+        Err(ForwardError::OutOfMemory) => Some("421 Out of memory\r\n"),
     }
 }

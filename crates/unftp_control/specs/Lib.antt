@@ -8,6 +8,7 @@ pub use Rattle.unftp_control_defs.specs.FtpCommand
 pub use Rattle.unftp_control_defs.specs.Rules
 pub use Rattle.unftp_control_defs.specs.Outcome
 pub use Rattle.unftp_control_defs.specs.Canonical
+pub use Rattle.unftp_control_defs.specs.Forwarded
 pub use Rattle.unftp_control_defs.specs.LossyText
 pub use Rattle.unftp_control_defs.specs.FtpReply
 pub use Rattle.unftp_control_defs.specs.ReplyReader
@@ -47,5 +48,7 @@ pub use Rattle.unftp_control_login.specs.Promises
 pub use Rattle.unftp_control_read.specs.Reading
 pub use Rattle.unftp_control_read.specs.ReplyDecoding
 pub use Rattle.unftp_control_read.specs.Receiving
+pub use Rattle.unftp_control_write.specs.Forwarding
 pub use Rattle.unftp_control_write.specs.declared.WriteCommandError
+pub use Rattle.unftp_control_write.specs.declared.forwarding.ForwardError
 pub use Rattle.unftp_control_log.specs.LogLine

@@ -1,6 +1,9 @@
-use Rattle.calling.proofs.CallerLemmas.{IsReason-unwritten}
+use Rattle.std.proofs.Common.{refl, subst}
+use Rattle.unftp_control.specs.Forwarding.{IsForwardError}
+use Rattle.calling.specs.Forwarding.{refused}
 use Rattle.calling.proofs.proxy.forward_line.Goals as goal
 
-pub returns-in-Err-written-clause-why : goal.returns-in-Err-written-clause-why
-returns-in-Err-written-clause-why c =
-    IsReason-unwritten c.args.line.now _ c.in-Err-written.refused c.in-Ok.ensures.answer c.in-Err-written.ensures.has_line c.in-Ok.ensures.has_line
+pub returns-in-Err-Refused : goal.returns-in-Err-Refused
+returns-in-Err-Refused c =
+    let why = subst (IsForwardError c.args.line.now) c.in-Err-Refused.field-0-is c.in-Err-Refused.ensures.why in
+    (c.in-Err-Refused.ensures.err, refused why.0 why.2 refl)
