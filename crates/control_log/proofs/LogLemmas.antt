@@ -16,7 +16,7 @@ use Rattle.unftp_control_serve.specs.declared.error.ServeError.TheVariants as er
 use Rattle.unftp_control_serve.specs.declared.event.Event.{Event}
 use Rattle.unftp_control_serve.proofs.EventLineLemmas.{line_after-taken, refuses_length-exceeds}
 use Rattle.unftp_control_serve.proofs.SendLemmas.{Appends-nothing, Appends-then, Flushed-then}
-use Rattle.control_log.specs.Log.{EndsBy, FailsAt, LogEnded, StopsAt, kept_line, log_entries, log_entry, log_of}
+use Rattle.control_log.specs.Log.{EndsBy, FailsAt, LogEnded, StopsAt, unless_too_long, log_entries, log_entry, log_of}
 
 log_entries-append : (limit : Option ℕ) (lines more : List Bytes) → log_entries limit (lines ++ more) ≡ log_entries limit lines ++ log_entries limit more
 log_entries-append limit [] more = refl
@@ -47,13 +47,13 @@ module _ (limit : Option ℕ) (p q : Pending) (same : p.limit ≡ limit) (event 
   meant : event_meant event ≡ event_for limit first.takes.line
   meant = first.takes.meaning ∙ ap (λ limit. event_for limit first.takes.line) same
 
-  kept : (if refuses_length (event_meant event) then [] else first.takes.line) ≡ kept_line limit first.takes.line
+  kept : (if refuses_length (event_meant event) then [] else first.takes.line) ≡ unless_too_long limit first.takes.line
   kept = ap (λ too_long. if too_long then [] else first.takes.line) (ap refuses_length meant ∙ refuses_length-exceeds limit first.takes.line)
 
   entry_is : (line : Bytes) → line ≡ line_after {E = Unit {0}} p (Ok (Some event)) q → log_line (event_meant event) line ++ LF ∷ [] ≡ log_entry limit first.takes.line
   entry_is line is =
       ap (λ line. log_line (event_meant event) line ++ LF ∷ []) (is ∙ line_after-taken (Unit {0}) p q event first ∙ kept)
-      ∙ ap (λ event. log_line event (kept_line limit first.takes.line) ++ LF ∷ []) meant
+      ∙ ap (λ event. log_line event (unless_too_long limit first.takes.line) ++ LF ∷ []) meant
 
 -- in the loop over the pending lines: the first of them are logged
 pub record Halfway (limit : Option ℕ) (bytes pending : Bytes) (before now : OutputState) : Type 0 where

@@ -11,12 +11,12 @@ use Rattle.unftp_control_serve.specs.declared.error.ServeError.{ServeError}
 use Rattle.unftp_control_serve.specs.declared.error.ServeError.TheVariants.{Read, OutOfMemory, TooManyReads}
 
 -- what is there of a line when it is logged: nothing of one that is longer than the limit
-abbrev pub kept_line : Option ℕ → Bytes → Bytes
-kept_line limit line = if exceeds limit (length line) then [] else line
+abbrev pub unless_too_long : Option ℕ → Bytes → Bytes
+unless_too_long limit line = if exceeds limit (length line) then [] else line
 
 -- the log line of a line's event, and a line feed
 abbrev pub log_entry : Option ℕ → Bytes → Bytes
-log_entry limit line = log_line (event_for limit line) (kept_line limit line) ++ LF ∷ []
+log_entry limit line = log_line (event_for limit line) (unless_too_long limit line) ++ LF ∷ []
 
 abbrev pub log_entries : Option ℕ → List Bytes → Bytes
 log_entries limit lines = flat_map (log_entry limit) lines
