@@ -100,7 +100,8 @@ enum unftp_result {
     UNFTP_OUT_OF_MEMORY = 106,
     /* An area is too small; the length that was asked for says how large it has to be. */
     UNFTP_NO_ROOM = 107,
-    /* No line whose one line feed is its last byte is read as this command. */
+    /* No line whose one line feed is its last byte is read as this command; or, of unftp_forward, the
+       bytes are no such line. */
     UNFTP_NO_LINE = 108,
     /* The first line opens no reply. */
     UNFTP_MALFORMED = 109,
@@ -228,6 +229,31 @@ uint32_t unftp_front_reply(const uint8_t *bytes, size_t bytes_len, uint32_t *cod
  */
 uint32_t unftp_canonical(const uint8_t *line, size_t line_len,
                          uint8_t *out, size_t out_room, size_t *len) UNFTP_NONNULL;
+
+/*
+ * Writes the line that a proxy sends to a server for a client's line, with its CR LF, to the start of
+ * out, and *len is how many bytes it has. It means the same, and its one line feed is its last byte. A
+ * command doesn't hold all that a line says, and this line keeps what a server has to read:
+ *
+ *     the client's line      unftp_canonical        unftp_forward
+ *     type a                 TYPE I                 TYPE a
+ *     allo 5 r 3             ALLO 0                 ALLO 5 r 3
+ *     epsv all               EPSV                   EPSV all
+ *     help retr              HELP                   HELP retr
+ *     syst x                 SYST                   SYST x
+ *     list -la x             LIST x                 LIST -la x
+ *     any other, as xcwd a   CWD a                  CWD a
+ *
+ * The bytes of these six verbs' parameters are those that came, up to the line's end: any bytes, also
+ * a CR that no LF follows.
+ *
+ * It returns UNFTP_DONE; UNFTP_NO_LINE exactly where the bytes have no line feed at their end, or one
+ * before it; UNFTP_INVALID_COMMAND, UNFTP_INVALID_UTF8 or UNFTP_INVALID_EOL for a line that is no
+ * command; UNFTP_NO_ROOM, where *len is the room that is needed; or UNFTP_OUT_OF_MEMORY. out is as it
+ * was but at UNFTP_DONE.
+ */
+uint32_t unftp_forward(const uint8_t *line, size_t line_len,
+                       uint8_t *out, size_t out_room, size_t *len) UNFTP_NONNULL;
 
 #undef UNFTP_NONNULL
 

@@ -4,7 +4,7 @@
 usage: tools/embedding.py sessions|session SERVER..        the replies of the server: to all lines, or to one line of each kind
        tools/embedding.py memory PRELOAD SERVER              what it sends at each failed allocation: PRELOAD is tools/fail_allocation.c
        tools/embedding.py answers REPLAY FILE SKIPPED        the answers to a vector file, of which so many may be skipped
-       tools/embedding.py read|canonical REPLAY..            the replies that servers wrote; the canonical lines of clients' commands
+       tools/embedding.py read|canonical|forward REPLAY..    the replies that servers wrote; the lines that are written for clients' lines
        tools/embedding.py valgrind LOG..                     whether each process ended without an error
        tools/embedding.py numbers                            the numbers of the header and of examples/rust are the definition's, and those
                                                              of replies also the documents'
@@ -332,18 +332,30 @@ def check_read(*program):
     return f"{len(cases)} streams of {sum(answer.count(':') for answer in expected)} replies compared"
 
 
-def check_canonical(*program):
-    """The canonical line of each command is read as that command; a refused line has the same refusal."""
+def read_back(program, call):
+    """The line that the call writes for a client's line is read as its command; a refused line has the same refusal."""
     cases, expected = zip(*rows("client_lines.tsv"))
-    written = answers_of(program, [re.sub("^parse", "canonical", case) for case in cases])
+    written = answers_of(program, [re.sub("^parse", call, case) for case in cases])
     refused = [(line, answer) for line, answer in zip(written, expected) if not line.startswith('"')]
     for line, answer in refused:
         wants("a refusal", line, answer)
     lines = [f"parse\t{line}" for line in written if line.startswith('"')]
     commands = [answer for line, answer in zip(written, expected) if line.startswith('"')]
     if compare(lines, answers_of(program, lines), commands) != len(lines) or not lines:
-        raise Wrong("a canonical line was skipped")
+        raise Wrong("a line that was written was skipped")
     return f"{len(lines)} commands read back, {len(refused)} lines refused"
+
+
+def check_canonical(*program):
+    """The canonical line of each command is read as that command."""
+    return read_back(program, "canonical")
+
+
+def check_forward(*program):
+    """So is the line that is forwarded; and the rows by hand say what it keeps."""
+    cases, expected = zip(*[(case, answer) for case, answer in rows("worked.tsv") if case.startswith("forward\t")])
+    compare(cases, answers_of(program, cases), expected)
+    return f"{read_back(program, 'forward')}, {len(cases)} rows compared"
 
 
 def check_valgrind(*logs):
@@ -501,6 +513,7 @@ CHECKS = {
     "answers": check_answers,
     "read": check_read,
     "canonical": check_canonical,
+    "forward": check_forward,
     "valgrind": check_valgrind,
     "numbers": check_numbers,
     "exports": check_exports,

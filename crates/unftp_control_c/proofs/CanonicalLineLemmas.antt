@@ -71,7 +71,7 @@ command_memory line command read = by_field (takes_no_memory command) refl
 abbrev not_made : Status → Made
 not_made status = Err status
 
-refusal_number : (refusal : Refusal) → (status_number (refusal_status refusal) ≢ status_number Done) × (status_number (refusal_status refusal) ≢ status_number NoLine)
+pub refusal_number : (refusal : Refusal) → (status_number (refusal_status refusal) ≢ status_number Done) × (status_number (refusal_status refusal) ≢ status_number NoLine)
 refusal_number InvalidCommand = (λ e. omega (arith, e), λ e. omega (arith, e))
 refusal_number InvalidUtf8 = (λ e. omega (arith, e), λ e. omega (arith, e))
 refusal_number InvalidEol = (λ e. omega (arith, e), λ e. omega (arith, e))
@@ -98,7 +98,7 @@ canonical_back line area (Ok buf) is back done = ap outcome (filled_done buf.ite
 canonical_back line area (Err status) is back done = absurd (undone line status is done)
 
 -- a status is reported by its own number
-refusal_memory : (refusal : Refusal) → status_number (refusal_status refusal) ≢ status_number OutOfMemory
+pub refusal_memory : (refusal : Refusal) → status_number (refusal_status refusal) ≢ status_number OutOfMemory
 refusal_memory InvalidCommand = λ e. omega (arith, e)
 refusal_memory InvalidUtf8 = λ e. omega (arith, e)
 refusal_memory InvalidEol = λ e. omega (arith, e)

@@ -1,5 +1,6 @@
 pub mod AreaLemmas
 pub mod CallLemmas
 pub mod CanonicalLineLemmas
+pub mod ForwardedLineLemmas
 pub mod NextLemmas
 pub mod ReplyLemmas

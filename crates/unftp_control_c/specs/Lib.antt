@@ -6,3 +6,4 @@ pub mod Taking
 pub mod Rows
 pub mod Replies
 pub mod CanonicalLines
+pub mod ForwardedLines

@@ -5,10 +5,11 @@ ghost use Rattle.std.specs.Prelude.{◌≡◌, true, false, [], ◌∷◌, Ok, E
 ghost use Rattle.unftp_control_defs.specs.FtpReply.{CodeAndMsg, MultiLine};
 ghost use Rattle.unftp_control_c.specs.Areas.{filled, written};
 ghost use Rattle.unftp_control_c.specs.CanonicalLines.{CanonicalMayTakeMemory, IsCanonical};
+ghost use Rattle.unftp_control_c.specs.ForwardedLines.{IsForwardedLine};
 ghost use Rattle.unftp_control_c.specs.Next.{LineMayTakeMemory, next_of};
 ghost use Rattle.unftp_control_c.specs.Rows.{a_call, leaving};
 ghost use Rattle.unftp_control_c.specs.Replies.{EncodesReply, IsReplyOf};
-ghost use Rattle.unftp_control_c.specs.declared.status.Status.TheVariants.{InvalidEol, NoLine, UnknownCode};
+ghost use Rattle.unftp_control_c.specs.declared.status.Status.TheVariants.{InvalidEol, NoLine, OutOfMemory, UnknownCode};
 
 pub mod calls;
 
@@ -88,6 +89,17 @@ pub fn lines_have_canonical_lines()
     // of bytes that are no line: the name has a line feed
     ensures no_line { IsCanonical (codes "USER a\n\n") (Err NoLine) }
     ensures has_line { ¬ IsCanonical (codes "NOOP\r\n") (Err NoLine) }
+{}
+
+/// Lines and the lines that are forwarded for them.
+pub fn lines_are_forwarded()
+    ensures parameter { IsForwardedLine (codes "type a\n") (Ok (codes "TYPE a\r\n")) }
+    ensures other_parameter { ¬ IsForwardedLine (codes "type a\n") (Ok (codes "TYPE I\r\n")) }
+    ensures no_line_feed { IsForwardedLine (codes "TYPE A") (Err NoLine) }
+    ensures line_feed { ¬ IsForwardedLine (codes "TYPE A\n") (Err NoLine) }
+    ensures no_refusal { ¬ IsForwardedLine (codes "NOOP\r\n") (Err InvalidEol) }
+    ensures memory { IsForwardedLine (codes "NOOP\r\n") (Err OutOfMemory) }
+    ensures no_memory { ¬ IsForwardedLine (255 ∷ codes "\r\n") (Err OutOfMemory) }
 {}
 
 /// Lines for whose canonical lines memory may run out, and none.

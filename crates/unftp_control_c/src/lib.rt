@@ -4,6 +4,7 @@
 mod areas;
 mod canonical;
 pub mod examples;
+mod forwarding;
 pub mod laws;
 mod next;
 mod reply;

@@ -1,10 +1,10 @@
 //! What a call reports to its caller.
 ghost use Rattle.std.specs.Prelude.{◌≡◌};
 ghost use Rattle.unftp_control_reply.specs.ErrorMeaning.{fault_of, source_meant};
-ghost use Rattle.unftp_control_c.specs.Numbers.{status_number, keeps_bytes, fault_status, kind_status, line_status, source_status};
+ghost use Rattle.unftp_control_c.specs.Numbers.{status_number, keeps_bytes, fault_status, forward_status, kind_status, line_status, source_status};
 
 use unftp_control_reply::error::{ControlChanError, ControlChanErrorKind, ParseErrorKind, Source};
-use unftp_control_write::WriteCommandError;
+use unftp_control_write::{ForwardError, WriteCommandError};
 
 /// What a call reports where it gives no command.
 #[derive(Clone, Copy)]
@@ -25,7 +25,8 @@ pub enum Status {
     OutOfMemory = 106,
     /// An area of the caller's is too small.
     NoRoom = 107,
-    /// No line whose one line feed is its last byte is read as the command.
+    /// No line whose one line feed is its last byte is read as the command, or the bytes are no such
+    /// line.
     NoLine = 108,
     /// The first line opens no reply.
     Malformed = 109,
@@ -94,5 +95,16 @@ pub fn line_status(error: &WriteCommandError) -> Status
     match error {
         WriteCommandError::NoLine => Status::NoLine,
         WriteCommandError::OutOfMemory => Status::OutOfMemory,
+    }
+}
+
+/// Why a line is not forwarded.
+pub fn forward_status(error: &ForwardError) -> Status
+    ensures { result ≡ forward_status error.now }
+{
+    match error {
+        ForwardError::NotALine => Status::NoLine,
+        ForwardError::Refused(refused) => kind_status(refused.kind()),
+        ForwardError::OutOfMemory => Status::OutOfMemory,
     }
 }

@@ -12,3 +12,18 @@ use crate::ffi;
 pub fn canonical(line: &[u8]) -> Result<Vec<u8>, Error> {
     written(line.len() + 16, |out| ffi::canonical(line, out))
 }
+
+/// The line that a proxy sends to a server for a client's line, with its CR LF: a line that means
+/// the same, and keeps what no command holds. The lines of SYST, TYPE, HELP, EPSV, ALLO and LIST
+/// have the bytes of their parameter as they came; any other line is the canonical one.
+///
+/// # Errors
+///
+/// [`Error::NotALine`] exactly where the bytes have no line feed at their end, or one before it;
+/// [`Error::Refused`] for a line that is no command; and [`Error::OutOfMemory`].
+pub fn forward(line: &[u8]) -> Result<Vec<u8>, Error> {
+    written(line.len() + 16, |out| ffi::forward(line, out)).map_err(|error| match error {
+        Error::NoLine => Error::NotALine,
+        error => error,
+    })
+}

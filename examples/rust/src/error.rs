@@ -15,6 +15,8 @@ pub enum Error {
     Refused(Refusal),
     /// No line whose one line feed is its last byte is read as this command.
     NoLine,
+    /// The bytes are not one line: no line feed is their last byte, or one comes before it.
+    NotALine,
 }
 
 impl Error {
@@ -43,6 +45,7 @@ impl Display for Error {
             Error::UnknownCode => f.write_str("no reply has this code"),
             Error::Refused(refusal) => refusal.fmt(f),
             Error::NoLine => f.write_str("no line gives this command"),
+            Error::NotALine => f.write_str("not one line"),
         }
     }
 }

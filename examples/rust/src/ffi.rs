@@ -59,6 +59,14 @@ extern "C" {
         out_room: usize,
         len: *mut usize,
     ) -> u32;
+
+    fn unftp_forward(
+        line: *const u8,
+        line_len: usize,
+        out: *mut u8,
+        out_room: usize,
+        len: *mut usize,
+    ) -> u32;
 }
 
 /// What `unftp_next` gives.
@@ -140,6 +148,23 @@ pub fn canonical(line: &[u8], out: &mut [u8]) -> (u32, usize) {
     // slice beside it. No areas overlap: `out` is mutably borrowed, and `len` is a variable here.
     let status = unsafe {
         unftp_canonical(
+            line.as_ptr(),
+            line.len(),
+            out.as_mut_ptr(),
+            out.len(),
+            &mut len,
+        )
+    };
+    (status, len)
+}
+
+/// Calls `unftp_forward`: what it returns, and the length.
+pub fn forward(line: &[u8], out: &mut [u8]) -> (u32, usize) {
+    let mut len = 0;
+    // SAFETY: no pointer is null, since each is of a reference, and each length is that of the
+    // slice beside it. No areas overlap: `out` is mutably borrowed, and `len` is a variable here.
+    let status = unsafe {
+        unftp_forward(
             line.as_ptr(),
             line.len(),
             out.as_mut_ptr(),

@@ -20,7 +20,8 @@
 //! ```
 //!
 //! [`reply()`] makes the bytes of a reply, [`front_reply`] finds the first reply that a client has
-//! received, and [`canonical`] writes the line that a command has.
+//! received, [`canonical`] writes the line that a command has, and [`forward`] the one that a proxy
+//! sends to a server.
 #![deny(unsafe_op_in_unsafe_fn)]
 
 mod area;
@@ -32,7 +33,7 @@ mod ffi;
 mod pending;
 mod reply;
 
-pub use canonical::canonical;
+pub use canonical::{canonical, forward};
 pub use command::{Command, CommandKind};
 pub use error::Error;
 pub use event::{Event, Refusal};

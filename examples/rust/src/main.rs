@@ -1,6 +1,7 @@
 //! Answers the cases of a vector file (`vectors/README.md`): reads one a line from standard input,
-//! and writes its answer. It has the calls `parse`, `decode`, `encode`, `read` and `canonical`. A
-//! case that its call doesn't take is answered by `skipped`, and what is no case by `bad-case`.
+//! and writes its answer. It has the calls `parse`, `decode`, `encode`, `read`, `canonical` and
+//! `forward`. A case that its call doesn't take is answered by `skipped`, and what is no case by
+//! `bad-case`.
 
 mod cases;
 mod shown;
@@ -9,7 +10,7 @@ use cases::{is_one_line, read_bytes, read_reply};
 use shown::{quoted, shown, shown_refusal, shown_refusals};
 use std::io::{self, BufRead, Write};
 use std::process::ExitCode;
-use unftp_control::{canonical, front_reply, reply, Error, Event, FrontReply, Pending};
+use unftp_control::{canonical, forward, front_reply, reply, Error, Event, FrontReply, Pending};
 
 /// What a call answers to a case: `None` where it doesn't take the case.
 type Answer = Result<Option<String>, Error>;
@@ -22,7 +23,8 @@ fn answer(case: &str) -> Option<Answer> {
         ["decode", "none", input] => answer_decode(&read_bytes(input)?),
         ["encode", ..] => answer_encode(&words[1..]),
         ["read", stream] => answer_read(&read_bytes(stream)?),
-        ["canonical", line] => answer_canonical(&read_bytes(line)?),
+        ["canonical", line] => answer_written(canonical(&read_bytes(line)?)),
+        ["forward", line] => answer_written(forward(&read_bytes(line)?)),
         _ => return None,
     })
 }
@@ -84,12 +86,13 @@ fn answer_read(stream: &[u8]) -> Answer {
     )))
 }
 
-/// The canonical line of a line.
-fn answer_canonical(line: &[u8]) -> Answer {
-    Ok(Some(match canonical(line) {
+/// The canonical line of a line, or the one that is forwarded for it.
+fn answer_written(line: Result<Vec<u8>, Error>) -> Answer {
+    Ok(Some(match line {
         Ok(written) => quoted(&written),
         Err(Error::Refused(refusal)) => format!("err {}", shown_refusal(refusal)),
         Err(Error::NoLine) => "no-line".to_string(),
+        Err(Error::NotALine) => "not-a-line".to_string(),
         Err(error) => return Err(error),
     }))
 }

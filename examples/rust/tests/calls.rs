@@ -1,7 +1,8 @@
 //! The calls on inputs whose answers are known.
 use std::num::NonZeroUsize;
 use unftp_control::{
-    canonical, front_reply, reply, Command, CommandKind, Error, Event, FrontReply, Pending, Refusal,
+    canonical, forward, front_reply, reply, Command, CommandKind, Error, Event, FrontReply,
+    Pending, Refusal,
 };
 
 fn command<'a>(kind: CommandKind, name: &'a str, value: &'a [u8]) -> Option<Event<'a>> {
@@ -135,6 +136,17 @@ fn a_canonical_line_says_the_same() -> Result<(), Error> {
 }
 
 #[test]
+fn a_forwarded_line_keeps_what_its_command_drops() -> Result<(), Error> {
+    assert_eq!(forward(b"type a\n")?, b"TYPE a\r\n");
+    assert_eq!(forward(b"LIST -la x\r\n")?, b"LIST -la x\r\n");
+    assert_eq!(forward(b"xcwd a\n")?, b"CWD a\r\n");
+    assert_eq!(forward(b"TYPE A"), Err(Error::NotALine));
+    let refused = Error::Refused(Refusal::InvalidCommand);
+    assert_eq!(forward(b"NOOP x\r\n"), Err(refused));
+    Ok(())
+}
+
+#[test]
 fn texts_of_100_kb_go_through_each_call() -> Result<(), Error> {
     let path = "a".repeat(100_000);
     let line = format!("RETR {path}\r\n");
@@ -143,6 +155,8 @@ fn texts_of_100_kb_go_through_each_call() -> Result<(), Error> {
     let retr = command(CommandKind::Retr, "RETR", path.as_bytes());
     assert_eq!(pending.next_event()?, retr);
     assert_eq!(canonical(line.as_bytes())?, line.as_bytes());
+    let listing = format!("LIST -a {path}\r\n");
+    assert_eq!(forward(listing.as_bytes())?, listing.as_bytes());
     let bytes = reply(250, &path)?;
     assert_eq!(bytes, format!("250 {path}\r\n").as_bytes());
     let (code, used) = (250, bytes.len());
