@@ -46,6 +46,7 @@ fn answer_call(
         "is_verb" => lines::answer_is_verb(alloc, words, answers),
         "write" => writing::answer_write(alloc, words, answers),
         "canonical" => writing::answer_canonical(alloc, words, answers),
+        "forward" => writing::answer_forward(alloc, words, answers),
         "decode" => decoding::answer_decode(alloc, words, answers),
         "decode_slice" => decoding::answer_decode_slice(alloc, words, answers),
         "events" => events::answer_events(alloc, false, words, answers),

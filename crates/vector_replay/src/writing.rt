@@ -8,7 +8,7 @@ use bytes::Bytes;
 use std::alloc::Global;
 use std::io;
 use unftp_control_command::Command;
-use unftp_control_write::{WriteCommandError, write_command};
+use unftp_control_write::{ForwardError, WriteCommandError, forward, write_command};
 
 /// Appends the line of the command, once more where memory ran out; whether there is one.
 fn write_line(command: &Command, buf: &mut Vec<u8>, answers: &mut Answers) -> bool {
@@ -165,6 +165,48 @@ pub fn answer_canonical(
         Ok(command) => put_canonical(alloc, command, answers),
         Err(error) => put_refused(&error, answers),
     }
+    answers.end();
+    Ok(())
+}
+
+/// Appends the line that is forwarded for this one, once more where memory ran out.
+fn forward_line(
+    alloc: Global,
+    line: &[u8],
+    buf: &mut Vec<u8>,
+    answers: &mut Answers,
+) -> Result<(), ForwardError> {
+    match forward(alloc, line, buf) {
+        Err(ForwardError::OutOfMemory) => {
+            answers.out_of_memory();
+            forward(alloc, line, buf)
+        }
+        forwarded => forwarded,
+    }
+}
+
+/// Writes the line after the byte that the buffer had; where there is none, only that byte is there.
+fn put_forwarded(forwarded: &Result<(), ForwardError>, buf: &[u8], answers: &mut Answers) {
+    match (forwarded, buf) {
+        (Ok(()), [b'x', line @ ..]) => answers.put(Quoted(line)),
+        (Err(ForwardError::NotALine), [b'x']) => answers.put("not-a-line"),
+        (Err(ForwardError::Refused(error)), [b'x']) => put_refused(error, answers),
+        _ => answers.put("changed"),
+    }
+}
+
+/// `forward LINE`
+pub fn answer_forward(
+    alloc: Global,
+    words: &mut Words<'_>,
+    answers: &mut Answers,
+) -> io::Result<()> {
+    let mut buf = Vec::from_slice(alloc, b"x")?;
+    let line = read_bytes(alloc, words.last()?)?;
+    answers.begin();
+    let forwarded = forward_line(alloc, line.as_slice(), &mut buf, answers);
+    put_forwarded(&forwarded, buf.as_slice(), answers);
+    drop(forwarded);
     answers.end();
     Ok(())
 }
