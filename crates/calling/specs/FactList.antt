@@ -12,7 +12,8 @@ same_letters name other = bytes_eq (str_to_ascii_lowercase name) (str_to_ascii_l
 abbrev pub SEMICOLON : ℕ
 SEMICOLON = 59
 
--- the list, in which a semicolon ends each name, has this one
+-- a name of the list, in which semicolons divide them, is this one: the last may lack the semicolon
+-- that the standard puts after each
 abbrev pub names : Bytes → Bytes → Bool
 names list fact = list_any (λ name. same_letters name fact)
     (slice_split (λ byte. byte == SEMICOLON) list)

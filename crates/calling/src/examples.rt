@@ -111,6 +111,9 @@ pub fn facts_are_asked()
         ≡ Some (record { kind = false; size = true; modify = false }) }
     ensures none { facts_asked (codes "opts mlst") ≡ Some no_facts }
     ensures part { facts_asked (codes "OPTS MLST sizes;") ≡ Some no_facts }
+    ensures no_semicolon { facts_asked (codes "OPTS MLST perm;size")
+        ≡ Some (record { kind = false; size = true; modify = false }) }
+    ensures carriage_return { facts_asked (codes "OPTS MLST \rsize;") ≡ Some no_facts }
     ensures no_space { facts_asked (codes "OPTS MLSTsize;") ≡ None }
     ensures other_option { facts_asked (codes "OPTS UTF8 ON") ≡ None }
     ensures text { facts_text (record { kind = true; size = false; modify = true })

@@ -13,8 +13,8 @@ pub struct Facts {
     pub modify: bool,
 }
 
-/// Whether the list, in which a semicolon ends each name, has this one, whatever the case of its
-/// letters.
+/// Whether a name of the list, in which semicolons divide them, is this one, whatever the case of
+/// its letters.
 fn names(list: &[u8], fact: &[u8]) -> bool
     ensures { result ≡ names list.now fact.now }
 {

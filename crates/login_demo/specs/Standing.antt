@@ -70,7 +70,8 @@ abbrev pub refusal_text : FaultKind → FaultSource → Bytes
 refusal_text kind (Parse why) = reading_text why
 refusal_text kind _ = unread_text kind
 
--- 501 for a parameter that a known verb doesn't take, else 500 (RFC 959, section 4.2.2)
+-- 501 for a parameter that a known verb doesn't take, else 500 (RFC 959, section 4.2.2); RFC 2228,
+-- section 3, has 504 for AUTH and PROT, but which verb was refused isn't known here
 abbrev pub refusal_code : FaultSource → ℕ
 refusal_code (Parse (Some InvalidCommand)) = 501
 refusal_code _ = 500
