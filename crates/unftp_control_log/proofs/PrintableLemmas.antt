@@ -1,5 +1,5 @@
 -- Each byte of a log line is printable.
-use Rattle.std.proofs.Common.{◌≡◌, ◌≢◌, ◌≤◌, ◌<◌, ◌+◌, ◌/◌, ◌%◌, ℕ, nat_lt, nat_le, ◌==◌, ◌&&◌, Bool, true, false, cond, [], ◌∷◌, ◌++◌, Option, Some, None, option_map, codes, arith, refl, sym, subst, inl, inr, ◌⊎◌, List, find, bytes_eq, mod-lt, ltb-true, ltb-false, leb-true}
+use Rattle.std.proofs.Common.{◌≡◌, ◌<◌, ◌+◌, ◌/◌, ◌%◌, ℕ, nat_lt, nat_le, ◌==◌, ◌&&◌, Bool, true, false, cond, [], ◌∷◌, ◌++◌, Option, Some, None, option_map, codes, arith, refl, sym, subst, inl, inr, ◌⊎◌, List, find, bytes_eq, mod-lt, ltb-true, ltb-false, leb-true}
 use Rattle.std.specs.Char.{digit_char}
 use Rattle.std.specs.Char.Escape.{escape_ascii, hex_digit_at, short_escape}
 use Rattle.std.specs.List.{AllByRecursion, list_all}
@@ -7,7 +7,7 @@ use Rattle.std.proofs.lemmas.Bool.{and_parts}
 use Rattle.unftp_control_defs.specs.Bytes.{Bytes}
 use Rattle.unftp_control_defs.specs.Events as fault
 use Rattle.unftp_control_defs.specs.Events.{FaultKind, FaultSource, FtpEvent, Command, Refused, Parse, NoSource, Utf8, Io}
-use Rattle.unftp_control_defs.specs.FtpCommand.{FtpCommand, Refusal, InvalidCommand, InvalidUtf8, InvalidEol}
+use Rattle.unftp_control_defs.specs.FtpCommand.{FtpCommand, InvalidCommand, InvalidUtf8, InvalidEol}
 use Rattle.unftp_control_defs.specs.NameAndValue.{name_and_value}
 use Rattle.unftp_control_defs.specs.Rules.{row_of, unless_empty, verbs}
 use Rattle.unftp_control_defs.specs.Texts.{reading_text}

@@ -1,6 +1,5 @@
 -- What std's iterator over escapes yields.
-use Rattle.std.proofs.Common.{◌≡◌, ℕ, ◌-◌, List, [], ◌∷◌, ◌++◌, ◌+◌, ◌≤◌, length, take, Option, None, Some, Result, Ok, Err, OnOk, Vec, Global, vec_len, vec_capacity, sym, refl, ap, subst, ◌∙◌, append-nil, inl, inr}
-use Rattle.std.specs.Char.Escape.{escape_ascii}
+use Rattle.std.proofs.Common.{◌≡◌, ℕ, List, [], ◌∷◌, ◌++◌, ◌+◌, ◌≤◌, length, take, None, Some, Result, Ok, Err, OnOk, Vec, Global, vec_len, vec_capacity, sym, refl, ap, subst, ◌∙◌, append-nil, inl, inr}
 use Rattle.std.specs.Char.Iter.{escape_byte_left, escape_byte_rest}
 use Rattle.std.specs.Iterator.{Drains, ExtendsWithItems, Yields}
 use Rattle.std.specs.declared.slice.EscapeAscii.{EscapeAscii}

@@ -1,8 +1,6 @@
 use Rattle.std.proofs.Common.{length, take, take_all, sym, ap, ◌∙◌, arith}
-use Rattle.std.specs.List.{position_or_len}
 use Rattle.std.proofs.lemmas.Bool.{false_from_ne_true}
 use Rattle.std.proofs.lemmas.List.Sums.{position_or_len_is}
-use Rattle.unftp_control_defs.specs.Bytes.{Bytes}
 use Rattle.unftp_control_defs.specs.Verbs.{is_separator}
 use Rattle.unftp_control_log.proofs.refusal.verb_of.Goals as goal
 
