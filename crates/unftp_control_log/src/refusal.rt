@@ -1,30 +1,18 @@
 //! The text of a refused line.
 ghost use Rattle.std.specs.Prelude.{◌≡◌, ◌++◌, option_map, string_bytes, take, vec_len, IfOk, OnOk};
-ghost use Rattle.unftp_control_defs.specs.Verbs.{verb_of};
 ghost use Rattle.unftp_control_log.specs.LogLine.{kind_reason, known_verb, reason, refusal_text};
 ghost use Rattle.unftp_control_reply.specs.ErrorMeaning.{fault_of, kind_meant};
 ghost use Rattle.unftp_control_write.specs.Parts.{spaced_part};
 
-use memchr::memchr3;
 use std::alloc::{AllocError, Global};
-use unftp_control_line_parser::is_verb;
+use unftp_control_line_parser::{is_verb, split};
 use unftp_control_reply::error::{ControlChanError, ControlChanErrorKind, Source};
-
-/// The verb of the line.
-fn verb_of(line: &[u8]) -> &[u8]
-    ensures { result.now ≡ verb_of line.now }
-{
-    match memchr3(b' ', b'\r', b'\n', line) {
-        Some(end) => line.split_at(end).0,
-        None => line,
-    }
-}
 
 /// The verb of the line in upper case, where it is a known one.
 fn known_verb(alloc: Global, line: &[u8]) -> Result<Option<Vec<u8>>, AllocError>
     ensures { IfOk result (λ verb. option_map (λ verb. verb.items) verb ≡ known_verb line.now) }
 {
-    let verb = verb_of(line).to_ascii_uppercase(alloc)?;
+    let verb = split(line).0.to_ascii_uppercase(alloc)?;
     if is_verb(verb.as_slice()) {
         Ok(Some(verb))
     } else {
