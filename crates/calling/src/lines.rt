@@ -25,8 +25,8 @@ fn event_of(alloc: Global, line: &[u8]) -> Result<Event, AllocError>
     }
 }
 
-/// Appends to a log what a client's line says, without a line end: its command, with asterisks for a
-/// password and an account, or why it is refused. When out of memory, nothing is appended.
+/// Appends to a log what a client's line says, without a line end: its command, with asterisks for
+/// a password or an account, or why it is refused. When out of memory, nothing is appended.
 pub fn log_line(alloc: Global, line: &[u8], log: &mut Vec<u8>) -> Result<(), AllocError>
     ensures ok { OnOk result
         (log.new.items ≡ log.old.items ++ log_line (event_of (outcome line.now)) line.now) }

@@ -72,8 +72,8 @@ fn log_pending<W: Write>(
 /// whole and flushed before the next line is taken, and before more is read; a line of more than
 /// 8,192 bytes is logged as a refused one. Bytes after the last line feed are not logged.
 ///
-/// `Read` is a failed read, after which all complete lines are logged; `Write` and `WriteZero` are a
-/// failed write or flush, after which a beginning of an entry may be written; `OutOfMemory` is a
+/// `Read` is a failed read, after which all complete lines are logged; `Write` and `WriteZero` are
+/// a failed write or flush, after which a beginning of an entry may be written; `OutOfMemory` is a
 /// failed allocation, after which the entries of the lines before are written and flushed;
 /// `TooManyReads` comes after 2^64 - 1 reads. It returns no other error.
 pub fn run<R: Read, W: Write>(

@@ -47,8 +47,8 @@ abbrev pub shown_name : Bool → Bytes → Bytes
 shown_name true name = codes "SITE" ++ spaced_part (option_map shown (unless_empty name))
 shown_name false name = shown name
 
--- Of a password or an account nothing is shown, not even whether it is empty; of the arguments of an
--- unknown verb, only that there are some.
+-- Of a password or an account nothing is shown, not even whether it is empty; of the arguments of
+-- an unknown verb, only that there are some.
 abbrev pub shown_value : FtpCommand → Option Bytes → Option Bytes
 shown_value command value = if is_secret command then Some asterisks
     else option_map (λ text. if is_unknown command then asterisks else shown text) value

@@ -13,9 +13,9 @@ pub fn log_lines_are_printable()
     ensures { (event : FtpEvent) (line : Bytes) → AllByRecursion IsPrintable (log_line event line) }
 {}
 
-/// The text of a password or an account is the same for all of them, and that of an unknown verb for
-/// all its arguments, where it has some. A refused line shows no byte after its verb, and an error
-/// that holds a command shows none of it.
+/// The text of a password or an account is the same for all of them, and that of an unknown verb
+/// for all its arguments, where it has some. A refused line shows no byte after its verb, and an
+/// error that holds a command shows none of it.
 pub fn secrets_stay_hidden()
     ensures password { (password other line another : Bytes)
         → log_line (Command (Pass password)) line ≡ log_line (Command (Pass other)) another }
