@@ -33,16 +33,17 @@ pub enum ForwardError {
 
 /// Forwards a client's line: appends to `buf` the line that a server is sent for it, and changes no
 /// earlier byte. A line of SYST, TYPE, HELP, EPSV, ALLO or LIST is its verb in upper case and the
-/// bytes of its parameter as they came, up to the line's end, which becomes CR LF: a command holds
-/// none of that parameter, and of LIST not the options. Any other line is the canonical line of its
-/// command, as `write_command` writes it (RFC 959, section 5.3). What is sent has one line feed, its
-/// last byte, and means the same. That of PASS has the password's bytes.
+/// bytes of its parameter as they came, also a bare carriage return, up to the line's end, which
+/// becomes CR LF: a command holds none of that parameter, and of LIST not the options. Any other
+/// line is the canonical line of its command, as `write_command` writes it (RFC 959, section 5.3).
+/// What is sent has one line feed, its last byte, and means the same. That of PASS has the
+/// password's bytes.
 ///
 /// Bytes without a line feed at their end, or with another before it, are refused with `NotALine`,
 /// so that no second line is sent with the first. A line that `parse` refuses is refused with
-/// `Refused` and the parser's error. It returns `OutOfMemory` where reading the line takes memory, or
-/// `buf` has to grow, which it does once at most, and can't; that is never where the line's verb is
-/// not UTF-8. At each error `buf` is as it was.
+/// `Refused` and the parser's error. It returns `OutOfMemory` where reading the line takes memory,
+/// or `buf` has to grow, which it does once at most, and can't; never where the line's verb is not
+/// UTF-8. At each error `buf` is as it was.
 pub fn forward(alloc: Global, line: &[u8], buf: &mut Vec<u8>) -> Result<(), ForwardError>
     ensures ok { OnOk result (IsForwarded line.now buf.old.items buf.new.items) }
     ensures err { OnErr result (buf.new.items ≡ buf.old.items) }
