@@ -1,4 +1,5 @@
-//! Writes the line that a command is sent as, and says a command's parts.
+//! Writes the line that a command is sent as, and the one that a client's line is forwarded as, and
+//! says a command's parts.
 #![tactic(auto)]
 
 ghost use Rattle.std.specs.Prelude.{◌≡◌, ◌++◌, Ok, Err, OnOk, OnErr, IfErr};
