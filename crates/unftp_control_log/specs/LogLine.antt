@@ -1,4 +1,5 @@
--- What a log shows of an event and its line: printable text in one line, and no secret.
+-- What a log shows of an event and its line: printable text in one line, and nothing of a password
+-- or an account.
 use Rattle.std.specs.Prelude.{ℕ, ◌≤◌, Bool, true, false, if◌then◌else◌, ◌++◌, Option, Some, option_map, codes}
 use Rattle.std.specs.Char.Escape.{escape_ascii}
 use Rattle.std.specs.List.{flat_map}

@@ -1,4 +1,4 @@
-//! A line for a log: what a client sent, in printable text, without its secrets.
+//! A line for a log: what a client sent, in printable text, without passwords and accounts.
 #![tactic(auto)]
 
 ghost use Rattle.std.specs.Prelude.{◌≡◌, ◌++◌, OnErr, OnOk};
@@ -23,8 +23,8 @@ use unftp_control_serve::Event;
 /// A command is its verb in upper case and its value after a space, in the escapes of Rust's
 /// `escape_ascii`; SITE is followed by its subcommand. The value of PASS and ACCT is `***`, also an
 /// empty one, and so are the arguments of an unknown verb, which may be a mistyped PASS (RFC 959,
-/// section 4.1.1). A refused line is `refused`, its verb where it is a known one, and the words of
-/// the error; of its parameter nothing is shown.
+/// section 4.1.1); that verb is shown, and so are the arguments of SITE. A refused line is `refused`,
+/// its verb where it is a known one, and the words of the error; of its parameter nothing is shown.
 ///
 /// It fails only when out of memory, and `buf` is then as it was.
 pub fn write_log_line(event: &Event, line: &[u8], buf: &mut Vec<u8>) -> Result<(), AllocError>
