@@ -1,2 +1,1 @@
-mod NoonLemmas
 mod ResponseLemmas

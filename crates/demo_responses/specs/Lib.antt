@@ -1,3 +1,1 @@
--- To be read in this order.
-pub mod Sample
 pub mod Responses

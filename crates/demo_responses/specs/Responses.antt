@@ -8,7 +8,10 @@ use Rattle.unftp_control_defs.specs.Texts.{reading_text, kind_text}
 use Rattle.unftp_control_defs.specs.Run.{Law}
 use Rattle.unftp_control_commands.specs.Answers.{auth_reply, prot_reply, feat_reply, port_reply, help_reply, mode_reply, opts_reply, stru_reply}
 use Rattle.unftp_control_commands.specs.Facts.{facts_reply}
-use Rattle.demo_responses.specs.Sample.{sample_text}
+
+-- the facts of the one file that the handler knows (RFC 3659, section 7.5)
+abbrev pub facts : Bytes
+facts = codes "type=file;size=1234;modify=20231201120000;"
 
 abbrev pub not_implemented : FtpReply
 not_implemented = CodeAndMsg 502 (codes "Not implemented")
@@ -19,7 +22,7 @@ site_reply name arguments =
     if bytes_eq name (codes "ECHO") then CodeAndMsg 200 arguments else not_implemented
 
 -- TLS, restarts and sums are off, EPSV reports a port that is not opened, and every path is that of
--- the sample
+-- the one file
 abbrev pub command_reply : FtpCommand → FtpReply
 command_reply (Auth protocol) = auth_reply false protocol
 command_reply (Prot param) = prot_reply false param
@@ -29,7 +32,7 @@ command_reply Help = help_reply
 command_reply (Mode mode) = mode_reply mode
 command_reply (Opts option) = opts_reply option
 command_reply (Stru structure) = stru_reply structure
-command_reply (Mlst path) = facts_reply sample_text (unwrap_or path (codes "/"))
+command_reply (Mlst path) = facts_reply facts (unwrap_or path (codes "/"))
 command_reply Noop = CodeAndMsg 200 (codes "OK")
 command_reply Quit = CodeAndMsg 221 (codes "Bye")
 command_reply (Site name arguments) = site_reply name arguments

@@ -3,7 +3,5 @@
 #![tactic(auto)]
 
 mod responses;
-mod sample;
 
 pub use responses::Responses;
-pub use sample::Sample;

@@ -1,14 +1,13 @@
 //! What the handler answers.
-ghost use Rattle.std.specs.Prelude.{◌≡◌, Bool, false, IfOk, IfErr, option_map, string_bytes};
+ghost use Rattle.std.specs.Prelude.{◌≡◌, Bool, false, IfOk, IfErr, string_bytes};
 ghost use Rattle.unftp_control_command.specs.CommandMeaning.{command_of};
 ghost use Rattle.unftp_control_defs.specs.Events.{out_of_memory, Refused};
-ghost use Rattle.unftp_control_defs.specs.FtpCommand.{Mlst as FtpMlst, Site as FtpSite};
+ghost use Rattle.unftp_control_defs.specs.FtpCommand.{Site as FtpSite};
 ghost use Rattle.unftp_control_reply.specs.ErrorMeaning.{fault_of};
 ghost use Rattle.unftp_control_reply.specs.ReplyMeaning.{reply_of};
 ghost use Rattle.unftp_control_serve.specs.EventMeaning.{event_meant};
 ghost use Rattle.demo_responses.specs.Responses.{command_reply, event_reply, not_implemented, responses_law};
 
-use crate::sample::Sample;
 use std::alloc::Global;
 use unftp_control_command::Command;
 use unftp_control_commands::{Auth, Epsv, Feat, Help, Mlst, Mode, Opts, Passive, Prot, Stru};
@@ -18,6 +17,10 @@ use unftp_control_serve::{Count, Event, Handler};
 
 /// The port that EPSV reports. It is not opened.
 const PORT: u16 = 2121;
+
+/// The facts of the one file that the handler knows (RFC 3659, section 7.5): it has 1,234 bytes, and
+/// was last modified on 2023-12-01 at 12:00:00 UTC.
+const FACTS: &str = "type=file;size=1234;modify=20231201120000;";
 
 /// Answers each event by itself, and is done once QUIT came.
 #[derive(Drop)]
@@ -87,21 +90,12 @@ fn answer_command(alloc: Global, command: Command) -> Result<Reply, ControlChanE
         Command::Mode { mode } => Mode::new(mode).reply(alloc),
         Command::Opts { option } => Opts::new(option).reply(alloc),
         Command::Stru { structure } => Stru::new(structure).reply(alloc),
-        Command::Mlst { path } => reply_of_sample_file(alloc, path),
+        Command::Mlst { path } => Mlst::new(path).reply_with(alloc, "/", FACTS),
         Command::Noop => Reply::new(alloc, ReplyCode::CommandOkay, "OK"),
         Command::Quit => Reply::new(alloc, ReplyCode::ClosingControlConnection, "Bye"),
         Command::Site { command, arguments } => answer_site(alloc, command, arguments),
         _ => not_implemented(alloc),
     }
-}
-
-/// The response to MLST.
-fn reply_of_sample_file(alloc: Global, path: Option<String>) -> Result<Reply, ControlChanError>
-    ensures ok { IfOk result (λ reply.
-        reply_of reply ≡ command_reply (FtpMlst (option_map string_bytes path))) }
-    ensures err { IfErr result (λ error. fault_of error ≡ out_of_memory) }
-{
-    Mlst::new(path).reply(alloc, "/", Ok(&Sample::new()))
 }
 
 /// The response to SITE.

@@ -1,3 +1,18 @@
+mod FoldLemmas
+mod EpsvLemmas
+mod PieceLemmas
+mod RunEndLemmas
+mod FirstEndLemmas
+mod StepLemmas
+mod LossyTextLemmas
+mod EventStepLemmas
+mod ReplyStepLemmas
+mod SnapshotLemmas
+mod RunEndExampleLemmas
+mod PendingLineLemmas
+mod EventMemoryLemmas
+mod NeededLemmas
+mod NoonLemmas
 pub use Rattle.unftp_control_defs.proofs.LineLemmas
 pub use Rattle.unftp_control_defs.proofs.RunLemmas
 pub use Rattle.unftp_control_serve.proofs.SendLemmas

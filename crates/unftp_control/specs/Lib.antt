@@ -1,3 +1,5 @@
+pub mod Snapshots
+pub mod RunEnd
 pub use Rattle.unftp_control_defs.specs.Bytes
 pub use Rattle.unftp_control_defs.specs.Lines
 pub use Rattle.unftp_control_defs.specs.Verbs

@@ -1,19 +1,19 @@
 //! The control protocol layer of an FTP server: bytes of a control connection come in, and typed
 //! commands or named refusals come out; replies go in, and their bytes come out (RFC 959).
 //!
-//! The modules are crates of their own, which this one re-exports, with the crate `bytes` of the
-//! fields that are raw bytes.
+//! The modules are crates of their own but `laws`, and this one re-exports them, with the crate
+//! `bytes` of the fields that are raw bytes.
 #![tactic(auto)]
 
 pub mod command;
 pub mod error;
+pub mod laws;
 pub mod write;
 
 pub use bytes;
 pub use unftp_control_codecs as codecs;
 pub use unftp_control_command::password;
 pub use unftp_control_commands as commands;
-pub use unftp_control_laws as laws;
 pub use unftp_control_line_parser as line_parser;
 pub use unftp_control_log as log;
 pub use unftp_control_login as login;

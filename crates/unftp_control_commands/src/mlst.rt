@@ -63,10 +63,26 @@ impl Mlst {
         match found {
             Ok(metadata) => {
                 let facts = format_facts(alloc, metadata)?;
-                Ok(facts_reply(alloc, facts.as_str(), self.path_or(cwd))?)
+                self.reply_with(alloc, cwd, facts.as_str())
             }
             Err(text) => Reply::new(alloc, ReplyCode::FileError, text),
         }
+    }
+
+    /// 250 with these facts, which are written as they are, and the path, which is the working
+    /// directory where the command has none (RFC 3659, section 7). It fails only when out of memory,
+    /// with the kind `OutOfMemory`.
+    pub fn reply_with(
+        &self,
+        alloc: Global,
+        cwd: &str,
+        facts: &str,
+    ) -> Result<Reply, ControlChanError>
+        ensures ok { IfOk result (λ reply. reply_of reply
+            ≡ facts_reply facts.now (unwrap_or self.now cwd.now)) }
+        ensures err { IfErr result (λ error. fault_of error ≡ out_of_memory) }
+    {
+        Ok(facts_reply(alloc, facts, self.path_or(cwd))?)
     }
 }
 

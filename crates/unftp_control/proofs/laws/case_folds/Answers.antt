@@ -1,0 +1,5 @@
+use Rattle.unftp_control.proofs.FoldLemmas.{outcome-verb_case, outcome-name_case}
+use Rattle.unftp_control.proofs.laws.case_folds.Goals as goal
+
+pub returns : goal.returns
+returns c = record { verb = outcome-verb_case; name = outcome-name_case }

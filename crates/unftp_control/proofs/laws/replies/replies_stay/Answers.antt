@@ -1,0 +1,5 @@
+use Rattle.unftp_control_defs.proofs.ReplyAppendLemmas.{FrontReply-append, IsMalformed-append}
+use Rattle.unftp_control.proofs.laws.replies.replies_stay.Goals as goal
+
+pub returns : goal.returns
+returns c = record { front = FrontReply-append; malformed = IsMalformed-append }

@@ -1,0 +1,246 @@
+//! Laws of the definitions, each the contract of a function that does nothing: what ties a value
+//! that is computed to the relation that a reader believes.
+ghost use Rattle.std.specs.Prelude.{◌≡◌, ◌↔◌, if◌then◌else◌, ◌<◌, ◌≤◌, ◌+◌, ◌^◌, ℕ, Option, true, false, List, [], ◌∷◌, ◌++◌, length, take, Some, None, Ok, codes};
+ghost use Rattle.std.specs.Char.{IsScalar, encode_utf8};
+ghost use Rattle.std.specs.List.{AllByRecursion, concat, sum_by};
+ghost use Rattle.std.specs.Str.Lossy.{utf8_lossy};
+ghost use Rattle.unftp_control_commands.specs.Answers.{port_reply};
+ghost use Rattle.unftp_control_defs.specs.Bytes.{Bytes, LF, crlf, Lacks};
+ghost use Rattle.unftp_control_defs.specs.Canonical.{canonical_line, HasLine};
+ghost use Rattle.unftp_control_defs.specs.Forwarded.{before_end, forwarded_line, keeps_parameter};
+ghost use Rattle.unftp_control_defs.specs.TakingSteps.{TakingStep, TakesEvent, AreTakingSteps, all_pushed, all_taken};
+ghost use Rattle.unftp_control_defs.specs.Pieces.{events_in_turn, events_in_turn, replies_in_turn};
+ghost use Rattle.unftp_control_defs.specs.Events.{FtpEvent, Refused, events, exceeds, line_too_long, event_for};
+ghost use Rattle.unftp_control_defs.specs.FtpCommand.{FtpCommand, User, HasTypedFields};
+ghost use Rattle.unftp_control_defs.specs.Run.{run_for, ends_for, text_for, unread, after_end, ends, last_state, replies, run_of};
+ghost use Rattle.unftp_control_defs.specs.Lines.{IsLine, Lines, lines_of, incomplete_line};
+ghost use Rattle.unftp_control_defs.specs.LossyText.{Character, LossyText, first_part};
+ghost use Rattle.unftp_control_defs.specs.Outcome.{outcome};
+ghost use Rattle.unftp_control_defs.specs.Paths.{ListPath, path_of};
+ghost use Rattle.unftp_control_codecs.specs.Calls.{AreDecodeCalls, DecodeCall};
+ghost use Rattle.unftp_control_codecs.specs.Codec.{Codec, new_codec};
+ghost use Rattle.unftp_control_serve.specs.Decoder.{Pending, TakesLine, line_after};
+ghost use Rattle.unftp_control_serve.specs.EventMeaning.{event_meant, refuses_length};
+ghost use Rattle.unftp_control_serve.specs.declared.event.Event.{Event};
+ghost use Rattle.unftp_control_defs.specs.Values.{Reads, HasNoValue, escaped};
+ghost use Rattle.unftp_control_defs.specs.ComputedValue.{value_of};
+ghost use Rattle.unftp_control_defs.specs.Verbs.{Cut, verb_of, parameter_of, upper};
+ghost use Rattle.unftp_control.specs.RunEnd.{EndsAfter, EndsNowhere};
+
+pub mod examples;
+pub mod replies;
+
+pub use replies::{
+    any_cutting_of_replies, one_front, one_reading, replies_read_back, replies_stay,
+    too_long_replies_stay,
+};
+use unftp_control_serve::Handler;
+
+/// An input has one list of lines and one incomplete line, `lines_of` and `incomplete_line` (RFC
+/// 959, section 5.3).
+pub fn one_list_of_lines()
+    ensures computed { (input : Bytes) → Lines input (lines_of input) (incomplete_line input) }
+    ensures only { (input : Bytes) (lines : List Bytes) (incomplete : Bytes)
+        → Lines input lines incomplete
+        → (lines ≡ lines_of input) × (incomplete ≡ incomplete_line input) }
+{}
+
+/// A line has one verb and one parameter, `verb_of` and `parameter_of` (RFC 959, section 5.3).
+pub fn one_verb()
+    ensures computed { (line : Bytes) → Cut line (verb_of line) (parameter_of line) }
+    ensures only { (line verb parameter : Bytes) → Cut line verb parameter
+        → (verb ≡ verb_of line) × (parameter ≡ parameter_of line) }
+{}
+
+/// A parameter has one value, which `value_of` computes, or an invalid line ending, where it gives
+/// none (RFC 854).
+pub fn one_value()
+    ensures value { (parameter v : Bytes) → Reads parameter v ↔ (value_of parameter ≡ Some v) }
+    ensures bad_end { (parameter : Bytes) → HasNoValue parameter ↔ (value_of parameter ≡ None) }
+{}
+
+/// The text of LIST has one path, `path_of`.
+pub fn one_path()
+    ensures { (text path : Bytes) → ListPath text path ↔ (path_of text ≡ path) }
+{}
+
+/// The text of bytes, with U+FFFD for each ill-formed part, is the one that
+/// `String::from_utf8_lossy` gives, and no other. The encoding of a scalar value is one part,
+/// whatever follows, and no other part is a character (Unicode, section 3.9).
+pub fn one_lossy_text()
+    ensures text { (bytes text : Bytes) → LossyText bytes text ↔ (utf8_lossy bytes ≡ text) }
+    ensures character { (c : ℕ) (more : Bytes) → IsScalar c
+        → first_part (encode_utf8 c ++ more) ≡ Character (length (encode_utf8 c)) }
+    ensures no_other { (bytes : Bytes) (n : ℕ) → first_part bytes ≡ Character n
+        → (c : ℕ) × IsScalar c × (take n bytes ≡ encode_utf8 c) }
+{}
+
+/// Lines that differ only in the case of the ASCII letters of their verb have one outcome, and so
+/// have lines of SITE whose names differ so (RFC 959, section 5.3).
+pub fn case_folds()
+    ensures verb { (line other verb other_verb parameter : Bytes)
+        → Cut line verb parameter → Cut other other_verb parameter
+        → upper verb ≡ upper other_verb
+        → outcome line ≡ outcome other }
+    ensures name { (line other verb other_verb parameter other_parameter : Bytes)
+        (name other_name arguments : Bytes)
+        → Cut line verb parameter → Cut other other_verb other_parameter
+        → upper verb ≡ codes "SITE" → upper other_verb ≡ codes "SITE"
+        → Cut parameter name arguments → Cut other_parameter other_name arguments
+        → upper name ≡ upper other_name
+        → outcome line ≡ outcome other }
+{}
+
+/// A name without a line feed that is sent with each CR as CR NUL is the name that is read (RFC
+/// 854).
+pub fn escape_reads_back()
+    ensures { (name : Bytes) → Lacks LF name
+        → outcome (codes "USER " ++ escaped name ++ crlf) ≡ Ok (User name) }
+{}
+
+/// The canonical line of a command that has a line has one LF, its last byte, and means that
+/// command, where its fields are of their types (RFC 959, section 5.3).
+pub fn canonical_lines_read_back()
+    ensures line { (command : FtpCommand) → HasLine command → IsLine (canonical_line command) }
+    ensures read_back { (command : FtpCommand) → HasLine command → HasTypedFields command
+        → outcome (canonical_line command) ≡ Ok command }
+{}
+
+/// A command has a line, and fields of their types, exactly where a line whose one LF is its last
+/// byte means it (RFC 959, section 5.3).
+pub fn commands_of_lines()
+    ensures { (command : FtpCommand) → (HasLine command × HasTypedFields command)
+        ↔ ((line : Bytes) × IsLine line × (outcome line ≡ Ok command)) }
+{}
+
+/// The line that is forwarded for a line has one LF, its last byte, and means the same command.
+/// Where the parameter is kept, so are its bytes up to the line's end, after the verb in upper case
+/// (RFC 959, section 5.3).
+pub fn forwarded_lines_read_back()
+    ensures line { (line : Bytes) (command : FtpCommand) → IsLine line → outcome line ≡ Ok command
+        → IsLine (forwarded_line line command) }
+    ensures read_back { (line : Bytes) (command : FtpCommand)
+        → IsLine line → outcome line ≡ Ok command
+        → outcome (forwarded_line line command) ≡ Ok command }
+    ensures verb { (line : Bytes) (command : FtpCommand)
+        → keeps_parameter (upper (verb_of line)) ≡ true
+        → verb_of (forwarded_line line command) ≡ upper (verb_of line) }
+    ensures parameter { (line : Bytes) (command : FtpCommand)
+        → keeps_parameter (upper (verb_of line)) ≡ true
+        → before_end (parameter_of (forwarded_line line command))
+        ≡ before_end (parameter_of line) }
+{}
+
+/// Two ports whose EPSV replies are equal are equal (RFC 2428, section 3).
+pub fn epsv_ports_differ()
+    ensures { (port other : ℕ) → port < 2 ^ 16 → other < 2 ^ 16 → port_reply port ≡ port_reply other
+        → port ≡ other }
+{}
+
+/// The pieces that an input comes in give its events and the replies to them, however it is split;
+/// the pieces after the one in which the handler ends the session give no reply.
+pub fn any_cutting<H: Handler>()
+    ensures same_events { (limit : Option ℕ) (pieces : List Bytes)
+        → events_in_turn limit [] pieces ≡ events limit (concat pieces) }
+    ensures replies { (limit : Option ℕ) (s : H.State) (pieces : List Bytes)
+        → replies_in_turn limit H.law s [] pieces
+        ≡ replies H.law s (run_for limit H.law s (concat pieces)) }
+{}
+
+/// Whatever the pieces, and whenever an event is taken: the events that a server takes, and then
+/// those of the pending bytes, are the events of the input; and where no line is pending, they are
+/// all of them, and the incomplete line is pending.
+pub fn events_taken_in_steps()
+    ensures same_events { (limit : Option ℕ) (steps : List (TakingStep FtpEvent)) (pending : Bytes)
+        → AreTakingSteps (TakesEvent limit) [] steps pending
+        → all_taken steps ++ events limit pending
+        ≡ events limit (all_pushed steps) }
+    ensures incomplete { (limit : Option ℕ) (steps : List (TakingStep FtpEvent)) (pending : Bytes)
+        → AreTakingSteps (TakesEvent limit) [] steps pending
+        → incomplete_line pending ≡ incomplete_line (all_pushed steps) }
+    ensures all { (limit : Option ℕ) (steps : List (TakingStep FtpEvent)) (pending : Bytes)
+        → AreTakingSteps (TakesEvent limit) [] steps pending → Lacks LF pending
+        → (all_taken steps ≡ events limit (all_pushed steps))
+        × (pending ≡ incomplete_line (all_pushed steps)) }
+{}
+
+/// The line that a decoder returns is the one that its last event is of. Where the line is longer
+/// than the limit it is empty; the event then says so, and no other does.
+pub fn lines_of_events()
+    ensures line { (before after : Pending) (event : Event)
+        (taken : TakesLine before (event_meant event) after)
+        → line_after {E = Unit {0}} before (Ok (Some event)) after
+        ≡ (if refuses_length (event_meant event) then [] else taken.takes.line) }
+    ensures too_long { (limit : Option ℕ) (line : Bytes)
+        → refuses_length (event_for limit line) ≡ exceeds limit (length line) }
+{}
+
+/// Bytes after the line that ended the session change nothing: not what is written, nor the handler's
+/// state, nor which bytes are scanned.
+pub fn nothing_after_the_end<H: Handler>()
+    ensures text { (limit : Option ℕ) (s : H.State) (input more other : Bytes)
+        → ends_for limit H.law s input ≡ true
+        → text_for limit H.law s (input ++ more)
+        ≡ text_for limit H.law s (input ++ other) }
+    ensures state { (limit : Option ℕ) (s : H.State) (input more other : Bytes)
+        → ends_for limit H.law s input ≡ true
+        → last_state H.law s (run_for limit H.law s (input ++ more))
+        ≡ last_state H.law s (run_for limit H.law s (input ++ other)) }
+    ensures unread { (limit : Option ℕ) (s : H.State) (input more : Bytes)
+        → ends_for limit H.law s input ≡ true
+        → after_end limit H.law s (input ++ more) ≡ after_end limit H.law s input ++ more }
+{}
+
+/// A run ends with the first event that leaves the handler done, and has no later one; where none
+/// does, it has all events. The lines of its events, and then the unread bytes, are the input.
+pub fn one_run<H: Handler>()
+    ensures nowhere { (s : H.State) (events : List FtpEvent)
+        → EndsNowhere H.law s events ↔ (ends H.law s events ≡ false) }
+    ensures all { (s : H.State) (events : List FtpEvent)
+        → EndsNowhere H.law s events → run_of H.law s events ≡ events }
+    ensures ended { (s : H.State) (events first : List FtpEvent) (event : FtpEvent)
+        → EndsAfter H.law s events first event
+        → (run_of H.law s events ≡ first ++ event ∷ []) × (ends H.law s events ≡ true) }
+    ensures found { (s : H.State) (events : List FtpEvent) → ends H.law s events ≡ true
+        → (first : List FtpEvent) × (event : FtpEvent)
+        × EndsAfter H.law s events first event }
+    ensures unread { (limit : Option ℕ) (s : H.State) (input : Bytes)
+        → concat (take (length (run_for limit H.law s input)) (lines_of input))
+        ++ unread limit H.law s input ≡ input }
+{}
+
+/// The run of a handler that is never done has all events, and leaves the incomplete line.
+pub fn never_done<H: Handler>()
+    ensures run { ((s : H.State) → H.law.done s ≡ false)
+        → (limit : Option ℕ) (s : H.State) (input : Bytes)
+        → run_for limit H.law s input ≡ events limit input }
+    ensures end { ((s : H.State) → H.law.done s ≡ false)
+        → (limit : Option ℕ) (s : H.State) (input : Bytes)
+        → ends_for limit H.law s input ≡ false }
+    ensures unread { ((s : H.State) → H.law.done s ≡ false)
+        → (limit : Option ℕ) (s : H.State) (input : Bytes)
+        → (unread limit H.law s input ≡ incomplete_line input)
+        × (after_end limit H.law s input ≡ []) }
+{}
+
+/// A limit changes nothing for an input whose lines are within it; and of a line that is longer,
+/// the content makes no difference.
+pub fn limit_refuses_long_lines()
+    ensures within { (limit : ℕ) (input : Bytes)
+        → AllByRecursion (λ line. length line ≤ limit) (lines_of input)
+        → events (Some limit) input ≡ events None input }
+    ensures longer { (limit : ℕ) (line : Bytes) → limit < length line
+        → event_for (Some limit) line ≡ Refused line_too_long }
+{}
+
+/// From an empty buffer on, a codec scans as many bytes as left the buffer, and up to its scan offset
+/// those that are left: so at most those that were appended.
+pub fn tests_add_up()
+    ensures total { (limit : Option ℕ) (calls : List DecodeCall) (codec : Codec) (buffer : Bytes)
+        → AreDecodeCalls (new_codec limit) [] calls codec buffer
+        → codec.tests + length buffer
+        ≡ codec.place + sum_by (λ call. length call.appended) calls }
+    ensures bound { (limit : Option ℕ) (calls : List DecodeCall) (codec : Codec) (buffer : Bytes)
+        → AreDecodeCalls (new_codec limit) [] calls codec buffer
+        → codec.tests ≤ sum_by (λ call. length call.appended) calls }
+{}

@@ -1,0 +1,189 @@
+//! Snapshots worked out by hand: what the definitions of the clauses of `feed` say of
+//! them.
+ghost use Rattle.std.specs.Prelude.{◌≡◌, ◌+◌, ◌^◌, ◌-◌, ◌≤◌, ℕ, true, false, [], ◌∷◌, None, Some, Err, length, codes};
+ghost use Rattle.std.specs.Io.KnownBytes.{Appends};
+ghost use Rattle.unftp_control_defs.specs.Bytes.{Bytes};
+ghost use Rattle.unftp_control_defs.specs.Events.{Fault, Command, Refused, line_too_long, out_of_memory};
+ghost use Rattle.unftp_control_defs.specs.FtpCommand.{User};
+ghost use Rattle.unftp_control_reply.specs.ErrorMeaning.{fault_of};
+ghost use Rattle.unftp_control_reply.specs.ErrorParts.{KindAndSource};
+ghost use Rattle.unftp_control_serve.specs.Endings.{Snapshot, Finished, Write, Handler, LineMemory, ReplyMemory, IsCauseOf, EventMayTakeMemory, AllAnswered, RunEnded, NoRoom, OnWrite, OnMemory};
+ghost use Rattle.unftp_control_serve.specs.Decoder.{kept_length, saturating_u64};
+ghost use Rattle.unftp_control_serve.specs.Engine.{EngineState, FailedAfter, fed, has_failed, has_finished, more_left, run_with};
+ghost use Rattle.unftp_control.specs.Snapshots.{counting, counting_to_five, noop, silent, snapshot, waiting};
+ghost use Rattle.unftp_control_serve.specs.declared.engine.Phase.TheVariants as phase;
+ghost use Rattle.unftp_control_serve.specs.Writing.{Begins, Flushed, OutputState, Sends, appended_state_of};
+ghost use Rattle.std.specs.declared.vec.Vec.{Vec};
+ghost use Rattle.std.specs.declared.alloc.Global.{Global};
+
+use unftp_control_serve::ServeError;
+
+/// The handler took both events, their replies were written and flushed, and nothing failed.
+pub fn all_events_are_answered()
+    ensures state { (after : Snapshot ℕ)
+        → AllAnswered counting (snapshot 3 (codes "x") 1) (noop ∷ noop ∷ []) after
+        → after.state ≡ 5 }
+    ensures written { (after : Snapshot ℕ)
+        → AllAnswered counting (snapshot 3 (codes "x") 1) (noop ∷ noop ∷ []) after
+        → Appends (Some (codes "x")) after.output.written (codes "200 OK\r\n200 OK\r\n") }
+    ensures flushed { (after : Snapshot ℕ)
+        → AllAnswered counting (snapshot 3 (codes "x") 1) (noop ∷ noop ∷ []) after
+        → after.output.unflushed ≡ 0 }
+    ensures quiet { (after : Snapshot ℕ)
+        → AllAnswered counting (snapshot 3 (codes "x") 1) (noop ∷ noop ∷ []) after
+        → (after.output.failures ≡ 0) × (after.failures ≡ 0) }
+    ensures none_left { (after : Snapshot ℕ)
+        → RunEnded counting (snapshot 3 (codes "x") 1) [] (noop ∷ []) Finished after → ⊥ }
+{}
+
+/// The writer failed at the reply to the second of two events: the first was written and flushed, and
+/// then a part, which may not be flushed.
+pub fn a_write_failed_at_a_reply()
+    ensures part { (part : Bytes) (after : Snapshot ℕ)
+        → RunEnded counting (snapshot 3 (codes "x") 1) (noop ∷ []) (noop ∷ []) (Write part) after
+        → Begins (codes "200 OK\r\n") part × (after.output.unflushed ≤ length part) }
+    ensures written { (after : Snapshot ℕ)
+        → RunEnded counting (snapshot 3 (codes "x") 1) (noop ∷ []) (noop ∷ []) (Write (codes "20"))
+        after
+        → Appends (Some (codes "x")) after.output.written (codes "200 OK\r\n20") }
+    ensures state { (part : Bytes) (after : Snapshot ℕ)
+        → RunEnded counting (snapshot 3 (codes "x") 1) (noop ∷ []) (noop ∷ []) (Write part) after
+        → after.state ≡ 5 }
+    ensures failed { (part : Bytes) (after : Snapshot ℕ)
+        → RunEnded counting (snapshot 3 (codes "x") 1) (noop ∷ []) (noop ∷ []) (Write part) after
+        → (after.output.failures ≡ 1) × (after.failures ≡ 0) }
+    ensures no_event { (part : Bytes) (after : Snapshot ℕ)
+        → RunEnded counting (snapshot 3 (codes "x") 1) (noop ∷ []) [] (Write part) after → ⊥ }
+{}
+
+/// The handler failed at the event, with a fault that its law allows. Nothing was written.
+pub fn the_handler_failed_at_an_event()
+    ensures fault { (fault : Fault) (after : Snapshot ℕ)
+        → RunEnded counting (snapshot 3 (codes "x") 1) [] (noop ∷ []) (Handler fault) after
+        → fault ≡ out_of_memory }
+    ensures written { (fault : Fault) (after : Snapshot ℕ)
+        → RunEnded counting (snapshot 3 (codes "x") 1) [] (noop ∷ []) (Handler fault) after
+        → Appends (Some (codes "x")) after.output.written [] × (after.output.unflushed ≤ 1) }
+    ensures failed { (fault : Fault) (after : Snapshot ℕ)
+        → RunEnded counting (snapshot 3 (codes "x") 1) [] (noop ∷ []) (Handler fault) after
+        → (after.failures ≡ 1) × (after.output.failures ≡ 0) }
+    ensures no_event { (fault : Fault) (after : Snapshot ℕ)
+        → RunEnded counting (snapshot 3 (codes "x") 1) (noop ∷ []) [] (Handler fault) after → ⊥ }
+{}
+
+/// Memory ran out: for the command of a line, which the handler didn't take, or for the reply to it,
+/// which it did. It never does for a command without a field, nor for no reply.
+pub fn memory_ran_out()
+    ensures line { (after : Snapshot ℕ)
+        → RunEnded counting (snapshot 3 (codes "x") 1) [] (Command (User (codes "a")) ∷ [])
+        LineMemory after
+        → (after.state ≡ 3) × Appends (Some (codes "x")) after.output.written []
+        × (after.output.unflushed ≤ 1) }
+    ensures a_field { EventMayTakeMemory (Command (User (codes "a"))) }
+    ensures no_field { EventMayTakeMemory noop → ⊥ }
+    ensures too_long { EventMayTakeMemory (Refused line_too_long) → ⊥ }
+    ensures reply { (after : Snapshot ℕ)
+        → RunEnded counting (snapshot 3 (codes "x") 1) [] (noop ∷ []) ReplyMemory after
+        → (after.state ≡ 4) × Appends (Some (codes "x")) after.output.written [] }
+    ensures no_reply { (after : Snapshot ℕ)
+        → RunEnded silent (snapshot 3 (codes "x") 1) [] (noop ∷ []) ReplyMemory after → ⊥ }
+    ensures quiet { (after : Snapshot ℕ)
+        → RunEnded counting (snapshot 3 (codes "x") 1) [] (noop ∷ []) ReplyMemory after
+        → (after.output.failures ≡ 0) × (after.failures ≡ 0) }
+{}
+
+/// What may be unflushed, and what a text begins with.
+pub fn flushes_and_beginnings()
+    ensures no_text { (unflushed : ℕ) → Flushed [] (codes "ab") 1 unflushed → unflushed ≤ 3 }
+    ensures a_text { (unflushed : ℕ) → Flushed (codes "x") (codes "ab") 1 unflushed
+        → unflushed ≤ 2 }
+    ensures other_bytes { Begins (codes "ab") (codes "b") → ⊥ }
+{}
+
+/// An engine that has the start of a line is fed its end and the start of the next; or its end and a
+/// line after the end of the session.
+pub fn an_engine_is_fed()
+    ensures goes_on { fed counting 3 (waiting None) (codes "OP\r\nP") ≡ record {
+      incomplete = codes "P";
+      left = 1;
+      failed = false;
+      finished = false;
+      scanned = 7;
+      limit = None;
+      buffered = 1;
+      held = 7;
+    } }
+    ensures ended { fed counting_to_five 4 (waiting None) (codes "OP\r\nPWD\r\n") ≡ record {
+      incomplete = [];
+      left = 5;
+      failed = false;
+      finished = true;
+      scanned = 6;
+      limit = None;
+      buffered = 0;
+      held = 11;
+    } }
+    ensures at_the_limit { (fed counting 3 (waiting (Some 5)) (codes "OP")).buffered ≡ 4 }
+    ensures over_the_limit { (fed counting 3 (waiting (Some 4)) (codes "OP")).buffered ≡ 0 }
+    ensures too_long { run_with (waiting (Some 5)) counting 3 (codes "OP\r\nP")
+        ≡ Refused line_too_long ∷ [] }
+    ensures more_left { (more_left (waiting None) (codes "OP")).left ≡ 4 }
+    ensures phases { (has_failed phase.Failed ≡ true) × (has_failed phase.Finished ≡ false)
+        × (has_finished phase.Finished ≡ true) × (has_finished phase.Running ≡ false) }
+    ensures kept { (kept_length None (codes "NOOP") ≡ 4) × (kept_length (Some 5) (codes "NOOP") ≡ 4)
+        × (kept_length (Some 4) (codes "NOOP") ≡ 0) }
+    ensures saturating_u64 { (saturating_u64 5 ≡ 5) × (saturating_u64 (2 ^ 64) ≡ 2 ^ 64 - 1) }
+{}
+
+/// What an error leaves of it; and there is no lack of memory for no piece, and no other error means
+/// one.
+pub fn an_engine_fails()
+    ensures failed { (after : EngineState) → FailedAfter (waiting None) (codes "OP\r\nP") after
+        → (after.failed ≡ true) × (after.left ≡ 2) × (after.finished ≡ false)
+        × (2 ≤ after.scanned) × (after.scanned ≤ 7) × (after.held ≤ 7) }
+    ensures no_piece { (before after : Snapshot ℕ) → NoRoom ServeError.OutOfMemory [] before after
+        → ⊥ }
+    ensures other_error { (before after : Snapshot ℕ)
+        → NoRoom ServeError.WriteZero (codes "OP") before after → ⊥ }
+    ensures same { (before after : Snapshot ℕ)
+        → NoRoom ServeError.OutOfMemory (codes "OP") before after → after ≡ before }
+{}
+
+/// Which errors mean which cause.
+pub fn errors_of_feed()
+    ensures write { (part : Bytes) (error : _) → IsCauseOf (Write part) (ServeError.Write error) }
+    ensures write_zero { (part : Bytes) → IsCauseOf (Write part) ServeError.WriteZero }
+    ensures handler { (fault : Fault) (error : KindAndSource)
+        → IsCauseOf (Handler fault) (ServeError.Handler error) → fault ≡ fault_of error }
+    ensures memory { IsCauseOf LineMemory ServeError.OutOfMemory
+        × IsCauseOf ReplyMemory ServeError.OutOfMemory }
+    ensures finished { IsCauseOf Finished ServeError.OutOfMemory → ⊥ }
+    ensures another { (part : Bytes) → IsCauseOf (Write part) ServeError.OutOfMemory → ⊥ }
+    ensures stopped { IsCauseOf LineMemory ServeError.Stopped → ⊥ }
+    ensures reads { (error : _) → IsCauseOf ReplyMemory (ServeError.Read error) → ⊥ }
+    // the clauses on a sink promise what they say at these errors
+    ensures on_write { (error : _) → OnWrite {T = ℕ} (Err (ServeError.Write error)) ⊥ → ⊥ }
+    ensures on_write_zero { OnWrite {T = ℕ} (Err ServeError.WriteZero) ⊥ → ⊥ }
+    ensures on_memory { OnMemory {T = ℕ} (Err ServeError.OutOfMemory) ⊥ → ⊥ }
+{}
+
+/// What each error of a sending means: the writer failed, or nothing was written.
+pub fn sendings_fail()
+    ensures write { (before after : OutputState) (error : _)
+        → Sends {T = ℕ} (Err (ServeError.Write error)) (codes "x") before after
+        → after.failures ≡ before.failures + 1 }
+    ensures write_zero { (before after : OutputState)
+        → Sends {T = ℕ} (Err ServeError.WriteZero) (codes "x") before after
+        → after.failures ≡ before.failures + 1 }
+    ensures memory { (before after : OutputState)
+        → Sends {T = ℕ} (Err ServeError.OutOfMemory) (codes "x") before after → after ≡ before }
+    ensures stopped { (before after : OutputState)
+        → Sends {T = ℕ} (Err ServeError.Stopped) (codes "x") before after → ⊥ }
+{}
+
+/// What replies are appended to: its bytes are those that were written.
+pub fn replies_are_appended()
+    ensures written { (bytes : Vec ℕ Global)
+        → (appended_state_of bytes).written ≡ Some bytes.items }
+    ensures quiet { (bytes : Vec ℕ Global) → (appended_state_of bytes).failures ≡ 0 }
+{}

@@ -1,5 +1,0 @@
-use Rattle.unftp_control_laws.proofs.FoldLemmas.{outcome-verb_case, outcome-name_case}
-use Rattle.unftp_control_laws.proofs.case_folds.Goals as goal
-
-pub returns : goal.returns
-returns c = record { verb = outcome-verb_case; name = outcome-name_case }

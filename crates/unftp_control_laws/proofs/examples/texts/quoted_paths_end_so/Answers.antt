@@ -1,5 +1,0 @@
-use Rattle.std.proofs.Common.{[], refl}
-use Rattle.unftp_control_laws.proofs.examples.texts.quoted_paths_end_so.Goals as goal
-
-pub returns-clause-quote : goal.returns-clause-quote
-returns-clause-quote c = λ none. none [] refl

@@ -1,5 +1,0 @@
-use Rattle.unftp_control_defs.proofs.VerbLemmas.{Cut-verb_of, Cut-unique}
-use Rattle.unftp_control_laws.proofs.one_verb.Goals as goal
-
-pub returns : goal.returns
-returns c = record { computed = Cut-verb_of; only = Cut-unique }

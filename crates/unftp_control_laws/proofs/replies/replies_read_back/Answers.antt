@@ -1,5 +1,0 @@
-use Rattle.unftp_control_defs.proofs.EncodingLemmas.{FrontReply-encoded, ReadsBack-encoded}
-use Rattle.unftp_control_laws.proofs.replies.replies_read_back.Goals as goal
-
-pub returns : goal.returns
-returns c = record { front = FrontReply-encoded; all = ReadsBack-encoded }

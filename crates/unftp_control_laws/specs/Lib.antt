@@ -1,2 +1,0 @@
-pub mod Snapshots
-pub mod RunEnd
