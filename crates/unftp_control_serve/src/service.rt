@@ -134,7 +134,8 @@ fn serve_lines<R: Read, W: Write, H: Handler>(
             Ok(n) => n,
             Err(error) => return Err(ServeError::Read(error)),
         };
-        if n == 0 {
+        let is_end = n == 0;
+        if is_end {
             return Ok(served_by(&engine));
         }
         let (read, _) = piece.split_at(n);
