@@ -4,7 +4,7 @@ ghost use Rattle.unftp_control_command.specs.CommandMeaning.{command_of};
 ghost use Rattle.unftp_control_log.specs.LogLine.{command_text, is_of_site, is_secret, is_unknown, shown_name, shown_value};
 ghost use Rattle.unftp_control_write.specs.Parts.{bytes_of, spaced_part};
 
-use crate::escape::append_shown;
+use crate::escape::{append_after_space, append_shown};
 use itoa::Buffer;
 use std::alloc::AllocError;
 use unftp_control_command::Command;
@@ -57,8 +57,7 @@ fn append_name(of_site: bool, name: &str, buf: &mut Vec<u8>) -> Result<(), Alloc
     if name.is_empty() {
         return Ok(());
     }
-    buf.push(b' ')?;
-    append_shown(name.as_bytes(), buf)
+    append_after_space(name.as_bytes(), buf)
 }
 
 /// Appends a space and the value, if there is one, or asterisks in place of a secret.
@@ -80,7 +79,6 @@ fn append_value(
     if is_unknown(command) {
         return buf.extend_from_slice(HIDDEN);
     }
-    buf.push(b' ')?;
     let mut digits = Buffer::new();
-    append_shown(value.bytes(&mut digits), buf)
+    append_after_space(value.bytes(&mut digits), buf)
 }

@@ -1,14 +1,14 @@
 //! A login gate before a handler.
-ghost use Rattle.std.specs.Prelude.{◌≡◌, ◌+◌, false, IfOk, IfErr, IsTrue, OnOk, OnErr};
-ghost use Rattle.unftp_control_defs.specs.Events.{out_of_memory};
+ghost use Rattle.std.specs.Prelude.{◌≡◌, ◌+◌, ◌||◌, ◌⊎◌, if◌then◌else◌, false, is_ok, IfOk, IfErr, IsTrue, OnOk, OnErr};
+ghost use Rattle.unftp_control_defs.specs.Events.{is_quit, out_of_memory};
 ghost use Rattle.unftp_control_defs.specs.Events as event;
-ghost use Rattle.unftp_control_defs.specs.FtpCommand.{Pass};
+ghost use Rattle.unftp_control_defs.specs.FtpCommand.{Pass, User};
 ghost use Rattle.unftp_control_defs.specs.FtpReply.{CodeAndMsg};
 ghost use Rattle.unftp_control_reply.specs.ErrorMeaning.{fault_of};
 ghost use Rattle.unftp_control_serve.specs.EventMeaning.{event_meant};
 ghost use Rattle.unftp_control_reply.specs.ReplyMeaning.{number_of, reply_of};
 ghost use Rattle.unftp_control_login.specs.Login.{flushes_login, needs_login};
-ghost use Rattle.unftp_control_login.specs.Gate.{Gated, closed, gated_law, is_barred, is_logged_in, password_reply};
+ghost use Rattle.unftp_control_login.specs.Gate.{Gated, closed, gated_law, is_barred, is_logged_in, logged_in, password_reply};
 ghost use Rattle.unftp_control_login.specs.GateState.{gated};
 
 use crate::accounts::Accounts;
@@ -106,11 +106,58 @@ impl<A: Accounts, H: Handler> Gate<A, H> {
         if !self.accounts.accepts(username.as_slice(), password) {
             return self.own_reply(alloc, ReplyCode::NotLoggedIn, "Login incorrect");
         }
+        self.admit(alloc, username)
+    }
+
+    /// Lets the handler know who has logged in. Nobody has where it fails.
+    fn admit(&mut self, alloc: Global, username: Bytes) -> Result<Reply, ControlChanError>
+        ensures says { IfOk result (λ reply. reply_of reply ≡ logged_in) }
+        ensures next { OnOk result (H.state self.new.inner
+            ≡ H.law.next (H.state self.old.inner) (event.Command (User username))) }
+        ensures quiet { OnOk result (self.new.failures + H.failures self.new.inner
+            ≡ self.old.failures + H.failures self.old.inner) }
+        ensures may_fail { IfErr result (λ error. (fault_of error ≡ out_of_memory)
+            ⊎ H.law.may_fail (H.state self.old.inner) (event.Command (User username))
+            (fault_of error)) }
+        ensures counted { OnErr result (self.new.failures + H.failures self.new.inner
+            ≡ self.old.failures + H.failures self.old.inner + 1) }
+        ensures stage { self.new.stage
+            ≡ (if is_ok result then Stage.LoggedIn else self.old.stage) }
+        ensures kept { (self.new.accounts ≡ self.old.accounts)
+            × (self.new.quit ≡ self.old.quit) }
+    {
         let user = Event::Command(Command::User { username });
         drop(self.inner.handle(alloc, user)?);
         let reply = self.own_reply(alloc, ReplyCode::UserLoggedIn, "User logged in, proceed")?;
         self.stage = Stage::LoggedIn;
         Ok(reply)
+    }
+
+    /// Passes an event on to the handler. It flushes the login or ends the session, also where the
+    /// handler fails.
+    fn pass_on(&mut self, alloc: Global, event: Event) -> Result<Reply, ControlChanError>
+        ensures says { IfOk result (λ reply. reply_of reply
+            ≡ H.law.says (H.state self.old.inner) (event_meant event)) }
+        ensures next { OnOk result (H.state self.new.inner
+            ≡ H.law.next (H.state self.old.inner) (event_meant event)) }
+        ensures quiet { OnOk result (H.failures self.new.inner ≡ H.failures self.old.inner) }
+        ensures may_fail { IfErr result (λ error. H.law.may_fail (H.state self.old.inner)
+            (event_meant event) (fault_of error)) }
+        ensures counted { OnErr result (H.failures self.new.inner
+            ≡ H.failures self.old.inner + 1) }
+        ensures stage { self.new.stage
+            ≡ (if flushes_login (event_meant event) then Stage.NoName else self.old.stage) }
+        ensures quit { self.new.quit ≡ (self.old.quit || is_quit (event_meant event)) }
+        ensures kept { (self.new.accounts ≡ self.old.accounts)
+            × (self.new.failures ≡ self.old.failures) }
+    {
+        if flushes_login(&event) {
+            self.stage = Stage::NoName;
+        }
+        if event.is_quit() {
+            self.quit = true;
+        }
+        self.inner.handle(alloc, event)
     }
 }
 
@@ -160,13 +207,7 @@ impl<A: Accounts, H: Handler> Handler for Gate<A, H> {
                         "Log in with USER and PASS",
                     );
                 }
-                if flushes_login(&event) {
-                    self.stage = Stage::NoName;
-                }
-                if event.is_quit() {
-                    self.quit = true;
-                }
-                self.inner.handle(alloc, event)
+                self.pass_on(alloc, event)
             }
         }
     }

@@ -1,7 +1,10 @@
 //! A limit on the failed logins of a session.
-ghost use Rattle.std.specs.Prelude.{◌≡◌, ◌+◌, ◌≤◌};
+ghost use Rattle.std.specs.Prelude.{◌≡◌, ◌+◌, ◌≤◌, IfOk, IfErr};
+ghost use Rattle.unftp_control_defs.specs.Events.{out_of_memory};
+ghost use Rattle.unftp_control_reply.specs.ErrorMeaning.{fault_of};
+ghost use Rattle.unftp_control_reply.specs.ReplyMeaning.{reply_of};
 ghost use Rattle.unftp_control_serve.specs.EventMeaning.{event_meant};
-ghost use Rattle.unftp_control_login.specs.LoginLimit.{Limited, is_pass, limited_law};
+ghost use Rattle.unftp_control_login.specs.LoginLimit.{Limited, is_pass, limited_law, too_many};
 
 use std::alloc::Global;
 use unftp_control_command::Command;
@@ -35,6 +38,24 @@ impl<H: Handler> LoginLimit<H> {
             failures: Count::new(),
         }
     }
+
+    /// The reply to the last one that may fail.
+    fn last_reply(&mut self, alloc: Global) -> Result<Reply, ControlChanError>
+        ensures ok { IfOk result (λ reply.
+            (reply_of reply ≡ too_many) × (self.new ≡ self.old)) }
+        ensures err { IfErr result (λ error. (fault_of error ≡ out_of_memory)
+            × (self.new ≡ record self.old { failures = self.old.failures + 1 })) }
+    {
+        let reply = Reply::new(
+            alloc,
+            ReplyCode::ServiceNotAvailable,
+            "Too many failed logins, closing control connection",
+        );
+        if reply.is_err() {
+            self.failures.raise();
+        }
+        reply
+    }
 }
 
 impl<H: Handler> Handler for LoginLimit<H> {
@@ -57,15 +78,7 @@ impl<H: Handler> Handler for LoginLimit<H> {
             return Ok(reply);
         }
         drop(reply);
-        let last = Reply::new(
-            alloc,
-            ReplyCode::ServiceNotAvailable,
-            "Too many failed logins, closing control connection",
-        );
-        if last.is_err() {
-            self.failures.raise();
-        }
-        last
+        self.last_reply(alloc)
     }
 
     fn done(&self) -> bool {

@@ -134,13 +134,13 @@ fn serve_lines<R: Read, W: Write, H: Handler>(
             Ok(n) => n,
             Err(error) => return Err(ServeError::Read(error)),
         };
-        let is_end = n == 0;
-        if is_end {
+        if n == 0 {
             return Ok(served_by(&engine));
         }
         let (read, _) = piece.split_at(n);
         engine.feed(read, handler, writer)?;
-        if engine.finished() {
+        let is_over = engine.finished();
+        if is_over {
             return Ok(served_by(&engine));
         }
     }

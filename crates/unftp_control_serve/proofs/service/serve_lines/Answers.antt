@@ -18,26 +18,26 @@ returns-in_err-feed-clause-err g c =
 pub loop-turn-preserved : goal.loop-turn-preserved
 loop-turn-preserved g c =
     let short : length c.split_at.result.0.now ≤ 4096 = omega (arith, c.loop-turn.invariant.room, c.read.auto.buf, c.split_at.ensures.front_len, c.in-Ok.ensures.bound.0) in
-    let some : 0 < length c.split_at.result.0.now = omega (arith, c.split_at.ensures.front_len, c.if-is_end.false) in
+    let some : 0 < length c.split_at.result.0.now = omega (arith, c.split_at.ensures.front_len, c.if-n-eq0.false) in
     let given = rw (sym c.split_at.ensures.front) at c.in-Ok.ensures.bytes.0 in
     let running = c.loop-turn.invariant.serving.running in
     let is = c.in_ok-feed.ensures.fed running in
-    let on = ap (λ engine. engine.finished) (sym is) ∙ sym c.finished.ensures ∙ c.if-finished.false in
+    let on = ap (λ engine. engine.finished) (sym is) ∙ sym c.finished-is_over.ensures ∙ c.if-is_over.false in
     record {
       serving = rw is
           (Serving-next _ _ _ _ _ _ _ _ _ c.loop-turn.invariant.serving c.split_at.result.0.now given (rw c.split_at.ensures.front_len c.in-Ok.ensures.reads) short _ c.in-Ok.ensures.quiet (c.in_ok-feed.ensures.outcome running) some on);
       room = omega (arith, c.loop-turn.invariant.room, c.read.auto.buf);
     }
 
-pub returns-then-finished-clause-ok : goal.returns-then-finished-clause-ok
-returns-then-finished-clause-ok g c =
+pub returns-then-is_over-clause-ok : goal.returns-then-is_over-clause-ok
+returns-then-is_over-clause-ok g c =
     let short : length c.split_at.result.0.now ≤ 4096 = omega (arith, c.loop-turn.invariant.room, c.read.auto.buf, c.split_at.ensures.front_len, c.in-Ok.ensures.bound.0) in
     let given = rw (sym c.split_at.ensures.front) at c.in-Ok.ensures.bytes.0 in
     let running = c.loop-turn.invariant.serving.running in
     let is = c.in_ok-feed.ensures.fed running in
-    let done = ap (λ engine. engine.finished) (sym is) ∙ sym c.finished.ensures ∙ c.if-finished.true in
+    let done = ap (λ engine. engine.finished) (sym is) ∙ sym c.finished-is_over.ensures ∙ c.if-is_over.true in
     Serving-done _ _ _ _ _ _ _ _ _ c.loop-turn.invariant.serving c.split_at.result.0.now given (rw c.split_at.ensures.front_len c.in-Ok.ensures.reads) short _ c.in-Ok.ensures.quiet (c.in_ok-feed.ensures.outcome running)
-    _ (rw is at c.served_by-then-finished.ensures) done
+    _ (rw is at c.served_by-then-is_over.ensures) done
 
 pub returns-clause-err : goal.returns-clause-err
 returns-clause-err g c = Serving-too_often _ _ _ _ _ _ _ _ c.loop-turn.invariant.serving (omega (arith, c.loop-turn-test.false))
@@ -47,13 +47,13 @@ returns-in-Err-clause-err g c =
     Serving-read_failed _ _ _ _ _ _ _ _ _ c.loop-turn.invariant.serving
     c.in-Err.ensures.bytes c.in-Err.ensures.reads c.in-Err.ensures.counted
 
-pub returns-then-is_end-clause-ok : goal.returns-then-is_end-clause-ok
-returns-then-is_end-clause-ok g c =
+pub returns-then-n-eq0-clause-ok : goal.returns-then-n-eq0-clause-ok
+returns-then-n-eq0-clause-ok g c =
     let room : 0 < length c.read.new.buf =
     omega (arith, c.loop-turn.invariant.room, c.read.auto.buf) in
     let given = c.in-Ok.ensures.bytes in
-    Serving-all _ _ _ _ _ _ _ _ _ c.loop-turn.invariant.serving c.read.new.buf _ _ c.served_by.ensures c.if-is_end.true c.in-Ok.ensures.reads
-    given.0 (given.1 c.if-is_end.true room) c.in-Ok.ensures.quiet
+    Serving-all _ _ _ _ _ _ _ _ _ c.loop-turn.invariant.serving c.read.new.buf _ _ c.served_by.ensures c.if-n-eq0.true c.in-Ok.ensures.reads
+    given.0 (given.1 c.if-n-eq0.true room) c.in-Ok.ensures.quiet
 
 pub returns-clause-ok : goal.returns-clause-ok
 returns-clause-ok g c = search rules
