@@ -7,7 +7,7 @@ ghost use Rattle.unftp_control_defs.specs.FtpReply.{CodeAndMsg};
 ghost use Rattle.unftp_control_reply.specs.ErrorMeaning.{fault_of};
 ghost use Rattle.unftp_control_serve.specs.EventMeaning.{event_meant};
 ghost use Rattle.unftp_control_reply.specs.ReplyMeaning.{number_of, reply_of};
-ghost use Rattle.unftp_control_login.specs.Login.{flushes_login, needs_login};
+ghost use Rattle.unftp_control_login.specs.Login.{flushes_login, is_login, needs_login};
 ghost use Rattle.unftp_control_login.specs.Gate.{Gated, closed, gated_law, is_barred, is_logged_in, logged_in, password_reply};
 ghost use Rattle.unftp_control_login.specs.GateState.{gated};
 
@@ -133,6 +133,29 @@ impl<A: Accounts, H: Handler> Gate<A, H> {
         Ok(reply)
     }
 
+    /// Takes an event that is neither USER nor PASS.
+    fn take_other(&mut self, alloc: Global, event: Event) -> Result<Reply, ControlChanError>
+        requires { is_login (event_meant event) ≡ false }
+        ensures says { IfOk result (λ reply. reply_of reply
+            ≡ (gated_law H.law).says (gated A.accepts H.state self.old) (event_meant event)) }
+        ensures next { OnOk result (gated A.accepts H.state self.new
+            ≡ (gated_law H.law).next (gated A.accepts H.state self.old) (event_meant event)) }
+        ensures quiet { OnOk result (self.new.failures + H.failures self.new.inner
+            ≡ self.old.failures + H.failures self.old.inner) }
+        ensures may_fail { IfErr result (λ error. (gated_law H.law).may_fail
+            (gated A.accepts H.state self.old) (event_meant event) (fault_of error)) }
+        ensures counted { OnErr result (self.new.failures + H.failures self.new.inner
+            ≡ self.old.failures + H.failures self.old.inner + 1) }
+        ensures nobody { OnErr result (IsTrue (is_logged_in self.new.stage)
+            → IsTrue (is_logged_in self.old.stage)) }
+    {
+        if needs_login(&event) && !self.stage.is_logged_in() {
+            drop(event);
+            return self.own_reply(alloc, ReplyCode::NotLoggedIn, "Log in with USER and PASS");
+        }
+        self.pass_on(alloc, event)
+    }
+
     /// Passes an event on to the handler. It flushes the login or ends the session, also where the
     /// handler fails.
     fn pass_on(&mut self, alloc: Global, event: Event) -> Result<Reply, ControlChanError>
@@ -198,17 +221,7 @@ impl<A: Accounts, H: Handler> Handler for Gate<A, H> {
             Event::Command(Command::Pass { password }) => {
                 self.take_password(alloc, password.as_ref())
             }
-            event => {
-                if needs_login(&event) && !self.stage.is_logged_in() {
-                    drop(event);
-                    return self.own_reply(
-                        alloc,
-                        ReplyCode::NotLoggedIn,
-                        "Log in with USER and PASS",
-                    );
-                }
-                self.pass_on(alloc, event)
-            }
+            event => self.take_other(alloc, event),
         }
     }
 
