@@ -3,56 +3,29 @@
 //! and the greatest. Without an argument it does one round and prints nothing.
 #![tactic(auto)]
 
+mod figures;
 mod measure;
 mod received;
 
-use measure::{FIGURES, Measure};
+use figures::report_all;
 use std::process::ExitCode;
 use std::{env, io};
 
-/// The number of rounds that the arguments ask for.
-fn rounds_asked(rt: &HostRuntime) -> io::Result<Option<usize>> {
-    let mut arguments = env::args(rt)?.skip(1);
-    let Some(text) = arguments.next() else {
-        return Ok(None);
-    };
-    match (text.as_str().parse::<usize>(), arguments.next()) {
-        (Ok(rounds), None) => Ok(Some(rounds)),
+/// The number of rounds that the arguments ask for, the first of which is the program's name.
+fn rounds_asked(arguments: &[String]) -> io::Result<Option<usize>> {
+    match arguments {
+        [] | [_] => Ok(None),
+        [_, text] => match text.as_str().parse::<usize>() {
+            Ok(rounds) => Ok(Some(rounds)),
+            Err(_) => Err(io::ErrorKind::InvalidInput.into()),
+        },
         _ => Err(io::ErrorKind::InvalidInput.into()),
     }
 }
 
-/// Prints what a measure gave in so many rounds.
-fn report(rt: &HostRuntime, name: &str, measure: Measure, rounds: usize) -> io::Result<()> {
-    let mut figures = Vec::new(rt.alloc());
-    for _ in 0..rounds {
-        figures.push(measure.nanoseconds(rt)?)?;
-    }
-    figures.sort_unstable();
-    if let (Some(least), Some(median), Some(greatest)) = (
-        figures.first(),
-        figures.get(figures.len() / 2),
-        figures.last(),
-    ) {
-        println!(rt; "{name}: {median} ns ({least} to {greatest})")?;
-    }
-    Ok(())
-}
-
 fn measure_all(rt: &HostRuntime) -> io::Result<()> {
-    match rounds_asked(rt)? {
-        Some(rounds) => {
-            for (name, measure) in FIGURES {
-                report(rt, name, measure, rounds)?;
-            }
-        }
-        None => {
-            for (_, measure) in FIGURES {
-                measure.nanoseconds(rt)?;
-            }
-        }
-    }
-    Ok(())
+    let arguments: Vec<String> = env::args(rt)?.collect(rt.alloc())?;
+    report_all(rt, rounds_asked(arguments.as_slice())?)
 }
 
 fn main(rt: HostRuntime) -> ExitCode {

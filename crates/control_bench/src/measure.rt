@@ -8,44 +8,49 @@ use std::time::Instant;
 use unftp_control_codecs::FtpCodec;
 use unftp_control_line_parser::parse;
 use unftp_control_read::read_reply;
+use unftp_control_reply::error::ControlChanError;
 use unftp_control_reply::{Reply, ReplyCode};
 use unftp_control_serve::EventDecoder;
 
 /// Lines of a session, about as long as those that clients send.
-const SESSION: &[&[u8]] = &[
-    b"USER anonymous\r\n",
-    b"PASS guest@example.org\r\n",
-    b"SYST\r\n",
-    b"FEAT\r\n",
-    b"OPTS UTF8 ON\r\n",
-    b"PWD\r\n",
-    b"TYPE I\r\n",
-    b"CWD /pub/linux/kernel/v6.x\r\n",
-    b"EPSV\r\n",
-    b"LIST -la\r\n",
-    b"PORT 192,168,150,90,195,149\r\n",
-    b"NLST *.tar.xz\r\n",
-    b"SIZE linux-6.1.55.tar.xz\r\n",
-    b"MDTM linux-6.1.55.tar.xz\r\n",
-    b"REST 1048576\r\n",
-    b"RETR linux-6.1.55.tar.xz\r\n",
-    b"SITE CHMOD 644 upload.txt\r\n",
-    b"XCRC linux-6.1.55.tar.xz\r\n",
-    b"NOOP\r\n",
-    b"QUIT\r\n",
-];
+static SESSION: &str = "USER anonymous\r\n\
+    PASS guest@example.org\r\n\
+    SYST\r\n\
+    FEAT\r\n\
+    OPTS UTF8 ON\r\n\
+    PWD\r\n\
+    TYPE I\r\n\
+    CWD /pub/linux/kernel/v6.x\r\n\
+    EPSV\r\n\
+    LIST -la\r\n\
+    PORT 192,168,150,90,195,149\r\n\
+    NLST *.tar.xz\r\n\
+    SIZE linux-6.1.55.tar.xz\r\n\
+    MDTM linux-6.1.55.tar.xz\r\n\
+    REST 1048576\r\n\
+    RETR linux-6.1.55.tar.xz\r\n\
+    SITE CHMOD 644 upload.txt\r\n\
+    XCRC linux-6.1.55.tar.xz\r\n\
+    NOOP\r\n\
+    QUIT\r\n";
+
+/// How many lines the session has.
+const SESSION_LINES: usize = 20;
+
+/// How many bytes the session has.
+const SESSION_LENGTH: usize = SESSION.len();
 
 /// The lines, or replies, that most figures are of.
 const LINES: usize = 1000;
 
 /// How often the session is repeated for so many lines.
-const REPEATS: usize = LINES / SESSION.len();
+const REPEATS: usize = LINES / SESSION_LINES;
 
 /// The most bytes of a line, where that is limited.
 const LIMIT: usize = 4096;
 
 /// The lines of a reply to FEAT.
-const FEATURES: [&str; 13] = [
+static FEATURES: [&str; 13] = [
     "Extensions supported:",
     " AUTH TLS",
     " EPSV",
@@ -62,7 +67,7 @@ const FEATURES: [&str; 13] = [
 ];
 
 /// Lines that begin with digits.
-const DIGIT_LINES: [&str; 100] = ["1234 bytes of a file named so"; 100];
+static DIGIT_LINES: [&str; 100] = ["1234 bytes of a file named so"; 100];
 
 /// The lines of replies that are read in a round.
 const READ_LINES: usize = 10_000;
@@ -91,101 +96,18 @@ pub enum Measure {
     ReceiveShortReplies(usize),
 }
 
-/// The figures: what each is of, and how it is measured.
-pub const FIGURES: [(&str, Measure); 22] = [
-    ("a line of 1,000 in one buffer, decoded", Measure::Decode),
-    (
-        "a line of 1,000 in one slice, decoded",
-        Measure::DecodeSlice(1_000),
-    ),
-    (
-        "a line of 1,000 in one slice, decoded with a limit",
-        Measure::DecodeLimited(1_000),
-    ),
-    (
-        "a line of 10,000 in one slice, decoded",
-        Measure::DecodeSlice(10_000),
-    ),
-    (
-        "a line of 100,000 in one slice, decoded",
-        Measure::DecodeSlice(100_000),
-    ),
-    (
-        "a line of 4 KiB in one piece, as an event",
-        Measure::Events(4 << 10),
-    ),
-    (
-        "a line of 64 KiB in one piece, as an event",
-        Measure::Events(64 << 10),
-    ),
-    (
-        "a line of 1 MiB in one piece, as an event",
-        Measure::Events(1 << 20),
-    ),
-    ("the same lines, each parsed where it lies", Measure::Parse),
-    (
-        "a line with a parameter of 4 KiB, parsed",
-        Measure::LongParameter,
-    ),
-    (
-        "a reply of one line, made and encoded",
-        Measure::ReplyOfOneLine,
-    ),
-    ("a reply of 13 lines, made and encoded", Measure::Features),
-    (
-        "a reply of 100 lines that begin with digits, made and encoded",
-        Measure::DigitLines,
-    ),
-    (
-        "a line of replies of 100 lines, read",
-        Measure::ReadShortReplies,
-    ),
-    (
-        "a line of a reply of 10,000 lines, read",
-        Measure::ReadLongReply,
-    ),
-    (
-        "1 kB of a reply of 10,000 lines in pieces of 1 byte, received",
-        Measure::ReceiveLongReply(1),
-    ),
-    (
-        "1 kB of it in pieces of 64 bytes, received",
-        Measure::ReceiveLongReply(64),
-    ),
-    (
-        "1 kB of it in pieces of 4 KiB, received",
-        Measure::ReceiveLongReply(4096),
-    ),
-    (
-        "1 kB of it in one piece, received",
-        Measure::ReceiveLongReply(usize::MAX),
-    ),
-    (
-        "1 kB of a reply of 15 MB in pieces of 4 KiB, received",
-        Measure::ReceiveLargeReply,
-    ),
-    (
-        "a reply of 1,000 of one line in one piece, received",
-        Measure::ReceiveShortReplies(1_000),
-    ),
-    (
-        "a reply of 10,000 of one line in one piece, received",
-        Measure::ReceiveShortReplies(10_000),
-    ),
-];
-
 impl Measure {
     /// How long one line or reply takes, over one round.
     pub fn nanoseconds(self, rt: &HostRuntime) -> io::Result<u128> {
         match self {
             Measure::Decode => decode_session(rt),
-            Measure::DecodeSlice(lines) => {
-                decode_slice(rt, lines / SESSION.len(), FtpCodec::new())
-            }
-            Measure::DecodeLimited(lines) => {
-                decode_slice(rt, lines / SESSION.len(), FtpCodec::with_limit(LIMIT))
-            }
-            Measure::Events(bytes) => take_events(rt, bytes),
+            Measure::DecodeSlice(lines) => decode_sessions(rt, lines, FtpCodec::new()),
+            Measure::DecodeLimited(lines) => decode_sessions(
+                rt,
+                lines,
+                FtpCodec::with_limit(LIMIT),
+            ),
+            Measure::Events(bytes) => take_sessions(rt, bytes),
             Measure::Parse => parse_session(rt),
             Measure::LongParameter => parse_long_lines(rt),
             Measure::ReplyOfOneLine => encode_one_line(rt),
@@ -211,10 +133,19 @@ pub fn made<T, E: Drop>(answer: Result<T, E>) -> io::Result<T> {
     }
 }
 
-/// What a call found; it is an error that it found none.
-fn found<T, E: Drop>(answer: Result<Option<T>, E>) -> io::Result<T> {
+/// Drops what a call returned; it is an error that it failed.
+fn drop_made<T: Drop, E: Drop>(answer: Result<T, E>) -> io::Result<()> {
+    drop(made(answer)?);
+    Ok(())
+}
+
+/// Drops what a call found; it is an error that it found none.
+fn drop_found<T: Drop, E: Drop>(answer: Result<Option<T>, E>) -> io::Result<()> {
     match made(answer)? {
-        Some(found) => Ok(found),
+        Some(found) => {
+            drop(found);
+            Ok(())
+        }
         None => Err(io::ErrorKind::InvalidData.into()),
     }
 }
@@ -226,58 +157,89 @@ fn a_line(rt: &HostRuntime, start: Instant, lines: usize) -> io::Result<u128> {
 
 /// The lines of so many sessions.
 fn sessions(alloc: Global, repeats: usize) -> io::Result<Vec<u8>> {
-    let session = SESSION.concat(alloc)?;
-    let mut buf = Vec::new(alloc);
-    for _ in 0..repeats {
-        buf.extend_from_slice(session.as_slice())?;
-    }
-    Ok(buf)
+    Ok(SESSION.as_bytes().repeat(alloc, repeats)?)
 }
 
 fn decode_session(rt: &HostRuntime) -> io::Result<u128> {
     let mut buf = sessions(rt.alloc(), REPEATS)?;
+    decode_buffer(rt, &mut buf)
+}
+
+/// Decodes the lines of a buffer.
+fn decode_buffer(rt: &HostRuntime, buf: &mut Vec<u8>) -> io::Result<u128> {
     let mut codec = FtpCodec::new();
     let start = Instant::now(rt)?;
     for _ in 0..LINES {
-        drop(found(codec.decode(rt.alloc(), &mut buf))?);
+        drop_found(codec.decode(rt.alloc(), buf))?;
     }
     a_line(rt, start, LINES)
 }
 
-fn decode_slice(rt: &HostRuntime, repeats: usize, mut codec: FtpCodec) -> io::Result<u128>
+fn decode_sessions(rt: &HostRuntime, lines: usize, codec: FtpCodec) -> io::Result<u128>
     requires { codec.place ≡ 0 }
 {
-    let lines = repeats.saturating_mul(SESSION.len());
-    let bytes = sessions(rt.alloc(), repeats)?;
-    let mut rest = bytes.as_slice();
+    let bytes = sessions(rt.alloc(), lines / SESSION_LINES)?;
+    decode_slice(rt, bytes.as_slice(), lines, codec)
+}
+
+/// Decodes so many lines from the front of a slice.
+fn decode_slice(
+    rt: &HostRuntime,
+    bytes: &[u8],
+    lines: usize,
+    mut codec: FtpCodec,
+) -> io::Result<u128>
+    requires { codec.place ≡ 0 }
+{
+    let mut rest = bytes;
     let start = Instant::now(rt)?;
     for _ in 0..lines {
         let (taken, decoded) = codec.decode_slice(rt.alloc(), rest);
-        drop(found(decoded)?);
+        drop_found(decoded)?;
         rest = rest.split_at(taken).1;
     }
     a_line(rt, start, lines)
 }
 
 /// Takes the events of the sessions that so many bytes hold, in one piece.
-fn take_events(rt: &HostRuntime, most: usize) -> io::Result<u128> {
-    let repeats = most / SESSION.concat(rt.alloc())?.len().max(1);
-    let lines = repeats.saturating_mul(SESSION.len());
+fn take_sessions(rt: &HostRuntime, most: usize) -> io::Result<u128> {
+    let repeats = most / SESSION_LENGTH;
     let piece = sessions(rt.alloc(), repeats)?;
     let mut decoder = EventDecoder::new(rt.alloc());
+    take_events(
+        rt,
+        &mut decoder,
+        piece.as_slice(),
+        repeats.saturating_mul(SESSION_LINES),
+    )
+}
+
+/// Takes the events of a piece of so many lines.
+fn take_events(
+    rt: &HostRuntime,
+    decoder: &mut EventDecoder,
+    piece: &[u8],
+    lines: usize,
+) -> io::Result<u128> {
     let start = Instant::now(rt)?;
-    decoder.push(piece.as_slice())?;
+    decoder.push(piece)?;
     for _ in 0..lines {
-        drop(found(decoder.next_event())?);
+        drop_found(decoder.next_event())?;
     }
     a_line(rt, start, lines)
 }
 
 fn parse_session(rt: &HostRuntime) -> io::Result<u128> {
+    let lines: Vec<&str> = SESSION.split_inclusive('\n').collect(rt.alloc())?;
+    parse_lines(rt, lines.as_slice())
+}
+
+/// Parses the lines of a session, as often as it is repeated.
+fn parse_lines(rt: &HostRuntime, lines: &[&str]) -> io::Result<u128> {
     let start = Instant::now(rt)?;
     for _ in 0..REPEATS {
-        for line in SESSION {
-            drop(made(parse(rt.alloc(), line))?);
+        for line in lines {
+            drop_made(parse(rt.alloc(), line.as_bytes()))?;
         }
     }
     a_line(rt, start, LINES)
@@ -285,9 +247,14 @@ fn parse_session(rt: &HostRuntime) -> io::Result<u128> {
 
 fn parse_long_lines(rt: &HostRuntime) -> io::Result<u128> {
     let line = long_line(rt.alloc())?;
+    parse_repeatedly(rt, line.as_slice())
+}
+
+/// Parses one line again and again.
+fn parse_repeatedly(rt: &HostRuntime, line: &[u8]) -> io::Result<u128> {
     let start = Instant::now(rt)?;
     for _ in 0..LINES {
-        drop(made(parse(rt.alloc(), line.as_slice()))?);
+        drop_made(parse(rt.alloc(), line))?;
     }
     a_line(rt, start, LINES)
 }
@@ -301,14 +268,23 @@ fn long_line(alloc: Global) -> io::Result<Vec<u8>> {
     Ok(line)
 }
 
+/// Encodes a reply that a call made, into an empty buffer.
+fn encode(
+    codec: &mut FtpCodec,
+    reply: Result<Reply, ControlChanError>,
+    buf: &mut Vec<u8>,
+) -> io::Result<()> {
+    buf.clear();
+    made(codec.encode(made(reply)?, buf))
+}
+
 fn encode_one_line(rt: &HostRuntime) -> io::Result<u128> {
     let mut codec = FtpCodec::new();
     let mut buf = Vec::new(rt.alloc());
     let start = Instant::now(rt)?;
     for _ in 0..LINES {
         let reply = Reply::new(rt.alloc(), ReplyCode::CommandOkay, "OK");
-        buf.clear();
-        made(codec.encode(made(reply)?, &mut buf))?;
+        encode(&mut codec, reply, &mut buf)?;
     }
     a_line(rt, start, LINES)
 }
@@ -320,8 +296,7 @@ fn encode_lines(rt: &HostRuntime, lines: &[&'static str]) -> io::Result<u128> {
     for _ in 0..LINES {
         let lines = lines.iter().copied();
         let reply = Reply::new_multiline(rt.alloc(), ReplyCode::SystemStatus, lines);
-        buf.clear();
-        made(codec.encode(made(reply)?, &mut buf))?;
+        encode(&mut codec, reply, &mut buf)?;
     }
     a_line(rt, start, LINES)
 }
@@ -339,9 +314,14 @@ pub fn reply_of(alloc: Global, lines: usize) -> io::Result<Vec<u8>> {
 /// Nanoseconds a line, where this many replies of so many lines are read.
 fn read_replies(rt: &HostRuntime, replies: usize, lines: usize) -> io::Result<u128> {
     let bytes = reply_of(rt.alloc(), lines)?;
+    read_repeatedly(rt, bytes.as_slice(), replies)
+}
+
+/// Reads one reply again and again: returns the nanoseconds for each of the lines that are read.
+fn read_repeatedly(rt: &HostRuntime, bytes: &[u8], replies: usize) -> io::Result<u128> {
     let start = Instant::now(rt)?;
     for _ in 0..replies {
-        drop(made(read_reply(rt.alloc(), bytes.as_slice()))?);
+        drop_made(read_reply(rt.alloc(), bytes))?;
     }
-    Ok(start.elapsed(rt)?.as_nanos() / READ_LINES as u128)
+    a_line(rt, start, READ_LINES)
 }
