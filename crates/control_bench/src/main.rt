@@ -23,6 +23,7 @@ fn rounds_asked(arguments: &[String]) -> io::Result<Option<usize>> {
     }
 }
 
+/// Reports the figures in as many rounds as the arguments ask for.
 fn measure_all(rt: &HostRuntime) -> io::Result<()> {
     let arguments: Vec<String> = env::args(rt)?.collect(rt.alloc())?;
     report_all(rt, rounds_asked(arguments.as_slice())?)

@@ -102,14 +102,12 @@ impl Measure {
         match self {
             Measure::Decode => decode_session(rt),
             Measure::DecodeSlice(lines) => decode_sessions(rt, lines, FtpCodec::new()),
-            Measure::DecodeLimited(lines) => decode_sessions(
-                rt,
-                lines,
-                FtpCodec::with_limit(LIMIT),
-            ),
+            Measure::DecodeLimited(lines) => {
+                decode_sessions(rt, lines, FtpCodec::with_limit(LIMIT))
+            }
             Measure::Events(bytes) => take_sessions(rt, bytes),
             Measure::Parse => parse_session(rt),
-            Measure::LongParameter => parse_long_lines(rt),
+            Measure::LongParameter => parse_long_line(rt),
             Measure::ReplyOfOneLine => encode_one_line(rt),
             Measure::Features => encode_lines(rt, &FEATURES),
             Measure::DigitLines => encode_lines(rt, &DIGIT_LINES),
@@ -160,12 +158,13 @@ fn sessions(alloc: Global, repeats: usize) -> io::Result<Vec<u8>> {
     Ok(SESSION.as_bytes().repeat(alloc, repeats)?)
 }
 
+/// Decodes the lines of sessions from one buffer.
 fn decode_session(rt: &HostRuntime) -> io::Result<u128> {
     let mut buf = sessions(rt.alloc(), REPEATS)?;
     decode_buffer(rt, &mut buf)
 }
 
-/// Decodes the lines of a buffer.
+/// Decodes 1,000 lines of a buffer.
 fn decode_buffer(rt: &HostRuntime, buf: &mut Vec<u8>) -> io::Result<u128> {
     let mut codec = FtpCodec::new();
     let start = Instant::now(rt)?;
@@ -175,6 +174,7 @@ fn decode_buffer(rt: &HostRuntime, buf: &mut Vec<u8>) -> io::Result<u128> {
     a_line(rt, start, LINES)
 }
 
+/// Decodes so many lines of sessions from one slice.
 fn decode_sessions(rt: &HostRuntime, lines: usize, codec: FtpCodec) -> io::Result<u128>
     requires { codec.place ≡ 0 }
 {
@@ -229,15 +229,16 @@ fn take_events(
     a_line(rt, start, lines)
 }
 
+/// Parses the lines of the session where they lie.
 fn parse_session(rt: &HostRuntime) -> io::Result<u128> {
     let lines: Vec<&str> = SESSION.split_inclusive('\n').collect(rt.alloc())?;
-    parse_lines(rt, lines.as_slice())
+    parse_lines(rt, lines.as_slice(), REPEATS)
 }
 
-/// Parses the lines of a session, as often as it is repeated.
-fn parse_lines(rt: &HostRuntime, lines: &[&str]) -> io::Result<u128> {
+/// Parses these lines so often that they are 1,000.
+fn parse_lines(rt: &HostRuntime, lines: &[&str], repeats: usize) -> io::Result<u128> {
     let start = Instant::now(rt)?;
-    for _ in 0..REPEATS {
+    for _ in 0..repeats {
         for line in lines {
             drop_made(parse(rt.alloc(), line.as_bytes()))?;
         }
@@ -245,27 +246,16 @@ fn parse_lines(rt: &HostRuntime, lines: &[&str]) -> io::Result<u128> {
     a_line(rt, start, LINES)
 }
 
-fn parse_long_lines(rt: &HostRuntime) -> io::Result<u128> {
+/// Parses a line with a parameter of 4,096 bytes.
+fn parse_long_line(rt: &HostRuntime) -> io::Result<u128> {
     let line = long_line(rt.alloc())?;
-    parse_repeatedly(rt, line.as_slice())
-}
-
-/// Parses one line again and again.
-fn parse_repeatedly(rt: &HostRuntime, line: &[u8]) -> io::Result<u128> {
-    let start = Instant::now(rt)?;
-    for _ in 0..LINES {
-        drop_made(parse(rt.alloc(), line))?;
-    }
-    a_line(rt, start, LINES)
+    parse_lines(rt, &[line.as_str()], LINES)
 }
 
 /// A line with a parameter of 4,096 bytes.
-fn long_line(alloc: Global) -> io::Result<Vec<u8>> {
-    let mut line = Vec::with_capacity(alloc, 8192)?;
-    line.extend_from_slice(b"RETR ")?;
-    line.resize(line.len() + 4096, b'a')?;
-    line.extend_from_slice(b"\r\n")?;
-    Ok(line)
+fn long_line(alloc: Global) -> io::Result<String> {
+    let parameter = "a".repeat(alloc, 4096)?;
+    Ok(format!(in alloc; "RETR {parameter}\r\n")?)
 }
 
 /// Encodes a reply that a call made, into an empty buffer.
@@ -278,6 +268,7 @@ fn encode(
     made(codec.encode(made(reply)?, buf))
 }
 
+/// Makes and encodes replies of one line.
 fn encode_one_line(rt: &HostRuntime) -> io::Result<u128> {
     let mut codec = FtpCodec::new();
     let mut buf = Vec::new(rt.alloc());
@@ -289,6 +280,7 @@ fn encode_one_line(rt: &HostRuntime) -> io::Result<u128> {
     a_line(rt, start, LINES)
 }
 
+/// Makes and encodes replies of these lines.
 fn encode_lines(rt: &HostRuntime, lines: &[&'static str]) -> io::Result<u128> {
     let mut codec = FtpCodec::new();
     let mut buf = Vec::new(rt.alloc());
