@@ -1,4 +1,5 @@
 //! Each caller of `calling` once, over inputs and outputs in memory.
+use crate::held::assert_held;
 use calling::client::{first_code, next_code, tls_agreed};
 use calling::codec::{answer, first_is_noop, next_is_noop};
 use calling::event_loop::{Turn, answer_next};
@@ -16,20 +17,24 @@ use unftp_control::codecs::FtpCodec;
 use unftp_control::read::{ReceiveError, ReplyDecoder};
 use unftp_control::serve::{EventDecoder, Output, ServeError, Served};
 
-/// The buffer holds these bytes.
-fn assert_held(rt: &impl Abort, buf: Vec<u8>, want: &[u8]) {
-    assert_eq!(rt; buf.as_slice(), want);
+/// Logs a line after those that are logged.
+fn log_one(rt: &impl Abort, alloc: Global, line: &[u8], log: &mut Vec<u8>) {
+    assert!(rt; log_line(alloc, line, log).is_ok());
+    assert!(rt; log.push(b'\n').is_ok());
 }
 
 #[test]
-fn lines_are_logged_and_forwarded(rt: HostRuntime) {
+fn lines_are_logged(rt: HostRuntime) {
     let mut log = Vec::new(rt.alloc());
-    for line in [b"pass secret\r\n".as_slice(), b"retr a\n", b"RETR\r\n"] {
-        assert!(rt; log_line(rt.alloc(), line, &mut log).is_ok());
-        assert!(rt; log.push(b'\n').is_ok());
-    }
+    log_one(&rt, rt.alloc(), b"pass secret\r\n", &mut log);
+    log_one(&rt, rt.alloc(), b"retr a\n", &mut log);
+    log_one(&rt, rt.alloc(), b"RETR\r\n", &mut log);
     let want = b"PASS ***\nRETR a\nrefused RETR: Invalid command\n";
     assert_held(&rt, log, want);
+}
+
+#[test]
+fn lines_are_forwarded(rt: HostRuntime) {
     let mut out = Vec::new(rt.alloc());
     assert!(rt; forward_line(rt.alloc(), b"list -la -- -x\n", &mut out).is_none());
     let refused = forward_line(rt.alloc(), b"RETR\r\n", &mut out);
@@ -52,26 +57,42 @@ fn a_codec_answers_line_by_line(rt: HostRuntime) {
     assert_held(&rt, out, b"200 OK\r\n");
 }
 
+/// These bytes begin with this reply: its code, and how many bytes it takes.
+fn assert_first(rt: &impl Abort, alloc: Global, bytes: &[u8], want: Option<(u16, usize)>) {
+    let first = first_code(alloc, bytes).expect(rt, "a reply");
+    assert!(rt; first == want);
+}
+
+/// The next reply has this code.
+fn assert_code(rt: &impl Abort, replies: &mut ReplyDecoder, mut stream: &[u8], want: Option<u16>) {
+    let code = next_code(replies, &mut stream).expect(rt, "a reply");
+    assert!(rt; code == want);
+}
+
+/// The client begins TLS, or doesn't, where the stream gives this.
+fn assert_agreed(rt: &impl Abort, replies: &mut ReplyDecoder, mut stream: &[u8], want: bool) {
+    let is_agreed = tls_agreed(replies, &mut stream).expect(rt, "a reply");
+    assert!(rt; is_agreed == want);
+}
+
 #[test]
 fn a_client_reads_replies(rt: HostRuntime) {
-    let first = first_code(rt.alloc(), b"220 ready\r\n331").expect(&rt, "a reply");
-    assert!(rt; first == Some((220, 11)));
-    let none = first_code(rt.alloc(), b"220 ready\r").expect(&rt, "a reply");
-    assert!(rt; none.is_none());
+    assert_first(&rt, rt.alloc(), b"220 ready\r\n331", Some((220, 11)));
+    assert_first(&rt, rt.alloc(), b"220 ready\r", None);
     let mut replies = ReplyDecoder::new(rt.alloc());
-    let mut stream = b"220 ready\r\n234 Begin TLS\r\n".as_slice();
-    let code = next_code(&mut replies, &mut stream).expect(&rt, "a reply");
-    assert_eq!(rt; code, Some(220));
+    assert_code(
+        &rt,
+        &mut replies,
+        b"220 ready\r\n234 Begin TLS\r\n",
+        Some(220),
+    );
     // the second reply was received with the first, and nothing after it
-    let is_agreed = tls_agreed(&mut replies, &mut stream).expect(&rt, "a reply");
-    assert!(rt; is_agreed);
+    assert_agreed(&rt, &mut replies, b"", true);
 }
 
 /// After the server sent this, the client doesn't begin TLS.
 fn assert_not_agreed(rt: &impl Abort, alloc: Global, sent: &[u8]) {
-    let mut stream = sent;
-    let is_agreed = tls_agreed(&mut ReplyDecoder::new(alloc), &mut stream).expect(rt, "a reply");
-    assert!(rt; !is_agreed);
+    assert_agreed(rt, &mut ReplyDecoder::new(alloc), sent, false);
 }
 
 #[test]
@@ -83,11 +104,15 @@ fn a_client_begins_tls_right_after_the_reply_or_not_at_all(rt: HostRuntime) {
     assert_not_agreed(&rt, alloc, b"234 Begin");
 }
 
+/// Two bytes are left.
+fn assert_left(rt: &impl Abort, served: Result<Served, ServeError>) {
+    assert!(rt; served.expect(rt, "an answer").left == 2);
+}
+
 /// Two bytes are left, and the writer holds a reply.
 fn assert_served(rt: &impl Abort, answer: (Result<Served, ServeError>, Vec<u8>)) {
     let (served, output) = answer;
-    let left = served.expect(rt, "an answer").left;
-    assert_eq!(rt; left, 2);
+    assert_left(rt, served);
     assert_held(rt, output, b"200 OK\r\n");
 }
 
@@ -99,15 +124,20 @@ fn a_connection_is_served(rt: HostRuntime) {
     assert_served(&rt, answer);
     let answer = serve_stranger(alloc, input, Vec::new(alloc), &mut Basic::new());
     assert_served(&rt, answer);
-    let (next, output) = serve_until_tls(alloc, b"AUTH TLS\r\n".as_slice(), Vec::new(alloc));
-    let stream = next.expect(&rt, "an answer");
-    assert!(rt; stream.is_some());
-    assert_held(&rt, output, b"234 Upgrading to TLS\r\n");
-    // what came after AUTH in clear text is not read under TLS
-    let input = b"AUTH TLS\r\nUSER x\r\n".as_slice();
+}
+
+/// The client is told to begin TLS after this input, and it is begun only where it can be.
+fn assert_upgraded(rt: &impl Abort, alloc: Global, input: &[u8], is_begun: bool) {
     let (next, output) = serve_until_tls(alloc, input, Vec::new(alloc));
-    assert!(rt; next.expect(&rt, "an answer").is_none());
-    assert_held(&rt, output, b"234 Upgrading to TLS\r\n");
+    assert!(rt; next.expect(rt, "an answer").is_some() == is_begun);
+    assert_held(rt, output, b"234 Upgrading to TLS\r\n");
+}
+
+#[test]
+fn a_connection_is_upgraded(rt: HostRuntime) {
+    assert_upgraded(&rt, rt.alloc(), b"AUTH TLS\r\n", true);
+    // what came after AUTH in clear text is not read under TLS
+    assert_upgraded(&rt, rt.alloc(), b"AUTH TLS\r\nUSER x\r\n", false);
 }
 
 #[test]
@@ -115,38 +145,46 @@ fn pieces_are_answered(rt: HostRuntime) {
     let pieces = [b"NO".as_slice(), b"OP\r\nQU".as_slice()];
     let mut output = Output::new(Vec::new(rt.alloc()));
     let answer = answer_pieces(rt.alloc(), &pieces, &mut Basic::new(), &mut output);
-    let left = answer.expect(&rt, "an answer");
-    assert_eq!(rt; left, 2);
     assert_held(&rt, output.into_inner(), b"200 OK\r\n");
+    assert!(rt; answer.expect(&rt, "an answer") == 2);
     let replies = replies_to_pieces(rt.alloc(), &pieces, &mut Basic::new());
     assert_held(&rt, replies.expect(&rt, "an answer"), b"200 OK\r\n");
 }
 
-/// What the server does next is this.
-fn assert_turn(rt: &impl Abort, alloc: Global, decoder: &mut EventDecoder, want: Turn) -> Vec<u8> {
+/// What the server does next is this, after it has sent this.
+fn assert_turn(
+    rt: &impl Abort,
+    alloc: Global,
+    decoder: &mut EventDecoder,
+    want: Turn,
+    sent: &[u8],
+) {
     let mut out = Vec::new(alloc);
     let turn = answer_next(alloc, decoder, &mut out).expect(rt, "memory");
-    assert_eq!(rt; turn, want);
-    out
+    assert_held(rt, out, sent);
+    assert!(rt; turn == want);
 }
 
 #[test]
 fn an_event_loop_sends_what_it_likes(rt: HostRuntime) {
-    let mut decoder = EventDecoder::new(rt.alloc());
+    let alloc = rt.alloc();
+    let mut decoder = EventDecoder::new(alloc);
     let input = b"RETR a\r\nAUTH TLS\r\n";
     decoder.push(input).expect(&rt, "memory");
-    let out = assert_turn(&rt, rt.alloc(), &mut decoder, Turn::GoOn);
-    assert_held(&rt, out, b"150 Sending data\r\n226 Sent\r\n");
-    let out = assert_turn(&rt, rt.alloc(), &mut decoder, Turn::StartTls);
-    assert_held(&rt, out, b"234 Begin TLS\r\n");
-    let out = assert_turn(&rt, rt.alloc(), &mut decoder, Turn::Read);
-    assert_held(&rt, out, b"");
+    let sent = b"150 Sending data\r\n226 Sent\r\n";
+    assert_turn(&rt, alloc, &mut decoder, Turn::GoOn, sent);
+    assert_turn(
+        &rt,
+        alloc,
+        &mut decoder,
+        Turn::StartTls,
+        b"234 Begin TLS\r\n",
+    );
+    assert_turn(&rt, alloc, &mut decoder, Turn::Read, b"");
     let input = b"AUTH TLS\r\nQUIT\r\nNOOP\r\n";
     decoder.push(input).expect(&rt, "memory");
-    let out = assert_turn(&rt, rt.alloc(), &mut decoder, Turn::GoOn);
-    assert_held(&rt, out, b"502 Not here\r\n");
-    let out = assert_turn(&rt, rt.alloc(), &mut decoder, Turn::Close);
-    assert_held(&rt, out, b"221 Bye\r\n");
+    assert_turn(&rt, alloc, &mut decoder, Turn::GoOn, b"502 Not here\r\n");
+    assert_turn(&rt, alloc, &mut decoder, Turn::Close, b"221 Bye\r\n");
 }
 
 /// Each read fails with the system's error of this number.
@@ -204,42 +242,55 @@ fn receive_error<T: Drop>(answer: Result<T, ReceiveError>) -> Option<i32> {
     }
 }
 
+/// The error has this number.
+fn assert_number(rt: &impl Abort, error: Option<i32>, number: i32) {
+    assert_eq!(rt; error, Some(number));
+}
+
 #[test]
 fn the_error_of_a_read_is_returned(rt: HostRuntime) {
     let alloc = rt.alloc();
     let mut replies = ReplyDecoder::new(alloc);
     let code = next_code(&mut replies, &mut NoReads(104));
-    assert_eq!(rt; receive_error(code), Some(104));
+    assert_number(&rt, receive_error(code), 104);
     let is_agreed = tls_agreed(&mut replies, &mut NoReads(110));
-    assert_eq!(rt; receive_error(is_agreed), Some(110));
+    assert_number(&rt, receive_error(is_agreed), 110);
+    drop(replies);
     let (served, _) = serve_connection(alloc, NoReads(104), Vec::new(alloc), &mut Basic::new());
-    assert_eq!(rt; read_error(served), Some(104));
+    assert_number(&rt, read_error(served), 104);
     let (next, _) = serve_until_tls(alloc, NoReads(110), Vec::new(alloc));
-    assert_eq!(rt; read_error(next), Some(110));
+    assert_number(&rt, read_error(next), 110);
+}
+
+/// Each way to serve returns the error of the write; or of the flush, where writes succeed.
+fn assert_failure_returned(rt: &impl Abort, alloc: Global, is_written: bool) {
+    let input = b"NOOP\r\n".as_slice();
+    let output = NoWrites {
+        error: 32,
+        is_written,
+    };
+    let (served, _) = serve_connection(alloc, input, output, &mut Basic::new());
+    assert_number(rt, write_error(served), 32);
+    let output = NoWrites {
+        error: 28,
+        is_written,
+    };
+    let (next, _) = serve_until_tls(alloc, input, output);
+    assert_number(rt, write_error(next), 28);
+    let mut output = Output::new(NoWrites {
+        error: 5,
+        is_written,
+    });
+    let answer = answer_pieces(alloc, &[input], &mut Basic::new(), &mut output);
+    assert_number(rt, write_error(answer), 5);
 }
 
 #[test]
-fn the_error_of_a_write_or_a_flush_is_returned(rt: HostRuntime) {
-    let alloc = rt.alloc();
-    for is_written in [false, true] {
-        let output = NoWrites {
-            error: 32,
-            is_written,
-        };
-        let input = b"NOOP\r\n".as_slice();
-        let (served, _) = serve_connection(alloc, input, output, &mut Basic::new());
-        assert_eq!(rt; write_error(served), Some(32));
-        let output = NoWrites {
-            error: 28,
-            is_written,
-        };
-        let (next, _) = serve_until_tls(alloc, input, output);
-        assert_eq!(rt; write_error(next), Some(28));
-        let mut output = Output::new(NoWrites {
-            error: 5,
-            is_written,
-        });
-        let answer = answer_pieces(alloc, &[input], &mut Basic::new(), &mut output);
-        assert_eq!(rt; write_error(answer), Some(5));
-    }
+fn the_error_of_a_write_is_returned(rt: HostRuntime) {
+    assert_failure_returned(&rt, rt.alloc(), false);
+}
+
+#[test]
+fn the_error_of_a_flush_is_returned(rt: HostRuntime) {
+    assert_failure_returned(&rt, rt.alloc(), true);
 }

@@ -76,7 +76,7 @@ fn assert_passed_on(
 mod counted {
     use super::{Origin, assert_error, assert_passed_on, pass_on_io, pass_on_parse, pass_on_utf8};
     use std::io::ErrorKind;
-    use std::str::from_utf8;
+    use std::str::{Utf8Error, from_utf8};
     use unftp_control::error::{ControlChanError, ControlChanErrorKind};
     use unftp_control::line_parser::{ParseError, ParseErrorKind};
 
@@ -97,14 +97,16 @@ mod counted {
         assert_passed_on(&rt, failed, ControlChanErrorKind::IoError, source);
     }
 
+    /// What is said of a byte that is no UTF-8.
+    fn ill_formed() -> Result<(), Utf8Error> {
+        from_utf8(b"\xff").map(drop)
+    }
+
     #[test]
     fn takes_0_for_ill_formed_text_that_is_converted(rt: HostRuntime) {
-        let ill_formed = pass_on_utf8(from_utf8(b"\xff").map(drop));
         let kind = ControlChanErrorKind::Utf8Error;
-        assert_passed_on(&rt, ill_formed, kind, Origin::Utf8);
-        let Err(utf8) = from_utf8(b"\xff") else {
-            panic!(rt; "no error");
-        };
+        assert_passed_on(&rt, pass_on_utf8(ill_formed()), kind, Origin::Utf8);
+        let utf8 = ill_formed().expect_err(&rt, "an error");
         assert_eq!(rt; ParseError::from(utf8), ParseErrorKind::InvalidUtf8.into());
     }
 

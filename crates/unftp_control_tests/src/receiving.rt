@@ -1,4 +1,5 @@
 //! Replies from a reader that fails.
+use crate::held::assert_bytes;
 use std::io;
 use std::io::{ErrorKind, Read};
 use std::process::Abort;
@@ -30,23 +31,23 @@ impl Read for Failing<'_> {
     }
 }
 
-/// What was received: the code of a reply, nothing, or the kind of the reader's error.
-#[derive(Clone, Copy, Debug, PartialEq, Eq)]
-enum Received {
-    Reply(u16),
-    Nothing,
-    Failed(ErrorKind),
-    Refused,
-}
+/// What was received: the code of a reply, nothing, or the kind of the reader's error. A reply that
+/// is refused is invalid data.
+type Received = Result<Option<u16>, ErrorKind>;
 
 /// What the answer is.
 fn outcome_of(answer: Result<Option<ReceivedReply>, ReceiveError>) -> Received {
     match answer {
-        Ok(Some(reply)) => Received::Reply(reply.code),
-        Ok(None) => Received::Nothing,
-        Err(ReceiveError::Read(error)) => Received::Failed(error.kind()),
-        Err(_) => Received::Refused,
+        Ok(Some(reply)) => Ok(Some(reply.code)),
+        Ok(None) => Ok(None),
+        Err(ReceiveError::Read(error)) => Err(error.kind()),
+        Err(_) => Err(ErrorKind::InvalidData),
     }
+}
+
+/// The outcome is the wanted one.
+fn assert_outcome(rt: &impl Abort, outcome: Received, want: Received) {
+    assert_eq!(rt; outcome, want);
 }
 
 /// What is received next is this, and these bytes are pending after it.
@@ -57,8 +58,8 @@ fn assert_received<R: Read>(
     want: Received,
     pending: &[u8],
 ) {
-    assert_eq!(rt; outcome_of(decoder.read_reply(reader)), want);
-    assert_eq!(rt; decoder.pending(), pending);
+    assert_outcome(rt, outcome_of(decoder.read_reply(reader)), want);
+    assert_bytes(rt, decoder.pending(), pending);
 }
 
 #[test]
@@ -71,12 +72,12 @@ fn a_failed_read_loses_nothing(rt: HostRuntime) {
         reads: 0,
         kind,
     };
-    let failed = Received::Failed(kind);
+    let failed = Err(kind);
     assert_received(&rt, &mut decoder, &mut reader, failed, b"22");
     assert_received(&rt, &mut decoder, &mut reader, failed, b"220\r");
-    assert_received(&rt, &mut decoder, &mut reader, Received::Reply(220), b"");
+    assert_received(&rt, &mut decoder, &mut reader, Ok(Some(220)), b"");
     assert_received(&rt, &mut decoder, &mut reader, failed, b"3");
-    assert_received(&rt, &mut decoder, &mut reader, Received::Nothing, b"33");
+    assert_received(&rt, &mut decoder, &mut reader, Ok(None), b"33");
 }
 
 #[test]
@@ -89,10 +90,10 @@ fn another_reader_goes_on_after_an_error(rt: HostRuntime) {
         reads: 0,
         kind,
     };
-    let failed = Received::Failed(kind);
+    let failed = Err(kind);
     assert_received(&rt, &mut decoder, &mut reader, failed, b"22");
     assert_received(&rt, &mut decoder, &mut reader, failed, b"220 ");
     let mut reader = b"\r\n331\r\n".as_slice();
-    let reply = Received::Reply(220);
+    let reply = Ok(Some(220));
     assert_received(&rt, &mut decoder, &mut reader, reply, b"331\r\n");
 }

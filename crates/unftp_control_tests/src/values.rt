@@ -1,4 +1,5 @@
 //! Passwords within other values.
+use crate::held::assert_held;
 use std::alloc::Global;
 use std::fmt;
 use std::fmt::Write;
@@ -58,9 +59,9 @@ fn write_password(writer: &mut Narrow, password: &Password, flags: u8) -> fmt::R
     }
 }
 
-/// A writer with room for so many bytes gets the first ones of this text, fails where there are more,
-/// and gets none after that.
-fn assert_begun(rt: &impl Abort, alloc: Global, flags: u8, room: usize, whole: &str) {
+/// Writes what is shown of PASS under these flags, with room for so many bytes: returns whether all
+/// was written, and the bytes that were.
+fn shown_in(rt: &impl Abort, alloc: Global, flags: u8, room: usize) -> (bool, Vec<u8>) {
     let mut writer = Narrow {
         held: Vec::new(alloc),
         room,
@@ -68,9 +69,16 @@ fn assert_begun(rt: &impl Abort, alloc: Global, flags: u8, room: usize, whole: &
     let command = pass(rt, alloc);
     let written = write_shown(&mut writer, &command, flags);
     drop(command);
-    assert_eq!(rt; written.is_ok(), room == whole.len());
+    (written.is_ok(), writer.held)
+}
+
+/// A writer with room for so many bytes gets the first ones of this text, fails where there are more,
+/// and gets none after that.
+fn assert_begun(rt: &impl Abort, alloc: Global, flags: u8, room: usize, whole: &str) {
+    let (is_written, held) = shown_in(rt, alloc, flags, room);
+    assert!(rt; is_written == (room == whole.len()));
     let (begun, _) = whole.as_bytes().split_at(room.min(whole.len()));
-    assert_eq!(rt; writer.held.as_slice(), begun);
+    assert_held(rt, held, begun);
 }
 
 /// This is written, whatever room the writer has.
