@@ -15,7 +15,7 @@ use unftp_control_reply::error::ControlChanError;
 use unftp_control_reply::{Reply, ReplyCode};
 
 /// The facts of an entry.
-#[derive(Debug, Drop)]
+#[derive(Drop)]
 pub struct EntryFacts {
     is_directory: bool,
     size: u64,

@@ -16,7 +16,7 @@ use unftp_control_reply::error::ControlChanError;
 use unftp_control_reply::{Reply, ReplyCode};
 
 /// The working directory, and whether QUIT came.
-#[derive(Debug, Clone, Copy)]
+#[derive(Clone, Copy)]
 pub struct Session {
     /// The working directory.
     pub directory: Directory,

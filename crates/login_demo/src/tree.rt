@@ -12,7 +12,7 @@ const README_MODIFIED: i64 = 1_709_210_096;
 const TODAY_MODIFIED: i64 = 1_767_225_600;
 
 /// A directory.
-#[derive(Debug, Clone, Copy)]
+#[derive(Clone, Copy)]
 pub enum Directory {
     /// `/`
     Root,
@@ -25,7 +25,7 @@ pub enum Directory {
 }
 
 /// A file.
-#[derive(Debug, Clone, Copy)]
+#[derive(Clone, Copy)]
 pub enum File {
     /// `/pub/readme.txt`
     Readme,
@@ -56,7 +56,7 @@ impl File {
 }
 
 /// A directory or a file.
-#[derive(Debug, Clone, Copy)]
+#[derive(Clone, Copy)]
 pub enum Entry {
     /// A directory.
     Directory(Directory),
