@@ -21,26 +21,22 @@ abbrev pub site_reply : Bytes → Bytes → FtpReply
 site_reply name arguments =
     if bytes_eq name (codes "ECHO") then CodeAndMsg 200 arguments else not_implemented
 
--- commands whose parameters, if they have any, don't matter: restarts and sums are off, and EPSV
--- reports a port that is not opened
-abbrev pub plain_reply : FtpCommand → FtpReply
-plain_reply Feat = feat_reply false false false
-plain_reply Epsv = port_reply 2121
-plain_reply Help = help_reply
-plain_reply Noop = CodeAndMsg 200 (codes "OK")
-plain_reply Quit = CodeAndMsg 221 (codes "Bye")
-plain_reply _ = not_implemented
-
--- TLS is off, and every path is that of the one file
+-- TLS, restarts and sums are off, EPSV reports a port that is not opened, and every path is that of
+-- the one file
 abbrev pub command_reply : FtpCommand → FtpReply
 command_reply (Auth protocol) = auth_reply false protocol
 command_reply (Prot param) = prot_reply false param
+command_reply Feat = feat_reply false false false
+command_reply Epsv = port_reply 2121
+command_reply Help = help_reply
 command_reply (Mode mode) = mode_reply mode
 command_reply (Opts option) = opts_reply option
 command_reply (Stru structure) = stru_reply structure
 command_reply (Mlst path) = facts_reply facts (unwrap_or path (codes "/"))
+command_reply Noop = CodeAndMsg 200 (codes "OK")
+command_reply Quit = CodeAndMsg 221 (codes "Bye")
 command_reply (Site name arguments) = site_reply name arguments
-command_reply command = plain_reply command
+command_reply _ = not_implemented
 
 -- why the parser refused a line, or else what kind of error it is
 abbrev pub refusal_text : FaultKind → FaultSource → Bytes

@@ -6,7 +6,7 @@ ghost use Rattle.unftp_control_defs.specs.FtpCommand.{Site as FtpSite};
 ghost use Rattle.unftp_control_reply.specs.ErrorMeaning.{fault_of};
 ghost use Rattle.unftp_control_reply.specs.ReplyMeaning.{reply_of};
 ghost use Rattle.unftp_control_serve.specs.EventMeaning.{event_meant};
-ghost use Rattle.demo_responses.specs.Responses.{command_reply, event_reply, not_implemented, plain_reply, responses_law};
+ghost use Rattle.demo_responses.specs.Responses.{command_reply, event_reply, not_implemented, responses_law};
 
 use std::alloc::Global;
 use unftp_control_command::Command;
@@ -84,30 +84,16 @@ fn answer_command(alloc: Global, command: Command) -> Result<Reply, ControlChanE
     match command {
         Command::Auth { protocol } => Ok(Auth::new(protocol).reply(alloc, false)?.0),
         Command::Prot { param } => Ok(Prot::new(param).reply(alloc, false)?.0),
+        Command::Feat => Feat.reply(alloc, false, false, false),
+        Command::Epsv => Epsv::new().reply(alloc, Passive::Port(PORT)),
+        Command::Help => Help.reply(alloc),
         Command::Mode { mode } => Mode::new(mode).reply(alloc),
         Command::Opts { option } => Opts::new(option).reply(alloc),
         Command::Stru { structure } => Stru::new(structure).reply(alloc),
         Command::Mlst { path } => Mlst::new(path).reply_with(alloc, "/", FACTS),
-        Command::Site { command, arguments } => answer_site(alloc, command, arguments),
-        other => {
-            let answer = answer_plain_command(alloc, &other);
-            drop(other);
-            answer
-        }
-    }
-}
-
-/// The response to a command whose parameters, if it has any, don't matter.
-fn answer_plain_command(alloc: Global, command: &Command) -> Result<Reply, ControlChanError>
-    ensures ok { IfOk result (λ reply. reply_of reply ≡ plain_reply (command_of command.now)) }
-    ensures err { IfErr result (λ error. fault_of error ≡ out_of_memory) }
-{
-    match command {
-        Command::Feat => Feat.reply(alloc, false, false, false),
-        Command::Epsv => Epsv::new().reply(alloc, Passive::Port(PORT)),
-        Command::Help => Help.reply(alloc),
         Command::Noop => Reply::new(alloc, ReplyCode::CommandOkay, "OK"),
         Command::Quit => Reply::new(alloc, ReplyCode::ClosingControlConnection, "Bye"),
+        Command::Site { command, arguments } => answer_site(alloc, command, arguments),
         _ => not_implemented(alloc),
     }
 }
