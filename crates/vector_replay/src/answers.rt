@@ -3,7 +3,7 @@ use crate::ends::End;
 use crate::shown::Quoted;
 use std::fmt::Display;
 use std::io;
-use std::io::{BufWriter, ErrorKind, Stderr, Stdout, Write};
+use std::io::{BufWriter, Stderr, Stdout, Write};
 
 /// Standard output for the answers, and standard error where marks are asked for. The first failure
 /// is kept, and then nothing more is written.
@@ -11,7 +11,7 @@ use std::io::{BufWriter, ErrorKind, Stderr, Stdout, Write};
 pub struct Answers {
     pub out: BufWriter<Stdout>,
     pub marks: Option<Stderr>,
-    failed: Option<ErrorKind>,
+    failed: io::Result<()>,
 }
 
 impl Answers {
@@ -19,16 +19,14 @@ impl Answers {
         Answers {
             out,
             marks,
-            failed: None,
+            failed: Ok(()),
         }
     }
 
     /// Keeps the first failure.
-    pub fn note(&mut self, written: io::Result<()>) {
-        if let Err(error) = written {
-            if self.failed.is_none() {
-                self.failed = Some(error.kind());
-            }
+    fn note(&mut self, written: io::Result<()>) {
+        if self.failed.is_ok() {
+            self.failed = written;
         }
     }
 
@@ -45,10 +43,19 @@ impl Answers {
         }
     }
 
-    /// Writes a line to standard error where marks are asked for.
-    fn mark(&mut self, line: &str) {
+    /// Writes what was appended to a buffer of one byte; or why nothing was, where it has no other.
+    pub fn put_appended(&mut self, failure: Option<&str>, buf: &[u8]) {
+        match (failure, buf) {
+            (None, [b'x', appended @ ..]) => self.put(Quoted(appended)),
+            (Some(failure), [b'x']) => self.put(failure),
+            _ => self.put("changed"),
+        }
+    }
+
+    /// Writes a part of a mark where marks are asked for.
+    fn mark(&mut self, part: impl Display + Drop) {
         if let Some(marks) = &mut self.marks {
-            let written = marks.write_all(line.as_bytes());
+            let written = write!(marks, "{part}");
             self.note(written);
         }
     }
@@ -70,23 +77,19 @@ impl Answers {
 
     /// A session ran out of memory, whose calls ended so and have written this, and is made again.
     pub fn out_of_memory_after(&mut self, ends: &[End], written: &[u8]) {
-        let Some(marks) = &mut self.marks else {
-            return;
-        };
-        let mut told = write!(marks, "out of memory {}", Quoted(written));
+        self.mark(format_args!("out of memory {}", Quoted(written)));
         for end in ends {
-            told = told.and(write!(marks, " | {end}"));
+            self.mark(format_args!(" | {end}"));
         }
-        told = told.and(marks.write_all(b"\n"));
-        self.note(told);
+        self.mark("\n");
     }
 
     /// Ends an answer; the first failure so far is returned.
     pub fn end_line(&mut self) -> io::Result<()> {
         self.put("\n");
-        match self.failed {
-            Some(kind) => Err(kind.into()),
-            None => Ok(()),
+        match &self.failed {
+            Ok(()) => Ok(()),
+            Err(error) => Err(error.kind().into()),
         }
     }
 
@@ -96,15 +99,14 @@ impl Answers {
     }
 }
 
-/// What the call returns; where it fails, which only means that memory ran out, it is made again.
+/// What the call makes; where it fails, which only means that memory ran out, it is made again.
 macro_rules! once_more {
     ($answers:expr, $call:expr) => {
-        match $call {
-            Ok(made) => Ok(made),
-            Err(error) => {
-                drop(error);
+        match $call.ok() {
+            Some(made) => Some(made),
+            None => {
                 $answers.out_of_memory();
-                $call
+                $call.ok()
             }
         }
     };

@@ -1,17 +1,17 @@
 //! Calls that make the replies to single commands.
 use crate::answers::{Answers, once_more};
-use crate::lines::parse_line;
 use crate::replies::append_reply;
 use crate::shown::Quoted;
-use crate::words::{Words, no_case, or_no_case, read_number, read_text};
+use crate::words::{CaseError, Words, read_number, read_text};
 use jiff::Timestamp;
 use std::alloc::Global;
-use std::io;
 use unftp_control_command::Command;
+use unftp_control_command::password::Password;
 use unftp_control_commands::{
     Auth, Epsv, Feat, Help, Metadata, Mlst, Mode, Opts, Passive, Prot, SessionChange, Stru,
     format_facts, make_epsv_reply, quoted_path, single_line_text,
 };
+use unftp_control_line_parser::parse;
 use unftp_control_reply::Reply;
 use unftp_control_reply::error::ControlChanError;
 
@@ -20,24 +20,23 @@ const ROOM: usize = 1024;
 
 /// Writes the bytes of a reply.
 fn put_reply(reply: &Reply, buf: &mut Vec<u8>, answers: &mut Answers) {
-    let is_appended = append_reply(reply, buf, answers);
-    answers.put_unless(is_appended, "failed ");
+    append_reply(reply, buf, answers);
     answers.put(Quoted(buf.as_slice()));
 }
 
-/// Writes the bytes of a reply that was made.
-fn put_made(made: Result<Reply, ControlChanError>, buf: &mut Vec<u8>, answers: &mut Answers) {
+/// Writes the bytes of a reply, if it was made.
+fn put_made(made: Option<Reply>, buf: &mut Vec<u8>, answers: &mut Answers) {
     match made {
-        Ok(reply) => {
+        Some(reply) => {
             put_reply(&reply, buf, answers);
             drop(reply);
         }
-        Err(_) => answers.put("failed"),
+        None => answers.put("failed"),
     }
 }
 
 /// A file of which this is known.
-#[derive(Drop)]
+#[derive(Clone, Copy)]
 struct File {
     is_dir: bool,
     size: u64,
@@ -77,23 +76,18 @@ impl Metadata for File {
 }
 
 /// The instant so many nanoseconds after 1970, or `none`.
-fn read_instant(word: &str) -> io::Result<Option<Timestamp>> {
+fn read_instant(word: &str) -> Result<Option<Timestamp>, CaseError> {
     if word == "none" {
         return Ok(None);
     }
     match Timestamp::from_nanosecond(read_number(word)?) {
         Ok(instant) => Ok(Some(instant)),
-        Err(_) => Err(no_case()),
+        Err(_) => Err(CaseError::NoCase),
     }
 }
 
-/// The file of this kind, whose size, instant, user and group are the next words.
-fn read_file(kind: &str, words: &mut Words<'_>) -> io::Result<File> {
-    let is_dir = match kind {
-        "file" => false,
-        "dir" => true,
-        _ => return Err(no_case()),
-    };
+/// The file whose size, instant, user and group are the next words.
+fn read_file(is_dir: bool, words: &mut Words<'_>) -> Result<File, CaseError> {
     Ok(File {
         is_dir,
         size: words.number()?,
@@ -111,7 +105,9 @@ struct Settings {
     site_md5: bool,
     passive: Passive,
     cwd: String,
-    found: Result<File, String>,
+    /// What was found, or else the fault.
+    found: Option<File>,
+    fault: String,
 }
 
 impl Settings {
@@ -123,38 +119,53 @@ impl Settings {
             site_md5: false,
             passive: Passive::Prebound,
             cwd: String::new(alloc),
-            found: Err(String::new(alloc)),
+            found: None,
+            fault: String::new(alloc),
         }
     }
 
     /// Takes the setting that a word names.
-    fn take(&mut self, alloc: Global, word: &str, words: &mut Words<'_>) -> io::Result<()> {
+    fn take(&mut self, alloc: Global, word: &str, words: &mut Words<'_>) -> Result<(), CaseError> {
         match word {
             "tls" => self.tls = true,
             "restart" => self.restart = true,
             "site_md5" => self.site_md5 = true,
             "prebound" => self.passive = Passive::Prebound,
-            word => return self.take_value(alloc, word, words),
+            "file" => self.found = Some(read_file(false, words)?),
+            "dir" => self.found = Some(read_file(true, words)?),
+            word => {
+                let (name, value) = word.split_once('=').ok_or(CaseError::NoCase)?;
+                self.take_value(alloc, name, value)?;
+            }
         }
         Ok(())
     }
 
-    /// Takes the setting that a word names with its value.
-    fn take_value(&mut self, alloc: Global, word: &str, words: &mut Words<'_>) -> io::Result<()> {
-        if let Some(port) = word.strip_prefix("port=") {
-            self.passive = Passive::Port(read_number(port)?);
-        } else if let Some(path) = word.strip_prefix("cwd=") {
-            self.cwd = read_text(alloc, path)?;
-        } else if let Some(fault) = word.strip_prefix("fault=") {
-            self.found = Err(read_text(alloc, fault)?);
-        } else {
-            self.found = Ok(read_file(word, words)?);
+    /// Takes the setting that has this name and value.
+    fn take_value(&mut self, alloc: Global, name: &str, value: &str) -> Result<(), CaseError> {
+        if name == "port" {
+            self.passive = Passive::Port(read_number(value)?);
+            return Ok(());
         }
+        let text = self.text(name)?;
+        *text = read_text(alloc, value)?;
         Ok(())
+    }
+
+    /// The text that has this name.
+    fn text(&mut self, name: &str) -> Result<&mut String, CaseError> {
+        match name {
+            "cwd" => Ok(&mut self.cwd),
+            "fault" => {
+                self.found = None;
+                Ok(&mut self.fault)
+            }
+            _ => Err(CaseError::NoCase),
+        }
     }
 
     /// The settings that the next words name.
-    fn read(alloc: Global, words: &mut Words<'_>) -> io::Result<Settings> {
+    fn read(alloc: Global, words: &mut Words<'_>) -> Result<Settings, CaseError> {
         let mut settings = Settings::new(alloc);
         for _ in 0..words.most() {
             let Some(word) = words.next() else {
@@ -181,15 +192,15 @@ enum Request {
 }
 
 /// A reply, and what the session has to do after it where the command may change it.
-type Made = Result<(Reply, Option<SessionChange>), ControlChanError>;
+type Replied = Result<(Reply, Option<SessionChange>), ControlChanError>;
 
 /// A reply to a command that doesn't change the session.
-fn unchanging(made: Result<Reply, ControlChanError>) -> Made {
+fn unchanging(made: Result<Reply, ControlChanError>) -> Replied {
     Ok((made?, None))
 }
 
 /// A reply to a command that may change it.
-fn changing(made: Result<(Reply, SessionChange), ControlChanError>) -> Made {
+fn changing(made: Result<(Reply, SessionChange), ControlChanError>) -> Replied {
     let (reply, change) = made?;
     Ok((reply, Some(change)))
 }
@@ -200,24 +211,40 @@ impl Request {
         match command {
             Command::Auth { protocol } => Some(Request::Auth(Auth::new(protocol))),
             Command::Prot { param } => Some(Request::Prot(Prot::new(param))),
-            Command::Epsv => Some(Request::Epsv(Epsv::new())),
-            Command::Feat => Some(Request::Feat(Feat)),
-            Command::Help => Some(Request::Help(Help)),
             Command::Mlst { path } => Some(Request::Mlst(Mlst::new(path))),
             Command::Mode { mode } => Some(Request::Mode(Mode::new(mode))),
             Command::Opts { option } => Some(Request::Opts(Opts::new(option))),
             Command::Stru { structure } => Some(Request::Stru(Stru::new(structure))),
+            command => {
+                let request = Request::without_field(&command);
+                drop(command);
+                request
+            }
+        }
+    }
+
+    /// The request that a command without a field is, if any.
+    fn without_field(command: &Command) -> Option<Request> {
+        match command {
+            Command::Epsv => Some(Request::Epsv(Epsv::new())),
+            Command::Feat => Some(Request::Feat(Feat)),
+            Command::Help => Some(Request::Help(Help)),
             _ => None,
         }
     }
 
     /// The reply of a server with these settings.
-    fn reply(&self, alloc: Global, settings: &Settings) -> Made {
+    fn reply(&self, alloc: Global, settings: &Settings) -> Replied {
         match self {
             Request::Auth(auth) => changing(auth.reply(alloc, settings.tls)),
             Request::Prot(prot) => changing(prot.reply(alloc, settings.tls)),
             Request::Epsv(epsv) => unchanging(epsv.reply(alloc, settings.passive)),
-            Request::Feat(feat) => unchanging(settings.list_features(alloc, feat)),
+            Request::Feat(feat) => unchanging(feat.reply(
+                alloc,
+                settings.tls,
+                settings.restart,
+                settings.site_md5,
+            )),
             Request::Help(help) => unchanging(help.reply(alloc)),
             Request::Mlst(mlst) => unchanging(settings.list(alloc, mlst)),
             Request::Mode(mode) => unchanging(mode.reply(alloc)),
@@ -228,17 +255,9 @@ impl Request {
 }
 
 impl Settings {
-    /// The reply to FEAT.
-    fn list_features(&self, alloc: Global, feat: &Feat) -> Result<Reply, ControlChanError> {
-        feat.reply(alloc, self.tls, self.restart, self.site_md5)
-    }
-
     /// The reply to MLST.
     fn list(&self, alloc: Global, mlst: &Mlst) -> Result<Reply, ControlChanError> {
-        let found = match &self.found {
-            Ok(file) => Ok(file),
-            Err(fault) => Err(fault.as_str()),
-        };
+        let found = self.found.as_ref().ok_or(self.fault.as_str());
         mlst.reply(alloc, self.cwd.as_str(), found)
     }
 }
@@ -252,31 +271,37 @@ fn put_reply_to(
     answers: &mut Answers,
 ) {
     match once_more!(answers, request.reply(alloc, settings)) {
-        Ok((reply, change)) => {
+        Some((reply, change)) => {
             put_reply(&reply, buf, answers);
             drop(reply);
             if let Some(change) = change {
                 answers.put(format_args!(" {change:?}"));
             }
         }
-        Err(_) => answers.put("failed"),
+        None => answers.put("failed"),
     }
 }
 
 /// The request of the line that the next word has.
-fn read_request(alloc: Global, words: &mut Words<'_>) -> io::Result<Request> {
+fn read_request(alloc: Global, words: &mut Words<'_>) -> Result<Request, CaseError> {
     let line = words.bytes(alloc)?;
-    or_no_case(Request::of(parse_line(alloc, line.as_slice())?))
+    match parse(alloc, line.as_slice()) {
+        Ok(command) => Request::of(command).ok_or(CaseError::NoCase),
+        Err(_) => Err(CaseError::NoCase),
+    }
 }
 
 /// `reply LINE SETTING..`
-pub fn answer_reply(alloc: Global, words: &mut Words<'_>, answers: &mut Answers) -> io::Result<()> {
+pub fn answer_reply(
+    alloc: Global,
+    words: &mut Words<'_>,
+    answers: &mut Answers,
+) -> Result<(), CaseError> {
     let mut buf = Vec::with_capacity(alloc, ROOM)?;
     let request = read_request(alloc, words)?;
     let settings = Settings::read(alloc, words)?;
     answers.begin();
     put_reply_to(alloc, &request, &settings, &mut buf, answers);
-    answers.end();
     Ok(())
 }
 
@@ -316,34 +341,36 @@ pub fn answer_reply_with(
     is_help: bool,
     words: &mut Words<'_>,
     answers: &mut Answers,
-) -> io::Result<()> {
+) -> Result<(), CaseError> {
     let mut buf = Vec::with_capacity(alloc, ROOM)?;
     let texts = words.texts(alloc)?;
     if texts.len() > MOST_LINES {
-        return Err(no_case());
+        return Err(CaseError::NoCase);
     }
     answers.begin();
     put_reply_with(alloc, is_help, texts.as_slice(), &mut buf, answers);
-    answers.end();
     Ok(())
 }
 
 /// `epsv PORT`
-pub fn answer_epsv(alloc: Global, words: &mut Words<'_>, answers: &mut Answers) -> io::Result<()> {
+pub fn answer_epsv(
+    alloc: Global,
+    words: &mut Words<'_>,
+    answers: &mut Answers,
+) -> Result<(), CaseError> {
     let mut buf = Vec::with_capacity(alloc, ROOM)?;
     let port = read_number(words.last()?)?;
     answers.begin();
     let made = once_more!(answers, make_epsv_reply(alloc, port));
     put_made(made, &mut buf, answers);
-    answers.end();
     Ok(())
 }
 
-/// Writes a text that was made.
-fn put_text(made: Result<String, ControlChanError>, answers: &mut Answers) {
+/// Writes a text, if it was made.
+fn put_text(made: Option<String>, answers: &mut Answers) {
     match made {
-        Ok(text) => answers.put(Quoted(text.as_bytes())),
-        Err(_) => answers.put("failed"),
+        Some(text) => answers.put(Quoted(text.as_bytes())),
+        None => answers.put("failed"),
     }
 }
 
@@ -354,41 +381,52 @@ fn put_facts(alloc: Global, file: &File, answers: &mut Answers) {
 }
 
 /// `facts KIND SIZE INSTANT USER GROUP`
-pub fn answer_facts(alloc: Global, words: &mut Words<'_>, answers: &mut Answers) -> io::Result<()> {
+pub fn answer_facts(
+    alloc: Global,
+    words: &mut Words<'_>,
+    answers: &mut Answers,
+) -> Result<(), CaseError> {
     let settings = Settings::read(alloc, words)?;
-    let Ok(file) = &settings.found else {
-        return Err(no_case());
-    };
+    let file = settings.found.ok_or(CaseError::NoCase)?;
     answers.begin();
-    put_facts(alloc, file, answers);
-    answers.end();
+    put_facts(alloc, &file, answers);
     Ok(())
 }
 
-/// `quoted_path PATH`
-pub fn answer_quoted_path(
-    alloc: Global,
-    words: &mut Words<'_>,
-    answers: &mut Answers,
-) -> io::Result<()> {
-    let path = read_text(alloc, words.last()?)?;
-    answers.begin();
-    let made = once_more!(answers, quoted_path(alloc, path.as_str()));
-    put_text(made, answers);
-    answers.end();
-    Ok(())
+/// Writes the bytes of the password that is made of a text.
+fn put_password(alloc: Global, text: &str, answers: &mut Answers) {
+    match once_more!(answers, Password::from_text(alloc, text)) {
+        Some(password) => answers.put(Quoted(password.as_ref())),
+        None => answers.put("failed"),
+    }
 }
 
-/// `single_line TEXT`
-pub fn answer_single_line(
+/// What is made of a text.
+#[derive(Clone, Copy)]
+pub enum Made {
+    Password,
+    QuotedPath,
+    SingleLine,
+}
+
+/// Writes what is made of a text.
+fn put_of_text(alloc: Global, made: Made, text: &str, answers: &mut Answers) {
+    match made {
+        Made::Password => put_password(alloc, text, answers),
+        Made::QuotedPath => put_text(once_more!(answers, quoted_path(alloc, text)), answers),
+        Made::SingleLine => put_text(once_more!(answers, single_line_text(alloc, text)), answers),
+    }
+}
+
+/// `password_from_text TEXT`, `quoted_path PATH` or `single_line TEXT`
+pub fn answer_of_text(
     alloc: Global,
+    made: Made,
     words: &mut Words<'_>,
     answers: &mut Answers,
-) -> io::Result<()> {
-    let text = read_text(alloc, words.last()?)?;
+) -> Result<(), CaseError> {
+    let text = words.last_text(alloc)?;
     answers.begin();
-    let made = once_more!(answers, single_line_text(alloc, text.as_str()));
-    put_text(made, answers);
-    answers.end();
+    put_of_text(alloc, made, text.as_str(), answers);
     Ok(())
 }

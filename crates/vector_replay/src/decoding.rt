@@ -1,11 +1,10 @@
 //! Calls that decode lines from bytes that come in pieces.
-ghost use Rattle.std.specs.Prelude.{◌≤◌, ◌+◌, IfSome, vec_len};
+ghost use Rattle.std.specs.Prelude.{◌≤◌, ◌+◌, vec_len};
 
 use crate::answers::Answers;
 use crate::shown::Shown;
-use crate::words::{Words, no_case};
-use std::alloc::{AllocError, Global};
-use std::io;
+use crate::words::{CaseError, Words};
+use std::alloc::Global;
 use unftp_control_codecs::FtpCodec;
 use unftp_control_command::Command;
 use unftp_control_reply::error::{ControlChanError, ControlChanErrorKind, Source};
@@ -80,21 +79,12 @@ impl Decoding {
         self.codec.decode(alloc, &mut self.buf)
     }
 
-    /// Puts the piece at the end of the buffer.
-    fn push(&mut self, piece: &[u8]) -> Result<(), AllocError> {
-        self.buf.extend_from_slice(piece)
-    }
-
-    /// Writes what `decode` returns; whether there was a line.
-    fn put_command(&mut self, alloc: Global, answers: &mut Answers) -> bool {
-        put_decoded(self.next_command(alloc, answers), answers)
-    }
-
     /// Writes what `decode` makes of each line that is complete, and how many bytes are left.
     fn put_commands(&mut self, alloc: Global, answers: &mut Answers) {
         // a line has at least one byte, so the last call finds none
         for _ in 0..=self.buf.len() {
-            if !self.put_command(alloc, answers) {
+            let decoded = self.next_command(alloc, answers);
+            if !put_decoded(decoded, answers) {
                 break;
             }
             answers.put(" | ");
@@ -127,7 +117,7 @@ fn room_for(pieces: &[Vec<u8>]) -> usize {
 fn put_pieces(alloc: Global, mut decoding: Decoding, pieces: &[Vec<u8>], answers: &mut Answers) {
     let mut separator = "";
     for piece in pieces {
-        if decoding.push(piece.as_slice()).is_err() {
+        if decoding.buf.extend_from_slice(piece.as_slice()).is_err() {
             answers.put("out of memory");
             return;
         }
@@ -142,7 +132,7 @@ pub fn answer_decode(
     alloc: Global,
     words: &mut Words<'_>,
     answers: &mut Answers,
-) -> io::Result<()> {
+) -> Result<(), CaseError> {
     let codec = match words.limit()? {
         Some(limit) => FtpCodec::with_limit(limit),
         None => FtpCodec::new(),
@@ -151,7 +141,6 @@ pub fn answer_decode(
     let buf = Vec::with_capacity(alloc, room_for(pieces.as_slice()))?;
     answers.begin();
     put_pieces(alloc, Decoding { codec, buf }, pieces.as_slice(), answers);
-    answers.end();
     Ok(())
 }
 
@@ -203,18 +192,21 @@ impl Slicing {
     }
 }
 
-/// A codec that begins at this scan offset of the first piece, which goes into the buffer.
-fn slicing_at(limit: Option<usize>, place: usize, bytes: Vec<u8>) -> io::Result<Slicing>
-    requires { IfSome limit (λ limit. 1 ≤ limit) }
-{
-    if place > bytes.len() {
-        return Err(no_case());
+impl Slicing {
+    /// A codec with this limit, and its scan offset in the first piece, which goes into the buffer.
+    fn read(alloc: Global, words: &mut Words<'_>) -> Result<Slicing, CaseError> {
+        let limit = words.limit()?;
+        let place = words.number()?;
+        let bytes = words.bytes(alloc)?;
+        if place > bytes.len() {
+            return Err(CaseError::NoCase);
+        }
+        Ok(Slicing {
+            codec: FtpCodec::resume(limit, place, false),
+            bytes,
+            start: 0,
+        })
     }
-    Ok(Slicing {
-        codec: FtpCodec::resume(limit, place, false),
-        bytes,
-        start: 0,
-    })
 }
 
 /// Writes what is decoded of the first piece, and of each later one at the end of what is left.
@@ -235,15 +227,11 @@ pub fn answer_decode_slice(
     alloc: Global,
     words: &mut Words<'_>,
     answers: &mut Answers,
-) -> io::Result<()> {
-    let limit = words.limit()?;
-    let place = words.number()?;
-    let mut bytes = words.bytes(alloc)?;
+) -> Result<(), CaseError> {
+    let mut slicing = Slicing::read(alloc, words)?;
     let later = words.pieces(alloc)?;
-    bytes.reserve(room_for(later.as_slice()))?;
-    let slicing = slicing_at(limit, place, bytes)?;
+    slicing.bytes.reserve(room_for(later.as_slice()))?;
     answers.begin();
     put_slices(alloc, slicing, later.as_slice(), answers);
-    answers.end();
     Ok(())
 }

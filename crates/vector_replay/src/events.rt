@@ -3,9 +3,8 @@ use crate::answers::Answers;
 use crate::decoding::put_refusal;
 use crate::shown::{Quoted, Shown};
 use crate::steps::{Action, Step, read_steps};
-use crate::words::Words;
+use crate::words::{CaseError, Words};
 use std::alloc::{AllocError, Global};
-use std::io;
 use unftp_control_serve::{Event, EventDecoder};
 
 /// What `next_event` returns; once more where memory ran out.
@@ -106,7 +105,7 @@ pub fn answer_events(
     has_lines: bool,
     words: &mut Words<'_>,
     answers: &mut Answers,
-) -> io::Result<()> {
+) -> Result<(), CaseError> {
     let mut decoder = match words.limit()? {
         Some(limit) => EventDecoder::with_limit(alloc, limit),
         None => EventDecoder::new(alloc),
@@ -114,6 +113,5 @@ pub fn answer_events(
     let steps = read_steps(alloc, words)?;
     answers.begin();
     make_steps(&mut decoder, has_lines, steps.as_slice(), answers);
-    answers.end();
     Ok(())
 }

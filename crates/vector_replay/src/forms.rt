@@ -23,63 +23,57 @@ impl Forms {
         })
     }
 
-    /// Whether the other text is the plain one; it is emptied.
-    fn is_alike(&mut self, written: Result<(), AllocError>) -> bool {
-        let is_alike = written.is_ok() && self.other == self.plain;
-        self.other.clear();
-        is_alike
-    }
-
-    /// Writes the plain text, and whether those under flags are alike.
-    fn put(&mut self, written: Result<(), AllocError>, is_alike: bool, answers: &mut Answers) {
-        if written.is_ok() {
+    /// Writes the plain text.
+    fn put_plain(&mut self, plain: impl Display + Drop, answers: &mut Answers) {
+        self.plain.clear();
+        if write!(self.plain, "{plain}").is_ok() {
             answers.put(Quoted(self.plain.as_bytes()));
         }
-        answers.put_unless(!is_alike, " alike");
-        self.plain.clear();
+    }
+
+    /// Keeps another text; whether there was room for it.
+    fn keep(&mut self, other: impl Display + Drop) -> bool {
+        self.other.clear();
+        write!(self.other, "{other}").is_ok()
+    }
+
+    /// Whether the other text is the plain one.
+    fn is_alike(&mut self, other: impl Display + Drop) -> bool {
+        self.keep(other) && self.other == self.plain
+    }
+
+    /// Writes the other text where it is not the plain one.
+    fn put_unlike(&mut self, other: impl Display + Drop, answers: &mut Answers) {
+        if self.keep(other) && self.other != self.plain {
+            answers.put(format_args!(" {}", Quoted(self.other.as_bytes())));
+        }
     }
 
     /// Writes what Display writes, and ` alike` where it is so under all flags.
     pub fn display(&mut self, value: &(impl Display + Drop), answers: &mut Answers) {
-        let written = write!(self.plain, "{value}");
-        let other = write!(self.other, "{value:#}");
-        let is_alternate = self.is_alike(other);
-        let other = write!(self.other, "{value:>60}");
-        let is_padded = self.is_alike(other);
-        let other = write!(self.other, "{value:.3}");
-        let is_cut = self.is_alike(other);
-        self.put(written, is_alternate && is_padded && is_cut, answers);
+        self.put_plain(format_args!("{value}"), answers);
+        let is_alternate = self.is_alike(format_args!("{value:#}"));
+        let is_padded = self.is_alike(format_args!("{value:>60}"));
+        let is_cut = self.is_alike(format_args!("{value:.3}"));
+        answers.put_unless(!(is_alternate && is_padded && is_cut), " alike");
     }
 
     /// Writes what Debug writes, and ` alike` where it is so under all flags.
     pub fn debug(&mut self, value: &(impl Debug + Drop), answers: &mut Answers) {
-        let written = write!(self.plain, "{value:?}");
-        let other = write!(self.other, "{value:#?}");
-        let is_alternate = self.is_alike(other);
-        let other = write!(self.other, "{value:>60?}");
-        let is_padded = self.is_alike(other);
-        let other = write!(self.other, "{value:.3?}");
-        let is_cut = self.is_alike(other);
-        self.put(written, is_alternate && is_padded && is_cut, answers);
+        self.put_plain(format_args!("{value:?}"), answers);
+        let is_alternate = self.is_alike(format_args!("{value:#?}"));
+        let is_padded = self.is_alike(format_args!("{value:>60?}"));
+        let is_cut = self.is_alike(format_args!("{value:.3?}"));
+        answers.put_unless(!(is_alternate && is_padded && is_cut), " alike");
     }
 
     /// Writes what Debug writes, ` alike` where it is so under a width and a precision, and then what
     /// it writes under `#`, where that is another text.
     pub fn debug_lines(&mut self, value: &(impl Debug + Drop), answers: &mut Answers) {
-        let written = write!(self.plain, "{value:?}");
-        if written.is_ok() {
-            answers.put(Quoted(self.plain.as_bytes()));
-        }
-        let other = write!(self.other, "{value:>60?}");
-        let is_padded = self.is_alike(other);
-        let other = write!(self.other, "{value:.3?}");
-        let is_cut = self.is_alike(other);
+        self.put_plain(format_args!("{value:?}"), answers);
+        let is_padded = self.is_alike(format_args!("{value:>60?}"));
+        let is_cut = self.is_alike(format_args!("{value:.3?}"));
         answers.put_unless(!(is_padded && is_cut), " alike");
-        let other = write!(self.other, "{value:#?}");
-        if other.is_ok() && self.other != self.plain {
-            answers.put(format_args!(" {}", Quoted(self.other.as_bytes())));
-        }
-        self.plain.clear();
-        self.other.clear();
+        self.put_unlike(format_args!("{value:#?}"), answers);
     }
 }

@@ -170,7 +170,7 @@ impl Handler for Silent {
 
     fn handle(&mut self, _alloc: Global, event: Event) -> Result<Reply, ControlChanError> {
         self.taken = self.taken.saturating_add(1);
-        self.last = Some(event);
+        drop(self.last.replace(event));
         Ok(Reply::None)
     }
 

@@ -1,11 +1,11 @@
 //! Calls on lines and on what they are read as.
 use crate::answers::{Answers, once_more};
 use crate::forms::Forms;
+use crate::reading::put_fronts;
 use crate::shown::{Quoted, Shown};
-use crate::words::{Words, no_case, read_bytes, read_text};
-use bytes::Bytes;
+use crate::words::{CaseError, Words, read_bytes, read_shared};
+use crate::writing::put_canonical;
 use std::alloc::Global;
-use std::io;
 use unftp_control_command::Command;
 use unftp_control_command::password::Password;
 use unftp_control_line_parser::{ParseError, ParseErrorKind, is_verb, parse};
@@ -35,35 +35,48 @@ pub fn put_refused(error: &ParseError, answers: &mut Answers) {
     answers.put(format_args!("err {kind:?}"));
 }
 
-/// The command that a line of a case is read as.
-pub fn parse_line(alloc: Global, line: &[u8]) -> io::Result<Command> {
-    match parse(alloc, line) {
-        Ok(command) => Ok(command),
-        Err(_) => Err(no_case()),
-    }
-}
-
-/// `parse LINE`
-pub fn answer_parse(alloc: Global, words: &mut Words<'_>, answers: &mut Answers) -> io::Result<()> {
-    let line = read_bytes(alloc, words.last()?)?;
-    answers.begin();
-    match read_line(alloc, line.as_slice(), answers) {
+/// Writes what the line is read as.
+fn put_parsed(alloc: Global, line: &[u8], answers: &mut Answers) {
+    match read_line(alloc, line, answers) {
         Ok(command) => {
             answers.put(format_args!("ok {}", Shown(&command)));
             drop(command);
         }
         Err(error) => put_refused(&error, answers),
     }
-    answers.end();
+}
+
+/// A call that is given bytes and nothing else.
+#[derive(Clone, Copy)]
+pub enum BytesCall {
+    Parse,
+    Canonical,
+    Read,
+}
+
+/// `parse LINE`, `canonical LINE` or `read BYTES`
+pub fn answer_bytes(
+    alloc: Global,
+    call: BytesCall,
+    words: &mut Words<'_>,
+    answers: &mut Answers,
+) -> Result<(), CaseError> {
+    let bytes = words.last_bytes(alloc)?;
+    answers.begin();
+    match call {
+        BytesCall::Parse => put_parsed(alloc, bytes.as_slice(), answers),
+        BytesCall::Canonical => put_canonical(alloc, bytes.as_slice(), answers),
+        BytesCall::Read => put_fronts(alloc, bytes.as_slice(), answers),
+    }
     Ok(())
 }
 
 /// Writes the text of a clone of the command after that is gone.
 fn put_clone(alloc: Global, command: Command, forms: &mut Forms, answers: &mut Answers) {
     let cloned = once_more!(answers, command.clone(alloc));
-    let is_same = matches!(&cloned, Ok(copy) if *copy == command);
+    let is_same = matches!(&cloned, Some(copy) if *copy == command);
     drop(command);
-    if let Ok(copy) = &cloned {
+    if let Some(copy) = &cloned {
         forms.display(copy, answers);
     }
     drop(cloned);
@@ -75,28 +88,34 @@ pub fn answer_display(
     alloc: Global,
     words: &mut Words<'_>,
     answers: &mut Answers,
-) -> io::Result<()> {
+) -> Result<(), CaseError> {
     let mut forms = Forms::reserved(alloc)?;
-    let line = read_bytes(alloc, words.last()?)?;
-    let command = parse_line(alloc, line.as_slice())?;
+    let line = words.last_bytes(alloc)?;
+    let Ok(command) = parse(alloc, line.as_slice()) else {
+        return Err(CaseError::NoCase);
+    };
     answers.begin();
     put_clone(alloc, command, &mut forms, answers);
-    answers.end();
     Ok(())
 }
 
 /// Writes the texts and the bytes of a clone of the password after that is gone.
 fn put_password(password: Password, forms: &mut Forms, answers: &mut Answers) {
     let cloned = once_more!(answers, password.clone());
-    let is_same = matches!(&cloned, Ok(copy) if *copy == password);
+    let is_same = matches!(&cloned, Some(copy) if *copy == password);
     drop(password);
-    if let Ok(copy) = &cloned {
-        forms.display(copy, answers);
-        answers.put(" ");
-        forms.debug(copy, answers);
-        answers.put(format_args!(" bytes={}", Quoted(copy.as_ref())));
+    if let Some(copy) = &cloned {
+        put_password_texts(copy, forms, answers);
     }
     answers.put_unless(is_same, " unequal");
+}
+
+/// Writes the texts and the bytes of a password.
+fn put_password_texts(password: &Password, forms: &mut Forms, answers: &mut Answers) {
+    forms.display(password, answers);
+    answers.put(" ");
+    forms.debug(password, answers);
+    answers.put(format_args!(" bytes={}", Quoted(password.as_ref())));
 }
 
 /// `password BYTES`
@@ -104,29 +123,22 @@ pub fn answer_password(
     alloc: Global,
     words: &mut Words<'_>,
     answers: &mut Answers,
-) -> io::Result<()> {
-    let bytes = Bytes::from_vec(read_bytes(alloc, words.last()?)?)?;
+) -> Result<(), CaseError> {
+    let bytes = read_shared(alloc, words.last()?)?;
     let mut forms = Forms::reserved(alloc)?;
     answers.begin();
     put_password(Password::new(bytes), &mut forms, answers);
-    answers.end();
     Ok(())
 }
 
-/// `password_from_text TEXT`
-pub fn answer_password_from_text(
-    alloc: Global,
-    words: &mut Words<'_>,
-    answers: &mut Answers,
-) -> io::Result<()> {
-    let text = read_text(alloc, words.last()?)?;
-    answers.begin();
-    match once_more!(answers, Password::from_text(alloc, text.as_str())) {
-        Ok(password) => answers.put(Quoted(password.as_ref())),
-        Err(_) => answers.put("failed"),
+/// Writes whether each word is a verb.
+fn put_verbs(words: &[Vec<u8>], answers: &mut Answers) {
+    let mut separator = "";
+    for word in words {
+        let answer = is_verb(word.as_slice());
+        answers.put(format_args!("{separator}{answer}"));
+        separator = " ";
     }
-    answers.end();
-    Ok(())
 }
 
 /// `is_verb WORD..`
@@ -134,15 +146,9 @@ pub fn answer_is_verb(
     alloc: Global,
     words: &mut Words<'_>,
     answers: &mut Answers,
-) -> io::Result<()> {
+) -> Result<(), CaseError> {
     let words = words.pieces(alloc)?;
     answers.begin();
-    let mut separator = "";
-    for word in &words {
-        let answer = is_verb(word.as_slice());
-        answers.put(format_args!("{separator}{answer}"));
-        separator = " ";
-    }
-    answers.end();
+    put_verbs(words.as_slice(), answers);
     Ok(())
 }

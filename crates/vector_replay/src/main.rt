@@ -24,12 +24,14 @@ mod words;
 mod writing;
 
 use answers::Answers;
+use commands::Made;
+use lines::BytesCall;
 use sessions::Call;
 use std::alloc::Global;
 use std::io::{BufRead, BufReader, BufWriter};
 use std::process::ExitCode;
 use std::{env, io};
-use words::{Words, no_case};
+use words::{CaseError, Words};
 
 /// Answers a call on lines and commands, or one of another subject.
 fn answer_call(
@@ -37,15 +39,14 @@ fn answer_call(
     call: &str,
     words: &mut Words<'_>,
     answers: &mut Answers,
-) -> io::Result<()> {
+) -> Result<(), CaseError> {
     match call {
-        "parse" => lines::answer_parse(alloc, words, answers),
+        "parse" => lines::answer_bytes(alloc, BytesCall::Parse, words, answers),
         "display" => lines::answer_display(alloc, words, answers),
         "password" => lines::answer_password(alloc, words, answers),
-        "password_from_text" => lines::answer_password_from_text(alloc, words, answers),
         "is_verb" => lines::answer_is_verb(alloc, words, answers),
         "write" => writing::answer_write(alloc, words, answers),
-        "canonical" => writing::answer_canonical(alloc, words, answers),
+        "canonical" => lines::answer_bytes(alloc, BytesCall::Canonical, words, answers),
         "forward" => writing::answer_forward(alloc, words, answers),
         "decode" => decoding::answer_decode(alloc, words, answers),
         "decode_slice" => decoding::answer_decode_slice(alloc, words, answers),
@@ -63,13 +64,13 @@ fn answer_reply_call(
     call: &str,
     words: &mut Words<'_>,
     answers: &mut Answers,
-) -> io::Result<()> {
+) -> Result<(), CaseError> {
     match call {
         "encode" => replies::answer_encode(alloc, words, answers),
         "lines" => replies::answer_lines(alloc, words, answers),
         "says" => replies::answer_says(alloc, words, answers),
         "code" => replies::answer_code(words, answers),
-        "read" => reading::answer_read(alloc, words, answers),
+        "read" => lines::answer_bytes(alloc, BytesCall::Read, words, answers),
         "receive" => reading::answer_receive(alloc, false, words, answers),
         "receive_from" => reading::answer_receive(alloc, true, words, answers),
         "reply" => commands::answer_reply(alloc, words, answers),
@@ -85,19 +86,20 @@ fn answer_text_call(
     call: &str,
     words: &mut Words<'_>,
     answers: &mut Answers,
-) -> io::Result<()> {
+) -> Result<(), CaseError> {
     match call {
         "epsv" => commands::answer_epsv(alloc, words, answers),
         "facts" => commands::answer_facts(alloc, words, answers),
-        "quoted_path" => commands::answer_quoted_path(alloc, words, answers),
-        "single_line" => commands::answer_single_line(alloc, words, answers),
+        "password_from_text" => commands::answer_of_text(alloc, Made::Password, words, answers),
+        "quoted_path" => commands::answer_of_text(alloc, Made::QuotedPath, words, answers),
+        "single_line" => commands::answer_of_text(alloc, Made::SingleLine, words, answers),
         "text" => texts::answer_text(alloc, words, answers),
-        _ => Err(no_case()),
+        _ => Err(CaseError::NoCase),
     }
 }
 
 /// Answers the case that a line is.
-fn answer_case(alloc: Global, line: &str, answers: &mut Answers) -> io::Result<()> {
+fn answer_case(alloc: Global, line: &str, answers: &mut Answers) -> Result<(), CaseError> {
     let mut words = Words::of(line);
     let call = words.word()?;
     answer_call(alloc, call, &mut words, answers)
@@ -105,27 +107,32 @@ fn answer_case(alloc: Global, line: &str, answers: &mut Answers) -> io::Result<(
 
 /// Answers a line of standard input.
 fn answer_line(alloc: Global, line: &str, answers: &mut Answers) -> io::Result<()> {
-    if let Err(error) = answer_case(alloc, line, answers) {
-        if error.kind() != io::ErrorKind::InvalidData {
-            return Err(error);
+    match answer_case(alloc, line, answers) {
+        Ok(()) => {}
+        Err(CaseError::NoCase) => {
+            answers.begin();
+            answers.put("bad-case");
         }
-        answers.begin();
-        answers.put("bad-case");
-        answers.end();
+        Err(CaseError::OutOfMemory) => return Err(io::ErrorKind::OutOfMemory.into()),
     }
+    answers.end();
     answers.end_line()
 }
 
 /// Answers each line of standard input.
-fn replay(rt: &HostRuntime, has_marks: bool) -> io::Result<()> {
+fn answer_lines(rt: &HostRuntime, answers: &mut Answers) -> io::Result<()> {
     let alloc = rt.alloc();
-    let marks = if has_marks { Some(rt.stderr()) } else { None };
-    let out = BufWriter::new(alloc, rt.stdout())?;
-    let mut answers = Answers::new(out, marks);
     for line in BufReader::new(alloc, rt.reader())?.lines(alloc) {
-        answer_line(alloc, line?.as_str(), &mut answers)?;
+        answer_line(alloc, line?.as_str(), answers)?;
     }
     answers.flush()
+}
+
+/// Answers standard input, with marks or without.
+fn replay(rt: &HostRuntime, has_marks: bool) -> io::Result<()> {
+    let out = BufWriter::new(rt.alloc(), rt.stdout())?;
+    let marks = if has_marks { Some(rt.stderr()) } else { None };
+    answer_lines(rt, &mut Answers::new(out, marks))
 }
 
 /// Whether marks are asked for; `None` where the arguments are not known.

@@ -2,9 +2,8 @@
 use crate::answers::Answers;
 use crate::shown::Quoted;
 use crate::steps::{Action, Step, read_steps};
-use crate::words::{Words, read_bytes};
+use crate::words::{CaseError, Words};
 use std::alloc::Global;
-use std::io;
 use unftp_control_read::{
     Front, ReadReplyError, ReceiveError, ReceivedReply, ReplyDecoder, read_reply,
 };
@@ -48,7 +47,7 @@ fn put_front(alloc: Global, bytes: &[u8], separator: &str, answers: &mut Answers
 }
 
 /// Writes the replies that some bytes hold, and what is left.
-fn put_fronts(alloc: Global, stream: &[u8], answers: &mut Answers) {
+pub fn put_fronts(alloc: Global, stream: &[u8], answers: &mut Answers) {
     let mut rest = stream;
     let mut separator = "";
     // a reply takes bytes, so the last call finds none
@@ -59,15 +58,6 @@ fn put_fronts(alloc: Global, stream: &[u8], answers: &mut Answers) {
         rest = rest.split_at(used.min(rest.len())).1;
         separator = ";";
     }
-}
-
-/// `read BYTES`
-pub fn answer_read(alloc: Global, words: &mut Words<'_>, answers: &mut Answers) -> io::Result<()> {
-    let stream = read_bytes(alloc, words.last()?)?;
-    answers.begin();
-    put_fronts(alloc, stream.as_slice(), answers);
-    answers.end();
-    Ok(())
 }
 
 /// What a call of the decoder returns.
@@ -173,7 +163,7 @@ pub fn answer_receive(
     is_reading: bool,
     words: &mut Words<'_>,
     answers: &mut Answers,
-) -> io::Result<()> {
+) -> Result<(), CaseError> {
     let mut decoder = match words.limit()? {
         Some(limit) => ReplyDecoder::with_limit(alloc, limit),
         None => ReplyDecoder::new(alloc),
@@ -181,6 +171,5 @@ pub fn answer_receive(
     let steps = read_steps(alloc, words)?;
     answers.begin();
     make_steps(&mut decoder, is_reading, steps.as_slice(), answers);
-    answers.end();
     Ok(())
 }

@@ -2,16 +2,15 @@
 use crate::answers::{Answers, once_more};
 use crate::forms::Forms;
 use crate::shown::Quoted;
-use crate::words::{Words, no_case, or_no_case, read_number};
+use crate::words::{CaseError, Words, read_number, read_text};
 use std::alloc::Global;
-use std::io;
 use unftp_control_codecs::{EncodeLinesError, encode_lines, encode_reply};
 use unftp_control_reply::error::ControlChanError;
 use unftp_control_reply::{Reply, ReplyCode};
 
 /// The code that the next word is the number of.
-fn read_code(words: &mut Words<'_>) -> io::Result<ReplyCode> {
-    or_no_case(ReplyCode::from_number(words.number()?))
+fn read_code(words: &mut Words<'_>) -> Result<ReplyCode, CaseError> {
+    ReplyCode::from_number(words.number()?).ok_or(CaseError::NoCase)
 }
 
 /// What a reply is made of.
@@ -23,21 +22,24 @@ enum Parts {
 }
 
 impl Parts {
-    /// The reply that the next words name.
-    fn read(alloc: Global, words: &mut Words<'_>) -> io::Result<Parts> {
-        match words.word()? {
-            "none" => Ok(Parts::None),
-            "msg" => {
-                let code = read_code(words)?;
-                let text = words.text(alloc)?;
-                Ok(Parts::Line { code, text })
-            }
-            "multi" => {
-                let code = read_code(words)?;
-                let lines = words.texts(alloc)?;
-                Ok(Parts::Lines { code, lines })
-            }
-            _ => Err(no_case()),
+    /// The reply that all words name that are left.
+    fn read(alloc: Global, words: &mut Words<'_>) -> Result<Parts, CaseError> {
+        let kind = words.word()?;
+        if kind == "none" {
+            words.end()?;
+            return Ok(Parts::None);
+        }
+        let code = read_code(words)?;
+        match kind {
+            "msg" => Ok(Parts::Line {
+                code,
+                text: words.last_text(alloc)?,
+            }),
+            "multi" => Ok(Parts::Lines {
+                code,
+                lines: words.texts(alloc)?,
+            }),
+            _ => Err(CaseError::NoCase),
         }
     }
 
@@ -47,13 +49,11 @@ impl Parts {
             Parts::None => Ok(Reply::none()),
             Parts::Line { code, text } => Reply::new(alloc, *code, text.as_str()),
             Parts::Lines { code, lines } => {
-                Reply::new_multiline(alloc, *code, lines.iter().map(|line| line.as_str()))
+                Reply::new_multiline(alloc, *code, lines.iter().map(String::as_str))
             }
         }
     }
-}
 
-impl Parts {
     /// The reply that holds these.
     fn into_reply(self) -> Reply {
         match self {
@@ -64,23 +64,17 @@ impl Parts {
     }
 }
 
-/// Appends the bytes of a reply, once more where memory ran out; whether they are there.
-pub fn append_reply(reply: &Reply, buf: &mut Vec<u8>, answers: &mut Answers) -> bool {
-    match encode_reply(reply, buf) {
-        Ok(()) => true,
-        Err(error) => {
-            drop(error);
-            answers.out_of_memory();
-            encode_reply(reply, buf).is_ok()
-        }
-    }
+/// Appends the bytes of a reply, once more where memory ran out, and writes where they are not there.
+pub fn append_reply(reply: &Reply, buf: &mut Vec<u8>, answers: &mut Answers) {
+    let appended = once_more!(answers, encode_reply(reply, buf));
+    answers.put_unless(appended.is_some(), "failed ");
 }
 
 /// Writes the bytes that a buffer with one byte has after it, of a reply and of its clone.
 fn put_bytes(buf: &[u8], of_reply: usize, answers: &mut Answers) {
     match buf {
-        [b'x', bytes @ ..] if of_reply <= bytes.len() => {
-            let (first, second) = bytes.split_at(of_reply);
+        [b'x', bytes @ ..] => {
+            let (first, second) = bytes.split_at(of_reply.min(bytes.len()));
             answers.put(Quoted(first));
             answers.put_unless(first == second, " unequal");
         }
@@ -89,16 +83,14 @@ fn put_bytes(buf: &[u8], of_reply: usize, answers: &mut Answers) {
 }
 
 /// Writes the bytes of a reply, and whether a clone is equal and has the same bytes.
-fn put_encoded(alloc: Global, reply: Reply, mut buf: Vec<u8>, answers: &mut Answers) {
-    let is_appended = append_reply(&reply, &mut buf, answers);
-    answers.put_unless(is_appended, "failed ");
+fn put_encoded(alloc: Global, reply: Reply, buf: &mut Vec<u8>, answers: &mut Answers) {
+    append_reply(&reply, buf, answers);
     let of_reply = buf.len().saturating_sub(1);
     let cloned = once_more!(answers, reply.clone(alloc));
-    let is_same = matches!(&cloned, Ok(copy) if *copy == reply);
+    let is_same = matches!(&cloned, Some(copy) if *copy == reply);
     drop(reply);
-    if let Ok(copy) = &cloned {
-        let is_appended = append_reply(copy, &mut buf, answers);
-        answers.put_unless(is_appended, "failed ");
+    if let Some(copy) = &cloned {
+        append_reply(copy, buf, answers);
     }
     drop(cloned);
     put_bytes(buf.as_slice(), of_reply, answers);
@@ -106,10 +98,10 @@ fn put_encoded(alloc: Global, reply: Reply, mut buf: Vec<u8>, answers: &mut Answ
 }
 
 /// Writes the bytes of the reply that is made of these.
-fn put_made_of(alloc: Global, parts: &Parts, buf: Vec<u8>, answers: &mut Answers) {
+fn put_made_of(alloc: Global, parts: &Parts, buf: &mut Vec<u8>, answers: &mut Answers) {
     match once_more!(answers, parts.reply(alloc)) {
-        Ok(reply) => put_encoded(alloc, reply, buf, answers),
-        Err(_) => answers.put("failed"),
+        Some(reply) => put_encoded(alloc, reply, buf, answers),
+        None => answers.put("failed"),
     }
 }
 
@@ -118,13 +110,11 @@ pub fn answer_encode(
     alloc: Global,
     words: &mut Words<'_>,
     answers: &mut Answers,
-) -> io::Result<()> {
+) -> Result<(), CaseError> {
     let parts = Parts::read(alloc, words)?;
-    let buf = Vec::from_slice(alloc, b"x")?;
-    words.end()?;
+    let mut buf = Vec::from_slice(alloc, b"x")?;
     answers.begin();
-    put_made_of(alloc, &parts, buf, answers);
-    answers.end();
+    put_made_of(alloc, &parts, &mut buf, answers);
     Ok(())
 }
 
@@ -143,50 +133,53 @@ fn append_lines(
     encode_lines(code, lines, buf)
 }
 
-/// Writes the bytes that a buffer with one byte has after it, or why none were appended.
-fn put_lines(appended: Result<(), EncodeLinesError>, buf: &[u8], answers: &mut Answers) {
-    match (appended, buf) {
-        (Ok(()), [b'x', bytes @ ..]) => answers.put(Quoted(bytes)),
-        (Err(EncodeLinesError::CodeOutOfRange), [b'x']) => answers.put("code-out-of-range"),
-        (Err(EncodeLinesError::OutOfMemory), [b'x']) => answers.put("failed"),
-        _ => answers.put("changed"),
-    }
+/// Writes the bytes of a reply of these lines, which are appended to a buffer of one byte.
+fn put_lines(code: u32, lines: &[String], buf: &mut Vec<u8>, answers: &mut Answers) {
+    let failure = match append_lines(code, lines, buf, answers) {
+        Ok(()) => None,
+        Err(EncodeLinesError::CodeOutOfRange) => Some("code-out-of-range"),
+        Err(EncodeLinesError::OutOfMemory) => Some("failed"),
+    };
+    answers.put_appended(failure, buf.as_slice());
 }
 
 /// `lines CODE LINE..`
-pub fn answer_lines(alloc: Global, words: &mut Words<'_>, answers: &mut Answers) -> io::Result<()> {
+pub fn answer_lines(
+    alloc: Global,
+    words: &mut Words<'_>,
+    answers: &mut Answers,
+) -> Result<(), CaseError> {
     let code = words.number()?;
     let lines = words.texts(alloc)?;
     let mut buf = Vec::from_slice(alloc, b"x")?;
     answers.begin();
-    let appended = append_lines(code, lines.as_slice(), &mut buf, answers);
-    put_lines(appended, buf.as_slice(), answers);
-    answers.end();
+    put_lines(code, lines.as_slice(), &mut buf, answers);
     Ok(())
 }
 
 /// Writes what Debug writes of a reply, and whether it is positive and plain.
-fn put_said(reply: &Reply, forms: &mut Forms, answers: &mut Answers) {
-    forms.debug(reply, answers);
+fn put_said(reply: Reply, forms: &mut Forms, answers: &mut Answers) {
+    forms.debug(&reply, answers);
     answers.put_unless(!reply.is_positive(), " positive");
     answers.put_unless(!reply.is_plain(), " plain");
+    drop(reply);
 }
 
 /// `says REPLY..`
-pub fn answer_says(alloc: Global, words: &mut Words<'_>, answers: &mut Answers) -> io::Result<()> {
+pub fn answer_says(
+    alloc: Global,
+    words: &mut Words<'_>,
+    answers: &mut Answers,
+) -> Result<(), CaseError> {
     let mut forms = Forms::reserved(alloc)?;
     let parts = Parts::read(alloc, words)?;
-    words.end()?;
     answers.begin();
-    put_said(&parts.into_reply(), &mut forms, answers);
-    answers.end();
+    put_said(parts.into_reply(), &mut forms, answers);
     Ok(())
 }
 
-/// `code NUMBER`
-pub fn answer_code(words: &mut Words<'_>, answers: &mut Answers) -> io::Result<()> {
-    let number = read_number(words.last()?)?;
-    answers.begin();
+/// Writes the code of this number, and its number.
+fn put_code(number: u32, answers: &mut Answers) {
     match ReplyCode::from_number(number) {
         Some(code) => {
             let number = code.number();
@@ -194,6 +187,12 @@ pub fn answer_code(words: &mut Words<'_>, answers: &mut Answers) -> io::Result<(
         }
         None => answers.put("none"),
     }
-    answers.end();
+}
+
+/// `code NUMBER`
+pub fn answer_code(words: &mut Words<'_>, answers: &mut Answers) -> Result<(), CaseError> {
+    let number = read_number(words.last()?)?;
+    answers.begin();
+    put_code(number, answers);
     Ok(())
 }

@@ -5,9 +5,8 @@ use crate::handlers::{Demo, EchoError, Okay, Silent, Tried};
 use crate::settings::{Answering, Settings};
 use crate::shown::Quoted;
 use crate::streams::{Pieces, Room};
-use crate::words::{Words, no_case, read_bytes};
+use crate::words::{CaseError, Words, read_bytes};
 use std::alloc::Global;
-use std::io;
 use unftp_control_serve::{Engine, Handler, Input, Output, Sink, serve, serve_with_limit};
 
 /// How many bytes of replies are written before the writer's buffer grows.
@@ -26,14 +25,9 @@ pub fn answer_session(
     call: Call,
     words: &mut Words<'_>,
     answers: &mut Answers,
-) -> io::Result<()> {
+) -> Result<(), CaseError> {
     let session = Session::read(alloc, call, words)?;
-    let run = session.new_run(alloc)?;
-    let room = session.new_room(alloc)?;
-    answers.begin();
-    session.answer(alloc, run, room, answers);
-    answers.end();
-    Ok(())
+    session.answer(alloc, answers)
 }
 
 /// What has happened in a session.
@@ -41,6 +35,8 @@ pub fn answer_session(
 struct Run {
     /// How each call ended.
     ends: Vec<End>,
+    /// Whether memory ran out.
+    is_out_of_memory: bool,
     /// How many reads were made.
     reads: usize,
     /// How many bytes were not read.
@@ -50,13 +46,15 @@ struct Run {
 impl Run {
     /// A call has ended.
     fn note(&mut self, end: End) {
+        self.is_out_of_memory = self.is_out_of_memory || end.is_out_of_memory();
         // there is room for it
         let _ = self.ends.push(end);
     }
 
-    /// Whether memory ran out.
-    fn is_out_of_memory(&self) -> bool {
-        self.ends.iter().any(End::is_out_of_memory)
+    /// The calls are made again.
+    fn restart(&mut self) {
+        self.is_out_of_memory = false;
+        self.ends.clear();
     }
 }
 
@@ -71,28 +69,34 @@ struct Session {
 
 impl Session {
     /// Reads the words and the bytes of a session.
-    fn read(alloc: Global, call: Call, words: &mut Words<'_>) -> io::Result<Session> {
-        let mut settings = Settings::new();
-        let mut pieces = Vec::new(alloc);
-        for _ in 0..words.most() {
-            let Some(word) = words.next() else {
-                break;
-            };
-            if word.starts_with("\"") {
-                pieces.push(read_bytes(alloc, word)?)?;
-            } else {
-                settings.set(word)?;
-            }
-        }
-        let session = Session {
+    fn read(alloc: Global, call: Call, words: &mut Words<'_>) -> Result<Session, CaseError> {
+        let mut session = Session {
             call,
-            settings,
-            pieces,
+            settings: Settings::new(),
+            pieces: Vec::new(alloc),
         };
-        if session.is_case() {
-            Ok(session)
+        session.take_all(alloc, words)?;
+        Ok(session)
+    }
+
+    /// Takes all words that are left.
+    fn take_all(&mut self, alloc: Global, words: &mut Words<'_>) -> Result<(), CaseError> {
+        for word in words.rest() {
+            self.take(alloc, word)?;
+        }
+        if self.is_case() {
+            Ok(())
         } else {
-            Err(no_case())
+            Err(CaseError::NoCase)
+        }
+    }
+
+    /// Takes a word, or bytes between quotes.
+    fn take(&mut self, alloc: Global, word: &str) -> Result<(), CaseError> {
+        if word.starts_with("\"") {
+            Ok(self.pieces.push(read_bytes(alloc, word)?)?)
+        } else {
+            self.settings.set(word)
         }
     }
 
@@ -106,28 +110,34 @@ impl Session {
 
     /// The bytes that are served, or that a buffer holds before replies are appended.
     fn first_bytes(&self) -> &[u8] {
-        self.pieces.first().map_or(&[], |piece| piece.as_slice())
+        match self.pieces.first() {
+            Some(piece) => piece.as_slice(),
+            None => &[],
+        }
     }
 
     /// The bytes that are fed.
     fn fed(&self) -> &[Vec<u8>] {
-        let skipped = if self.settings.is_appended { 1 } else { 0 };
-        self.pieces.get(skipped..).unwrap_or(&[])
+        match self.pieces.as_slice() {
+            [_, fed @ ..] if self.settings.is_appended => fed,
+            pieces => pieces,
+        }
     }
 
     /// A run in which nothing has happened, with room for how each call ends.
-    fn new_run(&self, alloc: Global) -> io::Result<Run> {
+    fn new_run(&self, alloc: Global) -> Result<Run, CaseError> {
         let mut ends = Vec::new(alloc);
         ends.reserve(self.pieces.len().saturating_add(1))?;
         Ok(Run {
             ends,
+            is_out_of_memory: false,
             reads: 0,
             unread: 0,
         })
     }
 
     /// A writer that has taken nothing.
-    fn new_room(&self, alloc: Global) -> io::Result<Room> {
+    fn new_room(&self, alloc: Global) -> Result<Room, CaseError> {
         if self.settings.is_appended {
             let held = Vec::from_slice(alloc, self.first_bytes())?;
             return Ok(Room::new(held, self.settings.writes));
@@ -173,13 +183,21 @@ impl Session {
         let mut reader = Input::new(Pieces::new(self.first_bytes(), self.settings.reads));
         let mut writer = Output::new(room);
         run.note(self.serve_once(alloc, &mut reader, &mut writer, handler));
-        if self.settings.is_again && !run.is_out_of_memory() {
+        if self.settings.is_again && !run.is_out_of_memory {
             run.note(self.serve_once(alloc, &mut reader, &mut writer, handler));
         }
         let pieces = reader.into_inner();
         run.reads = pieces.reads;
         run.unread = pieces.rest.len();
         writer.into_inner()
+    }
+
+    /// An engine that was fed nothing.
+    fn new_engine(&self, alloc: Global) -> Engine {
+        match self.settings.limit {
+            0 => Engine::new(alloc),
+            limit => Engine::with_limit(alloc, limit),
+        }
     }
 
     /// Feeds the pieces to an engine.
@@ -190,14 +208,11 @@ impl Session {
         sink: &mut K,
         run: &mut Run,
     ) {
-        let mut engine = match self.settings.limit {
-            0 => Engine::new(alloc),
-            limit => Engine::with_limit(alloc, limit),
-        };
+        let mut engine = self.new_engine(alloc);
         for piece in self.fed() {
-            let answer = engine.feed(piece.as_slice(), handler, sink);
-            run.note(End::of_feed(answer, engine.left(), engine.finished()));
+            run.note(feed(&mut engine, piece.as_slice(), handler, sink));
         }
+        drop(engine);
     }
 
     /// Makes all calls of the session.
@@ -215,15 +230,6 @@ impl Session {
         output.into_inner()
     }
 
-    /// Writes how the calls ended, and what the writer holds.
-    fn put(&self, room: Room, run: &Run, answers: &mut Answers) {
-        for end in run.ends.as_slice() {
-            answers.put(format_args!("{end} | "));
-        }
-        let written = Quoted(room.held.as_slice());
-        answers.put(format_args!("written={written} flushed={} ", room.flushes));
-    }
-
     /// Writes what was read, of a session that is served.
     fn put_read(&self, run: &Run, answers: &mut Answers) {
         if let Call::Feed = self.call {
@@ -234,35 +240,67 @@ impl Session {
         answers.put(format_args!(" reads={} unread={}", run.reads, Quoted(unread)));
     }
 
+    /// Makes all calls of the session by a new handler.
+    fn run_by<H: Handler + Tried>(&self, alloc: Global, room: Room, run: &mut Run) -> (H, Room) {
+        let mut handler = H::start(self.settings.fails_at);
+        let room = self.run(alloc, &mut handler, room, run);
+        (handler, room)
+    }
+
     /// Answers a session by this handler. Where memory ran out, it is made again from the start.
     fn answer_by<H: Handler + Tried>(
         &self,
         alloc: Global,
-        mut run: Run,
+        run: &mut Run,
         room: Room,
         answers: &mut Answers,
     ) {
-        let mut handler = H::start(self.settings.fails_at);
-        let mut room = self.run(alloc, &mut handler, room, &mut run);
-        if run.is_out_of_memory() {
+        let (handler, room) = self.run_by::<H>(alloc, room, run);
+        let (handler, room) = if run.is_out_of_memory {
             answers.out_of_memory_after(run.ends.as_slice(), room.held.as_slice());
-            run.ends.clear();
-            handler = H::start(self.settings.fails_at);
-            room = self.run(alloc, &mut handler, self.restart(room), &mut run);
-        }
-        self.put(room, &run, answers);
+            run.restart();
+            drop(handler);
+            self.run_by::<H>(alloc, self.restart(room), run)
+        } else {
+            (handler, room)
+        };
+        put_written(&room, run, answers);
         answers.put(format_args!("taken={}", handler.taken()));
         handler.put_last(answers);
-        self.put_read(&run, answers);
+        self.put_read(run, answers);
     }
 
     /// Answers a session.
-    fn answer(&self, alloc: Global, run: Run, room: Room, answers: &mut Answers) {
+    fn answer(&self, alloc: Global, answers: &mut Answers) -> Result<(), CaseError> {
+        let mut run = self.new_run(alloc)?;
+        let room = self.new_room(alloc)?;
+        answers.begin();
         match self.settings.handler {
-            Answering::Demo => self.answer_by::<Demo>(alloc, run, room, answers),
-            Answering::Okay => self.answer_by::<Okay>(alloc, run, room, answers),
-            Answering::Silent => self.answer_by::<Silent>(alloc, run, room, answers),
-            Answering::EchoError => self.answer_by::<EchoError>(alloc, run, room, answers),
+            Answering::Demo => self.answer_by::<Demo>(alloc, &mut run, room, answers),
+            Answering::Okay => self.answer_by::<Okay>(alloc, &mut run, room, answers),
+            Answering::Silent => self.answer_by::<Silent>(alloc, &mut run, room, answers),
+            Answering::EchoError => self.answer_by::<EchoError>(alloc, &mut run, room, answers),
         }
+        Ok(())
     }
+}
+
+/// Feeds a piece to an engine.
+fn feed<H: Handler, K: Sink>(
+    engine: &mut Engine,
+    piece: &[u8],
+    handler: &mut H,
+    sink: &mut K,
+) -> End {
+    let answer = engine.feed(piece, handler, sink);
+    End::of_feed(answer, engine.left(), engine.finished())
+}
+
+/// Writes how the calls ended, and what the writer holds.
+fn put_written(room: &Room, run: &Run, answers: &mut Answers) {
+    for end in run.ends.as_slice() {
+        answers.put(format_args!("{end} | "));
+    }
+    let written = Quoted(room.held.as_slice());
+    answers.put(format_args!("written={written} flushed={} ", room.flushes));
 }

@@ -1,7 +1,6 @@
 //! The words before the bytes of a session: its limit, its handler, and how its streams fail.
 use crate::streams::{Reads, Writes};
-use crate::words::{no_case, read_number};
-use std::io;
+use crate::words::{CaseError, read_number};
 
 /// Which handler answers.
 #[derive(Clone, Copy)]
@@ -43,43 +42,34 @@ impl Settings {
     }
 
     /// Takes a word.
-    pub fn set(&mut self, word: &str) -> io::Result<()> {
-        let Some((name, value)) = word.split_once('=') else {
-            return self.set_flag(word);
-        };
-        if name == "handler" {
-            return self.set_handler(value);
-        }
-        if name == "error" {
-            return self.set_error(read_number(value)?);
-        }
-        let number = read_number(value)?;
-        if self.set_read(name, number) || self.set_write(name, number) {
-            Ok(())
-        } else {
-            Err(no_case())
+    pub fn set(&mut self, word: &str) -> Result<(), CaseError> {
+        match word.split_once('=') {
+            None => self.set_flag(word),
+            Some(("handler", name)) => self.set_handler(name),
+            Some(("error", number)) => self.set_error(read_number(number)?),
+            Some((name, number)) => self.set_number(name, read_number(number)?),
         }
     }
 
-    fn set_flag(&mut self, word: &str) -> io::Result<()> {
+    fn set_flag(&mut self, word: &str) -> Result<(), CaseError> {
         match word {
             "zero" => self.writes.is_zero = true,
             "wary" => self.writes.is_wary = true,
             "again" => self.is_again = true,
             "appended" => self.is_appended = true,
-            _ => return Err(no_case()),
+            _ => return Err(CaseError::NoCase),
         }
         Ok(())
     }
 
     /// What fails of the streams fails with the system's error of this number.
-    fn set_error(&mut self, number: i32) -> io::Result<()> {
+    fn set_error(&mut self, number: i32) -> Result<(), CaseError> {
         self.reads.error = number;
         self.writes.error = number;
         Ok(())
     }
 
-    fn set_handler(&mut self, name: &str) -> io::Result<()> {
+    fn set_handler(&mut self, name: &str) -> Result<(), CaseError> {
         if let Some(number) = name.strip_prefix("fails:") {
             self.handler = Answering::Okay;
             self.fails_at = read_number(number)?;
@@ -90,44 +80,35 @@ impl Settings {
             "okay" => Answering::Okay,
             "silent" => Answering::Silent,
             "echo_error" => Answering::EchoError,
-            _ => return Err(no_case()),
+            _ => return Err(CaseError::NoCase),
         };
         Ok(())
     }
 
-    /// Whether there is such a setting of the limit or of the reader.
-    fn set_read(&mut self, name: &str, number: usize) -> bool {
+    /// Sets what has this name to a number.
+    fn set_number(&mut self, name: &str, number: usize) -> Result<(), CaseError> {
         let setting = match name {
             "limit" => &mut self.limit,
-            "most" => return self.set_most(number),
             "first" => &mut self.reads.first,
             "second" => &mut self.reads.second,
+            "most" => return self.set_most(number),
             "read_fails" => &mut self.reads.failing,
-            _ => return false,
-        };
-        *setting = number;
-        true
-    }
-
-    /// Each read gives so many bytes at most.
-    fn set_most(&mut self, number: usize) -> bool {
-        self.reads.first = number;
-        self.reads.second = number;
-        self.reads.most = number;
-        true
-    }
-
-    /// Whether there is such a setting of the writer.
-    fn set_write(&mut self, name: &str, number: usize) -> bool {
-        let setting = match name {
             "room" => &mut self.writes.room,
             "most_written" => &mut self.writes.most,
             "step" => &mut self.writes.step,
             "write_fails" => &mut self.writes.failing_write,
             "flush_fails" => &mut self.writes.failing_flush,
-            _ => return false,
+            _ => return Err(CaseError::NoCase),
         };
         *setting = number;
-        true
+        Ok(())
+    }
+
+    /// Each read gives so many bytes at most.
+    fn set_most(&mut self, number: usize) -> Result<(), CaseError> {
+        self.reads.first = number;
+        self.reads.second = number;
+        self.reads.most = number;
+        Ok(())
     }
 }

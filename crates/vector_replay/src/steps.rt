@@ -1,7 +1,6 @@
 //! The steps of a decoder whose input comes in pieces.
-use crate::words::{Words, read_bytes};
+use crate::words::{CaseError, Words, read_bytes};
 use std::alloc::Global;
-use std::io;
 
 /// What is done with a decoder.
 #[derive(Clone, Copy)]
@@ -24,7 +23,7 @@ pub struct Step {
 }
 
 /// The step that a word begins.
-fn read_step(alloc: Global, word: &str, words: &mut Words<'_>) -> io::Result<Step> {
+fn read_step(alloc: Global, word: &str, words: &mut Words<'_>) -> Result<Step, CaseError> {
     let (action, piece) = match word {
         "clear" => (Action::Clear, Vec::new(alloc)),
         "next" => (Action::Next, Vec::new(alloc)),
@@ -35,7 +34,7 @@ fn read_step(alloc: Global, word: &str, words: &mut Words<'_>) -> io::Result<Ste
 }
 
 /// All steps that are left.
-pub fn read_steps(alloc: Global, words: &mut Words<'_>) -> io::Result<Vec<Step>> {
+pub fn read_steps(alloc: Global, words: &mut Words<'_>) -> Result<Vec<Step>, CaseError> {
     let mut steps = Vec::new(alloc);
     for _ in 0..words.most() {
         let Some(word) = words.next() else {

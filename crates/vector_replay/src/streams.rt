@@ -150,13 +150,11 @@ impl Write for Room {
 
     fn write(&mut self, buf: &[u8]) -> io::Result<usize> {
         self.writes_made = self.writes_made.saturating_add(1);
-        if self.writes_made == self.rules.failing_write {
-            return Err(io::Error::from_raw_os_error(self.rules.error));
-        }
         let n = buf.len().min(self.rules.room).min(self.rules.most);
+        let is_failing = self.writes_made == self.rules.failing_write;
         let is_full = n == 0 && !self.rules.is_zero;
         let is_too_soon = self.rules.is_wary && self.unflushed > 0;
-        if is_full || is_too_soon {
+        if is_failing || is_full || is_too_soon {
             return Err(io::Error::from_raw_os_error(self.rules.error));
         }
         let (taken, _) = buf.split_at(n);

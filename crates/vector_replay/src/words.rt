@@ -1,21 +1,29 @@
-//! The words of a case. What is no case is an error of kind `InvalidData`.
+//! The words of a case.
 ghost use Rattle.std.specs.Prelude.{◌≤◌, IfOk, IfSome};
 
 use bstr::ByteVec;
-use std::alloc::Global;
-use std::io;
+use bytes::Bytes;
+use std::alloc::{AllocError, AllocFailed, Global};
 use std::str::{FromStr, Split};
 
-/// The error of a case that is none.
-pub fn no_case() -> io::Error {
-    io::ErrorKind::InvalidData.into()
+/// Why a line is not answered as a case.
+#[derive(Clone, Copy)]
+pub enum CaseError {
+    /// It is no case.
+    NoCase,
+    /// There is no memory for what it is made of.
+    OutOfMemory,
 }
 
-/// What is there, or the error of a case that is none.
-pub fn or_no_case<T: Drop>(found: Option<T>) -> io::Result<T> {
-    match found {
-        Some(found) => Ok(found),
-        None => Err(no_case()),
+impl From<AllocError> for CaseError {
+    fn from(_error: AllocError) -> CaseError {
+        CaseError::OutOfMemory
+    }
+}
+
+impl<T: Drop> From<AllocFailed<T>> for CaseError {
+    fn from(_error: AllocFailed<T>) -> CaseError {
+        CaseError::OutOfMemory
     }
 }
 
@@ -35,6 +43,11 @@ impl<'a> Words<'a> {
         }
     }
 
+    /// All words that are left.
+    pub fn rest(&mut self) -> &mut Split<'a, char> {
+        &mut self.rest
+    }
+
     /// The next word, if any.
     pub fn next(&mut self) -> Option<&'a str> {
         self.rest.next()
@@ -46,22 +59,22 @@ impl<'a> Words<'a> {
     }
 
     /// The next word.
-    pub fn word(&mut self) -> io::Result<&'a str> {
-        or_no_case(self.next())
+    pub fn word(&mut self) -> Result<&'a str, CaseError> {
+        self.next().ok_or(CaseError::NoCase)
     }
 
     /// The bytes that the next word has between quotes.
-    pub fn bytes(&mut self, alloc: Global) -> io::Result<Vec<u8>> {
+    pub fn bytes(&mut self, alloc: Global) -> Result<Vec<u8>, CaseError> {
         read_bytes(alloc, self.word()?)
     }
 
     /// The text that the next word has between quotes.
-    pub fn text(&mut self, alloc: Global) -> io::Result<String> {
+    pub fn text(&mut self, alloc: Global) -> Result<String, CaseError> {
         read_text(alloc, self.word()?)
     }
 
     /// The next word as a number.
-    pub fn number<T: FromStr + Drop>(&mut self) -> io::Result<T>
+    pub fn number<T: FromStr + Drop>(&mut self) -> Result<T, CaseError>
     where
         T::Err: Drop,
     {
@@ -69,82 +82,95 @@ impl<'a> Words<'a> {
     }
 
     /// The next word as a limit of at least 1, or `none`.
-    pub fn limit(&mut self) -> io::Result<Option<usize>>
+    pub fn limit(&mut self) -> Result<Option<usize>, CaseError>
         ensures { IfOk result (λ limit. IfSome limit (λ limit. 1 ≤ limit)) }
     {
-        let word = self.word()?;
-        if word == "none" {
-            return Ok(None);
+        match self.word()? {
+            "none" => Ok(None),
+            word => match read_number(word)? {
+                0 => Err(CaseError::NoCase),
+                limit => Ok(Some(limit)),
+            },
         }
-        let limit: usize = read_number(word)?;
-        if limit == 0 {
-            return Err(no_case());
-        }
-        Ok(Some(limit))
     }
 
     /// The bytes of all words that are left.
-    pub fn pieces(&mut self, alloc: Global) -> io::Result<Vec<Vec<u8>>> {
+    pub fn pieces(&mut self, alloc: Global) -> Result<Vec<Vec<u8>>, CaseError> {
         let mut pieces = Vec::new(alloc);
-        for _ in 0..self.most() {
-            let Some(word) = self.next() else {
-                break;
-            };
+        for word in self.rest() {
             pieces.push(read_bytes(alloc, word)?)?;
         }
         Ok(pieces)
     }
 
     /// The texts of all words that are left.
-    pub fn texts(&mut self, alloc: Global) -> io::Result<Vec<String>> {
+    pub fn texts(&mut self, alloc: Global) -> Result<Vec<String>, CaseError> {
         let mut texts = Vec::new(alloc);
-        for _ in 0..self.most() {
-            let Some(word) = self.next() else {
-                break;
-            };
+        for word in self.rest() {
             texts.push(read_text(alloc, word)?)?;
         }
         Ok(texts)
     }
 
+    /// The bytes that the one word has that is left.
+    pub fn last_bytes(&mut self, alloc: Global) -> Result<Vec<u8>, CaseError> {
+        read_bytes(alloc, self.last()?)
+    }
+
+    /// The text that the one word has that is left.
+    pub fn last_text(&mut self, alloc: Global) -> Result<String, CaseError> {
+        read_text(alloc, self.last()?)
+    }
+
     /// The one word that is left.
-    pub fn last(&mut self) -> io::Result<&'a str> {
-        let word = self.word()?;
-        self.end()?;
-        Ok(word)
+    pub fn last(&mut self) -> Result<&'a str, CaseError> {
+        match (self.next(), self.next()) {
+            (Some(word), None) => Ok(word),
+            _ => Err(CaseError::NoCase),
+        }
     }
 
     /// No word is left.
-    pub fn end(&mut self) -> io::Result<()> {
-        match self.next() {
-            Some(_) => Err(no_case()),
-            None => Ok(()),
+    pub fn end(&mut self) -> Result<(), CaseError> {
+        if self.next().is_none() {
+            Ok(())
+        } else {
+            Err(CaseError::NoCase)
         }
     }
 }
 
+/// What a word has between quotes.
+fn quoted(word: &str) -> Result<&str, CaseError> {
+    let opened = word.strip_prefix("\"").ok_or(CaseError::NoCase)?;
+    opened.strip_suffix("\"").ok_or(CaseError::NoCase)
+}
+
 /// The bytes that a word has between quotes, escaped.
-pub fn read_bytes(alloc: Global, word: &str) -> io::Result<Vec<u8>> {
-    let quoted = or_no_case(word.strip_prefix("\""))?;
-    let escaped = or_no_case(quoted.strip_suffix("\""))?;
-    Ok(Vec::unescape_bytes(alloc, escaped)?)
+pub fn read_bytes(alloc: Global, word: &str) -> Result<Vec<u8>, CaseError> {
+    Ok(Vec::unescape_bytes(alloc, quoted(word)?)?)
+}
+
+/// The bytes that a word has between quotes, which may be shared.
+pub fn read_shared(alloc: Global, word: &str) -> Result<Bytes, CaseError> {
+    Ok(Bytes::from_vec(read_bytes(alloc, word)?)?)
 }
 
 /// The text that a word has between quotes.
-pub fn read_text(alloc: Global, word: &str) -> io::Result<String> {
+pub fn read_text(alloc: Global, word: &str) -> Result<String, CaseError> {
     match String::from_utf8(read_bytes(alloc, word)?) {
         Ok(text) => Ok(text),
-        Err(_) => Err(no_case()),
+        Err(_) => Err(CaseError::NoCase),
     }
 }
 
 /// The number that a word is.
-pub fn read_number<T: FromStr + Drop>(word: &str) -> io::Result<T>
+pub fn read_number<T: FromStr + Drop>(word: &str) -> Result<T, CaseError>
 where
     T::Err: Drop,
 {
     match word.parse::<T>() {
         Ok(number) => Ok(number),
-        Err(_) => Err(no_case()),
+        Err(_) => Err(CaseError::NoCase),
     }
 }

@@ -3,10 +3,9 @@ use crate::answers::Answers;
 use crate::decoding::Decoding;
 use crate::lines::{put_refused, read_line};
 use crate::shown::{Quoted, Shown};
-use crate::words::{Words, no_case, read_bytes, read_text};
+use crate::words::{CaseError, Words, read_bytes, read_shared, read_text};
 use bytes::Bytes;
 use std::alloc::Global;
-use std::io;
 use unftp_control_command::Command;
 use unftp_control_write::{ForwardError, WriteCommandError, forward, write_command};
 
@@ -22,87 +21,85 @@ fn write_line(command: &Command, buf: &mut Vec<u8>, answers: &mut Answers) -> bo
     }
 }
 
-/// The bytes of a field.
-fn read_raw(alloc: Global, words: &mut Words<'_>) -> io::Result<Bytes> {
-    Ok(Bytes::from_vec(words.bytes(alloc)?)?)
-}
-
 /// The bytes of a field that may be `none`.
-fn read_optional_raw(alloc: Global, words: &mut Words<'_>) -> io::Result<Option<Bytes>> {
-    match words.word()? {
+fn read_optional_shared(alloc: Global, word: &str) -> Result<Option<Bytes>, CaseError> {
+    match word {
         "none" => Ok(None),
-        word => Ok(Some(Bytes::from_vec(read_bytes(alloc, word)?)?)),
+        word => Ok(Some(read_shared(alloc, word)?)),
     }
 }
 
 /// The text of a field that may be `none`.
-fn read_optional_text(alloc: Global, words: &mut Words<'_>) -> io::Result<Option<String>> {
-    match words.word()? {
+fn read_optional_text(alloc: Global, word: &str) -> Result<Option<String>, CaseError> {
+    match word {
         "none" => Ok(None),
         word => Ok(Some(read_text(alloc, word)?)),
     }
 }
 
-/// LIST with its fields.
-fn read_list(alloc: Global, words: &mut Words<'_>) -> io::Result<Command> {
-    let options = read_optional_text(alloc, words)?;
-    let path = read_optional_text(alloc, words)?;
-    Ok(Command::List { options, path })
-}
-
-/// A name and its arguments.
-fn read_named(alloc: Global, words: &mut Words<'_>) -> io::Result<(String, String)> {
-    let name = words.text(alloc)?;
-    let arguments = words.text(alloc)?;
-    Ok((name, arguments))
-}
-
-/// SITE with its fields.
-fn read_site(alloc: Global, words: &mut Words<'_>) -> io::Result<Command> {
-    let (command, arguments) = read_named(alloc, words)?;
-    Ok(Command::Site { command, arguments })
-}
-
-/// A verb of no other variant with its fields.
-fn read_other(alloc: Global, words: &mut Words<'_>) -> io::Result<Command> {
-    let (command_name, arguments) = read_named(alloc, words)?;
-    Ok(Command::Other {
-        command_name,
-        arguments,
+/// The command of a variant with one field.
+fn read_field(alloc: Global, variant: &str, field: &str) -> Result<Command, CaseError> {
+    Ok(match variant {
+        "User" => Command::User {
+            username: read_shared(alloc, field)?,
+        },
+        "Stat" => Command::Stat {
+            path: read_optional_shared(alloc, field)?,
+        },
+        "Retr" => Command::Retr {
+            path: read_text(alloc, field)?,
+        },
+        "Nlst" => Command::Nlst {
+            path: read_optional_text(alloc, field)?,
+        },
+        "Md5" => Command::Md5 {
+            file: read_text(alloc, field)?,
+        },
+        _ => return Err(CaseError::NoCase),
     })
 }
 
-/// The command of a variant with exactly these fields.
-fn read_fields(alloc: Global, variant: &str, words: &mut Words<'_>) -> io::Result<Command> {
+/// LIST with its fields.
+fn read_list(alloc: Global, options: &str, path: &str) -> Result<Command, CaseError> {
+    Ok(Command::List {
+        options: read_optional_text(alloc, options)?,
+        path: read_optional_text(alloc, path)?,
+    })
+}
+
+/// The command of a variant with a name and its arguments.
+fn read_named(
+    alloc: Global,
+    variant: &str,
+    name: &str,
+    arguments: &str,
+) -> Result<Command, CaseError> {
+    let name = read_text(alloc, name)?;
+    let arguments = read_text(alloc, arguments)?;
     match variant {
-        "User" => Ok(Command::User {
-            username: read_raw(alloc, words)?,
+        "Site" => Ok(Command::Site {
+            command: name,
+            arguments,
         }),
-        "Stat" => Ok(Command::Stat {
-            path: read_optional_raw(alloc, words)?,
+        "Other" => Ok(Command::Other {
+            command_name: name,
+            arguments,
         }),
-        "Retr" => Ok(Command::Retr {
-            path: words.text(alloc)?,
-        }),
-        "Nlst" => Ok(Command::Nlst {
-            path: read_optional_text(alloc, words)?,
-        }),
-        "Md5" => Ok(Command::Md5 {
-            file: words.text(alloc)?,
-        }),
-        "List" => read_list(alloc, words),
-        "Site" => read_site(alloc, words),
-        "Other" => read_other(alloc, words),
-        _ => Err(no_case()),
+        _ => Err(CaseError::NoCase),
     }
 }
 
-/// Writes the line after the byte that the buffer had; where there is none, only that byte is there.
-fn put_appended(is_written: bool, buf: &[u8], answers: &mut Answers) {
-    match buf {
-        [b'x'] if !is_written => answers.put("no-line"),
-        [b'x', line @ ..] if is_written => answers.put(Quoted(line)),
-        _ => answers.put("changed"),
+/// The command whose variant and fields all words are that are left.
+fn read_fields(alloc: Global, words: &mut Words<'_>) -> Result<Command, CaseError> {
+    let variant = words.word()?;
+    let first = words.word()?;
+    let Some(second) = words.next() else {
+        return read_field(alloc, variant, first);
+    };
+    words.end()?;
+    match variant {
+        "List" => read_list(alloc, first, second),
+        variant => read_named(alloc, variant, first, second),
     }
 }
 
@@ -110,21 +107,20 @@ fn put_appended(is_written: bool, buf: &[u8], answers: &mut Answers) {
 fn put_line(command: Command, mut buf: Vec<u8>, answers: &mut Answers) {
     let is_written = write_line(&command, &mut buf, answers);
     drop(command);
-    put_appended(is_written, buf.as_slice(), answers);
+    let failure = if is_written { None } else { Some("no-line") };
+    answers.put_appended(failure, buf.as_slice());
 }
 
 /// `write COMMAND FIELD..`
-pub fn answer_write(alloc: Global, words: &mut Words<'_>, answers: &mut Answers) -> io::Result<()> {
+pub fn answer_write(
+    alloc: Global,
+    words: &mut Words<'_>,
+    answers: &mut Answers,
+) -> Result<(), CaseError> {
     let buf = Vec::from_slice(alloc, b"x")?;
-    let variant = words.word()?;
-    let command = read_fields(alloc, variant, words)?;
-    if let Err(error) = words.end() {
-        drop(command);
-        return Err(error);
-    }
+    let command = read_fields(alloc, words)?;
     answers.begin();
     put_line(command, buf, answers);
-    answers.end();
     Ok(())
 }
 
@@ -142,7 +138,7 @@ fn put_read_back(alloc: Global, command: Command, line: Vec<u8>, answers: &mut A
 }
 
 /// Writes what the command's line is read as, and the line.
-fn put_canonical(alloc: Global, command: Command, answers: &mut Answers) {
+fn put_canonical_command(alloc: Global, command: Command, answers: &mut Answers) {
     let mut line = Vec::new(alloc);
     if !write_line(&command, &mut line, answers) {
         drop(command);
@@ -153,20 +149,12 @@ fn put_canonical(alloc: Global, command: Command, answers: &mut Answers) {
     put_read_back(alloc, command, line, answers);
 }
 
-/// `canonical LINE`
-pub fn answer_canonical(
-    alloc: Global,
-    words: &mut Words<'_>,
-    answers: &mut Answers,
-) -> io::Result<()> {
-    let line = read_bytes(alloc, words.last()?)?;
-    answers.begin();
-    match read_line(alloc, line.as_slice(), answers) {
-        Ok(command) => put_canonical(alloc, command, answers),
+/// Writes the line that is written for the command of this one, and what that is read as.
+pub fn put_canonical(alloc: Global, line: &[u8], answers: &mut Answers) {
+    match read_line(alloc, line, answers) {
+        Ok(command) => put_canonical_command(alloc, command, answers),
         Err(error) => put_refused(&error, answers),
     }
-    answers.end();
-    Ok(())
 }
 
 /// Appends the line that is forwarded for this one, once more where memory ran out.
@@ -200,13 +188,12 @@ pub fn answer_forward(
     alloc: Global,
     words: &mut Words<'_>,
     answers: &mut Answers,
-) -> io::Result<()> {
+) -> Result<(), CaseError> {
     let mut buf = Vec::from_slice(alloc, b"x")?;
-    let line = read_bytes(alloc, words.last()?)?;
+    let line = words.last_bytes(alloc)?;
     answers.begin();
     let forwarded = forward_line(alloc, line.as_slice(), &mut buf, answers);
     put_forwarded(&forwarded, buf.as_slice(), answers);
     drop(forwarded);
-    answers.end();
     Ok(())
 }
