@@ -125,18 +125,22 @@ impl Settings {
     }
 
     /// Takes the setting that a word names.
-    fn take(&mut self, alloc: Global, word: &str, words: &mut Words<'_>) -> Result<(), CaseError> {
-        match word {
+    fn take(&mut self, word: &str, words: &mut Words<'_>) -> Result<(), CaseError> {
+        match word.split_once('=') {
+            Some((name, value)) => self.take_value(words.alloc, name, value),
+            None => self.take_flag(word, words),
+        }
+    }
+
+    /// Takes the setting of this name.
+    fn take_flag(&mut self, name: &str, words: &mut Words<'_>) -> Result<(), CaseError> {
+        match name {
             "tls" => self.tls = true,
             "restart" => self.restart = true,
             "site_md5" => self.site_md5 = true,
             "prebound" => self.passive = Passive::Prebound,
-            "file" => self.found = Some(read_file(false, words)?),
-            "dir" => self.found = Some(read_file(true, words)?),
-            word => {
-                let (name, value) = word.split_once('=').ok_or(CaseError::NoCase)?;
-                self.take_value(alloc, name, value)?;
-            }
+            "file" | "dir" => self.found = Some(read_file(name == "dir", words)?),
+            _ => return Err(CaseError::NoCase),
         }
         Ok(())
     }
@@ -152,7 +156,7 @@ impl Settings {
         Ok(())
     }
 
-    /// The text that has this name.
+    /// The setting of this name that is a text. A fault stands in place of what was found.
     fn text(&mut self, name: &str) -> Result<&mut String, CaseError> {
         match name {
             "cwd" => Ok(&mut self.cwd),
@@ -165,13 +169,13 @@ impl Settings {
     }
 
     /// The settings that the next words name.
-    fn read(alloc: Global, words: &mut Words<'_>) -> Result<Settings, CaseError> {
-        let mut settings = Settings::new(alloc);
+    fn read(words: &mut Words<'_>) -> Result<Settings, CaseError> {
+        let mut settings = Settings::new(words.alloc);
         for _ in 0..words.most() {
             let Some(word) = words.next() else {
                 break;
             };
-            settings.take(alloc, word, words)?;
+            settings.take(word, words)?;
         }
         Ok(settings)
     }
@@ -283,25 +287,21 @@ fn put_reply_to(
 }
 
 /// The request of the line that the next word has.
-fn read_request(alloc: Global, words: &mut Words<'_>) -> Result<Request, CaseError> {
-    let line = words.bytes(alloc)?;
-    match parse(alloc, line.as_slice()) {
+fn read_request(words: &mut Words<'_>) -> Result<Request, CaseError> {
+    let line = words.bytes()?;
+    match parse(words.alloc, line.as_slice()) {
         Ok(command) => Request::of(command).ok_or(CaseError::NoCase),
         Err(_) => Err(CaseError::NoCase),
     }
 }
 
 /// `reply LINE SETTING..`
-pub fn answer_reply(
-    alloc: Global,
-    words: &mut Words<'_>,
-    answers: &mut Answers,
-) -> Result<(), CaseError> {
-    let mut buf = Vec::with_capacity(alloc, ROOM)?;
-    let request = read_request(alloc, words)?;
-    let settings = Settings::read(alloc, words)?;
+pub fn answer_reply(words: &mut Words<'_>, answers: &mut Answers) -> Result<(), CaseError> {
+    let mut buf = Vec::with_capacity(words.alloc, ROOM)?;
+    let request = read_request(words)?;
+    let settings = Settings::read(words)?;
     answers.begin();
-    put_reply_to(alloc, &request, &settings, &mut buf, answers);
+    put_reply_to(words.alloc, &request, &settings, &mut buf, answers);
     Ok(())
 }
 
@@ -337,31 +337,26 @@ fn put_reply_with(
 
 /// `feat_with LINE..` or `help_with LINE..`
 pub fn answer_reply_with(
-    alloc: Global,
     is_help: bool,
     words: &mut Words<'_>,
     answers: &mut Answers,
 ) -> Result<(), CaseError> {
-    let mut buf = Vec::with_capacity(alloc, ROOM)?;
-    let texts = words.texts(alloc)?;
+    let mut buf = Vec::with_capacity(words.alloc, ROOM)?;
+    let texts = words.texts()?;
     if texts.len() > MOST_LINES {
         return Err(CaseError::NoCase);
     }
     answers.begin();
-    put_reply_with(alloc, is_help, texts.as_slice(), &mut buf, answers);
+    put_reply_with(words.alloc, is_help, texts.as_slice(), &mut buf, answers);
     Ok(())
 }
 
 /// `epsv PORT`
-pub fn answer_epsv(
-    alloc: Global,
-    words: &mut Words<'_>,
-    answers: &mut Answers,
-) -> Result<(), CaseError> {
-    let mut buf = Vec::with_capacity(alloc, ROOM)?;
+pub fn answer_epsv(words: &mut Words<'_>, answers: &mut Answers) -> Result<(), CaseError> {
+    let mut buf = Vec::with_capacity(words.alloc, ROOM)?;
     let port = read_number(words.last()?)?;
     answers.begin();
-    let made = once_more!(answers, make_epsv_reply(alloc, port));
+    let made = once_more!(answers, make_epsv_reply(words.alloc, port));
     put_made(made, &mut buf, answers);
     Ok(())
 }
@@ -381,15 +376,11 @@ fn put_facts(alloc: Global, file: &File, answers: &mut Answers) {
 }
 
 /// `facts KIND SIZE INSTANT USER GROUP`
-pub fn answer_facts(
-    alloc: Global,
-    words: &mut Words<'_>,
-    answers: &mut Answers,
-) -> Result<(), CaseError> {
-    let settings = Settings::read(alloc, words)?;
+pub fn answer_facts(words: &mut Words<'_>, answers: &mut Answers) -> Result<(), CaseError> {
+    let settings = Settings::read(words)?;
     let file = settings.found.ok_or(CaseError::NoCase)?;
     answers.begin();
-    put_facts(alloc, &file, answers);
+    put_facts(words.alloc, &file, answers);
     Ok(())
 }
 
@@ -420,13 +411,12 @@ fn put_of_text(alloc: Global, made: Made, text: &str, answers: &mut Answers) {
 
 /// `password_from_text TEXT`, `quoted_path PATH` or `single_line TEXT`
 pub fn answer_of_text(
-    alloc: Global,
     made: Made,
     words: &mut Words<'_>,
     answers: &mut Answers,
 ) -> Result<(), CaseError> {
-    let text = words.last_text(alloc)?;
+    let text = words.last_text()?;
     answers.begin();
-    put_of_text(alloc, made, text.as_str(), answers);
+    put_of_text(words.alloc, made, text.as_str(), answers);
     Ok(())
 }

@@ -128,19 +128,20 @@ fn put_pieces(alloc: Global, mut decoding: Decoding, pieces: &[Vec<u8>], answers
 }
 
 /// `decode LIMIT PIECE..`
-pub fn answer_decode(
-    alloc: Global,
-    words: &mut Words<'_>,
-    answers: &mut Answers,
-) -> Result<(), CaseError> {
+pub fn answer_decode(words: &mut Words<'_>, answers: &mut Answers) -> Result<(), CaseError> {
     let codec = match words.limit()? {
         Some(limit) => FtpCodec::with_limit(limit),
         None => FtpCodec::new(),
     };
-    let pieces = words.pieces(alloc)?;
-    let buf = Vec::with_capacity(alloc, room_for(pieces.as_slice()))?;
+    let pieces = words.pieces()?;
+    let buf = Vec::with_capacity(words.alloc, room_for(pieces.as_slice()))?;
     answers.begin();
-    put_pieces(alloc, Decoding { codec, buf }, pieces.as_slice(), answers);
+    put_pieces(
+        words.alloc,
+        Decoding { codec, buf },
+        pieces.as_slice(),
+        answers,
+    );
     Ok(())
 }
 
@@ -194,10 +195,10 @@ impl Slicing {
 
 impl Slicing {
     /// A codec with this limit, and its scan offset in the first piece, which goes into the buffer.
-    fn read(alloc: Global, words: &mut Words<'_>) -> Result<Slicing, CaseError> {
+    fn read(words: &mut Words<'_>) -> Result<Slicing, CaseError> {
         let limit = words.limit()?;
         let place = words.number()?;
-        let bytes = words.bytes(alloc)?;
+        let bytes = words.bytes()?;
         if place > bytes.len() {
             return Err(CaseError::NoCase);
         }
@@ -223,15 +224,11 @@ fn put_slices(alloc: Global, mut slicing: Slicing, later: &[Vec<u8>], answers: &
 }
 
 /// `decode_slice LIMIT PLACE PIECE..`
-pub fn answer_decode_slice(
-    alloc: Global,
-    words: &mut Words<'_>,
-    answers: &mut Answers,
-) -> Result<(), CaseError> {
-    let mut slicing = Slicing::read(alloc, words)?;
-    let later = words.pieces(alloc)?;
+pub fn answer_decode_slice(words: &mut Words<'_>, answers: &mut Answers) -> Result<(), CaseError> {
+    let mut slicing = Slicing::read(words)?;
+    let later = words.pieces()?;
     slicing.bytes.reserve(room_for(later.as_slice()))?;
     answers.begin();
-    put_slices(alloc, slicing, later.as_slice(), answers);
+    put_slices(words.alloc, slicing, later.as_slice(), answers);
     Ok(())
 }

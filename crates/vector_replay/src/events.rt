@@ -4,7 +4,7 @@ use crate::decoding::put_refusal;
 use crate::shown::{Quoted, Shown};
 use crate::steps::{Action, Step, read_steps};
 use crate::words::{CaseError, Words};
-use std::alloc::{AllocError, Global};
+use std::alloc::AllocError;
 use unftp_control_serve::{Event, EventDecoder};
 
 /// What `next_event` returns; once more where memory ran out.
@@ -101,16 +101,15 @@ fn make_steps(decoder: &mut EventDecoder, has_lines: bool, steps: &[Step], answe
 
 /// `events LIMIT STEP..`, or `event_lines LIMIT STEP..`, which writes each event's line too.
 pub fn answer_events(
-    alloc: Global,
     has_lines: bool,
     words: &mut Words<'_>,
     answers: &mut Answers,
 ) -> Result<(), CaseError> {
     let mut decoder = match words.limit()? {
-        Some(limit) => EventDecoder::with_limit(alloc, limit),
-        None => EventDecoder::new(alloc),
+        Some(limit) => EventDecoder::with_limit(words.alloc, limit),
+        None => EventDecoder::new(words.alloc),
     };
-    let steps = read_steps(alloc, words)?;
+    let steps = read_steps(words)?;
     answers.begin();
     make_steps(&mut decoder, has_lines, steps.as_slice(), answers);
     Ok(())

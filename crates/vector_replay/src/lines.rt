@@ -56,17 +56,16 @@ pub enum BytesCall {
 
 /// `parse LINE`, `canonical LINE` or `read BYTES`
 pub fn answer_bytes(
-    alloc: Global,
     call: BytesCall,
     words: &mut Words<'_>,
     answers: &mut Answers,
 ) -> Result<(), CaseError> {
-    let bytes = words.last_bytes(alloc)?;
+    let bytes = words.last_bytes()?;
     answers.begin();
     match call {
-        BytesCall::Parse => put_parsed(alloc, bytes.as_slice(), answers),
-        BytesCall::Canonical => put_canonical(alloc, bytes.as_slice(), answers),
-        BytesCall::Read => put_fronts(alloc, bytes.as_slice(), answers),
+        BytesCall::Parse => put_parsed(words.alloc, bytes.as_slice(), answers),
+        BytesCall::Canonical => put_canonical(words.alloc, bytes.as_slice(), answers),
+        BytesCall::Read => put_fronts(words.alloc, bytes.as_slice(), answers),
     }
     Ok(())
 }
@@ -84,18 +83,14 @@ fn put_clone(alloc: Global, command: Command, forms: &mut Forms, answers: &mut A
 }
 
 /// `display LINE`
-pub fn answer_display(
-    alloc: Global,
-    words: &mut Words<'_>,
-    answers: &mut Answers,
-) -> Result<(), CaseError> {
-    let mut forms = Forms::reserved(alloc)?;
-    let line = words.last_bytes(alloc)?;
-    let Ok(command) = parse(alloc, line.as_slice()) else {
+pub fn answer_display(words: &mut Words<'_>, answers: &mut Answers) -> Result<(), CaseError> {
+    let mut forms = Forms::reserved(words.alloc)?;
+    let line = words.last_bytes()?;
+    let Ok(command) = parse(words.alloc, line.as_slice()) else {
         return Err(CaseError::NoCase);
     };
     answers.begin();
-    put_clone(alloc, command, &mut forms, answers);
+    put_clone(words.alloc, command, &mut forms, answers);
     Ok(())
 }
 
@@ -119,13 +114,9 @@ fn put_password_texts(password: &Password, forms: &mut Forms, answers: &mut Answ
 }
 
 /// `password BYTES`
-pub fn answer_password(
-    alloc: Global,
-    words: &mut Words<'_>,
-    answers: &mut Answers,
-) -> Result<(), CaseError> {
-    let bytes = read_shared(alloc, words.last()?)?;
-    let mut forms = Forms::reserved(alloc)?;
+pub fn answer_password(words: &mut Words<'_>, answers: &mut Answers) -> Result<(), CaseError> {
+    let bytes = read_shared(words.alloc, words.last()?)?;
+    let mut forms = Forms::reserved(words.alloc)?;
     answers.begin();
     put_password(Password::new(bytes), &mut forms, answers);
     Ok(())
@@ -142,12 +133,8 @@ fn put_verbs(words: &[Vec<u8>], answers: &mut Answers) {
 }
 
 /// `is_verb WORD..`
-pub fn answer_is_verb(
-    alloc: Global,
-    words: &mut Words<'_>,
-    answers: &mut Answers,
-) -> Result<(), CaseError> {
-    let words = words.pieces(alloc)?;
+pub fn answer_is_verb(words: &mut Words<'_>, answers: &mut Answers) -> Result<(), CaseError> {
+    let words = words.pieces()?;
     answers.begin();
     put_verbs(words.as_slice(), answers);
     Ok(())

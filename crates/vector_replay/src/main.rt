@@ -34,75 +34,68 @@ use std::{env, io};
 use words::{CaseError, Words};
 
 /// Answers a call on lines and commands, or one of another subject.
-fn answer_call(
-    alloc: Global,
-    call: &str,
-    words: &mut Words<'_>,
-    answers: &mut Answers,
-) -> Result<(), CaseError> {
+fn answer_call(call: &str, words: &mut Words<'_>, answers: &mut Answers) -> Result<(), CaseError> {
     match call {
-        "parse" => lines::answer_bytes(alloc, BytesCall::Parse, words, answers),
-        "display" => lines::answer_display(alloc, words, answers),
-        "password" => lines::answer_password(alloc, words, answers),
-        "is_verb" => lines::answer_is_verb(alloc, words, answers),
-        "write" => writing::answer_write(alloc, words, answers),
-        "canonical" => lines::answer_bytes(alloc, BytesCall::Canonical, words, answers),
-        "forward" => writing::answer_forward(alloc, words, answers),
-        "decode" => decoding::answer_decode(alloc, words, answers),
-        "decode_slice" => decoding::answer_decode_slice(alloc, words, answers),
-        "events" => events::answer_events(alloc, false, words, answers),
-        "event_lines" => events::answer_events(alloc, true, words, answers),
-        "serve" => sessions::answer_session(alloc, Call::Serve, words, answers),
-        "feed" => sessions::answer_session(alloc, Call::Feed, words, answers),
-        call => answer_reply_call(alloc, call, words, answers),
+        "parse" => lines::answer_bytes(BytesCall::Parse, words, answers),
+        "display" => lines::answer_display(words, answers),
+        "password" => lines::answer_password(words, answers),
+        "is_verb" => lines::answer_is_verb(words, answers),
+        "write" => writing::answer_write(words, answers),
+        "canonical" => lines::answer_bytes(BytesCall::Canonical, words, answers),
+        "forward" => writing::answer_forward(words, answers),
+        "decode" => decoding::answer_decode(words, answers),
+        "decode_slice" => decoding::answer_decode_slice(words, answers),
+        "events" => events::answer_events(false, words, answers),
+        "event_lines" => events::answer_events(true, words, answers),
+        "serve" => sessions::answer_session(Call::Serve, words, answers),
+        "feed" => sessions::answer_session(Call::Feed, words, answers),
+        call => answer_reply_call(call, words, answers),
     }
 }
 
 /// Answers a call on replies, or one that makes texts.
 fn answer_reply_call(
-    alloc: Global,
     call: &str,
     words: &mut Words<'_>,
     answers: &mut Answers,
 ) -> Result<(), CaseError> {
     match call {
-        "encode" => replies::answer_encode(alloc, words, answers),
-        "lines" => replies::answer_lines(alloc, words, answers),
-        "says" => replies::answer_says(alloc, words, answers),
+        "encode" => replies::answer_encode(words, answers),
+        "lines" => replies::answer_lines(words, answers),
+        "says" => replies::answer_says(words, answers),
         "code" => replies::answer_code(words, answers),
-        "read" => lines::answer_bytes(alloc, BytesCall::Read, words, answers),
-        "receive" => reading::answer_receive(alloc, false, words, answers),
-        "receive_from" => reading::answer_receive(alloc, true, words, answers),
-        "reply" => commands::answer_reply(alloc, words, answers),
-        "feat_with" => commands::answer_reply_with(alloc, false, words, answers),
-        "help_with" => commands::answer_reply_with(alloc, true, words, answers),
-        call => answer_text_call(alloc, call, words, answers),
+        "read" => lines::answer_bytes(BytesCall::Read, words, answers),
+        "receive" => reading::answer_receive(false, words, answers),
+        "receive_from" => reading::answer_receive(true, words, answers),
+        "reply" => commands::answer_reply(words, answers),
+        "feat_with" => commands::answer_reply_with(false, words, answers),
+        "help_with" => commands::answer_reply_with(true, words, answers),
+        call => answer_text_call(call, words, answers),
     }
 }
 
 /// Answers a call that makes a text or a reply of one.
 fn answer_text_call(
-    alloc: Global,
     call: &str,
     words: &mut Words<'_>,
     answers: &mut Answers,
 ) -> Result<(), CaseError> {
     match call {
-        "epsv" => commands::answer_epsv(alloc, words, answers),
-        "facts" => commands::answer_facts(alloc, words, answers),
-        "password_from_text" => commands::answer_of_text(alloc, Made::Password, words, answers),
-        "quoted_path" => commands::answer_of_text(alloc, Made::QuotedPath, words, answers),
-        "single_line" => commands::answer_of_text(alloc, Made::SingleLine, words, answers),
-        "text" => texts::answer_text(alloc, words, answers),
+        "epsv" => commands::answer_epsv(words, answers),
+        "facts" => commands::answer_facts(words, answers),
+        "password_from_text" => commands::answer_of_text(Made::Password, words, answers),
+        "quoted_path" => commands::answer_of_text(Made::QuotedPath, words, answers),
+        "single_line" => commands::answer_of_text(Made::SingleLine, words, answers),
+        "text" => texts::answer_text(words, answers),
         _ => Err(CaseError::NoCase),
     }
 }
 
 /// Answers the case that a line is.
 fn answer_case(alloc: Global, line: &str, answers: &mut Answers) -> Result<(), CaseError> {
-    let mut words = Words::of(line);
+    let mut words = Words::of(alloc, line);
     let call = words.word()?;
-    answer_call(alloc, call, &mut words, answers)
+    answer_call(call, &mut words, answers)
 }
 
 /// Answers a line of standard input.

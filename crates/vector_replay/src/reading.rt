@@ -159,16 +159,15 @@ fn make_steps(decoder: &mut ReplyDecoder, is_reading: bool, steps: &[Step], answ
 
 /// `receive LIMIT STEP..`, or `receive_from LIMIT STEP..`, which reads.
 pub fn answer_receive(
-    alloc: Global,
     is_reading: bool,
     words: &mut Words<'_>,
     answers: &mut Answers,
 ) -> Result<(), CaseError> {
     let mut decoder = match words.limit()? {
-        Some(limit) => ReplyDecoder::with_limit(alloc, limit),
-        None => ReplyDecoder::new(alloc),
+        Some(limit) => ReplyDecoder::with_limit(words.alloc, limit),
+        None => ReplyDecoder::new(words.alloc),
     };
-    let steps = read_steps(alloc, words)?;
+    let steps = read_steps(words)?;
     answers.begin();
     make_steps(&mut decoder, is_reading, steps.as_slice(), answers);
     Ok(())

@@ -23,24 +23,27 @@ enum Parts {
 
 impl Parts {
     /// The reply that all words name that are left.
-    fn read(alloc: Global, words: &mut Words<'_>) -> Result<Parts, CaseError> {
-        let kind = words.word()?;
-        if kind == "none" {
-            words.end()?;
-            return Ok(Parts::None);
-        }
-        let code = read_code(words)?;
-        match kind {
-            "msg" => Ok(Parts::Line {
-                code,
-                text: words.last_text(alloc)?,
-            }),
-            "multi" => Ok(Parts::Lines {
-                code,
-                lines: words.texts(alloc)?,
-            }),
+    fn read(words: &mut Words<'_>) -> Result<Parts, CaseError> {
+        match words.word()? {
+            "none" if words.next().is_none() => Ok(Parts::None),
+            "msg" => Parts::read_line(words),
+            "multi" => Parts::read_lines(words),
             _ => Err(CaseError::NoCase),
         }
+    }
+
+    /// A reply of one line.
+    fn read_line(words: &mut Words<'_>) -> Result<Parts, CaseError> {
+        let code = read_code(words)?;
+        let text = words.last_text()?;
+        Ok(Parts::Line { code, text })
+    }
+
+    /// A reply of several lines.
+    fn read_lines(words: &mut Words<'_>) -> Result<Parts, CaseError> {
+        let code = read_code(words)?;
+        let lines = words.texts()?;
+        Ok(Parts::Lines { code, lines })
     }
 
     /// The reply of these.
@@ -64,7 +67,7 @@ impl Parts {
     }
 }
 
-/// Appends the bytes of a reply, once more where memory ran out, and writes where they are not there.
+/// Appends the bytes of a reply, once more where memory ran out; `failed` where they are not there.
 pub fn append_reply(reply: &Reply, buf: &mut Vec<u8>, answers: &mut Answers) {
     let appended = once_more!(answers, encode_reply(reply, buf));
     answers.put_unless(appended.is_some(), "failed ");
@@ -106,15 +109,11 @@ fn put_made_of(alloc: Global, parts: &Parts, buf: &mut Vec<u8>, answers: &mut An
 }
 
 /// `encode REPLY..`
-pub fn answer_encode(
-    alloc: Global,
-    words: &mut Words<'_>,
-    answers: &mut Answers,
-) -> Result<(), CaseError> {
-    let parts = Parts::read(alloc, words)?;
-    let mut buf = Vec::from_slice(alloc, b"x")?;
+pub fn answer_encode(words: &mut Words<'_>, answers: &mut Answers) -> Result<(), CaseError> {
+    let parts = Parts::read(words)?;
+    let mut buf = Vec::from_slice(words.alloc, b"x")?;
     answers.begin();
-    put_made_of(alloc, &parts, &mut buf, answers);
+    put_made_of(words.alloc, &parts, &mut buf, answers);
     Ok(())
 }
 
@@ -144,14 +143,10 @@ fn put_lines(code: u32, lines: &[String], buf: &mut Vec<u8>, answers: &mut Answe
 }
 
 /// `lines CODE LINE..`
-pub fn answer_lines(
-    alloc: Global,
-    words: &mut Words<'_>,
-    answers: &mut Answers,
-) -> Result<(), CaseError> {
+pub fn answer_lines(words: &mut Words<'_>, answers: &mut Answers) -> Result<(), CaseError> {
     let code = words.number()?;
-    let lines = words.texts(alloc)?;
-    let mut buf = Vec::from_slice(alloc, b"x")?;
+    let lines = words.texts()?;
+    let mut buf = Vec::from_slice(words.alloc, b"x")?;
     answers.begin();
     put_lines(code, lines.as_slice(), &mut buf, answers);
     Ok(())
@@ -166,13 +161,9 @@ fn put_said(reply: Reply, forms: &mut Forms, answers: &mut Answers) {
 }
 
 /// `says REPLY..`
-pub fn answer_says(
-    alloc: Global,
-    words: &mut Words<'_>,
-    answers: &mut Answers,
-) -> Result<(), CaseError> {
-    let mut forms = Forms::reserved(alloc)?;
-    let parts = Parts::read(alloc, words)?;
+pub fn answer_says(words: &mut Words<'_>, answers: &mut Answers) -> Result<(), CaseError> {
+    let mut forms = Forms::reserved(words.alloc)?;
+    let parts = Parts::read(words)?;
     answers.begin();
     put_said(parts.into_reply(), &mut forms, answers);
     Ok(())

@@ -21,13 +21,12 @@ pub enum Call {
 
 /// `serve WORD.. INPUT` or `feed WORD.. PIECE..`
 pub fn answer_session(
-    alloc: Global,
     call: Call,
     words: &mut Words<'_>,
     answers: &mut Answers,
 ) -> Result<(), CaseError> {
-    let session = Session::read(alloc, call, words)?;
-    session.answer(alloc, answers)
+    let session = Session::read(call, words)?;
+    session.answer(answers)
 }
 
 /// What has happened in a session.
@@ -61,6 +60,7 @@ impl Run {
 /// A session.
 #[derive(Drop)]
 struct Session {
+    alloc: Global,
     call: Call,
     settings: Settings,
     /// The bytes between quotes.
@@ -69,20 +69,21 @@ struct Session {
 
 impl Session {
     /// Reads the words and the bytes of a session.
-    fn read(alloc: Global, call: Call, words: &mut Words<'_>) -> Result<Session, CaseError> {
+    fn read(call: Call, words: &mut Words<'_>) -> Result<Session, CaseError> {
         let mut session = Session {
+            alloc: words.alloc,
             call,
             settings: Settings::new(),
-            pieces: Vec::new(alloc),
+            pieces: Vec::new(words.alloc),
         };
-        session.take_all(alloc, words)?;
+        session.take_all(words)?;
         Ok(session)
     }
 
     /// Takes all words that are left.
-    fn take_all(&mut self, alloc: Global, words: &mut Words<'_>) -> Result<(), CaseError> {
+    fn take_all(&mut self, words: &mut Words<'_>) -> Result<(), CaseError> {
         for word in words.rest() {
-            self.take(alloc, word)?;
+            self.take(word)?;
         }
         if self.is_case() {
             Ok(())
@@ -92,9 +93,9 @@ impl Session {
     }
 
     /// Takes a word, or bytes between quotes.
-    fn take(&mut self, alloc: Global, word: &str) -> Result<(), CaseError> {
+    fn take(&mut self, word: &str) -> Result<(), CaseError> {
         if word.starts_with("\"") {
-            Ok(self.pieces.push(read_bytes(alloc, word)?)?)
+            Ok(self.pieces.push(read_bytes(self.alloc, word)?)?)
         } else {
             self.settings.set(word)
         }
@@ -125,8 +126,8 @@ impl Session {
     }
 
     /// A run in which nothing has happened, with room for how each call ends.
-    fn new_run(&self, alloc: Global) -> Result<Run, CaseError> {
-        let mut ends = Vec::new(alloc);
+    fn new_run(&self) -> Result<Run, CaseError> {
+        let mut ends = Vec::new(self.alloc);
         ends.reserve(self.pieces.len().saturating_add(1))?;
         Ok(Run {
             ends,
@@ -137,12 +138,12 @@ impl Session {
     }
 
     /// A writer that has taken nothing.
-    fn new_room(&self, alloc: Global) -> Result<Room, CaseError> {
+    fn new_room(&self) -> Result<Room, CaseError> {
         if self.settings.is_appended {
-            let held = Vec::from_slice(alloc, self.first_bytes())?;
+            let held = Vec::from_slice(self.alloc, self.first_bytes())?;
             return Ok(Room::new(held, self.settings.writes));
         }
-        let mut held = Vec::new(alloc);
+        let mut held = Vec::new(self.alloc);
         held.reserve(RESERVED)?;
         Ok(Room::new(held, self.settings.writes))
     }
@@ -161,30 +162,23 @@ impl Session {
     /// Serves the bytes once.
     fn serve_once<H: Handler>(
         &self,
-        alloc: Global,
         reader: &mut Input<Pieces<'_>>,
         writer: &mut Output<Room>,
         handler: &mut H,
     ) -> End {
         End::of_serve(match self.settings.limit {
-            0 => serve(alloc, reader, writer, handler),
-            limit => serve_with_limit(alloc, limit, reader, writer, handler),
+            0 => serve(self.alloc, reader, writer, handler),
+            limit => serve_with_limit(self.alloc, limit, reader, writer, handler),
         })
     }
 
     /// Serves the bytes, and once more where that is asked for.
-    fn serve_all<H: Handler>(
-        &self,
-        alloc: Global,
-        handler: &mut H,
-        room: Room,
-        run: &mut Run,
-    ) -> Room {
+    fn serve_all<H: Handler>(&self, handler: &mut H, room: Room, run: &mut Run) -> Room {
         let mut reader = Input::new(Pieces::new(self.first_bytes(), self.settings.reads));
         let mut writer = Output::new(room);
-        run.note(self.serve_once(alloc, &mut reader, &mut writer, handler));
+        run.note(self.serve_once(&mut reader, &mut writer, handler));
         if self.settings.is_again && !run.is_out_of_memory {
-            run.note(self.serve_once(alloc, &mut reader, &mut writer, handler));
+            run.note(self.serve_once(&mut reader, &mut writer, handler));
         }
         let pieces = reader.into_inner();
         run.reads = pieces.reads;
@@ -193,22 +187,16 @@ impl Session {
     }
 
     /// An engine that was fed nothing.
-    fn new_engine(&self, alloc: Global) -> Engine {
+    fn new_engine(&self) -> Engine {
         match self.settings.limit {
-            0 => Engine::new(alloc),
-            limit => Engine::with_limit(alloc, limit),
+            0 => Engine::new(self.alloc),
+            limit => Engine::with_limit(self.alloc, limit),
         }
     }
 
     /// Feeds the pieces to an engine.
-    fn feed_all<H: Handler, K: Sink>(
-        &self,
-        alloc: Global,
-        handler: &mut H,
-        sink: &mut K,
-        run: &mut Run,
-    ) {
-        let mut engine = self.new_engine(alloc);
+    fn feed_all<H: Handler, K: Sink>(&self, handler: &mut H, sink: &mut K, run: &mut Run) {
+        let mut engine = self.new_engine();
         for piece in self.fed() {
             run.note(feed(&mut engine, piece.as_slice(), handler, sink));
         }
@@ -216,17 +204,17 @@ impl Session {
     }
 
     /// Makes all calls of the session.
-    fn run<H: Handler>(&self, alloc: Global, handler: &mut H, room: Room, run: &mut Run) -> Room {
+    fn run<H: Handler>(&self, handler: &mut H, room: Room, run: &mut Run) -> Room {
         if let Call::Serve = self.call {
-            return self.serve_all(alloc, handler, room, run);
+            return self.serve_all(handler, room, run);
         }
         if self.settings.is_appended {
             let mut held = room.into_held();
-            self.feed_all(alloc, handler, &mut held, run);
+            self.feed_all(handler, &mut held, run);
             return Room::new(held, self.settings.writes);
         }
         let mut output = Output::new(room);
-        self.feed_all(alloc, handler, &mut output, run);
+        self.feed_all(handler, &mut output, run);
         output.into_inner()
     }
 
@@ -240,30 +228,16 @@ impl Session {
         answers.put(format_args!(" reads={} unread={}", run.reads, Quoted(unread)));
     }
 
-    /// Makes all calls of the session by a new handler.
-    fn run_by<H: Handler + Tried>(&self, alloc: Global, room: Room, run: &mut Run) -> (H, Room) {
-        let mut handler = H::start(self.settings.fails_at);
-        let room = self.run(alloc, &mut handler, room, run);
-        (handler, room)
-    }
-
     /// Answers a session by this handler. Where memory ran out, it is made again from the start.
-    fn answer_by<H: Handler + Tried>(
-        &self,
-        alloc: Global,
-        run: &mut Run,
-        room: Room,
-        answers: &mut Answers,
-    ) {
-        let (handler, room) = self.run_by::<H>(alloc, room, run);
-        let (handler, room) = if run.is_out_of_memory {
+    fn answer_by<H: Handler + Tried>(&self, run: &mut Run, room: Room, answers: &mut Answers) {
+        let mut handler = H::start(self.settings.fails_at);
+        let mut room = self.run(&mut handler, room, run);
+        if run.is_out_of_memory {
             answers.out_of_memory_after(run.ends.as_slice(), room.held.as_slice());
             run.restart();
-            drop(handler);
-            self.run_by::<H>(alloc, self.restart(room), run)
-        } else {
-            (handler, room)
-        };
+            handler = H::start(self.settings.fails_at);
+            room = self.run(&mut handler, self.restart(room), run);
+        }
         put_written(&room, run, answers);
         answers.put(format_args!("taken={}", handler.taken()));
         handler.put_last(answers);
@@ -271,15 +245,15 @@ impl Session {
     }
 
     /// Answers a session.
-    fn answer(&self, alloc: Global, answers: &mut Answers) -> Result<(), CaseError> {
-        let mut run = self.new_run(alloc)?;
-        let room = self.new_room(alloc)?;
+    fn answer(&self, answers: &mut Answers) -> Result<(), CaseError> {
+        let mut run = self.new_run()?;
+        let room = self.new_room()?;
         answers.begin();
         match self.settings.handler {
-            Answering::Demo => self.answer_by::<Demo>(alloc, &mut run, room, answers),
-            Answering::Okay => self.answer_by::<Okay>(alloc, &mut run, room, answers),
-            Answering::Silent => self.answer_by::<Silent>(alloc, &mut run, room, answers),
-            Answering::EchoError => self.answer_by::<EchoError>(alloc, &mut run, room, answers),
+            Answering::Demo => self.answer_by::<Demo>(&mut run, room, answers),
+            Answering::Okay => self.answer_by::<Okay>(&mut run, room, answers),
+            Answering::Silent => self.answer_by::<Silent>(&mut run, room, answers),
+            Answering::EchoError => self.answer_by::<EchoError>(&mut run, room, answers),
         }
         Ok(())
     }

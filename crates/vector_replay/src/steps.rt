@@ -1,6 +1,5 @@
 //! The steps of a decoder whose input comes in pieces.
 use crate::words::{CaseError, Words, read_bytes};
-use std::alloc::Global;
 
 /// What is done with a decoder.
 #[derive(Clone, Copy)]
@@ -23,24 +22,24 @@ pub struct Step {
 }
 
 /// The step that a word begins.
-fn read_step(alloc: Global, word: &str, words: &mut Words<'_>) -> Result<Step, CaseError> {
+fn read_step(word: &str, words: &mut Words<'_>) -> Result<Step, CaseError> {
     let (action, piece) = match word {
-        "clear" => (Action::Clear, Vec::new(alloc)),
-        "next" => (Action::Next, Vec::new(alloc)),
-        "push" => (Action::Push, words.bytes(alloc)?),
-        word => (Action::Feed, read_bytes(alloc, word)?),
+        "clear" => (Action::Clear, Vec::new(words.alloc)),
+        "next" => (Action::Next, Vec::new(words.alloc)),
+        "push" => (Action::Push, words.bytes()?),
+        word => (Action::Feed, read_bytes(words.alloc, word)?),
     };
     Ok(Step { action, piece })
 }
 
 /// All steps that are left.
-pub fn read_steps(alloc: Global, words: &mut Words<'_>) -> Result<Vec<Step>, CaseError> {
-    let mut steps = Vec::new(alloc);
+pub fn read_steps(words: &mut Words<'_>) -> Result<Vec<Step>, CaseError> {
+    let mut steps = Vec::new(words.alloc);
     for _ in 0..words.most() {
         let Some(word) = words.next() else {
             break;
         };
-        steps.push(read_step(alloc, word, words)?)?;
+        steps.push(read_step(word, words)?)?;
     }
     Ok(steps)
 }

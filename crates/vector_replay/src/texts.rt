@@ -2,7 +2,6 @@
 use crate::answers::Answers;
 use crate::forms::Forms;
 use crate::words::{CaseError, Words};
-use std::alloc::Global;
 use std::fmt::{Debug, Display};
 use std::io::ErrorKind;
 use unftp_control_codecs::EncodeLinesError;
@@ -25,11 +24,7 @@ fn parse_kind(name: &str) -> Result<ParseErrorKind, CaseError> {
 }
 
 /// The control channel's kind of this name. Where it holds a command, that is the next word.
-fn kind(
-    alloc: Global,
-    name: &str,
-    words: &mut Words<'_>,
-) -> Result<ControlChanErrorKind, CaseError> {
+fn kind(name: &str, words: &mut Words<'_>) -> Result<ControlChanErrorKind, CaseError> {
     Ok(match name {
         "IoError" => ControlChanErrorKind::IoError,
         "ParseError" => ControlChanErrorKind::ParseError,
@@ -37,7 +32,7 @@ fn kind(
         "AuthenticationError" => ControlChanErrorKind::AuthenticationError,
         "InternalMsgError" => ControlChanErrorKind::InternalMsgError,
         "UnknownCommand" => ControlChanErrorKind::UnknownCommand {
-            command: words.text(alloc)?,
+            command: words.text()?,
         },
         name => return returned_kind(name),
     })
@@ -125,24 +120,19 @@ fn parse_error(name: &str) -> Result<ParseError, CaseError> {
 }
 
 /// The control channel's error of this name.
-fn control_error(
-    alloc: Global,
-    name: &str,
-    words: &mut Words<'_>,
-) -> Result<ControlChanError, CaseError> {
-    Ok(ControlChanError::from(kind(alloc, name, words)?))
+fn control_error(name: &str, words: &mut Words<'_>) -> Result<ControlChanError, CaseError> {
+    Ok(ControlChanError::from(kind(name, words)?))
 }
 
 /// Writes what Display and Debug write of the error that was read, once no word is left.
 fn print<E: Debug + Display + Drop>(
-    alloc: Global,
     read: Result<E, CaseError>,
     words: &mut Words<'_>,
     answers: &mut Answers,
 ) -> Result<(), CaseError> {
     let error = read?;
     words.end()?;
-    let mut forms = Forms::reserved(alloc)?;
+    let mut forms = Forms::reserved(words.alloc)?;
     answers.begin();
     forms.display(&error, answers);
     answers.put(" ");
@@ -152,36 +142,31 @@ fn print<E: Debug + Display + Drop>(
 
 /// Prints the error of a client's call that has this type and name.
 fn print_client_error(
-    alloc: Global,
     error: &str,
     name: &str,
     words: &mut Words<'_>,
     answers: &mut Answers,
 ) -> Result<(), CaseError> {
     match error {
-        "WriteCommandError" => print(alloc, write_error(name), words, answers),
-        "ReadReplyError" => print(alloc, read_error(name), words, answers),
-        "NextReplyError" => print(alloc, next_error(name), words, answers),
-        "ReceiveError" => print(alloc, receive_error(name), words, answers),
+        "WriteCommandError" => print(write_error(name), words, answers),
+        "ReadReplyError" => print(read_error(name), words, answers),
+        "NextReplyError" => print(next_error(name), words, answers),
+        "ReceiveError" => print(receive_error(name), words, answers),
         _ => Err(CaseError::NoCase),
     }
 }
 
 /// `text TYPE VARIANT`
-pub fn answer_text(
-    alloc: Global,
-    words: &mut Words<'_>,
-    answers: &mut Answers,
-) -> Result<(), CaseError> {
+pub fn answer_text(words: &mut Words<'_>, answers: &mut Answers) -> Result<(), CaseError> {
     let error = words.word()?;
     let name = words.word()?;
     match error {
-        "ParseErrorKind" => print(alloc, parse_kind(name), words, answers),
-        "ParseError" => print(alloc, parse_error(name), words, answers),
-        "ControlChanErrorKind" => print(alloc, kind(alloc, name, words), words, answers),
-        "ControlChanError" => print(alloc, control_error(alloc, name, words), words, answers),
-        "ServeError" => print(alloc, serve_error(name), words, answers),
-        "EncodeLinesError" => print(alloc, lines_error(name), words, answers),
-        error => print_client_error(alloc, error, name, words, answers),
+        "ParseErrorKind" => print(parse_kind(name), words, answers),
+        "ParseError" => print(parse_error(name), words, answers),
+        "ControlChanErrorKind" => print(kind(name, words), words, answers),
+        "ControlChanError" => print(control_error(name, words), words, answers),
+        "ServeError" => print(serve_error(name), words, answers),
+        "EncodeLinesError" => print(lines_error(name), words, answers),
+        error => print_client_error(error, name, words, answers),
     }
 }

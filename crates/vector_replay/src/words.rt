@@ -30,14 +30,16 @@ impl<T: Drop> From<AllocFailed<T>> for CaseError {
 /// The words that are not read yet; tabs divide them.
 #[derive(Drop)]
 pub struct Words<'a> {
+    pub alloc: Global,
     rest: Split<'a, char>,
     length: usize,
 }
 
 impl<'a> Words<'a> {
     /// The words of a line.
-    pub fn of(line: &'a str) -> Words<'a> {
+    pub fn of(alloc: Global, line: &'a str) -> Words<'a> {
         Words {
+            alloc,
             rest: line.split('\t'),
             length: line.len(),
         }
@@ -64,13 +66,13 @@ impl<'a> Words<'a> {
     }
 
     /// The bytes that the next word has between quotes.
-    pub fn bytes(&mut self, alloc: Global) -> Result<Vec<u8>, CaseError> {
-        read_bytes(alloc, self.word()?)
+    pub fn bytes(&mut self) -> Result<Vec<u8>, CaseError> {
+        read_bytes(self.alloc, self.word()?)
     }
 
     /// The text that the next word has between quotes.
-    pub fn text(&mut self, alloc: Global) -> Result<String, CaseError> {
-        read_text(alloc, self.word()?)
+    pub fn text(&mut self) -> Result<String, CaseError> {
+        read_text(self.alloc, self.word()?)
     }
 
     /// The next word as a number.
@@ -95,7 +97,8 @@ impl<'a> Words<'a> {
     }
 
     /// The bytes of all words that are left.
-    pub fn pieces(&mut self, alloc: Global) -> Result<Vec<Vec<u8>>, CaseError> {
+    pub fn pieces(&mut self) -> Result<Vec<Vec<u8>>, CaseError> {
+        let alloc = self.alloc;
         let mut pieces = Vec::new(alloc);
         for word in self.rest() {
             pieces.push(read_bytes(alloc, word)?)?;
@@ -104,7 +107,8 @@ impl<'a> Words<'a> {
     }
 
     /// The texts of all words that are left.
-    pub fn texts(&mut self, alloc: Global) -> Result<Vec<String>, CaseError> {
+    pub fn texts(&mut self) -> Result<Vec<String>, CaseError> {
+        let alloc = self.alloc;
         let mut texts = Vec::new(alloc);
         for word in self.rest() {
             texts.push(read_text(alloc, word)?)?;
@@ -113,13 +117,13 @@ impl<'a> Words<'a> {
     }
 
     /// The bytes that the one word has that is left.
-    pub fn last_bytes(&mut self, alloc: Global) -> Result<Vec<u8>, CaseError> {
-        read_bytes(alloc, self.last()?)
+    pub fn last_bytes(&mut self) -> Result<Vec<u8>, CaseError> {
+        read_bytes(self.alloc, self.last()?)
     }
 
     /// The text that the one word has that is left.
-    pub fn last_text(&mut self, alloc: Global) -> Result<String, CaseError> {
-        read_text(alloc, self.last()?)
+    pub fn last_text(&mut self) -> Result<String, CaseError> {
+        read_text(self.alloc, self.last()?)
     }
 
     /// The one word that is left.

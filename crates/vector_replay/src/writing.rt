@@ -90,16 +90,16 @@ fn read_named(
 }
 
 /// The command whose variant and fields all words are that are left.
-fn read_fields(alloc: Global, words: &mut Words<'_>) -> Result<Command, CaseError> {
+fn read_fields(words: &mut Words<'_>) -> Result<Command, CaseError> {
     let variant = words.word()?;
     let first = words.word()?;
     let Some(second) = words.next() else {
-        return read_field(alloc, variant, first);
+        return read_field(words.alloc, variant, first);
     };
     words.end()?;
     match variant {
-        "List" => read_list(alloc, first, second),
-        variant => read_named(alloc, variant, first, second),
+        "List" => read_list(words.alloc, first, second),
+        variant => read_named(words.alloc, variant, first, second),
     }
 }
 
@@ -112,13 +112,9 @@ fn put_line(command: Command, mut buf: Vec<u8>, answers: &mut Answers) {
 }
 
 /// `write COMMAND FIELD..`
-pub fn answer_write(
-    alloc: Global,
-    words: &mut Words<'_>,
-    answers: &mut Answers,
-) -> Result<(), CaseError> {
-    let buf = Vec::from_slice(alloc, b"x")?;
-    let command = read_fields(alloc, words)?;
+pub fn answer_write(words: &mut Words<'_>, answers: &mut Answers) -> Result<(), CaseError> {
+    let buf = Vec::from_slice(words.alloc, b"x")?;
+    let command = read_fields(words)?;
     answers.begin();
     put_line(command, buf, answers);
     Ok(())
@@ -184,15 +180,11 @@ fn put_forwarded(forwarded: &Result<(), ForwardError>, buf: &[u8], answers: &mut
 }
 
 /// `forward LINE`
-pub fn answer_forward(
-    alloc: Global,
-    words: &mut Words<'_>,
-    answers: &mut Answers,
-) -> Result<(), CaseError> {
-    let mut buf = Vec::from_slice(alloc, b"x")?;
-    let line = words.last_bytes(alloc)?;
+pub fn answer_forward(words: &mut Words<'_>, answers: &mut Answers) -> Result<(), CaseError> {
+    let mut buf = Vec::from_slice(words.alloc, b"x")?;
+    let line = words.last_bytes()?;
     answers.begin();
-    let forwarded = forward_line(alloc, line.as_slice(), &mut buf, answers);
+    let forwarded = forward_line(words.alloc, line.as_slice(), &mut buf, answers);
     put_forwarded(&forwarded, buf.as_slice(), answers);
     drop(forwarded);
     Ok(())
