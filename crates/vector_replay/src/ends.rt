@@ -149,7 +149,7 @@ impl End {
 
 impl Display for End {
     fn fmt<W: Write>(&self, f: &mut Formatter<W>) -> fmt::Result {
-        write!(f, "{}", self.outcome)?;
+        Display::fmt(&self.outcome, f)?;
         if let Some(left) = self.left {
             write!(f, " left={left}")?;
         }

@@ -31,17 +31,16 @@ fn put_event(event: &Event, answers: &mut Answers) {
 
 /// Takes an event and writes it, and its line where that is asked for; whether there was one.
 fn take_event(decoder: &mut EventDecoder, has_lines: bool, answers: &mut Answers) -> bool {
-    let taken = next_event(decoder, answers);
-    let is_event = matches!(&taken, Ok(Some(_)));
-    if let Ok(Some(event)) = &taken {
-        put_event(event, answers);
-    }
-    drop(taken);
-    if is_event && has_lines {
+    let Ok(Some(event)) = next_event(decoder, answers) else {
+        return false;
+    };
+    put_event(&event, answers);
+    drop(event);
+    if has_lines {
         answers.put(format_args!(" of {}", Quoted(decoder.line())));
     }
-    answers.put_unless(!is_event, " | ");
-    is_event
+    answers.put(" | ");
+    true
 }
 
 /// Takes all events.

@@ -127,10 +127,8 @@ impl Session {
 
     /// A run in which nothing has happened, with room for how each call ends.
     fn new_run(&self) -> Result<Run, CaseError> {
-        let mut ends = Vec::new(self.alloc);
-        ends.reserve(self.pieces.len().saturating_add(1))?;
         Ok(Run {
-            ends,
+            ends: Vec::with_capacity(self.alloc, self.pieces.len().saturating_add(1))?,
             is_out_of_memory: false,
             reads: 0,
             unread: 0,
@@ -139,12 +137,11 @@ impl Session {
 
     /// A writer that has taken nothing.
     fn new_room(&self) -> Result<Room, CaseError> {
-        if self.settings.is_appended {
-            let held = Vec::from_slice(self.alloc, self.first_bytes())?;
-            return Ok(Room::new(held, self.settings.writes));
-        }
-        let mut held = Vec::new(self.alloc);
-        held.reserve(RESERVED)?;
+        let held = if self.settings.is_appended {
+            Vec::from_slice(self.alloc, self.first_bytes())?
+        } else {
+            Vec::with_capacity(self.alloc, RESERVED)?
+        };
         Ok(Room::new(held, self.settings.writes))
     }
 
