@@ -63,12 +63,6 @@ fn assert_first(rt: &impl Abort, alloc: Global, bytes: &[u8], want: Option<(u16,
     assert!(rt; first == want);
 }
 
-/// The next reply has this code.
-fn assert_code(rt: &impl Abort, replies: &mut ReplyDecoder, mut stream: &[u8], want: Option<u16>) {
-    let code = next_code(replies, &mut stream).expect(rt, "a reply");
-    assert!(rt; code == want);
-}
-
 /// The client begins TLS, or doesn't, where the stream gives this.
 fn assert_agreed(rt: &impl Abort, replies: &mut ReplyDecoder, mut stream: &[u8], want: bool) {
     let is_agreed = tls_agreed(replies, &mut stream).expect(rt, "a reply");
@@ -80,14 +74,11 @@ fn a_client_reads_replies(rt: HostRuntime) {
     assert_first(&rt, rt.alloc(), b"220 ready\r\n331", Some((220, 11)));
     assert_first(&rt, rt.alloc(), b"220 ready\r", None);
     let mut replies = ReplyDecoder::new(rt.alloc());
-    assert_code(
-        &rt,
-        &mut replies,
-        b"220 ready\r\n234 Begin TLS\r\n",
-        Some(220),
-    );
+    let mut stream = b"220 ready\r\n234 Begin TLS\r\n".as_slice();
+    let code = next_code(&mut replies, &mut stream).expect(&rt, "a reply");
+    assert_eq!(rt; code, Some(220));
     // the second reply was received with the first, and nothing after it
-    assert_agreed(&rt, &mut replies, b"", true);
+    assert_agreed(&rt, &mut replies, stream, true);
 }
 
 /// After the server sent this, the client doesn't begin TLS.
@@ -168,7 +159,7 @@ fn assert_turn(
 #[test]
 fn an_event_loop_sends_what_it_likes(rt: HostRuntime) {
     let alloc = rt.alloc();
-    let mut decoder = EventDecoder::new(alloc);
+    let mut decoder = EventDecoder::new(rt.alloc());
     let input = b"RETR a\r\nAUTH TLS\r\n";
     decoder.push(input).expect(&rt, "memory");
     let sent = b"150 Sending data\r\n226 Sent\r\n";
