@@ -1,7 +1,7 @@
 -- What is in an area after a text was written to it.
 use Rattle.std.proofs.Common.{◌≡◌, Bool, true, false, ◌++◌, length, take, drop, arith, append_assoc, length-append}
 use Rattle.std.specs.Prelude.{if◌then◌else◌, nat_le}
-use Rattle.std.proofs.Math.Seq.{take-append_seam}
+use Rattle.std.proofs.Math.Seq.{take-append_seam, drop-append_seam}
 use Rattle.std.proofs.lemmas.List.{drop-drop}
 use Rattle.unftp_control_defs.specs.Bytes.{Bytes}
 use Rattle.unftp_control_c.specs.declared.status.Status.TheVariants.{Done, NoRoom, NoLine, OutOfMemory}
@@ -39,3 +39,11 @@ filled_has_memory text area out = go (nat_le (length text) (length area)) out
 -- two texts
 pub one_after_the_other : (text next area : Bytes) → text ++ overwritten next (drop (length text) area) ≡ overwritten (text ++ next) area
 one_after_the_other text next area = simp (append_assoc, drop-drop, length-append)
+
+-- two texts at the start of an area are found by their lengths
+pub parts_apart : (text next rest : Bytes) → (take (length text) ((text ++ next) ++ rest) ≡ text)
+    × (take (length next) (drop (length text) ((text ++ next) ++ rest)) ≡ next)
+parts_apart text next rest = rw (append_assoc text next rest) (
+  take-append_seam text (next ++ rest),
+  rw (drop-append_seam text (next ++ rest)) (take-append_seam next rest),
+)

@@ -1,11 +1,12 @@
 -- What a call leaves, by its result.
 use Rattle.std.proofs.Common.{◌≡◌, ◌≢◌, ℕ, ◌+◌, ◌<◌, Bool, true, false, ◌⊎◌, length, take, Option, Some, None, Ok, Err, refl, subst, inl, inr, arith}
 use Rattle.unftp_control_defs.specs.FtpCommand.{Answer, FtpCommand, Refusal, User, InvalidCommand, InvalidUtf8, InvalidEol}
-use Rattle.unftp_control_defs.specs.NameAndValue.{name_and_value, command_number}
+use Rattle.std.specs.Prelude.{nat_le}
+use Rattle.unftp_control_defs.specs.NameAndValue.{command_number}
 use Rattle.unftp_control_defs.specs.Outcome.{outcome}
 use Rattle.unftp_control_codecs.specs.LineFeed.{line_feed_from}
 use Rattle.unftp_control_c.specs.declared.status.Status.TheVariants.{More, NoRoom, OutOfMemory, InvalidArgument}
-use Rattle.unftp_control_c.specs.Next.{value_of_command, Call, Left, Leaves, answered, by_line_feed, ended, gives, has_room, incomplete, is_long, is_within, kept, next_of}
+use Rattle.unftp_control_c.specs.Next.{Call, Left, Leaves, answered, by_line_feed, ended, gives, incomplete, is_long, is_valid, kept, line_of, next_of, text_of}
 use Rattle.unftp_control_c.specs.Numbers.{refusal_status, status_number}
 use Rattle.unftp_control_c.specs.Taking.{gives_none}
 
@@ -19,54 +20,50 @@ refusal_gives InvalidCommand = refl
 refusal_gives InvalidUtf8 = refl
 refusal_gives InvalidEol = refl
 
--- the areas have no room for a command's name or value
+-- the area has no room for a command's name and value
 abbrev pub without_room : Call → FtpCommand → Left
 without_room call command = record {
   result = status_number NoRoom;
-  used = 0;
-  offset = call.offset;
-  skipping = call.skipping;
-  name = call.name;
-  name_length = length (name_and_value command).0;
-  value = call.value;
-  value_length = length (value_of_command command);
+  connection = call.connection;
+  area = call.area;
+  line = line_of 0 command;
 }
 
 -- what a call leaves, by its result
 pub data NextLeft (call : Call) (left : Left) : Type 0 where
-  invalid : is_within call.offset call.skipping (length call.bytes) ≡ false → left ≡ kept call InvalidArgument → NextLeft call left
-  asks : line_feed_from call.bytes call.offset ≡ None → left.result ≡ status_number More → NextLeft call left
-  gave : gives_none left.result ≡ false → 0 < left.used → NextLeft call left
-  no_room : (k : ℕ) (command : FtpCommand) → is_within call.offset call.skipping (length call.bytes) ≡ true → line_feed_from call.bytes call.offset ≡ Some k
-      → is_long call (k + 1) ≡ false → outcome (take (k + 1) call.bytes) ≡ Ok command → left ≡ without_room call command → NextLeft call left
+  invalid : is_valid call.connection (length call.bytes) ≡ false → left ≡ kept call InvalidArgument → NextLeft call left
+  asks : line_feed_from call.bytes call.connection.offset ≡ None → left.result ≡ status_number More → NextLeft call left
+  gave : gives_none left.result ≡ false → 0 < left.line.used → NextLeft call left
+  no_room : (k : ℕ) (command : FtpCommand) → is_valid call.connection (length call.bytes) ≡ true → line_feed_from call.bytes call.connection.offset ≡ Some k
+      → is_long call.connection (k + 1) ≡ false → outcome (take (k + 1) call.bytes) ≡ Ok command → left ≡ without_room call command → NextLeft call left
 
 module _ (call : Call) where
   abbrev feed : Option ℕ
-  feed = line_feed_from call.bytes call.offset
+  feed = line_feed_from call.bytes call.connection.offset
 
   abbrev valid : Bool
-  valid = is_within call.offset call.skipping (length call.bytes)
+  valid = is_valid call.connection (length call.bytes)
 
-  left_waiting : feed ≡ None → (long : Bool) → is_long call (length call.bytes + 1) ≡ long → NextLeft call (incomplete call)
+  left_waiting : feed ≡ None → (long : Bool) → is_long call.connection (length call.bytes + 1) ≡ long → NextLeft call (incomplete call)
   left_waiting none true e = rw e (asks none refl)
   left_waiting none false e = rw e (asks none refl)
 
-  left_command : (k : ℕ) (command : FtpCommand) → valid ≡ true → feed ≡ Some k → is_long call (k + 1) ≡ false → outcome (take (k + 1) call.bytes) ≡ Ok command
-      → (room : Bool) → has_room command call.name call.value ≡ room → NextLeft call (gives call (k + 1) command)
+  left_command : (k : ℕ) (command : FtpCommand) → valid ≡ true → feed ≡ Some k → is_long call.connection (k + 1) ≡ false → outcome (take (k + 1) call.bytes) ≡ Ok command
+      → (room : Bool) → nat_le (length (text_of command)) (length call.area) ≡ room → NextLeft call (gives call.connection call.area (k + 1) command)
   left_command k command ok at short read true e = rw e (gave (command_gives command) (omega arith))
   left_command k command ok at short read false e = rw e (no_room k command ok at short read refl)
 
-  left_answer : (k : ℕ) → valid ≡ true → feed ≡ Some k → is_long call (k + 1) ≡ false → (answer : Answer) → outcome (take (k + 1) call.bytes) ≡ answer → NextLeft call (answered call (k + 1) answer)
-  left_answer k ok at short (Ok command) read = left_command k command ok at short read (has_room command call.name call.value) refl
+  left_answer : (k : ℕ) → valid ≡ true → feed ≡ Some k → is_long call.connection (k + 1) ≡ false → (answer : Answer) → outcome (take (k + 1) call.bytes) ≡ answer → NextLeft call (answered call (k + 1) answer)
+  left_answer k ok at short (Ok command) read = left_command k command ok at short read (nat_le (length (text_of command)) (length call.area)) refl
   left_answer k ok at short (Err refusal) read = gave (refusal_gives refusal) (omega arith)
 
-  left_line : (k : ℕ) → valid ≡ true → feed ≡ Some k → (long : Bool) → is_long call (k + 1) ≡ long → NextLeft call (ended call k)
+  left_line : (k : ℕ) → valid ≡ true → feed ≡ Some k → (long : Bool) → is_long call.connection (k + 1) ≡ long → NextLeft call (ended call k)
   left_line k ok at true e = rw e (gave refl (omega arith))
   left_line k ok at false e = rw e (left_answer k ok at e (outcome (take (k + 1) call.bytes)) refl)
 
   left_feed : valid ≡ true → (o : Option ℕ) → feed ≡ o → NextLeft call (by_line_feed call o)
-  left_feed ok None e = left_waiting e (is_long call (length call.bytes + 1)) refl
-  left_feed ok (Some k) e = left_line k ok e (is_long call (k + 1)) refl
+  left_feed ok None e = left_waiting e (is_long call.connection (length call.bytes + 1)) refl
+  left_feed ok (Some k) e = left_line k ok e (is_long call.connection (k + 1)) refl
 
   left_by : (ok : Bool) → valid ≡ ok → NextLeft call (next_of call)
   left_by false e = rw e (invalid e refl)

@@ -1,69 +1,58 @@
 -- What a caller of `unftp_next` does with a connection, call after call, and what it is given.
-use Rattle.std.specs.Prelude.{◌≡◌, ℕ, ◌==◌, ◌||◌, ◌⊎◌, Bool, false, if◌then◌else◌, List, [], ◌∷◌, ◌++◌, take, drop, unwrap_or}
+use Rattle.std.specs.Prelude.{◌≡◌, ℕ, ◌==◌, ◌||◌, ◌⊎◌, Bool, if◌then◌else◌, List, [], ◌∷◌, ◌++◌, take, drop}
 use Rattle.unftp_control_defs.specs.Bytes.{Bytes}
 use Rattle.unftp_control_defs.specs.Events.{FtpEvent, Command, Refused, FaultKind}
 use Rattle.unftp_control_defs.specs.Events as fault
-use Rattle.unftp_control_defs.specs.NameAndValue.{name_and_value, command_number}
+use Rattle.unftp_control_defs.specs.NameAndValue.{command_number}
+use Rattle.unftp_control_c.specs.declared.next.Connection.{Connection}
 use Rattle.unftp_control_c.specs.declared.status.Status.TheVariants.{More, OutOfMemory, NoRoom}
 use Rattle.unftp_control_c.specs.Numbers.{status_number, fault_status}
-use Rattle.unftp_control_c.specs.Next.{Call, Left, Leaves}
+use Rattle.unftp_control_c.specs.Next.{Call, Left, Leaves, name_of, value_of_command}
 
--- what a caller keeps of a connection from call to call
-pub record Connection : Type 0 where
+-- what a caller has of a connection from call to call
+pub record Caller : Type 0 where
+  pub connection : Connection
   -- the pending bytes
   pub bytes : Bytes
-  pub offset : ℕ
-  pub skipping : Bool
 
-abbrev pub new_connection : Connection
-new_connection = record { bytes = []; offset = 0; skipping = false }
+-- at the start of a connection with this limit
+abbrev pub new_caller : ℕ → Caller
+new_caller limit =
+    record { connection = record { limit = limit; offset = 0; skipping = 0 }; bytes = [] }
 
 -- bytes that were received follow the pending ones
-abbrev pub after_piece : Connection → Bytes → Connection
-after_piece connection piece = record {
-  bytes = connection.bytes ++ piece;
-  offset = connection.offset;
-  skipping = connection.skipping;
-}
+abbrev pub after_piece : Caller → Bytes → Caller
+after_piece caller piece =
+    record { connection = caller.connection; bytes = caller.bytes ++ piece }
 
--- a call with this limit, and these areas for a name and a value
-abbrev pub call_of : ℕ → Connection → Bytes → Bytes → Call
-call_of limit connection name value = record {
-  bytes = connection.bytes;
-  offset = connection.offset;
-  skipping = connection.skipping;
-  limit = limit;
-  name = name;
-  value = value;
-}
+-- a call with this area
+abbrev pub call_of : Caller → Bytes → Call
+call_of caller area =
+    record { connection = caller.connection; bytes = caller.bytes; area = area }
 
 -- the bytes that a call used up are dropped
-abbrev pub after_call : Connection → Left → Connection
-after_call connection left = record {
-  bytes = drop left.used connection.bytes;
-  offset = left.offset;
-  skipping = left.skipping;
-}
+abbrev pub after_call : Caller → Left → Caller
+after_call caller left =
+    record { connection = left.connection; bytes = drop left.line.used caller.bytes }
 
--- what a caller does: it receives bytes, or it makes a call with these two areas, which leaves this
+-- what a caller does: it receives bytes, or it makes a call with this area, which leaves this
 pub data CallerStep : Type 0 where
   Received : Bytes → CallerStep
-  Called : Bytes → Bytes → Left → CallerStep
+  Called : Bytes → Left → CallerStep
 
 -- These steps, in any order, lead from the one to the other; each call leaves what it may leave.
-abbrev pub AreCallerSteps : ℕ → Connection → List CallerStep → Connection → Type 0
-AreCallerSteps limit before [] after = after ≡ before
-AreCallerSteps limit before (Received piece ∷ steps) after =
-    AreCallerSteps limit (after_piece before piece) steps after
-AreCallerSteps limit before (Called name value left ∷ steps) after =
-    Leaves (call_of limit before name value) left
-    × AreCallerSteps limit (after_call before left) steps after
+abbrev pub AreCallerSteps : Caller → List CallerStep → Caller → Type 0
+AreCallerSteps before [] after = after ≡ before
+AreCallerSteps before (Received piece ∷ steps) after =
+    AreCallerSteps (after_piece before piece) steps after
+AreCallerSteps before (Called area left ∷ steps) after = Leaves (call_of before area) left
+    × AreCallerSteps (after_call before left) steps after
 
 -- all bytes that were received
 abbrev pub input_of : List CallerStep → Bytes
 input_of [] = []
 input_of (Received piece ∷ steps) = piece ++ input_of steps
-input_of (Called name value left ∷ steps) = input_of steps
+input_of (Called area left ∷ steps) = input_of steps
 
 -- what a caller is given for a line: a number, and the name and the value of a command
 pub record Given : Type 0 where
@@ -75,8 +64,8 @@ pub record Given : Type 0 where
 abbrev pub given_for : FtpEvent → Given
 given_for (Command command) = record {
   number = command_number command;
-  name = (name_and_value command).0;
-  value = unwrap_or (name_and_value command).1 [];
+  name = name_of command;
+  value = value_of_command command;
 }
 given_for (Refused fault) =
     record { number = status_number (fault_status fault); name = []; value = [] }
@@ -86,20 +75,20 @@ abbrev pub gives_none : ℕ → Bool
 gives_none result = result == status_number More || result == status_number NoRoom
     || result == status_number OutOfMemory
 
--- what a call gives: its result, and what it wrote to the areas
+-- what a call gives: its result, and what it wrote to the area
 abbrev pub given_by : Left → List Given
 given_by left = if gives_none left.result
     then []
     else record {
       number = left.result;
-      name = take left.name_length left.name;
-      value = take left.value_length left.value;
+      name = take left.line.name_len left.area;
+      value = take left.line.value_len (drop left.line.name_len left.area);
     } ∷ []
 
 abbrev pub all_given : List CallerStep → List Given
 all_given [] = []
 all_given (Received piece ∷ steps) = all_given steps
-all_given (Called name value left ∷ steps) = given_by left ++ all_given steps
+all_given (Called area left ∷ steps) = given_by left ++ all_given steps
 
 -- A line that is refused with a fault of this kind is given this number; with no other kind a line
 -- is refused.

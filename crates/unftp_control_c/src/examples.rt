@@ -1,7 +1,7 @@
 //! Examples of the definitions, worked out by hand: what calls leave, at the boundary.
 #![tactic(auto, unfolding(unftp_control_defs::proofs::Computing::at_bytes))]
 
-ghost use Rattle.std.specs.Prelude.{◌≡◌, true, false, [], ◌∷◌, Ok, Err, codes};
+ghost use Rattle.std.specs.Prelude.{◌≡◌, [], ◌∷◌, Ok, Err, codes};
 ghost use Rattle.unftp_control_defs.specs.FtpReply.{CodeAndMsg, MultiLine};
 ghost use Rattle.unftp_control_c.specs.Areas.{filled, written};
 ghost use Rattle.unftp_control_c.specs.CanonicalLines.{CanonicalMayTakeMemory, IsCanonical};
@@ -14,44 +14,44 @@ ghost use Rattle.unftp_control_c.specs.declared.status.Status.TheVariants.{Inval
 pub mod calls;
 
 /// Complete lines. `a_call` has the pending bytes, the offset, whether bytes were dropped, the limit
-/// and the two areas; `leaving` the result, how many bytes are used, the offset, whether bytes were
-/// dropped, and each area with its length.
+/// and the area; `leaving` the result, how many bytes are used, the offset, whether bytes were
+/// dropped, the limit, and the area with the lengths of the name and the value.
 pub fn lines_are_taken()
-    // of a limit of 8 bytes, the line has 8; the areas have one byte more, and just enough
-    ensures command { next_of (a_call (codes "RETR a\r\nQ") 0 false 8 (codes ".....") (codes "."))
-        ≡ leaving 14 8 0 false (codes "RETR.") 4 (codes "a") 1 }
-    ensures short_name { next_of (a_call (codes "RETR a\r\nQ") 3 false 8 (codes "...") (codes "."))
-        ≡ leaving 107 0 3 false (codes "...") 4 (codes ".") 1 }
-    ensures no_value { next_of (a_call (codes "RETR a\r\nQ") 0 false 0 (codes "....") [])
-        ≡ leaving 107 0 0 false (codes "....") 4 [] 1 }
-    ensures too_long { next_of (a_call (codes "RETR a\r\nQ") 0 false 7 (codes "....") (codes "."))
-        ≡ leaving 105 8 0 false (codes "....") 0 (codes ".") 0 }
-    ensures end_of_a_long_line { next_of (a_call (codes "\nQUIT\n") 0 true 7 [] [])
-        ≡ leaving 105 1 0 false [] 0 [] 0 }
-    ensures refused { next_of (a_call (codes "NOOP x\r\n") 0 false 0 (codes "....") [])
-        ≡ leaving 102 8 0 false (codes "....") 0 [] 0 }
+    // of a limit of 8 bytes, the line has 8; the area has one byte more, and one less
+    ensures command { next_of (a_call (codes "RETR a\r\nQ") 0 0 8 (codes "......"))
+        ≡ leaving 14 8 0 0 8 (codes "RETRa.") 4 1 }
+    ensures just_enough { next_of (a_call (codes "NOOP\nQ") 0 0 0 (codes "...."))
+        ≡ leaving 10 5 0 0 0 (codes "NOOP") 4 0 }
+    ensures no_room { next_of (a_call (codes "RETR a\r\nQ") 3 0 8 (codes "...."))
+        ≡ leaving 107 0 3 0 8 (codes "....") 4 1 }
+    ensures too_long { next_of (a_call (codes "RETR a\r\nQ") 0 0 7 (codes "....."))
+        ≡ leaving 105 8 0 0 7 (codes ".....") 0 0 }
+    ensures end_of_a_long_line { next_of (a_call (codes "\nQUIT\n") 0 1 7 [])
+        ≡ leaving 105 1 0 0 7 [] 0 0 }
+    ensures refused { next_of (a_call (codes "NOOP x\r\n") 0 0 0 (codes "...."))
+        ≡ leaving 102 8 0 0 0 (codes "....") 0 0 }
 {}
 
 /// Incomplete lines, and what is no call.
 pub fn bytes_are_kept()
-    ensures incomplete { next_of (a_call (codes "NOOP") 2 false 5 [] [])
-        ≡ leaving 101 0 4 false [] 0 [] 0 }
-    ensures too_long_already { next_of (a_call (codes "NOOP") 2 false 4 [] [])
-        ≡ leaving 101 4 0 true [] 0 [] 0 }
-    ensures offset_at_the_end { next_of (a_call [] 0 false 0 [] [])
-        ≡ leaving 101 0 0 false [] 0 [] 0 }
-    ensures offset_past_the_end { next_of (a_call (codes "\n") 2 false 0 [] [])
-        ≡ leaving 111 0 2 false [] 0 [] 0 }
-    ensures skipping_past_the_start { next_of (a_call (codes "a\n") 1 true 0 [] [])
-        ≡ leaving 111 0 1 true [] 0 [] 0 }
+    ensures incomplete { next_of (a_call (codes "NOOP") 2 0 5 []) ≡ leaving 101 0 4 0 5 [] 0 0 }
+    ensures too_long_already { next_of (a_call (codes "NOOP") 2 0 4 [])
+        ≡ leaving 101 4 0 1 4 [] 0 0 }
+    ensures offset_at_the_end { next_of (a_call [] 0 0 0 []) ≡ leaving 101 0 0 0 0 [] 0 0 }
+    ensures offset_past_the_end { next_of (a_call (codes "\n") 2 0 0 [])
+        ≡ leaving 111 0 2 0 0 [] 0 0 }
+    ensures skipping_past_the_start { next_of (a_call (codes "a\n") 1 1 0 [])
+        ≡ leaving 111 0 1 1 0 [] 0 0 }
+    ensures neither_skipping_nor_not { next_of (a_call (codes "a\n") 0 2 0 [])
+        ≡ leaving 111 0 0 2 0 [] 0 0 }
 {}
 
 /// Lines for which memory may run out, and none.
 pub fn some_lines_may_take_memory()
-    ensures path { LineMayTakeMemory (a_call (codes "RETR a\n") 0 false 0 [] []) }
-    ensures no_value { ¬ LineMayTakeMemory (a_call (codes "NOOP\n") 0 false 0 [] []) }
-    ensures no_line { ¬ LineMayTakeMemory (a_call (codes "RETR a") 0 false 0 [] []) }
-    ensures too_long { ¬ LineMayTakeMemory (a_call (codes "RETR a\n") 0 false 6 [] []) }
+    ensures path { LineMayTakeMemory (a_call (codes "RETR a\n") 0 0 0 []) }
+    ensures no_value { ¬ LineMayTakeMemory (a_call (codes "NOOP\n") 0 0 0 []) }
+    ensures no_line { ¬ LineMayTakeMemory (a_call (codes "RETR a") 0 0 0 []) }
+    ensures too_long { ¬ LineMayTakeMemory (a_call (codes "RETR a\n") 0 0 6 []) }
 {}
 
 /// Texts that areas have room for or not.

@@ -1,6 +1,6 @@
 //! What the calls promise one after the other, and what is given says: each the contract of a
 //! function that does nothing.
-ghost use Rattle.std.specs.Prelude.{◌≡◌, ◌++◌, ◌⊎◌, ℕ, List, Option, true, map, length};
+ghost use Rattle.std.specs.Prelude.{◌≡◌, ◌+◌, ◌++◌, ◌⊎◌, ℕ, List, Option, true, map, length};
 ghost use Rattle.unftp_control_defs.specs.Bytes.{Bytes};
 ghost use Rattle.unftp_control_defs.specs.Canonical.{HasLine};
 ghost use Rattle.unftp_control_defs.specs.Events.{Command, Fault, Refused, event_for, events};
@@ -8,41 +8,40 @@ ghost use Rattle.unftp_control_defs.specs.FtpCommand.{FtpCommand, HasTypedFields
 ghost use Rattle.unftp_control_defs.specs.Lines.{IsLine};
 ghost use Rattle.unftp_control_c.specs.Next.{Leaves, Left, line_limit};
 ghost use Rattle.unftp_control_c.specs.Numbers.{status_number};
-ghost use Rattle.unftp_control_c.specs.Taking.{AreCallerSteps, Connection, Given, IsNumberOf, CallerStep, after_call, all_given, call_of, given_for, gives_none, input_of, new_connection};
+ghost use Rattle.unftp_control_c.specs.Taking.{AreCallerSteps, Caller, CallerStep, Given, IsNumberOf, after_call, all_given, call_of, given_for, gives_none, input_of, new_caller};
 ghost use Rattle.unftp_control_c.specs.declared.status.Status.TheVariants.{More, NoRoom, OutOfMemory};
 
 /// Whatever a caller receives, and whenever it calls `unftp_next`, with whatever areas: its calls
 /// give the events of what it received, in order, each by its number, name and value.
 pub fn calls_take_events()
     // What was given so far is the first of them, and all of them where a call asks for more.
-    ensures first { (limit : ℕ) (steps : List CallerStep) (after : Connection)
-        → AreCallerSteps limit new_connection steps after
+    ensures first { (limit : ℕ) (steps : List CallerStep) (after : Caller)
+        → AreCallerSteps (new_caller limit) steps after
         → (later : List Given) × (all_given steps ++ later
         ≡ map given_for (events (line_limit limit) (input_of steps))) }
-    ensures all { (limit : ℕ) (steps : List CallerStep) (after : Connection) (name value : Bytes)
-        (left : Left) → AreCallerSteps limit new_connection steps after
-        → Leaves (call_of limit after name value) left → left.result ≡ status_number More
+    ensures all { (limit : ℕ) (steps : List CallerStep) (after : Caller) (area : Bytes)
+        (left : Left) → AreCallerSteps (new_caller limit) steps after
+        → Leaves (call_of after area) left → left.result ≡ status_number More
         → all_given steps ≡ map given_for (events (line_limit limit) (input_of steps)) }
     // A call that uses nothing up asks for more, or has no room or no memory.
-    ensures nothing_used { (limit : ℕ) (steps : List CallerStep) (after : Connection)
-        (name value : Bytes) (left : Left) → AreCallerSteps limit new_connection steps after
-        → Leaves (call_of limit after name value) left → left.used ≡ 0
+    ensures nothing_used { (limit : ℕ) (steps : List CallerStep) (after : Caller) (area : Bytes)
+        (left : Left) → AreCallerSteps (new_caller limit) steps after
+        → Leaves (call_of after area) left → left.line.used ≡ 0
         → gives_none left.result ≡ true }
 {}
 
 /// A call without room or memory may be made again.
 pub fn calls_are_made_again()
     // Nothing has changed.
-    ensures kept { (limit : ℕ) (connection : Connection) (name value : Bytes) (left : Left)
-        → Leaves (call_of limit connection name value) left
+    ensures kept { (caller : Caller) (area : Bytes) (left : Left)
+        → Leaves (call_of caller area) left
         → (left.result ≡ status_number NoRoom) ⊎ (left.result ≡ status_number OutOfMemory)
-        → after_call connection left ≡ connection }
-    // Areas of the lengths that a call without room reports have room.
-    ensures room { (limit : ℕ) (connection : Connection) (name value wider longer : Bytes)
-        (left again : Left) → Leaves (call_of limit connection name value) left
-        → left.result ≡ status_number NoRoom
-        → length wider ≡ left.name_length → length longer ≡ left.value_length
-        → Leaves (call_of limit connection wider longer) again
+        → after_call caller left ≡ caller }
+    // An area of the lengths that a call without room reports has room.
+    ensures room { (caller : Caller) (area wider : Bytes) (left again : Left)
+        → Leaves (call_of caller area) left → left.result ≡ status_number NoRoom
+        → length wider ≡ left.line.name_len + left.line.value_len
+        → Leaves (call_of caller wider) again
         → gives_none again.result ≡ true → again.result ≡ status_number OutOfMemory }
 {}
 

@@ -9,3 +9,4 @@ pub mod laws;
 mod next;
 mod reply;
 mod status;
+mod version;

@@ -1,9 +1,10 @@
 //! The next event of the pending bytes.
-ghost use Rattle.std.specs.Prelude.{◌≡◌};
+ghost use Rattle.std.specs.Prelude.{◌≡◌, ◌==◌};
+ghost use Rattle.unftp_control_defs.specs.Bytes.{Bytes};
 ghost use Rattle.unftp_control_command.specs.CommandMeaning.{command_of};
-ghost use Rattle.unftp_control_c.specs.Next.{Gives, Leaves, Reports, is_within, line_limit};
+ghost use Rattle.unftp_control_c.specs.Next.{Leaves, gives, is_valid, left_by, line_limit, no_line, reported};
 
-use crate::areas::overwrite;
+use crate::areas::overwrite_both;
 use crate::status::{Status, fault_status};
 use itoa::Buffer;
 use std::alloc::Global;
@@ -12,115 +13,159 @@ use unftp_control_command::Command;
 use unftp_control_reply::error::ControlChanError;
 use unftp_control_write::parts::parts_of;
 
+/// What a caller keeps of a connection: `struct unftp_connection` of include/unftp_control.h.
+#[repr(C)]
+#[derive(Clone, Copy)]
+pub struct Connection {
+    /// How many bytes a line may have, its line feed counted; 0 for any number.
+    pub limit: usize,
+    /// How many of the pending bytes were scanned for a line feed.
+    pub offset: usize,
+    /// 1 where the first line is too long and bytes of it were dropped, else 0.
+    pub skipping: u32,
+}
+
+/// What was taken of the pending bytes: `struct unftp_line` of include/unftp_control.h.
+#[repr(C)]
+#[derive(Clone, Copy)]
+pub struct Line {
+    /// How many bytes are used up.
+    pub used: usize,
+    /// How long the command's name is, which the area begins with.
+    pub name_len: usize,
+    /// How long the command's value is, which follows its name.
+    pub value_len: usize,
+}
+
 /// The next event of the pending bytes: `unftp_next` of include/unftp_control.h.
 #[unsafe(no_mangle)]
 pub extern "C" fn unftp_next(
     alloc: Global,
+    connection: &mut Connection,
     bytes: &[u8],
-    offset: &mut usize,
-    limit: usize,
-    skipping: &mut bool,
-    name: &mut [u8],
-    name_len: &mut usize,
-    value: &mut [u8],
-    value_len: &mut usize,
-    used: &mut usize,
+    area: &mut [u8],
+    line: &mut Line,
 ) -> u32
     ensures { Leaves
-        (record {
-          bytes = bytes.now;
-          offset = offset.old;
-          skipping = skipping.old;
-          limit = limit;
-          name = name.old;
-          value = value.old;
-        })
+        (record { connection = connection.old; bytes = bytes.now; area = area.old })
         (record {
           result = result;
-          used = used.new;
-          offset = offset.new;
-          skipping = skipping.new;
-          name = name.new;
-          name_length = name_len.new;
-          value = value.new;
-          value_length = value_len.new;
+          connection = connection.new;
+          area = area.new;
+          line = line.new;
         }) }
 {
-    (*used, *name_len, *value_len) = (0, 0, 0);
-    if !is_within(*offset, *skipping, bytes.len()) {
+    *line = Line { used: 0, name_len: 0, value_len: 0 };
+    if !is_valid(connection, bytes.len()) {
         return Status::InvalidArgument.number();
     }
-    let mut codec = FtpCodec::resume(line_limit(limit), *offset, *skipping);
+    let mut codec = resume(connection);
     let (taken, answer) = codec.decode_slice(alloc, bytes);
-    let event = report(&answer, name, name_len, value, value_len);
+    let number = leave(&answer, taken, &codec, connection, area, line);
     drop(answer);
-    let number = match event {
-        Ok(number) => number,
-        Err(status) => {
-            if status.keeps_bytes() {
-                return status.number();
-            }
-            status.number()
-        }
-    };
-    (*used, *offset, *skipping) = (taken, codec.place(), codec.skipping());
     number
 }
 
 /// Whether the offset is within so many bytes, and is 0 while bytes are skipped.
-fn is_within(offset: usize, skipping: bool, len: usize) -> bool
-    ensures { result ≡ is_within offset skipping len }
+fn is_valid(connection: &Connection, len: usize) -> bool
+    ensures { result ≡ is_valid connection.now len }
 {
-    offset <= len && (!skipping || offset == 0)
+    connection.offset <= len
+        && (connection.skipping == 0 || connection.skipping == 1 && connection.offset == 0)
 }
 
-/// How many bytes a line may have, where that is limited.
-fn line_limit(limit: usize) -> Option<usize>
-    ensures { result ≡ line_limit limit }
+/// A codec that goes on where the last call stopped.
+fn resume(connection: &Connection) -> FtpCodec
+    requires { connection.now.skipping ≡ 1 → connection.now.offset ≡ 0 }
+    ensures { result ≡ record {
+      place = connection.now.offset;
+      tests = 0;
+      limit = line_limit connection.now.limit;
+      skipping = connection.now.skipping == 1;
+    } }
 {
-    if limit == 0 { None } else { Some(limit) }
+    let limit = if connection.limit == 0 { None } else { Some(connection.limit) };
+    FtpCodec::resume(limit, connection.offset, connection.skipping == 1)
 }
 
-/// The number of a command that was decoded, whose name and value are written to these areas, or
-/// what is reported in its place.
-fn report(
+/// Leaves what the codec has answered, which is at its place after the bytes that it has taken.
+fn leave(
     answer: &Result<Option<Command>, ControlChanError>,
-    name: &mut [u8],
-    name_len: &mut usize,
-    value: &mut [u8],
-    value_len: &mut usize,
-) -> Result<u32, Status>
-    requires { (name_len.old ≡ 0) × (value_len.old ≡ 0) }
-    ensures { Reports answer.now name.old value.old
-        name.new name_len.new value.new value_len.new result }
+    taken: usize,
+    codec: &FtpCodec,
+    connection: &mut Connection,
+    area: &mut [u8],
+    line: &mut Line,
+) -> u32
+    requires { line.old ≡ no_line }
+    ensures { (bytes : Bytes) → record {
+      result = result;
+      connection = connection.new;
+      area = area.new;
+      line = line.new;
+    } ≡ left_by (record { connection = connection.old; bytes = bytes; area = area.old })
+        answer.now taken codec.now.place codec.now.skipping }
 {
     match answer {
-        Ok(None) => Err(Status::More),
-        Ok(Some(command)) => give(command, name, name_len, value, value_len),
-        Err(error) => Err(fault_status(error)),
+        Ok(command) => match command {
+            Some(command) => give(command, taken, connection, area, line),
+            None => report(Status::More, taken, codec, connection, line),
+        },
+        Err(error) => report(fault_status(error), taken, codec, connection, line),
     }
 }
 
-/// Writes the name and the value of the command to these areas, where both have room, and reports
+/// Reports that no command was taken, and why. Where the bytes are used up, the connection goes on
+/// where the codec is.
+fn report(
+    status: Status,
+    taken: usize,
+    codec: &FtpCodec,
+    connection: &mut Connection,
+    line: &mut Line,
+) -> u32
+    requires { line.old ≡ no_line }
+    ensures { (bytes area : Bytes) → record {
+      result = result;
+      connection = connection.new;
+      area = area;
+      line = line.new;
+    } ≡ reported (record { connection = connection.old; bytes = bytes; area = area }) status
+        taken codec.now.place codec.now.skipping }
+{
+    if !status.keeps_bytes() {
+        line.used = taken;
+        connection.offset = codec.place();
+        connection.skipping = u32::from(codec.skipping());
+    }
+    status.number()
+}
+
+/// Writes the name and the value of the command to the area, where it has room for both, and reports
 /// how long they are; the number of the command.
 fn give(
     command: &Command,
-    name: &mut [u8],
-    name_len: &mut usize,
-    value: &mut [u8],
-    value_len: &mut usize,
-) -> Result<u32, Status>
-    ensures { Gives (command_of command.now) name.old value.old
-        name.new name_len.new value.new value_len.new result }
+    taken: usize,
+    connection: &mut Connection,
+    area: &mut [u8],
+    line: &mut Line,
+) -> u32
+    ensures { record {
+      result = result;
+      connection = connection.new;
+      area = area.new;
+      line = line.new;
+    } ≡ gives connection.old area.old taken (command_of command.now) }
 {
     let parts = parts_of(command);
     let mut digits = Buffer::new();
-    let text = parts.value_bytes(&mut digits);
-    (*name_len, *value_len) = (parts.name.len(), text.len());
-    if parts.name.len() > name.len() || text.len() > value.len() {
-        return Err(Status::NoRoom);
+    let (name, value) = (parts.name.as_bytes(), parts.value_bytes(&mut digits));
+    *line = Line { used: 0, name_len: name.len(), value_len: value.len() };
+    if name.len() + value.len() > area.len() {
+        return Status::NoRoom.number();
     }
-    overwrite(parts.name.as_bytes(), name);
-    overwrite(text, value);
-    Ok(parts.number)
+    overwrite_both(name, value, area);
+    line.used = taken;
+    (connection.offset, connection.skipping) = (0, 0);
+    parts.number
 }

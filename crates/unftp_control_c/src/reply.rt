@@ -114,27 +114,34 @@ fn is_one_line(text: &str) -> bool
     !text.as_bytes().contains(&b'\n')
 }
 
+/// What was found: `struct unftp_found_reply` of include/unftp_control.h.
+#[repr(C)]
+#[derive(Clone, Copy)]
+pub struct Found {
+    /// How many bytes the reply takes.
+    pub used: usize,
+    /// Its code.
+    pub code: u32,
+}
+
 /// Finds the reply at the start: `unftp_front_reply` of include/unftp_control.h.
 #[unsafe(no_mangle)]
-pub extern "C" fn unftp_front_reply(bytes: &[u8], code: &mut u32, used: &mut usize) -> u32
+pub extern "C" fn unftp_front_reply(bytes: &[u8], reply: &mut Found) -> u32
     ensures found { result ≡ status_number Done
-        → ((lines : List Bytes) × FrontReply bytes.now code.new lines used.new)
-        × (used.new ≤ length bytes.now) }
-    ensures whole { (number : ℕ) (lines : List Bytes) (n : ℕ)
-        → FrontReply bytes.now number lines n
-        → (result ≡ status_number Done) × (code.new ≡ number) × (used.new ≡ n) }
+        → ((lines : List Bytes) × FrontReply bytes.now reply.new.code lines reply.new.used)
+        × (reply.new.used ≤ length bytes.now) }
+    ensures whole { (code : ℕ) (lines : List Bytes) (used : ℕ)
+        → FrontReply bytes.now code lines used
+        → (result ≡ status_number Done) × (reply.new ≡ record { used = used; code = code }) }
     ensures more { IsPartial bytes.now
-        → (result ≡ status_number More) × (code.new ≡ 0) × (used.new ≡ 0) }
+        → (result ≡ status_number More) × (reply.new ≡ record { used = 0; code = 0 }) }
     ensures malformed { IsMalformed bytes.now
-        → (result ≡ status_number Malformed) × (code.new ≡ 0) × (used.new ≡ 0) }
+        → (result ≡ status_number Malformed) × (reply.new ≡ record { used = 0; code = 0 }) }
 {
-    (*code, *used) = (0, 0);
+    *reply = Found { used: 0, code: 0 };
     match find_reply(bytes) {
-        FoundReply::Whole {
-            code: found,
-            used: taken,
-        } => {
-            (*code, *used) = (u32::from(found), taken);
+        FoundReply::Whole { code, used } => {
+            *reply = Found { used, code: u32::from(code) };
             Status::Done.number()
         }
         FoundReply::Partial => Status::More.number(),

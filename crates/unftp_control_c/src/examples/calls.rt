@@ -1,26 +1,25 @@
 //! What a caller of `unftp_next` does, and what it is given.
 #![tactic(auto, unfolding(unftp_control_defs::proofs::Computing::at_bytes))]
 
-ghost use Rattle.std.specs.Prelude.{◌≡◌, ◌∷◌, [], None, Some, false, true, codes};
+ghost use Rattle.std.specs.Prelude.{◌≡◌, ◌∷◌, [], None, false, true, codes};
 ghost use Rattle.unftp_control_defs.specs.Events.{Command, Refused, IoError, ParseError, InternalServerError, AuthenticationError, InternalMsgError, Utf8Error, UnknownCommand, InvalidCommand, ControlChannelTimeout, IllegalState, OutOfMemory, LineTooLong, NoSource, Parse, Utf8, Io, line_too_long, refusal_fault};
 ghost use Rattle.unftp_control_defs.specs.FtpCommand.{InvalidCommand as RefusedCommand, InvalidEol as RefusedEol, InvalidUtf8 as RefusedUtf8, Retr, Stat};
 ghost use Rattle.unftp_control_c.specs.Rows.{leaving, number_for};
-ghost use Rattle.unftp_control_c.specs.Taking.{AreCallerSteps, Called, IsNumberOf, Received, all_given, given_by, given_for, gives_none, input_of, new_connection};
+ghost use Rattle.unftp_control_c.specs.Taking.{AreCallerSteps, Called, IsNumberOf, Received, all_given, given_by, given_for, gives_none, input_of, new_caller};
 
 /// Which steps of a caller lead from a new connection to these pending bytes.
 pub fn callers_make_steps()
-    // a line in two pieces, a call before the second, and one with areas that have room
-    ensures line { AreCallerSteps 0 new_connection
-        (Received (codes "NO") ∷ Called [] [] (leaving 101 0 2 false [] 0 [] 0)
+    // a line in two pieces, a call before the second, and one whose area has room
+    ensures line { AreCallerSteps (new_caller 9)
+        (Received (codes "NO") ∷ Called [] (leaving 101 0 2 0 9 [] 0 0)
         ∷ Received (codes "OP\nQ")
-        ∷ Called (codes "....") [] (leaving 10 5 0 false (codes "NOOP") 4 [] 0) ∷ [])
-        (record { bytes = codes "Q"; offset = 0; skipping = false }) }
-    ensures piece_forgotten { ¬ AreCallerSteps 0 new_connection (Received (codes "N") ∷ [])
-        new_connection }
+        ∷ Called (codes "....") (leaving 10 5 0 0 9 (codes "NOOP") 4 0) ∷ [])
+        (record { connection = record { limit = 9; offset = 0; skipping = 0 }; bytes = codes "Q" }) }
+    ensures piece_forgotten { ¬ AreCallerSteps (new_caller 0) (Received (codes "N") ∷ [])
+        (new_caller 0) }
     // no byte is there
-    ensures no_such_call { ¬ AreCallerSteps 0 new_connection
-        (Called (codes "....") [] (leaving 10 0 0 false (codes "NOOP") 4 [] 0) ∷ [])
-        new_connection }
+    ensures no_such_call { ¬ AreCallerSteps (new_caller 0)
+        (Called (codes "....") (leaving 10 0 0 0 0 (codes "NOOP") 4 0) ∷ []) (new_caller 0) }
     ensures input { input_of (Received (codes "NO") ∷ Received (codes "OP") ∷ []) ≡ codes "NOOP" }
 {}
 
@@ -32,16 +31,16 @@ pub fn callers_are_given_lines()
         ≡ record { number = 5; name = codes "STAT"; value = [] } }
     ensures too_long { given_for (Refused line_too_long)
         ≡ record { number = 105; name = []; value = [] } }
-    // the areas have one byte more, and just enough
-    ensures areas { given_by (leaving 14 8 0 false (codes "RETR.") 4 (codes "a") 1)
+    // the area has one byte more
+    ensures area { given_by (leaving 14 8 0 0 0 (codes "RETRa.") 4 1)
         ≡ record { number = 14; name = codes "RETR"; value = codes "a" } ∷ [] }
-    ensures no_room { given_by (leaving 107 0 0 false (codes "...") 4 [] 1) ≡ [] }
+    ensures no_room { given_by (leaving 107 0 0 0 0 (codes "....") 4 1) ≡ [] }
     ensures refusal { gives_none 102 ≡ false }
     ensures more { gives_none 101 ≡ true }
     ensures memory { gives_none 106 ≡ true }
     ensures invalid_argument { gives_none 111 ≡ false }
     ensures all { all_given (Received (codes "STAT\n")
-        ∷ Called (codes "....") [] (leaving 5 5 0 false (codes "STAT") 4 [] 0) ∷ [])
+        ∷ Called (codes "....") (leaving 5 5 0 0 0 (codes "STAT") 4 0) ∷ [])
         ≡ record { number = 5; name = codes "STAT"; value = [] } ∷ [] }
 {}
 
