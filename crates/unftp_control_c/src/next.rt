@@ -55,7 +55,11 @@ pub extern "C" fn unftp_next(
           line = line.new;
         }) }
 {
-    *line = Line { used: 0, name_len: 0, value_len: 0 };
+    *line = Line {
+        used: 0,
+        name_len: 0,
+        value_len: 0,
+    };
     if !is_valid(connection, bytes.len()) {
         return Status::InvalidArgument.number();
     }
@@ -84,7 +88,11 @@ fn resume(connection: &Connection) -> FtpCodec
       skipping = connection.now.skipping == 1;
     } }
 {
-    let limit = if connection.limit == 0 { None } else { Some(connection.limit) };
+    let limit = if connection.limit == 0 {
+        None
+    } else {
+        Some(connection.limit)
+    };
     FtpCodec::resume(limit, connection.offset, connection.skipping == 1)
 }
 
@@ -160,12 +168,15 @@ fn give(
     let parts = parts_of(command);
     let mut digits = Buffer::new();
     let (name, value) = (parts.name.as_bytes(), parts.value_bytes(&mut digits));
-    *line = Line { used: 0, name_len: name.len(), value_len: value.len() };
+    *line = Line {
+        used: 0,
+        name_len: name.len(),
+        value_len: value.len(),
+    };
     if name.len() + value.len() > area.len() {
         return Status::NoRoom.number();
     }
     overwrite_both(name, value, area);
-    line.used = taken;
-    (connection.offset, connection.skipping) = (0, 0);
+    (line.used, connection.offset, connection.skipping) = (taken, 0, 0);
     parts.number
 }

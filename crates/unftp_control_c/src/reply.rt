@@ -141,7 +141,10 @@ pub extern "C" fn unftp_front_reply(bytes: &[u8], reply: &mut Found) -> u32
     *reply = Found { used: 0, code: 0 };
     match find_reply(bytes) {
         FoundReply::Whole { code, used } => {
-            *reply = Found { used, code: u32::from(code) };
+            *reply = Found {
+                used,
+                code: u32::from(code),
+            };
             Status::Done.number()
         }
         FoundReply::Partial => Status::More.number(),
