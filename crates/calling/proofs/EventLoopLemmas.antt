@@ -9,34 +9,45 @@ use Rattle.calling.specs.declared.event_loop.Turn.TheVariants.{Read, GoOn, Close
 use Rattle.calling.specs.EventLoop.{AnswersNext, LeavesUnanswered, left_after, replies_to, turn_after}
 
 -- once a line is taken, all pending bytes are kept
-kept_bytes-all : (pending : Pending) → pending.kept ≡ length pending.bytes → kept_bytes pending ≡ pending.bytes
+kept_bytes-all : (pending : Pending) → pending.kept ≡ length pending.bytes
+    → kept_bytes pending ≡ pending.bytes
 kept_bytes-all pending all =
     let none : length pending.bytes - pending.kept ≡ 0 = omega (arith, all) in
     ap (λ n. drop n pending.bytes) none
 
-pub left_after-on : (turn : Turn) (following : Bytes) → (turn ≡ Close → ⊥) → left_after turn following ≡ following
+pub left_after-on : (turn : Turn) (following : Bytes) → (turn ≡ Close → ⊥)
+    → left_after turn following ≡ following
 left_after-on Read following on = refl
 left_after-on GoOn following on = refl
 left_after-on Close following on = absurd (on refl)
 left_after-on StartTls following on = refl
 
-module _ (before middle : Pending) (event : FtpEvent) (taken : TakesLine before event middle) (pending : Bytes) (is : pending ≡ kept_bytes middle) where
+module _ (before middle : Pending) (event : FtpEvent) (taken : TakesLine before event middle)
+    (pending : Bytes) (is : pending ≡ kept_bytes middle) where
   pub all_pending : pending ≡ middle.bytes
   all_pending = is ∙ kept_bytes-all middle taken.all_kept
 
-pub AnswersNext-taken : (before middle : Pending) (event : FtpEvent) (taken : TakesLine before event middle) (sent sent' pending pending' : Bytes) → pending ≡ kept_bytes middle → pending' ≡ kept_bytes middle →
-    sent' ≡ sent ++ flat_map encoded (replies_to event pending) → (turn : Turn) (after : Pending) → turn ≡ turn_after event pending' → after.bytes ≡ left_after turn middle.bytes → AnswersNext before sent turn after sent'
-AnswersNext-taken before middle event taken sent sent' pending pending' is is' appended turn after turn_is left = inr record {
-  event = event;
-  following = middle.bytes;
-  takes = taken.takes;
-  turn_is = turn_is ∙ ap (turn_after event) (all_pending before middle event taken pending' is');
-  left = left;
-  appended = appended ∙ ap (λ following. sent ++ flat_map encoded (replies_to event following)) (all_pending before middle event taken pending is);
-}
+pub AnswersNext-taken : (before middle : Pending) (event : FtpEvent)
+    (taken : TakesLine before event middle) (sent sent' pending pending' : Bytes)
+    → pending ≡ kept_bytes middle → pending' ≡ kept_bytes middle →
+    sent' ≡ sent ++ flat_map encoded (replies_to event pending) → (turn : Turn) (after : Pending)
+    → turn ≡ turn_after event pending' → after.bytes ≡ left_after turn middle.bytes
+    → AnswersNext before sent turn after sent'
+AnswersNext-taken before middle event taken sent sent' pending pending' is is' appended turn after
+    turn_is left = inr record {
+      event = event;
+      following = middle.bytes;
+      takes = taken.takes;
+      turn_is =
+          turn_is ∙ ap (turn_after event) (all_pending before middle event taken pending' is');
+      left = left;
+      appended = appended ∙ ap (λ following. sent ++ flat_map encoded (replies_to event following))
+          (all_pending before middle event taken pending is);
+    }
 
 -- out of memory for the command of a line
-pub LeavesUnanswered-kept : (before after : Pending) (sent : Bytes) → MayRunOut before → StaysPending before after → LeavesUnanswered before sent after sent
+pub LeavesUnanswered-kept : (before after : Pending) (sent : Bytes) → MayRunOut before
+    → StaysPending before after → LeavesUnanswered before sent after sent
 LeavesUnanswered-kept before after sent may stays = record {
   event = event_for before.limit may.line;
   following = may.after;

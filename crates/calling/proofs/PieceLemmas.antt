@@ -20,7 +20,8 @@ use Rattle.unftp_control.proofs.RunLemmas.{run_of-all, run-append, run-ended, un
 use Rattle.calling.specs.Pieces.{FailsAtPiece}
 
 -- what was sent so far is answered, up to the end of the run
-pub record AnsweredSoFar {S : Type 0} (law : Law S) (m n : Snapshot S) (sent : Bytes) (engine : EngineState) : Type 0 where
+pub record AnsweredSoFar {S : Type 0} (law : Law S) (m n : Snapshot S) (sent : Bytes)
+    (engine : EngineState) : Type 0 where
   pub no_failure : engine.failed ≡ false
   pub any_length : engine.limit ≡ None
   pub finished : engine.finished ≡ ends_for None law m.state sent
@@ -28,36 +29,62 @@ pub record AnsweredSoFar {S : Type 0} (law : Law S) (m n : Snapshot S) (sent : B
   pub left : engine.left ≡ saturating_u64 (length (unread None law m.state sent))
   pub answered : AllAnswered law m (run_for None law m.state sent) n
 
-module _ {S : Type 0} (law : Law S) (m n : Snapshot S) (sent : Bytes) (engine : EngineState) (so_far : AnsweredSoFar law m n sent engine) (piece : Bytes) (k : Snapshot S) where
+module _ {S : Type 0} (law : Law S) (m n : Snapshot S) (sent : Bytes) (engine : EngineState)
+    (so_far : AnsweredSoFar law m n sent engine) (piece : Bytes) (k : Snapshot S) where
   -- while the run goes on
   module _ (on : engine.finished ≡ false) where
     goes_on : ends_for None law m.state sent ≡ false
     goes_on = sym so_far.finished ∙ on
 
     all_events : AllAnswered law m (events None sent) n
-    all_events = subst (λ run. AllAnswered law m run n) (run_of-all law m.state (events None sent) goes_on) so_far.answered
+    all_events =
+        subst (λ run. AllAnswered law m run n) (run_of-all law m.state (events None sent) goes_on)
+        so_far.answered
 
     -- what follows is that of the engine
-    moved : {X : Type 0} (F : Option ℕ → S → Bytes → X) → F None (last_state law m.state (events None sent)) (incomplete_line sent ++ piece) ≡ F engine.limit n.state (bytes_with engine piece)
+    moved : {X : Type 0} (F : Option ℕ → S → Bytes → X)
+        → F None (last_state law m.state (events None sent)) (incomplete_line sent ++ piece)
+        ≡ F engine.limit n.state (bytes_with engine piece)
     moved F =
-        ap (λ limit. F limit (last_state law m.state (events None sent)) (incomplete_line sent ++ piece)) (sym so_far.any_length)
-        ∙ ap (λ state. F engine.limit state (incomplete_line sent ++ piece)) (sym all_events.ends_at)
-        ∙ ap (λ incomplete. F engine.limit n.state (incomplete ++ piece)) (sym (so_far.incomplete on))
+        ap (λ limit. F limit (last_state law m.state (events None sent))
+        (incomplete_line sent ++ piece)) (sym so_far.any_length)
+        ∙ ap (λ state. F engine.limit state (incomplete_line sent ++ piece))
+        (sym all_events.ends_at)
+        ∙ ap (λ incomplete. F engine.limit n.state (incomplete ++ piece))
+        (sym (so_far.incomplete on))
 
-    run_so : run_for None law m.state (sent ++ piece) ≡ events None sent ++ run_with engine law n.state piece
-    run_so = (run-append law None m.state sent piece goes_on).0 ∙ ap (λ run. events None sent ++ run) (moved (λ limit state bytes. run_for limit law state bytes))
+    run_so : run_for None law m.state (sent ++ piece) ≡ events None sent
+        ++ run_with engine law n.state piece
+    run_so = (run-append law None m.state sent piece goes_on).0
+        ∙ ap (λ run. events None sent ++ run)
+        (moved (λ limit state bytes. run_for limit law state bytes))
 
-    AnsweredSoFar-on : AllAnswered law n (run_with engine law n.state piece) k → (engine' : EngineState) → engine' ≡ fed law n.state engine piece → AnsweredSoFar law m k (sent ++ piece) engine'
+    AnsweredSoFar-on : AllAnswered law n (run_with engine law n.state piece) k
+        → (engine' : EngineState) → engine' ≡ fed law n.state engine piece
+        → AnsweredSoFar law m k (sent ++ piece) engine'
     AnsweredSoFar-on answered engine' is = rw is record {
       no_failure = refl;
       any_length = so_far.any_length;
-      finished = sym ((run-append law None m.state sent piece goes_on).1 ∙ moved (λ limit state bytes. ends_for limit law state bytes));
-      incomplete = λ now. ap (λ ended. if ended then [] else incomplete_line (bytes_with engine piece)) now ∙ ap (λ incomplete. incomplete_line (incomplete ++ piece)) (so_far.incomplete on) ∙ sym (incomplete_line-append sent piece);
-      left = ap (λ bytes. saturating_u64 (length bytes)) (sym (unread-append law None m.state sent piece goes_on ∙ moved (λ limit state bytes. unread limit law state bytes)));
-      answered = rw run_so (RunEnded-then law m n k (events None sent) all_events (run_with engine law n.state piece) [] Finished answered);
+      finished =
+          sym ((run-append law None m.state sent piece goes_on).1
+          ∙ moved (λ limit state bytes. ends_for limit law state bytes));
+      incomplete =
+          λ now. ap (λ ended. if ended then [] else incomplete_line (bytes_with engine piece)) now
+          ∙ ap (λ incomplete. incomplete_line (incomplete ++ piece)) (so_far.incomplete on)
+          ∙ sym (incomplete_line-append sent piece);
+      left = ap (λ bytes. saturating_u64 (length bytes))
+          (sym (unread-append law None m.state sent piece goes_on
+          ∙ moved (λ limit state bytes. unread limit law state bytes)));
+      answered =
+          rw run_so
+          (RunEnded-then law m n k (events None sent) all_events (run_with engine law n.state piece)
+          [] Finished answered);
     }
 
-    FailsAtPiece-on : (first later : List Bytes) → concat first ≡ sent → (error : ServeError) (T : Type 0) → PieceOutcome {S = S} {T = T} law n (run_with engine law n.state piece) piece k (Err error) →
+    FailsAtPiece-on : (first later : List Bytes) → concat first ≡ sent
+        → (error : ServeError) (T : Type 0)
+        → PieceOutcome {S = S} {T = T} law n (run_with engine law n.state piece) piece k (Err error)
+        →
         FailsAtPiece law m (first ++ piece ∷ later) k error
     FailsAtPiece-on first later same error T (inl (out_of_memory, some, kept)) = record {
       first = first;
@@ -71,11 +98,16 @@ module _ {S : Type 0} (law : Law S) (m n : Snapshot S) (sent : Bytes) (engine : 
       last = piece;
       later = later;
       whole = refl;
-      failed = inr (events None sent ++ done, rw same (RunFailed-then law m n k (events None sent) all_events _ (run_with engine law n.state piece) done error run_so failed));
+      failed = inr (
+        events None sent ++ done,
+        rw same (RunFailed-then law m n k (events None sent) all_events _
+            (run_with engine law n.state piece) done error run_so failed),
+      );
     }
 
   -- a piece after the end
-  module _ (done : engine.finished ≡ true) (same : k ≡ n) (engine' : EngineState) (counted : engine' ≡ more_left engine piece) where
+  module _ (done : engine.finished ≡ true) (same : k ≡ n) (engine' : EngineState)
+      (counted : engine' ≡ more_left engine piece) where
     ended : ends_for None law m.state sent ≡ true
     ended = sym so_far.finished ∙ done
 
@@ -85,44 +117,66 @@ module _ {S : Type 0} (law : Law S) (m n : Snapshot S) (sent : Bytes) (engine : 
       any_length = so_far.any_length;
       finished = done ∙ sym (run-ended law None m.state sent piece ended).1;
       incomplete = λ on. absurd (cc);
-      left = omega (arith, so_far.left, ap length (unread-ended law None m.state sent piece ended), length-append (unread None law m.state sent) piece);
+      left = omega (
+        arith,
+        so_far.left,
+        ap length (unread-ended law None m.state sent piece ended),
+        length-append (unread None law m.state sent) piece,
+      );
       answered = rw (run-ended law None m.state sent piece ended).0 so_far.answered;
     }
 
-  pub AnsweredSoFar-more : (engine' : EngineState) → (IsRunning engine → engine' ≡ fed law n.state engine piece) → (IsRunning engine → AllAnswered law n (run_with engine law n.state piece) k)
-      → (engine.finished ≡ true → (k ≡ n) × (engine' ≡ more_left engine piece)) → AnsweredSoFar law m k (sent ++ piece) engine'
+  pub AnsweredSoFar-more : (engine' : EngineState)
+      → (IsRunning engine → engine' ≡ fed law n.state engine piece)
+      → (IsRunning engine → AllAnswered law n (run_with engine law n.state piece) k)
+      → (engine.finished ≡ true → (k ≡ n) × (engine' ≡ more_left engine piece))
+      → AnsweredSoFar law m k (sent ++ piece) engine'
   AnsweredSoFar-more engine' is answered over = by_end engine.finished refl
     where
-      by_end : (finished : Bool) → engine.finished ≡ finished → AnsweredSoFar law m k (sent ++ piece) engine'
-      by_end false on = AnsweredSoFar-on on (answered (so_far.no_failure, on)) engine' (is (so_far.no_failure, on))
+      by_end : (finished : Bool) → engine.finished ≡ finished
+          → AnsweredSoFar law m k (sent ++ piece) engine'
+      by_end false on = AnsweredSoFar-on on (answered (so_far.no_failure, on)) engine'
+          (is (so_far.no_failure, on))
       by_end true done = AnsweredSoFar-ended done (over done).0 engine' (over done).1
 
   -- at an error of `feed`
-  pub FailsAtPiece-so : (pieces first later : List Bytes) → pieces ≡ first ++ piece ∷ later → concat first ≡ sent → (error : ServeError) (T : Type 0) (result : Result T ServeError) → result ≡ Err error →
-      (IsRunning engine → PieceOutcome law n (run_with engine law n.state piece) piece k result) → (engine.finished ≡ true → IsTrue (is_ok result)) →
+  pub FailsAtPiece-so : (pieces first later : List Bytes) → pieces ≡ first ++ piece ∷ later
+      → concat first ≡ sent → (error : ServeError) (T : Type 0) (result : Result T ServeError)
+      → result ≡ Err error →
+      (IsRunning engine → PieceOutcome law n (run_with engine law n.state piece) piece k result)
+      → (engine.finished ≡ true → IsTrue (is_ok result)) →
       FailsAtPiece law m pieces k error
-  FailsAtPiece-so pieces first later whole same error T result failed outcome over = by_end engine.finished refl
+  FailsAtPiece-so pieces first later whole same error T result failed outcome over =
+      by_end engine.finished refl
     where
       by_end : (finished : Bool) → engine.finished ≡ finished → FailsAtPiece law m pieces k error
-      by_end false on = rw whole (FailsAtPiece-on on first later same error T (rw failed at (outcome (so_far.no_failure, on))))
+      by_end false on =
+          rw whole (FailsAtPiece-on on first later same error T
+          (rw failed at (outcome (so_far.no_failure, on))))
       by_end true done = absurd (false≢true (rw failed at (over done)))
 
 pub sent-more : (pieces : List (Bor Bytes)) (i : ℕ) (d : Bor Bytes) → i < length pieces →
-    concat (map (λ piece. piece.now) (take (i + 1) pieces)) ≡ concat (map (λ piece. piece.now) (take i pieces)) ++ (get_or pieces i d).now
+    concat (map (λ piece. piece.now) (take (i + 1) pieces))
+    ≡ concat (map (λ piece. piece.now) (take i pieces)) ++ (get_or pieces i d).now
 sent-more pieces i d within =
     let last : List (Bor Bytes) = get_or pieces i d ∷ [] in
     ap (λ more. concat (map (λ piece. piece.now) more)) (take_more pieces i d within)
     ∙ ap concat (map-append (λ piece. piece.now) (take i pieces) last)
     ∙ concat-append (map (λ piece. piece.now) (take i pieces)) (map (λ piece. piece.now) last)
-    ∙ ap (λ end. concat (map (λ piece. piece.now) (take i pieces)) ++ end) (append-nil (get_or pieces i d).now)
+    ∙ ap (λ end. concat (map (λ piece. piece.now) (take i pieces)) ++ end)
+    (append-nil (get_or pieces i d).now)
 
 pub pieces-split : (pieces : List (Bor Bytes)) (i : ℕ) (d : Bor Bytes) → i < length pieces →
-    map (λ piece. piece.now) pieces ≡ map (λ piece. piece.now) (take i pieces) ++ (get_or pieces i d).now ∷ map (λ piece. piece.now) (drop (suc i) pieces)
+    map (λ piece. piece.now) pieces ≡ map (λ piece. piece.now) (take i pieces)
+    ++ (get_or pieces i d).now ∷ map (λ piece. piece.now) (drop (suc i) pieces)
 pieces-split [] i d within = absurd (omega (arith, within))
 pieces-split (piece ∷ pieces) zero d within = refl
-pieces-split (piece ∷ pieces) (suc i) d within = ap (λ z. piece.now ∷ z) (pieces-split pieces i d (omega (arith, within)))
+pieces-split (piece ∷ pieces) (suc i) d within =
+    ap (λ z. piece.now ∷ z) (pieces-split pieces i d (omega (arith, within)))
 
 -- a call that changes neither handler nor output
-pub same_snapshot : {H S K : Type 0} (state : H → S) (failures : H → ℕ) (output_state : K → OutputState) (h h' : H) (o o' : K) → h' ≡ h → o' ≡ o →
+pub same_snapshot : {H S K : Type 0} (state : H → S) (failures : H → ℕ)
+    (output_state : K → OutputState) (h h' : H) (o o' : K) → h' ≡ h → o' ≡ o →
     snapshot_with state failures output_state h' o' ≡ snapshot_with state failures output_state h o
-same_snapshot state failures output_state h h' o o' same_handler same_output = rw (same_handler, same_output) refl
+same_snapshot state failures output_state h h' o o' same_handler same_output =
+    rw (same_handler, same_output) refl

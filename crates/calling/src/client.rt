@@ -1,5 +1,5 @@
 //! A client.
-ghost use Rattle.std.specs.Prelude.{◌≡◌, ◌++◌, [], List, true, IfErr, IfOk, IfSome, MatchOption};
+ghost use Rattle.std.specs.Prelude.{◌≡◌, ◌++◌, List, true, IfErr, IfOk, IfSome, MatchOption};
 ghost use Rattle.calling.specs.NextCode.{ReceivesAgreement, ReceivesCode};
 ghost use Rattle.unftp_control.specs.Bytes.{Bytes};
 ghost use Rattle.unftp_control.specs.ReplyReader.{FrontReply, IsPartial};

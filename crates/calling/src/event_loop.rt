@@ -1,6 +1,6 @@
 //! A server with an event loop of its own: it pushes what it has read, takes one event at a time,
 //! and sends what it likes before it takes the next.
-ghost use Rattle.std.specs.Prelude.{◌≡◌, ◌++◌, [], ◌∷◌, flat_map, IfErr, IfOk, OnErr, OnOk};
+ghost use Rattle.std.specs.Prelude.{◌≡◌, ◌++◌, flat_map, IfErr, IfOk, OnErr, OnOk};
 ghost use Rattle.unftp_control.specs.CommandMeaning.{command_of};
 ghost use Rattle.unftp_control.specs.ErrorMeaning.{fault_of};
 ghost use Rattle.unftp_control.specs.EventMeaning.{event_meant};

@@ -1,6 +1,6 @@
 //! A reply that is the same for several commands.
 ghost use Rattle.std.specs.Prelude.{◌≡◌, IfErr, IfOk};
-ghost use Rattle.calling.specs.NoFiles.{command_reply, known_reply, names_a_file};
+ghost use Rattle.calling.specs.NoFiles.{command_reply, names_a_file};
 ghost use Rattle.unftp_control.specs.CommandMeaning.{command_of};
 ghost use Rattle.unftp_control.specs.ErrorMeaning.{fault_of};
 ghost use Rattle.unftp_control.specs.Events.{out_of_memory};

@@ -1,5 +1,5 @@
 //! A server that serves what the grammar drops of a line: the type of TYPE, EPSV ALL, and the facts
-//! of OPTS MLST. Its data connections are left out: EPSV alone is not implemented.
+//! of OPTS MLST. Its data connections are left out: only EPSV is not implemented.
 ghost use Rattle.std.specs.Prelude.{◌≡◌, ◌↔◌, false, true, IfErr, IfOk, IsTrue, OnErr};
 ghost use Rattle.unftp_control.specs.Decoder.{HasNoLine};
 ghost use Rattle.unftp_control.specs.ErrorMeaning.{fault_of};

@@ -9,7 +9,8 @@ use Rattle.login_demo.specs.Session.{command_reply, session_after, tree_reply}
 use Rattle.login_demo.specs.Standing.{fixed_reply, standing_reply}
 
 pub command_reply-other : (directory : Directory) (c : Command)
-    → ((x : _) → c ≡ command.Cwd x → ⊥) → (c ≡ command.Cdup → ⊥) → ((x : _) → c ≡ command.User x → ⊥) → (c ≡ command.Quit → ⊥)
+    → ((x : _) → c ≡ command.Cwd x → ⊥) → (c ≡ command.Cdup → ⊥)
+    → ((x : _) → c ≡ command.User x → ⊥) → (c ≡ command.Quit → ⊥)
     → command_reply directory (command_of c) ≡ tree_reply directory (command_of c)
 command_reply-other directory (command.Cwd x) cwd cdup user quit = absurd (cwd x refl)
 command_reply-other directory command.Cdup cwd cdup user quit = absurd (cdup refl)
@@ -18,7 +19,8 @@ command_reply-other directory command.Quit cwd cdup user quit = absurd (quit ref
 command_reply-other directory _ cwd cdup user quit = refl
 
 pub session_after-other : (session : Session) (c : Command)
-    → ((x : _) → c ≡ command.Cwd x → ⊥) → (c ≡ command.Cdup → ⊥) → ((x : _) → c ≡ command.User x → ⊥) → (c ≡ command.Quit → ⊥)
+    → ((x : _) → c ≡ command.Cwd x → ⊥) → (c ≡ command.Cdup → ⊥)
+    → ((x : _) → c ≡ command.User x → ⊥) → (c ≡ command.Quit → ⊥)
     → session_after session (command_of c) ≡ session
 session_after-other session (command.Cwd x) cwd cdup user quit = absurd (cwd x refl)
 session_after-other session command.Cdup cwd cdup user quit = absurd (cdup refl)
@@ -27,7 +29,8 @@ session_after-other session command.Quit cwd cdup user quit = absurd (quit refl)
 session_after-other session _ cwd cdup user quit = refl
 
 pub tree_reply-other : (directory : Directory) (c : Command)
-    → (c ≡ command.Pwd → ⊥) → ((x : _) → c ≡ command.Mlst x → ⊥) → ((x : _) → c ≡ command.Size x → ⊥) → ((x : _) → c ≡ command.Mdtm x → ⊥)
+    → (c ≡ command.Pwd → ⊥) → ((x : _) → c ≡ command.Mlst x → ⊥)
+    → ((x : _) → c ≡ command.Size x → ⊥) → ((x : _) → c ≡ command.Mdtm x → ⊥)
     → tree_reply directory (command_of c) ≡ standing_reply (command_of c)
 tree_reply-other directory command.Pwd pwd mlst size mdtm = absurd (pwd refl)
 tree_reply-other directory (command.Mlst x) pwd mlst size mdtm = absurd (mlst x refl)
@@ -36,8 +39,10 @@ tree_reply-other directory (command.Mdtm x) pwd mlst size mdtm = absurd (mdtm x 
 tree_reply-other directory _ pwd mlst size mdtm = refl
 
 pub standing_reply-other : (c : Command)
-    → ((x : _) → c ≡ command.Auth x → ⊥) → ((x : _) → c ≡ command.Prot x → ⊥) → ((x : _) → c ≡ command.Mode x → ⊥)
-    → ((x : _) → c ≡ command.Opts x → ⊥) → ((x : _) → c ≡ command.Stru x → ⊥) → (c ≡ command.Feat → ⊥) → (c ≡ command.Help → ⊥)
+    → ((x : _) → c ≡ command.Auth x → ⊥) → ((x : _) → c ≡ command.Prot x → ⊥)
+    → ((x : _) → c ≡ command.Mode x → ⊥)
+    → ((x : _) → c ≡ command.Opts x → ⊥) → ((x : _) → c ≡ command.Stru x → ⊥)
+    → (c ≡ command.Feat → ⊥) → (c ≡ command.Help → ⊥)
     → ((x y : _) → c ≡ command.Site x y → ⊥)
     → standing_reply (command_of c) ≡ fixed_reply (command_of c)
 standing_reply-other (command.Auth x) auth prot mode opts stru feat help site = absurd (auth x refl)
@@ -47,5 +52,6 @@ standing_reply-other (command.Opts x) auth prot mode opts stru feat help site = 
 standing_reply-other (command.Stru x) auth prot mode opts stru feat help site = absurd (stru x refl)
 standing_reply-other command.Feat auth prot mode opts stru feat help site = absurd (feat refl)
 standing_reply-other command.Help auth prot mode opts stru feat help site = absurd (help refl)
-standing_reply-other (command.Site x y) auth prot mode opts stru feat help site = absurd (site x y refl)
+standing_reply-other (command.Site x y) auth prot mode opts stru feat help site =
+    absurd (site x y refl)
 standing_reply-other _ auth prot mode opts stru feat help site = refl

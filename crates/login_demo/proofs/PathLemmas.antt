@@ -10,17 +10,22 @@ is_false true h = absurd (h refl)
 is_false false h = refl
 
 differs : (name text : Bytes) → name ≢ text → bytes_eq name text ≡ false
-differs name text h = is_false (bytes_eq name text) (λ same. h ((bytes_eq-Decides name text).0 same))
+differs name text h =
+    is_false (bytes_eq name text) (λ same. h ((bytes_eq-Decides name text).0 same))
 
 -- a name of its own leads one down
-pub entered-name : (names : List Bytes) (name : Bytes) → name ≢ [] → name ≢ codes "." → name ≢ codes ".." → entered names name ≡ names ++ name ∷ []
-entered-name names name a b d = rw (differs name [] a, differs name (codes ".") b, differs name (codes "..") d) refl
+pub entered-name : (names : List Bytes) (name : Bytes) → name ≢ [] → name ≢ codes "."
+    → name ≢ codes ".." → entered names name ≡ names ++ name ∷ []
+entered-name names name a b d =
+    rw (differs name [] a, differs name (codes ".") b, differs name (codes "..") d) refl
 
-pub path_text-below : (names : List Bytes) → names ≢ [] → path_text names ≡ flat_map (λ name. SLASH ∷ name) names
+pub path_text-below : (names : List Bytes) → names ≢ []
+    → path_text names ≡ flat_map (λ name. SLASH ∷ name) names
 path_text-below [] h = absurd (h refl)
 path_text-below (name ∷ names) h = refl
 
-pub pointwise-map : {A B : Type 0} (E : B → B → Bool) (f : A → B) (xs ys : List A) → pointwise (λ x y. E (f x) (f y)) xs ys ≡ pointwise E (map f xs) (map f ys)
+pub pointwise-map : {A B : Type 0} (E : B → B → Bool) (f : A → B) (xs ys : List A)
+    → pointwise (λ x y. E (f x) (f y)) xs ys ≡ pointwise E (map f xs) (map f ys)
 pointwise-map E f [] [] = refl
 pointwise-map E f [] (y ∷ ys) = refl
 pointwise-map E f (x ∷ xs) [] = refl

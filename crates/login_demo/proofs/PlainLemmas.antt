@@ -30,9 +30,11 @@ IsSent reply = IsPlain reply × (reply ≢ Nothing)
 
 three_digits : (code : ℕ) → (nat_le 100 code && nat_lt code 1000) ≡ true → HasThreeDigits code
 three_digits code h =
-    let parts = and_parts (nat_le 100 code) (nat_lt code 1000) h in (leb-true 100 code parts.0, ltb-true code 1000 parts.1)
+    let parts = and_parts (nat_le 100 code) (nat_lt code 1000) h in
+    (leb-true 100 code parts.0, ltb-true code 1000 parts.1)
 
-line : (code : ℕ) (text : Bytes) → (nat_le 100 code && nat_lt code 1000) ≡ true → Lacks LF text → IsSent (CodeAndMsg code text)
+line : (code : ℕ) (text : Bytes) → (nat_le 100 code && nat_lt code 1000) ≡ true → Lacks LF text
+    → IsSent (CodeAndMsg code text)
 line code text three lack = ((three_digits code three, lack), λ e. cc)
 
 -- a test for replies that are written out
@@ -41,16 +43,20 @@ is_sent Nothing = false
 is_sent (CodeAndMsg code text) = (nat_le 100 code && nat_lt code 1000) && lacks LF text
 is_sent (MultiLine code lines) = (nat_le 100 code && nat_lt code 1000) && list_all (lacks LF) lines
 
-lines_lack : (lines : List Bytes) → list_all (lacks LF) lines ≡ true → AllByRecursion (Lacks LF) lines
+lines_lack : (lines : List Bytes) → list_all (lacks LF) lines ≡ true
+    → AllByRecursion (Lacks LF) lines
 lines_lack [] h = tt
-lines_lack (one ∷ lines) h = let parts = and_parts (lacks LF one) (list_all (lacks LF) lines) h in (Lacks-test LF one parts.0, lines_lack lines parts.1)
+lines_lack (one ∷ lines) h = let parts = and_parts (lacks LF one) (list_all (lacks LF) lines) h in
+    (Lacks-test LF one parts.0, lines_lack lines parts.1)
 
 IsSent-test : (reply : FtpReply) → is_sent reply ≡ true → IsSent reply
 IsSent-test Nothing h = cc
 IsSent-test (CodeAndMsg code text) h =
-    let parts = and_parts (nat_le 100 code && nat_lt code 1000) (lacks LF text) h in line code text parts.0 (Lacks-test LF text parts.1)
+    let parts = and_parts (nat_le 100 code && nat_lt code 1000) (lacks LF text) h in
+    line code text parts.0 (Lacks-test LF text parts.1)
 IsSent-test (MultiLine code lines) h =
-    let parts = and_parts (nat_le 100 code && nat_lt code 1000) (list_all (lacks LF) lines) h in ((three_digits code parts.0, lines_lack lines parts.1), λ e. cc)
+    let parts = and_parts (nat_le 100 code && nat_lt code 1000) (list_all (lacks LF) lines) h in
+    ((three_digits code parts.0, lines_lack lines parts.1), λ e. cc)
 
 pub IsSent-pwd : (d : Directory) → IsSent (pwd_reply d)
 IsSent-pwd directory.Root = IsSent-test _ refl
@@ -121,7 +127,11 @@ IsSent-opts (opt.Utf8 true) = IsSent-test _ refl
 IsSent-opts (opt.Utf8 false) = IsSent-test _ refl
 
 IsSent-site : (name : Bytes) → IsSent (site_reply name)
-IsSent-site name = elim (bytes_eq name (codes "HELP")) as (λ v. IsSent (cond v (CodeAndMsg 214 (codes "SITE has HELP only")) (CodeAndMsg 504 (codes "SITE has HELP only"))))
+IsSent-site name =
+    elim (bytes_eq name (codes "HELP")) as
+    (λ v. IsSent
+    (cond v (CodeAndMsg 214 (codes "SITE has HELP only"))
+    (CodeAndMsg 504 (codes "SITE has HELP only"))))
     [ true ↦ IsSent-test _ refl | false ↦ IsSent-test _ refl ]
 
 IsSent-standing : (c : FtpCommand) → IsSent (standing_reply c)
@@ -149,7 +159,8 @@ IsSent-command d (command.User name) = IsSent-test _ refl
 IsSent-command d command.Quit = IsSent-test _ refl
 IsSent-command d c = IsSent-tree d c
 
-IsSent-refusal : (kind : FaultKind) (source : FaultSource) → IsSent (CodeAndMsg (refusal_code source) (refusal_text kind source))
+IsSent-refusal : (kind : FaultKind) (source : FaultSource)
+    → IsSent (CodeAndMsg (refusal_code source) (refusal_text kind source))
 IsSent-refusal kind (event.Parse None) = IsSent-test _ refl
 IsSent-refusal kind (event.Parse (Some command.InvalidCommand)) = IsSent-test _ refl
 IsSent-refusal kind (event.Parse (Some command.InvalidUtf8)) = IsSent-test _ refl
@@ -168,4 +179,5 @@ IsSentPlain-sent (CodeAndMsg code text) h = h.0
 IsSentPlain-sent (MultiLine code lines) h = h.0
 
 pub SendsPlainReplies-files : SendsPlainReplies files_law
-SendsPlainReplies-files session event = IsSentPlain-sent (event_reply session event) (IsSent-event session event)
+SendsPlainReplies-files session event = IsSentPlain-sent (event_reply session event)
+    (IsSent-event session event)

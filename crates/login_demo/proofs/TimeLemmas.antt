@@ -7,14 +7,46 @@ use Rattle.unftp_control_commands.specs.Facts.{IsTimeText}
 
 readme_civil : DateTime
 readme_civil = record {
-  date = record { year = pos 2024; month = 2; day = 29; year_in = (omega arith, omega arith); month_in = (omega arith, omega arith); day_in = (omega arith, omega arith) };
-  time = record { hour = 12; minute = 34; second = 56; subsec_nanosecond = 0; hour_in = omega arith; minute_in = omega arith; second_in = omega arith; subsec_in = omega arith };
+  date = record {
+    year = pos 2024;
+    month = 2;
+    day = 29;
+    year_in = (omega arith, omega arith);
+    month_in = (omega arith, omega arith);
+    day_in = (omega arith, omega arith);
+  };
+  time = record {
+    hour = 12;
+    minute = 34;
+    second = 56;
+    subsec_nanosecond = 0;
+    hour_in = omega arith;
+    minute_in = omega arith;
+    second_in = omega arith;
+    subsec_in = omega arith;
+  };
 }
 
 today_civil : DateTime
 today_civil = record {
-  date = record { year = pos 2026; month = 1; day = 1; year_in = (omega arith, omega arith); month_in = (omega arith, omega arith); day_in = (omega arith, omega arith) };
-  time = record { hour = 0; minute = 0; second = 0; subsec_nanosecond = 0; hour_in = omega arith; minute_in = omega arith; second_in = omega arith; subsec_in = omega arith };
+  date = record {
+    year = pos 2026;
+    month = 1;
+    day = 1;
+    year_in = (omega arith, omega arith);
+    month_in = (omega arith, omega arith);
+    day_in = (omega arith, omega arith);
+  };
+  time = record {
+    hour = 0;
+    minute = 0;
+    second = 0;
+    subsec_nanosecond = 0;
+    hour_in = omega arith;
+    minute_in = omega arith;
+    second_in = omega arith;
+    subsec_in = omega arith;
+  };
 }
 
 readme_nanos : civil_nanos readme_civil ≡ pos 1_709_210_096_000_000_000
@@ -25,10 +57,12 @@ today_nanos : civil_nanos today_civil ≡ pos 1_767_225_600_000_000_000
 unfolding civil_nanos today_civil days_from_civil day_count days_of_years days_of_months
 today_nanos = refl
 
-pub IsTimeText-readme : (nanosecond : ℤ) → nanosecond ≡ pos 1_709_210_096_000_000_000 → IsTimeText nanosecond (Some (codes "20240229123456"))
+pub IsTimeText-readme : (nanosecond : ℤ) → nanosecond ≡ pos 1_709_210_096_000_000_000
+    → IsTimeText nanosecond (Some (codes "20240229123456"))
 unfolding readme_civil
 IsTimeText-readme nanosecond same = (readme_civil, readme_nanos ∙ sym same, refl)
 
-pub IsTimeText-today : (nanosecond : ℤ) → nanosecond ≡ pos 1_767_225_600_000_000_000 → IsTimeText nanosecond (Some (codes "20260101000000"))
+pub IsTimeText-today : (nanosecond : ℤ) → nanosecond ≡ pos 1_767_225_600_000_000_000
+    → IsTimeText nanosecond (Some (codes "20260101000000"))
 unfolding today_civil
 IsTimeText-today nanosecond same = (today_civil, today_nanos ∙ sym same, refl)

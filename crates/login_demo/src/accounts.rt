@@ -1,5 +1,5 @@
 //! Who may log in.
-ghost use Rattle.std.specs.Prelude.{◌≡◌, ◌&&◌, bytes_eq};
+ghost use Rattle.std.specs.Prelude.{◌&&◌, bytes_eq};
 ghost use Rattle.std.specs.List.{list_any};
 
 use unftp_control_login::Accounts;

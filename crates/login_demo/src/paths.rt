@@ -1,6 +1,6 @@
 //! Where a path leads, and how a path is shown.
 ghost use Rattle.std.specs.Prelude.{◌≡◌, map, string_bytes, IfOk, OnOk};
-ghost use Rattle.login_demo.specs.Walking.{SLASH, entered, path_text, start_names, walked};
+ghost use Rattle.login_demo.specs.Walking.{entered, path_text, start_names, walked};
 
 use std::alloc::{AllocError, Global};
 

@@ -1,5 +1,5 @@
 //! The replies that don't depend on the working directory.
-ghost use Rattle.std.specs.Prelude.{◌≡◌, ◌++◌, map, string_bytes, IfOk, IfErr, OnOk};
+ghost use Rattle.std.specs.Prelude.{◌≡◌, IfOk, IfErr};
 ghost use Rattle.unftp_control_command.specs.CommandMeaning.{command_of};
 ghost use Rattle.unftp_control_reply.specs.ErrorMeaning.{fault_of, kind_meant};
 ghost use Rattle.unftp_control_defs.specs.Events.{Parse, out_of_memory};

@@ -31,9 +31,12 @@ kind_of (Command command) = Utf8Error
 
 answer-not_too_long : (answer : Answer) → Refused line_too_long ≡ event_of answer → ⊥
 answer-not_too_long (Ok command) same = absurd (cc)
-answer-not_too_long (Err InvalidUtf8) same = absurd (let kind : LineTooLong ≡ Utf8Error = ap kind_of same in cc)
-answer-not_too_long (Err line.InvalidCommand) same = absurd (let kind : LineTooLong ≡ InvalidCommand = ap kind_of same in cc)
-answer-not_too_long (Err InvalidEol) same = absurd (let kind : LineTooLong ≡ InvalidCommand = ap kind_of same in cc)
+answer-not_too_long (Err InvalidUtf8) same =
+    absurd (let kind : LineTooLong ≡ Utf8Error = ap kind_of same in cc)
+answer-not_too_long (Err line.InvalidCommand) same =
+    absurd (let kind : LineTooLong ≡ InvalidCommand = ap kind_of same in cc)
+answer-not_too_long (Err InvalidEol) same =
+    absurd (let kind : LineTooLong ≡ InvalidCommand = ap kind_of same in cc)
 
 pub too_long-takes_none : EventMayTakeMemory (Refused line_too_long) → ⊥
 too_long-takes_none (line, is_line, same, takes) = answer-not_too_long (outcome line) same

@@ -10,28 +10,36 @@ use Rattle.unftp_control_defs.proofs.TakenEventLemmas.{TakesEvent-events, TakesE
 
 module _ (limit : Option ℕ) where
   -- the events that are taken and those of what is pending then are the events of all bytes
-  pub steps-events : (before : Bytes) (steps : List (TakingStep FtpEvent)) (after : Bytes) → AreTakingSteps (TakesEvent limit) before steps after
+  pub steps-events : (before : Bytes) (steps : List (TakingStep FtpEvent)) (after : Bytes)
+      → AreTakingSteps (TakesEvent limit) before steps after
       → all_taken steps ++ events limit after ≡ events limit (before ++ all_pushed steps)
   steps-events before [] after are = ap (events limit) (are ∙ sym (append-nil before))
   steps-events before (Pushed piece ∷ steps) after are =
-      steps-events (before ++ piece) steps after are ∙ ap (events limit) (append_assoc before piece (all_pushed steps))
+      steps-events (before ++ piece) steps after are
+      ∙ ap (events limit) (append_assoc before piece (all_pushed steps))
   steps-events before (Taken event ∷ steps) after (following, taken, are) =
       ap (λ events. event ∷ events) (steps-events following steps after are)
       ∙ sym (TakesEvent-events limit before event following taken (all_pushed steps))
 
-  pub steps-incomplete : (before : Bytes) (steps : List (TakingStep FtpEvent)) (after : Bytes) → AreTakingSteps (TakesEvent limit) before steps after
+  pub steps-incomplete : (before : Bytes) (steps : List (TakingStep FtpEvent)) (after : Bytes)
+      → AreTakingSteps (TakesEvent limit) before steps after
       → incomplete_line after ≡ incomplete_line (before ++ all_pushed steps)
   steps-incomplete before [] after are = ap incomplete_line (are ∙ sym (append-nil before))
   steps-incomplete before (Pushed piece ∷ steps) after are =
-      steps-incomplete (before ++ piece) steps after are ∙ ap incomplete_line (append_assoc before piece (all_pushed steps))
+      steps-incomplete (before ++ piece) steps after are
+      ∙ ap incomplete_line (append_assoc before piece (all_pushed steps))
   steps-incomplete before (Taken event ∷ steps) after (following, taken, are) =
-      steps-incomplete following steps after are ∙ sym (TakesEvent-incomplete limit before event following taken (all_pushed steps))
+      steps-incomplete following steps after are
+      ∙ sym (TakesEvent-incomplete limit before event following taken (all_pushed steps))
 
   -- where no line is left, they are all events
-  pub steps-all : (steps : List (TakingStep FtpEvent)) (after : Bytes) → AreTakingSteps (TakesEvent limit) [] steps after → Lacks LF after
-      → (all_taken steps ≡ events limit (all_pushed steps)) × (after ≡ incomplete_line (all_pushed steps))
+  pub steps-all : (steps : List (TakingStep FtpEvent)) (after : Bytes)
+      → AreTakingSteps (TakesEvent limit) [] steps after → Lacks LF after
+      → (all_taken steps ≡ events limit (all_pushed steps))
+      × (after ≡ incomplete_line (all_pushed steps))
   steps-all steps after are unended = (
-    sym (append-nil (all_taken steps)) ∙ ap (λ events. all_taken steps ++ events) (sym (events-incomplete limit after unended))
+    sym (append-nil (all_taken steps)) ∙ ap (λ events. all_taken steps ++ events)
+        (sym (events-incomplete limit after unended))
         ∙ steps-events [] steps after are,
     sym (incomplete_line-incomplete after unended) ∙ steps-incomplete [] steps after are,
   )

@@ -7,16 +7,20 @@ use Rattle.unftp_control.specs.RunEnd.{EndsNowhere, EndsAfter}
 
 module _ {S : Type 0} (law : Law S) where
   -- the events after the first one go on, in the next state
-  ends_nowhere-later : (s : S) (event : FtpEvent) (events : List FtpEvent) → EndsNowhere law s (event ∷ events) → EndsNowhere law (law.next s event) events
-  ends_nowhere-later s event events on first later last same = on (event ∷ first) later last (ap (λ more. event ∷ more) same)
+  ends_nowhere-later : (s : S) (event : FtpEvent) (events : List FtpEvent)
+      → EndsNowhere law s (event ∷ events) → EndsNowhere law (law.next s event) events
+  ends_nowhere-later s event events on first later last same =
+      on (event ∷ first) later last (ap (λ more. event ∷ more) same)
 
-  pub ends_nowhere-ends : (s : S) (events : List FtpEvent) → EndsNowhere law s events → ends law s events ≡ false
+  pub ends_nowhere-ends : (s : S) (events : List FtpEvent) → EndsNowhere law s events
+      → ends law s events ≡ false
   ends_nowhere-ends s [] on = refl
   ends_nowhere-ends s (event ∷ events) on =
       (run_of-on law s event events (on [] events event refl)).1
       ∙ ends_nowhere-ends (law.next s event) events (ends_nowhere-later s event events on)
 
-  pub ends_nowhere-not_ended : (s : S) (events : List FtpEvent) → ends law s events ≡ false → EndsNowhere law s events
+  pub ends_nowhere-not_ended : (s : S) (events : List FtpEvent) → ends law s events ≡ false
+      → EndsNowhere law s events
   ends_nowhere-not_ended s [] h [] later event same = absurd (cc)
   ends_nowhere-not_ended s [] h (f ∷ first) later event same = absurd (cc)
   ends_nowhere-not_ended s (e ∷ events) h [] later event same =
@@ -25,24 +29,31 @@ module _ {S : Type 0} (law : Law S) where
   ends_nowhere-not_ended s (e ∷ events) h (f ∷ first) later event same =
       let head : e ≡ f = cc in
       let tail : events ≡ first ++ event ∷ later = cc in
-      rw (← head) (ends_nowhere-not_ended (law.next s e) events (on-first law (law.done (law.next s e)) (ends law (law.next s e) events) h).1 first later event tail)
+      rw (← head)
+      (ends_nowhere-not_ended (law.next s e) events
+      (on-first law (law.done (law.next s e)) (ends law (law.next s e) events) h).1 first later
+      event tail)
 
   -- the run and its end, where the events before go on and the next leaves the handler done
   at_end : (s : S) (first later : List FtpEvent) (event : FtpEvent) → EndsNowhere law s first →
       law.done (last_state law s (first ++ event ∷ [])) ≡ true →
-      (run_of law s (first ++ event ∷ later) ≡ first ++ event ∷ []) × (ends law s (first ++ event ∷ later) ≡ true)
+      (run_of law s (first ++ event ∷ later) ≡ first ++ event ∷ [])
+      × (ends law s (first ++ event ∷ later) ≡ true)
   at_end s [] later event on done = run_of-done law s event later done
   at_end s (f ∷ first) later event on done =
       let step = run_of-on law s f (first ++ event ∷ later) (on [] first f refl) in
       let more = at_end (law.next s f) first later event (ends_nowhere-later s f first on) done in
       (step.0 ∙ ap (λ run. f ∷ run) more.0, step.1 ∙ more.1)
 
-  pub ends_after-run : (s : S) (events first : List FtpEvent) (event : FtpEvent) → EndsAfter law s events first event →
+  pub ends_after-run : (s : S) (events first : List FtpEvent) (event : FtpEvent)
+      → EndsAfter law s events first event →
       (run_of law s events ≡ first ++ event ∷ []) × (ends law s events ≡ true)
-  ends_after-run s events first event h = rw (h.split) (at_end s first h.later event h.none_before h.done)
+  ends_after-run s events first event h =
+      rw (h.split) (at_end s first h.later event h.none_before h.done)
 
   -- an event before the others goes on too
-  ends_nowhere-first : (s : S) (event : FtpEvent) (events : List FtpEvent) → law.done (law.next s event) ≡ false →
+  ends_nowhere-first : (s : S) (event : FtpEvent) (events : List FtpEvent)
+      → law.done (law.next s event) ≡ false →
       EndsNowhere law (law.next s event) events → EndsNowhere law s (event ∷ events)
   ends_nowhere-first s event events on rest [] later last same =
       let head : event ≡ last = cc in
@@ -56,11 +67,22 @@ module _ {S : Type 0} (law : Law S) where
   ends_nowhere-none s [] later last same = absurd (cc)
   ends_nowhere-none s (f ∷ first) later last same = absurd (cc)
 
-  found-first : (s : S) (event : FtpEvent) (events : List FtpEvent) → ends law s (event ∷ events) ≡ true →
-      (ends law (law.next s event) events ≡ true → (first : List FtpEvent) × (last : FtpEvent) × EndsAfter law (law.next s event) events first last) →
-      (done : Bool) → law.done (law.next s event) ≡ done → (first : List FtpEvent) × (last : FtpEvent) × EndsAfter law s (event ∷ events) first last
-  found-first s event events h later true done =
-      ([], event, record { later = events; split = refl; none_before = ends_nowhere-none s; done = done })
+  found-first : (s : S) (event : FtpEvent) (events : List FtpEvent)
+      → ends law s (event ∷ events) ≡ true →
+      (ends law (law.next s event) events ≡ true → (first : List FtpEvent) × (last : FtpEvent)
+      × EndsAfter law (law.next s event) events first last) →
+      (done : Bool) → law.done (law.next s event) ≡ done → (first : List FtpEvent)
+      × (last : FtpEvent) × EndsAfter law s (event ∷ events) first last
+  found-first s event events h later true done = (
+    [],
+    event,
+    record {
+      later = events;
+      split = refl;
+      none_before = ends_nowhere-none s;
+      done = done;
+    },
+  )
   found-first s event events h later false on =
       let found = later (sym (run_of-on law s event events on).1 ∙ h) in
       let end = found.2 in (
@@ -74,6 +96,9 @@ module _ {S : Type 0} (law : Law S) where
         },
       )
 
-  pub ends-found : (s : S) (events : List FtpEvent) → ends law s events ≡ true → (first : List FtpEvent) × (last : FtpEvent) × EndsAfter law s events first last
+  pub ends-found : (s : S) (events : List FtpEvent) → ends law s events ≡ true
+      → (first : List FtpEvent) × (last : FtpEvent) × EndsAfter law s events first last
   ends-found s [] h = absurd (cc)
-  ends-found s (event ∷ events) h = found-first s event events h (ends-found (law.next s event) events) (law.done (law.next s event)) refl
+  ends-found s (event ∷ events) h =
+      found-first s event events h (ends-found (law.next s event) events)
+      (law.done (law.next s event)) refl

@@ -12,35 +12,48 @@ use Rattle.unftp_control_defs.proofs.VerbLemmas.{Cut-unique}
 
 -- what the line means, from its parts
 abbrev meaning : Bytes → Bytes → Answer
-meaning verb parameter = cond (is_utf8 verb) (answer_by (rule_of (upper verb)) parameter) (Err InvalidUtf8)
+meaning verb parameter = cond (is_utf8 verb) (answer_by (rule_of (upper verb)) parameter)
+    (Err InvalidUtf8)
 
 abbrev site_meaning : Bytes → Bytes → Answer
-site_meaning name arguments = cond (is_utf8 name) (value_answer (subcommand_answer (upper name)) (value_of arguments)) (Err InvalidUtf8)
+site_meaning name arguments =
+    cond (is_utf8 name) (value_answer (subcommand_answer (upper name)) (value_of arguments))
+    (Err InvalidUtf8)
 
-outcome-Cut : (line verb parameter : Bytes) → Cut line verb parameter → outcome line ≡ meaning verb parameter
-outcome-Cut line verb parameter cut = let same = Cut-unique line verb parameter cut in λ i. meaning (sym same.0 i) (sym same.1 i)
+outcome-Cut : (line verb parameter : Bytes) → Cut line verb parameter
+    → outcome line ≡ meaning verb parameter
+outcome-Cut line verb parameter cut = let same = Cut-unique line verb parameter cut in
+    λ i. meaning (sym same.0 i) (sym same.1 i)
 
-site_answer-Cut : (parameter name arguments : Bytes) → Cut parameter name arguments → site_answer parameter ≡ site_meaning name arguments
-site_answer-Cut parameter name arguments cut = let same = Cut-unique parameter name arguments cut in λ i. site_meaning (sym same.0 i) (sym same.1 i)
+site_answer-Cut : (parameter name arguments : Bytes) → Cut parameter name arguments
+    → site_answer parameter ≡ site_meaning name arguments
+site_answer-Cut parameter name arguments cut = let same = Cut-unique parameter name arguments cut in
+    λ i. site_meaning (sym same.0 i) (sym same.1 i)
 
 same_utf8 : (text other : Bytes) → upper text ≡ upper other → is_utf8 text ≡ is_utf8 other
 same_utf8 text other e = sym (is_utf8-upper text) ∙ ap is_utf8 e ∙ is_utf8-upper other
 
-pub outcome-verb_case : (line other verb other_verb parameter : Bytes) → Cut line verb parameter → Cut other other_verb parameter → upper verb ≡ upper other_verb → outcome line ≡ outcome other
+pub outcome-verb_case : (line other verb other_verb parameter : Bytes) → Cut line verb parameter
+    → Cut other other_verb parameter → upper verb ≡ upper other_verb → outcome line ≡ outcome other
 outcome-verb_case line other verb other_verb parameter a b e =
     outcome-Cut line verb parameter a
-    ∙ (λ i. cond (same_utf8 verb other_verb e i) (answer_by (rule_of (e i)) parameter) (Err InvalidUtf8))
+    ∙ (λ i. cond (same_utf8 verb other_verb e i) (answer_by (rule_of (e i)) parameter)
+    (Err InvalidUtf8))
     ∙ sym (outcome-Cut other other_verb parameter b)
 
-site_case : (name other_name arguments : Bytes) → upper name ≡ upper other_name → site_meaning name arguments ≡ site_meaning other_name arguments
-site_case name other_name arguments e = λ i. cond (same_utf8 name other_name e i) (value_answer (subcommand_answer (e i)) (value_of arguments)) (Err InvalidUtf8)
+site_case : (name other_name arguments : Bytes) → upper name ≡ upper other_name
+    → site_meaning name arguments ≡ site_meaning other_name arguments
+site_case name other_name arguments e =
+    λ i. cond (same_utf8 name other_name e i)
+    (value_answer (subcommand_answer (e i)) (value_of arguments)) (Err InvalidUtf8)
 
 site_written : (parameter : Bytes) → meaning (codes "SITE") parameter ≡ site_answer parameter
 unfolding is_utf8 chars lib.Utf8.encode
 site_written parameter = refl
 
 -- a line of SITE means what its name says
-site_outcome : (line verb parameter : Bytes) → Cut line verb parameter → upper verb ≡ codes "SITE" → outcome line ≡ site_answer parameter
+site_outcome : (line verb parameter : Bytes) → Cut line verb parameter → upper verb ≡ codes "SITE"
+    → outcome line ≡ site_answer parameter
 site_outcome line verb parameter cut e =
     let utf8 : is_utf8 verb ≡ is_utf8 (codes "SITE") = sym (is_utf8-upper verb) ∙ ap is_utf8 e in
     outcome-Cut line verb parameter cut
@@ -48,11 +61,14 @@ site_outcome line verb parameter cut e =
     ∙ ap (λ t. cond (is_utf8 (codes "SITE")) (answer_by (rule_of t) parameter) (Err InvalidUtf8)) e
     ∙ site_written parameter
 
-pub outcome-name_case : (line other verb other_verb parameter other_parameter name other_name arguments : Bytes)
-    → Cut line verb parameter → Cut other other_verb other_parameter → upper verb ≡ codes "SITE" → upper other_verb ≡ codes "SITE"
+pub outcome-name_case : (line other verb other_verb parameter other_parameter name other_name
+    arguments : Bytes)
+    → Cut line verb parameter → Cut other other_verb other_parameter → upper verb ≡ codes "SITE"
+    → upper other_verb ≡ codes "SITE"
     → Cut parameter name arguments → Cut other_parameter other_name arguments
     → upper name ≡ upper other_name → outcome line ≡ outcome other
-outcome-name_case line other verb other_verb parameter other_parameter name other_name arguments a b s t c d e =
+outcome-name_case line other verb other_verb parameter other_parameter name other_name arguments a b
+    s t c d e =
     site_outcome line verb parameter a s
     ∙ site_answer-Cut parameter name arguments c
     ∙ site_case name other_name arguments e

@@ -24,7 +24,8 @@ empty_part = part_is_partial _ (inl lacks_nil)
 
 front : (more : Bytes) → FrontReply (codes "211 a\r\n" ++ more) 211 (codes "a" ∷ []) 7
 unfolding digits
-front more = FrontReply-encoded (CodeAndMsg 211 (codes "a")) more ((lit≤ tt, lit< tt), Lacks-test 10 (codes "a") refl) 211 (codes "a" ∷ []) refl
+front more = FrontReply-encoded (CodeAndMsg 211 (codes "a")) more
+    ((lit≤ tt, lit< tt), Lacks-test 10 (codes "a") refl) 211 (codes "a" ∷ []) refl
 
 no_part : (more : Bytes) → IsPartial (codes "211 a\r\n" ++ more) → ⊥
 no_part more partial = partial.0 (211, codes "a" ∷ [], 7, front more)
@@ -35,4 +36,6 @@ after_a_reply (inr last) = no_part last.first last.part.0
 
 pub at_the_limit : IsNeeded (appended (nothing_pending (Some 6)) (codes "211 a\r")) (codes "\n") → ⊥
 at_the_limit (inl none) = absurd (cc)
-at_the_limit (inr last) = absurd (let short = last.part.1 in omega (arith, short, length-append (codes "211 a\r") last.first))
+at_the_limit (inr last) =
+    absurd (let short = last.part.1 in
+    omega (arith, short, length-append (codes "211 a\r") last.first))

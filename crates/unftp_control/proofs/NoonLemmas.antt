@@ -11,25 +11,45 @@ use Rattle.unftp_control_commands.proofs.FactTextLemmas.{IsFacts-unique}
 
 noon : DateTime
 noon = record {
-  date = record { year = pos 2023; month = 12; day = 1; year_in = (omega arith, omega arith); month_in = (omega arith, omega arith); day_in = (omega arith, omega arith) };
-  time = record { hour = 12; minute = 0; second = 0; subsec_nanosecond = 0; hour_in = omega arith; minute_in = omega arith; second_in = omega arith; subsec_in = omega arith };
+  date = record {
+    year = pos 2023;
+    month = 12;
+    day = 1;
+    year_in = (omega arith, omega arith);
+    month_in = (omega arith, omega arith);
+    day_in = (omega arith, omega arith);
+  };
+  time = record {
+    hour = 12;
+    minute = 0;
+    second = 0;
+    subsec_nanosecond = 0;
+    hour_in = omega arith;
+    minute_in = omega arith;
+    second_in = omega arith;
+    subsec_in = omega arith;
+  };
 }
 
 at_noon : civil_nanos noon ≡ pos 1_701_432_000_000_000_000
 unfolding civil_nanos noon days_from_civil day_count days_of_years days_of_months
 at_noon = refl
 
-IsModified-noon : (instant : Timestamp) → instant.nanosecond ≡ pos 1_701_432_000_000_000_000 → IsModified (Some instant) (Some (codes "20231201120000"))
+IsModified-noon : (instant : Timestamp) → instant.nanosecond ≡ pos 1_701_432_000_000_000_000
+    → IsModified (Some instant) (Some (codes "20231201120000"))
 unfolding noon
 IsModified-noon instant same = (noon, at_noon ∙ sym same, refl)
 
 abbrev pub file_of : Timestamp → FileFacts
 file_of instant = record { is_dir = false; size = 1234; modified = Some instant; uid = 0; gid = 0 }
 
-pub IsFacts-noon : (instant : Timestamp) → instant.nanosecond ≡ pos 1_701_432_000_000_000_000 → IsFacts (file_of instant) (codes "type=file;size=1234;modify=20231201120000;")
+pub IsFacts-noon : (instant : Timestamp) → instant.nanosecond ≡ pos 1_701_432_000_000_000_000
+    → IsFacts (file_of instant) (codes "type=file;size=1234;modify=20231201120000;")
 unfolding digits
 IsFacts-noon instant same = (Some (codes "20231201120000"), IsModified-noon instant same, refl)
 
-pub noon-only : (instant : Timestamp) (facts : Bytes) → instant.nanosecond ≡ pos 1_701_432_000_000_000_000 → IsFacts (file_of instant) facts
+pub noon-only : (instant : Timestamp) (facts : Bytes)
+    → instant.nanosecond ≡ pos 1_701_432_000_000_000_000 → IsFacts (file_of instant) facts
     → codes "type=file;size=1234;modify=20231201120000;" ≡ facts
-noon-only instant facts same other = IsFacts-unique (file_of instant) _ facts (IsFacts-noon instant same) other
+noon-only instant facts same other =
+    IsFacts-unique (file_of instant) _ facts (IsFacts-noon instant same) other

@@ -18,5 +18,6 @@ ends-after = record { later = noop ∷ []; split = refl; none_before = ends-nowh
 pub ends-not_before : EndsAfter counting_to_five 3 (noop ∷ noop ∷ noop ∷ []) [] noop → ⊥
 ends-not_before v = false≢true v.done
 
-pub ends-not_later : EndsAfter counting_to_five 3 (noop ∷ noop ∷ noop ∷ []) (noop ∷ noop ∷ []) noop → ⊥
+pub ends-not_later : EndsAfter counting_to_five 3 (noop ∷ noop ∷ noop ∷ []) (noop ∷ noop ∷ []) noop
+    → ⊥
 ends-not_later v = false≢true v.done

@@ -11,7 +11,8 @@ abbrev pub start : Snapshot ℕ
 start = snapshot 3 (codes "x") 1
 
 module _ (after : Snapshot ℕ) (v : AllAnswered counting start (noop ∷ noop ∷ []) after) where
-  pub all_answered-written : Appends (Some (codes "x")) after.output.written (codes "200 OK\r\n200 OK\r\n")
+  pub all_answered-written : Appends (Some (codes "x")) after.output.written
+      (codes "200 OK\r\n200 OK\r\n")
   unfolding digits
   all_answered-written = v.written
 
@@ -19,12 +20,14 @@ module _ (after : Snapshot ℕ) (v : AllAnswered counting start (noop ∷ noop �
   unfolding digits
   all_answered-flushed = let none : after.output.unflushed ≤ 0 = v.flushed in omega arith
 
-pub write_failed-part : (part : Bytes) (after : Snapshot ℕ) → RunEnded counting start (noop ∷ []) (noop ∷ []) (Write part) after →
+pub write_failed-part : (part : Bytes) (after : Snapshot ℕ)
+    → RunEnded counting start (noop ∷ []) (noop ∷ []) (Write part) after →
     Begins (codes "200 OK\r\n") part × (after.output.unflushed ≤ length part)
 unfolding digits
 write_failed-part part after v = (v.ends_at.1, v.flushed)
 
-pub write_failed-written : (after : Snapshot ℕ) → RunEnded counting start (noop ∷ []) (noop ∷ []) (Write (codes "20")) after →
+pub write_failed-written : (after : Snapshot ℕ)
+    → RunEnded counting start (noop ∷ []) (noop ∷ []) (Write (codes "20")) after →
     Appends (Some (codes "x")) after.output.written (codes "200 OK\r\n20")
 unfolding digits
 write_failed-written after v = v.written

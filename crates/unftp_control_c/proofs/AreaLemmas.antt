@@ -11,14 +11,20 @@ use Rattle.unftp_control_c.specs.Areas.{Filled, filled, overwritten}
 -- by whether there is room
 abbrev by_room : Bool → Bytes → Bytes → Filled
 by_room room text area = if room
-    then record { result = status_number Done; area = overwritten text area; text_length = length text }
+    then record {
+      result = status_number Done;
+      area = overwritten text area;
+      text_length = length text;
+    }
     else record { result = status_number NoRoom; area = area; text_length = length text }
 
 -- where it is done, the text is at the start of the area
-pub filled_done : (text area : Bytes) → (filled text area).result ≡ status_number Done → take (filled text area).text_length (filled text area).area ≡ text
+pub filled_done : (text area : Bytes) → (filled text area).result ≡ status_number Done
+    → take (filled text area).text_length (filled text area).area ≡ text
 filled_done text area done = go (nat_le (length text) (length area)) done
   where
-    go : (room : Bool) → (by_room room text area).result ≡ status_number Done → take (by_room room text area).text_length (by_room room text area).area ≡ text
+    go : (room : Bool) → (by_room room text area).result ≡ status_number Done
+        → take (by_room room text area).text_length (by_room room text area).area ≡ text
     go true done = take-append_seam text (drop (length text) area)
     go false done = absurd (omega (arith, done))
 
@@ -29,7 +35,8 @@ filled_has_line text area none = go (nat_le (length text) (length area)) none
     go true none = omega (arith, none)
     go false none = omega (arith, none)
 
-pub filled_has_memory : (text area : Bytes) → (filled text area).result ≡ status_number OutOfMemory → ⊥
+pub filled_has_memory : (text area : Bytes) → (filled text area).result ≡ status_number OutOfMemory
+    → ⊥
 filled_has_memory text area out = go (nat_le (length text) (length area)) out
   where
     go : (room : Bool) → (by_room room text area).result ≡ status_number OutOfMemory → ⊥
@@ -37,7 +44,8 @@ filled_has_memory text area out = go (nat_le (length text) (length area)) out
     go false out = omega (arith, out)
 
 -- two texts
-pub one_after_the_other : (text next area : Bytes) → text ++ overwritten next (drop (length text) area) ≡ overwritten (text ++ next) area
+pub one_after_the_other : (text next area : Bytes)
+    → text ++ overwritten next (drop (length text) area) ≡ overwritten (text ++ next) area
 one_after_the_other text next area = simp (append_assoc, drop-drop, length-append)
 
 -- two texts at the start of an area are found by their lengths

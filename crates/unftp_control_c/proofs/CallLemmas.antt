@@ -15,7 +15,8 @@ pub command_gives : (command : FtpCommand) → gives_none (command_number comman
 command_gives (User name) = refl
 command_gives _ = refl
 
-pub refusal_gives : (refusal : Refusal) → gives_none (status_number (refusal_status refusal)) ≡ false
+pub refusal_gives : (refusal : Refusal) → gives_none (status_number (refusal_status refusal))
+    ≡ false
 refusal_gives InvalidCommand = refl
 refusal_gives InvalidUtf8 = refl
 refusal_gives InvalidEol = refl
@@ -31,11 +32,15 @@ without_room call command = record {
 
 -- what a call leaves, by its result
 pub data NextLeft (call : Call) (left : Left) : Type 0 where
-  invalid : is_valid call.connection (length call.bytes) ≡ false → left ≡ kept call InvalidArgument → NextLeft call left
-  asks : line_feed_from call.bytes call.connection.offset ≡ None → left.result ≡ status_number More → NextLeft call left
+  invalid : is_valid call.connection (length call.bytes) ≡ false → left ≡ kept call InvalidArgument
+      → NextLeft call left
+  asks : line_feed_from call.bytes call.connection.offset ≡ None → left.result ≡ status_number More
+      → NextLeft call left
   gave : gives_none left.result ≡ false → 0 < left.line.used → NextLeft call left
-  no_room : (k : ℕ) (command : FtpCommand) → is_valid call.connection (length call.bytes) ≡ true → line_feed_from call.bytes call.connection.offset ≡ Some k
-      → is_long call.connection (k + 1) ≡ false → outcome (take (k + 1) call.bytes) ≡ Ok command → left ≡ without_room call command → NextLeft call left
+  no_room : (k : ℕ) (command : FtpCommand) → is_valid call.connection (length call.bytes) ≡ true
+      → line_feed_from call.bytes call.connection.offset ≡ Some k
+      → is_long call.connection (k + 1) ≡ false → outcome (take (k + 1) call.bytes) ≡ Ok command
+      → left ≡ without_room call command → NextLeft call left
 
 module _ (call : Call) where
   abbrev feed : Option ℕ
@@ -44,20 +49,28 @@ module _ (call : Call) where
   abbrev valid : Bool
   valid = is_valid call.connection (length call.bytes)
 
-  left_waiting : feed ≡ None → (long : Bool) → is_long call.connection (length call.bytes + 1) ≡ long → NextLeft call (incomplete call)
+  left_waiting : feed ≡ None → (long : Bool) → is_long call.connection (length call.bytes + 1)
+      ≡ long → NextLeft call (incomplete call)
   left_waiting none true e = rw e (asks none refl)
   left_waiting none false e = rw e (asks none refl)
 
-  left_command : (k : ℕ) (command : FtpCommand) → valid ≡ true → feed ≡ Some k → is_long call.connection (k + 1) ≡ false → outcome (take (k + 1) call.bytes) ≡ Ok command
-      → (room : Bool) → nat_le (length (text_of command)) (length call.area) ≡ room → NextLeft call (gives call.connection call.area (k + 1) command)
+  left_command : (k : ℕ) (command : FtpCommand) → valid ≡ true → feed ≡ Some k
+      → is_long call.connection (k + 1) ≡ false → outcome (take (k + 1) call.bytes) ≡ Ok command
+      → (room : Bool) → nat_le (length (text_of command)) (length call.area) ≡ room
+      → NextLeft call (gives call.connection call.area (k + 1) command)
   left_command k command ok at short read true e = rw e (gave (command_gives command) (omega arith))
   left_command k command ok at short read false e = rw e (no_room k command ok at short read refl)
 
-  left_answer : (k : ℕ) → valid ≡ true → feed ≡ Some k → is_long call.connection (k + 1) ≡ false → (answer : Answer) → outcome (take (k + 1) call.bytes) ≡ answer → NextLeft call (answered call (k + 1) answer)
-  left_answer k ok at short (Ok command) read = left_command k command ok at short read (nat_le (length (text_of command)) (length call.area)) refl
+  left_answer : (k : ℕ) → valid ≡ true → feed ≡ Some k → is_long call.connection (k + 1) ≡ false
+      → (answer : Answer) → outcome (take (k + 1) call.bytes) ≡ answer
+      → NextLeft call (answered call (k + 1) answer)
+  left_answer k ok at short (Ok command) read =
+      left_command k command ok at short read (nat_le (length (text_of command)) (length call.area))
+      refl
   left_answer k ok at short (Err refusal) read = gave (refusal_gives refusal) (omega arith)
 
-  left_line : (k : ℕ) → valid ≡ true → feed ≡ Some k → (long : Bool) → is_long call.connection (k + 1) ≡ long → NextLeft call (ended call k)
+  left_line : (k : ℕ) → valid ≡ true → feed ≡ Some k → (long : Bool)
+      → is_long call.connection (k + 1) ≡ long → NextLeft call (ended call k)
   left_line k ok at true e = rw e (gave refl (omega arith))
   left_line k ok at false e = rw e (left_answer k ok at e (outcome (take (k + 1) call.bytes)) refl)
 
@@ -73,11 +86,13 @@ module _ (call : Call) where
   next_left = left_by valid refl
 
   -- with the memory that may be missing
-  pub left_so : (left : Left) → Leaves call left → NextLeft call left ⊎ (left ≡ kept call OutOfMemory)
+  pub left_so : (left : Left) → Leaves call left → NextLeft call left
+      ⊎ (left ≡ kept call OutOfMemory)
   left_so left (inl next) = inl (rw next next_left)
   left_so left (inr ran_out) = inr ran_out.1
 
-pub gives_some : (result : ℕ) → gives_none result ≡ false → (result ≢ status_number More) × (result ≢ status_number NoRoom) × (result ≢ status_number OutOfMemory)
+pub gives_some : (result : ℕ) → gives_none result ≡ false → (result ≢ status_number More)
+    × (result ≢ status_number NoRoom) × (result ≢ status_number OutOfMemory)
 gives_some result h = (
   λ e. let found = subst (λ n. gives_none n ≡ false) e h in cc,
   λ e. let found = subst (λ n. gives_none n ≡ false) e h in cc,

@@ -5,7 +5,7 @@ ghost use Rattle.unftp_control_defs.specs.Bytes.{Bytes, LF, Lacks, crlf};
 ghost use Rattle.unftp_control_defs.specs.FtpReply.{FtpReply, CodeAndMsg, encoded, spaced_line};
 ghost use Rattle.unftp_control_defs.specs.ReplyReader.{FrontReply, IsMalformed, IsPartial, ReadsBack};
 ghost use Rattle.unftp_control_codecs.specs.ReplyCodes.{IsReplyCode};
-ghost use Rattle.unftp_control_c.specs.Areas.{Made, filled, made, written};
+ghost use Rattle.unftp_control_c.specs.Areas.{Made, filled, written};
 ghost use Rattle.unftp_control_c.specs.Numbers.{status_number};
 ghost use Rattle.unftp_control_c.specs.Replies.{EncodesReply, IsReplyOf, lines_reply};
 ghost use Rattle.unftp_control_c.specs.declared.status.Status.TheVariants.{Done, More, Malformed, OutOfMemory};

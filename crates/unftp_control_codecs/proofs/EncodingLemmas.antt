@@ -14,24 +14,36 @@ ending code last = decimal code ++ spaced_line last
 
 -- after the code and the dash
 lines_after_code-front : (code : ℕ) (line : Bytes) (lines : List Bytes) (last : Bytes)
-    → lines_after_code code line (lines ++ last ∷ []) ≡ padded_line line ++ (flat_map padded_line lines ++ ending code last)
+    → lines_after_code code line (lines ++ last ∷ []) ≡ padded_line line
+    ++ (flat_map padded_line lines ++ ending code last)
 lines_after_code-front code line [] last = refl
 lines_after_code-front code line (next ∷ lines) last =
-    ap (λ t. padded_line line ++ t) (lines_after_code-front code next lines last ∙ sym (append_assoc (padded_line next) (flat_map padded_line lines) (ending code last)))
+    ap (λ t. padded_line line ++ t) (lines_after_code-front code next lines last
+    ∙ sym (append_assoc (padded_line next) (flat_map padded_line lines) (ending code last)))
 
 lines_before_last-back : (code : ℕ) (line : Bytes) (lines : List Bytes) (last : Bytes)
-    → decimal code ++ DASH ∷ (padded_line line ++ (flat_map padded_line lines ++ ending code last)) ≡ lines_before_last code (line ∷ lines) ++ ending code last
+    → decimal code ++ DASH ∷ (padded_line line ++ (flat_map padded_line lines ++ ending code last))
+    ≡ lines_before_last code (line ∷ lines) ++ ending code last
 lines_before_last-back code line lines last =
-    ap (λ t. decimal code ++ DASH ∷ t) (sym (append_assoc (padded_line line) (flat_map padded_line lines) (ending code last)))
-    ∙ sym (append_assoc (decimal code) (DASH ∷ flat_map padded_line (line ∷ lines)) (ending code last))
+    ap (λ t. decimal code ++ DASH ∷ t)
+    (sym (append_assoc (padded_line line) (flat_map padded_line lines) (ending code last)))
+    ∙ sym (append_assoc (decimal code) (DASH ∷ flat_map padded_line (line ∷ lines))
+    (ending code last))
 
-encoded-lines_before_last : (code : ℕ) (front : List Bytes) (last : Bytes) → encoded (MultiLine code (front ++ last ∷ [])) ≡ lines_before_last code front ++ ending code last
+encoded-lines_before_last : (code : ℕ) (front : List Bytes) (last : Bytes)
+    → encoded (MultiLine code (front ++ last ∷ [])) ≡ lines_before_last code front
+    ++ ending code last
 encoded-lines_before_last code [] last = refl
-encoded-lines_before_last code (line ∷ []) last = ap (λ t. decimal code ++ DASH ∷ t) (lines_after_code-front code line [] last) ∙ lines_before_last-back code line [] last
-encoded-lines_before_last code (line ∷ next ∷ lines) last = ap (λ t. decimal code ++ DASH ∷ t) (lines_after_code-front code line (next ∷ lines) last) ∙ lines_before_last-back code line (next ∷ lines) last
+encoded-lines_before_last code (line ∷ []) last =
+    ap (λ t. decimal code ++ DASH ∷ t) (lines_after_code-front code line [] last)
+    ∙ lines_before_last-back code line [] last
+encoded-lines_before_last code (line ∷ next ∷ lines) last =
+    ap (λ t. decimal code ++ DASH ∷ t) (lines_after_code-front code line (next ∷ lines) last)
+    ∙ lines_before_last-back code line (next ∷ lines) last
 
 -- so a reply of these lines is appended part by part
-pub appended-lines : {S : Type 0} (text : S → Bytes) (code : ℕ) (lines front : List S) (last : S) (start opened coded : Bytes) → lines ≡ front ++ last ∷ []
+pub appended-lines : {S : Type 0} (text : S → Bytes) (code : ℕ) (lines front : List S) (last : S)
+    (start opened coded : Bytes) → lines ≡ front ++ last ∷ []
     → opened ≡ start ++ lines_before_last code (map text front) → coded ≡ opened ++ decimal code
     → coded ++ spaced_line (text last) ≡ start ++ encoded (MultiLine code (map text lines))
 appended-lines text code lines front last start opened coded parts a b =
@@ -41,19 +53,25 @@ appended-lines text code lines front last start opened coded parts a b =
     ∙ append_assoc (start ++ lines_before_last code texts) (decimal code) end
     ∙ append_assoc start (lines_before_last code texts) (decimal code ++ end)
     ∙ ap (λ t. start ++ t) (sym (encoded-lines_before_last code texts (text last)))
-    ∙ ap (λ t. start ++ encoded (MultiLine code t)) (sym (map-append text front (last ∷ [])) ∙ ap (map text) (sym parts))
+    ∙ ap (λ t. start ++ encoded (MultiLine code t)) (sym (map-append text front (last ∷ []))
+    ∙ ap (map text) (sym parts))
 
 -- ---- as a client reads them
 
 pub one_back : (reply : FtpReply) → IsPlain reply → ReadsBack (encoded reply) (reply ∷ [])
-one_back reply plain = subst (λ bytes. ReadsBack bytes (reply ∷ [])) (append-nil (encoded reply)) (ReadsBack-encoded (reply ∷ []) (plain, tt))
+one_back reply plain = subst (λ bytes. ReadsBack bytes (reply ∷ [])) (append-nil (encoded reply))
+    (ReadsBack-encoded (reply ∷ []) (plain, tt))
 
 pub three_digits : (code : ℕ) → IsReplyCode code → HasThreeDigits code
 three_digits code is_code = (is_code.0, omega arith)
 
 -- these lines, after the bytes that were there before
-pub appended_back : (code : ℕ) (lines : List Bytes) (start whole : Bytes) (n : ℕ) → IsReplyCode code → n ≡ length start
-    → whole ≡ start ++ encoded (MultiLine code lines) → AllByRecursion (Lacks LF) lines → ReadsBack (drop n whole) (MultiLine code lines ∷ [])
+pub appended_back : (code : ℕ) (lines : List Bytes) (start whole : Bytes) (n : ℕ) → IsReplyCode code
+    → n ≡ length start
+    → whole ≡ start ++ encoded (MultiLine code lines) → AllByRecursion (Lacks LF) lines
+    → ReadsBack (drop n whole) (MultiLine code lines ∷ [])
 appended_back code lines start whole n is_code n_is whole_is lack =
     let reply = MultiLine code lines in
-    subst (λ bytes. ReadsBack bytes (reply ∷ [])) (sym (ap (drop n) whole_is ∙ drop_at start (encoded reply) n (sym n_is))) (one_back reply (three_digits code is_code, lack))
+    subst (λ bytes. ReadsBack bytes (reply ∷ []))
+    (sym (ap (drop n) whole_is ∙ drop_at start (encoded reply) n (sym n_is)))
+    (one_back reply (three_digits code is_code, lack))

@@ -15,33 +15,46 @@ use Rattle.unftp_control_codecs.specs.LineFeed.{is_line_feed, line_feed_from}
 abbrev pub NoLineFeed : List ℕ → ℕ → ℕ → Type 0
 NoLineFeed bytes i j = (k : ℕ) → i ≤ k → k < j → is_line_feed (slice_index bytes k) ≡ false
 
-slice_index-drop : (bytes : List ℕ) (from k : ℕ) → slice_index (drop from bytes) k ≡ slice_index bytes (from + k)
+slice_index-drop : (bytes : List ℕ) (from k : ℕ)
+    → slice_index (drop from bytes) k ≡ slice_index bytes (from + k)
 slice_index-drop bytes from k = grind (arith, common_steps)
 
-pub position_from_is : (bytes : List ℕ) (from j : ℕ) → from ≤ j → j ≤ length bytes → NoLineFeed bytes from j → (j < length bytes → is_line_feed (slice_index bytes j) ≡ true) → position_or_len is_line_feed (drop from bytes) ≡ j - from
+pub position_from_is : (bytes : List ℕ) (from j : ℕ) → from ≤ j → j ≤ length bytes
+    → NoLineFeed bytes from j → (j < length bytes → is_line_feed (slice_index bytes j) ≡ true)
+    → position_or_len is_line_feed (drop from bytes) ≡ j - from
 position_from_is bytes from j low high before at =
-    position_or_len_is is_line_feed (drop from bytes) (j - from) 0 (omega (arith, length-drop from bytes))
+    position_or_len_is is_line_feed (drop from bytes) (j - from) 0
+    (omega (arith, length-drop from bytes))
     (λ k below. rw (slice_index-drop bytes from k) (before (from + k) (omega arith) (omega arith)))
-    (λ below. rw (slice_index-drop bytes from (j - from)) (let e : from + (j - from) ≡ j = omega arith in rw e (at (omega (arith, length-drop from bytes)))))
+    (λ below. rw (slice_index-drop bytes from (j - from))
+    (let e : from + (j - from) ≡ j = omega arith in
+    rw e (at (omega (arith, length-drop from bytes)))))
 
-pub line_feed_from_None : (bytes : List ℕ) (from : ℕ) → from ≤ length bytes → NoLineFeed bytes from (length bytes) → line_feed_from bytes from ≡ None
+pub line_feed_from_None : (bytes : List ℕ) (from : ℕ) → from ≤ length bytes
+    → NoLineFeed bytes from (length bytes) → line_feed_from bytes from ≡ None
 line_feed_from_None bytes from low before =
     let n = length bytes in
-    let e : position_or_len is_line_feed (drop from bytes) ≡ n - from = position_from_is bytes from n low (omega arith) before (λ below. absurd (omega arith)) in
+    let e : position_or_len is_line_feed (drop from bytes) ≡ n - from =
+    position_from_is bytes from n low (omega arith) before (λ below. absurd (omega arith)) in
     grind (arith, common_steps, e, length-drop from bytes)
 
-pub line_feed_from_Some : (bytes : List ℕ) (from j : ℕ) → from ≤ j → j < length bytes → NoLineFeed bytes from j → slice_index bytes j ≡ 10 → line_feed_from bytes from ≡ Some j
+pub line_feed_from_Some : (bytes : List ℕ) (from j : ℕ) → from ≤ j → j < length bytes
+    → NoLineFeed bytes from j → slice_index bytes j ≡ 10 → line_feed_from bytes from ≡ Some j
 line_feed_from_Some bytes from j low high before at =
-    let e : position_or_len is_line_feed (drop from bytes) ≡ j - from = position_from_is bytes from j low (omega arith) before (λ below. rw at refl) in
+    let e : position_or_len is_line_feed (drop from bytes) ≡ j - from =
+    position_from_is bytes from j low (omega arith) before (λ below. rw at refl) in
     grind (arith, common_steps, e, length-drop from bytes)
 
 -- ---- what `line_feed_from` returns
 
-mapped : (from k : ℕ) (o : Option ℕ) → option_map (λ i. from + i) o ≡ Some k → (i : ℕ) × (o ≡ Some i) × (from + i ≡ k)
+mapped : (from k : ℕ) (o : Option ℕ) → option_map (λ i. from + i) o ≡ Some k
+    → (i : ℕ) × (o ≡ Some i) × (from + i ≡ k)
 mapped from k None h = absurd (cc)
 mapped from k (Some i) h = (i, refl, cc)
 
-pub line_feed_at : (bytes : List ℕ) (from k : ℕ) → line_feed_from bytes from ≡ Some k → (from ≤ k) × (k < length bytes) × (is_line_feed (slice_index bytes k) ≡ true) × NoLineFeed bytes from k
+pub line_feed_at : (bytes : List ℕ) (from k : ℕ) → line_feed_from bytes from ≡ Some k
+    → (from ≤ k) × (k < length bytes) × (is_line_feed (slice_index bytes k) ≡ true)
+    × NoLineFeed bytes from k
 line_feed_at bytes from k h =
     let m = mapped from k (position is_line_feed (drop from bytes)) h in
     let i : ℕ = m.0 in
@@ -51,7 +64,9 @@ line_feed_at bytes from k h =
       omega (arith, e),
       omega (arith, e, below, length-drop from bytes),
       rw (← e) (rw (slice_index-drop bytes from i) at p.1),
-      λ j low high. let d : from + (j - from) ≡ j = omega arith in rw (← d) (rw (slice_index-drop bytes from (j - from)) at (p.2 (j - from) (omega (arith, e)))),
+      λ j low high. let d : from + (j - from) ≡ j = omega arith in
+          rw (← d) (rw (slice_index-drop bytes from (j - from)) at
+          (p.2 (j - from) (omega (arith, e)))),
     )
 
 unmapped : (from : ℕ) (o : Option ℕ) → option_map (λ i. from + i) o ≡ None → o ≡ None
@@ -61,13 +76,19 @@ unmapped from (Some i) h = absurd (cc)
 late : (a b : ℕ) → cond (nat_lt a b) (Some a) None ≡ None → b ≤ a
 late a b h = grind (arith, h)
 
-pub line_feed_nowhere : (bytes : List ℕ) (from : ℕ) → line_feed_from bytes from ≡ None → NoLineFeed bytes from (length bytes)
+pub line_feed_nowhere : (bytes : List ℕ) (from : ℕ) → line_feed_from bytes from ≡ None
+    → NoLineFeed bytes from (length bytes)
 line_feed_nowhere bytes from h j low high =
     let rest : List ℕ = drop from bytes in
-    let all : length rest ≤ position_or_len is_line_feed rest = late (position_or_len is_line_feed rest) (length rest) (unmapped from (position is_line_feed rest) h) in
+    let all : length rest ≤ position_or_len is_line_feed rest =
+    late (position_or_len is_line_feed rest) (length rest)
+    (unmapped from (position is_line_feed rest) h) in
     let d : from + (j - from) ≡ j = omega arith in
-    let passes : not (is_line_feed (slice_index rest (j - from))) ≡ true = prefix_len_passes (λ x. not (is_line_feed x)) rest (j - from) 0 (omega (arith, all, length-drop from bytes)) in
-    let passes' : not (is_line_feed (slice_index bytes j)) ≡ true = rw (← d) (rw (slice_index-drop bytes from (j - from)) at passes) in
+    let passes : not (is_line_feed (slice_index rest (j - from))) ≡ true =
+    prefix_len_passes (λ x. not (is_line_feed x)) rest (j - from) 0
+    (omega (arith, all, length-drop from bytes)) in
+    let passes' : not (is_line_feed (slice_index bytes j)) ≡ true =
+    rw (← d) (rw (slice_index-drop bytes from (j - from)) at passes) in
     grind (arith, passes')
 
 -- ---- the same said by `Lacks`, and of a limit
@@ -76,27 +97,35 @@ pub not_lf : (b : ℕ) → is_line_feed b ≡ false → b ≢ LF
 not_lf b h = λ e. grind (arith, common_steps)
 
 -- no line feed among the first bytes, said in both ways
-pub lacks_upto : (n : ℕ) (bytes : Bytes) → n ≤ length bytes → NoLineFeed bytes 0 n → Lacks LF (take n bytes)
+pub lacks_upto : (n : ℕ) (bytes : Bytes) → n ≤ length bytes → NoLineFeed bytes 0 n
+    → Lacks LF (take n bytes)
 lacks_upto zero bytes within h = tt
 lacks_upto (suc n) [] within h = tt
-lacks_upto (suc n) (b ∷ bytes) within h =
-    (not_lf b (h 0 (omega arith) (omega arith)), lacks_upto n bytes (omega arith) (λ k low high. h (suc k) (omega arith) (omega arith)))
+lacks_upto (suc n) (b ∷ bytes) within h = (
+  not_lf b (h 0 (omega arith) (omega arith)),
+  lacks_upto n bytes (omega arith) (λ k low high. h (suc k) (omega arith) (omega arith)),
+)
 
-pub none_below : (n : ℕ) (bytes : Bytes) → n ≤ length bytes → Lacks LF (take n bytes) → NoLineFeed bytes 0 n
+pub none_below : (n : ℕ) (bytes : Bytes) → n ≤ length bytes → Lacks LF (take n bytes)
+    → NoLineFeed bytes 0 n
 none_below zero bytes within h k low high = absurd (omega arith)
 none_below (suc n) [] within h k low high = absurd (omega arith)
 none_below (suc n) (b ∷ bytes) within h zero low high = ne_eqb b LF h.0
-none_below (suc n) (b ∷ bytes) within h (suc k) low high = none_below n bytes (omega arith) h.1 k (omega arith) (omega arith)
+none_below (suc n) (b ∷ bytes) within h (suc k) low high =
+    none_below n bytes (omega arith) h.1 k (omega arith) (omega arith)
 
-pub none_before : (bytes : Bytes) (place k : ℕ) → NoLineFeed bytes 0 place → NoLineFeed bytes place k → NoLineFeed bytes 0 k
+pub none_before : (bytes : Bytes) (place k : ℕ) → NoLineFeed bytes 0 place
+    → NoLineFeed bytes place k → NoLineFeed bytes 0 k
 none_before bytes place k before later j low high = by_place (cases_lt j place)
   where
     by_place : (j < place) ⊎ (place ≤ j) → is_line_feed (slice_index bytes j) ≡ false
     by_place (inl below) = before j low below
     by_place (inr above) = later j above high
 
-pub lf_at : (bytes : Bytes) (k : ℕ) → k < length bytes → is_line_feed (slice_index bytes k) ≡ true → take (k + 1) bytes ≡ take k bytes ++ LF ∷ []
-lf_at bytes k within h = take_more bytes k 0 within ∙ ap (λ b. take k bytes ++ b ∷ []) (eqb-true (slice_index bytes k) LF h)
+pub lf_at : (bytes : Bytes) (k : ℕ) → k < length bytes → is_line_feed (slice_index bytes k) ≡ true
+    → take (k + 1) bytes ≡ take k bytes ++ LF ∷ []
+lf_at bytes k within h = take_more bytes k 0 within ∙ ap (λ b. take k bytes ++ b ∷ [])
+    (eqb-true (slice_index bytes k) LF h)
 
 -- a line that is not too long was not skipped so far
 pub unskipped : (skipping x : Bool) → (skipping || x) ≡ false → (skipping ≡ false) × (x ≡ false)

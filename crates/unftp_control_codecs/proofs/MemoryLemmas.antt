@@ -8,7 +8,8 @@ kind_in (Some (Refused fault)) = fault.kind
 kind_in (Some (Command command)) = IoError
 kind_in None = IoError
 
-pub ran_out : (answer : Decoded) → returned_event answer ≡ Some (Refused parser_out_of_memory) → IsOutOfMemory answer
+pub ran_out : (answer : Decoded) → returned_event answer ≡ Some (Refused parser_out_of_memory)
+    → IsOutOfMemory answer
 ran_out (Ok None) returned = absurd (cc)
 ran_out (Ok (Some command)) returned = absurd (cc)
 ran_out (Err error) returned = ap kind_in returned

@@ -15,13 +15,17 @@ IsTimeText-unique n s t p q =
     let c = time_nanos_injective p.0.time q.0.time i.1 in
     p.2 ∙ same_parts p.0 q.0 d.0 d.1 d.2 c.0 c.1 c.2 ∙ sym q.2
 
-IsModified-unique : (modified : Option Timestamp) (s t : Option (List ℕ)) → IsModified modified s → IsModified modified t → s ≡ t
+IsModified-unique : (modified : Option Timestamp) (s t : Option (List ℕ)) → IsModified modified s
+    → IsModified modified t → s ≡ t
 IsModified-unique None s t p q = p ∙ sym q
 IsModified-unique (Some instant) s t p q = IsTimeText-unique instant.nanosecond s t p q
 
 abbrev facts_with : FileFacts → Option (List ℕ) → List ℕ
-facts_with file time = type_fact file.is_dir ++ codes "size=" ++ decimal file.size ++ codes ";" ++ modify_fact time
+facts_with file time = type_fact file.is_dir ++ codes "size=" ++ decimal file.size ++ codes ";"
+    ++ modify_fact time
     ++ id_fact (codes "unix.uid=") file.uid ++ id_fact (codes "unix.gid=") file.gid
 
-pub IsFacts-unique : (file : FileFacts) (facts other : List ℕ) → IsFacts file facts → IsFacts file other → facts ≡ other
-IsFacts-unique file facts other p q = p.2 ∙ ap (facts_with file) (IsModified-unique file.modified p.0 q.0 p.1 q.1) ∙ sym q.2
+pub IsFacts-unique : (file : FileFacts) (facts other : List ℕ) → IsFacts file facts
+    → IsFacts file other → facts ≡ other
+IsFacts-unique file facts other p q =
+    p.2 ∙ ap (facts_with file) (IsModified-unique file.modified p.0 q.0 p.1 q.1) ∙ sym q.2

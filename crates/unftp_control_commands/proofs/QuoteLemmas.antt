@@ -9,25 +9,30 @@ use Rattle.unftp_control_commands.specs.ReplyTexts.{QUOTE, doubled, quoted, HasN
 abbrev ended : Bytes → Bytes → Bytes
 ended path rest = doubled path ++ QUOTE ∷ rest
 
-ended-quote : (b : ℕ) (path rest : Bytes) → b ≡ QUOTE → ended (b ∷ path) rest ≡ QUOTE ∷ QUOTE ∷ ended path rest
+ended-quote : (b : ℕ) (path rest : Bytes) → b ≡ QUOTE
+    → ended (b ∷ path) rest ≡ QUOTE ∷ QUOTE ∷ ended path rest
 ended-quote b path rest e = rw (eq-eqb b QUOTE e) refl
 
 ended-other : (b : ℕ) (path rest : Bytes) → b ≢ QUOTE → ended (b ∷ path) rest ≡ b ∷ ended path rest
 ended-other b path rest ne = rw (ne_eqb b QUOTE ne) refl
 
 -- a path that has ended is not one that goes on
-ended-nil : (b : ℕ) (path rest other_rest : Bytes) → HasNoFirstQuote other_rest → (b ≡ QUOTE) ⊎ (b ≡ QUOTE → ⊥)
+ended-nil : (b : ℕ) (path rest other_rest : Bytes) → HasNoFirstQuote other_rest
+    → (b ≡ QUOTE) ⊎ (b ≡ QUOTE → ⊥)
     → ended (b ∷ path) rest ≡ QUOTE ∷ other_rest → ⊥
 ended-nil b path rest other_rest none (inl is) e =
-    let same : QUOTE ∷ QUOTE ∷ ended path rest ≡ QUOTE ∷ other_rest = sym (ended-quote b path rest is) ∙ e in
+    let same : QUOTE ∷ QUOTE ∷ ended path rest ≡ QUOTE ∷ other_rest =
+    sym (ended-quote b path rest is) ∙ e in
     none (ended path rest) cc
 ended-nil b path rest other_rest none (inr ne) e =
     let same : b ∷ ended path rest ≡ QUOTE ∷ other_rest = sym (ended-other b path rest ne) ∙ e in
     ne cc
 
 -- two that go on have the same first byte
-ended-cons : (a b : ℕ) (path other rest other_rest : Bytes) → (a ≡ QUOTE) ⊎ (a ≡ QUOTE → ⊥) → (b ≡ QUOTE) ⊎ (b ≡ QUOTE → ⊥)
-    → ended (a ∷ path) rest ≡ ended (b ∷ other) other_rest → (a ≡ b) × (ended path rest ≡ ended other other_rest)
+ended-cons : (a b : ℕ) (path other rest other_rest : Bytes) → (a ≡ QUOTE) ⊎ (a ≡ QUOTE → ⊥)
+    → (b ≡ QUOTE) ⊎ (b ≡ QUOTE → ⊥)
+    → ended (a ∷ path) rest ≡ ended (b ∷ other) other_rest
+    → (a ≡ b) × (ended path rest ≡ ended other other_rest)
 ended-cons a b path other rest other_rest (inl p) (inl q) e =
     let same : QUOTE ∷ QUOTE ∷ ended path rest ≡ QUOTE ∷ QUOTE ∷ ended other other_rest
     = sym (ended-quote a path rest p) ∙ e ∙ ended-quote b other other_rest q in
@@ -45,11 +50,14 @@ ended-cons a b path other rest other_rest (inr p) (inr q) e =
     = sym (ended-other a path rest p) ∙ e ∙ ended-other b other other_rest q in
     (cc, cc)
 
-ended-injective : (path other rest other_rest : Bytes) → HasNoFirstQuote rest → HasNoFirstQuote other_rest
+ended-injective : (path other rest other_rest : Bytes) → HasNoFirstQuote rest
+    → HasNoFirstQuote other_rest
     → ended path rest ≡ ended other other_rest → (path ≡ other) × (rest ≡ other_rest)
 ended-injective [] [] rest other_rest h g e = (refl, cc)
-ended-injective [] (b ∷ other) rest other_rest h g e = absurd (ended-nil b other other_rest rest h (cases_eq b QUOTE) (sym e))
-ended-injective (a ∷ path) [] rest other_rest h g e = absurd (ended-nil a path rest other_rest g (cases_eq a QUOTE) e)
+ended-injective [] (b ∷ other) rest other_rest h g e =
+    absurd (ended-nil b other other_rest rest h (cases_eq b QUOTE) (sym e))
+ended-injective (a ∷ path) [] rest other_rest h g e =
+    absurd (ended-nil a path rest other_rest g (cases_eq a QUOTE) e)
 ended-injective (a ∷ path) (b ∷ other) rest other_rest h g e =
     let parts = ended-cons a b path other rest other_rest (cases_eq a QUOTE) (cases_eq b QUOTE) e in
     let more = ended-injective path other rest other_rest h g parts.1 in
@@ -60,15 +68,19 @@ ended-injective (a ∷ path) (b ∷ other) rest other_rest h g e =
 ended-quoted : (path rest : Bytes) → quoted path ++ rest ≡ QUOTE ∷ ended path rest
 ended-quoted path rest = ap (λ text. QUOTE ∷ text) (append_assoc (doubled path) (QUOTE ∷ []) rest)
 
-pub quoted-injective : (path other rest other_rest : Bytes) → HasNoFirstQuote rest → HasNoFirstQuote other_rest
+pub quoted-injective : (path other rest other_rest : Bytes) → HasNoFirstQuote rest
+    → HasNoFirstQuote other_rest
     → quoted path ++ rest ≡ quoted other ++ other_rest → (path ≡ other) × (rest ≡ other_rest)
 quoted-injective path other rest other_rest h g e =
-    let same : QUOTE ∷ ended path rest ≡ QUOTE ∷ ended other other_rest = sym (ended-quoted path rest) ∙ e ∙ ended-quoted other other_rest in
+    let same : QUOTE ∷ ended path rest ≡ QUOTE ∷ ended other other_rest =
+    sym (ended-quoted path rest) ∙ e ∙ ended-quoted other other_rest in
     let text : ended path rest ≡ ended other other_rest = cc in
     ended-injective path other rest other_rest h g text
 
-doubled-byte : (b : ℕ) (path : Bytes) → b ≢ LF → Lacks LF (doubled path) → (b ≡ QUOTE) ⊎ (b ≡ QUOTE → ⊥) → Lacks LF (doubled (b ∷ path))
-doubled-byte b path no_lf h (inl e) = rw (eq-eqb b QUOTE e) ((λ q. omega arith), ((λ q. omega arith), h))
+doubled-byte : (b : ℕ) (path : Bytes) → b ≢ LF → Lacks LF (doubled path)
+    → (b ≡ QUOTE) ⊎ (b ≡ QUOTE → ⊥) → Lacks LF (doubled (b ∷ path))
+doubled-byte b path no_lf h (inl e) =
+    rw (eq-eqb b QUOTE e) ((λ q. omega arith), ((λ q. omega arith), h))
 doubled-byte b path no_lf h (inr ne) = rw (ne_eqb b QUOTE ne) (no_lf, h)
 
 Lacks-doubled : (path : Bytes) → Lacks LF path → Lacks LF (doubled path)
@@ -76,5 +88,8 @@ Lacks-doubled [] h = tt
 Lacks-doubled (b ∷ path) h = doubled-byte b path h.0 (Lacks-doubled path h.1) (cases_eq b QUOTE)
 
 pub Lacks-quoted : (path : Bytes) → Lacks LF path → Lacks LF (quoted path)
-Lacks-quoted path h =
-    ((λ q. omega arith), Lacks-append LF (doubled path) (QUOTE ∷ []) (Lacks-doubled path h) ((λ q. omega arith), tt))
+Lacks-quoted path h = (
+  (λ q. omega arith),
+  Lacks-append LF (doubled path) (QUOTE ∷ []) (Lacks-doubled path h)
+      ((λ q. omega arith), tt),
+)

@@ -28,17 +28,23 @@ high_uppercased c h = grind (arith, nat_tests)
 abbrev High : Bytes → Type 0
 High bytes = AllByRecursion (λ b. 128 ≤ b) bytes
 
-by_length : (a b c d e f g h i j : ℕ) (low two three : Bool) → low ≡ false → 128 ≤ b → 128 ≤ c → 128 ≤ d → 128 ≤ e → 128 ≤ f → 128 ≤ g → 128 ≤ h → 128 ≤ i → 128 ≤ j
-    → High (cond low (a ∷ []) (cond two (b ∷ c ∷ []) (cond three (d ∷ e ∷ f ∷ []) (g ∷ h ∷ i ∷ j ∷ []))))
+by_length : (a b c d e f g h i j : ℕ) (low two three : Bool) → low ≡ false → 128 ≤ b → 128 ≤ c
+    → 128 ≤ d → 128 ≤ e → 128 ≤ f → 128 ≤ g → 128 ≤ h → 128 ≤ i → 128 ≤ j
+    → High (cond low (a ∷ [])
+    (cond two (b ∷ c ∷ []) (cond three (d ∷ e ∷ f ∷ []) (g ∷ h ∷ i ∷ j ∷ []))))
 by_length a b c d e f g h i j true two three l p2 p3 p4 p5 p6 p7 p8 p9 p10 = cc
 by_length a b c d e f g h i j false true three l p2 p3 p4 p5 p6 p7 p8 p9 p10 = (p2, (p3, tt))
 by_length a b c d e f g h i j false false true l p2 p3 p4 p5 p6 p7 p8 p9 p10 = (p4, (p5, (p6, tt)))
-by_length a b c d e f g h i j false false false l p2 p3 p4 p5 p6 p7 p8 p9 p10 = (p7, (p8, (p9, (p10, tt))))
+by_length a b c d e f g h i j false false false l p2 p3 p4 p5 p6 p7 p8 p9 p10 =
+    (p7, (p8, (p9, (p10, tt))))
 
 High-encode : (c : ℕ) → 128 ≤ c → High (encode c)
 unfolding encode
-High-encode c h = by_length c (192 + c / 64) (128 + c % 64) (224 + c / 4096) (128 + c / 64 % 64) (128 + c % 64) (240 + c / 262144) (128 + c / 4096 % 64) (128 + c / 64 % 64) (128 + c % 64)
-    (nat_lt c 128) (nat_lt c 2048) (nat_lt c 65536) (le-ltb c 128 h) (omega arith) (omega arith) (omega arith) (omega arith) (omega arith) (omega arith) (omega arith) (omega arith) (omega arith)
+High-encode c h = by_length c (192 + c / 64) (128 + c % 64) (224 + c / 4096) (128 + c / 64 % 64)
+    (128 + c % 64) (240 + c / 262144) (128 + c / 4096 % 64) (128 + c / 64 % 64) (128 + c % 64)
+    (nat_lt c 128) (nat_lt c 2048) (nat_lt c 65536) (le-ltb c 128 h) (omega arith) (omega arith)
+    (omega arith) (omega arith) (omega arith) (omega arith) (omega arith) (omega arith)
+    (omega arith)
 
 upper-High : (bytes : Bytes) → High bytes → upper bytes ≡ bytes
 upper-High [] h = refl
@@ -48,32 +54,39 @@ upper-encode : (c : ℕ) → upper (encode c) ≡ encode (raise c)
 upper-encode c = by_size (cases_lt c 128)
   where
     by_size : (c < 128) ⊎ (128 ≤ c) → upper (encode c) ≡ encode (raise c)
-    by_size (inl h) = ap upper (encode_ascii c h) ∙ sym (encode_ascii (raise c) (uppercase_ascii c h))
+    by_size (inl h) = ap upper (encode_ascii c h)
+        ∙ sym (encode_ascii (raise c) (uppercase_ascii c h))
     by_size (inr h) = upper-High (encode c) (High-encode c h) ∙ ap encode (sym (high_uppercase c h))
 
 upper-encodes : (cs : List ℕ) → upper (encodes cs) ≡ encodes (map raise cs)
 upper-encodes [] = refl
-upper-encodes (c ∷ cs) = map-append raise (encode c) (encodes cs) ∙ (λ i. upper-encode c i ++ upper-encodes cs i)
+upper-encodes (c ∷ cs) = map-append raise (encode c) (encodes cs)
+    ∙ (λ i. upper-encode c i ++ upper-encodes cs i)
 
 scalar-uppercase : (c : ℕ) → scalar c ≡ true → scalar (raise c) ≡ true
 scalar-uppercase c h = by_size (cases_lt c 128)
   where
     by_size : (c < 128) ⊎ (128 ≤ c) → scalar (raise c) ≡ true
-    by_size (inl l) = let r : raise c < 128 = uppercase_ascii c l in low_scalar (raise c) (omega arith)
+    by_size (inl l) = let r : raise c < 128 = uppercase_ascii c l in
+        low_scalar (raise c) (omega arith)
     by_size (inr l) = ap scalar (high_uppercase c l) ∙ h
 
 scalars-uppercase : (cs : List ℕ) → scalars cs ≡ true → scalars (map raise cs) ≡ true
 scalars-uppercase [] h = refl
-scalars-uppercase (c ∷ cs) h = let p = and_parts (scalar c) (scalars cs) h in and_from (scalar (raise c)) (scalars (map raise cs)) (scalar-uppercase c p.0) (scalars-uppercase cs p.1)
+scalars-uppercase (c ∷ cs) h = let p = and_parts (scalar c) (scalars cs) h in
+    and_from (scalar (raise c)) (scalars (map raise cs)) (scalar-uppercase c p.0)
+    (scalars-uppercase cs p.1)
 
 pub IsUtf8-upper : (text : Bytes) → IsUtf8 text → IsUtf8 (upper text)
-IsUtf8-upper text u = (map raise u.0, (scalars-uppercase u.0 u.1.0, sym (upper-encodes u.0) ∙ ap upper u.1.1))
+IsUtf8-upper text u =
+    (map raise u.0, (scalars-uppercase u.0 u.1.0, sym (upper-encodes u.0) ∙ ap upper u.1.1))
 
 -- The other way: bytes past ASCII at the front are as they were.
 abbrev Front : Bytes → Bytes → Bytes → Type 0
 Front front rest text = (more : Bytes) × (text ≡ front ++ more) × (rest ≡ upper more)
 
-high_front : (front rest text : Bytes) → High front → front ++ rest ≡ upper text → Front front rest text
+high_front : (front rest text : Bytes) → High front → front ++ rest ≡ upper text
+    → Front front rest text
 high_front [] rest text h e = (text, refl, e)
 high_front (x ∷ front) rest [] h e = cc
 high_front (x ∷ front) rest (b ∷ text) h e =
@@ -86,21 +99,28 @@ high_front (x ∷ front) rest (b ∷ text) h e =
 abbrev Spells : Bytes → Type 0
 Spells text = (cs : List ℕ) × (scalars cs ≡ true) × (encodes cs ≡ text)
 
-module _ (c : ℕ) (cs : List ℕ) (is_scalar : scalar c ≡ true) (further : (text : Bytes) → encodes cs ≡ upper text → Spells text) where
+module _ (c : ℕ) (cs : List ℕ) (is_scalar : scalar c ≡ true) (further : (text : Bytes)
+    → encodes cs ≡ upper text → Spells text) where
   low_lowered : c < 128 → (text : Bytes) → c ∷ encodes cs ≡ upper text → Spells text
   low_lowered h [] e = cc
   low_lowered h (b ∷ text) e =
       let here : c ≡ raise b = cc in
       let there : encodes cs ≡ upper text = cc in
       let small : b < 128 = low_uppercased b (subst (λ y. y < 128) here h) in
-      let more = further text there in
-      (b ∷ more.0, and_from (scalar b) (scalars more.0) (low_scalar b (omega arith)) more.1, (λ i. encode_ascii b small i ++ more.2 i))
+      let more = further text there in (
+        b ∷ more.0,
+        and_from (scalar b) (scalars more.0) (low_scalar b (omega arith)) more.1,
+        (λ i. encode_ascii b small i ++ more.2 i),
+      )
 
   high_lowered : 128 ≤ c → (text : Bytes) → encode c ++ encodes cs ≡ upper text → Spells text
   high_lowered h text e =
       let front = high_front (encode c) (encodes cs) text (High-encode c h) e in
-      let more = further front.0 front.2 in
-      (c ∷ more.0, and_from (scalar c) (scalars more.0) is_scalar more.1, ap (λ t. encode c ++ t) more.2 ∙ sym front.1)
+      let more = further front.0 front.2 in (
+        c ∷ more.0,
+        and_from (scalar c) (scalars more.0) is_scalar more.1,
+        ap (λ t. encode c ++ t) more.2 ∙ sym front.1,
+      )
 
   char_lowered : (text : Bytes) → encode c ++ encodes cs ≡ upper text → Spells text
   char_lowered text e = by_size (cases_lt c 128)
@@ -112,7 +132,8 @@ module _ (c : ℕ) (cs : List ℕ) (is_scalar : scalar c ≡ true) (further : (t
 lowered : (cs : List ℕ) (text : Bytes) → scalars cs ≡ true → encodes cs ≡ upper text → Spells text
 lowered [] [] h e = ([], refl, refl)
 lowered [] (b ∷ text) h e = cc
-lowered (c ∷ cs) text h e = let p = and_parts (scalar c) (scalars cs) h in char_lowered c cs p.0 (λ rest q. lowered cs rest p.1 q) text e
+lowered (c ∷ cs) text h e = let p = and_parts (scalar c) (scalars cs) h in
+    char_lowered c cs p.0 (λ rest q. lowered cs rest p.1 q) text e
 
 IsUtf8-lowered : (text : Bytes) → IsUtf8 (upper text) → IsUtf8 text
 IsUtf8-lowered text u = let s = lowered u.0 text u.1.0 u.1.1 in (s.0, (s.1, s.2))

@@ -13,19 +13,28 @@ use Rattle.unftp_control_defs.proofs.ValueLemmas.{return_step, byte_step, first_
 
 -- what is read of an escaped text and CR LF from some position on
 abbrev ReadsBack : Bytes → Type 0
-ReadsBack text = (later_value Fresh (escaped text ++ crlf) ≡ Some text) × (later_value Plain (escaped text ++ crlf) ≡ Some text)
+ReadsBack text = (later_value Fresh (escaped text ++ crlf) ≡ Some text)
+    × (later_value Plain (escaped text ++ crlf) ≡ Some text)
 
-next_back : (b : ℕ) (text : Bytes) → b ≢ LF → ReadsBack text → (b ≡ CR) ⊎ (b ≡ CR → ⊥) → ReadsBack (b ∷ text)
+next_back : (b : ℕ) (text : Bytes) → b ≢ LF → ReadsBack text → (b ≡ CR) ⊎ (b ≡ CR → ⊥)
+    → ReadsBack (b ∷ text)
 next_back b text no_lf more (inl e) =
-    rw (eq-eqb b CR e, e) (return_step true (escaped text ++ crlf) text more.0, return_step false (escaped text ++ crlf) text more.0)
+    rw (eq-eqb b CR e, e) (
+      return_step true (escaped text ++ crlf) text more.0,
+      return_step false (escaped text ++ crlf) text more.0,
+    )
 next_back b text no_lf more (inr ne) =
-    rw (ne_eqb b CR ne) (byte_step true b (escaped text ++ crlf) text ne (λ _. refl) more.1, byte_step false b (escaped text ++ crlf) text ne (λ e. absurd (no_lf e)) more.1)
+    rw (ne_eqb b CR ne) (
+      byte_step true b (escaped text ++ crlf) text ne (λ _. refl) more.1,
+      byte_step false b (escaped text ++ crlf) text ne (λ e. absurd (no_lf e)) more.1,
+    )
 
 escaped_later : (text : Bytes) → Lacks LF text → ReadsBack text
 escaped_later [] h = (refl, refl)
 escaped_later (b ∷ text) h = next_back b text h.0 (escaped_later text h.1) (cases_eq b CR)
 
-first_back : (b : ℕ) (text : Bytes) → b ≢ LF → ReadsBack text → (b ≡ CR) ⊎ (b ≡ CR → ⊥) → value_of (escaped (b ∷ text) ++ crlf) ≡ Some (b ∷ text)
+first_back : (b : ℕ) (text : Bytes) → b ≢ LF → ReadsBack text → (b ≡ CR) ⊎ (b ≡ CR → ⊥)
+    → value_of (escaped (b ∷ text) ++ crlf) ≡ Some (b ∷ text)
 first_back b text no_lf more (inl e) = rw (eq-eqb b CR e, e, more.0)
 first_back b text no_lf more (inr ne) =
     rw (ne_eqb b CR ne) (first_step b (escaped text ++ crlf) text (no_lf, λ rest e. ne cc) more.0)
@@ -38,15 +47,19 @@ value_of-escaped (b ∷ text) h = first_back b text h.0 (escaped_later text h.1)
 -- a text without a CR needs no escape
 escaped-without_cr : (text : Bytes) → Lacks CR text → escaped text ≡ text
 escaped-without_cr [] h = refl
-escaped-without_cr (b ∷ text) h = rw (ne_eqb b CR h.0) (ap (λ t. b ∷ t) (escaped-without_cr text h.1))
+escaped-without_cr (b ∷ text) h =
+    rw (ne_eqb b CR h.0) (ap (λ t. b ∷ t) (escaped-without_cr text h.1))
 
 pub escaped-decimal : (n : ℕ) → escaped (decimal n) ≡ decimal n
 escaped-decimal n = escaped-without_cr (decimal n) (Lacks-decimal CR n (omega arith))
 
-user_line : (parameter : Bytes) → outcome (codes "USER" ++ SP ∷ parameter) ≡ value_answer (raw User) (value_of parameter)
+user_line : (parameter : Bytes) → outcome (codes "USER" ++ SP ∷ parameter) ≡ value_answer (raw User)
+    (value_of parameter)
 unfolding is_utf8 chars lib.Utf8.encode
 user_line parameter = refl
 
 -- a name that is sent so is read back
-pub outcome-escaped : (name : Bytes) → Lacks LF name → outcome (codes "USER " ++ escaped name ++ crlf) ≡ Ok (User name)
-outcome-escaped name h = user_line (escaped name ++ crlf) ∙ ap (value_answer (raw User)) (value_of-escaped name h)
+pub outcome-escaped : (name : Bytes) → Lacks LF name
+    → outcome (codes "USER " ++ escaped name ++ crlf) ≡ Ok (User name)
+outcome-escaped name h = user_line (escaped name ++ crlf)
+    ∙ ap (value_answer (raw User)) (value_of-escaped name h)

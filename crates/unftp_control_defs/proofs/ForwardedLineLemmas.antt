@@ -26,49 +26,60 @@ use Rattle.unftp_control_defs.proofs.ValueLemmas.{Reads-value_of, value_of-Reads
 use Rattle.unftp_control_defs.proofs.VerbLemmas.{parted_cut, verb_step, parameter_step}
 
 -- no end begins at a byte other than LF where no LF follows
-no_end : (b : ℕ) (bytes : Bytes) → b ≢ LF → begins_with_lf bytes ≡ false → begins_end b bytes ≡ false
+no_end : (b : ℕ) (bytes : Bytes) → b ≢ LF → begins_with_lf bytes ≡ false
+    → begins_end b bytes ≡ false
 no_end b bytes no_lf next = by_byte (cases_eq b CR)
   where
     by_byte : (b ≡ CR) ⊎ (b ≡ CR → ⊥) → begins_end b bytes ≡ false
     by_byte (inl e) = rw (e, next)
     by_byte (inr ne) = rw (ne_eqb b LF no_lf, ne_eqb b CR ne)
 
-before_end-byte : (b : ℕ) (bytes : Bytes) → begins_end b bytes ≡ false → before_end (b ∷ bytes) ≡ b ∷ before_end bytes
+before_end-byte : (b : ℕ) (bytes : Bytes) → begins_end b bytes ≡ false
+    → before_end (b ∷ bytes) ≡ b ∷ before_end bytes
 before_end-byte b bytes e = rw e
 
 pub Lacks-before_end : (bytes : Bytes) → Lacks LF (before_end bytes)
 Lacks-before_end [] = tt
 Lacks-before_end (b ∷ bytes) = by_test (begins_end b bytes) refl (Lacks-before_end bytes)
   where
-    by_test : (test : Bool) → begins_end b bytes ≡ test → Lacks LF (before_end bytes) → Lacks LF (cond test [] (b ∷ before_end bytes))
+    by_test : (test : Bool) → begins_end b bytes ≡ test → Lacks LF (before_end bytes)
+        → Lacks LF (cond test [] (b ∷ before_end bytes))
     by_test true e h = tt
     by_test false e h = ((λ q. false≢true (sym (rw (eq-eqb b LF q) at e))), h)
 
 -- an end after a text
-next_byte : (text : Bytes) (rest : Bytes) → Lacks LF text → begins_with_lf (text ++ CR ∷ rest) ≡ false
+next_byte : (text : Bytes) (rest : Bytes) → Lacks LF text → begins_with_lf (text ++ CR ∷ rest)
+    ≡ false
 next_byte [] rest h = refl
 next_byte (b ∷ text) rest h = rw (ne_eqb b LF h.0)
 
-pub before_end-crlf : (text rest : Bytes) → Lacks LF text → before_end (text ++ CR ∷ LF ∷ rest) ≡ text
+pub before_end-crlf : (text rest : Bytes) → Lacks LF text → before_end (text ++ CR ∷ LF ∷ rest)
+    ≡ text
 before_end-crlf [] rest h = refl
 before_end-crlf (b ∷ text) rest h =
-    before_end-byte b (text ++ CR ∷ LF ∷ rest) (no_end b (text ++ CR ∷ LF ∷ rest) h.0 (next_byte text (LF ∷ rest) h.1)) ∙ ap (λ t. b ∷ t) (before_end-crlf text rest h.1)
+    before_end-byte b (text ++ CR ∷ LF ∷ rest)
+    (no_end b (text ++ CR ∷ LF ∷ rest) h.0 (next_byte text (LF ∷ rest) h.1))
+    ∙ ap (λ t. b ∷ t) (before_end-crlf text rest h.1)
 
 -- The units of a value and an end.
-units_before_end : (fresh : Bool) (units : List ValueUnit) (end ignored : Bytes) → LaterUnits fresh units → Lacks LF (map unit_value units) → (end ≡ crlf) ⊎ (end ≡ LF ∷ [])
+units_before_end : (fresh : Bool) (units : List ValueUnit) (end ignored : Bytes)
+    → LaterUnits fresh units → Lacks LF (map unit_value units) → (end ≡ crlf) ⊎ (end ≡ LF ∷ [])
     → before_end (flat_map unit_bytes units ++ (end ++ ignored)) ≡ flat_map unit_bytes units
 units_before_end fresh [] end ignored are h (inl e) = rw e
 units_before_end fresh [] end ignored are h (inr e) = rw e
-units_before_end fresh (Return ∷ units) end ignored are h e = ap (λ t. CR ∷ NUL ∷ t) (units_before_end true units end ignored are h.1 e)
+units_before_end fresh (Return ∷ units) end ignored are h e =
+    ap (λ t. CR ∷ NUL ∷ t) (units_before_end true units end ignored are h.1 e)
 units_before_end fresh (Byte b ∷ units) end ignored are h e =
-    rw (ne_eqb b LF h.0, ne_eqb b CR are.0) (ap (λ t. b ∷ t) (units_before_end false units end ignored are.2 h.1 e))
+    rw (ne_eqb b LF h.0, ne_eqb b CR are.0)
+    (ap (λ t. b ∷ t) (units_before_end false units end ignored are.2 h.1 e))
 
 either_end : (later : List ValueUnit) (end : Bytes) → End later end → (end ≡ crlf) ⊎ (end ≡ LF ∷ [])
 either_end later end (inl e) = inl e
 either_end later end (inr p) = inr p.3
 
 -- no LF follows the first unit
-after_first : (later : List ValueUnit) (end ignored : Bytes) → Lacks LF (map unit_value later) → End later end → begins_with_lf (flat_map unit_bytes later ++ (end ++ ignored)) ≡ false
+after_first : (later : List ValueUnit) (end ignored : Bytes) → Lacks LF (map unit_value later)
+    → End later end → begins_with_lf (flat_map unit_bytes later ++ (end ++ ignored)) ≡ false
 after_first [] end ignored h (inl e) = rw e
 after_first [] end ignored h (inr p) = absurd (no_units p.0 p.1 p.2)
   where
@@ -78,31 +89,45 @@ after_first [] end ignored h (inr p) = absurd (no_units p.0 p.1 p.2)
 after_first (Return ∷ later) end ignored h e = refl
 after_first (Byte b ∷ later) end ignored h e = rw (ne_eqb b LF h.0)
 
-first_before_end : (first : ValueUnit) (later : List ValueUnit) (end ignored : Bytes) → LaterUnits true later → Lacks LF (unit_value first ∷ map unit_value later) → End later end
-    → before_end (unit_bytes first ++ (flat_map unit_bytes later ++ (end ++ ignored))) ≡ unit_bytes first ++ flat_map unit_bytes later
-first_before_end Return later end ignored are h e = ap (λ t. CR ∷ NUL ∷ t) (units_before_end true later end ignored are h.1 (either_end later end e))
+first_before_end : (first : ValueUnit) (later : List ValueUnit) (end ignored : Bytes)
+    → LaterUnits true later → Lacks LF (unit_value first ∷ map unit_value later) → End later end
+    → before_end (unit_bytes first ++ (flat_map unit_bytes later ++ (end ++ ignored)))
+    ≡ unit_bytes first ++ flat_map unit_bytes later
+first_before_end Return later end ignored are h e =
+    ap (λ t. CR ∷ NUL ∷ t)
+    (units_before_end true later end ignored are h.1 (either_end later end e))
 first_before_end (Byte b) later end ignored are h e =
     let after : Bytes = flat_map unit_bytes later ++ (end ++ ignored) in
     before_end-byte b after (no_end b after h.0 (after_first later end ignored h.1 e))
     ∙ ap (λ t. b ∷ t) (units_before_end true later end ignored are h.1 (either_end later end e))
 
 -- with CR LF for its end the first unit is the same
-same_first : (first : ValueUnit) (later : List ValueUnit) (more : Bytes) → FirstUnit (unit_bytes first ++ (flat_map unit_bytes later ++ more)) first
+same_first : (first : ValueUnit) (later : List ValueUnit) (more : Bytes)
+    → FirstUnit (unit_bytes first ++ (flat_map unit_bytes later ++ more)) first
     → FirstUnit (unit_bytes first ++ (flat_map unit_bytes later ++ (crlf ++ []))) first
 same_first Return later more is = tt
 same_first (Byte b) [] more is = (is.0, λ rest e. cc)
 same_first (Byte b) (Return ∷ later) more is = (is.0, λ rest e. cc)
-same_first (Byte b) (Byte c ∷ later) more is = (is.0, λ rest e. is.1 (flat_map unit_bytes later ++ more) (both e))
+same_first (Byte b) (Byte c ∷ later) more is =
+    (is.0, λ rest e. is.1 (flat_map unit_bytes later ++ more) (both e))
   where
-    both : {rest : Bytes} → b ∷ c ∷ (flat_map unit_bytes later ++ (crlf ++ [])) ≡ CR ∷ NUL ∷ rest → b ∷ c ∷ (flat_map unit_bytes later ++ more) ≡ CR ∷ NUL ∷ (flat_map unit_bytes later ++ more)
+    both : {rest : Bytes} → b ∷ c ∷ (flat_map unit_bytes later ++ (crlf ++ [])) ≡ CR ∷ NUL ∷ rest
+        → b ∷ c ∷ (flat_map unit_bytes later ++ more)
+        ≡ CR ∷ NUL ∷ (flat_map unit_bytes later ++ more)
     both e = cc
 
-divided_kept : (parameter v : Bytes) → Lacks LF v → Division parameter v → value_of (before_end parameter ++ crlf) ≡ Some v
+divided_kept : (parameter v : Bytes) → Lacks LF v → Division parameter v
+    → value_of (before_end parameter ++ crlf) ≡ Some v
 divided_kept parameter v h d =
     let front : Bytes = unit_bytes d.first ++ flat_map unit_bytes d.later in
-    let units : before_end parameter ≡ front = ap before_end d.whole ∙ first_before_end d.first d.later d.end d.ignored d.are_later (subst (Lacks LF) d.joined h) d.is_end in
-    let whole : before_end parameter ++ crlf ≡ unit_bytes d.first ++ (flat_map unit_bytes d.later ++ (crlf ++ [])) = ap (λ t. t ++ crlf) units ∙ append_assoc (unit_bytes d.first) (flat_map unit_bytes d.later) crlf in
-    let is_first = same_first d.first d.later (d.end ++ d.ignored) (subst (λ p. FirstUnit p d.first) d.whole d.is_first) in
+    let units : before_end parameter ≡ front = ap before_end d.whole
+    ∙ first_before_end d.first d.later d.end d.ignored d.are_later (subst (Lacks LF) d.joined h)
+    d.is_end in
+    let whole : before_end parameter ++ crlf ≡ unit_bytes d.first
+    ++ (flat_map unit_bytes d.later ++ (crlf ++ [])) = ap (λ t. t ++ crlf) units
+    ∙ append_assoc (unit_bytes d.first) (flat_map unit_bytes d.later) crlf in
+    let is_first = same_first d.first d.later (d.end ++ d.ignored)
+    (subst (λ p. FirstUnit p d.first) d.whole d.is_first) in
     value_of-Reads (before_end parameter ++ crlf) v (divided (record {
       first = d.first;
       later = d.later;
@@ -116,7 +141,8 @@ divided_kept parameter v h d =
     }))
 
 -- With CR LF for its end the parameter has the same value.
-value_kept : (parameter v : Bytes) → EndsAtLf parameter → value_of parameter ≡ Some v → value_of (before_end parameter ++ crlf) ≡ Some v
+value_kept : (parameter v : Bytes) → EndsAtLf parameter → value_of parameter ≡ Some v
+    → value_of (before_end parameter ++ crlf) ≡ Some v
 value_kept parameter v ends h = by_reads (Reads-value_of parameter v h)
   where
     by_reads : Reads parameter v → value_of (before_end parameter ++ crlf) ≡ Some v
@@ -125,7 +151,8 @@ value_kept parameter v ends h = by_reads (Reads-value_of parameter v h)
     by_reads (ended_crlf p e) = rw (p, e)
     by_reads (one_byte b no_cr no_lf p e) =
         let alone : before_end (b ∷ LF ∷ []) ≡ b ∷ [] = rw (ne_eqb b LF no_lf, ne_eqb b CR no_cr) in
-        rw (p, e) (ap (λ t. value_of (t ++ crlf)) alone ∙ first_step b crlf [] (no_lf, λ rest q. no_cr cc) refl)
+        rw (p, e) (ap (λ t. value_of (t ++ crlf)) alone
+        ∙ first_step b crlf [] (no_lf, λ rest q. no_cr cc) refl)
     by_reads (divided d) = divided_kept parameter v (value_of-lacks parameter v ends h) d
 
 -- the parameter bytes of the line that is made
@@ -142,19 +169,24 @@ before_end-made_parameter [] h = refl
 before_end-made_parameter (b ∷ text) h = before_end-crlf (b ∷ text) [] h
 
 -- the rule makes the same of them
-answer_kept : (rule : Rule) (parameter : Bytes) (command : FtpCommand) → rule ≢ Splits → EndsAtLf parameter → answer_by rule parameter ≡ Ok command
+answer_kept : (rule : Rule) (parameter : Bytes) (command : FtpCommand) → rule ≢ Splits
+    → EndsAtLf parameter → answer_by rule parameter ≡ Ok command
     → answer_by rule (made_parameter (before_end parameter)) ≡ Ok command
 answer_kept (Ignores made) parameter command other ends e = e
 answer_kept Splits parameter command other ends e = absurd (other refl)
 answer_kept (Takes answer) parameter command other ends e = by_option (value_of parameter) refl e
   where
-    by_option : (o : Option Bytes) → value_of parameter ≡ o → value_answer answer o ≡ Ok command → value_answer answer (value_of (made_parameter (before_end parameter))) ≡ Ok command
+    by_option : (o : Option Bytes) → value_of parameter ≡ o → value_answer answer o ≡ Ok command
+        → value_answer answer (value_of (made_parameter (before_end parameter))) ≡ Ok command
     by_option None q f = cc
-    by_option (Some v) q f = ap (value_answer answer) (value_of-made_parameter (before_end parameter) ∙ value_kept parameter v ends q) ∙ f
+    by_option (Some v) q f =
+        ap (value_answer answer) (value_of-made_parameter (before_end parameter)
+        ∙ value_kept parameter v ends q) ∙ f
 
 -- The line that is made of a name.
 module _ (name : Bytes) (bare : AllByRecursion (λ b. is_separator b ≡ false) name) where
-  made_cut : (text : Bytes) → (verb_of (with_parameter name text ++ crlf) ≡ name) × (parameter_of (with_parameter name text ++ crlf) ≡ made_parameter text)
+  made_cut : (text : Bytes) → (verb_of (with_parameter name text ++ crlf) ≡ name)
+      × (parameter_of (with_parameter name text ++ crlf) ≡ made_parameter text)
   made_cut [] = parted_cut name CR (LF ∷ []) bare refl
   made_cut (b ∷ text) =
       let joined = append_assoc name (SP ∷ b ∷ text) crlf in
@@ -165,16 +197,23 @@ bare_verb : (line : Bytes) → AllByRecursion (λ b. is_separator b ≡ false) (
 bare_verb line = bare_name (upper (verb_of line)) (uppercased_name line)
 
 -- The verb and the parameter of a line that keeps it are those of the line.
-kept_cut : (line : Bytes) → (verb_of (kept_line line) ≡ upper (verb_of line)) × (before_end (parameter_of (kept_line line)) ≡ before_end (parameter_of line))
+kept_cut : (line : Bytes) → (verb_of (kept_line line) ≡ upper (verb_of line))
+    × (before_end (parameter_of (kept_line line)) ≡ before_end (parameter_of line))
 kept_cut line =
     let text : Bytes = before_end (parameter_of line) in
-    let cut = made_cut (upper (verb_of line)) (bare_verb line) text in
-    (cut.0, ap before_end cut.1 ∙ before_end-made_parameter text (Lacks-before_end (parameter_of line)))
+    let cut = made_cut (upper (verb_of line)) (bare_verb line) text in (
+      cut.0,
+      ap before_end cut.1
+          ∙ before_end-made_parameter text (Lacks-before_end (parameter_of line)),
+    )
 
-pub verb_of-forwarded_line : (line : Bytes) (command : FtpCommand) → keeps_parameter (upper (verb_of line)) ≡ true → verb_of (forwarded_line line command) ≡ upper (verb_of line)
+pub verb_of-forwarded_line : (line : Bytes) (command : FtpCommand)
+    → keeps_parameter (upper (verb_of line)) ≡ true → verb_of (forwarded_line line command)
+    ≡ upper (verb_of line)
 verb_of-forwarded_line line command keeps = rw keeps (kept_cut line).0
 
-pub parameter_of-forwarded_line : (line : Bytes) (command : FtpCommand) → keeps_parameter (upper (verb_of line)) ≡ true
+pub parameter_of-forwarded_line : (line : Bytes) (command : FtpCommand)
+    → keeps_parameter (upper (verb_of line)) ≡ true
     → before_end (parameter_of (forwarded_line line command)) ≡ before_end (parameter_of line)
 parameter_of-forwarded_line line command keeps = rw keeps (kept_cut line).1
 
@@ -183,9 +222,11 @@ not_site : (verb : Bytes) → keeps_parameter verb ≡ true → rule_of verb ≢
 not_site verb keeps e = by_name (rw e at keeps)
   where
     by_name : bytes_eq verb (codes "LIST") ≡ true → ⊥
-    by_name is = let same : rule_of (codes "LIST") ≡ Splits = ap rule_of (sym ((bytes_decides verb (codes "LIST")).0 is)) ∙ e in cc
+    by_name is = let same : rule_of (codes "LIST") ≡ Splits =
+        ap rule_of (sym ((bytes_decides verb (codes "LIST")).0 is)) ∙ e in cc
 
-module _ (line : Bytes) (command : FtpCommand) (is_line : IsLine line) (means : outcome line ≡ Ok command) where
+module _ (line : Bytes) (command : FtpCommand) (is_line : IsLine line)
+    (means : outcome line ≡ Ok command) where
   abbrev name : Bytes
   name = upper (verb_of line)
 
@@ -196,31 +237,42 @@ module _ (line : Bytes) (command : FtpCommand) (is_line : IsLine line) (means : 
   rule = rule_of name
 
   read : (is_utf8 (verb_of line) ≡ true) × (answer_by rule (parameter_of line) ≡ Ok command)
-  read = passed (is_utf8 (verb_of line)) (answer_by rule (parameter_of line)) InvalidUtf8 command means
+  read = passed (is_utf8 (verb_of line)) (answer_by rule (parameter_of line)) InvalidUtf8 command
+      means
 
   kept_answer : outcome (kept_line line) ≡ answer_by rule (made_parameter text)
   kept_answer =
       let cut = made_cut name (bare_verb line) text in
-      rw (cut.0, cut.1, is_utf8-from_IsUtf8 name (uppercased_utf8 line read.0), upper-IsUpperCaseName name (uppercased_name line))
+      rw (
+        cut.0,
+        cut.1,
+        is_utf8-from_IsUtf8 name (uppercased_utf8 line read.0),
+        upper-IsUpperCaseName name (uppercased_name line),
+      )
 
   kept_back : keeps_parameter name ≡ true → outcome (kept_line line) ≡ Ok command
-  kept_back keeps = kept_answer ∙ answer_kept rule (parameter_of line) command (not_site name keeps) (parameter_of-ends line (IsLine-ends line is_line)) read.1
+  kept_back keeps = kept_answer ∙ answer_kept rule (parameter_of line) command (not_site name keeps)
+      (parameter_of-ends line (IsLine-ends line is_line)) read.1
 
   kept_lacks : (t : Bytes) → Lacks LF t → Lacks LF (with_parameter name t)
   kept_lacks [] h = Lacks-name name (uppercased_name line)
-  kept_lacks (b ∷ t) h = Lacks-append LF name (SP ∷ b ∷ t) (Lacks-name name (uppercased_name line)) ((λ e. omega arith), h)
+  kept_lacks (b ∷ t) h = Lacks-append LF name (SP ∷ b ∷ t) (Lacks-name name (uppercased_name line))
+      ((λ e. omega arith), h)
 
   kept_is_line : IsLine (kept_line line)
   kept_is_line = record {
     body = with_parameter name text ++ CR ∷ [];
     whole = sym (append_assoc (with_parameter name text) (CR ∷ []) (LF ∷ []));
-    one_end = Lacks-append LF (with_parameter name text) (CR ∷ []) (kept_lacks text (Lacks-before_end (parameter_of line))) ((λ e. omega arith), tt);
+    one_end = Lacks-append LF (with_parameter name text) (CR ∷ [])
+        (kept_lacks text (Lacks-before_end (parameter_of line))) ((λ e. omega arith), tt);
   }
 
-  by_verb : (P : Bytes → Type 0) → (keeps_parameter name ≡ true → P (kept_line line)) → P (canonical_line command) → P (forwarded_line line command)
+  by_verb : (P : Bytes → Type 0) → (keeps_parameter name ≡ true → P (kept_line line))
+      → P (canonical_line command) → P (forwarded_line line command)
   by_verb P kept canonical = by_test (keeps_parameter name) refl
     where
-      by_test : (test : Bool) → keeps_parameter name ≡ test → P (cond test (kept_line line) (canonical_line command))
+      by_test : (test : Bool) → keeps_parameter name ≡ test
+          → P (cond test (kept_line line) (canonical_line command))
       by_test true e = kept e
       by_test false e = canonical
 
@@ -228,24 +280,30 @@ module _ (line : Bytes) (command : FtpCommand) (is_line : IsLine line) (means : 
   has_line = HasLine-outcome line command is_line means
 
   pub IsLine-forwarded_line : IsLine (forwarded_line line command)
-  IsLine-forwarded_line = by_verb IsLine (λ _. kept_is_line) (IsLine-canonical_line command has_line)
+  IsLine-forwarded_line =
+      by_verb IsLine (λ _. kept_is_line) (IsLine-canonical_line command has_line)
 
   pub outcome-forwarded_line : outcome (forwarded_line line command) ≡ Ok command
-  outcome-forwarded_line = by_verb (λ sent. outcome sent ≡ Ok command) kept_back (outcome-canonical_line command has_line (HasTypedFields-outcome line command is_line means))
+  outcome-forwarded_line = by_verb (λ sent. outcome sent ≡ Ok command) kept_back
+      (outcome-canonical_line command has_line (HasTypedFields-outcome line command is_line means))
 
 -- The end of a whole line.
-pub before_end-lf : (text : Bytes) → Lacks LF text → ((front : Bytes) → text ≢ front ++ CR ∷ []) → before_end (text ++ LF ∷ []) ≡ text
+pub before_end-lf : (text : Bytes) → Lacks LF text → ((front : Bytes) → text ≢ front ++ CR ∷ [])
+    → before_end (text ++ LF ∷ []) ≡ text
 before_end-lf [] h no_cr = refl
-before_end-lf (b ∷ []) h no_cr = rw (ne_eqb b LF h.0, ne_eqb b CR (λ e. no_cr [] (ap (λ a. a ∷ []) e)))
+before_end-lf (b ∷ []) h no_cr =
+    rw (ne_eqb b LF h.0, ne_eqb b CR (λ e. no_cr [] (ap (λ a. a ∷ []) e)))
 before_end-lf (b ∷ c ∷ text) h no_cr =
     before_end-byte b (c ∷ text ++ LF ∷ []) (no_end b (c ∷ text ++ LF ∷ []) h.0 (ne_eqb c LF h.1.0))
-    ∙ ap (λ t. b ∷ t) (before_end-lf (c ∷ text) h.1 (λ front e. no_cr (b ∷ front) (ap (λ t. b ∷ t) e)))
+    ∙ ap (λ t. b ∷ t)
+    (before_end-lf (c ∷ text) h.1 (λ front e. no_cr (b ∷ front) (ap (λ t. b ∷ t) e)))
 
 lf_first : (bytes : Bytes) → begins_with_lf bytes ≡ true → before_end bytes ≡ []
 lf_first [] e = refl
 lf_first (b ∷ bytes) e = rw e
 
-at_end : (b : ℕ) (bytes : Bytes) → (b ≡ LF → bytes ≡ []) → begins_end b bytes ≡ true → (is_separator b ≡ true) × (before_end bytes ≡ [])
+at_end : (b : ℕ) (bytes : Bytes) → (b ≡ LF → bytes ≡ []) → begins_end b bytes ≡ true
+    → (is_separator b ≡ true) × (before_end bytes ≡ [])
 at_end b bytes last e = by_lf (cases_eq b LF)
   where
     by_cr : b ≢ LF → (b ≡ CR) ⊎ (b ≡ CR → ⊥) → (is_separator b ≡ true) × (before_end bytes ≡ [])
@@ -257,22 +315,27 @@ at_end b bytes last e = by_lf (cases_eq b LF)
     by_lf (inr no_lf) = by_cr no_lf (cases_eq b CR)
 
 abbrev SameCut : Bytes → Bytes → Type 0
-SameCut line text = (verb_of text ≡ verb_of line) × (parameter_of text ≡ before_end (parameter_of line))
+SameCut line text = (verb_of text ≡ verb_of line)
+    × (parameter_of text ≡ before_end (parameter_of line))
 
-cut_byte : (b : ℕ) (bytes : Bytes) → (b ≡ LF → bytes ≡ []) → SameCut bytes (before_end bytes) → SameCut (b ∷ bytes) (before_end (b ∷ bytes))
+cut_byte : (b : ℕ) (bytes : Bytes) → (b ≡ LF → bytes ≡ []) → SameCut bytes (before_end bytes)
+    → SameCut (b ∷ bytes) (before_end (b ∷ bytes))
 cut_byte b bytes last more = by_end (begins_end b bytes) refl
   where
-    by_separator : (test : Bool) → is_separator b ≡ test → SameCut (b ∷ bytes) (b ∷ before_end bytes)
+    by_separator : (test : Bool) → is_separator b ≡ test
+        → SameCut (b ∷ bytes) (b ∷ before_end bytes)
     by_separator true e =
         let cut = parted_cut [] b bytes tt e in
         let front = parted_cut [] b (before_end bytes) tt e in
         (front.0 ∙ sym cut.0, front.1 ∙ ap before_end (sym cut.1))
     by_separator false e = (
       verb_step b (before_end bytes) e ∙ ap (λ v. b ∷ v) more.0 ∙ sym (verb_step b bytes e),
-      parameter_step b (before_end bytes) e ∙ more.1 ∙ ap before_end (sym (parameter_step b bytes e)),
+      parameter_step b (before_end bytes) e ∙ more.1
+          ∙ ap before_end (sym (parameter_step b bytes e)),
     )
 
-    by_end : (test : Bool) → begins_end b bytes ≡ test → SameCut (b ∷ bytes) (cond test [] (b ∷ before_end bytes))
+    by_end : (test : Bool) → begins_end b bytes ≡ test
+        → SameCut (b ∷ bytes) (cond test [] (b ∷ before_end bytes))
     by_end true e =
         let ended = at_end b bytes last e in
         let cut = parted_cut [] b bytes tt ended.0 in
@@ -280,6 +343,7 @@ cut_byte b bytes last more = by_end (begins_end b bytes) refl
     by_end false e = by_separator (is_separator b) refl
 
 -- Without its end a line has the same verb, and the parameter's bytes up to the end.
-pub cut-before_end : (line : Bytes) → EndsAtLf line → (verb_of (before_end line) ≡ verb_of line) × (parameter_of (before_end line) ≡ before_end (parameter_of line))
+pub cut-before_end : (line : Bytes) → EndsAtLf line → (verb_of (before_end line) ≡ verb_of line)
+    × (parameter_of (before_end line) ≡ before_end (parameter_of line))
 cut-before_end [] ends = (refl, refl)
 cut-before_end (b ∷ bytes) ends = cut_byte b bytes ends.0 (cut-before_end bytes ends.1)

@@ -18,9 +18,11 @@ lacks b (a ∷ text) = not (a == b) && lacks b text
 
 pub Lacks-test : (b : ℕ) (text : Bytes) → lacks b text ≡ true → Lacks b text
 Lacks-test b [] h = tt
-Lacks-test b (a ∷ text) h = let parts = and_parts (not (a == b)) (lacks b text) h in (eqb-false a b (not-true (a == b) parts.0), Lacks-test b text parts.1)
+Lacks-test b (a ∷ text) h = let parts = and_parts (not (a == b)) (lacks b text) h in
+    (eqb-false a b (not-true (a == b) parts.0), Lacks-test b text parts.1)
 
-pub Lacks-append : (b : ℕ) (text more : Bytes) → Lacks b text → Lacks b more → Lacks b (text ++ more)
+pub Lacks-append : (b : ℕ) (text more : Bytes) → Lacks b text → Lacks b more
+    → Lacks b (text ++ more)
 Lacks-append b [] more h g = g
 Lacks-append b (a ∷ text) more h g = (h.0, Lacks-append b text more h.1 g)
 
@@ -34,8 +36,10 @@ Lacks-drop b zero text h = h
 Lacks-drop b (suc n) [] h = tt
 Lacks-drop b (suc n) (a ∷ text) h = Lacks-drop b n text h.1
 
-escaped_byte : (b : ℕ) (text : Bytes) → b ≢ LF → Lacks LF (escaped text) → (b ≡ CR) ⊎ (b ≡ CR → ⊥) → Lacks LF (escaped (b ∷ text))
-escaped_byte b text no_lf h (inl e) = rw (eq-eqb b CR e) ((λ q. omega arith), ((λ q. omega arith), h))
+escaped_byte : (b : ℕ) (text : Bytes) → b ≢ LF → Lacks LF (escaped text) → (b ≡ CR) ⊎ (b ≡ CR → ⊥)
+    → Lacks LF (escaped (b ∷ text))
+escaped_byte b text no_lf h (inl e) =
+    rw (eq-eqb b CR e) ((λ q. omega arith), ((λ q. omega arith), h))
 escaped_byte b text no_lf h (inr ne) = rw (ne_eqb b CR ne) (no_lf, h)
 
 pub Lacks-escaped : (text : Bytes) → Lacks LF text → Lacks LF (escaped text)
@@ -48,9 +52,13 @@ lossy_within zero text h = h
 lossy_within (suc k) text h =
     let n : ℕ = utf8_valid_len text in
     let more : Bytes = utf8_lossy_within k (after_first_chunk text) in
-    let lacks_more : Lacks LF more = lossy_within k (after_first_chunk text) (Lacks-drop LF (n + utf8_invalid_len (drop n text)) text h) in
-    cond_both (n == length text) text (take n text ++ (replacement_bytes ++ more)) (Lacks LF) (λ _. h)
-    (λ _. Lacks-append LF (take n text) (replacement_bytes ++ more) (Lacks-take LF n text h) ((λ e. omega arith), ((λ e. omega arith), ((λ e. omega arith), lacks_more))))
+    let lacks_more : Lacks LF more =
+    lossy_within k (after_first_chunk text)
+    (Lacks-drop LF (n + utf8_invalid_len (drop n text)) text h) in
+    cond_both (n == length text) text (take n text ++ (replacement_bytes ++ more)) (Lacks LF)
+    (λ _. h)
+    (λ _. Lacks-append LF (take n text) (replacement_bytes ++ more) (Lacks-take LF n text h)
+    ((λ e. omega arith), ((λ e. omega arith), ((λ e. omega arith), lacks_more))))
 
 pub Lacks-utf8_lossy : (text : Bytes) → Lacks LF text → Lacks LF (utf8_lossy text)
 unfolding utf8_lossy
@@ -69,14 +77,17 @@ Lacks-name (b ∷ name) h = ((λ e. false≢true (sym h.0.0 ∙ ap is_separator 
 
 -- no digit is an LF or a CR
 glyph_above : (b d : ℕ) → b < 48 → digit_glyph false d ≢ b
-glyph_above b d h = cond_both (nat_lt d 10) (48 + d) (87 + d) (λ glyph. glyph ≢ b) (λ _ e. omega arith) (λ _ e. omega arith)
+glyph_above b d h = cond_both (nat_lt d 10) (48 + d) (87 + d) (λ glyph. glyph ≢ b)
+    (λ _ e. omega arith) (λ _ e. omega arith)
 
-onto_lacks : (b k n : ℕ) (more : Bytes) → b < 48 → Lacks b more → Lacks b (digits_onto k 10 false n more)
+onto_lacks : (b k n : ℕ) (more : Bytes) → b < 48 → Lacks b more
+    → Lacks b (digits_onto k 10 false n more)
 onto_lacks b zero n more h l = l
 onto_lacks b (suc k) n more h l =
     let next : Bytes = digit_glyph false (n % 10) ∷ more in
     let lacks_next : Lacks b next = (glyph_above b (n % 10) h, l) in
-    cond_both (n / 10 == 0) next (digits_onto k 10 false (n / 10) next) (Lacks b) (λ _. lacks_next) (λ _. onto_lacks b k (n / 10) next h lacks_next)
+    cond_both (n / 10 == 0) next (digits_onto k 10 false (n / 10) next) (Lacks b) (λ _. lacks_next)
+    (λ _. onto_lacks b k (n / 10) next h lacks_next)
 
 pub Lacks-decimal : (b n : ℕ) → b < 48 → Lacks b (decimal n)
 unfolding digits

@@ -28,7 +28,9 @@ rest_ends (b ∷ front) rest h = rest_ends front rest h.1
 pub parameter_of-ends : (line : Bytes) → EndsAtLf line → EndsAtLf (parameter_of line)
 parameter_of-ends line h = by_whole (Cut-verb_of line).whole
   where
-    by_whole : ((line ≡ verb_of line) × (parameter_of line ≡ [])) ⊎ ((b : ℕ) × IsTrue (is_separator b) × (line ≡ verb_of line ++ b ∷ parameter_of line)) → EndsAtLf (parameter_of line)
+    by_whole : ((line ≡ verb_of line) × (parameter_of line ≡ []))
+        ⊎ ((b : ℕ) × IsTrue (is_separator b) × (line ≡ verb_of line ++ b ∷ parameter_of line))
+        → EndsAtLf (parameter_of line)
     by_whole (inl p) = subst EndsAtLf (sym p.1) tt
     by_whole (inr p) = (rest_ends (verb_of line) (p.0 ∷ parameter_of line) (subst EndsAtLf p.2 h)).1
 
@@ -37,10 +39,12 @@ some_end : (bytes end : Bytes) → end ≢ [] → bytes ++ end ≢ []
 some_end [] end some e = some e
 some_end (b ∷ bytes) end some e = cc
 
-units_lack : (units : List ValueUnit) (end : Bytes) → end ≢ [] → EndsAtLf (flat_map unit_bytes units ++ end) → Lacks LF (map unit_value units)
+units_lack : (units : List ValueUnit) (end : Bytes) → end ≢ []
+    → EndsAtLf (flat_map unit_bytes units ++ end) → Lacks LF (map unit_value units)
 units_lack [] end some h = tt
 units_lack (Return ∷ units) end some h = ((λ e. omega arith), units_lack units end some h.1.1)
-units_lack (Byte b ∷ units) end some h = ((λ e. some_end (flat_map unit_bytes units) end some (h.0 e)), units_lack units end some h.1)
+units_lack (Byte b ∷ units) end some h =
+    ((λ e. some_end (flat_map unit_bytes units) end some (h.0 e)), units_lack units end some h.1)
 
 end_some : (later : List ValueUnit) (end ignored : Bytes) → End later end → end ++ ignored ≢ []
 end_some later [] ignored (inl p) e = cc
@@ -51,10 +55,13 @@ division_lacks : (parameter v : Bytes) → EndsAtLf parameter → Division param
 division_lacks parameter v h d =
     let end : Bytes = d.end ++ d.ignored in
     subst (Lacks LF) (sym d.joined)
-    (units_lack (d.first ∷ d.later) end (end_some d.later d.end d.ignored d.is_end) (subst EndsAtLf (d.whole ∙ sym (append_assoc (unit_bytes d.first) (flat_map unit_bytes d.later) end)) h))
+    (units_lack (d.first ∷ d.later) end (end_some d.later d.end d.ignored d.is_end)
+    (subst EndsAtLf
+    (d.whole ∙ sym (append_assoc (unit_bytes d.first) (flat_map unit_bytes d.later) end)) h))
 
 -- the value of parameter bytes whose one LF is the last
-pub value_of-lacks : (parameter v : Bytes) → EndsAtLf parameter → value_of parameter ≡ Some v → Lacks LF v
+pub value_of-lacks : (parameter v : Bytes) → EndsAtLf parameter → value_of parameter ≡ Some v
+    → Lacks LF v
 value_of-lacks parameter v h e = by_reads (Reads-value_of parameter v e)
   where
     by_reads : Reads parameter v → Lacks LF v

@@ -11,13 +11,16 @@ use Rattle.unftp_control_defs.proofs.CanonicalLineLemmas.{outcome-canonical_line
 use Rattle.unftp_control_defs.proofs.LineLemmas.{events-append, line_first}
 
 -- a canonical line within the limit comes first: its command is the first event
-pub events-canonical_line : (limit : Option ℕ) (command : FtpCommand) (more : Bytes) → HasLine command → HasTypedFields command
+pub events-canonical_line : (limit : Option ℕ) (command : FtpCommand) (more : Bytes)
+    → HasLine command → HasTypedFields command
     → exceeds limit (length (canonical_line command)) ≡ false
     → events limit (canonical_line command ++ more) ≡ Command command ∷ events limit more
 events-canonical_line limit command more has typed fits =
-    ap (map (event_for limit)) (line_first (canonical_line command) more (IsLine-canonical_line command has)).0
+    ap (map (event_for limit))
+    (line_first (canonical_line command) more (IsLine-canonical_line command has)).0
     ∙ ap (λ event. event ∷ events limit more)
-    (ap (λ test. cond test (Refused line_too_long) (event_of (outcome (canonical_line command)))) fits
+    (ap (λ test. cond test (Refused line_too_long) (event_of (outcome (canonical_line command))))
+    fits
     ∙ ap event_of (outcome-canonical_line command has typed))
 
 -- the bytes before end with a line

@@ -15,7 +15,8 @@ use Rattle.unftp_control_defs.proofs.PathLemmas.{plain_path}
 use Rattle.unftp_control_defs.proofs.CommandRoundTripLemmas.{by_escaped, unless_empty-some}
 
 -- a marked path is not taken for options
-marked_path : (b : ℕ) (path : Bytes) → (b ≡ DASH) ⊎ (b ≡ DASH → ⊥) → path_of (with_option_end (b ∷ path)) ≡ b ∷ path
+marked_path : (b : ℕ) (path : Bytes) → (b ≡ DASH) ⊎ (b ≡ DASH → ⊥)
+    → path_of (with_option_end (b ∷ path)) ≡ b ∷ path
 marked_path b path (inl e) = rw (eq-eqb b DASH e)
 marked_path b path (inr ne) = rw (ne_eqb b DASH ne) (plain_path (b ∷ path) (λ letters e. ne cc))
 
@@ -25,18 +26,25 @@ path_of-with_option_end (b ∷ path) = marked_path b path (cases_eq b DASH)
 
 pub Lacks-with_option_end : (path : Bytes) → Lacks LF path → Lacks LF (with_option_end path)
 Lacks-with_option_end [] h = tt
-Lacks-with_option_end (b ∷ path) h = cond_both (b == DASH) (codes "-- " ++ b ∷ path) (b ∷ path) (Lacks LF) (λ _. Lacks-append LF (codes "-- ") (b ∷ path) (Lacks-test LF (codes "-- ") refl) h) (λ _. h)
+Lacks-with_option_end (b ∷ path) h = cond_both (b == DASH) (codes "-- " ++ b ∷ path) (b ∷ path)
+    (Lacks LF) (λ _. Lacks-append LF (codes "-- ") (b ∷ path) (Lacks-test LF (codes "-- ") refl) h)
+    (λ _. h)
 
 IsUtf8-with_option_end : (path : Bytes) → IsUtf8 path → IsUtf8 (with_option_end path)
 unfolding is_utf8 chars lib.Utf8.encode
 IsUtf8-with_option_end [] utf8 = utf8
-IsUtf8-with_option_end (b ∷ path) utf8 = cond_both (b == DASH) (codes "-- " ++ b ∷ path) (b ∷ path) IsUtf8 (λ _. IsUtf8-append (codes "-- ") (b ∷ path) (IsUtf8-from_is_utf8 (codes "-- ") refl) utf8) (λ _. utf8)
+IsUtf8-with_option_end (b ∷ path) utf8 = cond_both (b == DASH) (codes "-- " ++ b ∷ path)
+    (b ∷ path) IsUtf8
+    (λ _. IsUtf8-append (codes "-- ") (b ∷ path) (IsUtf8-from_is_utf8 (codes "-- ") refl) utf8)
+    (λ _. utf8)
 
-pub listing_back : (path : Option Bytes) → IsOptionalText path → IsMaybeUtf8 path → outcome (canonical_line (Listing None path)) ≡ Ok (Listing None path)
+pub listing_back : (path : Option Bytes) → IsOptionalText path → IsMaybeUtf8 path
+    → outcome (canonical_line (Listing None path)) ≡ Ok (Listing None path)
 unfolding is_utf8 chars lib.Utf8.encode
 listing_back None optional utf8 = ap listing (utf8_lossy-IsUtf8 [] IsUtf8-nil)
 listing_back (Some path) named utf8 =
-    by_escaped (λ v. listing (utf8_lossy v)) (with_option_end path) (Lacks-with_option_end path named.1)
+    by_escaped (λ v. listing (utf8_lossy v)) (with_option_end path)
+    (Lacks-with_option_end path named.1)
     ∙ ap listing (utf8_lossy-IsUtf8 (with_option_end path) (IsUtf8-with_option_end path utf8))
     ∙ ap (λ t. Ok (Listing None (unless_empty t))) (path_of-with_option_end path)
     ∙ ap (λ t. Ok (Listing None t)) (unless_empty-some path named.0)

@@ -15,7 +15,8 @@ use Rattle.unftp_control_defs.proofs.PathLemmas.{path_of-keeps}
 -- the front that is UTF-8
 valid_up_to : (text : Bytes) (n : ℕ) → IsUtf8 (take (valid_len_up_to text n) text)
 valid_up_to text zero = IsUtf8-nil
-valid_up_to text (suc n) = cond_both (is_utf8 (take (suc n) text)) (suc n) (valid_len_up_to text n) (λ k. IsUtf8 (take k text))
+valid_up_to text (suc n) = cond_both (is_utf8 (take (suc n) text)) (suc n) (valid_len_up_to text n)
+    (λ k. IsUtf8 (take k text))
     (λ e. IsUtf8-from_is_utf8 (take (suc n) text) e) (λ _. valid_up_to text n)
 
 valid_front : (text : Bytes) → IsUtf8 (take (utf8_valid_len text) text)
@@ -31,27 +32,34 @@ fault_has_byte : (text : Bytes) → 0 < length text → 0 < utf8_invalid_len tex
 unfolding utf8_error_len
 fault_has_byte text some = grind (arith, common_steps, nat_tests)
 
-shorter : (text : Bytes) → ¬ (utf8_valid_len text ≡ length text) → length (after_first_chunk text) < length text
+shorter : (text : Bytes) → ¬ (utf8_valid_len text ≡ length text)
+    → length (after_first_chunk text) < length text
 shorter text faulty =
     let n : ℕ = utf8_valid_len text in
     let within : n ≤ length text = utf8_valid_len_le text in
-    let invalid : 0 < utf8_invalid_len (drop n text) = fault_has_byte (drop n text) (omega (arith, length-drop n text)) in
+    let invalid : 0 < utf8_invalid_len (drop n text) =
+    fault_has_byte (drop n text) (omega (arith, length-drop n text)) in
     omega (arith, length-drop (n + utf8_invalid_len (drop n text)) text)
 
 whole_text : (text : Bytes) → utf8_valid_len text ≡ length text → IsUtf8 text
-whole_text text e = subst IsUtf8 (take_all (utf8_valid_len text) text (omega arith)) (valid_front text)
+whole_text text e = subst IsUtf8 (take_all (utf8_valid_len text) text (omega arith))
+    (valid_front text)
 
-IsUtf8-replaced : (text : Bytes) → ¬ (utf8_valid_len text ≡ length text) → IsUtf8 (utf8_lossy (after_first_chunk text)) → IsUtf8 (utf8_lossy text)
+IsUtf8-replaced : (text : Bytes) → ¬ (utf8_valid_len text ≡ length text)
+    → IsUtf8 (utf8_lossy (after_first_chunk text)) → IsUtf8 (utf8_lossy text)
 IsUtf8-replaced text faulty more =
     let rest : Bytes = utf8_lossy (after_first_chunk text) in
     subst IsUtf8 (sym (utf8_lossy_step text faulty))
-    (IsUtf8-append (take (utf8_valid_len text) text) (replacement_bytes ++ rest) (valid_front text) (IsUtf8-append replacement_bytes rest mark more))
+    (IsUtf8-append (take (utf8_valid_len text) text) (replacement_bytes ++ rest) (valid_front text)
+    (IsUtf8-append replacement_bytes rest mark more))
 
 IsUtf8-up_to : (k : ℕ) (text : Bytes) → length text ≤ k → IsUtf8 (utf8_lossy text)
 IsUtf8-up_to zero text h = subst IsUtf8 (sym (utf8_lossy_empty text (omega arith))) IsUtf8-nil
 IsUtf8-up_to (suc k) text h = ⊎_elim
-    (λ e. let whole : IsUtf8 text = whole_text text e in subst IsUtf8 (sym (utf8_lossy-IsUtf8 text whole)) whole)
-    (λ faulty. let less = shorter text faulty in IsUtf8-replaced text faulty (IsUtf8-up_to k (after_first_chunk text) (omega arith)))
+    (λ e. let whole : IsUtf8 text = whole_text text e in
+    subst IsUtf8 (sym (utf8_lossy-IsUtf8 text whole)) whole)
+    (λ faulty. let less = shorter text faulty in
+    IsUtf8-replaced text faulty (IsUtf8-up_to k (after_first_chunk text) (omega arith)))
     (cases_eq (utf8_valid_len text) (length text))
 
 pub IsUtf8-utf8_lossy : (text : Bytes) → IsUtf8 (utf8_lossy text)
@@ -64,15 +72,20 @@ not_ended (a ∷ front) b more e = cc
 pub kept-utf8_lossy : (text : Bytes) → text ≢ [] → utf8_lossy text ≢ []
 kept-utf8_lossy text some e = ⊎_elim
     (λ whole. some (sym (utf8_lossy-IsUtf8 text (whole_text text whole)) ∙ e))
-    (λ faulty. not_ended (take (utf8_valid_len text) text) 239 (191 ∷ 189 ∷ utf8_lossy (after_first_chunk text)) (sym (utf8_lossy_step text faulty) ∙ e))
+    (λ faulty. not_ended (take (utf8_valid_len text) text) 239
+    (191 ∷ 189 ∷ utf8_lossy (after_first_chunk text)) (sym (utf8_lossy_step text faulty) ∙ e))
     (cases_eq (utf8_valid_len text) (length text))
 
 lossy_after_space : (front path : Bytes) → IsUtf8 (front ++ SP ∷ path) → IsUtf8 path
 lossy_after_space front path u =
     let text : Bytes = front ++ SP ∷ path in
     let n : ℕ = length front in
-    let space : IsCharBoundary text (n + 1) = IsCharBoundary-after_ascii text n u (omega (arith, length-append front (SP ∷ path))) (omega (arith, get_or_at front SP path 0 n refl)) in
-    let rest : drop (n + 1) text ≡ path = rw (← append_assoc front (SP ∷ []) path) (drop_at (front ++ SP ∷ []) path (n + 1) (length_push front SP)) in
+    let space : IsCharBoundary text (n + 1) =
+    IsCharBoundary-after_ascii text n u (omega (arith, length-append front (SP ∷ path)))
+    (omega (arith, get_or_at front SP path 0 n refl)) in
+    let rest : drop (n + 1) text ≡ path =
+    rw (← append_assoc front (SP ∷ []) path)
+    (drop_at (front ++ SP ∷ []) path (n + 1) (length_push front SP)) in
     subst IsUtf8 rest (IsUtf8-drop text (n + 1) u space)
 
 pub IsUtf8-path_of : (text : Bytes) → IsUtf8 text → IsUtf8 (path_of text)

@@ -18,9 +18,12 @@ use Rattle.unftp_control_defs.proofs.CommandRoundTripLemmas.{any_back}
 
 -- a name that takes any text after a separator
 name_back : (read : Bytes → Answer) (name : Bytes) (command : Bytes → FtpCommand)
-    → ((b : ℕ) (parameter : Bytes) → is_separator b ≡ true → read (name ++ b ∷ parameter) ≡ value_answer (any_text command) (value_of parameter))
-    → (arguments : Bytes) → Lacks LF arguments → IsUtf8 arguments → read (spaced_unless_empty name arguments ++ crlf) ≡ Ok (command arguments)
-name_back read name command takes [] h utf8 = takes CR (LF ∷ []) refl ∙ ap (λ t. Ok (command t)) (utf8_lossy-IsUtf8 [] utf8)
+    → ((b : ℕ) (parameter : Bytes) → is_separator b ≡ true
+    → read (name ++ b ∷ parameter) ≡ value_answer (any_text command) (value_of parameter))
+    → (arguments : Bytes) → Lacks LF arguments → IsUtf8 arguments
+    → read (spaced_unless_empty name arguments ++ crlf) ≡ Ok (command arguments)
+name_back read name command takes [] h utf8 = takes CR (LF ∷ []) refl
+    ∙ ap (λ t. Ok (command t)) (utf8_lossy-IsUtf8 [] utf8)
 name_back read name command takes (b ∷ arguments) h utf8 =
     ap read (append_assoc name (SP ∷ escaped (b ∷ arguments)) crlf)
     ∙ takes SP (escaped (b ∷ arguments) ++ crlf) refl
@@ -28,25 +31,40 @@ name_back read name command takes (b ∷ arguments) h utf8 =
 
 -- a verb without a rule, and a name of SITE
 module _ (name : Bytes) (is_name : IsUpperCaseName name) (is_text : IsUtf8 name) where
-  other_line : row_of name verbs ≡ None → (b : ℕ) (parameter : Bytes) → is_separator b ≡ true → outcome (name ++ b ∷ parameter) ≡ value_answer (any_text (Other name)) (value_of parameter)
+  other_line : row_of name verbs ≡ None → (b : ℕ) (parameter : Bytes) → is_separator b ≡ true
+      → outcome (name ++ b ∷ parameter) ≡ value_answer (any_text (Other name)) (value_of parameter)
   other_line none b parameter s =
       let cut = parted_cut name b parameter (bare_name name is_name) s in
       rw (cut.0, cut.1, is_utf8-from_IsUtf8 name is_text, upper-IsUpperCaseName name is_name, none)
 
-  site_parameter : name ≢ codes "MD5" → (b : ℕ) (parameter : Bytes) → is_separator b ≡ true → site_answer (name ++ b ∷ parameter) ≡ value_answer (any_text (Site name)) (value_of parameter)
+  site_parameter : name ≢ codes "MD5" → (b : ℕ) (parameter : Bytes) → is_separator b ≡ true
+      → site_answer (name ++ b ∷ parameter) ≡ value_answer (any_text (Site name))
+      (value_of parameter)
   site_parameter ne b parameter s =
       let cut = parted_cut name b parameter (bare_name name is_name) s in
-      let apart : bytes_eq name (codes "MD5") ≡ false = false_from_ne_true (bytes_eq name (codes "MD5")) (λ t. ne ((bytes_decides name (codes "MD5")).0 t)) in
+      let apart : bytes_eq name (codes "MD5") ≡ false =
+      false_from_ne_true (bytes_eq name (codes "MD5"))
+      (λ t. ne ((bytes_decides name (codes "MD5")).0 t)) in
       rw (cut.0, cut.1, is_utf8-from_IsUtf8 name is_text, upper-IsUpperCaseName name is_name, apart)
 
-  pub other_back : row_of name verbs ≡ None → (arguments : Bytes) → Lacks LF arguments → IsUtf8 arguments → outcome (canonical_line (Other name arguments)) ≡ Ok (Other name arguments)
-  other_back none arguments h utf8 = name_back outcome name (Other name) (other_line none) arguments h utf8
+  pub other_back : row_of name verbs ≡ None → (arguments : Bytes) → Lacks LF arguments
+      → IsUtf8 arguments → outcome (canonical_line (Other name arguments))
+      ≡ Ok (Other name arguments)
+  other_back none arguments h utf8 = name_back outcome name (Other name) (other_line none) arguments
+      h utf8
 
-  site_parameter_back : name ≢ codes "MD5" → (arguments : Bytes) → Lacks LF arguments → IsUtf8 arguments → site_answer (spaced_unless_empty name arguments ++ crlf) ≡ Ok (Site name arguments)
-  site_parameter_back ne arguments h utf8 = name_back site_answer name (Site name) (site_parameter ne) arguments h utf8
+  site_parameter_back : name ≢ codes "MD5" → (arguments : Bytes) → Lacks LF arguments
+      → IsUtf8 arguments → site_answer (spaced_unless_empty name arguments ++ crlf)
+      ≡ Ok (Site name arguments)
+  site_parameter_back ne arguments h utf8 =
+      name_back site_answer name (Site name) (site_parameter ne) arguments h utf8
 
-pub site_back : (name arguments : Bytes) → IsUpperCaseName name → name ≢ codes "MD5" → IsUtf8 name → Lacks LF arguments → IsUtf8 arguments → outcome (canonical_line (Site name arguments)) ≡ Ok (Site name arguments)
+pub site_back : (name arguments : Bytes) → IsUpperCaseName name → name ≢ codes "MD5" → IsUtf8 name
+    → Lacks LF arguments → IsUtf8 arguments → outcome (canonical_line (Site name arguments))
+    ≡ Ok (Site name arguments)
 unfolding is_utf8 chars lib.Utf8.encode
 site_back [] [] is_name ne is_text h utf8 = ap (λ t. Ok (Site [] t)) (utf8_lossy-IsUtf8 [] utf8)
-site_back [] (b ∷ arguments) is_name ne is_text h utf8 = site_parameter_back [] is_name is_text ne (b ∷ arguments) h utf8
-site_back (b ∷ name) arguments is_name ne is_text h utf8 = site_parameter_back (b ∷ name) is_name is_text ne arguments h utf8
+site_back [] (b ∷ arguments) is_name ne is_text h utf8 =
+    site_parameter_back [] is_name is_text ne (b ∷ arguments) h utf8
+site_back (b ∷ name) arguments is_name ne is_text h utf8 =
+    site_parameter_back (b ∷ name) is_name is_text ne arguments h utf8

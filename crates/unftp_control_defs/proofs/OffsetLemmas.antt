@@ -22,15 +22,25 @@ own = numerals_by_value (λ digits. all_ascii_digits digits ≡ true) tells_all_
 
 module _ (n : ℕ) (fits : n < 2 ^ 64) where
   no_plus : get_or (decimal n) 0 0 ≢ 43
-  no_plus = not_in_digits own (decimal n) 43 (digits_decimal own n fits) (λ r. omega arith) 0 (decimal_nonempty n fits)
+  no_plus = not_in_digits own (decimal n) 43 (digits_decimal own n fits) (λ r. omega arith) 0
+      (decimal_nonempty n fits)
 
   offset-decimal : offset (utf8_lossy (decimal n)) ≡ Ok (Rest n)
   offset-decimal =
-      let kept = utf8_lossy-IsUtf8 (decimal n) (IsUtf8-from_ascii (decimal n) (IsAscii-decimal n fits)) in
+      let kept =
+      utf8_lossy-IsUtf8 (decimal n) (IsUtf8-from_ascii (decimal n) (IsAscii-decimal n fits)) in
       let plain = without_leading_plus_none (decimal n) no_plus in
       let some = lt-ltb 0 (length (decimal n)) (decimal_nonempty n fits) in
-      rw (kept, plain, some, digits_decimal own n fits, digits_value-decimal own n fits, lt-ltb n (2 ^ 64) fits)
+      rw (
+        kept,
+        plain,
+        some,
+        digits_decimal own n fits,
+        digits_value-decimal own n fits,
+        lt-ltb n (2 ^ 64) fits,
+      )
 
 pub rest_back : (n : ℕ) → n < 2 ^ 64 → outcome (canonical_line (Rest n)) ≡ Ok (Rest n)
 unfolding is_utf8 chars lib.Utf8.encode
-rest_back n fits = spaced_back (codes "REST") (λ v. offset (utf8_lossy v)) (λ parameter. refl) (decimal n) (Lacks-decimal LF n (omega arith)) ∙ offset-decimal n fits
+rest_back n fits = spaced_back (codes "REST") (λ v. offset (utf8_lossy v)) (λ parameter. refl)
+    (decimal n) (Lacks-decimal LF n (omega arith)) ∙ offset-decimal n fits

@@ -6,7 +6,8 @@ use Rattle.unftp_control_defs.specs.ReplyReader.{with_crlf, FrontReply, IsMalfor
 use Rattle.unftp_control_defs.specs.TakingSteps.{TakesReply}
 use Rattle.unftp_control_defs.proofs.ReplyCasesLemmas.{front_within}
 
-pub FrontReply-append : (bytes more : Bytes) (code : ℕ) (lines : List Bytes) (used : ℕ) → FrontReply bytes code lines used → FrontReply (bytes ++ more) code lines used
+pub FrontReply-append : (bytes more : Bytes) (code : ℕ) (lines : List Bytes) (used : ℕ)
+    → FrontReply bytes code lines used → FrontReply (bytes ++ more) code lines used
 FrontReply-append bytes more code lines used f = record {
   digits = f.digits;
   code_is = f.code_is;
@@ -27,9 +28,12 @@ IsMalformed-append bytes more m = record {
   opens_none = m.opens_none;
 }
 
-pub TakesReply-append : (before more : Bytes) (reply : ℕ × List Bytes) (after : Bytes) → TakesReply before reply after → TakesReply (before ++ more) reply (after ++ more)
+pub TakesReply-append : (before more : Bytes) (reply : ℕ × List Bytes) (after : Bytes)
+    → TakesReply before reply after → TakesReply (before ++ more) reply (after ++ more)
 TakesReply-append before more reply after t = record {
   used = t.used;
   front = FrontReply-append before more reply.0 reply.1 t.used t.front;
-  after_is = ap (λ b. b ++ more) t.after_is ∙ sym (drop-append-le t.used before more (front_within before reply.0 reply.1 t.used t.front).1);
+  after_is = ap (λ b. b ++ more) t.after_is
+      ∙ sym (drop-append-le t.used before more
+      (front_within before reply.0 reply.1 t.used t.front).1);
 }

@@ -22,38 +22,52 @@ pub lacks_one : (b : ℕ) → LacksCrlf (b ∷ [])
 lacks_one b [] after e = cc
 lacks_one b (x ∷ before) after e = lacks_nil before after (cc)
 
-pub lacks_more : (a b : ℕ) (t : Bytes) → (a ≡ CR → b ≢ LF) → LacksCrlf (b ∷ t) → LacksCrlf (a ∷ b ∷ t)
-lacks_more a b t apart h [] after e = let is_cr : a ≡ CR = cc in let is_lf : b ≡ LF = cc in apart is_cr is_lf
+pub lacks_more : (a b : ℕ) (t : Bytes) → (a ≡ CR → b ≢ LF) → LacksCrlf (b ∷ t)
+    → LacksCrlf (a ∷ b ∷ t)
+lacks_more a b t apart h [] after e = let is_cr : a ≡ CR = cc in let is_lf : b ≡ LF = cc in
+    apart is_cr is_lf
 lacks_more a b t apart h (x ∷ before) after e = h before after (cc)
 
-line_more : (a b : ℕ) (t line rest : Bytes) → (a ≡ CR → b ≢ LF) → b ∷ t ≡ line ++ CR ∷ LF ∷ rest → LacksCrlf line → LacksCrlf (a ∷ line)
+line_more : (a b : ℕ) (t line rest : Bytes) → (a ≡ CR → b ≢ LF) → b ∷ t ≡ line ++ CR ∷ LF ∷ rest
+    → LacksCrlf line → LacksCrlf (a ∷ line)
 line_more a b t [] rest apart e h = lacks_one a
 line_more a b t (c ∷ line) rest apart e h =
     let same : b ≡ c = cc in
     lacks_more a c line (λ is_cr is_lf. apart is_cr (same ∙ is_lf)) h
 
-first_line_step : (a : ℕ) (t : Bytes) → LacksCrlf t ⊎ FirstLine t → LacksCrlf (a ∷ t) ⊎ FirstLine (a ∷ t)
+first_line_step : (a : ℕ) (t : Bytes) → LacksCrlf t ⊎ FirstLine t → LacksCrlf (a ∷ t)
+    ⊎ FirstLine (a ∷ t)
 first_line_step a [] r = inl (lacks_one a)
 first_line_step a (b ∷ t) r = ⊎_elim
     (λ (is_cr : a ≡ CR). ⊎_elim
-    (λ (is_lf : b ≡ LF). inr (record { line = []; rest = t; cut = λ i. is_cr i ∷ (is_lf i ∷ t); is_line = lacks_nil }))
+    (λ (is_lf : b ≡ LF). inr
+    (record { line = []; rest = t; cut = λ i. is_cr i ∷ (is_lf i ∷ t); is_line = lacks_nil }))
     (λ (no_lf : b ≢ LF). further (λ _. no_lf) r)
     (cases_eq b LF))
     (λ (no_cr : a ≢ CR). further (λ is_cr. absurd (no_cr is_cr)) r)
     (cases_eq a CR)
   where
-    further : (a ≡ CR → b ≢ LF) → LacksCrlf (b ∷ t) ⊎ FirstLine (b ∷ t) → LacksCrlf (a ∷ b ∷ t) ⊎ FirstLine (a ∷ b ∷ t)
+    further : (a ≡ CR → b ≢ LF) → LacksCrlf (b ∷ t) ⊎ FirstLine (b ∷ t) → LacksCrlf (a ∷ b ∷ t)
+        ⊎ FirstLine (a ∷ b ∷ t)
     further apart (inl h) = inl (lacks_more a b t apart h)
-    further apart (inr f) = inr (record { line = a ∷ f.line; rest = f.rest; cut = ap (λ s. a ∷ s) f.cut; is_line = line_more a b t f.line f.rest apart f.cut f.is_line })
+    further apart (inr f) =
+        inr (record {
+          line = a ∷ f.line;
+          rest = f.rest;
+          cut = ap (λ s. a ∷ s) f.cut;
+          is_line = line_more a b t f.line f.rest apart f.cut f.is_line;
+        })
 
 pub first_line : (bytes : Bytes) → LacksCrlf bytes ⊎ FirstLine bytes
 first_line [] = inl lacks_nil
 first_line (a ∷ t) = first_line_step a t (first_line t)
 
 -- a line of these digits and a space, or none
-pub ends_or_not : (digits line : Bytes) → ((text : Bytes) × (line ≡ digits ++ SP ∷ text)) ⊎ GoesOn digits line
+pub ends_or_not : (digits line : Bytes) → ((text : Bytes) × (line ≡ digits ++ SP ∷ text))
+    ⊎ GoesOn digits line
 ends_or_not [] [] = inr (λ text e. cc)
-ends_or_not [] (b ∷ line) = ⊎_elim (λ (e : b ≡ SP). inl (line, λ i. e i ∷ line)) (λ (no : b ≢ SP). inr (λ text e. no (cc))) (cases_eq b SP)
+ends_or_not [] (b ∷ line) = ⊎_elim (λ (e : b ≡ SP). inl (line, λ i. e i ∷ line))
+    (λ (no : b ≢ SP). inr (λ text e. no (cc))) (cases_eq b SP)
 ends_or_not (d ∷ digits) [] = inr (λ text e. cc)
 ends_or_not (d ∷ digits) (b ∷ line) = ⊎_elim
     (λ (e : b ≡ d). ⊎_elim
@@ -63,17 +77,20 @@ ends_or_not (d ∷ digits) (b ∷ line) = ⊎_elim
     (λ (no : b ≢ d). inr (λ text f. no (cc)))
     (cases_eq b d)
 
-ended_more : (digits line rest : Bytes) → LacksCrlf line → GoesOn digits line → IsEnded digits rest → IsEnded digits (line ++ CR ∷ LF ∷ rest)
+ended_more : (digits line rest : Bytes) → LacksCrlf line → GoesOn digits line → IsEnded digits rest
+    → IsEnded digits (line ++ CR ∷ LF ∷ rest)
 ended_more digits line rest is_line goes f = record {
   middle = line ∷ f.middle;
   last = f.last;
   rest = f.rest;
-  cut = ap (λ s. line ++ CR ∷ LF ∷ s) f.cut ∙ sym (line_apart line (f.middle ++ (digits ++ SP ∷ f.last) ∷ []) f.rest);
+  cut = ap (λ s. line ++ CR ∷ LF ∷ s) f.cut
+      ∙ sym (line_apart line (f.middle ++ (digits ++ SP ∷ f.last) ∷ []) f.rest);
   each = (is_line, f.each);
   goes_on = (goes, f.goes_on);
 }
 
-unended_more : (digits line rest : Bytes) → LacksCrlf line → GoesOn digits line → IsUnended digits rest → IsUnended digits (line ++ CR ∷ LF ∷ rest)
+unended_more : (digits line rest : Bytes) → LacksCrlf line → GoesOn digits line
+    → IsUnended digits rest → IsUnended digits (line ++ CR ∷ LF ∷ rest)
 unended_more digits line rest is_line goes f = record {
   middle = line ∷ f.middle;
   rest = f.rest;
@@ -83,7 +100,8 @@ unended_more digits line rest is_line goes f = record {
   unended = f.unended;
 }
 
-ended_here : (digits text rest : Bytes) → LacksCrlf (digits ++ SP ∷ text) → IsEnded digits ((digits ++ SP ∷ text) ++ CR ∷ LF ∷ rest)
+ended_here : (digits text rest : Bytes) → LacksCrlf (digits ++ SP ∷ text)
+    → IsEnded digits ((digits ++ SP ∷ text) ++ CR ∷ LF ∷ rest)
 ended_here digits text rest is_line = record {
   middle = [];
   last = text;
@@ -93,26 +111,42 @@ ended_here digits text rest is_line = record {
   goes_on = tt;
 }
 
-ended_or_not : (digits : Bytes) (n : ℕ) (bytes : Bytes) → length bytes ≤ n → IsEnded digits bytes ⊎ IsUnended digits bytes
-ended_or_not digits zero bytes short = inr (record { middle = []; rest = bytes; cut = refl; each = tt; goes_on = tt; unended = λ before after e. omega (arith, ap length e, length-append before (CR ∷ LF ∷ after)) })
+ended_or_not : (digits : Bytes) (n : ℕ) (bytes : Bytes) → length bytes ≤ n → IsEnded digits bytes
+    ⊎ IsUnended digits bytes
+ended_or_not digits zero bytes short =
+    inr (record {
+      middle = [];
+      rest = bytes;
+      cut = refl;
+      each = tt;
+      goes_on = tt;
+      unended =
+          λ before after e. omega (arith, ap length e, length-append before (CR ∷ LF ∷ after));
+    })
 ended_or_not digits (suc n) bytes short = ⊎_elim
-    (λ (h : LacksCrlf bytes). inr (record { middle = []; rest = bytes; cut = refl; each = tt; goes_on = tt; unended = h }))
+    (λ (h : LacksCrlf bytes). inr
+    (record { middle = []; rest = bytes; cut = refl; each = tt; goes_on = tt; unended = h }))
     (λ (f : FirstLine bytes).
-    let shorter : length f.rest ≤ n = omega (arith, ap length f.cut, length-append f.line (CR ∷ LF ∷ f.rest)) in
+    let shorter : length f.rest ≤ n =
+    omega (arith, ap length f.cut, length-append f.line (CR ∷ LF ∷ f.rest)) in
     ⊎_elim
     (λ (h : (text : Bytes) × (f.line ≡ digits ++ SP ∷ text)).
     let is_line : LacksCrlf (digits ++ SP ∷ h.0) = subst LacksCrlf h.1 f.is_line in
-    inl (subst (IsEnded digits) (sym (f.cut ∙ ap (λ l. l ++ CR ∷ LF ∷ f.rest) h.1)) (ended_here digits h.0 f.rest is_line)))
+    inl (subst (IsEnded digits) (sym (f.cut ∙ ap (λ l. l ++ CR ∷ LF ∷ f.rest) h.1))
+    (ended_here digits h.0 f.rest is_line)))
     (λ (goes : GoesOn digits f.line). ⊎_elim
-    (λ (h : IsEnded digits f.rest). inl (subst (IsEnded digits) (sym f.cut) (ended_more digits f.line f.rest f.is_line goes h)))
-    (λ (h : IsUnended digits f.rest). inr (subst (IsUnended digits) (sym f.cut) (unended_more digits f.line f.rest f.is_line goes h)))
+    (λ (h : IsEnded digits f.rest). inl
+    (subst (IsEnded digits) (sym f.cut) (ended_more digits f.line f.rest f.is_line goes h)))
+    (λ (h : IsUnended digits f.rest). inr
+    (subst (IsUnended digits) (sym f.cut) (unended_more digits f.line f.rest f.is_line goes h)))
     (ended_or_not digits n f.rest shorter))
     (ends_or_not digits f.line))
     (first_line bytes)
 
 -- the line begins with three digits
 abbrev pub BeginsWithCode : Bytes → Type 0
-BeginsWithCode line = (digits : Bytes) × (code : ℕ) × (rest : Bytes) × SpellsCode digits code × (line ≡ digits ++ rest)
+BeginsWithCode line = (digits : Bytes) × (code : ℕ) × (rest : Bytes) × SpellsCode digits code
+    × (line ≡ digits ++ rest)
 
 digit_or_not : (b : ℕ) → ((d : ℕ) × (d < 10) × (b ≡ 48 + d)) ⊎ ((d : ℕ) → d < 10 → b ≢ 48 + d)
 digit_or_not b = ⊎_elim
@@ -143,9 +177,18 @@ code_or_not (a ∷ b ∷ c ∷ rest) = by_digits (digit_or_not a) (digit_or_not 
       (x.0, y.0, z.0, x.1, y.1, z.1, refl, refl),
       λ i. x.2 i ∷ (y.2 i ∷ (z.2 i ∷ rest)),
     )
-    by_digits (inr x) y z = inr (λ s. x s.3.0 s.3.3 (let e : a ∷ b ∷ c ∷ rest ≡ ((48 + s.3.0) ∷ (48 + s.3.1) ∷ (48 + s.3.2) ∷ []) ++ s.2 = s.4 ∙ ap (λ d. d ++ s.2) s.3.6 in cc))
-    by_digits x (inr y) z = inr (λ s. y s.3.1 s.3.4 (let e : a ∷ b ∷ c ∷ rest ≡ ((48 + s.3.0) ∷ (48 + s.3.1) ∷ (48 + s.3.2) ∷ []) ++ s.2 = s.4 ∙ ap (λ d. d ++ s.2) s.3.6 in cc))
-    by_digits x y (inr z) = inr (λ s. z s.3.2 s.3.5 (let e : a ∷ b ∷ c ∷ rest ≡ ((48 + s.3.0) ∷ (48 + s.3.1) ∷ (48 + s.3.2) ∷ []) ++ s.2 = s.4 ∙ ap (λ d. d ++ s.2) s.3.6 in cc))
+    by_digits (inr x) y z =
+        inr (λ s. x s.3.0 s.3.3
+        (let e : a ∷ b ∷ c ∷ rest ≡ ((48 + s.3.0) ∷ (48 + s.3.1) ∷ (48 + s.3.2) ∷ []) ++ s.2 = s.4
+        ∙ ap (λ d. d ++ s.2) s.3.6 in cc))
+    by_digits x (inr y) z =
+        inr (λ s. y s.3.1 s.3.4
+        (let e : a ∷ b ∷ c ∷ rest ≡ ((48 + s.3.0) ∷ (48 + s.3.1) ∷ (48 + s.3.2) ∷ []) ++ s.2 = s.4
+        ∙ ap (λ d. d ++ s.2) s.3.6 in cc))
+    by_digits x y (inr z) =
+        inr (λ s. z s.3.2 s.3.5
+        (let e : a ∷ b ∷ c ∷ rest ≡ ((48 + s.3.0) ∷ (48 + s.3.1) ∷ (48 + s.3.2) ∷ []) ++ s.2 = s.4
+        ∙ ap (λ d. d ++ s.2) s.3.6 in cc))
 
 -- a line that opens a reply begins with its code
 pub opens_code : (line : Bytes) → Opens line → BeginsWithCode line
@@ -157,34 +200,45 @@ opens_code line opened = by_first (opens_as line opened)
     by_first (digits, code, spells, inr (text, inr e)) = (digits, code, DASH ∷ text, spells, e)
 
 -- a space or a dash follows the code, or nothing
-pub opens_not : (digits line : Bytes) (code b : ℕ) (text : Bytes) → SpellsCode digits code → line ≡ digits ++ b ∷ text → b ≢ SP → b ≢ DASH → ¬ Opens line
+pub opens_not : (digits line : Bytes) (code b : ℕ) (text : Bytes) → SpellsCode digits code
+    → line ≡ digits ++ b ∷ text → b ≢ SP → b ≢ DASH → ¬ Opens line
 opens_not digits line code b text spells is no_space no_dash opens =
     let opened = opens_as line opens in
-    let long : length opened.0 ≡ length digits = code_length opened.0 opened.1 opened.2 ∙ sym (code_length digits code spells) in
+    let long : length opened.0 ≡ length digits = code_length opened.0 opened.1 opened.2
+    ∙ sym (code_length digits code spells) in
     ⊎_elim
     (λ (e : line ≡ opened.0). no_longer opened.0 digits b text long (sym e ∙ is))
     (λ (h : (t : Bytes) × ((line ≡ opened.0 ++ SP ∷ t) ⊎ (line ≡ opened.0 ++ DASH ∷ t))). ⊎_elim
-    (λ (e : line ≡ opened.0 ++ SP ∷ h.0). let f = (same_front opened.0 digits (SP ∷ h.0) (b ∷ text) long (sym e ∙ is)).1 in no_space (cc))
-    (λ (e : line ≡ opened.0 ++ DASH ∷ h.0). let f = (same_front opened.0 digits (DASH ∷ h.0) (b ∷ text) long (sym e ∙ is)).1 in no_dash (cc))
+    (λ (e : line ≡ opened.0 ++ SP ∷ h.0).
+    let f = (same_front opened.0 digits (SP ∷ h.0) (b ∷ text) long (sym e ∙ is)).1 in
+    no_space (cc))
+    (λ (e : line ≡ opened.0 ++ DASH ∷ h.0).
+    let f = (same_front opened.0 digits (DASH ∷ h.0) (b ∷ text) long (sym e ∙ is)).1 in
+    no_dash (cc))
     h.1)
     opened.3
 
 opens_or_not : (line : Bytes) → IsFirstLine line ⊎ ¬ Opens line
-opens_or_not line = ⊎_elim (λ (s : BeginsWithCode line). following s.0 s.1 s.2 s.3 s.4) (λ (no : ¬ BeginsWithCode line). inr (λ opened. no (opens_code line opened))) (code_or_not line)
+opens_or_not line = ⊎_elim (λ (s : BeginsWithCode line). following s.0 s.1 s.2 s.3 s.4)
+    (λ (no : ¬ BeginsWithCode line). inr (λ opened. no (opens_code line opened))) (code_or_not line)
   where
-    following : (digits : Bytes) (code : ℕ) (rest : Bytes) → SpellsCode digits code → line ≡ digits ++ rest → IsFirstLine line ⊎ ¬ Opens line
+    following : (digits : Bytes) (code : ℕ) (rest : Bytes) → SpellsCode digits code
+        → line ≡ digits ++ rest → IsFirstLine line ⊎ ¬ Opens line
     following digits code [] spells e = inl (digits, code, spells, inl (e ∙ append-nil digits))
     following digits code (b ∷ text) spells e = ⊎_elim
-        (λ (is : b ≡ SP). inl (digits, code, spells, inr (text, inl (e ∙ ap (λ x. digits ++ x ∷ text) is))))
+        (λ (is : b ≡ SP). inl
+        (digits, code, spells, inr (text, inl (e ∙ ap (λ x. digits ++ x ∷ text) is))))
         (λ (no_space : b ≢ SP). ⊎_elim
-        (λ (is : b ≡ DASH). inl (digits, code, spells, inr (text, inr (e ∙ ap (λ x. digits ++ x ∷ text) is))))
+        (λ (is : b ≡ DASH). inl
+        (digits, code, spells, inr (text, inr (e ∙ ap (λ x. digits ++ x ∷ text) is))))
         (λ (no_dash : b ≢ DASH). inr (opens_not digits line code b text spells e no_space no_dash))
         (cases_eq b DASH))
         (cases_eq b SP)
 
 -- The three kinds of replies that bytes begin with.
 
-pub bare_front : (bytes digits rest : Bytes) (code : ℕ) → SpellsCode digits code → bytes ≡ digits ++ CR ∷ LF ∷ rest → LacksCrlf digits
+pub bare_front : (bytes digits rest : Bytes) (code : ℕ) → SpellsCode digits code
+    → bytes ≡ digits ++ CR ∷ LF ∷ rest → LacksCrlf digits
     → FrontReply bytes code ([] ∷ []) (length (flat_map with_crlf (digits ∷ [])))
 bare_front bytes digits rest code spells cut is_line = record {
   digits = digits;
@@ -197,7 +251,8 @@ bare_front bytes digits rest code spells cut is_line = record {
   length_is = refl;
 }
 
-pub single_front : (bytes digits text rest : Bytes) (code : ℕ) → SpellsCode digits code → bytes ≡ (digits ++ SP ∷ text) ++ CR ∷ LF ∷ rest → LacksCrlf (digits ++ SP ∷ text)
+pub single_front : (bytes digits text rest : Bytes) (code : ℕ) → SpellsCode digits code
+    → bytes ≡ (digits ++ SP ∷ text) ++ CR ∷ LF ∷ rest → LacksCrlf (digits ++ SP ∷ text)
     → FrontReply bytes code (text ∷ []) (length (flat_map with_crlf ((digits ++ SP ∷ text) ∷ [])))
 single_front bytes digits text rest code spells cut is_line = record {
   digits = digits;
@@ -212,23 +267,28 @@ single_front bytes digits text rest code spells cut is_line = record {
 
 -- the lines of a reply of several, as they are
 abbrev pub several_whole : Bytes → Bytes → List Bytes → Bytes → List Bytes
-several_whole digits text middle last = (digits ++ DASH ∷ text) ∷ (middle ++ (digits ++ SP ∷ last) ∷ [])
+several_whole digits text middle last =
+    (digits ++ DASH ∷ text) ∷ (middle ++ (digits ++ SP ∷ last) ∷ [])
 
-pub several_front : (bytes digits text following : Bytes) (code : ℕ) → SpellsCode digits code → bytes ≡ (digits ++ DASH ∷ text) ++ CR ∷ LF ∷ following
+pub several_front : (bytes digits text following : Bytes) (code : ℕ) → SpellsCode digits code
+    → bytes ≡ (digits ++ DASH ∷ text) ++ CR ∷ LF ∷ following
     → LacksCrlf (digits ++ DASH ∷ text) → (f : IsEnded digits following)
-    → FrontReply bytes code (text ∷ (f.middle ++ f.last ∷ [])) (length (flat_map with_crlf (several_whole digits text f.middle f.last)))
+    → FrontReply bytes code (text ∷ (f.middle ++ f.last ∷ []))
+    (length (flat_map with_crlf (several_whole digits text f.middle f.last)))
 several_front bytes digits text following code spells cut is_line f = record {
   digits = digits;
   code_is = spells;
   whole = several_whole digits text f.middle f.last;
   rest = f.rest;
-  cut = cut ∙ ap (λ s. (digits ++ DASH ∷ text) ++ CR ∷ LF ∷ s) f.cut ∙ sym (line_apart (digits ++ DASH ∷ text) (f.middle ++ (digits ++ SP ∷ f.last) ∷ []) f.rest);
+  cut = cut ∙ ap (λ s. (digits ++ DASH ∷ text) ++ CR ∷ LF ∷ s) f.cut
+      ∙ sym (line_apart (digits ++ DASH ∷ text) (f.middle ++ (digits ++ SP ∷ f.last) ∷ []) f.rest);
   each = (is_line, f.each);
   reply = several text f.last f.middle f.goes_on refl refl;
   length_is = refl;
 }
 
-opened_front : (bytes digits text following : Bytes) (code : ℕ) → SpellsCode digits code → bytes ≡ (digits ++ DASH ∷ text) ++ CR ∷ LF ∷ following
+opened_front : (bytes digits text following : Bytes) (code : ℕ) → SpellsCode digits code
+    → bytes ≡ (digits ++ DASH ∷ text) ++ CR ∷ LF ∷ following
     → LacksCrlf (digits ++ DASH ∷ text) → IsUnended digits following → IsOpened bytes
 opened_front bytes digits text following code spells cut is_line f = record {
   digits = digits;
@@ -237,7 +297,8 @@ opened_front bytes digits text following code spells cut is_line f = record {
   text = text;
   middle = f.middle;
   rest = f.rest;
-  cut = cut ∙ ap (λ s. (digits ++ DASH ∷ text) ++ CR ∷ LF ∷ s) f.cut ∙ sym (line_apart (digits ++ DASH ∷ text) f.middle f.rest);
+  cut = cut ∙ ap (λ s. (digits ++ DASH ∷ text) ++ CR ∷ LF ∷ s) f.cut
+      ∙ sym (line_apart (digits ++ DASH ∷ text) f.middle f.rest);
   each = (is_line, f.each);
   goes_on = f.goes_on;
   unended = f.unended;
@@ -247,30 +308,57 @@ opened_front bytes digits text following code spells cut is_line f = record {
 front_part_or_malformed : (bytes : Bytes) → HasFront bytes ⊎ (IsPart bytes ⊎ IsMalformed bytes)
 front_part_or_malformed bytes = by_line (first_line bytes)
   where
-    by_line : LacksCrlf bytes ⊎ FirstLine bytes → HasFront bytes ⊎ (IsPart bytes ⊎ IsMalformed bytes)
+    by_line : LacksCrlf bytes ⊎ FirstLine bytes
+        → HasFront bytes ⊎ (IsPart bytes ⊎ IsMalformed bytes)
     by_line (inl h) = inr (inl (inl h))
     by_line (inr f) = ⊎_elim
         (λ (opened : IsFirstLine f.line). by_opening opened.0 opened.1 opened.2 opened.3)
-        (λ (no : ¬ Opens f.line). inr (inr (record { first = f.line; rest = f.rest; cut = f.cut; is_line = f.is_line; opens_none = no })))
+        (λ (no : ¬ Opens f.line). inr
+        (inr (record {
+          first = f.line;
+          rest = f.rest;
+          cut = f.cut;
+          is_line = f.is_line;
+          opens_none = no;
+        })))
         (opens_or_not f.line)
       where
         by_opening : (digits : Bytes) (code : ℕ) → SpellsCode digits code
-            → (f.line ≡ digits) ⊎ ((text : Bytes) × ((f.line ≡ digits ++ SP ∷ text) ⊎ (f.line ≡ digits ++ DASH ∷ text)))
+            → (f.line ≡ digits)
+            ⊎ ((text : Bytes)
+            × ((f.line ≡ digits ++ SP ∷ text) ⊎ (f.line ≡ digits ++ DASH ∷ text)))
             → HasFront bytes ⊎ (IsPart bytes ⊎ IsMalformed bytes)
-        by_opening digits code spells (inl e) = inl (code, _, _, bare_front bytes digits f.rest code spells (f.cut ∙ ap (λ l. l ++ CR ∷ LF ∷ f.rest) e) (subst LacksCrlf e f.is_line))
-        by_opening digits code spells (inr (text, inl e)) = inl (code, _, _, single_front bytes digits text f.rest code spells (f.cut ∙ ap (λ l. l ++ CR ∷ LF ∷ f.rest) e) (subst LacksCrlf e f.is_line))
+        by_opening digits code spells (inl e) =
+            inl (
+              code,
+              _,
+              _,
+              bare_front bytes digits f.rest code spells
+                  (f.cut ∙ ap (λ l. l ++ CR ∷ LF ∷ f.rest) e) (subst LacksCrlf e f.is_line),
+            )
+        by_opening digits code spells (inr (text, inl e)) =
+            inl (
+              code,
+              _,
+              _,
+              single_front bytes digits text f.rest code spells
+                  (f.cut ∙ ap (λ l. l ++ CR ∷ LF ∷ f.rest) e) (subst LacksCrlf e f.is_line),
+            )
         by_opening digits code spells (inr (text, inr e)) =
             let cut = f.cut ∙ ap (λ l. l ++ CR ∷ LF ∷ f.rest) e in
             let is_line = subst LacksCrlf e f.is_line in
             ⊎_elim
-            (λ (h : IsEnded digits f.rest). inl (code, _, _, several_front bytes digits text f.rest code spells cut is_line h))
-            (λ (h : IsUnended digits f.rest). inr (inl (inr (opened_front bytes digits text f.rest code spells cut is_line h))))
+            (λ (h : IsEnded digits f.rest). inl
+            (code, _, _, several_front bytes digits text f.rest code spells cut is_line h))
+            (λ (h : IsUnended digits f.rest). inr
+            (inl (inr (opened_front bytes digits text f.rest code spells cut is_line h))))
             (ended_or_not digits (length f.rest) f.rest (omega arith))
 
 pub some_reading : (bytes : Bytes) → HasFront bytes ⊎ (IsPartial bytes ⊎ IsMalformed bytes)
 some_reading bytes = by_kind (front_part_or_malformed bytes)
   where
-    by_kind : HasFront bytes ⊎ (IsPart bytes ⊎ IsMalformed bytes) → HasFront bytes ⊎ (IsPartial bytes ⊎ IsMalformed bytes)
+    by_kind : HasFront bytes ⊎ (IsPart bytes ⊎ IsMalformed bytes)
+        → HasFront bytes ⊎ (IsPartial bytes ⊎ IsMalformed bytes)
     by_kind (inl front) = inl front
     by_kind (inr (inl part)) = inr (inl (part_is_partial bytes part))
     by_kind (inr (inr malformed)) = inr (inr malformed)
@@ -285,12 +373,24 @@ partial_is_part bytes partial = by_kind (front_part_or_malformed bytes)
 
 -- ---- a reply at the start
 
-pub front_within : (bytes : Bytes) (code : ℕ) (lines : List Bytes) (used : ℕ) → FrontReply bytes code lines used → (0 < used) × (used ≤ length bytes)
+pub front_within : (bytes : Bytes) (code : ℕ) (lines : List Bytes) (used : ℕ)
+    → FrontReply bytes code lines used → (0 < used) × (used ≤ length bytes)
 front_within bytes code lines used f =
     let k = reply_opens f.digits code f.whole lines f.code_is f.reply in
     let whole = ap (λ (u : List Bytes). flat_map with_crlf u) k.2 in (
-      omega (arith, f.length_is, ap length whole, length-append (k.0 ++ crlf) (flat_map with_crlf k.1), length-append k.0 crlf),
-      omega (arith, f.length_is, ap length f.cut, length-append (flat_map with_crlf f.whole) f.rest),
+      omega (
+        arith,
+        f.length_is,
+        ap length whole,
+        length-append (k.0 ++ crlf) (flat_map with_crlf k.1),
+        length-append k.0 crlf,
+      ),
+      omega (
+        arith,
+        f.length_is,
+        ap length f.cut,
+        length-append (flat_map with_crlf f.whole) f.rest,
+      ),
     )
 
 pub front_is_formed : (bytes : Bytes) → HasFront bytes → ¬ IsMalformed bytes
@@ -298,6 +398,7 @@ front_is_formed bytes h m =
     let f = h.3 in
     let k = reply_opens f.digits h.0 f.whole h.1 f.code_is f.reply in
     let each = subst (AllByRecursion LacksCrlf) k.2 f.each in
-    let cut = f.cut ∙ ap (λ (u : List Bytes). flat_map with_crlf u ++ f.rest) k.2 ∙ line_apart k.0 k.1 f.rest in
+    let cut = f.cut ∙ ap (λ (u : List Bytes). flat_map with_crlf u ++ f.rest) k.2
+    ∙ line_apart k.0 k.1 f.rest in
     let same = (first_crlf k.0 m.first _ _ each.0 m.is_line (sym cut ∙ m.cut)).0 in
     m.opens_none (subst Opens same k.3)

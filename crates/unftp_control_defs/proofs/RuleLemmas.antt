@@ -32,14 +32,32 @@ buffer_sizes_give : Gives (chosen buffer_sizes)
 buffer_sizes_give = chosen_gives buffer_sizes ((tt, tt), tt)
 
 all_rules : AllByRecursion (λ row. RuleGives row.1) verbs
-all_rules = search (raw_gives, without_parameter_gives, some_gives, maybe_gives, structures_give, modes_give, protections_give, options_give, buffer_sizes_give, auth_gives, offset_gives, stat_gives, list_gives)
+all_rules = search (
+  raw_gives,
+  without_parameter_gives,
+  some_gives,
+  maybe_gives,
+  structures_give,
+  modes_give,
+  protections_give,
+  options_give,
+  buffer_sizes_give,
+  auth_gives,
+  offset_gives,
+  stat_gives,
+  list_gives,
+)
 
 -- the row that is found
-found : {A : Type 0} (P : A → Type 0) (name : Bytes) (rows : List (Bytes × A)) (x : A) → AllByRecursion (λ row. P row.1) rows → row_of name rows ≡ Some x → P x
+found : {A : Type 0} (P : A → Type 0) (name : Bytes) (rows : List (Bytes × A)) (x : A)
+    → AllByRecursion (λ row. P row.1) rows → row_of name rows ≡ Some x → P x
 found P name [] x each e = cc
-found P name (row ∷ rows) x each e = by_test (bytes_eq name row.0) (λ q. found P name rows x each.1 q) e
+found P name (row ∷ rows) x each e =
+    by_test (bytes_eq name row.0) (λ q. found P name rows x each.1 q) e
   where
-    by_test : (test : Bool) → (row_of name rows ≡ Some x → P x) → option_map (λ r. r.1) (cond test (Some row) (find (λ r. bytes_eq name r.0) rows)) ≡ Some x → P x
+    by_test : (test : Bool) → (row_of name rows ≡ Some x → P x)
+        → option_map (λ r. r.1) (cond test (Some row) (find (λ r. bytes_eq name r.0) rows)) ≡ Some x
+        → P x
     by_test true more q = let same : row.1 ≡ x = cc in subst P same each.0
     by_test false more q = more q
 
@@ -47,6 +65,7 @@ found P name (row ∷ rows) x each e = by_test (bytes_eq name row.0) (λ q. foun
 pub rule_gives : (verb : Bytes) → IsUpperCaseName verb → IsUtf8 verb → RuleGives (rule_of verb)
 rule_gives verb is_name is_text = by_row (row_of verb verbs) refl
   where
-    by_row : (row : Option Rule) → row_of verb verbs ≡ row → RuleGives (unwrap_or row (Takes (any_text (Other verb))))
+    by_row : (row : Option Rule) → row_of verb verbs ≡ row
+        → RuleGives (unwrap_or row (Takes (any_text (Other verb))))
     by_row None none = any_gives (Other verb) (λ text h utf8. ((is_name, none, h), (is_text, utf8)))
     by_row (Some rule) is = found RuleGives verb verbs rule all_rules is

@@ -6,7 +6,8 @@ use Rattle.unftp_control_defs.specs.TakingSteps.{TakesEvent}
 use Rattle.unftp_control_defs.specs.Lines.{incomplete_line}
 use Rattle.unftp_control_defs.proofs.LineLemmas.{line_first}
 
-module _ (limit : Option ℕ) (before : Bytes) (event : FtpEvent) (after : Bytes) (taken : TakesEvent limit before event after) (more : Bytes) where
+module _ (limit : Option ℕ) (before : Bytes) (event : FtpEvent) (after : Bytes)
+    (taken : TakesEvent limit before event after) (more : Bytes) where
   joined : before ++ more ≡ taken.line ++ (after ++ more)
   joined = ap (λ bytes. bytes ++ more) taken.whole ∙ append_assoc taken.line after more
 
@@ -17,4 +18,5 @@ module _ (limit : Option ℕ) (before : Bytes) (event : FtpEvent) (after : Bytes
       ∙ ap (λ first. first ∷ events limit (after ++ more)) (sym taken.meaning)
 
   pub TakesEvent-incomplete : incomplete_line (before ++ more) ≡ incomplete_line (after ++ more)
-  TakesEvent-incomplete = ap incomplete_line joined ∙ (line_first taken.line (after ++ more) taken.is_line).1
+  TakesEvent-incomplete = ap incomplete_line joined
+      ∙ (line_first taken.line (after ++ more) taken.is_line).1

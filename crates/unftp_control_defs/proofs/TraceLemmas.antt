@@ -17,10 +17,15 @@ use Rattle.unftp_control_defs.specs.declared.count.trace.Trace.TheInside as Fiel
 abbrev pub sealed : Val
 sealed = vstruct (vcons vunit vnil)
 
-pub trace_made : {M : Type 1} {𝓤 : Ura M} {𝓛 : Logic 𝓤} {K : Type 0} {Γ : List (Item 𝓤)} {G : Goal 𝓤 𝓛.H} → K → (n : List ℕ) → Step K 𝓛 (‵ (the_row.own_val n (sealed ∷ [])) ∷ Γ) G Γ G
+pub trace_made : {M : Type 1} {𝓤 : Ura M} {𝓛 : Logic 𝓤} {K : Type 0} {Γ : List (Item 𝓤)}
+    {G : Goal 𝓤 𝓛.H} → K → (n : List ℕ) → Step K 𝓛 (‵ (the_row.own_val n (sealed ∷ [])) ∷ Γ) G Γ G
 trace_made t n = step (λ s.
     let made : Fields.Inside = record { seal = tt; numbers = n } in
     nothing t $ nothing t $
-    nothing t $ feq_i t (List Val) (vunit ∷ []) (vunit ∷ []) refl $ fjoin t $ feq_i t (List Val) (sealed ∷ []) (sealed ∷ []) refl $ fjoin t $
-    fpack t (Valss (unit ∷ [])) (within (record { name = []; args = []; types = []; fields = unit ∷ [] }) (tt, tt) (sealed ∷ [])) (vunit ∷ [], tt) $ fjoin t $ fjoin t $
-    fpack t ((a : Fields.Inside) × ((the_view a ≡ n) × the_invariant a)) (λ x. fsep (Inside.the_row.own_val x.0 (sealed ∷ [])) ftrue) (made, (refl, tt)) $ s)
+    nothing t $ feq_i t (List Val) (vunit ∷ []) (vunit ∷ []) refl $ fjoin t $ feq_i t (List Val)
+    (sealed ∷ []) (sealed ∷ []) refl $ fjoin t $
+    fpack t (Valss (unit ∷ []))
+    (within (record { name = []; args = []; types = []; fields = unit ∷ [] }) (tt, tt)
+    (sealed ∷ [])) (vunit ∷ [], tt) $ fjoin t $ fjoin t $
+    fpack t ((a : Fields.Inside) × ((the_view a ≡ n) × the_invariant a))
+    (λ x. fsep (Inside.the_row.own_val x.0 (sealed ∷ [])) ftrue) (made, (refl, tt)) $ s)

@@ -19,13 +19,17 @@ no_lowercase b = grind (arith, nat_tests)
 -- a name is in upper case already
 pub upper-IsUpperCaseName : (name : Bytes) → IsUpperCaseName name → upper name ≡ name
 upper-IsUpperCaseName [] h = refl
-upper-IsUpperCaseName (b ∷ name) h = λ i. uppercased_byte b h.0.1 i ∷ upper-IsUpperCaseName name h.1 i
+upper-IsUpperCaseName (b ∷ name) h = λ i. uppercased_byte b h.0.1 i ∷ upper-IsUpperCaseName name h.1
+    i
 
-pub bare_name : (name : Bytes) → IsUpperCaseName name → AllByRecursion (λ b. is_separator b ≡ false) name
+pub bare_name : (name : Bytes) → IsUpperCaseName name
+    → AllByRecursion (λ b. is_separator b ≡ false) name
 bare_name [] h = tt
 bare_name (b ∷ name) h = (h.0.0, bare_name name h.1)
 
 -- a text without separators is a name in upper case
-pub IsUpperCaseName-upper : (text : Bytes) → AllByRecursion (λ b. is_separator b ≡ false) text → IsUpperCaseName (upper text)
+pub IsUpperCaseName-upper : (text : Bytes) → AllByRecursion (λ b. is_separator b ≡ false) text
+    → IsUpperCaseName (upper text)
 IsUpperCaseName-upper [] h = tt
-IsUpperCaseName-upper (b ∷ text) h = ((separator-uppercased b ∙ h.0, no_lowercase b), IsUpperCaseName-upper text h.1)
+IsUpperCaseName-upper (b ∷ text) h =
+    ((separator-uppercased b ∙ h.0, no_lowercase b), IsUpperCaseName-upper text h.1)

@@ -8,7 +8,13 @@ use Rattle.unftp_control_defs.proofs.LineLemmas.{Lines-unique}
 
 -- the lines of a line are that line
 pub lines_of-IsLine : (line : Bytes) → IsLine line → line ∷ [] ≡ lines_of line
-lines_of-IsLine line is = (Lines-unique line (line ∷ []) [] (record { whole = sym (append-nil (line ++ []) ∙ append-nil line); each = (is, tt); unended = tt })).0
+lines_of-IsLine line is =
+    (Lines-unique line (line ∷ []) []
+    (record {
+      whole = sym (append-nil (line ++ []) ∙ append-nil line);
+      each = (is, tt);
+      unended = tt;
+    })).0
 
 -- U+00E9, and a byte that no character has
 pub letter_IsUtf8 : IsUtf8 (195 ∷ 169 ∷ [])

@@ -24,7 +24,8 @@ LacksCrlf-test (a ∷ []) h = lacks_one a
 LacksCrlf-test (a ∷ b ∷ text) h =
     let parts = and_parts (not ((a == CR) && (b == LF))) (lacks_crlf (b ∷ text)) h in
     lacks_more a b text
-    (λ is_cr is_lf. true≢false (sym parts.0 ∙ (λ i. not (eq-eqb a CR is_cr i && eq-eqb b LF is_lf i))))
+    (λ is_cr is_lf. true≢false
+    (sym parts.0 ∙ (λ i. not (eq-eqb a CR is_cr i && eq-eqb b LF is_lf i))))
     (LacksCrlf-test (b ∷ text) parts.1)
 
 abbrev pub begins_with : Bytes → Bytes → Bool
@@ -36,9 +37,11 @@ begins_with-append : (front text : Bytes) → begins_with front (front ++ text) 
 begins_with-append [] text = refl
 begins_with-append (a ∷ front) text = λ i. eq-eqb a a refl i && begins_with-append front text i
 
-pub GoesOn-test : (digits line : Bytes) → begins_with (digits ++ SP ∷ []) line ≡ false → GoesOn digits line
+pub GoesOn-test : (digits line : Bytes) → begins_with (digits ++ SP ∷ []) line ≡ false
+    → GoesOn digits line
 GoesOn-test digits line h text same = true≢false
-    (sym (begins_with-append (digits ++ SP ∷ []) text) ∙ ap (begins_with (digits ++ SP ∷ [])) (append_assoc digits (SP ∷ []) text ∙ sym same) ∙ h)
+    (sym (begins_with-append (digits ++ SP ∷ []) text) ∙ ap (begins_with (digits ++ SP ∷ []))
+    (append_assoc digits (SP ∷ []) text ∙ sym same) ∙ h)
 
 pub spells_211 : SpellsCode (codes "211") 211
 spells_211 = (2, 1, 1, lit< tt, lit< tt, lit< tt, refl, refl)
@@ -47,26 +50,34 @@ spells_211 = (2, 1, 1, lit< tt, lit< tt, lit< tt, refl, refl)
 pub length-Opens : (line : Bytes) → Opens line → 3 ≤ length line
 length-Opens line opens =
     let begins = opens_code line opens in
-    omega (arith, ap length begins.4, length-append begins.0 begins.2, code_length begins.0 begins.1 begins.3)
+    omega (
+      arith,
+      ap length begins.4,
+      length-append begins.0 begins.2,
+      code_length begins.0 begins.1 begins.3,
+    )
 
 pub third-Opens : (a b c : ℕ) (rest : Bytes) → Opens (a ∷ b ∷ c ∷ rest) → 48 ≤ c
 third-Opens a b c rest opens =
     let begins = opens_code (a ∷ b ∷ c ∷ rest) opens in
-    let same : a ∷ b ∷ c ∷ rest ≡ ((48 + begins.3.0) ∷ (48 + begins.3.1) ∷ (48 + begins.3.2) ∷ []) ++ begins.2 = begins.4 ∙ ap (λ d. d ++ begins.2) begins.3.6 in
+    let same : a ∷ b ∷ c ∷ rest ≡ ((48 + begins.3.0) ∷ (48 + begins.3.1) ∷ (48 + begins.3.2) ∷ [])
+    ++ begins.2 = begins.4 ∙ ap (λ d. d ++ begins.2) begins.3.6 in
     let third : c ≡ 48 + begins.3.2 = cc in
     omega arith
 
 -- a reply with one line of text
 pub front_of_text : (more : Bytes) → FrontReply (codes "211 a\r\n" ++ more) 211 (codes "a" ∷ []) 7
 unfolding digits
-front_of_text more = FrontReply-encoded (CodeAndMsg 211 (codes "a")) more ((lit≤ tt, lit< tt), Lacks-test 10 (codes "a") refl) 211 (codes "a" ∷ []) refl
+front_of_text more = FrontReply-encoded (CodeAndMsg 211 (codes "a")) more
+    ((lit≤ tt, lit< tt), Lacks-test 10 (codes "a") refl) 211 (codes "a" ∷ []) refl
 
 -- an incomplete line
 pub line_part : (text : Bytes) → lacks_crlf text ≡ true → IsPartial text
 line_part text h = part_is_partial text (inl (LacksCrlf-test text h))
 
 -- a first line that opens a reply of several, lines that don't end it, and an incomplete line
-pub several_part : (middle : List Bytes) (rest : Bytes) → AllByRecursion LacksCrlf middle → AllByRecursion (GoesOn (codes "211")) middle
+pub several_part : (middle : List Bytes) (rest : Bytes) → AllByRecursion LacksCrlf middle
+    → AllByRecursion (GoesOn (codes "211")) middle
     → LacksCrlf rest → IsPartial (flat_map with_crlf (codes "211-a" ∷ middle) ++ rest)
 several_part middle rest each goes_on unended = part_is_partial _ (inr (record {
   digits = codes "211";
@@ -83,8 +94,10 @@ several_part middle rest each goes_on unended = part_is_partial _ (inr (record {
 
 pub no_last_line : IsPartial (codes "211-a\r\n212 b\r\n211\r\n")
 no_last_line = several_part (codes "212 b" ∷ codes "211" ∷ []) []
-    (LacksCrlf-test (codes "212 b") refl, (LacksCrlf-test (codes "211") refl, tt))
-    (GoesOn-test (codes "211") (codes "212 b") refl, (GoesOn-test (codes "211") (codes "211") refl, tt))
+    (LacksCrlf-test (codes "212 b") refl, (LacksCrlf-test (codes "211") refl, tt)) (
+      GoesOn-test (codes "211") (codes "212 b") refl,
+      (GoesOn-test (codes "211") (codes "211") refl, tt),
+    )
     lacks_nil
 
 -- a line that opens no reply
@@ -100,6 +113,7 @@ two_digits = record {
 pub first-Opens : (a : ℕ) (rest : Bytes) → Opens (a ∷ rest) → a ≤ 57
 first-Opens a rest opens =
     let begins = opens_code (a ∷ rest) opens in
-    let same : a ∷ rest ≡ ((48 + begins.3.0) ∷ (48 + begins.3.1) ∷ (48 + begins.3.2) ∷ []) ++ begins.2 = begins.4 ∙ ap (λ d. d ++ begins.2) begins.3.6 in
+    let same : a ∷ rest ≡ ((48 + begins.3.0) ∷ (48 + begins.3.1) ∷ (48 + begins.3.2) ∷ [])
+    ++ begins.2 = begins.4 ∙ ap (λ d. d ++ begins.2) begins.3.6 in
     let first : a ≡ 48 + begins.3.0 = cc in
     omega (arith, begins.3.3)

@@ -1,7 +1,7 @@
 //! Lines, and where a line is cut into its verb and its parameter.
 #![tactic(auto, unfolding(unftp_control_defs::proofs::Computing::at_bytes))]
 
-ghost use Rattle.std.specs.Prelude.{◌≡◌, [], ◌∷◌, ◌++◌, codes, false, true};
+ghost use Rattle.std.specs.Prelude.{◌≡◌, [], ◌∷◌, codes, false, true};
 ghost use Rattle.unftp_control_defs.specs.Bytes.{NUL, LF, CR, SP, DASH, crlf, Lacks};
 ghost use Rattle.unftp_control_defs.specs.Lines.{IsLine, Lines, lines_of, incomplete_line};
 ghost use Rattle.unftp_control_defs.specs.Verbs.{Cut, is_separator, upper};

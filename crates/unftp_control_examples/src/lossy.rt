@@ -1,7 +1,7 @@
 //! Ill-formed UTF-8 in a text.
 #![tactic(auto, unfolding(unftp_control_defs::proofs::Computing::at_bytes))]
 
-ghost use Rattle.std.specs.Prelude.{◌≡◌, [], ◌∷◌, ◌++◌, codes};
+ghost use Rattle.std.specs.Prelude.{◌≡◌, [], ◌∷◌, codes};
 ghost use Rattle.unftp_control_defs.specs.LossyText.{Character, IllFormed, LossyText, first_part};
 
 /// The least and the greatest character of each row of Unicode's table 3-7.

@@ -35,7 +35,8 @@ all_low = refl
 some_none : {X : Type 0} {x : X} → None ≡ Some x → ⊥
 some_none e = cc
 
-row_low : (name : Bytes) (rows : List (Bytes × Rule)) (rule : Rule) → are_low rows ≡ true → row_of name rows ≡ Some rule → is_low name ≡ true
+row_low : (name : Bytes) (rows : List (Bytes × Rule)) (rule : Rule) → are_low rows ≡ true
+    → row_of name rows ≡ Some rule → is_low name ≡ true
 row_low name [] rule low e = absurd (some_none e)
 row_low name (row ∷ rows) rule low e =
     let parts = and_parts (is_low row.0) (are_low rows) low in
@@ -49,53 +50,83 @@ low_upper b h = grind (arith, nat_tests)
 
 low_word : (word : Bytes) → is_low (upper word) ≡ true → IsAscii word
 low_word [] h i = omega arith
-low_word (b ∷ word) h zero = low_upper b (ltb-true (to_ascii_uppercase b) 97 (and_parts (nat_lt (to_ascii_uppercase b) 97) (is_low (upper word)) h).0)
-low_word (b ∷ word) h (suc i) = low_word word (and_parts (nat_lt (to_ascii_uppercase b) 97) (is_low (upper word)) h).1 i
+low_word (b ∷ word) h zero =
+    low_upper b
+    (ltb-true (to_ascii_uppercase b) 97
+    (and_parts (nat_lt (to_ascii_uppercase b) 97) (is_low (upper word)) h).0)
+low_word (b ∷ word) h (suc i) =
+    low_word word (and_parts (nat_lt (to_ascii_uppercase b) 97) (is_low (upper word)) h).1 i
 
-pub named_utf8 : (word : Bytes) (rule : Rule) → row_of (upper word) verbs ≡ Some rule → is_utf8 word ≡ true
-named_utf8 word rule e = is_utf8-from_IsUtf8 word (IsUtf8-from_ascii word (low_word word (row_low (upper word) verbs rule all_low e)))
+pub named_utf8 : (word : Bytes) (rule : Rule) → row_of (upper word) verbs ≡ Some rule
+    → is_utf8 word ≡ true
+named_utf8 word rule e =
+    is_utf8-from_IsUtf8 word
+    (IsUtf8-from_ascii word (low_word word (row_low (upper word) verbs rule all_low e)))
 
 -- what a call answers, from what it answers for the parts of the line
-module _ (line word parameter : Bytes) (r : Result Command ParseErrorKind) (whole : word ≡ verb_of line) (rest : parameter ≡ parameter_of line) where
-  pub line_named : (rule : Rule) → row_of (upper word) verbs ≡ Some rule → Returns (answer_by rule parameter) r → Returns (outcome line) r
+module _ (line word parameter : Bytes) (r : Result Command ParseErrorKind)
+    (whole : word ≡ verb_of line) (rest : parameter ≡ parameter_of line) where
+  pub line_named : (rule : Rule) → row_of (upper word) verbs ≡ Some rule
+      → Returns (answer_by rule parameter) r → Returns (outcome line) r
   line_named rule e h =
-      let f : row_of (upper (verb_of line)) verbs ≡ Some rule = subst (λ w. row_of (upper w) verbs ≡ Some rule) whole e in
-      let is : outcome line ≡ answer_by rule (parameter_of line) = rw (named_utf8 (verb_of line) rule f, f) in
+      let f : row_of (upper (verb_of line)) verbs ≡ Some rule =
+      subst (λ w. row_of (upper w) verbs ≡ Some rule) whole e in
+      let is : outcome line ≡ answer_by rule (parameter_of line) =
+      rw (named_utf8 (verb_of line) rule f, f) in
       subst (λ a. Returns a r) (sym is) (subst (λ p. Returns (answer_by rule p) r) rest h)
 
-  pub line_other : (name : Bytes) → row_of (upper word) verbs ≡ None → name ≡ word → is_utf8 word ≡ true → Returns (value_answer (any_text (Other (upper name))) (value_of parameter)) r → Returns (outcome line) r
+  pub line_other : (name : Bytes) → row_of (upper word) verbs ≡ None → name ≡ word
+      → is_utf8 word ≡ true
+      → Returns (value_answer (any_text (Other (upper name))) (value_of parameter)) r
+      → Returns (outcome line) r
   line_other name none same u h =
-      let n : row_of (upper (verb_of line)) verbs ≡ None = subst (λ w. row_of (upper w) verbs ≡ None) whole none in
+      let n : row_of (upper (verb_of line)) verbs ≡ None =
+      subst (λ w. row_of (upper w) verbs ≡ None) whole none in
       let t : is_utf8 (verb_of line) ≡ true = subst (λ w. is_utf8 w ≡ true) whole u in
-      let is : outcome line ≡ value_answer (any_text (Other (upper (verb_of line)))) (value_of (parameter_of line)) = rw (t, n) in
+      let is : outcome line ≡ value_answer (any_text (Other (upper (verb_of line))))
+      (value_of (parameter_of line)) = rw (t, n) in
       subst (λ a. Returns a r) (sym is)
-      (subst (λ w. Returns (value_answer (any_text (Other (upper w))) (value_of (parameter_of line))) r) (same ∙ whole)
+      (subst (λ w. Returns
+      (value_answer (any_text (Other (upper w))) (value_of (parameter_of line))) r)
+      (same ∙ whole)
       (subst (λ p. Returns (value_answer (any_text (Other (upper name))) (value_of p)) r) rest h))
 
-  pub site_named : (name : Bytes) → name ≡ word → is_utf8 word ≡ true → Returns (value_answer (subcommand_answer (upper name)) (value_of parameter)) r → Returns (site_answer line) r
+  pub site_named : (name : Bytes) → name ≡ word → is_utf8 word ≡ true
+      → Returns (value_answer (subcommand_answer (upper name)) (value_of parameter)) r
+      → Returns (site_answer line) r
   site_named name same u h =
       let t : is_utf8 (verb_of line) ≡ true = subst (λ w. is_utf8 w ≡ true) whole u in
-      let is : site_answer line ≡ value_answer (subcommand_answer (upper (verb_of line))) (value_of (parameter_of line)) = rw t in
+      let is : site_answer line ≡ value_answer (subcommand_answer (upper (verb_of line)))
+      (value_of (parameter_of line)) = rw t in
       subst (λ a. Returns a r) (sym is)
-      (subst (λ w. Returns (value_answer (subcommand_answer (upper w)) (value_of (parameter_of line))) r) (same ∙ whole)
+      (subst (λ w. Returns
+      (value_answer (subcommand_answer (upper w)) (value_of (parameter_of line))) r)
+      (same ∙ whole)
       (subst (λ p. Returns (value_answer (subcommand_answer (upper name)) (value_of p)) r) rest h))
 
 -- an error that is passed on
-pub refused : (answer : Answer) (error : ParseErrorKind) (r : Result Command ParseErrorKind) → Refuses answer error → IsErrAnd r (λ e. e ≡ error) → Returns answer r
+pub refused : (answer : Answer) (error : ParseErrorKind) (r : Result Command ParseErrorKind)
+    → Refuses answer error → IsErrAnd r (λ e. e ≡ error) → Returns answer r
 refused answer error (Ok command) refuses h = absurd h
 refused answer error (Err e) refuses h = subst (Refuses answer) (sym h) refuses
 
 -- a text that must not be empty
-pub some_refused : (command : Bytes → FtpCommand) (v : Bytes) (error : ParseErrorKind) → RefusesEmpty v error → Refuses (some_text command v) error
+pub some_refused : (command : Bytes → FtpCommand) (v : Bytes) (error : ParseErrorKind)
+    → RefusesEmpty v error → Refuses (some_text command v) error
 some_refused command v kind.InvalidCommand h = rw (eq-eqb (length v) 0 h) refl
 some_refused command v kind.InvalidUtf8 h = absurd h
 some_refused command v kind.InvalidEol h = absurd h
 some_refused command v kind.OutOfMemory h = tt
 
-pub some_taken : (command : Bytes → FtpCommand) (v text : Bytes) → 0 < length v → text ≡ utf8_lossy v → some_text command v ≡ Ok (command text)
-some_taken command v text some is = let longer : length v ≢ 0 = λ e. absurd (omega arith) in rw (ne_eqb (length v) 0 longer) (ap (λ t. Ok (command t)) (sym is))
+pub some_taken : (command : Bytes → FtpCommand) (v text : Bytes) → 0 < length v
+    → text ≡ utf8_lossy v → some_text command v ≡ Ok (command text)
+some_taken command v text some is = let longer : length v ≢ 0 = λ e. absurd (omega arith) in
+    rw (ne_eqb (length v) 0 longer) (ap (λ t. Ok (command t)) (sym is))
 
 -- what is refused since it is not UTF-8
-pub refused_utf8 : (bytes : Bytes) (answer : Answer) (r : Result Command ParseErrorKind) → ¬ (IsUtf8 bytes) → (is_utf8 bytes ≡ false → answer ≡ Err InvalidUtf8)
+pub refused_utf8 : (bytes : Bytes) (answer : Answer) (r : Result Command ParseErrorKind)
+    → ¬ (IsUtf8 bytes) → (is_utf8 bytes ≡ false → answer ≡ Err InvalidUtf8)
     → IsErrAnd r (λ e. e ≡ kind.InvalidUtf8) → Returns answer r
-refused_utf8 bytes answer r ill is h = refused answer kind.InvalidUtf8 r (is (false_from_ne_true _ (λ t. ill (IsUtf8-from_is_utf8 bytes t)))) h
+refused_utf8 bytes answer r ill is h =
+    refused answer kind.InvalidUtf8 r
+    (is (false_from_ne_true _ (λ t. ill (IsUtf8-from_is_utf8 bytes t)))) h

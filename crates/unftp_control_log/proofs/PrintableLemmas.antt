@@ -40,7 +40,8 @@ joined [] more first second = second
 joined (b ∷ text) more first second = (first.0, joined text more first.1 second)
 
 -- one of two
-either_prints : (test : Bool) (one other : Bytes) → ArePrintable one → ArePrintable other → ArePrintable (cond test one other)
+either_prints : (test : Bool) (one other : Bytes) → ArePrintable one → ArePrintable other
+    → ArePrintable (cond test one other)
 either_prints true one other p q = p
 either_prints false one other p q = q
 
@@ -56,7 +57,10 @@ hex_prints : (place b : ℕ) → IsPrintable (hex_digit_at place b)
 hex_prints place b = digit_prints (b / place % 16) (mod-lt (b / place) (omega arith))
 
 coded_prints : (b : ℕ) → ArePrintable (92 ∷ 120 ∷ hex_digit_at 0x10 b ∷ hex_digit_at 1 b ∷ [])
-coded_prints b = ((omega arith, omega arith), ((omega arith, omega arith), (hex_prints 0x10 b, (hex_prints 1 b, tt))))
+coded_prints b = (
+  (omega arith, omega arith),
+  ((omega arith, omega arith), (hex_prints 0x10 b, (hex_prints 1 b, tt))),
+)
 
 -- the letter after a backslash, where there is one
 abbrev IsShort : ℕ → Type 0
@@ -75,11 +79,14 @@ short_prints b =
     short_one (b == 34) 34 _ (inr (omega arith, omega arith)) (
     short_one (b == 92) 92 0 (inr (omega arith, omega arith)) (inl refl))))))
 
-with_short : (n : ℕ) (more : Bytes) → IsShort n → ArePrintable more → ArePrintable (cond (nat_lt 0 n) (92 ∷ n ∷ []) more)
+with_short : (n : ℕ) (more : Bytes) → IsShort n → ArePrintable more
+    → ArePrintable (cond (nat_lt 0 n) (92 ∷ n ∷ []) more)
 with_short n more (inl is) h = rw is h
-with_short n more (inr is) h = either_prints (nat_lt 0 n) (92 ∷ n ∷ []) more ((omega arith, omega arith), (is, tt)) h
+with_short n more (inr is) h = either_prints (nat_lt 0 n) (92 ∷ n ∷ []) more
+    ((omega arith, omega arith), (is, tt)) h
 
-plain_prints : (b : ℕ) → ArePrintable (cond (nat_lt b 32) (92 ∷ 120 ∷ hex_digit_at 0x10 b ∷ hex_digit_at 1 b ∷ [])
+plain_prints : (b : ℕ)
+    → ArePrintable (cond (nat_lt b 32) (92 ∷ 120 ∷ hex_digit_at 0x10 b ∷ hex_digit_at 1 b ∷ [])
     (cond (nat_lt b 127) (b ∷ []) (92 ∷ 120 ∷ hex_digit_at 0x10 b ∷ hex_digit_at 1 b ∷ [])))
 plain_prints b = by_tests (nat_lt b 32) refl (nat_lt b 127) refl
   where
@@ -87,7 +94,8 @@ plain_prints b = by_tests (nat_lt b 32) refl (nat_lt b 127) refl
         ArePrintable (cond low (92 ∷ 120 ∷ hex_digit_at 0x10 b ∷ hex_digit_at 1 b ∷ [])
         (cond ascii (b ∷ []) (92 ∷ 120 ∷ hex_digit_at 0x10 b ∷ hex_digit_at 1 b ∷ [])))
     by_tests true is ascii is_ascii = coded_prints b
-    by_tests false is true is_ascii = ((ltb-false b 32 is, let below = ltb-true b 127 is_ascii in omega arith), tt)
+    by_tests false is true is_ascii =
+        ((ltb-false b 32 is, let below = ltb-true b 127 is_ascii in omega arith), tt)
     by_tests false is false is_ascii = coded_prints b
 
 byte_prints : (b : ℕ) → ArePrintable (escape_ascii b)
@@ -108,31 +116,41 @@ shown_part_prints (Some text) = shown_prints text
 
 -- a command
 name_prints : (of_site : Bool) (name : Bytes) → ArePrintable (shown_name of_site name)
-name_prints true name = joined (codes "SITE") _ (written (codes "SITE") refl) (spaced_prints _ (shown_part_prints (unless_empty name)))
+name_prints true name = joined (codes "SITE") _ (written (codes "SITE") refl)
+    (spaced_prints _ (shown_part_prints (unless_empty name)))
 name_prints false name = shown_prints name
 
-value_prints : (command : FtpCommand) (value : Option Bytes) → IfPrintable (shown_value command value)
+value_prints : (command : FtpCommand) (value : Option Bytes)
+    → IfPrintable (shown_value command value)
 value_prints command value = by_tests (is_secret command) (is_unknown command) value
   where
     by_tests : (secret unknown : Bool) (value : Option Bytes) →
-        IfPrintable (cond secret (Some asterisks) (option_map (λ text. cond unknown asterisks (shown text)) value))
+        IfPrintable
+        (cond secret (Some asterisks)
+        (option_map (λ text. cond unknown asterisks (shown text)) value))
     by_tests true unknown value = written asterisks refl
     by_tests false unknown None = tt
     by_tests false true (Some text) = written asterisks refl
     by_tests false false (Some text) = shown_prints text
 
 -- a known verb
-rows_print : {A : Type 0} (rows : List (Bytes × A)) → list_all (λ row. all_printable row.0) rows ≡ true → AllByRecursion (λ row. ArePrintable row.0) rows
+rows_print : {A : Type 0} (rows : List (Bytes × A)) → list_all (λ row. all_printable row.0) rows
+    ≡ true → AllByRecursion (λ row. ArePrintable row.0) rows
 rows_print [] is = tt
-rows_print (row ∷ rows) is = let parts = and_parts _ _ is in (written row.0 parts.0, rows_print rows parts.1)
+rows_print (row ∷ rows) is = let parts = and_parts _ _ is in
+    (written row.0 parts.0, rows_print rows parts.1)
 
-row_prints : {A : Type 0} (name : Bytes) (rows : List (Bytes × A)) → AllByRecursion (λ row. ArePrintable row.0) rows →
+row_prints : {A : Type 0} (name : Bytes) (rows : List (Bytes × A))
+    → AllByRecursion (λ row. ArePrintable row.0) rows →
     IfPrintable (option_map (λ _. name) (row_of name rows))
 row_prints name [] each = tt
 row_prints name (row ∷ rows) each = by_test (bytes_eq name row.0) refl (row_prints name rows each.1)
   where
-    by_test : (test : Bool) → bytes_eq name row.0 ≡ test → IfPrintable (option_map (λ _. name) (row_of name rows)) →
-        IfPrintable (option_map (λ _. name) (option_map (λ r. r.1) (cond test (Some row) (find (λ r. bytes_eq name r.0) rows))))
+    by_test : (test : Bool) → bytes_eq name row.0 ≡ test
+        → IfPrintable (option_map (λ _. name) (row_of name rows)) →
+        IfPrintable
+        (option_map (λ _. name)
+        (option_map (λ r. r.1) (cond test (Some row) (find (λ r. bytes_eq name r.0) rows))))
     by_test true is others = subst ArePrintable (sym ((bytes_decides name row.0).0 is)) each.0
     by_test false is others = others
 
@@ -160,6 +178,9 @@ log_line_prints (Command command) line =
     (spaced_prints _ (value_prints command (name_and_value command).1))
 log_line_prints (Refused fault) line =
     let word = written (codes "refused") refl in
-    let verb = joined (codes "refused") (spaced_part (known_verb line)) word (spaced_prints (known_verb line) (verb_prints line)) in
-    let colon = joined (codes "refused" ++ spaced_part (known_verb line)) (codes ": ") verb (written (codes ": ") refl) in
-    joined (codes "refused" ++ spaced_part (known_verb line) ++ codes ": ") (reason fault.source fault.kind) colon (reason_prints fault.source fault.kind)
+    let verb = joined (codes "refused") (spaced_part (known_verb line)) word
+    (spaced_prints (known_verb line) (verb_prints line)) in
+    let colon = joined (codes "refused" ++ spaced_part (known_verb line)) (codes ": ") verb
+    (written (codes ": ") refl) in
+    joined (codes "refused" ++ spaced_part (known_verb line) ++ codes ": ")
+    (reason fault.source fault.kind) colon (reason_prints fault.source fault.kind)

@@ -1,9 +1,9 @@
 //! Log lines worked out by hand.
 #![tactic(auto, unfolding(unftp_control_defs::proofs::Computing::at_bytes))]
 
-ghost use Rattle.std.specs.Prelude.{◌≡◌, [], ◌∷◌, ◌++◌, true, false, None, Some, codes};
-ghost use Rattle.unftp_control_defs.specs.Events.{Command, InvalidCommand as InvalidCommandKind, NoSource, OutOfMemory, Parse, Refused, UnknownCommand, event_for, event_of, line_too_long};
-ghost use Rattle.unftp_control_defs.specs.FtpCommand.{Acct, InvalidEol, Md5, Noop, Other, Pass, Rest, Retr, Site, Stat, User};
+ghost use Rattle.std.specs.Prelude.{◌≡◌, [], ◌∷◌, true, false, None, Some, codes};
+ghost use Rattle.unftp_control_defs.specs.Events.{InvalidCommand as InvalidCommandKind, NoSource, OutOfMemory, Parse, Refused, UnknownCommand, event_of, line_too_long};
+ghost use Rattle.unftp_control_defs.specs.FtpCommand.{Acct, InvalidEol, Md5, Other, Pass, Rest, Retr, Site, Stat, User};
 ghost use Rattle.unftp_control_defs.specs.Outcome.{outcome};
 ghost use Rattle.unftp_control_log.specs.LogLine.{IsPrintable, command_text, is_of_site, is_secret, is_unknown, kind_reason, known_verb, log_line, reason, shown};
 

@@ -24,8 +24,10 @@ use Rattle.unftp_control_defs.proofs.LineEventLemmas.{events-canonical_line}
 use Rattle.unftp_control_login.proofs.StageLemmas.{stage_after_all, GaveName-stage, IsLoggedIn-stage}
 
 -- no login where the stage that computes isn't one
-pub not-logged-in : (accepts : Accounts) (events : List FtpEvent) → is_logged_in (stage_after_all accepts NoName events) ≡ false → ¬ IsLoggedIn accepts events
-not-logged-in accepts events stage h = absurd (false≢true (sym stage ∙ ap is_logged_in (IsLoggedIn-stage accepts events h)))
+pub not-logged-in : (accepts : Accounts) (events : List FtpEvent)
+    → is_logged_in (stage_after_all accepts NoName events) ≡ false → ¬ IsLoggedIn accepts events
+not-logged-in accepts events stage h =
+    absurd (false≢true (sym stage ∙ ap is_logged_in (IsLoggedIn-stage accepts events h)))
 
 -- a name that the stage doesn't hold wasn't the last one given
 abbrev name_of : Stage → Bytes
@@ -34,7 +36,8 @@ name_of stage = []
 
 pub name-changed : ¬ GaveName anna (user anna ∷ user wrong ∷ [])
 name-changed h =
-    let same : wrong ≡ anna = ap name_of (GaveName-stage only_anna anna (user anna ∷ user wrong ∷ []) h) in
+    let same : wrong ≡ anna =
+    ap name_of (GaveName-stage only_anna anna (user anna ∷ user wrong ∷ []) h) in
     let first : false ≡ true = ap (λ name. bytes_eq name anna) same in
     absurd (false≢true first)
 
@@ -46,11 +49,13 @@ gave : (one : Bytes) → GaveName one (user one ∷ [])
 gave one = record { before = []; since = []; whole = refl; kept = tt }
 
 pub alike : LooksAlike only_anna (user anna ∷ []) (pass wrong) (pass (codes "other"))
-alike name given = subst (λ name. only_anna name wrong ≡ only_anna name (codes "other")) (given-name only_anna anna name given) refl
+alike name given = subst (λ name. only_anna name wrong ≡ only_anna name (codes "other"))
+    (given-name only_anna anna name given) refl
 
 pub another_user : LooksAlike anna_and_ben (user anna ∷ []) (pass wrong) (pass (codes "other"))
 another_user name given =
-    subst (λ name. anna_and_ben name wrong ≡ anna_and_ben name (codes "other")) (given-name anna_and_ben anna name given) refl
+    subst (λ name. anna_and_ben name wrong ≡ anna_and_ben name (codes "other"))
+    (given-name anna_and_ben anna name given) refl
 
 pub his_own : ¬ LooksAlike anna_and_ben (user ben ∷ []) (pass wrong) (pass (codes "other"))
 his_own same =
@@ -67,7 +72,8 @@ no_name name given =
     let none : NoName ≡ Named name = GaveName-stage only_anna name [] given in
     absurd (cc)
 
-pub each : AllLookAlike anna_and_ben (user anna ∷ pass wrong ∷ Command Noop ∷ []) (user anna ∷ pass (codes "other") ∷ Command Noop ∷ [])
+pub each : AllLookAlike anna_and_ben (user anna ∷ pass wrong ∷ Command Noop ∷ [])
+    (user anna ∷ pass (codes "other") ∷ Command Noop ∷ [])
 each = (refl, (another_user, (refl, tt)))
 
 pub fails : FailsAlike None counting 0 (codes "NOOP\r\n") (codes "NOOP\r\n")
@@ -78,7 +84,12 @@ noop : events None (codes "NOOP\r\n") ≡ Command Noop ∷ []
 noop = events-canonical_line None Noop [] tt tt refl
 
 abbrev at_state : ℕ → Snapshot ℕ
-at_state n = record { state = n; failures = 0; output = record { written = None; failures = 0; unflushed = 0 } }
+at_state n =
+    record {
+      state = n;
+      failures = 0;
+      output = record { written = None; failures = 0; unflushed = 0 };
+    }
 
 no_memory : RunFailed counting (at_state 0) (Command Noop ∷ []) (at_state 1) error.OutOfMemory []
 no_memory = record {
@@ -95,7 +106,8 @@ no_memory = record {
   };
 }
 
-none_fails : (cause : Cause) (done later : List FtpEvent) (s : ℕ) → [] ≡ done ++ later → IsCauseOf cause error.OutOfMemory
+none_fails : (cause : Cause) (done later : List FtpEvent) (s : ℕ) → [] ≡ done ++ later
+    → IsCauseOf cause error.OutOfMemory
     → ¬ EndsAt counting cause (last_state counting 0 done) later s
 none_fails cause [] (event ∷ later) s e means ends = absurd (cc)
 none_fails cause (event ∷ done) later s e means ends = absurd (cc)
@@ -106,8 +118,10 @@ none_fails cause [] [] s e means ends = means
 pub never_fails : ¬ FailsAlike None counting 0 (codes "NOOP\r\n") []
 never_fails same =
     let other = same (at_state 0) (at_state 1) error.OutOfMemory [] refl
-    (subst (λ events. RunFailed counting (at_state 0) (run_of counting 0 events) (at_state 1) error.OutOfMemory []) (sym noop) no_memory) in
-    none_fails other.1.cause other.0 other.1.later 1 other.1.split other.1.means other.1.ended.ends_at
+    (subst (λ events. RunFailed counting (at_state 0) (run_of counting 0 events)
+    (at_state 1) error.OutOfMemory []) (sym noop) no_memory) in
+    none_fails other.1.cause other.0 other.1.later 1 other.1.split other.1.means
+    other.1.ended.ends_at
 
 -- without a login, the event is answered with no failure
 pub anyone-served : ¬ ServesMembersAlone only_anna counting 0
@@ -122,12 +136,16 @@ pwd = events-canonical_line None Pwd [] tt tt refl
 pub anyone-served-in-bytes : ¬ MembersAlone None only_anna (codes "PWD\r\n") (codes "257 here\r\n")
 unfolding digits
 anyone-served-in-bytes h =
-    let plain : AllByRecursion IsPlain (here ∷ []) = (((omega arith, omega arith), Lacks-test LF (codes "here") refl), tt) in
+    let plain : AllByRecursion IsPlain (here ∷ []) =
+    (((omega arith, omega arith), Lacks-test LF (codes "here") refl), tt) in
     let read = h.no_other ((257, codes "here" ∷ []) ∷ []) (ReadsBack-encoded (here ∷ []) plain).0 in
     let low : 257 < 400 = omega arith in
-    let at_each : AtEachPlace (AfterLogin only_anna) [] (Command Pwd ∷ []) ((257, codes "here" ∷ []) ∷ []) =
-    subst (λ events. AtEachPlace (AfterLogin only_anna) [] (take 1 events) ((257, codes "here" ∷ []) ∷ [])) pwd
-    (subst (λ read. AtEachPlace (AfterLogin only_anna) [] (take (length read) (events None (codes "PWD\r\n"))) read) (sym read) h.alone) in
+    let at_each : AtEachPlace (AfterLogin only_anna) [] (Command Pwd ∷ [])
+    ((257, codes "here" ∷ []) ∷ []) =
+    subst (λ events. AtEachPlace (AfterLogin only_anna) [] (take 1 events)
+    ((257, codes "here" ∷ []) ∷ [])) pwd
+    (subst (λ read. AtEachPlace (AfterLogin only_anna) []
+    (take (length read) (events None (codes "PWD\r\n"))) read) (sym read) h.alone) in
     not-logged-in only_anna [] refl (at_each.0 refl low)
 
 pub not-plain : ¬ SendsPlainReplies silent
@@ -135,14 +153,17 @@ not-plain h = h 0 (Command Pwd)
 
 refused_reply : ReadsBack (codes "530 no\r\n") (CodeAndMsg 530 (codes "no") ∷ [])
 unfolding digits
-refused_reply = ReadsBack-encoded (CodeAndMsg 530 (codes "no") ∷ []) (((omega arith, omega arith), Lacks-test LF (codes "no") refl), tt)
+refused_reply = ReadsBack-encoded (CodeAndMsg 530 (codes "no") ∷ [])
+    (((omega arith, omega arith), Lacks-test LF (codes "no") refl), tt)
 
 pub stranger : MembersAlone None only_anna (codes "PWD\r\n") (codes "530 no\r\n")
 stranger = record {
   read = (530, codes "no" ∷ []) ∷ [];
   replies = refused_reply.0;
   no_other = refused_reply.1;
-  alone = subst (λ events. AtEachPlace (AfterLogin only_anna) [] (take 1 events) ((530, codes "no" ∷ []) ∷ [])) (sym pwd)
+  alone = subst
+      (λ events. AtEachPlace (AfterLogin only_anna) [] (take 1 events)
+      ((530, codes "no" ∷ []) ∷ [])) (sym pwd)
       ((λ needs low. absurd (omega (arith, low))), tt);
 }
 
@@ -150,10 +171,12 @@ stranger = record {
 pub no-event : ¬ MembersAlone None only_anna [] (codes "530 no\r\n")
 no-event h =
     let read = h.no_other ((530, codes "no" ∷ []) ∷ []) refused_reply.0 in
-    subst (λ read. AtEachPlace (AfterLogin only_anna) [] (take (length read) []) read) (sym read) h.alone
+    subst (λ read. AtEachPlace (AfterLogin only_anna) [] (take (length read) []) read)
+    (sym read) h.alone
 
 -- bytes that are no replies
-whole_lines : (whole : List Bytes) (rest digits : Bytes) (lines : List Bytes) → codes "x" ≡ flat_map with_crlf whole ++ rest → ¬ IsReply digits whole lines
+whole_lines : (whole : List Bytes) (rest digits : Bytes) (lines : List Bytes)
+    → codes "x" ≡ flat_map with_crlf whole ++ rest → ¬ IsReply digits whole lines
 whole_lines [] rest digits lines cut (code_only one shown) = absurd (cc)
 whole_lines [] rest digits lines cut (single text one shown) = absurd (cc)
 whole_lines [] rest digits lines cut (several text last middle goes_on many shown) = absurd (cc)
@@ -171,4 +194,5 @@ pub garbage : ¬ MembersAlone None only_anna (codes "PWD\r\n") (codes "x")
 garbage h = by_read h.read h.replies where
   by_read : (read : List (ℕ × List Bytes)) → ¬ AllReplies (codes "x") read
   by_read [] all = absurd (cc)
-  by_read (reply ∷ read) (used, front, all) = whole_lines front.whole front.rest front.digits reply.1 front.cut front.reply
+  by_read (reply ∷ read) (used, front, all) =
+      whole_lines front.whole front.rest front.digits reply.1 front.cut front.reply

@@ -14,12 +14,15 @@ use Rattle.unftp_control_login.specs.Gate.{Gated, gated_law, is_barred, is_logge
 
 abbrev pub stage_after_all : Accounts → Stage → List FtpEvent → Stage
 stage_after_all accepts stage [] = stage
-stage_after_all accepts stage (event ∷ events) = stage_after_all accepts (stage_after accepts stage event) events
+stage_after_all accepts stage (event ∷ events) =
+    stage_after_all accepts (stage_after accepts stage event) events
 
 stage_after_all-append : (accepts : Accounts) (stage : Stage) (events more : List FtpEvent)
-    → stage_after_all accepts stage (events ++ more) ≡ stage_after_all accepts (stage_after_all accepts stage events) more
+    → stage_after_all accepts stage (events ++ more) ≡ stage_after_all accepts
+    (stage_after_all accepts stage events) more
 stage_after_all-append accepts stage [] more = refl
-stage_after_all-append accepts stage (event ∷ events) more = stage_after_all-append accepts (stage_after accepts stage event) events more
+stage_after_all-append accepts stage (event ∷ events) more =
+    stage_after_all-append accepts (stage_after accepts stage event) events more
 
 -- the accounts stay, and the stage follows the events
 pub accepts-stays : {S : Type 0} (law : Law S) (s : Gated S) (events : List FtpEvent)
@@ -38,13 +41,16 @@ Reason accepts NoName past = Unit {0}
 Reason accepts (Named name) past = GaveName name past
 Reason accepts LoggedIn past = IsLoggedIn accepts past
 
-AllByRecursion-push : {X : Type 0} (P : X → Type 0) (xs : List X) (x : X) → AllByRecursion P xs → P x → AllByRecursion P (xs ++ x ∷ [])
+AllByRecursion-push : {X : Type 0} (P : X → Type 0) (xs : List X) (x : X) → AllByRecursion P xs
+    → P x → AllByRecursion P (xs ++ x ∷ [])
 AllByRecursion-push P [] x h last = (last, tt)
 AllByRecursion-push P (y ∷ xs) x h last = (h.0, AllByRecursion-push P xs x h.1 last)
 
-one_more : (past before since : List FtpEvent) (mark event : FtpEvent) → past ≡ before ++ mark ∷ since
+one_more : (past before since : List FtpEvent) (mark event : FtpEvent)
+    → past ≡ before ++ mark ∷ since
     → past ++ event ∷ [] ≡ before ++ mark ∷ (since ++ event ∷ [])
-one_more past before since mark event e = ap (λ l. l ++ event ∷ []) e ∙ append_assoc before (mark ∷ since) (event ∷ [])
+one_more past before since mark event e = ap (λ l. l ++ event ∷ []) e
+    ∙ append_assoc before (mark ∷ since) (event ∷ [])
 
 login_stays : (accepts : Accounts) (past : List FtpEvent) (event : FtpEvent) → KeepsLogin event
     → IsLoggedIn accepts past → IsLoggedIn accepts (past ++ event ∷ [])
@@ -61,7 +67,8 @@ login_stays accepts past event keeps (name, h) = (
   },
 )
 
-stays : (accepts : Accounts) (stage : Stage) (past : List FtpEvent) (event : FtpEvent) → KeepsName event → KeepsLogin event
+stays : (accepts : Accounts) (stage : Stage) (past : List FtpEvent) (event : FtpEvent)
+    → KeepsName event → KeepsLogin event
     → Reason accepts stage past → Reason accepts stage (past ++ event ∷ [])
 stays accepts NoName past event name_kept login_kept h = tt
 stays accepts (Named name) past event name_kept login_kept h = record {
@@ -70,69 +77,101 @@ stays accepts (Named name) past event name_kept login_kept h = record {
   whole = one_more past h.before h.since (Command (User name)) event h.whole;
   kept = AllByRecursion-push KeepsName h.since event h.kept name_kept;
 }
-stays accepts LoggedIn past event name_kept login_kept h = login_stays accepts past event login_kept h
+stays accepts LoggedIn past event name_kept login_kept h =
+    login_stays accepts past event login_kept h
 
-pub by_test : {X : Type 0} (P : X → Type 0) (test : Bool) (x y : X) → (test ≡ true → P x) → (test ≡ false → P y) → P (cond test x y)
+pub by_test : {X : Type 0} (P : X → Type 0) (test : Bool) (x y : X) → (test ≡ true → P x)
+    → (test ≡ false → P y) → P (cond test x y)
 by_test P true x y at_true at_false = at_true refl
 by_test P false x y at_true at_false = at_false refl
 
-pub stage_after-reason : (accepts : Accounts) (stage : Stage) (past : List FtpEvent) (event : FtpEvent) → Reason accepts stage past
+pub stage_after-reason : (accepts : Accounts) (stage : Stage) (past : List FtpEvent)
+    (event : FtpEvent) → Reason accepts stage past
     → Reason accepts (stage_after accepts stage event) (past ++ event ∷ [])
-stage_after-reason accepts stage past (Refused fault) h = stays accepts stage past (Refused fault) refl refl h
-stage_after-reason accepts stage past (Command (User name)) h = record { before = past; since = []; whole = refl; kept = tt }
+stage_after-reason accepts stage past (Refused fault) h =
+    stays accepts stage past (Refused fault) refl refl h
+stage_after-reason accepts stage past (Command (User name)) h =
+    record { before = past; since = []; whole = refl; kept = tt }
 stage_after-reason accepts NoName past (Command (Pass password)) h = tt
 stage_after-reason accepts (Named name) past (Command (Pass password)) h =
-    by_test (λ (stage : Stage). Reason accepts stage (past ++ Command (Pass password) ∷ [])) (accepts name password) _ _
-    (λ e. (name, record { before = past; password = password; since = []; whole = refl; named = h; accepted = e; kept = tt })) (λ _. tt)
-stage_after-reason accepts LoggedIn past (Command (Pass password)) h = login_stays accepts past (Command (Pass password)) refl h
+    by_test (λ (stage : Stage). Reason accepts stage (past ++ Command (Pass password) ∷ []))
+    (accepts name password) _ _
+    (λ e. (
+      name,
+      record {
+        before = past;
+        password = password;
+        since = [];
+        whole = refl;
+        named = h;
+        accepted = e;
+        kept = tt;
+      },
+    )) (λ _. tt)
+stage_after-reason accepts LoggedIn past (Command (Pass password)) h =
+    login_stays accepts past (Command (Pass password)) refl h
 stage_after-reason accepts stage past (Command (Auth mechanism)) h = tt
-stage_after-reason accepts stage past (Command command) h = stays accepts stage past (Command command) refl refl h
+stage_after-reason accepts stage past (Command command) h =
+    stays accepts stage past (Command command) refl refl h
 
-reason : (accepts : Accounts) (stage : Stage) (past events : List FtpEvent) → Reason accepts stage past
+reason : (accepts : Accounts) (stage : Stage) (past events : List FtpEvent)
+    → Reason accepts stage past
     → Reason accepts (stage_after_all accepts stage events) (past ++ events)
 reason accepts stage past [] h = subst (Reason accepts stage) (sym (append-nil past)) h
 reason accepts stage past (event ∷ events) h =
-    subst (Reason accepts (stage_after_all accepts (stage_after accepts stage event) events)) (append_assoc past (event ∷ []) events)
-    (reason accepts (stage_after accepts stage event) (past ++ event ∷ []) events (stage_after-reason accepts stage past event h))
+    subst (Reason accepts (stage_after_all accepts (stage_after accepts stage event) events))
+    (append_assoc past (event ∷ []) events)
+    (reason accepts (stage_after accepts stage event) (past ++ event ∷ []) events
+    (stage_after-reason accepts stage past event h))
 
-logged_in-reason : (accepts : Accounts) (stage : Stage) (past : List FtpEvent) → Reason accepts stage past → is_logged_in stage ≡ true
+logged_in-reason : (accepts : Accounts) (stage : Stage) (past : List FtpEvent)
+    → Reason accepts stage past → is_logged_in stage ≡ true
     → IsLoggedIn accepts past
 logged_in-reason accepts NoName past h e = absurd (false≢true e)
 logged_in-reason accepts (Named name) past h e = absurd (false≢true e)
 logged_in-reason accepts LoggedIn past h e = h
 
 -- One who is at that stage has logged in,
-pub logged_in-stage : (accepts : Accounts) (events : List FtpEvent) → is_logged_in (stage_after_all accepts NoName events) ≡ true
+pub logged_in-stage : (accepts : Accounts) (events : List FtpEvent)
+    → is_logged_in (stage_after_all accepts NoName events) ≡ true
     → IsLoggedIn accepts events
-logged_in-stage accepts events e = logged_in-reason accepts (stage_after_all accepts NoName events) events (reason accepts NoName [] events tt) e
+logged_in-stage accepts events e = logged_in-reason accepts (stage_after_all accepts NoName events)
+    events (reason accepts NoName [] events tt) e
 
 -- and one who has given a name, or logged in, is at that stage.
-keeps_name : (accepts : Accounts) (name : Bytes) (event : FtpEvent) → KeepsName event → stage_after accepts (Named name) event ≡ Named name
+keeps_name : (accepts : Accounts) (name : Bytes) (event : FtpEvent) → KeepsName event
+    → stage_after accepts (Named name) event ≡ Named name
 keeps_name accepts name (Refused fault) keeps = refl
 keeps_name accepts name (Command (User other)) keeps = absurd (false≢true (sym keeps))
 keeps_name accepts name (Command (Pass password)) keeps = absurd keeps
 keeps_name accepts name (Command (Auth mechanism)) keeps = absurd (false≢true (sym keeps))
 keeps_name accepts name (Command command) keeps = refl
 
-keep_name : (accepts : Accounts) (name : Bytes) (since : List FtpEvent) → AllByRecursion KeepsName since
+keep_name : (accepts : Accounts) (name : Bytes) (since : List FtpEvent)
+    → AllByRecursion KeepsName since
     → stage_after_all accepts (Named name) since ≡ Named name
 keep_name accepts name [] kept = refl
 keep_name accepts name (event ∷ since) kept =
-    ap (λ stage. stage_after_all accepts stage since) (keeps_name accepts name event kept.0) ∙ keep_name accepts name since kept.1
+    ap (λ stage. stage_after_all accepts stage since) (keeps_name accepts name event kept.0)
+    ∙ keep_name accepts name since kept.1
 
-keeps_login : (accepts : Accounts) (event : FtpEvent) → KeepsLogin event → stage_after accepts LoggedIn event ≡ LoggedIn
+keeps_login : (accepts : Accounts) (event : FtpEvent) → KeepsLogin event
+    → stage_after accepts LoggedIn event ≡ LoggedIn
 keeps_login accepts (Refused fault) keeps = refl
 keeps_login accepts (Command (User other)) keeps = absurd (false≢true (sym keeps))
 keeps_login accepts (Command (Pass password)) keeps = refl
 keeps_login accepts (Command (Auth mechanism)) keeps = absurd (false≢true (sym keeps))
 keeps_login accepts (Command command) keeps = refl
 
-keep_login : (accepts : Accounts) (since : List FtpEvent) → AllByRecursion KeepsLogin since → stage_after_all accepts LoggedIn since ≡ LoggedIn
+keep_login : (accepts : Accounts) (since : List FtpEvent) → AllByRecursion KeepsLogin since
+    → stage_after_all accepts LoggedIn since ≡ LoggedIn
 keep_login accepts [] kept = refl
 keep_login accepts (event ∷ since) kept =
-    ap (λ stage. stage_after_all accepts stage since) (keeps_login accepts event kept.0) ∙ keep_login accepts since kept.1
+    ap (λ stage. stage_after_all accepts stage since) (keeps_login accepts event kept.0)
+    ∙ keep_login accepts since kept.1
 
-pub GaveName-stage : (accepts : Accounts) (name : Bytes) (events : List FtpEvent) → GaveName name events
+pub GaveName-stage : (accepts : Accounts) (name : Bytes) (events : List FtpEvent)
+    → GaveName name events
     → stage_after_all accepts NoName events ≡ Named name
 GaveName-stage accepts name events h =
     ap (stage_after_all accepts NoName) h.whole
@@ -144,24 +183,31 @@ pub IsLoggedIn-stage : (accepts : Accounts) (events : List FtpEvent) → IsLogge
 IsLoggedIn-stage accepts events (name, h) =
     ap (stage_after_all accepts NoName) h.whole
     ∙ stage_after_all-append accepts NoName h.before (Command (Pass h.password) ∷ h.since)
-    ∙ ap (λ stage. stage_after_all accepts (stage_after accepts stage (Command (Pass h.password))) h.since) (GaveName-stage accepts name h.before h.named)
+    ∙ ap (λ stage. stage_after_all accepts (stage_after accepts stage (Command (Pass h.password)))
+    h.since) (GaveName-stage accepts name h.before h.named)
     ∙ ap (λ test. stage_after_all accepts (cond test LoggedIn NoName) h.since) h.accepted
     ∙ keep_login accepts h.since h.kept
 
 -- What the gate does with an event that is no part of a login.
-pub own-barred : (accepts : Accounts) (stage : Stage) (event : FtpEvent) → is_login event ≡ false → is_barred stage event ≡ true
+pub own-barred : (accepts : Accounts) (stage : Stage) (event : FtpEvent) → is_login event ≡ false
+    → is_barred stage event ≡ true
     → (own_reply accepts stage event ≡ Some login_needed) × (passed_on accepts stage event ≡ None)
 own-barred accepts stage (Command (User name)) other barred = absurd (false≢true (sym other))
 own-barred accepts stage (Command (Pass password)) other barred = absurd (false≢true (sym other))
-own-barred accepts stage event other barred =
-    (ap (λ test. cond test (Some login_needed) None) barred, ap (λ test. cond test None (Some event)) barred)
+own-barred accepts stage event other barred = (
+  ap (λ test. cond test (Some login_needed) None) barred,
+  ap (λ test. cond test None (Some event)) barred,
+)
 
-pub own-open : (accepts : Accounts) (stage : Stage) (event : FtpEvent) → is_login event ≡ false → is_barred stage event ≡ false
+pub own-open : (accepts : Accounts) (stage : Stage) (event : FtpEvent) → is_login event ≡ false
+    → is_barred stage event ≡ false
     → (own_reply accepts stage event ≡ None) × (passed_on accepts stage event ≡ Some event)
 own-open accepts stage (Command (User name)) other free = absurd (false≢true (sym other))
 own-open accepts stage (Command (Pass password)) other free = absurd (false≢true (sym other))
-own-open accepts stage event other free =
-    (ap (λ test. cond test (Some login_needed) None) free, ap (λ test. cond test None (Some event)) free)
+own-open accepts stage event other free = (
+  ap (λ test. cond test (Some login_needed) None) free,
+  ap (λ test. cond test None (Some event)) free,
+)
 
 pub needs-other : (event : FtpEvent) → IsTrue (needs_login event) → is_login event ≡ false
 needs-other (Command (User name)) needs = absurd (false≢true needs)

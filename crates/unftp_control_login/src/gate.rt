@@ -8,7 +8,7 @@ ghost use Rattle.unftp_control_reply.specs.ErrorMeaning.{fault_of};
 ghost use Rattle.unftp_control_serve.specs.EventMeaning.{event_meant};
 ghost use Rattle.unftp_control_reply.specs.ReplyMeaning.{number_of, reply_of};
 ghost use Rattle.unftp_control_login.specs.Login.{flushes_login, is_login, needs_login};
-ghost use Rattle.unftp_control_login.specs.Gate.{Gated, closed, gated_law, is_barred, is_logged_in, logged_in, password_reply};
+ghost use Rattle.unftp_control_login.specs.Gate.{Gated, gated_law, is_logged_in, logged_in, password_reply};
 ghost use Rattle.unftp_control_login.specs.GateState.{gated};
 
 use crate::accounts::Accounts;

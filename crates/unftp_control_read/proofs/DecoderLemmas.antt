@@ -30,57 +30,93 @@ abbrev past_limit : Option ℕ → Bytes → Bytes
 past_limit None bytes = []
 past_limit (Some limit) bytes = drop limit bytes
 
-limit_apart : (limit : Option ℕ) (bytes : Bytes) → within_limit limit bytes ++ past_limit limit bytes ≡ bytes
+limit_apart : (limit : Option ℕ) (bytes : Bytes)
+    → within_limit limit bytes ++ past_limit limit bytes ≡ bytes
 limit_apart None bytes = append-nil bytes
 limit_apart (Some limit) bytes = take-append-drop limit bytes
 
 no_longer : (limit : Option ℕ) (bytes : Bytes) → length (within_limit limit bytes) ≤ length bytes
-no_longer limit bytes = omega (arith, ap length (limit_apart limit bytes), length-append (within_limit limit bytes) (past_limit limit bytes))
+no_longer limit bytes =
+    omega (
+      arith,
+      ap length (limit_apart limit bytes),
+      length-append (within_limit limit bytes)
+          (past_limit limit bytes),
+    )
 
 -- a piece makes them longer, or not
-within_more : (limit : Option ℕ) (bytes piece : Bytes) → (more : Bytes) × (within_limit limit (bytes ++ piece) ≡ within_limit limit bytes ++ more)
+within_more : (limit : Option ℕ) (bytes piece : Bytes)
+    → (more : Bytes) × (within_limit limit (bytes ++ piece) ≡ within_limit limit bytes ++ more)
 within_more None bytes piece = (piece, refl)
 within_more (Some limit) bytes piece = ⊎_elim
     (λ (short : length bytes < limit).
     let e : limit ≡ length bytes + (limit - length bytes) = omega arith in (
       take (limit - length bytes) piece,
       ap (λ n. take n (bytes ++ piece)) e ∙ take-append-add bytes piece (limit - length bytes)
-          ∙ ap (λ b. b ++ take (limit - length bytes) piece) (sym (take_all limit bytes (omega arith))),
+          ∙ ap (λ b. b ++ take (limit - length bytes) piece)
+          (sym (take_all limit bytes (omega arith))),
     ))
-    (λ (full : limit ≤ length bytes). ([], take-append-le limit bytes piece full ∙ sym (append-nil (take limit bytes))))
+    (λ (full : limit ≤ length bytes). (
+      [],
+      take-append-le limit bytes piece full
+          ∙ sym (append-nil (take limit bytes)),
+    ))
     (cases_lt (length bytes) limit)
 
-searched_more : (limit : Option ℕ) (bytes piece : Bytes) (s : Search) → IsSearched (within_limit limit bytes) s → IsSearched (within_limit limit (bytes ++ piece)) s
+searched_more : (limit : Option ℕ) (bytes piece : Bytes) (s : Search)
+    → IsSearched (within_limit limit bytes) s → IsSearched (within_limit limit (bytes ++ piece)) s
 searched_more limit bytes piece s h =
     let m = within_more limit bytes piece in
     subst (λ b. IsSearched b s) (sym m.1) (still_searched (within_limit limit bytes) m.0 s h)
 
-pub offset_pending : (limit : Option ℕ) (bytes : Bytes) (s : Search) → IsSearched (within_limit limit bytes) s → scan_offset s ≤ length bytes
-offset_pending limit bytes s h = omega (arith, offset_within (within_limit limit bytes) s h, no_longer limit bytes)
+pub offset_pending : (limit : Option ℕ) (bytes : Bytes) (s : Search)
+    → IsSearched (within_limit limit bytes) s → scan_offset s ≤ length bytes
+offset_pending limit bytes s h =
+    omega (arith, offset_within (within_limit limit bytes) s h, no_longer limit bytes)
 
 -- ---- a piece after them
 
-module _ (limit : Option ℕ) (s : Search) (buf after piece : Bytes) (start : ℕ) (well : IsReplyDecoder limit s buf start) (e : after ≡ buf ++ piece) where
+module _ (limit : Option ℕ) (s : Search) (buf after piece : Bytes) (start : ℕ)
+    (well : IsReplyDecoder limit s buf start) (e : after ≡ buf ++ piece) where
   dropped : drop start after ≡ drop start buf ++ piece
   dropped = ap (drop start) e ∙ drop-append-le start buf piece well.start_within
 
   pub decoder_more : IsReplyDecoder limit s after start
   decoder_more = record {
     start_within = omega (arith, well.start_within, ap length e, length-append buf piece);
-    searched = subst (λ b. IsSearched (within_limit limit b) s) (sym dropped) (searched_more limit (drop start buf) piece s well.searched);
+    searched = subst (λ b. IsSearched (within_limit limit b) s) (sym dropped)
+        (searched_more limit (drop start buf) piece s well.searched);
   }
 
-  pub view_more : (tests : ℕ) → pending_replies limit s tests (drop start after) (length after) ≡ appended (pending_replies limit s tests (drop start buf) (length buf)) piece
+  pub view_more : (tests : ℕ) → pending_replies limit s tests (drop start after) (length after)
+      ≡ appended (pending_replies limit s tests (drop start buf) (length buf)) piece
   view_more tests =
-      let unscanned : length (drop start after) - scan_offset s ≡ length (drop start buf) - scan_offset s + length piece =
-      omega (arith, offset_pending limit (drop start buf) s well.searched, ap length dropped, length-append (drop start buf) piece) in
-      let buffered : length after ≡ length buf + length piece = ap length e ∙ length-append buf piece in
-      λ i. record { bytes = dropped i; limit = limit; tests = tests; unscanned = unscanned i; buffered = buffered i }
+      let unscanned : length (drop start after) - scan_offset s
+      ≡ length (drop start buf) - scan_offset s + length piece =
+      omega (
+        arith,
+        offset_pending limit (drop start buf) s well.searched,
+        ap length dropped,
+        length-append (drop start buf) piece,
+      ) in
+      let buffered : length after ≡ length buf + length piece = ap length e
+      ∙ length-append buf piece in
+      λ i. record {
+        bytes = dropped i;
+        limit = limit;
+        tests = tests;
+        unscanned = unscanned i;
+        buffered = buffered i;
+      }
 
-pub pushed_moved : (p : PendingReplies) (piece : Bytes) → nat_lt (length (p.bytes ++ piece)) (p.buffered - length p.bytes) ≡ true → only_pending (appended p piece) ≡ piece_pushed p piece
+pub pushed_moved : (p : PendingReplies) (piece : Bytes)
+    → nat_lt (length (p.bytes ++ piece)) (p.buffered - length p.bytes) ≡ true
+    → only_pending (appended p piece) ≡ piece_pushed p piece
 pushed_moved p piece h = rw h refl
 
-pub pushed_kept : (p : PendingReplies) (piece : Bytes) → nat_lt (length (p.bytes ++ piece)) (p.buffered - length p.bytes) ≡ false → appended p piece ≡ piece_pushed p piece
+pub pushed_kept : (p : PendingReplies) (piece : Bytes)
+    → nat_lt (length (p.bytes ++ piece)) (p.buffered - length p.bytes) ≡ false
+    → appended p piece ≡ piece_pushed p piece
 pushed_kept p piece h = rw h refl
 
 -- ---- what a search of them means for all
@@ -89,34 +125,48 @@ pushed_kept p piece h = rw h refl
 pub record WithinLimit (limit : Option ℕ) (bytes searched : Bytes) : Type 0 where
   pub is : searched ≡ within_limit limit bytes
 
-pub within : (limit : Option ℕ) (start : ℕ) {buf slice pending searched : Bytes} → slice ≡ buf → pending ≡ drop start slice → searched ≡ within_limit limit pending → WithinLimit limit (drop start buf) searched
-within limit start is back first = record { is = first ∙ ap (within_limit limit) (back ∙ ap (drop start) is) }
+pub within : (limit : Option ℕ) (start : ℕ) {buf slice pending searched : Bytes} → slice ≡ buf
+    → pending ≡ drop start slice → searched ≡ within_limit limit pending
+    → WithinLimit limit (drop start buf) searched
+within limit start is back first =
+    record { is = first ∙ ap (within_limit limit) (back ∙ ap (drop start) is) }
 
 module _ {limit : Option ℕ} {bytes searched : Bytes} (w : WithinLimit limit bytes searched) where
   pub searched_length : length searched ≤ length bytes
   searched_length = rw w.is (no_longer limit bytes)
 
-  pub front_of_all : (code : ℕ) (lines : List Bytes) (used : ℕ) → FrontReply searched code lines used → FrontReply bytes code lines used
+  pub front_of_all : (code : ℕ) (lines : List Bytes) (used : ℕ)
+      → FrontReply searched code lines used → FrontReply bytes code lines used
   front_of_all code lines used f =
-      subst (λ b. FrontReply b code lines used) (ap (λ b. b ++ past_limit limit bytes) w.is ∙ limit_apart limit bytes) (FrontReply-append searched (past_limit limit bytes) code lines used f)
+      subst (λ b. FrontReply b code lines used) (ap (λ b. b ++ past_limit limit bytes) w.is
+      ∙ limit_apart limit bytes)
+      (FrontReply-append searched (past_limit limit bytes) code lines used f)
 
   malformed_of_all : IsMalformed searched → IsMalformed bytes
-  malformed_of_all m = subst IsMalformed (ap (λ b. b ++ past_limit limit bytes) w.is ∙ limit_apart limit bytes) (IsMalformed-append searched (past_limit limit bytes) m)
+  malformed_of_all m =
+      subst IsMalformed (ap (λ b. b ++ past_limit limit bytes) w.is ∙ limit_apart limit bytes)
+      (IsMalformed-append searched (past_limit limit bytes) m)
 
-  pub front_short : (code : ℕ) (lines : List Bytes) (used : ℕ) → FrontReply searched code lines used → IfSome limit (λ limit. used ≤ limit)
-  front_short code lines used f = by_limit limit (subst (λ b. used ≤ length b) w.is (front_within searched code lines used f).1)
+  pub front_short : (code : ℕ) (lines : List Bytes) (used : ℕ) → FrontReply searched code lines used
+      → IfSome limit (λ limit. used ≤ limit)
+  front_short code lines used f =
+      by_limit limit (subst (λ b. used ≤ length b) w.is (front_within searched code lines used f).1)
     where
-      by_limit : (limit : Option ℕ) → used ≤ length (within_limit limit bytes) → IfSome limit (λ limit. used ≤ limit)
+      by_limit : (limit : Option ℕ) → used ≤ length (within_limit limit bytes)
+          → IfSome limit (λ limit. used ≤ limit)
       by_limit None h = tt
       by_limit (Some limit) h = ⊎_elim
           (λ (short : length bytes < limit). omega (arith, h, no_longer (Some limit) bytes))
           (λ (full : limit ≤ length bytes). omega (arith, h, length-take-le limit bytes full))
           (cases_lt (length bytes) limit)
 
-  pub front_searched : (code : ℕ) (lines : List Bytes) (used : ℕ) → FrontReply bytes code lines used → IfSome limit (λ limit. used ≤ limit) → FrontReply searched code lines used
-  front_searched code lines used f short = subst (λ b. FrontReply b code lines used) (sym w.is) (by_limit limit short)
+  pub front_searched : (code : ℕ) (lines : List Bytes) (used : ℕ) → FrontReply bytes code lines used
+      → IfSome limit (λ limit. used ≤ limit) → FrontReply searched code lines used
+  front_searched code lines used f short = subst (λ b. FrontReply b code lines used) (sym w.is)
+      (by_limit limit short)
     where
-      by_limit : (limit : Option ℕ) → IfSome limit (λ limit. used ≤ limit) → FrontReply (within_limit limit bytes) code lines used
+      by_limit : (limit : Option ℕ) → IfSome limit (λ limit. used ≤ limit)
+          → FrontReply (within_limit limit bytes) code lines used
       by_limit None h = f
       by_limit (Some limit) h =
           let whole = flat_map with_crlf f.whole in
@@ -126,7 +176,8 @@ module _ {limit : Option ℕ} {bytes searched : Bytes} (w : WithinLimit limit by
             code_is = f.code_is;
             whole = f.whole;
             rest = take (limit - length whole) f.rest;
-            cut = ap (take limit) f.cut ∙ ap (λ n. take n (whole ++ f.rest)) n ∙ take-append-add whole f.rest (limit - length whole);
+            cut = ap (take limit) f.cut ∙ ap (λ n. take n (whole ++ f.rest)) n
+                ∙ take-append-add whole f.rest (limit - length whole);
             each = f.each;
             reply = f.reply;
             length_is = f.length_is;
@@ -141,32 +192,45 @@ module _ {limit : Option ℕ} {bytes searched : Bytes} (w : WithinLimit limit by
   pub too_long_searched : IsTooLongReply limit bytes → IsPartial searched
   too_long_searched h = subst IsPartial (sym w.is) (by_limit limit h)
     where
-      by_limit : (limit : Option ℕ) → IsTooLongReply limit bytes → IsPartial (within_limit limit bytes)
+      by_limit : (limit : Option ℕ) → IsTooLongReply limit bytes
+          → IsPartial (within_limit limit bytes)
       by_limit None h = absurd h
       by_limit (Some limit) h = h.1
 
-  pub is_too_long : (most : ℕ) → limit ≡ Some most → most ≤ length searched → IsPartial searched → IsTooLongReply limit bytes
+  pub is_too_long : (most : ℕ) → limit ≡ Some most → most ≤ length searched → IsPartial searched
+      → IsTooLongReply limit bytes
   is_too_long most is full p =
       let e' : searched ≡ take most bytes = w.is ∙ ap (λ l. within_limit l bytes) is in
-      subst (λ l. IsTooLongReply l bytes) (sym is) (omega (arith, full, searched_length), subst IsPartial e' p)
+      subst (λ l. IsTooLongReply l bytes) (sym is) (
+        omega (arith, full, searched_length),
+        subst IsPartial e' p,
+      )
 
   pub all_within : IfSome limit (λ most. length searched < most) → searched ≡ bytes
-  all_within short = w.is ∙ by_limit limit (subst (λ b. IfSome limit (λ most. length b < most)) w.is short)
+  all_within short =
+      w.is ∙ by_limit limit (subst (λ b. IfSome limit (λ most. length b < most)) w.is short)
     where
-      by_limit : (limit : Option ℕ) → IfSome limit (λ most. length (within_limit limit bytes) < most) → within_limit limit bytes ≡ bytes
+      by_limit : (limit : Option ℕ)
+          → IfSome limit (λ most. length (within_limit limit bytes) < most)
+          → within_limit limit bytes ≡ bytes
       by_limit None h = refl
       by_limit (Some limit) h = ⊎_elim
           (λ (short : length bytes < limit). take_all limit bytes (omega arith))
-          (λ (full : limit ≤ length bytes). absurd (omega (arith, h, length-take-le limit bytes full)))
+          (λ (full : limit ≤ length bytes). absurd
+          (omega (arith, h, length-take-le limit bytes full)))
           (cases_lt (length bytes) limit)
 
-  pub error_at : (r : ReadReplyError) → ReturnsRefusal searched r → HasError limit bytes (error_of r)
+  pub error_at : (r : ReadReplyError) → ReturnsRefusal searched r
+      → HasError limit bytes (error_of r)
   error_at refusal.Malformed h = subst IsMalformed w.is h
   error_at refusal.OutOfMemory h = subst HasFront w.is h
 
-  pub error_counts : {error : NextReplyError} {tests tests' buffered : ℕ} (s s' : Search) → IsSearched (within_limit limit bytes) s
-      → tests' + scan_offset s ≤ tests + 2 * length searched → scan_offset s ≤ scan_offset s' → tests ≤ tests'
-      → CountsNextReply (pending_replies limit s tests bytes buffered) (Err error) (pending_replies limit s' tests' bytes buffered)
+  pub error_counts : {error : NextReplyError} {tests tests' buffered : ℕ} (s s' : Search)
+      → IsSearched (within_limit limit bytes) s
+      → tests' + scan_offset s ≤ tests + 2 * length searched → scan_offset s ≤ scan_offset s'
+      → tests ≤ tests'
+      → CountsNextReply (pending_replies limit s tests bytes buffered) (Err error)
+      (pending_replies limit s' tests' bytes buffered)
   error_counts s s' well no_more never_back never_fewer = record {
     exact = tt;
     twice = tt;
@@ -177,15 +241,22 @@ module _ {limit : Option ℕ} {bytes searched : Bytes} (w : WithinLimit limit by
 
 -- ---- one read, seen from where the pending bytes begin
 
-module _ (limit : Option ℕ) (s : Search) (buf after : Bytes) (start most : ℕ) (remaining remaining' : Option Bytes) where
-  pub decoder_read : (result : Result ℕ ReceiveError) → IsReplyDecoder limit s buf start → AppendsPiece most buf after remaining remaining' result → IsReplyDecoder limit s after start
+module _ (limit : Option ℕ) (s : Search) (buf after : Bytes) (start most : ℕ)
+    (remaining remaining' : Option Bytes) where
+  pub decoder_read : (result : Result ℕ ReceiveError) → IsReplyDecoder limit s buf start
+      → AppendsPiece most buf after remaining remaining' result → IsReplyDecoder limit s after start
   decoder_read (Ok n) well h = decoder_more limit s buf after h.0 start well h.1
   decoder_read (Err error) well h = subst (λ b. IsReplyDecoder limit s b start) (sym h.0) well
 
-  pub reads_pending : (result : Result ℕ ReceiveError) → IsReplyDecoder limit s buf start → AppendsPiece most buf after remaining remaining' result → (tests : ℕ)
-      → AppendsPending most (pending_replies limit s tests (drop start buf) (length buf)) (pending_replies limit s tests (drop start after) (length after)) remaining remaining' result
-  reads_pending (Ok n) well h tests = (h.0, view_more limit s buf after h.0 start well h.1 tests, h.2, h.3, h.4, h.5)
-  reads_pending (Err error) well h tests = (ap (λ b. pending_replies limit s tests (drop start b) (length b)) h.0, h.1, h.2)
+  pub reads_pending : (result : Result ℕ ReceiveError) → IsReplyDecoder limit s buf start
+      → AppendsPiece most buf after remaining remaining' result → (tests : ℕ)
+      → AppendsPending most (pending_replies limit s tests (drop start buf) (length buf))
+      (pending_replies limit s tests (drop start after) (length after)) remaining remaining'
+      result
+  reads_pending (Ok n) well h tests =
+      (h.0, view_more limit s buf after h.0 start well h.1 tests, h.2, h.3, h.4, h.5)
+  reads_pending (Err error) well h tests =
+      (ap (λ b. pending_replies limit s tests (drop start b) (length b)) h.0, h.1, h.2)
 
 -- ---- two answers that are not the same
 
@@ -195,16 +266,20 @@ ok_is_no_error x y e = cc
 pub error_is_not_ok : {T E : Type 0} (x : T) (y : E) → ◌≡◌ {A = Result T E} (Err y) (Ok x) → ⊥
 error_is_not_ok x y e = cc
 
-pub whole_is_not_partial : {E : Type 0} (code : ℕ) (lines : Vec (Vec ℕ Global) Global) (used : ℕ) → ◌≡◌ {A = Result Front E} (Ok (Whole code lines used)) (Ok Partial) → ⊥
+pub whole_is_not_partial : {E : Type 0} (code : ℕ) (lines : Vec (Vec ℕ Global) Global) (used : ℕ)
+    → ◌≡◌ {A = Result Front E} (Ok (Whole code lines used)) (Ok Partial) → ⊥
 whole_is_not_partial code lines used e = cc
 
-pub malformed_error : (r : ReadReplyError) → ◌≡◌ {A = Result Front ReadReplyError} (Err r) (Err refusal.Malformed) → error_of r ≡ next.Malformed
+pub malformed_error : (r : ReadReplyError)
+    → ◌≡◌ {A = Result Front ReadReplyError} (Err r) (Err refusal.Malformed)
+    → error_of r ≡ next.Malformed
 malformed_error refusal.Malformed e = refl
 malformed_error refusal.OutOfMemory e = absurd (cc)
 
 pub memory_error : (r : ReadReplyError) → r ≡ refusal.OutOfMemory → error_of r ≡ next.OutOfMemory
 memory_error r e = ap error_of e
 
-pub not_too_long : (limit : Option ℕ) (bytes : Bytes) → IfSome limit (λ most. length bytes < most) → ¬ IsTooLongReply limit bytes
+pub not_too_long : (limit : Option ℕ) (bytes : Bytes) → IfSome limit (λ most. length bytes < most)
+    → ¬ IsTooLongReply limit bytes
 not_too_long None bytes short l = l
 not_too_long (Some limit) bytes short l = omega (arith, short, l.0)

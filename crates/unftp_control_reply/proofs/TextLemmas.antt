@@ -11,12 +11,14 @@ module _ {W : Type 0} (took : W → List ℕ → W → Type 0) where
   folds-append w [] v ys u p q = subst (λ (x : W). FoldsTo took x ys u) (sym p) q
   folds-append w (x ∷ xs) v ys u p q = (p.0, p.1, folds-append p.0 xs v ys u p.2 q)
 
-  pub styled_texts-append : (f : Formatter W) (s : List ℕ) (g : Formatter W) (t : List ℕ) (h : Formatter W) →
+  pub styled_texts-append : (f : Formatter W) (s : List ℕ) (g : Formatter W) (t : List ℕ)
+      (h : Formatter W) →
       HasWrittenStyled took f s g → HasWrittenStyled took g t h → HasWrittenStyled took f (s ++ t) h
   styled_texts-append f s g t h p q = record {
     wrote = record {
       parts = p.wrote.parts ++ q.wrote.parts;
-      calls = folds-append f.writer p.wrote.parts g.writer q.wrote.parts h.writer p.wrote.calls q.wrote.calls;
+      calls = folds-append f.writer p.wrote.parts g.writer q.wrote.parts h.writer p.wrote.calls
+          q.wrote.calls;
       whole = concat-append p.wrote.parts q.wrote.parts ∙ (λ i. p.wrote.whole i ++ q.wrote.whole i);
     };
     spec = q.spec ∙ p.spec;

@@ -14,7 +14,8 @@ use Rattle.unftp_control_serve.specs.Engine.{EngineState, after_end_with, bytes_
 pub kept_within : (limit : ℕ) (incomplete : Bytes) → kept_length (Some limit) incomplete ≤ limit
 kept_within limit incomplete = by_length (ltb limit (length incomplete + 1)) refl
   where
-    by_length : (too_long : Bool) → ltb limit (length incomplete + 1) ≡ too_long → (if too_long then 0 else length incomplete) ≤ limit
+    by_length : (too_long : Bool) → ltb limit (length incomplete + 1) ≡ too_long
+        → (if too_long then 0 else length incomplete) ≤ limit
     by_length true long = omega arith
     by_length false short = omega (arith, ltb-false limit (length incomplete + 1) short)
 
@@ -39,11 +40,15 @@ engine_of pending left failed finished = record {
   held = pending.held;
 }
 
--- A piece was pushed to `d`, which made it `p`, and the lines of the run were taken, which made it `q`.
-module _ {S : Type 0} (law : Law S) (s : S) (d p q : Pending) (left : ℕ) (failed finished : Bool) (piece : Bytes) (ended : Bool)
+-- A piece was pushed to `d`, which made it `p`, and the lines of the run were taken, which made it
+-- `q`.
+module _ {S : Type 0} (law : Law S) (s : S) (d p q : Pending) (left : ℕ) (failed finished : Bool)
+    (piece : Bytes) (ended : Bool)
     (push : p ≡ pushed d piece p.buffered) (all_scanned : d.unscanned ≡ 0)
-    (ends : ended ≡ ends_for p.limit law s p.bytes) (pending : q.bytes ≡ unread p.limit law s p.bytes)
-    (unscanned : q.unscanned ≡ (if ended then length q.bytes else 0)) (same_limit : q.limit ≡ p.limit) (same_held : q.held ≡ p.held)
+    (ends : ended ≡ ends_for p.limit law s p.bytes)
+    (pending : q.bytes ≡ unread p.limit law s p.bytes)
+    (unscanned : q.unscanned ≡ (if ended then length q.bytes else 0))
+    (same_limit : q.limit ≡ p.limit) (same_held : q.held ≡ p.held)
     (scanned_once : q.scanned + q.unscanned ≡ p.scanned + p.unscanned) where
   abbrev engine : EngineState
   engine = engine_of d left failed finished
@@ -55,7 +60,8 @@ module _ {S : Type 0} (law : Law S) (s : S) (d p q : Pending) (left : ℕ) (fail
   unread_so = pending ∙ ap (λ pending. unread pending.limit law s pending.bytes) push
 
   after_end_so : after_end_with engine law s piece ≡ (if ended then q.bytes else [])
-  after_end_so = ap (λ end. if end then unread_with engine law s piece else []) (sym ends_so) ∙ ap (λ bytes. if ended then bytes else []) (sym unread_so)
+  after_end_so = ap (λ end. if end then unread_with engine law s piece else []) (sym ends_so)
+      ∙ ap (λ bytes. if ended then bytes else []) (sym unread_so)
 
   limit_so : q.limit ≡ engine.limit
   limit_so = same_limit ∙ ap (λ pending. pending.limit) push
@@ -64,27 +70,62 @@ module _ {S : Type 0} (law : Law S) (s : S) (d p q : Pending) (left : ℕ) (fail
   held_so = same_held ∙ ap (λ pending. pending.held) push
 
   scanned_so : q.scanned + q.unscanned ≡ engine.scanned + length piece
-  scanned_so = omega (arith, scanned_once, all_scanned, ap (λ pending. pending.scanned) push, ap (λ pending. pending.unscanned) push)
+  scanned_so =
+      omega (
+        arith,
+        scanned_once,
+        all_scanned,
+        ap (λ pending. pending.scanned) push,
+        ap (λ pending. pending.unscanned) push,
+      )
 
   -- its parts, one by one
-  fed-so : (incomplete : Bytes) (finished : Bool) (buffered : ℕ) → incomplete ≡ pending_with engine law s piece → finished ≡ ended →
-      q.scanned + length (after_end_with engine law s piece) ≡ engine.scanned + length piece → buffered ≡ kept_length engine.limit incomplete →
-      record { incomplete = incomplete; left = saturating_u64 (length q.bytes); failed = false; finished = finished; scanned = q.scanned; limit = q.limit; buffered = buffered; held = q.held }
+  fed-so : (incomplete : Bytes) (finished : Bool) (buffered : ℕ)
+      → incomplete ≡ pending_with engine law s piece → finished ≡ ended →
+      q.scanned + length (after_end_with engine law s piece) ≡ engine.scanned + length piece
+      → buffered ≡ kept_length engine.limit incomplete →
+      record {
+        incomplete = incomplete;
+        left = saturating_u64 (length q.bytes);
+        failed = false;
+        finished = finished;
+        scanned = q.scanned;
+        limit = q.limit;
+        buffered = buffered;
+        held =
+            q.held;
+      }
       ≡ fed law s engine piece
   fed-so incomplete finished buffered incomplete_is finished_is once kept =
-      let scanned_is : q.scanned ≡ engine.scanned + length piece - length (after_end_with engine law s piece) = omega (arith, once) in
+      let scanned_is : q.scanned ≡ engine.scanned + length piece - length
+      (after_end_with engine law s piece) = omega (arith, once) in
       rw (kept, incomplete_is, unread_so, finished_is ∙ ends_so, scanned_is, limit_so, held_so) refl
 
-  pub fed-ended : ended ≡ true → engine_of (cleared q) (saturating_u64 (length q.bytes)) false true ≡ fed law s engine piece
+  pub fed-ended : ended ≡ true → engine_of (cleared q) (saturating_u64 (length q.bytes)) false true
+      ≡ fed law s engine piece
   fed-ended is =
-      fed-so [] true 0 (ap (λ end. if end then [] else incomplete_line (bytes_with engine piece)) (sym is ∙ ends_so)) (sym is)
-      (omega (arith, scanned_so, unscanned ∙ ap (λ end. if end then length q.bytes else 0) is, ap length (after_end_so ∙ ap (λ end. if end then q.bytes else []) is)))
+      fed-so [] true 0 (ap (λ end. if end then [] else incomplete_line (bytes_with engine piece))
+      (sym is ∙ ends_so)) (sym is)
+      (omega (
+        arith,
+        scanned_so,
+        unscanned ∙ ap (λ end. if end then length q.bytes else 0) is,
+        ap length (after_end_so ∙ ap (λ end. if end then q.bytes else []) is),
+      ))
       (sym (nothing_kept engine.limit))
 
-  pub fed-on : ended ≡ false → q.buffered ≡ kept_length p.limit q.bytes → engine_of q (saturating_u64 (length q.bytes)) false false ≡ fed law s engine piece
+  pub fed-on : ended ≡ false → q.buffered ≡ kept_length p.limit q.bytes
+      → engine_of q (saturating_u64 (length q.bytes)) false false ≡ fed law s engine piece
   fed-on is kept =
       let on : ends_with engine law s piece ≡ false = sym ends_so ∙ is in
       fed-so q.bytes false q.buffered
-      (unread_so ∙ unread-on law engine.limit s (bytes_with engine piece) on ∙ ap (λ end. if end then [] else incomplete_line (bytes_with engine piece)) (sym on)) (sym is)
-      (omega (arith, scanned_so, unscanned ∙ ap (λ end. if end then length q.bytes else 0) is, ap length (after_end_so ∙ ap (λ end. if end then q.bytes else []) is)))
+      (unread_so ∙ unread-on law engine.limit s (bytes_with engine piece) on
+      ∙ ap (λ end. if end then [] else incomplete_line (bytes_with engine piece)) (sym on))
+      (sym is)
+      (omega (
+        arith,
+        scanned_so,
+        unscanned ∙ ap (λ end. if end then length q.bytes else 0) is,
+        ap length (after_end_so ∙ ap (λ end. if end then q.bytes else []) is),
+      ))
       (kept ∙ ap (λ pending. kept_length pending.limit q.bytes) push)

@@ -17,21 +17,28 @@ not_by_outcome (Err InvalidUtf8) = refl
 not_by_outcome (Err InvalidCommand) = refl
 not_by_outcome (Err InvalidEol) = refl
 
-pub refuses_length-exceeds : (limit : Option ℕ) (line : Bytes) → refuses_length (event_for limit line) ≡ exceeds limit (length line)
+pub refuses_length-exceeds : (limit : Option ℕ) (line : Bytes)
+    → refuses_length (event_for limit line) ≡ exceeds limit (length line)
 refuses_length-exceeds limit line = by_length (exceeds limit (length line))
   where
-    by_length : (too_long : Bool) → refuses_length (if too_long then Refused line_too_long else event_of (outcome line)) ≡ too_long
+    by_length : (too_long : Bool)
+        → refuses_length (if too_long then Refused line_too_long else event_of (outcome line))
+        ≡ too_long
     by_length true = refl
     by_length false = not_by_outcome (outcome line)
 
 front : (line after : Bytes) → take (length (line ++ after) - length after) (line ++ after) ≡ line
-front line after = ap (λ n. take n (line ++ after)) (omega (arith, length-append line after)) ∙ take-append_seam line after
+front line after = ap (λ n. take n (line ++ after)) (omega (arith, length-append line after))
+    ∙ take-append_seam line after
 
-pub line_after-taken : (E : Type 0) (before after : Pending) (event : Event) (taken : TakesLine before (event_meant event) after) →
-    line_after {E = E} before (Ok (Some event)) after ≡ (if refuses_length (event_meant event) then [] else taken.takes.line)
+pub line_after-taken : (E : Type 0) (before after : Pending) (event : Event)
+    (taken : TakesLine before (event_meant event) after) →
+    line_after {E = E} before (Ok (Some event)) after
+    ≡ (if refuses_length (event_meant event) then [] else taken.takes.line)
 line_after-taken E before after event taken = by_length (refuses_length (event_meant event))
   where
     by_length : (too_long : Bool) →
-        take (if too_long then 0 else (length before.bytes - length after.bytes)) before.bytes ≡ (if too_long then [] else taken.takes.line)
+        take (if too_long then 0 else (length before.bytes - length after.bytes)) before.bytes
+        ≡ (if too_long then [] else taken.takes.line)
     by_length true = refl
     by_length false = rw taken.takes.whole (front taken.takes.line after.bytes)

@@ -31,12 +31,14 @@ module _ {S : Type 0} (law : Law S) (limit : Option ℕ) (p q : Pending) (s : S)
 
     -- a line: its event, and then the run over the other lines, if the handler isn't done
     abbrev run_after : List FtpEvent
-    run_after = if law.done (law.next s event) then [] else run_of law (law.next s event) (events limit q.bytes)
+    run_after = if law.done (law.next s event) then [] else run_of law (law.next s event)
+        (events limit q.bytes)
 
     first_line-run : run_for limit law s p.bytes ≡ event ∷ run_after
     first_line-run =
         ap (run_for limit law s) first.takes.whole
-        ∙ ap (run_of law s) (ap (map (event_for limit)) (line_first first.takes.line q.bytes first.takes.is_line).0)
+        ∙ ap (run_of law s)
+        (ap (map (event_for limit)) (line_first first.takes.line q.bytes first.takes.is_line).0)
         ∙ ap (λ e. run_of law s (e ∷ events limit q.bytes)) (sym meant)
 
     module _ (s' : S) (next : s' ≡ law.next s event) where
@@ -46,30 +48,42 @@ module _ {S : Type 0} (law : Law S) (limit : Option ℕ) (p q : Pending) (s : S)
       module _ (on : law.done s' ≡ false) where
         first_line-on : run_for limit law s p.bytes ≡ event ∷ run_for limit law s' q.bytes
         first_line-on =
-            ap (run_for limit law s) first.takes.whole ∙ (on-line law limit s s' first.takes.line q.bytes first.takes.is_line next_state on).2
+            ap (run_for limit law s) first.takes.whole
+            ∙ (on-line law limit s s' first.takes.line q.bytes first.takes.is_line next_state
+            on).2
             ∙ ap (λ e. e ∷ run_for limit law s' q.bytes) (sym meant)
 
         first_line-same_end : ends_for limit law s p.bytes ≡ ends_for limit law s' q.bytes
-        first_line-same_end = ap (ends_for limit law s) first.takes.whole ∙ (on-line law limit s s' first.takes.line q.bytes first.takes.is_line next_state on).0
+        first_line-same_end = ap (ends_for limit law s) first.takes.whole
+            ∙ (on-line law limit s s' first.takes.line q.bytes first.takes.is_line next_state on).0
 
         first_line-same_unread : unread limit law s p.bytes ≡ unread limit law s' q.bytes
-        first_line-same_unread = ap (unread limit law s) first.takes.whole ∙ (on-line law limit s s' first.takes.line q.bytes first.takes.is_line next_state on).1
+        first_line-same_unread = ap (unread limit law s) first.takes.whole
+            ∙ (on-line law limit s s' first.takes.line q.bytes first.takes.is_line next_state on).1
 
       module _ (done : law.done s' ≡ true) where
         first_line-last : run_for limit law s p.bytes ≡ event ∷ []
         first_line-last =
-            ap (run_for limit law s) first.takes.whole ∙ (ended-line law limit s s' first.takes.line q.bytes first.takes.is_line next_state done).2
+            ap (run_for limit law s) first.takes.whole
+            ∙ (ended-line law limit s s' first.takes.line q.bytes first.takes.is_line next_state
+            done).2
             ∙ ap (λ e. e ∷ []) (sym meant)
 
         first_line-ends : ends_for limit law s p.bytes ≡ true
-        first_line-ends = ap (ends_for limit law s) first.takes.whole ∙ (ended-line law limit s s' first.takes.line q.bytes first.takes.is_line next_state done).0
+        first_line-ends = ap (ends_for limit law s) first.takes.whole
+            ∙ (ended-line law limit s s' first.takes.line q.bytes first.takes.is_line next_state
+            done).0
 
         first_line-unread : unread limit law s p.bytes ≡ q.bytes
-        first_line-unread = ap (unread limit law s) first.takes.whole ∙ (ended-line law limit s s' first.takes.line q.bytes first.takes.is_line next_state done).1
+        first_line-unread = ap (unread limit law s) first.takes.whole
+            ∙ (ended-line law limit s s' first.takes.line q.bytes first.takes.is_line next_state
+            done).1
 
 -- in the loop over the lines of some bytes: the run over them goes on over those that are pending
-pub record Halfway {S : Type 0} (law : Law S) (limit : Option ℕ) (m n : Snapshot S) (bytes pending : Bytes) : Type 0 where
-  pub answering : Answering law m (run_for limit law m.state bytes) n (run_for limit law n.state pending)
+pub record Halfway {S : Type 0} (law : Law S) (limit : Option ℕ) (m n : Snapshot S)
+    (bytes pending : Bytes) : Type 0 where
+  pub answering : Answering law m (run_for limit law m.state bytes) n
+      (run_for limit law n.state pending)
   pub same_end : ends_for limit law m.state bytes ≡ ends_for limit law n.state pending
   pub same_unread : unread limit law m.state bytes ≡ unread limit law n.state pending
 
@@ -81,10 +95,13 @@ module _ {S : Type 0} (law : Law S) (limit : Option ℕ) (m : Snapshot S) where
     same_unread = refl;
   }
 
-  module _ (n : Snapshot S) (bytes : Bytes) (p q : Pending) (so_far : Halfway law limit m n bytes p.bytes) where
+  module _ (n : Snapshot S) (bytes : Bytes) (p q : Pending)
+      (so_far : Halfway law limit m n bytes p.bytes) where
     module _ (none : HasNoLine p q) where
       pub no_line-answered : AllAnswered law m (run_for limit law m.state bytes) n
-      no_line-answered = Answering-end law m n (run_for limit law m.state bytes) (run_for limit law n.state p.bytes) so_far.answering (no_line-run law limit p q n.state none)
+      no_line-answered = Answering-end law m n (run_for limit law m.state bytes)
+          (run_for limit law n.state p.bytes) so_far.answering
+          (no_line-run law limit p q n.state none)
 
       pub no_line-not_ended : false ≡ ends_for limit law m.state bytes
       no_line-not_ended = sym (so_far.same_end ∙ no_line-ends law limit p q n.state none)
@@ -92,50 +109,70 @@ module _ {S : Type 0} (law : Law S) (limit : Option ℕ) (m : Snapshot S) where
       pub no_line-all_unread : q.bytes ≡ unread limit law m.state bytes
       no_line-all_unread = sym (so_far.same_unread ∙ no_line-unread law limit p q n.state none)
 
-    module _ (same : p.limit ≡ limit) (event : FtpEvent) (first : TakesLine p event q) (k : Snapshot S) where
-      pub line-failed : (error : ServeError) → (done : List FtpEvent) × RunFailed law n (event ∷ []) k error done →
+    module _ (same : p.limit ≡ limit) (event : FtpEvent) (first : TakesLine p event q)
+        (k : Snapshot S) where
+      pub line-failed : (error : ServeError)
+          → (done : List FtpEvent) × RunFailed law n (event ∷ []) k error done →
           (done : List FtpEvent) × RunFailed law m (run_for limit law m.state bytes) k error done
       line-failed error failed =
-          Answering-failed law m n (run_for limit law m.state bytes) k event (run_for limit law n.state p.bytes) (run_after law limit p q n.state same event first) error
+          Answering-failed law m n (run_for limit law m.state bytes) k event
+          (run_for limit law n.state p.bytes) (run_after law limit p q n.state same event first)
+          error
           so_far.answering (first_line-run law limit p q n.state same event first) failed
 
       module _ (all : AllAnswered law n (event ∷ []) k) where
         pub Halfway-next : law.done k.state ≡ false → Halfway law limit m k bytes q.bytes
         Halfway-next on = record {
-          answering = Answering-next law m n (run_for limit law m.state bytes) k event (run_for limit law n.state p.bytes) (run_for limit law k.state q.bytes)
-              so_far.answering (first_line-on law limit p q n.state same event first k.state all.ends_at on) all;
-          same_end = so_far.same_end ∙ first_line-same_end law limit p q n.state same event first k.state all.ends_at on;
-          same_unread = so_far.same_unread ∙ first_line-same_unread law limit p q n.state same event first k.state all.ends_at on;
+          answering = Answering-next law m n (run_for limit law m.state bytes) k event
+              (run_for limit law n.state p.bytes) (run_for limit law k.state q.bytes)
+              so_far.answering
+              (first_line-on law limit p q n.state same event first k.state all.ends_at on) all;
+          same_end = so_far.same_end ∙ first_line-same_end law limit p q n.state same event first
+              k.state all.ends_at on;
+          same_unread = so_far.same_unread ∙ first_line-same_unread law limit p q n.state same event
+              first k.state all.ends_at on;
         }
 
         module _ (done : law.done k.state ≡ true) where
           pub last_line-answered : AllAnswered law m (run_for limit law m.state bytes) k
           last_line-answered =
               Answering-end law m k (run_for limit law m.state bytes) []
-              (Answering-next law m n (run_for limit law m.state bytes) k event (run_for limit law n.state p.bytes) []
-              so_far.answering (first_line-last law limit p q n.state same event first k.state all.ends_at done) all)
+              (Answering-next law m n (run_for limit law m.state bytes) k event
+              (run_for limit law n.state p.bytes) []
+              so_far.answering
+              (first_line-last law limit p q n.state same event first k.state all.ends_at done)
+              all)
               refl
 
           pub last_line-ended : true ≡ ends_for limit law m.state bytes
-          last_line-ended = sym (so_far.same_end ∙ first_line-ends law limit p q n.state same event first k.state all.ends_at done)
+          last_line-ended =
+              sym (so_far.same_end ∙ first_line-ends law limit p q n.state same event first k.state
+              all.ends_at done)
 
           pub last_line-unread : q.bytes ≡ unread limit law m.state bytes
-          last_line-unread = sym (so_far.same_unread ∙ first_line-unread law limit p q n.state same event first k.state all.ends_at done)
+          last_line-unread =
+              sym (so_far.same_unread ∙ first_line-unread law limit p q n.state same event first
+              k.state all.ends_at done)
 
 -- memory runs out for the next line
-module _ {S : Type 0} (law : Law S) (limit : Option ℕ) (m n : Snapshot S) (bytes : Bytes) (p : Pending) (same : p.limit ≡ limit) (h : Halfway law limit m n bytes p.bytes) (v : MayRunOut p) where
+module _ {S : Type 0} (law : Law S) (limit : Option ℕ) (m n : Snapshot S) (bytes : Bytes)
+    (p : Pending) (same : p.limit ≡ limit) (h : Halfway law limit m n bytes p.bytes)
+    (v : MayRunOut p) where
   abbrev next : FtpEvent
   next = event_of (outcome v.line)
 
   same_event : event_for limit v.line ≡ next
-  same_event = ap (λ too_long. if too_long then Refused line_too_long else next) (ap (λ limit. exceeds limit (length v.line)) (sym same) ∙ v.short)
+  same_event = ap (λ too_long. if too_long then Refused line_too_long else next)
+      (ap (λ limit. exceeds limit (length v.line)) (sym same) ∙ v.short)
 
   later-run : run_for limit law n.state p.bytes ≡ run_of law n.state (next ∷ events limit v.after)
   later-run =
       ap (run_for limit law n.state) v.whole
-      ∙ ap (run_of law n.state) (ap (map (event_for limit)) (line_first v.line v.after v.is_line).0 ∙ ap (λ e. e ∷ events limit v.after) same_event)
+      ∙ ap (run_of law n.state) (ap (map (event_for limit)) (line_first v.line v.after v.is_line).0
+      ∙ ap (λ e. e ∷ events limit v.after) same_event)
 
-  pub halfway-no_memory : (done : List FtpEvent) × RunFailed law m (run_for limit law m.state bytes) n OutOfMemory done
+  pub halfway-no_memory : (done : List FtpEvent) × RunFailed law m (run_for limit law m.state bytes)
+      n OutOfMemory done
   halfway-no_memory = (
     h.answering.done,
     record {

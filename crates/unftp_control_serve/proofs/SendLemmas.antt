@@ -9,13 +9,16 @@ pub Appends-nothing : (known : Option Bytes) → Appends known known []
 Appends-nothing None = tt
 Appends-nothing (Some bytes) = sym (append-nil bytes)
 
-pub Appends-then : (a b c : Option Bytes) (text more : Bytes) → Appends a b text → Appends b c more → Appends a c (text ++ more)
+pub Appends-then : (a b c : Option Bytes) (text more : Bytes) → Appends a b text → Appends b c more
+    → Appends a c (text ++ more)
 Appends-then None b c text more p q = tt
 Appends-then (Some a) None c text more p q = absurd p
 Appends-then (Some a) (Some b) None text more p q = q
-Appends-then (Some a) (Some b) (Some c) text more p q = q ∙ ap (λ bytes. bytes ++ more) p ∙ append_assoc a text more
+Appends-then (Some a) (Some b) (Some c) text more p q = q ∙ ap (λ bytes. bytes ++ more) p
+    ∙ append_assoc a text more
 
-pub Flushed-then : (text more part : Bytes) (t u v : ℕ) → Flushed text [] t u → Flushed more part u v → Flushed (text ++ more) part t v
+pub Flushed-then : (text more part : Bytes) (t u v : ℕ) → Flushed text [] t u
+    → Flushed more part u v → Flushed (text ++ more) part t v
 Flushed-then [] [] part t u v p q = omega arith
 Flushed-then [] (b ∷ more) part t u v p q = q
 Flushed-then (a ∷ text) [] part t u v p q = omega arith
@@ -27,8 +30,10 @@ pub record Sending (bytes rest : Bytes) (before now : OutputState) : Type 0 wher
   pub split : bytes ≡ part ++ rest
   pub wrote : Wrote part before now
 
-pub Sending-more : (bytes rest : Bytes) (before now after : OutputState) (n : ℕ) → Sending bytes rest before now → n ≤ length rest →
-    Appends now.written after.written (take n rest) → after.failures ≡ now.failures → after.unflushed ≡ now.unflushed + n →
+pub Sending-more : (bytes rest : Bytes) (before now after : OutputState) (n : ℕ)
+    → Sending bytes rest before now → n ≤ length rest →
+    Appends now.written after.written (take n rest) → after.failures ≡ now.failures
+    → after.unflushed ≡ now.unflushed + n →
     Sending bytes (drop n rest) before after
 Sending-more bytes rest before now after n sending within written kept unflushed =
     let joined : take n rest ++ drop n rest ≡ rest = take-append-drop n rest in
@@ -37,8 +42,10 @@ Sending-more bytes rest before now after n sending within written kept unflushed
       part = sending.part ++ take n rest;
       split = rw (append_assoc, joined) sending.split;
       wrote = record {
-        written = Appends-then before.written now.written after.written sending.part (take n rest) sending.wrote.written written;
+        written = Appends-then before.written now.written after.written sending.part
+            (take n rest) sending.wrote.written written;
         no_failure = kept ∙ sending.wrote.no_failure;
-        unflushed = omega (arith, sending.wrote.unflushed, taken, length-append sending.part (take n rest));
+        unflushed =
+            omega (arith, sending.wrote.unflushed, taken, length-append sending.part (take n rest));
       };
     }

@@ -50,11 +50,13 @@ Consumes-nothing : (known : Option Bytes) → Consumes known known []
 Consumes-nothing None = tt
 Consumes-nothing (Some bytes) = refl
 
-Consumes-then : (a b c : Option Bytes) (read more : Bytes) → Consumes a b read → Consumes b c more → Consumes a c (read ++ more)
+Consumes-then : (a b c : Option Bytes) (read more : Bytes) → Consumes a b read → Consumes b c more
+    → Consumes a c (read ++ more)
 Consumes-then None b c read more p q = tt
 Consumes-then (Some a) None c read more p q = absurd p
 Consumes-then (Some a) (Some b) None read more p q = q
-Consumes-then (Some a) (Some b) (Some c) read more p q = p ∙ ap (λ z. read ++ z) q ∙ sym (append_assoc read more c)
+Consumes-then (Some a) (Some b) (Some c) read more p q = p ∙ ap (λ z. read ++ z) q
+    ∙ sym (append_assoc read more c)
 
 Consumes-kept : (a b c : Option Bytes) (read : Bytes) → Consumes a b read → Keeps b c →
     Consumes a c read
@@ -65,7 +67,8 @@ Consumes-kept (Some a) (Some b) (Some c) read p q = rw q p
 
 -- in the loop of `serve`: all lines of what was read are answered, and the engine holds the
 -- incomplete line
-pub record Serving (limit : Option ℕ) {S : Type 0} (law : Law S) (m n : Snapshot S) (i j : InputState) (engine : EngineState) (turn : ℕ) : Type 0 where
+pub record Serving (limit : Option ℕ) {S : Type 0} (law : Law S) (m n : Snapshot S)
+    (i j : InputState) (engine : EngineState) (turn : ℕ) : Type 0 where
   pub pieces : List Bytes
   pub were_read : WereRead i j pieces []
   pub so_far : Answered limit law m n i j pieces
@@ -80,52 +83,82 @@ pub record Serving (limit : Option ℕ) {S : Type 0} (law : Law S) (m n : Snapsh
   pub held : engine.held ≡ most_held limit [] pieces
 
 -- one read more
-concat-more : (pieces : List Bytes) (piece : Bytes) → concat (pieces ++ piece ∷ []) ≡ concat pieces ++ piece
-concat-more pieces piece = concat-append pieces (piece ∷ []) ∙ ap (λ end. concat pieces ++ end) (append-nil piece)
+concat-more : (pieces : List Bytes) (piece : Bytes) → concat (pieces ++ piece ∷ []) ≡ concat pieces
+    ++ piece
+concat-more pieces piece = concat-append pieces (piece ∷ []) ∙ ap (λ end. concat pieces ++ end)
+    (append-nil piece)
 
-short_pieces : (pieces : List Bytes) (piece : Bytes) → AllByRecursion (λ piece. length piece ≤ 4096) pieces → length piece ≤ 4096 →
+short_pieces : (pieces : List Bytes) (piece : Bytes)
+    → AllByRecursion (λ piece. length piece ≤ 4096) pieces → length piece ≤ 4096 →
     AllByRecursion (λ piece. length piece ≤ 4096) (pieces ++ piece ∷ [])
 short_pieces [] piece each short = (short, tt)
 short_pieces (first ∷ pieces) piece each short = (each.0, short_pieces pieces piece each.1 short)
 
-WereRead-more : (i j k : InputState) (pieces : List Bytes) (piece : Bytes) → WereRead i j pieces [] → Consumes j.remaining k.remaining piece → k.reads ≡ j.reads ++ length piece ∷ []
+WereRead-more : (i j k : InputState) (pieces : List Bytes) (piece : Bytes) → WereRead i j pieces []
+    → Consumes j.remaining k.remaining piece → k.reads ≡ j.reads ++ length piece ∷ []
     → length piece ≤ 4096 → WereRead i k (pieces ++ piece ∷ []) []
 WereRead-more i j k pieces piece so_far consumed reads short = record {
-  consumed = rw (concat-more pieces piece) (Consumes-then i.remaining j.remaining k.remaining (concat pieces) piece so_far.consumed consumed);
-  reads = rw (append-nil, map-append) (reads ∙ ap (λ reads. reads ++ length piece ∷ []) (so_far.reads ∙ ap (λ reads. i.reads ++ reads) (append-nil (map length pieces)))
+  consumed =
+      rw (concat-more pieces piece)
+      (Consumes-then i.remaining j.remaining k.remaining (concat pieces) piece so_far.consumed
+      consumed);
+  reads = rw (append-nil, map-append)
+      (reads ∙ ap (λ reads. reads ++ length piece ∷ [])
+      (so_far.reads ∙ ap (λ reads. i.reads ++ reads) (append-nil (map length pieces)))
       ∙ append_assoc i.reads (map length pieces) (length piece ∷ []));
   short = short_pieces pieces piece so_far.short short;
 }
 
 -- of an input that comes in one piece more
-most_held-more : (limit : Option ℕ) (incomplete : Bytes) (pieces : List Bytes) (piece : Bytes) → Lacks LF incomplete →
+most_held-more : (limit : Option ℕ) (incomplete : Bytes) (pieces : List Bytes) (piece : Bytes)
+    → Lacks LF incomplete →
     most_held limit incomplete (pieces ++ piece ∷ [])
-    ≡ max (most_held limit incomplete pieces) (kept_length limit (incomplete_line (incomplete ++ concat pieces)) + length piece)
+    ≡ max (most_held limit incomplete pieces)
+    (kept_length limit (incomplete_line (incomplete ++ concat pieces)) + length piece)
 most_held-more limit incomplete [] piece unended =
-    let same : incomplete_line (incomplete ++ []) ≡ incomplete = ap incomplete_line (append-nil incomplete) ∙ incomplete_line-incomplete incomplete unended in
+    let same : incomplete_line (incomplete ++ []) ≡ incomplete =
+    ap incomplete_line (append-nil incomplete) ∙ incomplete_line-incomplete incomplete unended
+    in
     rw same (omega arith)
 most_held-more limit incomplete (first ∷ pieces) piece unended =
     let after : Bytes = incomplete_line (incomplete ++ first) in
-    let same : incomplete_line (incomplete ++ (first ++ concat pieces)) ≡ incomplete_line (after ++ concat pieces) =
-    ap incomplete_line (sym (append_assoc incomplete first (concat pieces))) ∙ incomplete_line-append (incomplete ++ first) (concat pieces) in
-    let later = most_held-more limit after pieces piece (Lines-lines_of (incomplete ++ first)).unended in
+    let same : incomplete_line (incomplete ++ (first ++ concat pieces)) ≡ incomplete_line
+    (after ++ concat pieces) =
+    ap incomplete_line (sym (append_assoc incomplete first (concat pieces)))
+    ∙ incomplete_line-append (incomplete ++ first) (concat pieces) in
+    let later =
+    most_held-more limit after pieces piece (Lines-lines_of (incomplete ++ first)).unended in
     rw (same, later) (omega arith)
 
-most_held-piece : (limit : Option ℕ) (pieces : List Bytes) (piece : Bytes) (held buffered : ℕ) → held ≡ most_held limit [] pieces →
-    buffered ≡ kept_length limit (incomplete_line (concat pieces)) → max held (buffered + length piece) ≡ most_held limit [] (pieces ++ piece ∷ [])
-most_held-piece limit pieces piece held buffered most kept = rw (most_held-more limit [] pieces piece tt, most, kept) refl
+most_held-piece : (limit : Option ℕ) (pieces : List Bytes) (piece : Bytes) (held buffered : ℕ)
+    → held ≡ most_held limit [] pieces →
+    buffered ≡ kept_length limit (incomplete_line (concat pieces))
+    → max held (buffered + length piece) ≡ most_held limit [] (pieces ++ piece ∷ [])
+most_held-piece limit pieces piece held buffered most kept =
+    rw (most_held-more limit [] pieces piece tt, most, kept) refl
 
-most_held-within : (limit : ℕ) (incomplete : Bytes) (pieces : List Bytes) → AllByRecursion (λ piece. length piece ≤ 4096) pieces →
+most_held-within : (limit : ℕ) (incomplete : Bytes) (pieces : List Bytes)
+    → AllByRecursion (λ piece. length piece ≤ 4096) pieces →
     most_held (Some limit) incomplete pieces ≤ limit + 4096
 most_held-within limit incomplete [] each = omega arith
 most_held-within limit incomplete (piece ∷ pieces) each =
-    omega (arith, each.0, kept_within limit incomplete, most_held-within limit (incomplete_line (incomplete ++ piece)) pieces each.1)
+    omega (
+      arith,
+      each.0,
+      kept_within limit incomplete,
+      most_held-within limit (incomplete_line (incomplete ++ piece)) pieces each.1,
+    )
 
 module _ (limit : Option ℕ) {S : Type 0} (law : Law S) (m : Snapshot S) (i : InputState) where
-  pub Serving-start : (engine : EngineState) → engine ≡ fresh limit → Serving limit law m m i i engine 0
+  pub Serving-start : (engine : EngineState) → engine ≡ fresh limit
+      → Serving limit law m m i i engine 0
   Serving-start engine new = rw new record {
     pieces = [];
-    were_read = record { consumed = Consumes-nothing i.remaining; reads = sym (append-nil i.reads); short = tt };
+    were_read = record {
+      consumed = Consumes-nothing i.remaining;
+      reads = sym (append-nil i.reads);
+      short = tt;
+    };
     so_far = record { answered = AllAnswered-nothing law m; goes_on = refl };
     running = (refl, refl);
     incomplete = refl;
@@ -138,55 +171,76 @@ module _ (limit : Option ℕ) {S : Type 0} (law : Law S) (m : Snapshot S) (i : I
     held = refl;
   }
 
-  module _ (n : Snapshot S) (j k : InputState) (engine : EngineState) (turn : ℕ) (s : Serving limit law m n i j engine turn) where
+  module _ (n : Snapshot S) (j k : InputState) (engine : EngineState) (turn : ℕ)
+      (s : Serving limit law m n i j engine turn) where
     abbrev bytes_so_far : Bytes
     bytes_so_far = concat s.pieces
 
-    same_incomplete : (piece : Bytes) → incomplete_line (engine.incomplete ++ piece) ≡ incomplete_line (bytes_so_far ++ piece)
-    same_incomplete piece = ap (λ incomplete. incomplete_line (incomplete ++ piece)) s.incomplete ∙ sym (incomplete_line-append bytes_so_far piece)
+    same_incomplete : (piece : Bytes) → incomplete_line (engine.incomplete ++ piece)
+        ≡ incomplete_line (bytes_so_far ++ piece)
+    same_incomplete piece = ap (λ incomplete. incomplete_line (incomplete ++ piece)) s.incomplete
+        ∙ sym (incomplete_line-append bytes_so_far piece)
 
     -- the run over what was read goes on in the engine
     moved : {X : Type 0} (F : Option ℕ → S → Bytes → X) (piece : Bytes) →
-        F limit (last_state law m.state (events limit bytes_so_far)) (incomplete_line bytes_so_far ++ piece) ≡ F engine.limit n.state (bytes_with engine piece)
+        F limit (last_state law m.state (events limit bytes_so_far))
+        (incomplete_line bytes_so_far ++ piece) ≡ F engine.limit n.state
+        (bytes_with engine piece)
     moved F piece =
-        ap (λ l. F l (last_state law m.state (events limit bytes_so_far)) (incomplete_line bytes_so_far ++ piece)) (sym s.limited)
-        ∙ ap (λ state. F engine.limit state (incomplete_line bytes_so_far ++ piece)) (sym s.so_far.answered.ends_at)
+        ap (λ l. F l (last_state law m.state (events limit bytes_so_far))
+        (incomplete_line bytes_so_far ++ piece)) (sym s.limited)
+        ∙ ap (λ state. F engine.limit state (incomplete_line bytes_so_far ++ piece))
+        (sym s.so_far.answered.ends_at)
         ∙ ap (λ incomplete. F engine.limit n.state (incomplete ++ piece)) (sym s.incomplete)
 
     module _ (piece : Bytes) where
-      same_run : run_for limit law m.state (bytes_so_far ++ piece) ≡ events limit bytes_so_far ++ run_with engine law n.state piece
+      same_run : run_for limit law m.state (bytes_so_far ++ piece) ≡ events limit bytes_so_far
+          ++ run_with engine law n.state piece
       same_run =
           (run-append law limit m.state bytes_so_far piece s.so_far.goes_on).0
-          ∙ ap (λ run. events limit bytes_so_far ++ run) (moved (λ l state bytes. run_for l law state bytes) piece)
+          ∙ ap (λ run. events limit bytes_so_far ++ run)
+          (moved (λ l state bytes. run_for l law state bytes) piece)
 
-      same_ends : ends_for limit law m.state (bytes_so_far ++ piece) ≡ ends_with engine law n.state piece
-      same_ends = (run-append law limit m.state bytes_so_far piece s.so_far.goes_on).1 ∙ moved (λ l state bytes. ends_for l law state bytes) piece
+      same_ends : ends_for limit law m.state (bytes_so_far ++ piece)
+          ≡ ends_with engine law n.state piece
+      same_ends = (run-append law limit m.state bytes_so_far piece s.so_far.goes_on).1
+          ∙ moved (λ l state bytes. ends_for l law state bytes) piece
 
-      same_unread : unread limit law m.state (bytes_so_far ++ piece) ≡ unread_with engine law n.state piece
-      same_unread = unread-append law limit m.state bytes_so_far piece s.so_far.goes_on ∙ moved (λ l state bytes. unread l law state bytes) piece
+      same_unread : unread limit law m.state (bytes_so_far ++ piece)
+          ≡ unread_with engine law n.state piece
+      same_unread = unread-append law limit m.state bytes_so_far piece s.so_far.goes_on
+          ∙ moved (λ l state bytes. unread l law state bytes) piece
 
-      same_after_end : after_end limit law m.state (bytes_so_far ++ piece) ≡ after_end_with engine law n.state piece
+      same_after_end : after_end limit law m.state (bytes_so_far ++ piece)
+          ≡ after_end_with engine law n.state piece
       same_after_end =
-          ap (λ ended. if ended then unread limit law m.state (bytes_so_far ++ piece) else []) same_ends
+          ap (λ ended. if ended then unread limit law m.state (bytes_so_far ++ piece) else [])
+          same_ends
           ∙ ap (λ bytes. if ends_with engine law n.state piece then bytes else []) same_unread
 
       whole : concat (s.pieces ++ piece ∷ []) ≡ bytes_so_far ++ piece
       whole = concat-more s.pieces piece
 
       -- a piece that was read
-      module _ (consumed : Consumes j.remaining k.remaining piece) (reads : k.reads ≡ j.reads ++ length piece ∷ []) (short : length piece ≤ 4096) where
+      module _ (consumed : Consumes j.remaining k.remaining piece)
+          (reads : k.reads ≡ j.reads ++ length piece ∷ []) (short : length piece ≤ 4096) where
         were_read_so : WereRead i k (s.pieces ++ piece ∷ []) []
         were_read_so = WereRead-more i j k s.pieces piece s.were_read consumed reads short
 
         -- and whose lines were answered
-        module _ (after : Snapshot S) (kept : k.failures ≡ j.failures) (all : AllAnswered law n (run_with engine law n.state piece) after) where
-          answered_so : AllAnswered law m (events limit bytes_so_far ++ run_with engine law n.state piece) after
-          answered_so = RunEnded-then law m n after (events limit bytes_so_far) s.so_far.answered (run_with engine law n.state piece) [] Finished all
+        module _ (after : Snapshot S) (kept : k.failures ≡ j.failures)
+            (all : AllAnswered law n (run_with engine law n.state piece) after) where
+          answered_so : AllAnswered law m
+              (events limit bytes_so_far ++ run_with engine law n.state piece) after
+          answered_so = RunEnded-then law m n after (events limit bytes_so_far) s.so_far.answered
+              (run_with engine law n.state piece) [] Finished all
 
-          left_so : (fed law n.state engine piece).left ≡ saturating_u64 (length (unread limit law m.state (bytes_so_far ++ piece)))
+          left_so : (fed law n.state engine piece).left
+              ≡ saturating_u64 (length (unread limit law m.state (bytes_so_far ++ piece)))
           left_so = ap (λ bytes. saturating_u64 (length bytes)) (sym same_unread)
 
-          scanned_so : (fed law n.state engine piece).scanned + length (after_end limit law m.state (bytes_so_far ++ piece)) ≡ length (bytes_so_far ++ piece)
+          scanned_so : (fed law n.state engine piece).scanned + length
+              (after_end limit law m.state (bytes_so_far ++ piece)) ≡ length (bytes_so_far ++ piece)
           scanned_so = omega (
             arith,
             s.scanned,
@@ -195,40 +249,61 @@ module _ (limit : Option ℕ) {S : Type 0} (law : Law S) (m : Snapshot S) (i : I
             after_end-within law limit m.state (bytes_so_far ++ piece),
           )
 
-          held_so : (fed law n.state engine piece).held ≡ most_held limit [] (s.pieces ++ piece ∷ [])
-          held_so = most_held-piece limit s.pieces piece engine.held engine.buffered s.held (s.buffered ∙ ap (kept_length limit) s.incomplete)
+          held_so : (fed law n.state engine piece).held ≡ most_held limit []
+              (s.pieces ++ piece ∷ [])
+          held_so = most_held-piece limit s.pieces piece engine.held engine.buffered s.held
+              (s.buffered ∙ ap (kept_length limit) s.incomplete)
 
           -- after which the run goes on
-          pub Serving-next : 0 < length piece → ends_with engine law n.state piece ≡ false → Serving limit law m after i k (fed law n.state engine piece) (turn + 1)
+          pub Serving-next : 0 < length piece → ends_with engine law n.state piece ≡ false
+              → Serving limit law m after i k (fed law n.state engine piece) (turn + 1)
           Serving-next some on =
-              let goes_on : ends_for limit law m.state (bytes_so_far ++ piece) ≡ false = same_ends ∙ on in
-              let all_events = sym (run_of-all law m.state (events limit (bytes_so_far ++ piece)) goes_on) ∙ same_run in
+              let goes_on : ends_for limit law m.state (bytes_so_far ++ piece) ≡ false = same_ends
+              ∙ on in
+              let all_events =
+              sym (run_of-all law m.state (events limit (bytes_so_far ++ piece)) goes_on)
+              ∙ same_run in
               let nothing : after_end limit law m.state (bytes_so_far ++ piece) ≡ [] =
-              ap (λ ended. if ended then unread limit law m.state (bytes_so_far ++ piece) else []) goes_on in
+              ap (λ ended. if ended then unread limit law m.state (bytes_so_far ++ piece) else [])
+              goes_on in
               record {
                 pieces = s.pieces ++ piece ∷ [];
                 were_read = were_read_so;
-                so_far = record { answered = rw (whole, all_events) answered_so; goes_on = rw whole goes_on };
+                so_far = record {
+                  answered = rw (whole, all_events) answered_so;
+                  goes_on = rw whole goes_on;
+                };
                 running = (refl, on);
-                incomplete = rw whole (ap (λ ended. if ended then [] else incomplete_line (bytes_with engine piece)) on ∙ same_incomplete piece);
+                incomplete =
+                    rw whole (ap
+                    (λ ended. if ended then [] else incomplete_line (bytes_with engine piece)) on
+                    ∙ same_incomplete piece);
                 left = rw whole left_so;
                 many = rw whole (omega (arith, s.many, some, length-append bytes_so_far piece));
                 scanned = rw whole (omega (arith, scanned_so, ap length nothing));
                 no_read_failed = kept ∙ s.no_read_failed;
                 limited = s.limited;
-                buffered = ap (λ limit. kept_length limit (pending_with engine law n.state piece)) s.limited;
+                buffered = ap (λ limit. kept_length limit (pending_with engine law n.state piece))
+                    s.limited;
                 held = held_so;
               }
 
           -- with which it ended
-          pub Serving-done : (served : Served) → Reports served (fed law n.state engine piece) → ends_with engine law n.state piece ≡ true → AnsweredAll limit law m after i k served
+          pub Serving-done : (served : Served) → Reports served (fed law n.state engine piece)
+              → ends_with engine law n.state piece ≡ true → AnsweredAll limit law m after i k served
           Serving-done served reports done =
               let is_done : served.done ≡ true = reports.done ∙ done in
               record {
                 pieces = s.pieces ++ piece ∷ [];
                 were_read = rw is_done were_read_so;
                 ended = rw whole (reports.done ∙ sym same_ends);
-                in_last = λ _. record { first = s.pieces; last = piece; whole = refl; goes_on = s.so_far.goes_on };
+                in_last =
+                    λ _. record {
+                      first = s.pieces;
+                      last = piece;
+                      whole = refl;
+                      goes_on = s.so_far.goes_on;
+                    };
                 at_end = λ h. absurd (false≢true (sym h ∙ is_done));
                 answered = rw (whole, same_run) answered_so;
                 left = rw whole (reports.left ∙ left_so);
@@ -239,14 +314,17 @@ module _ (limit : Option ℕ) {S : Type 0} (law : Law S) (m : Snapshot S) (i : I
 
         -- or at which it failed
         module _ (after : Snapshot S) where
-          late : (error : ServeError) → (done : List FtpEvent) × RunFailed law n (run_with engine law n.state piece) after error done → EndedLate limit law m after i k error
+          late : (error : ServeError)
+              → (done : List FtpEvent) × RunFailed law n (run_with engine law n.state piece) after
+              error done → EndedLate limit law m after i k error
           late error (done, failed) = record {
             pieces = s.pieces;
             last = piece;
             were_read = were_read_so;
             done = events limit bytes_so_far ++ done;
             failed = RunFailed-then law m n after (events limit bytes_so_far) s.so_far.answered
-                (run_for limit law m.state (bytes_so_far ++ piece)) (run_with engine law n.state piece) done error same_run failed;
+                (run_for limit law m.state (bytes_so_far ++ piece))
+                (run_with engine law n.state piece) done error same_run failed;
             late = (done, refl);
           }
 
@@ -259,16 +337,21 @@ module _ (limit : Option ℕ) {S : Type 0} (law : Law S) (m : Snapshot S) (i : I
             answered = record { answered = rw same s.so_far.answered; goes_on = s.so_far.goes_on };
           }
 
-          pub Serving-failed : (error : ServeError) → NoRoom error piece n after ⊎ ((done : List FtpEvent) × RunFailed law n (run_with engine law n.state piece) after error done)
+          pub Serving-failed : (error : ServeError) → NoRoom error piece n after
+              ⊎ ((done : List FtpEvent) × RunFailed law n (run_with engine law n.state piece) after
+              error done)
               → ServeEnded limit law m after i k error
           Serving-failed error.OutOfMemory (inl room) = inl (no_room room.1 room.2)
           Serving-failed error.OutOfMemory (inr failed) = inr (late error.OutOfMemory failed)
           Serving-failed (error.Write x) (inr failed) = late (error.Write x) failed
           Serving-failed error.WriteZero (inr failed) = late error.WriteZero failed
           Serving-failed (error.Handler x) (inr failed) = late (error.Handler x) failed
-          Serving-failed (error.Read x) (inr (done, failed)) = absurd (no_cause-read x failed.cause failed.means)
-          Serving-failed error.Stopped (inr (done, failed)) = absurd (no_cause-stopped failed.cause failed.means)
-          Serving-failed error.TooManyReads (inr (done, failed)) = absurd (no_cause-reads failed.cause failed.means)
+          Serving-failed (error.Read x) (inr (done, failed)) =
+              absurd (no_cause-read x failed.cause failed.means)
+          Serving-failed error.Stopped (inr (done, failed)) =
+              absurd (no_cause-stopped failed.cause failed.means)
+          Serving-failed error.TooManyReads (inr (done, failed)) =
+              absurd (no_cause-reads failed.cause failed.means)
           Serving-failed (error.Read x) (inl room) = absurd (cc)
           Serving-failed (error.Write x) (inl room) = absurd (cc)
           Serving-failed error.WriteZero (inl room) = absurd (cc)
@@ -276,38 +359,47 @@ module _ (limit : Option ℕ) {S : Type 0} (law : Law S) (m : Snapshot S) (i : I
           Serving-failed error.Stopped (inl room) = absurd (cc)
           Serving-failed error.TooManyReads (inl room) = absurd (cc)
 
-    pub Serving-all : (piece : Bytes) (count : ℕ) (served : Served) → Reports served engine → count ≡ 0 → k.reads ≡ j.reads ++ count ∷ [] →
+    pub Serving-all : (piece : Bytes) (count : ℕ) (served : Served) → Reports served engine
+        → count ≡ 0 → k.reads ≡ j.reads ++ count ∷ [] →
         Consumes j.remaining k.remaining (take count piece) → IsAtEnd k.remaining →
         k.failures ≡ j.failures → AnsweredAll limit law m n i k served
     Serving-all piece count served reports zero reads given at_end kept =
         let known = Consumes-then i.remaining j.remaining k.remaining bytes_so_far in
         let nothing : Consumes j.remaining k.remaining [] = rw zero at given in
-        let nothing_after : after_end limit law m.state bytes_so_far ≡ [] = ap (λ ended. if ended then unread limit law m.state bytes_so_far else []) s.so_far.goes_on in
+        let nothing_after : after_end limit law m.state bytes_so_far ≡ [] =
+        ap (λ ended. if ended then unread limit law m.state bytes_so_far else [])
+        s.so_far.goes_on in
         let on : served.done ≡ false = reports.done ∙ s.running.1 in
         record {
           pieces = s.pieces;
           were_read = rw on record {
             consumed = rw (sym (append-nil bytes_so_far)) (known [] s.were_read.consumed nothing);
-            reads = (rw zero at reads) ∙ ap (λ reads. reads ++ 0 ∷ []) (s.were_read.reads ∙ ap (λ reads. i.reads ++ reads) (append-nil (map length s.pieces)))
+            reads = (rw zero at reads)
+                ∙ ap (λ reads. reads ++ 0 ∷ [])
+                (s.were_read.reads
+                ∙ ap (λ reads. i.reads ++ reads) (append-nil (map length s.pieces)))
                 ∙ append_assoc i.reads (map length s.pieces) (0 ∷ []);
             short = s.were_read.short;
           };
           ended = on ∙ sym s.so_far.goes_on;
           in_last = λ h. absurd (false≢true (sym on ∙ h));
           at_end = λ _. at_end;
-          answered = rw (run_of-all law m.state (events limit bytes_so_far) s.so_far.goes_on) s.so_far.answered;
+          answered = rw (run_of-all law m.state (events limit bytes_so_far) s.so_far.goes_on)
+              s.so_far.answered;
           left = reports.left ∙ s.left;
           scanned = omega (arith, reports.scanned, s.scanned, ap length nothing_after);
           held = reports.held ∙ s.held;
           no_read_failed = kept ∙ s.no_read_failed;
         }
 
-    pub Serving-read_failed : Keeps j.remaining k.remaining → k.reads ≡ j.reads → k.failures ≡ j.failures + 1 →
+    pub Serving-read_failed : Keeps j.remaining k.remaining → k.reads ≡ j.reads
+        → k.failures ≡ j.failures + 1 →
         ReadFailed limit law m n i k
     Serving-read_failed kept reads counted = record {
       pieces = s.pieces;
       were_read = record {
-        consumed = Consumes-kept i.remaining j.remaining k.remaining bytes_so_far s.were_read.consumed kept;
+        consumed = Consumes-kept i.remaining j.remaining k.remaining bytes_so_far
+            s.were_read.consumed kept;
         reads = reads ∙ s.were_read.reads;
         short = s.were_read.short;
       };
@@ -315,33 +407,46 @@ module _ (limit : Option ℕ) {S : Type 0} (law : Law S) (m : Snapshot S) (i : I
       read_failed = omega (arith, counted, s.no_read_failed);
     }
 
-  pub Serving-too_often : (n : Snapshot S) (j : InputState) (engine : EngineState) (turn : ℕ) → Serving limit law m n i j engine turn → 2 ^ 64 - 1 ≤ turn → ReadTooOften limit law m n i j
-  Serving-too_often n j engine turn s many = record { pieces = s.pieces; were_read = s.were_read; answered = s.so_far; many = omega (arith, many, s.many) }
+  pub Serving-too_often : (n : Snapshot S) (j : InputState) (engine : EngineState) (turn : ℕ)
+      → Serving limit law m n i j engine turn → 2 ^ 64 - 1 ≤ turn → ReadTooOften limit law m n i j
+  Serving-too_often n j engine turn s many =
+      record {
+        pieces = s.pieces;
+        were_read = s.were_read;
+        answered = s.so_far;
+        many = omega (arith, many, s.many);
+      }
 
--- What is so of a known input, of which these bytes were read and `rest` was not, because the run had
--- ended in them.
-module _ (limit : Option ℕ) {S : Type 0} (law : Law S) (s : S) (input read rest : Bytes) (whole : input ≡ read ++ rest) where
+-- What is so of a known input, of which these bytes were read and `rest` was not, because the run
+-- had ended in them.
+module _ (limit : Option ℕ) {S : Type 0} (law : Law S) (s : S) (input read rest : Bytes)
+    (whole : input ≡ read ++ rest) where
   record AlikeRead (done : Bool) : Type 0 where
     same_run : run_for limit law s input ≡ run_for limit law s read
     same_end : done ≡ ends_for limit law s input
     more_unread : unread limit law s input ≡ unread limit law s read ++ rest
     more_after_end : after_end limit law s input ≡ after_end limit law s read ++ rest
 
-  alike_read : (done : Bool) → done ≡ ends_for limit law s read → (done ≡ false → rest ≡ []) → AlikeRead done
+  alike_read : (done : Bool) → done ≡ ends_for limit law s read → (done ≡ false → rest ≡ [])
+      → AlikeRead done
   alike_read true ended at_end =
       let more = run-ended law limit s read rest (sym ended) in
-      let unread_more : unread limit law s input ≡ unread limit law s read ++ rest = ap (unread limit law s) whole ∙ unread-ended law limit s read rest (sym ended) in
+      let unread_more : unread limit law s input ≡ unread limit law s read ++ rest =
+      ap (unread limit law s) whole ∙ unread-ended law limit s read rest (sym ended) in
       record {
         same_run = ap (run_for limit law s) whole ∙ more.0;
         same_end = sym (ap (ends_for limit law s) whole ∙ more.1);
         more_unread = unread_more;
         more_after_end =
-            ap (λ ended. if ended then unread limit law s input else []) (ap (ends_for limit law s) whole ∙ more.1) ∙ unread_more
+            ap (λ ended. if ended then unread limit law s input else [])
+            (ap (ends_for limit law s) whole ∙ more.1) ∙ unread_more
             ∙ ap (λ ended. (if ended then unread limit law s read else []) ++ rest) ended;
       }
   alike_read false on at_end =
-      let same : input ≡ read = whole ∙ ap (λ bytes. read ++ bytes) (at_end refl) ∙ append-nil read in
-      let no_more : (bytes : Bytes) → bytes ≡ bytes ++ rest = λ bytes. sym (ap (λ rest. bytes ++ rest) (at_end refl) ∙ append-nil bytes) in
+      let same : input ≡ read = whole ∙ ap (λ bytes. read ++ bytes) (at_end refl) ∙ append-nil read
+      in
+      let no_more : (bytes : Bytes) → bytes ≡ bytes ++ rest =
+      λ bytes. sym (ap (λ rest. bytes ++ rest) (at_end refl) ∙ append-nil bytes) in
       record {
         same_run = ap (run_for limit law s) same;
         same_end = on ∙ ap (ends_for limit law s) (sym same);
@@ -349,19 +454,26 @@ module _ (limit : Option ℕ) {S : Type 0} (law : Law S) (s : S) (input read res
         more_after_end = ap (after_end limit law s) same ∙ no_more (after_end limit law s read);
       }
 
-known_input : (P : Bytes → Type 0) (a b : Option Bytes) (read : Bytes) (done : Bool) → Consumes a b read → (done ≡ false → IsAtEnd b) →
-    ((input rest : Bytes) → b ≡ Some rest → input ≡ read ++ rest → (done ≡ false → rest ≡ []) → P input) → IfSome a P
+known_input : (P : Bytes → Type 0) (a b : Option Bytes) (read : Bytes) (done : Bool)
+    → Consumes a b read → (done ≡ false → IsAtEnd b) →
+    ((input rest : Bytes) → b ≡ Some rest → input ≡ read ++ rest → (done ≡ false → rest ≡ [])
+    → P input) → IfSome a P
 known_input P None b read done consumed at_end it = tt
 known_input P (Some input) None read done consumed at_end it = absurd consumed
-known_input P (Some input) (Some rest) read done consumed at_end it = it input rest refl consumed at_end
+known_input P (Some input) (Some rest) read done consumed at_end it =
+    it input rest refl consumed at_end
 
-module _ (limit : Option ℕ) {S : Type 0} (law : Law S) (m n : Snapshot S) (i k : InputState) (served : Served) (all : AnsweredAll limit law m n i k served) where
-  module _ (input rest : Bytes) (is : k.remaining ≡ Some rest) (whole : input ≡ (concat all.pieces) ++ rest) (alike : AlikeRead limit law m.state input (concat all.pieces) rest whole served.done) where
+module _ (limit : Option ℕ) {S : Type 0} (law : Law S) (m n : Snapshot S) (i k : InputState)
+    (served : Served) (all : AnsweredAll limit law m n i k served) where
+  module _ (input rest : Bytes) (is : k.remaining ≡ Some rest)
+      (whole : input ≡ (concat all.pieces) ++ rest)
+      (alike : AlikeRead limit law m.state input (concat all.pieces) rest whole served.done) where
     -- where the run ended and nothing is left, what was not read is all that follows its end
     not_read : served.done ≡ true → served.left ≡ 0 → after_end limit law m.state input ≡ rest
     not_read done none =
         let nothing : after_end limit law m.state (concat all.pieces) ≡ [] =
-        ap (λ ended. if ended then unread limit law m.state (concat all.pieces) else []) (sym all.ended ∙ done)
+        ap (λ ended. if ended then unread limit law m.state (concat all.pieces) else [])
+        (sym all.ended ∙ done)
         ∙ no_bytes (unread limit law m.state (concat all.pieces)) (omega (arith, none, all.left)) in
         alike.more_after_end ∙ ap (λ bytes. bytes ++ rest) nothing
       where
@@ -371,7 +483,8 @@ module _ (limit : Option ℕ) {S : Type 0} (law : Law S) (m n : Snapshot S) (i k
 
     serves : Serves limit law m n k.remaining served input
     serves = record {
-      written = subst (λ run. Appends m.output.written n.output.written (text_of law m.state run)) (sym alike.same_run) all.answered.written;
+      written = subst (λ run. Appends m.output.written n.output.written (text_of law m.state run))
+          (sym alike.same_run) all.answered.written;
       state = all.answered.ends_at ∙ ap (last_state law m.state) (sym alike.same_run);
       done = alike.same_end;
       tested = omega (
@@ -384,16 +497,27 @@ module _ (limit : Option ℕ) {S : Type 0} (law : Law S) (m n : Snapshot S) (i k
       );
       rest = rest;
       to_be_read = is;
-      left = all.left ∙ ap saturating_u64 (omega (arith, ap length alike.more_unread, length-append (unread limit law m.state (concat all.pieces)) rest));
+      left = all.left
+          ∙ ap saturating_u64
+          (omega (
+            arith,
+            ap length alike.more_unread,
+            length-append (unread limit law m.state (concat all.pieces)) rest,
+          ));
       not_read = not_read;
       read_back = ReadsBack-encoded (replies law m.state (run_for limit law m.state input));
     }
 
   pub AnsweredAll-serves : IfSome i.remaining (Serves limit law m n k.remaining served)
   AnsweredAll-serves =
-      known_input (Serves limit law m n k.remaining served) i.remaining k.remaining (concat all.pieces) served.done all.were_read.consumed all.at_end
-      (λ input rest is whole end. serves input rest is whole (alike_read limit law m.state input (concat all.pieces) rest whole served.done all.ended end))
+      known_input (Serves limit law m n k.remaining served) i.remaining k.remaining
+      (concat all.pieces) served.done all.were_read.consumed all.at_end
+      (λ input rest is whole end. serves input rest is whole
+      (alike_read limit law m.state input (concat all.pieces) rest whole served.done all.ended
+      end))
 
 -- the bound
-pub AnsweredAll-bound : (limit : ℕ) {S : Type 0} (law : Law S) (m n : Snapshot S) (i k : InputState) (served : Served) → AnsweredAll (Some limit) law m n i k served → served.held ≤ limit + 4096
-AnsweredAll-bound limit law m n i k served all = omega (arith, all.held, most_held-within limit [] all.pieces all.were_read.short)
+pub AnsweredAll-bound : (limit : ℕ) {S : Type 0} (law : Law S) (m n : Snapshot S) (i k : InputState)
+    (served : Served) → AnsweredAll (Some limit) law m n i k served → served.held ≤ limit + 4096
+AnsweredAll-bound limit law m n i k served all =
+    omega (arith, all.held, most_held-within limit [] all.pieces all.were_read.short)

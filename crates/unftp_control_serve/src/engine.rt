@@ -1,10 +1,10 @@
 //! The engine: lines in, replies out.
-ghost use Rattle.std.specs.Prelude.{◌≡◌, ◌≤◌, ◌+◌, ◌∷◌, ◌++◌, [], max, None, Some, IfSome, IfOk, OnOk, OnErr, IsErrOf, IsTrue, MatchResult, is_ok, if◌then◌else◌, true, false, length};
+ghost use Rattle.std.specs.Prelude.{◌≡◌, ◌≤◌, ◌+◌, ◌∷◌, [], max, None, Some, IfSome, IfOk, OnOk, OnErr, IsErrOf, IsTrue, MatchResult, is_ok, if◌then◌else◌, true, false, length};
 ghost use Rattle.unftp_control_defs.specs.FtpReply.{Nothing, encoded};
 ghost use Rattle.unftp_control_defs.specs.Run.{run_for, ends_for, unread};
 ghost use Rattle.unftp_control_reply.specs.ReplyMeaning.{reply_of};
 ghost use Rattle.unftp_control_serve.specs.Endings.{OnWrite, PieceOutcome, RunOutcome, snapshot_with};
-ghost use Rattle.unftp_control_serve.specs.Decoder.{kept_length, saturating_u64};
+ghost use Rattle.unftp_control_serve.specs.Decoder.{kept_length};
 ghost use Rattle.unftp_control_serve.specs.EventMeaning.{event_meant};
 ghost use Rattle.unftp_control_serve.specs.Engine.{FailedAfter, IsRunning, fed, fresh, more_left, run_with};
 

@@ -1,5 +1,5 @@
 //! A whole connection, from the first read to the end of the input.
-ghost use Rattle.std.specs.Prelude.{◌≡◌, ◌≤◌, ◌+◌, None, Some, IfOk, IfErr, IfSome};
+ghost use Rattle.std.specs.Prelude.{◌≤◌, ◌+◌, None, Some, IfOk, IfErr, IfSome};
 ghost use Rattle.unftp_control_serve.specs.Endings.{snapshot_of};
 ghost use Rattle.unftp_control_serve.specs.Service.{AnsweredAll, Reports, ServeEnded, Serves, input_state_of};
 

@@ -17,10 +17,14 @@ use Rattle.unftp_control_write.specs.Forwarding.{IsForwarded}
 
 -- what `strip_suffix` returns
 abbrev pub Strips : Bytes → Bytes → Option (Bor Bytes) → Type 0
-Strips text end r = MatchOption r (pointwise nat_eq (drop (length text - length end) text) end ≡ false)
-    (λ x. (pointwise nat_eq (drop (length text - length end) text) end ≡ true) × (x.now ≡ take (length text - length end) text) × (length x.now + length end ≡ length text))
+Strips text end r =
+    MatchOption r (pointwise nat_eq (drop (length text - length end) text) end ≡ false)
+    (λ x. (pointwise nat_eq (drop (length text - length end) text) end ≡ true)
+    × (x.now ≡ take (length text - length end) text)
+    × (length x.now + length end ≡ length text))
 
-stripped : (text end : Bytes) (r : Option (Bor Bytes)) → Strips text end r → MatchOption r ((front : Bytes) → text ≡ front ++ end → ⊥) (λ x. text ≡ x.now ++ end)
+stripped : (text end : Bytes) (r : Option (Bor Bytes)) → Strips text end r
+    → MatchOption r ((front : Bytes) → text ≡ front ++ end → ⊥) (λ x. text ≡ x.now ++ end)
 stripped text end r strips = strip_suffix_is (λ a b. (eqb-true a b, eq-eqb a b)) text end r strips
 
 Lacks-front : (text more : Bytes) → Lacks LF (text ++ more) → Lacks LF text
@@ -29,31 +33,52 @@ Lacks-front (b ∷ text) more h = (h.0, Lacks-front text more h.1)
 
 module _ (line : Bytes) (body : Bor Bytes) (strips : Strips line (LF ∷ []) (Some body)) where
   pub Lacks-body : IsLine line → Lacks LF body.now
-  Lacks-body l = subst (Lacks LF) (append_cancel_right l.body body.now (LF ∷ []) (sym l.whole ∙ stripped line (LF ∷ []) (Some body) strips)) l.one_end
+  Lacks-body l =
+      subst (Lacks LF)
+      (append_cancel_right l.body body.now (LF ∷ [])
+      (sym l.whole ∙ stripped line (LF ∷ []) (Some body) strips)) l.one_end
 
   pub IsLine-body : Lacks LF body.now → IsLine line
-  IsLine-body lacks = record { body = body.now; whole = stripped line (LF ∷ []) (Some body) strips; one_end = lacks }
+  IsLine-body lacks =
+      record {
+        body = body.now;
+        whole = stripped line (LF ∷ []) (Some body) strips;
+        one_end = lacks;
+      }
 
-  pub text-before_end : (r : Option (Bor Bytes)) → Lacks LF body.now → Strips body.now (CR ∷ []) r → (unwrap_or r body).now ≡ before_end line
-  text-before_end None lacks cr = sym (ap before_end (stripped line (LF ∷ []) (Some body) strips) ∙ before_end-lf body.now lacks (stripped body.now (CR ∷ []) None cr))
+  pub text-before_end : (r : Option (Bor Bytes)) → Lacks LF body.now → Strips body.now (CR ∷ []) r
+      → (unwrap_or r body).now ≡ before_end line
+  text-before_end None lacks cr =
+      sym (ap before_end (stripped line (LF ∷ []) (Some body) strips)
+      ∙ before_end-lf body.now lacks (stripped body.now (CR ∷ []) None cr))
   text-before_end (Some text) lacks cr =
       let cut = stripped body.now (CR ∷ []) (Some text) cr in
-      let whole : line ≡ text.now ++ crlf = stripped line (LF ∷ []) (Some body) strips ∙ ap (λ t. t ++ LF ∷ []) cut ∙ append_assoc text.now (CR ∷ []) (LF ∷ []) in
-      sym (ap before_end whole ∙ before_end-crlf text.now [] (Lacks-front text.now (CR ∷ []) (subst (Lacks LF) cut lacks)))
+      let whole : line ≡ text.now ++ crlf = stripped line (LF ∷ []) (Some body) strips
+      ∙ ap (λ t. t ++ LF ∷ []) cut ∙ append_assoc text.now (CR ∷ []) (LF ∷ []) in
+      sym (ap before_end whole
+      ∙ before_end-crlf text.now []
+      (Lacks-front text.now (CR ∷ []) (subst (Lacks LF) cut lacks)))
 
 -- what was appended is the line that is forwarded
-pub forwarded : (line text verb parameter before after : Bytes) (command : FtpCommand) → IsLine line → text ≡ before_end line → outcome line ≡ Ok command
+pub forwarded : (line text verb parameter before after : Bytes) (command : FtpCommand) → IsLine line
+    → text ≡ before_end line → outcome line ≡ Ok command
     → verb ≡ verb_of text → parameter ≡ parameter_of text
-    → after ≡ before ++ cond (keeps_parameter (upper verb)) (with_parameter (upper verb) parameter ++ crlf) (canonical_line command)
+    → after ≡ before ++ cond (keeps_parameter (upper verb))
+    (with_parameter (upper verb) parameter ++ crlf) (canonical_line command)
     → IsForwarded line before after
-forwarded line text verb parameter before after command is_line text_is means verb_is parameter_is after_is =
+forwarded line text verb parameter before after command is_line text_is means verb_is parameter_is
+    after_is =
     let cut = cut-before_end line (IsLine-ends line is_line) in
     let same_verb : verb ≡ verb_of line = verb_is ∙ ap verb_of text_is ∙ cut.0 in
-    let same_parameter : parameter ≡ before_end (parameter_of line) = parameter_is ∙ ap parameter_of text_is ∙ cut.1 in
+    let same_parameter : parameter ≡ before_end (parameter_of line) = parameter_is
+    ∙ ap parameter_of text_is ∙ cut.1 in
     record {
       command = command;
       means = means;
-      appended = after_is ∙ (λ i. before ++ cond (keeps_parameter (upper (same_verb i))) (with_parameter (upper (same_verb i)) (same_parameter i) ++ crlf) (canonical_line command));
+      appended = after_is
+          ∙ (λ i. before ++ cond (keeps_parameter (upper (same_verb i)))
+          (with_parameter (upper (same_verb i)) (same_parameter i) ++ crlf)
+          (canonical_line command));
       is_line = IsLine-forwarded_line line command is_line means;
       read_back = outcome-forwarded_line line command is_line means;
     }

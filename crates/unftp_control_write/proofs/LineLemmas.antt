@@ -57,26 +57,42 @@ plain_command (rust.Site name arguments) not = not.no_site name arguments refl
 plain_command (rust.Other name arguments) not = not.no_other name arguments refl
 plain_command _ not = tt
 
-plain_has_line : (command : FtpCommand) → IsPlain command → HasTypedFields command → HasLine command ↔ IsOptionalText (name_and_value command).1
+plain_has_line : (command : FtpCommand) → IsPlain command → HasTypedFields command
+    → HasLine command ↔ IsOptionalText (name_and_value command).1
 plain_has_line (User name) plain typed = optional_lacks name
 plain_has_line (Pass password) plain typed = optional_lacks password
 plain_has_line (Acct account) plain typed = optional_lacks account
-plain_has_line (Stru File) plain typed = always (codes "F") (λ e. cc, Lacks-test 10 (codes "F") refl)
-plain_has_line (Stru Record) plain typed = always (codes "R") (λ e. cc, Lacks-test 10 (codes "R") refl)
-plain_has_line (Stru Page) plain typed = always (codes "P") (λ e. cc, Lacks-test 10 (codes "P") refl)
-plain_has_line (Mode Stream) plain typed = always (codes "S") (λ e. cc, Lacks-test 10 (codes "S") refl)
-plain_has_line (Mode Block) plain typed = always (codes "B") (λ e. cc, Lacks-test 10 (codes "B") refl)
-plain_has_line (Mode Compressed) plain typed = always (codes "C") (λ e. cc, Lacks-test 10 (codes "C") refl)
-plain_has_line (Opts (Utf8 true)) plain typed = always (codes "UTF8 ON") (λ e. cc, Lacks-test 10 (codes "UTF8 ON") refl)
-plain_has_line (Opts (Utf8 false)) plain typed = always (codes "UTF8 OFF") (λ e. cc, Lacks-test 10 (codes "UTF8 OFF") refl)
-plain_has_line (Auth Ssl) plain typed = always (codes "SSL") (λ e. cc, Lacks-test 10 (codes "SSL") refl)
-plain_has_line (Auth Tls) plain typed = always (codes "TLS") (λ e. cc, Lacks-test 10 (codes "TLS") refl)
+plain_has_line (Stru File) plain typed =
+    always (codes "F") (λ e. cc, Lacks-test 10 (codes "F") refl)
+plain_has_line (Stru Record) plain typed =
+    always (codes "R") (λ e. cc, Lacks-test 10 (codes "R") refl)
+plain_has_line (Stru Page) plain typed =
+    always (codes "P") (λ e. cc, Lacks-test 10 (codes "P") refl)
+plain_has_line (Mode Stream) plain typed =
+    always (codes "S") (λ e. cc, Lacks-test 10 (codes "S") refl)
+plain_has_line (Mode Block) plain typed =
+    always (codes "B") (λ e. cc, Lacks-test 10 (codes "B") refl)
+plain_has_line (Mode Compressed) plain typed =
+    always (codes "C") (λ e. cc, Lacks-test 10 (codes "C") refl)
+plain_has_line (Opts (Utf8 true)) plain typed =
+    always (codes "UTF8 ON") (λ e. cc, Lacks-test 10 (codes "UTF8 ON") refl)
+plain_has_line (Opts (Utf8 false)) plain typed =
+    always (codes "UTF8 OFF") (λ e. cc, Lacks-test 10 (codes "UTF8 OFF") refl)
+plain_has_line (Auth Ssl) plain typed =
+    always (codes "SSL") (λ e. cc, Lacks-test 10 (codes "SSL") refl)
+plain_has_line (Auth Tls) plain typed =
+    always (codes "TLS") (λ e. cc, Lacks-test 10 (codes "TLS") refl)
 plain_has_line Pbsz plain typed = always (codes "0") (λ e. cc, Lacks-test 10 (codes "0") refl)
-plain_has_line (Prot Clear) plain typed = always (codes "C") (λ e. cc, Lacks-test 10 (codes "C") refl)
-plain_has_line (Prot Safe) plain typed = always (codes "S") (λ e. cc, Lacks-test 10 (codes "S") refl)
-plain_has_line (Prot Confidential) plain typed = always (codes "E") (λ e. cc, Lacks-test 10 (codes "E") refl)
-plain_has_line (Prot Private) plain typed = always (codes "P") (λ e. cc, Lacks-test 10 (codes "P") refl)
-plain_has_line (Rest offset) plain typed = always (decimal offset) (non_empty offset typed, Lacks-decimal LF offset (omega arith))
+plain_has_line (Prot Clear) plain typed =
+    always (codes "C") (λ e. cc, Lacks-test 10 (codes "C") refl)
+plain_has_line (Prot Safe) plain typed =
+    always (codes "S") (λ e. cc, Lacks-test 10 (codes "S") refl)
+plain_has_line (Prot Confidential) plain typed =
+    always (codes "E") (λ e. cc, Lacks-test 10 (codes "E") refl)
+plain_has_line (Prot Private) plain typed =
+    always (codes "P") (λ e. cc, Lacks-test 10 (codes "P") refl)
+plain_has_line (Rest offset) plain typed =
+    always (decimal offset) (non_empty offset typed, Lacks-decimal LF offset (omega arith))
   where
     non_empty : (n : ℕ) → n < 2 ^ 64 → decimal n ≢ []
     non_empty n small e = let some = decimal_nonempty n small in omega (arith, rw e at some)
@@ -85,7 +101,8 @@ plain_has_line (Site name arguments) plain typed = absurd plain
 plain_has_line (Other name arguments) plain typed = absurd plain
 plain_has_line _ plain typed = (λ fits. fits, λ fits. fits)
 
-plain_body : (command : FtpCommand) → IsPlain command → canonical_body command ≡ with_optional (name_and_value command).0 (name_and_value command).1
+plain_body : (command : FtpCommand) → IsPlain command
+    → canonical_body command ≡ with_optional (name_and_value command).0 (name_and_value command).1
 plain_body TypeCode plain = absurd plain
 plain_body Allo plain = absurd plain
 plain_body (Listing options path) plain = absurd plain
@@ -95,23 +112,28 @@ plain_body (Other name arguments) plain = absurd plain
 plain_body _ plain = refl
 
 -- a verb and a value, without a word between them
-pub body_without_word : (verb : Bytes) (value : Option Bytes) → line_body verb None value ≡ with_optional verb value
+pub body_without_word : (verb : Bytes) (value : Option Bytes)
+    → line_body verb None value ≡ with_optional verb value
 body_without_word verb None = append-nil (verb ++ []) ∙ append-nil verb
 body_without_word verb (Some text) = ap (λ word. word ++ SP ∷ escaped text) (append-nil verb)
 
 -- what is returned is the line of a command for which the same holds
-pub returned : {P Q : Type 0} {body other : Bytes} (line : Option Line) → P ↔ Q → body ≡ other → ReturnsLine P body line → ReturnsLine Q other line
+pub returned : {P Q : Type 0} {body other : Bytes} (line : Option Line) → P ↔ Q → body ≡ other
+    → ReturnsLine P body line → ReturnsLine Q other line
 returned None same e h = λ q. h (same.1 q)
 returned (Some line) same e h = (same.0 h.0, h.1 ∙ e)
 
 -- the line that says no more than the parts of the command
-pub plain_line : (command : Command) (parts : Parts) (line : Option Line) → IsNoOther command → HasTypedFields (command_of command) → IsParts (command_of command) parts
-    → ReturnsLine (IsOptionalText (option_map bytes_of parts.value)) (line_body parts.name.now None (option_map bytes_of parts.value)) line
+pub plain_line : (command : Command) (parts : Parts) (line : Option Line) → IsNoOther command
+    → HasTypedFields (command_of command) → IsParts (command_of command) parts
+    → ReturnsLine (IsOptionalText (option_map bytes_of parts.value))
+    (line_body parts.name.now None (option_map bytes_of parts.value)) line
     → ReturnsLine (HasLine (command_of command)) (canonical_body (command_of command)) line
 plain_line command parts line not typed is h =
     let plain = plain_command command not in
     let has = plain_has_line (command_of command) plain typed in
     returned line
     (λ fits. has.1 (rw is.2 at fits), λ has_line. rw is.2 (has.0 has_line))
-    (body_without_word parts.name.now (option_map bytes_of parts.value) ∙ (λ i. with_optional (is.1 i) (is.2 i)) ∙ sym (plain_body (command_of command) plain))
+    (body_without_word parts.name.now (option_map bytes_of parts.value)
+    ∙ (λ i. with_optional (is.1 i) (is.2 i)) ∙ sym (plain_body (command_of command) plain))
     h

@@ -4,7 +4,8 @@ use Rattle.std.proofs.lemmas.Str.{IsUtf8-string_bytes}
 use Rattle.unftp_control_defs.specs.FtpCommand.{IsMaybeUtf8}
 use Rattle.unftp_control_defs.proofs.EscapeLemmas.{escaped-decimal}
 
-pub IsMaybeUtf8-option_map : (text : Option (String Global)) → IsMaybeUtf8 (option_map string_bytes text)
+pub IsMaybeUtf8-option_map : (text : Option (String Global))
+    → IsMaybeUtf8 (option_map string_bytes text)
 IsMaybeUtf8-option_map None = tt
 IsMaybeUtf8-option_map (Some text) = IsUtf8-string_bytes text
 

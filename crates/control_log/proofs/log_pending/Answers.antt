@@ -24,7 +24,8 @@ loop-event-preserved g c =
     let first = rw c.in-Some.is at c.in_ok-event.ensures.takes_next in
     let line = c.line.ensures ∙ (rw c.in-Some.is at c.in_ok-event.ensures.line) in
     record {
-      halfway = Halfway-next _ _ _ _ _ _ before.halfway before.limit _ first _ line _ c.in_ok-written.ensures;
+      halfway = Halfway-next _ _ _ _ _ _ before.halfway before.limit _ first _ line _
+          c.in_ok-written.ensures;
       limit = c.in_ok-event.ensures.limit ∙ before.limit;
     }
 
@@ -33,5 +34,9 @@ returns-in_err-written-clause-logs g c =
     let before = c.loop-event.invariant in
     let first = rw c.in-Some.is at c.in_ok-event.ensures.takes_next in
     let line = c.line.ensures ∙ (rw c.in-Some.is at c.in_ok-event.ensures.line) in
-    let error = err_from_is_err_and c.from_residual-in_err-written.result c.from_residual-in_err-written.ensures.1 in
-    rw (error.1, error.2) (Halfway-failed _ _ _ _ _ _ before.halfway before.limit _ first _ line _ _ c.in_err-written.ensures)
+    let error =
+    err_from_is_err_and c.from_residual-in_err-written.result
+    c.from_residual-in_err-written.ensures.1 in
+    rw (error.1, error.2)
+    (Halfway-failed _ _ _ _ _ _ before.halfway before.limit _ first _ line _ _
+    c.in_err-written.ensures)

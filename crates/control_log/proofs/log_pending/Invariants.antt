@@ -6,7 +6,8 @@ use Rattle.control_log.proofs.log_pending.Given as goal
 abbrev pub invariant-loop-event : goal.invariant-loop-event
 invariant-loop-event g l = record {
   halfway : Halfway l.fn.decoder.limit l.fn.decoder.bytes l.decoder.bytes
-      (output_state_of g.W.Write.contents l.fn.writer) (output_state_of g.W.Write.contents l.writer);
+      (output_state_of g.W.Write.contents l.fn.writer)
+      (output_state_of g.W.Write.contents l.writer);
   limit : l.decoder.limit ≡ l.fn.decoder.limit;
 }
 

@@ -10,21 +10,60 @@ use Rattle.login_demo.proofs.run.Goals as goal
 
 pub returns-clause-written : goal.returns-clause-written
 returns-clause-written g c =
-    simp (c.new-2.ensures.left, c.new-2.ensures.inner, c.new-gate.ensures.accounts, c.new-gate.ensures.stage, c.new-gate.ensures.quit, c.new-gate.ensures.inner, c.new.ensures.session) at (Serves-written _ _ _ _ _ _ c.serve_with_limit.result c.serve_with_limit.ensures.serves)
+    simp (
+      c.new-2.ensures.left,
+      c.new-2.ensures.inner,
+      c.new-gate.ensures.accounts,
+      c.new-gate.ensures.stage,
+      c.new-gate.ensures.quit,
+      c.new-gate.ensures.inner,
+      c.new.ensures.session,
+    ) at
+    (Serves-written _ _ _ _ _ _ c.serve_with_limit.result c.serve_with_limit.ensures.serves)
 
 pub returns-clause-done : goal.returns-clause-done
 returns-clause-done g c =
-    simp (c.new-2.ensures.left, c.new-2.ensures.inner, c.new-gate.ensures.accounts, c.new-gate.ensures.stage, c.new-gate.ensures.quit, c.new-gate.ensures.inner, c.new.ensures.session) at (Serves-done _ _ _ _ _ _ c.serve_with_limit.result c.serve_with_limit.ensures.serves)
+    simp (
+      c.new-2.ensures.left,
+      c.new-2.ensures.inner,
+      c.new-gate.ensures.accounts,
+      c.new-gate.ensures.stage,
+      c.new-gate.ensures.quit,
+      c.new-gate.ensures.inner,
+      c.new.ensures.session,
+    ) at
+    (Serves-done _ _ _ _ _ _ c.serve_with_limit.result c.serve_with_limit.ensures.serves)
 
 pub returns-clause-left : goal.returns-clause-left
 returns-clause-left g c =
-    simp (c.new-2.ensures.left, c.new-2.ensures.inner, c.new-gate.ensures.accounts, c.new-gate.ensures.stage, c.new-gate.ensures.quit, c.new-gate.ensures.inner, c.new.ensures.session) at (Serves-left _ _ _ _ _ _ c.serve_with_limit.result c.serve_with_limit.ensures.serves)
+    simp (
+      c.new-2.ensures.left,
+      c.new-2.ensures.inner,
+      c.new-gate.ensures.accounts,
+      c.new-gate.ensures.stage,
+      c.new-gate.ensures.quit,
+      c.new-gate.ensures.inner,
+      c.new.ensures.session,
+    ) at
+    (Serves-left _ _ _ _ _ _ c.serve_with_limit.result c.serve_with_limit.ensures.serves)
 
 pub returns-clause-members : goal.returns-clause-members
-returns-clause-members g c = some_output c.serve_with_limit.result (g.R.Read.remaining c.args.reader.now.reader)
-    (λ (output : Bytes). Appends (g.W.Write.contents c.args.writer.now.writer) (g.W.Write.contents c.serve_with_limit.new.writer.writer) output)
-    _ _ (limit-members-alone files_law SendsPlainReplies-files (Some 4096) (g.A.Accounts.accepts c.args.accounts) 3 new_session)
-    (simp (c.new-2.ensures.left, c.new-2.ensures.inner, c.new-gate.ensures.accounts, c.new-gate.ensures.stage, c.new-gate.ensures.quit, c.new-gate.ensures.inner, c.new.ensures.session) at (Serves-written _ _ _ _ _ _ c.serve_with_limit.result c.serve_with_limit.ensures.serves))
+returns-clause-members g c =
+    some_output c.serve_with_limit.result (g.R.Read.remaining c.args.reader.now.reader)
+    (λ (output : Bytes). Appends (g.W.Write.contents c.args.writer.now.writer)
+    (g.W.Write.contents c.serve_with_limit.new.writer.writer) output)
+    _ _ (limit-members-alone files_law SendsPlainReplies-files (Some 4096)
+    (g.A.Accounts.accepts c.args.accounts) 3 new_session)
+    (simp (
+      c.new-2.ensures.left,
+      c.new-2.ensures.inner,
+      c.new-gate.ensures.accounts,
+      c.new-gate.ensures.stage,
+      c.new-gate.ensures.quit,
+      c.new-gate.ensures.inner,
+      c.new.ensures.session,
+    ) at
+    (Serves-written _ _ _ _ _ _ c.serve_with_limit.result c.serve_with_limit.ensures.serves))
 
 pub returns-clause-err : goal.returns-clause-err
 returns-clause-err g c = MatchResult-weaker c.serve_with_limit.result

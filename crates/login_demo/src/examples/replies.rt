@@ -1,6 +1,6 @@
 //! What is said of entries, and to commands that ask for none.
 ghost use Rattle.std.specs.Prelude.{◌≡◌, [], ◌∷◌, Some, None, codes};
-ghost use Rattle.unftp_control_defs.specs.Events.{InvalidCommand, LineTooLong, NoSource, OutOfMemory, Parse, UnknownCommand, refusal_fault, line_too_long};
+ghost use Rattle.unftp_control_defs.specs.Events.{InvalidCommand, LineTooLong, NoSource, Parse, UnknownCommand, refusal_fault, line_too_long};
 ghost use Rattle.unftp_control_defs.specs.FtpCommand.{Abor, Acct, Allo, Dele, Epsv, InvalidCommand as NoCommand, InvalidEol, InvalidUtf8, Noop, Other, Pass, Port, Rest, Retr, Rnfr, Rnto, Site, Syst, TypeCode};
 ghost use Rattle.unftp_control_defs.specs.FtpReply.{CodeAndMsg, MultiLine, encoded};
 ghost use Rattle.login_demo.specs.Facts.{entry_facts, mdtm_reply, mlst_reply, pwd_reply, size_reply};

@@ -1,6 +1,6 @@
 //! Sessions: what commands say in a directory, and where they lead.
 ghost use Rattle.std.specs.Prelude.{◌≡◌, ◌++◌, true, false, [], Some, None, codes};
-ghost use Rattle.unftp_control_defs.specs.Events.{Command, Refused, OutOfMemory, InvalidCommand, NoSource, out_of_memory};
+ghost use Rattle.unftp_control_defs.specs.Events.{Refused, InvalidCommand, NoSource, out_of_memory};
 ghost use Rattle.unftp_control_defs.specs.FtpCommand.{Cdup, Cwd, Mdtm, Mlst, Noop, Pass, Pwd, Quit, Size, User};
 ghost use Rattle.unftp_control_defs.specs.FtpReply.{CodeAndMsg};
 ghost use Rattle.unftp_control_defs.specs.Run.{text_for};

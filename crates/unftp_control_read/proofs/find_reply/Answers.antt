@@ -11,7 +11,8 @@ returns-in-Whole c =
     record {
       found = ((finds.0, finds.2), within.0, within.1);
       whole = λ code lines used front.
-          let same = FrontReply-unique bytes c.in-Whole.code code finds.0 lines c.in-Whole.used used finds.2 front in
+          let same = FrontReply-unique bytes c.in-Whole.code code finds.0 lines c.in-Whole.used used
+          finds.2 front in
           (same.0, same.2);
       partial = λ partial. absurd (partial.0 (_, _, _, finds.2));
       malformed = λ malformed. absurd (front_is_formed bytes (_, _, _, finds.2) malformed);
@@ -31,7 +32,8 @@ returns-in-Malformed c =
     let bytes = c.args.bytes.now in
     record {
       found = c.in-Malformed.ensures.finds;
-      whole = λ code lines used front. absurd (front_is_formed bytes (code, lines, used, front) c.in-Malformed.ensures.finds);
+      whole = λ code lines used front. absurd
+          (front_is_formed bytes (code, lines, used, front) c.in-Malformed.ensures.finds);
       partial = λ partial. absurd (partial.1 c.in-Malformed.ensures.finds);
       malformed = λ malformed. refl;
     }

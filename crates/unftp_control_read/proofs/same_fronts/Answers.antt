@@ -13,12 +13,14 @@ same (Whole m ks u) (Whole n ls v) = (
   λ e.
       let parts = and_parts _ _ e in
       let others = and_parts _ _ parts.1 in
-      λ i. whole (eqb-true m n parts.0 i) ((same_lines ks.items ls.items).0 others.0 i) (eqb-true u v others.1 i),
+      λ i. whole (eqb-true m n parts.0 i) ((same_lines ks.items ls.items).0 others.0 i)
+      (eqb-true u v others.1 i),
   λ e.
       let code : m ≡ n = cc in
       let lines : contents ks ≡ contents ls = cc in
       let used : u ≡ v = cc in
-      and_from _ _ (eq-eqb m n code) (and_from _ _ ((same_lines ks.items ls.items).1 lines) (eq-eqb u v used)),
+      and_from _ _ (eq-eqb m n code)
+      (and_from _ _ ((same_lines ks.items ls.items).1 lines) (eq-eqb u v used)),
 )
 same (Whole m ks u) Partial = ((λ e. absurd (false≢true e)), (λ e. absurd (cc)))
 same Partial (Whole n ls v) = ((λ e. absurd (false≢true e)), (λ e. absurd (cc)))

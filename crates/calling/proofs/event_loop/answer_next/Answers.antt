@@ -8,13 +8,20 @@ use Rattle.calling.specs.EventLoop.{left_after}
 pub returns-in_err-event-clause-err : goal.returns-in_err-event-clause-err
 returns-in_err-event-clause-err c =
     let error = err_from_is_err_and c.from_residual.result c.from_residual.ensures.1 in
-    rw error.1 (LeavesUnanswered-kept _ _ _ c.in_err-event.ensures.may_run_out c.in_err-event.ensures.takes_next)
+    rw error.1
+    (LeavesUnanswered-kept _ _ _ c.in_err-event.ensures.may_run_out
+    c.in_err-event.ensures.takes_next)
 
 pub returns-clause-ok : goal.returns-clause-ok
 returns-clause-ok c =
-    let left_so : c.match-turn.decoder.bytes ≡ left_after c.turn_after-turn.result c.next_event.new.self.bytes = elim c.match-turn.branch [
-      | in-Close w ↦ ap (λ decoder. decoder.bytes) (w.decoder-is ∙ w.clear.ensures.cleared) ∙ sym (ap (λ turn. left_after turn c.next_event.new.self.bytes) w.in-Close.is)
-      | in_default-turn w ↦ ap (λ decoder. decoder.bytes) w.decoder-is ∙ sym (left_after-on c.turn_after-turn.result _ w.in_default-turn.not-Close)
+    let left_so : c.match-turn.decoder.bytes ≡ left_after c.turn_after-turn.result
+    c.next_event.new.self.bytes = elim c.match-turn.branch [
+      | in-Close w ↦ ap (λ decoder. decoder.bytes) (w.decoder-is ∙ w.clear.ensures.cleared)
+          ∙ sym (ap (λ turn. left_after turn c.next_event.new.self.bytes) w.in-Close.is)
+      | in_default-turn w ↦ ap (λ decoder. decoder.bytes) w.decoder-is
+          ∙ sym (left_after-on c.turn_after-turn.result _ w.in_default-turn.not-Close)
     ] in
-    AnswersNext-taken _ c.next_event.new.self _ (rw c.in-Some.is at c.in_ok-event.ensures.takes_next) _ _ _ _ c.pending.ensures c.pending-2.ensures
+    AnswersNext-taken _ c.next_event.new.self _
+    (rw c.in-Some.is at c.in_ok-event.ensures.takes_next) _ _ _ _ c.pending.ensures
+    c.pending-2.ensures
     c.in_default-answer.ensures.ok _ _ c.turn_after-turn.ensures left_so

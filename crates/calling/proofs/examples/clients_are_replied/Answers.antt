@@ -9,7 +9,7 @@ use Rattle.calling.specs.Forwarding.{IsReplyInPlace, not_a_line, refused, out_of
 use Rattle.calling.proofs.ExampleLemmas.{lines_of-IsLine}
 use Rattle.calling.proofs.examples.clients_are_replied.Goals as goal
 
--- the third byte of a reply, which tells these apart
+-- the third byte of a reply, in which these differ
 third : Bytes → ℕ
 third (a ∷ b ∷ c ∷ bytes) = c
 third _ = 0

@@ -10,11 +10,14 @@ use Rattle.calling.proofs.examples.lines_are_refused.Goals as goal
 pub returns : goal.returns
 unfolding is_utf8 chars utf8_lossy utf8_valid_len utf8_error_len lib.Utf8.encode
 returns c = record {
-  path = λ refused. let is : outcome (codes "RETR a\r\n") ≡ Ok (Retr (codes "a")) = refl in let not = refused.2 in cc;
+  path = λ refused. let is : outcome (codes "RETR a\r\n") ≡ Ok (Retr (codes "a")) = refl in
+      let not = refused.2 in cc;
   empty_path = (InvalidCommand, refl, refl);
-  other_refusal = λ refused. let is : outcome (codes "RETR\r\n") ≡ Err InvalidCommand = refl in let named = refused.1 in let not = refused.2 in cc;
+  other_refusal = λ refused. let is : outcome (codes "RETR\r\n") ≡ Err InvalidCommand = refl in
+      let named = refused.1 in let not = refused.2 in cc;
   not_utf8 = (InvalidUtf8, refl, refl);
-  cr_nul = λ refused. let is : outcome (codes "USER a\r" ++ 0 ∷ codes "\r\n") ≡ Ok (User (codes "a\r")) = refl in let not = refused.2 in cc;
+  cr_nul = λ refused. let is : outcome (codes "USER a\r" ++ 0 ∷ codes "\r\n")
+      ≡ Ok (User (codes "a\r")) = refl in let not = refused.2 in cc;
   bare_cr = (InvalidEol, refl, refl);
   crlf = λ not. not (Lines-lines_of (codes "NOOP\r\n")).each.0;
   no_lf = λ line. let all = lines_of-IsLine _ line in cc;

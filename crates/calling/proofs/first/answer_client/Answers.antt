@@ -9,6 +9,23 @@ returns-clause-session g c =
     let facts = c.serve_with_limit-served.ensures in
     IsSession-of _ _ _ _ c.serve_with_limit-served.result _ _
     (output_state_of g.W.Write.contents c.serve_with_limit-served.new.writer)
-    (input_state_of g.R.Read.remaining c.serve_with_limit-served.new.reader) _ (rw c.into_inner.ensures refl)
-    (simp (c.new-input.ensures.reader, c.new-input.ensures.reads, c.new-input.ensures.failures, c.new-output.ensures.writer, c.new-output.ensures.failures, c.new-output.ensures.unflushed) at facts.ok)
-    (simp (c.new-input.ensures.reader, c.new-input.ensures.reads, c.new-input.ensures.failures, c.new-output.ensures.writer, c.new-output.ensures.failures, c.new-output.ensures.unflushed) at facts.err)
+    (input_state_of g.R.Read.remaining c.serve_with_limit-served.new.reader) _
+    (rw c.into_inner.ensures refl)
+    (simp (
+      c.new-input.ensures.reader,
+      c.new-input.ensures.reads,
+      c.new-input.ensures.failures,
+      c.new-output.ensures.writer,
+      c.new-output.ensures.failures,
+      c.new-output.ensures.unflushed,
+    )
+    at facts.ok)
+    (simp (
+      c.new-input.ensures.reader,
+      c.new-input.ensures.reads,
+      c.new-input.ensures.failures,
+      c.new-output.ensures.writer,
+      c.new-output.ensures.failures,
+      c.new-output.ensures.unflushed,
+    )
+    at facts.err)

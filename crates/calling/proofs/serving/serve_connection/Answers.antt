@@ -10,5 +10,21 @@ returns-clause-session g c =
     IsSession-of _ _ _ _ c.serve-served.result _ _
     (output_state_of g.W.Write.contents c.serve-served.new.writer)
     (input_state_of g.R.Read.remaining c.serve-served.new.reader) _ (rw c.into_inner.ensures refl)
-    (simp (c.new-input.ensures.reader, c.new-input.ensures.reads, c.new-input.ensures.failures, c.new-output.ensures.writer, c.new-output.ensures.failures, c.new-output.ensures.unflushed) at facts.ok)
-    (simp (c.new-input.ensures.reader, c.new-input.ensures.reads, c.new-input.ensures.failures, c.new-output.ensures.writer, c.new-output.ensures.failures, c.new-output.ensures.unflushed) at facts.err)
+    (simp (
+      c.new-input.ensures.reader,
+      c.new-input.ensures.reads,
+      c.new-input.ensures.failures,
+      c.new-output.ensures.writer,
+      c.new-output.ensures.failures,
+      c.new-output.ensures.unflushed,
+    )
+    at facts.ok)
+    (simp (
+      c.new-input.ensures.reader,
+      c.new-input.ensures.reads,
+      c.new-input.ensures.failures,
+      c.new-output.ensures.writer,
+      c.new-output.ensures.failures,
+      c.new-output.ensures.unflushed,
+    )
+    at facts.err)

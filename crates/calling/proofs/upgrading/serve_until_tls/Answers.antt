@@ -16,7 +16,17 @@ returns-clause-err g c =
         _,
         IsSession-of _ _ _ _ (Err w.in-Err.error) _ _
             (output_state_of g.W.Write.contents c.serve_with_limit-served.new.writer)
-            (input_state_of g.R.Read.remaining c.serve_with_limit-served.new.reader) _ (rw c.into_inner-2.ensures refl) tt
-            (simp (w.in-Err.is, c.new.ensures, c.new-input.ensures.reader, c.new-input.ensures.reads, c.new-input.ensures.failures, c.new-output.ensures.writer, c.new-output.ensures.failures, c.new-output.ensures.unflushed) at facts.err),
+            (input_state_of g.R.Read.remaining c.serve_with_limit-served.new.reader) _
+            (rw c.into_inner-2.ensures refl) tt
+            (simp (
+              w.in-Err.is,
+              c.new.ensures,
+              c.new-input.ensures.reader,
+              c.new-input.ensures.reads,
+              c.new-input.ensures.failures,
+              c.new-output.ensures.writer,
+              c.new-output.ensures.failures,
+              c.new-output.ensures.unflushed,
+            ) at facts.err),
       )
     ]

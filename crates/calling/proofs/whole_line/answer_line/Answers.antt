@@ -7,16 +7,22 @@ use Rattle.calling.proofs.whole_line.answer_line.Goals as goal
 pub returns-in_err-event-clause-err : goal.returns-in_err-event-clause-err
 returns-in_err-event-clause-err c =
     let error = err_from_is_err_and c.from_residual.result c.from_residual.ensures.1 in
-    rw error.1 (refl, LeavesUnanswered-kept _ _ _ c.in_err-event.ensures.may_run_out c.in_err-event.ensures.takes_next)
+    rw error.1 (
+      refl,
+      LeavesUnanswered-kept _ _ _ c.in_err-event.ensures.may_run_out
+          c.in_err-event.ensures.takes_next,
+    )
 
 pub returns-clause-line : goal.returns-clause-line
 returns-clause-line c = λ _. record {
   event = c.in-Some.event;
   takes = rw c.in-Some.is at c.in_ok-event.ensures.takes_next;
   text = c.trim_ascii_end.result.now;
-  is_text = rw (← (rw c.in-Some.is at c.in_ok-event.ensures.line), ← c.line.ensures) c.trim_ascii_end.ensures.value;
+  is_text = rw (← (rw c.in-Some.is at c.in_ok-event.ensures.line), ← c.line.ensures)
+      c.trim_ascii_end.ensures.value;
   asked = c.asked_by-asked.result;
   asks = c.asked_by-asked.ensures;
   modes_are = c.agree-code.ensures.modes;
-  appended = c.in_ok-reply.ensures.ok ∙ ap (λ reply. c.args.out.now.items ++ encoded reply) c.agree-code.ensures.reply;
+  appended = c.in_ok-reply.ensures.ok ∙ ap (λ reply. c.args.out.now.items ++ encoded reply)
+      c.agree-code.ensures.reply;
 }

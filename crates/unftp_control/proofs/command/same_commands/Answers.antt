@@ -30,7 +30,8 @@ field {r = r} f decides injective = Decides-like r (λ e. ap f e) injective deci
 fields : {A B C : Type 0} {x y : A} {z w : B} {r s : Bool} (f : A → B → C) → Decides r (x ≡ y) →
     Decides s (z ≡ w) → (f x z ≡ f y w → (x ≡ y) × (z ≡ w)) → Decides (r && s) (f x z ≡ f y w)
 fields {r = r} {s = s} f first second injective =
-    Decides-like (r && s) (λ p. let e = p.0 in let g = p.1 in cc) injective (Decides-and r s first second)
+    Decides-like (r && s) (λ p. let e = p.0 in let g = p.1 in cc) injective
+    (Decides-and r s first second)
 
 same : {A : Type 0} {x : A} → Decides true (x ≡ x)
 same = (λ _. refl, λ _. refl)
@@ -111,8 +112,10 @@ returns c (rust.Acct s) (rust.Acct t) = field spec.Acct (bytes_eq-Decides s t) (
 returns c rust.Syst rust.Syst = same
 returns c (rust.Stat s) (rust.Stat t) = field spec.Stat (maybe_bytes-Decides s t) (λ e. cc)
 returns c rust.TypeCode rust.TypeCode = same
-returns c (rust.Stru s) (rust.Stru t) = field spec.Stru (choice-Decides StruParam.the_type tt s t) (λ e. cc)
-returns c (rust.Mode s) (rust.Mode t) = field spec.Mode (choice-Decides ModeParam.the_type tt s t) (λ e. cc)
+returns c (rust.Stru s) (rust.Stru t) = field spec.Stru (choice-Decides StruParam.the_type tt s t)
+    (λ e. cc)
+returns c (rust.Mode s) (rust.Mode t) = field spec.Mode (choice-Decides ModeParam.the_type tt s t)
+    (λ e. cc)
 returns c rust.Help rust.Help = same
 returns c rust.Noop rust.Noop = same
 returns c rust.Pasv rust.Pasv = same
@@ -121,7 +124,8 @@ returns c (rust.Port s) (rust.Port t) = field spec.Port (text-Decides s t) (λ e
 returns c (rust.Retr s) (rust.Retr t) = field spec.Retr (text-Decides s t) (λ e. cc)
 returns c (rust.Stor s) (rust.Stor t) = field spec.Stor (text-Decides s t) (λ e. cc)
 returns c (rust.Appe s) (rust.Appe t) = field spec.Appe (text-Decides s t) (λ e. cc)
-returns c (rust.List s u) (rust.List t w) = fields spec.List (path-Decides s t) (path-Decides u w) (λ e. (cc, cc))
+returns c (rust.List s u) (rust.List t w) = fields spec.List (path-Decides s t) (path-Decides u w)
+    (λ e. (cc, cc))
 returns c (rust.Nlst s) (rust.Nlst t) = field spec.Nlst (path-Decides s t) (λ e. cc)
 returns c (rust.Mlst s) (rust.Mlst t) = field spec.Mlst (path-Decides s t) (λ e. cc)
 returns c (rust.Mlsd s) (rust.Mlsd t) = field spec.Mlsd (path-Decides s t) (λ e. cc)
@@ -139,14 +143,21 @@ returns c rust.Abor rust.Abor = same
 returns c rust.Stou rust.Stou = same
 returns c (rust.Rnfr s) (rust.Rnfr t) = field spec.Rnfr (text-Decides s t) (λ e. cc)
 returns c (rust.Rnto s) (rust.Rnto t) = field spec.Rnto (text-Decides s t) (λ e. cc)
-returns c (rust.Auth s) (rust.Auth t) = field spec.Auth (choice-Decides AuthParam.the_type tt s t) (λ e. cc)
+returns c (rust.Auth s) (rust.Auth t) = field spec.Auth (choice-Decides AuthParam.the_type tt s t)
+    (λ e. cc)
 returns c rust.Ccc rust.Ccc = same
 returns c rust.Pbsz rust.Pbsz = same
-returns c (rust.Prot s) (rust.Prot t) = field spec.Prot (choice-Decides ProtParam.the_type tt s t) (λ e. cc)
+returns c (rust.Prot s) (rust.Prot t) = field spec.Prot (choice-Decides ProtParam.the_type tt s t)
+    (λ e. cc)
 returns c (rust.Size s) (rust.Size t) = field spec.Size (text-Decides s t) (λ e. cc)
 returns c (rust.Rest s) (rust.Rest t) = field spec.Rest (Decides-eqb s t) (λ e. cc)
 returns c (rust.Mdtm s) (rust.Mdtm t) = field spec.Mdtm (text-Decides s t) (λ e. cc)
 returns c (rust.Md5 s) (rust.Md5 t) = field spec.Md5 (text-Decides s t) (λ e. cc)
-returns c (rust.Site s u) (rust.Site t w) = fields spec.Site (text-Decides s t) (text-Decides u w) (λ e. (cc, cc))
-returns c (rust.Other s u) (rust.Other t w) = fields spec.Other (text-Decides s t) (text-Decides u w) (λ e. (cc, cc))
-returns c a b = (λ h. absurd (false≢true h), λ e. absurd (true≢false (ap (λ x. variant x == variant (command_of a)) e)))
+returns c (rust.Site s u) (rust.Site t w) = fields spec.Site (text-Decides s t) (text-Decides u w)
+    (λ e. (cc, cc))
+returns c (rust.Other s u) (rust.Other t w) =
+    fields spec.Other (text-Decides s t) (text-Decides u w) (λ e. (cc, cc))
+returns c a b = (
+  λ h. absurd (false≢true h),
+  λ e. absurd (true≢false (ap (λ x. variant x == variant (command_of a)) e)),
+)

@@ -6,7 +6,8 @@ use Rattle.unftp_control.proofs.laws.never_done.Goals as goal
 pub returns : goal.returns
 returns g c = record {
   run = λ never limit s input.
-      run_of-all g.H.Handler.law s (events limit input) (never_ends g.H.Handler.law never s (events limit input));
+      run_of-all g.H.Handler.law s (events limit input)
+      (never_ends g.H.Handler.law never s (events limit input));
   end = λ never limit s input. never_ends g.H.Handler.law never s (events limit input);
   unread = λ never limit s input.
       let on = never_ends g.H.Handler.law never s (events limit input) in

@@ -4,4 +4,5 @@ use Rattle.unftp_control_defs.proofs.PathLemmas.{path_of-ListPath, ListPath-path
 use Rattle.unftp_control.proofs.laws.one_path.Goals as goal
 
 pub returns : goal.returns
-returns c = λ text path. (path_of-ListPath text path, λ e. subst (ListPath text) e (ListPath-path_of text))
+returns c =
+    λ text path. (path_of-ListPath text path, λ e. subst (ListPath text) e (ListPath-path_of text))

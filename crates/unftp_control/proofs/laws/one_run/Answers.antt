@@ -7,8 +7,13 @@ use Rattle.unftp_control.proofs.laws.one_run.Goals as goal
 
 pub returns : goal.returns
 returns g c = record {
-  nowhere = λ s events. (ends_nowhere-ends g.H.Handler.law s events, ends_nowhere-not_ended g.H.Handler.law s events);
-  all = λ s events on. run_of-all g.H.Handler.law s events (ends_nowhere-ends g.H.Handler.law s events on);
+  nowhere =
+      λ s events. (
+        ends_nowhere-ends g.H.Handler.law s events,
+        ends_nowhere-not_ended g.H.Handler.law s events,
+      );
+  all = λ s events on. run_of-all g.H.Handler.law s events
+      (ends_nowhere-ends g.H.Handler.law s events on);
   ended = λ s events first event. ends_after-run g.H.Handler.law s events first event;
   found = λ s events. ends-found g.H.Handler.law s events;
   unread = λ limit s input. lines-then-after (length (run_for limit g.H.Handler.law s input)) input;

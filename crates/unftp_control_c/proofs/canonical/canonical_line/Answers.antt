@@ -9,20 +9,23 @@ use Rattle.unftp_control_c.proofs.canonical.canonical_line.Goals as goal
 
 pub returns-in-Err-clause-canonical : goal.returns-in-Err-clause-canonical
 returns-in-Err-clause-canonical c =
-    subst (λ status. IsCanonical c.args.line.now (Err status)) (sym (c.kind_status.ensures ∙ ap kind_status c.kind.ensures))
+    subst (λ status. IsCanonical c.args.line.now (Err status))
+    (sym (c.kind_status.ensures ∙ ap kind_status c.kind.ensures))
     (refused_line c.args.line.now c.in-Err.refused c.in-Err.ensures.answer)
 
 pub returns-in-Ok-written-clause-canonical : goal.returns-in-Ok-written-clause-canonical
 returns-in-Ok-written-clause-canonical c =
     let command = command_of c.in-Ok.command in
     let wrote = c.in-Ok-written.ensures in
-    canonical command c.in-Ok.ensures.answer (HasLine-outcome (canonical_line command) command wrote.line wrote.read_back)
+    canonical command c.in-Ok.ensures.answer
+    (HasLine-outcome (canonical_line command) command wrote.line wrote.read_back)
     (rw (wrote.ok, c.new-buf.ensures.items) refl)
 
 pub returns-in-Err-written-clause-canonical : goal.returns-in-Err-written-clause-canonical
 returns-in-Err-written-clause-canonical c =
     subst (λ status. IsCanonical c.args.line.now (Err status)) (sym c.line_status.ensures)
-    (unwritten_line c.args.line.now (command_of c.in-Ok.command) c.in-Err-written.error c.in-Ok.ensures.answer (λ has_line. c.in-Err-written.ensures.has_line has_line))
+    (unwritten_line c.args.line.now (command_of c.in-Ok.command) c.in-Err-written.error
+    c.in-Ok.ensures.answer (λ has_line. c.in-Err-written.ensures.has_line has_line))
 
 pub returns-in-Err-clause-memory : goal.returns-in-Err-clause-memory
 returns-in-Err-clause-memory c = λ out.
@@ -30,7 +33,9 @@ returns-in-Err-clause-memory c = λ out.
     refused_memory c.args.line.now c.in-Err.refused c.in-Err.ensures.memory (sym status ∙ cc)
 
 pub returns-in-Ok-written-clause-memory : goal.returns-in-Ok-written-clause-memory
-returns-in-Ok-written-clause-memory c = λ out. command_memory c.args.line.now (command_of c.in-Ok.command) c.in-Ok.ensures.answer
+returns-in-Ok-written-clause-memory c =
+    λ out. command_memory c.args.line.now (command_of c.in-Ok.command) c.in-Ok.ensures.answer
 
 pub returns-in-Err-written-clause-memory : goal.returns-in-Err-written-clause-memory
-returns-in-Err-written-clause-memory c = λ out. command_memory c.args.line.now (command_of c.in-Ok.command) c.in-Ok.ensures.answer
+returns-in-Err-written-clause-memory c =
+    λ out. command_memory c.args.line.now (command_of c.in-Ok.command) c.in-Ok.ensures.answer

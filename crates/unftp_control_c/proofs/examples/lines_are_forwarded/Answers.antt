@@ -11,7 +11,7 @@ use Rattle.unftp_control_c.specs.Areas.{Made}
 use Rattle.unftp_control_c.specs.declared.status.Status.TheVariants as status
 use Rattle.unftp_control_c.proofs.examples.lines_are_forwarded.Goals as goal
 
--- the sixth byte of a line, which tells these apart
+-- the sixth byte of a line, in which these differ
 sixth : Bytes → ℕ
 sixth (a ∷ b ∷ c ∷ d ∷ e ∷ f ∷ bytes) = f
 sixth _ = 0
@@ -24,7 +24,12 @@ kept command = refl
 
 other_parameter : IsForwardedLine (codes "type a\n") (Ok (codes "TYPE I\r\n")) → ⊥
 unfolding sixth
-other_parameter (forwarded command read e) = omega (arith, ap sixth (same_Ok (codes "TYPE I\r\n") (forwarded_line (codes "type a\n") command) e ∙ kept command))
+other_parameter (forwarded command read e) =
+    omega (
+      arith,
+      ap sixth (same_Ok (codes "TYPE I\r\n") (forwarded_line (codes "type a\n") command) e
+          ∙ kept command),
+    )
 other_parameter (not_a_line not e) = cc
 other_parameter (refused refusal read e) = cc
 other_parameter (out_of_memory is_text e) = cc

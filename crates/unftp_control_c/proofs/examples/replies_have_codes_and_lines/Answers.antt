@@ -7,4 +7,5 @@ use Rattle.unftp_control_c.proofs.examples.replies_have_codes_and_lines.Goals as
 
 pub returns-clause-code_without_a_name : goal.returns-clause-code_without_a_name
 unfolding digits
-returns-clause-code_without_a_name c = encodes (omega arith, omega arith) IsUtf8-nil (CodeAndMsg 299 []) (inl (tt, refl)) refl
+returns-clause-code_without_a_name c = encodes (omega arith, omega arith) IsUtf8-nil
+    (CodeAndMsg 299 []) (inl (tt, refl)) refl

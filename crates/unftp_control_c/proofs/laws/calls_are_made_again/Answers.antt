@@ -48,7 +48,8 @@ module _ (caller : Caller) (area wider : Bytes) (left again : Left) where
   in_time (inl (no_room k command ok at short read e)) is wide (inr ran_out) none =
       ap (λ l. l.result) ran_out.1
   in_time (inl (no_room k command ok at short read e)) is wide (inl next) none =
-      let room = room_enough command wider (wide ∙ ap (λ l. l.line.name_len + l.line.value_len) e) in
+      let room = room_enough command wider (wide ∙ ap (λ l. l.line.name_len + l.line.value_len) e)
+      in
       let answers : again.result ≡ command_number command =
       ap (λ l. l.result) next ∙ rw (ok, at, short, read, room) refl in
       absurd (let some = sym (command_gives command) ∙ ap gives_none (sym answers) ∙ none in cc)
@@ -59,5 +60,6 @@ returns c = record {
   kept = λ caller area left leaves is.
       nothing_lost caller area left (left_so (call_of caller area) left leaves) is;
   room = λ caller area wider left again leaves is wide later none.
-      in_time caller area wider left again (left_so (call_of caller area) left leaves) is wide later none;
+      in_time caller area wider left again (left_so (call_of caller area) left leaves) is wide later
+      none;
 }

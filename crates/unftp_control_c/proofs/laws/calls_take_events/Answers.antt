@@ -29,7 +29,8 @@ use Rattle.unftp_control_c.proofs.laws.calls_take_events.Goals as goal
 -- at the start of the pending bytes. Else none were.
 abbrev IfSkipping : ℕ → Option ℕ → ℕ → Bytes → Type 0
 IfSkipping zero limit offset dropped = dropped ≡ []
-IfSkipping (suc zero) limit offset dropped = (exceeds limit (length dropped + 1) ≡ true) × (offset ≡ 0)
+IfSkipping (suc zero) limit offset dropped = (exceeds limit (length dropped + 1) ≡ true)
+    × (offset ≡ 0)
 IfSkipping _ limit offset dropped = ⊥
 
 -- What a caller keeps, after these bytes of the first line were dropped: no line feed is before the
@@ -46,7 +47,8 @@ still_long : (skipping : ℕ) (limit : Option ℕ) (offset : ℕ) (dropped : Byt
     → IfSkipping skipping limit offset dropped → (skipping == 1 || exceeds limit m) ≡ true
     → length dropped + 1 ≤ n → m ≤ n → exceeds limit n ≡ true
 still_long zero limit offset dropped m n well h some more = longer limit m n h more
-still_long (suc zero) limit offset dropped m n well h some more = longer limit (length dropped + 1) n well.0 some
+still_long (suc zero) limit offset dropped m n well h some more =
+    longer limit (length dropped + 1) n well.0 some
 still_long (suc (suc skipping)) limit offset dropped m n well h some more = absurd well
 
 -- such a call is valid
@@ -56,7 +58,8 @@ valid_place : (connection : Connection) (limit : Option ℕ) (dropped : Bytes) (
 valid_place connection limit dropped n within well = by_skipping connection.skipping well
   where
     by_skipping : (skipping : ℕ) → IfSkipping skipping limit connection.offset dropped
-        → (nat_le connection.offset n && (skipping == 0 || (skipping == 1 && connection.offset == 0))) ≡ true
+        → (nat_le connection.offset n
+        && (skipping == 0 || (skipping == 1 && connection.offset == 0))) ≡ true
     by_skipping zero well = rw (le-leb connection.offset n within) refl
     by_skipping (suc zero) well = rw (le-leb connection.offset n within, well.1) refl
     by_skipping (suc (suc skipping)) well = absurd well
@@ -78,7 +81,8 @@ kept_from_start limit now limited at_start off = record {
 }
 
 -- more bytes at the end
-kept_with_piece : (limit : Option ℕ) (now : Caller) (dropped piece : Bytes) → IsKept limit now dropped → IsKept limit (after_piece now piece) dropped
+kept_with_piece : (limit : Option ℕ) (now : Caller) (dropped piece : Bytes)
+    → IsKept limit now dropped → IsKept limit (after_piece now piece) dropped
 kept_with_piece limit now dropped piece kept = record {
   limited = kept.limited;
   within = omega (arith, kept.within, length-append now.bytes piece);
@@ -87,17 +91,27 @@ kept_with_piece limit now dropped piece kept = record {
   dropped_well = kept.dropped_well;
 }
 
--- What a step does: nothing is given, and the bytes from the first line on are those from before; or the first line's event is.
+-- What a step does: nothing is given, and the bytes from the first line on are those from before;
+-- or the first line's event is.
 data Does (limit : Option ℕ) (before : Bytes) (left : Left) (after : Caller) : Type 0 where
-  waits : (dropped : Bytes) → given_by left ≡ [] → IsKept limit after dropped → dropped ++ after.bytes ≡ before → Does limit before left after
-  takes : (event : FtpEvent) → given_by left ≡ given_for event ∷ [] → IsKept limit after [] → TakesEvent limit before event after.bytes → Does limit before left after
+  waits : (dropped : Bytes) → given_by left ≡ [] → IsKept limit after dropped
+      → dropped ++ after.bytes ≡ before → Does limit before left after
+  takes : (event : FtpEvent) → given_by left ≡ given_for event ∷ [] → IsKept limit after []
+      → TakesEvent limit before event after.bytes → Does limit before left after
 
-module _ (limit : Option ℕ) (now : Caller) (dropped : Bytes) (kept_so : IsKept limit now dropped) (area : Bytes) where
+module _ (limit : Option ℕ) (now : Caller) (dropped : Bytes) (kept_so : IsKept limit now dropped)
+    (area : Bytes) where
   abbrev call : Call
   call = call_of now area
 
-  next_by : (o : Option ℕ) → line_feed_from now.bytes now.connection.offset ≡ o → next_of call ≡ by_line_feed call o
-  next_by o e = rw (valid_place now.connection limit dropped (length now.bytes) kept_so.within kept_so.dropped_well, e) refl
+  next_by : (o : Option ℕ) → line_feed_from now.bytes now.connection.offset ≡ o
+      → next_of call ≡ by_line_feed call o
+  next_by o e =
+      rw (
+        valid_place now.connection limit dropped (length now.bytes) kept_so.within
+            kept_so.dropped_well,
+        e,
+      ) refl
 
   start : NoLineFeed now.bytes 0 now.connection.offset
   start = none_below now.connection.offset now.bytes kept_so.within kept_so.unended
@@ -107,17 +121,20 @@ module _ (limit : Option ℕ) (now : Caller) (dropped : Bytes) (kept_so : IsKept
 
   is_short : (n : ℕ) → is_long call.connection n ≡ false
       → ((now.connection.skipping == 1) ≡ false) × (exceeds limit n ≡ false)
-  is_short n short = unskipped (now.connection.skipping == 1) (exceeds limit n) (sym (long_by n) ∙ short)
+  is_short n short = unskipped (now.connection.skipping == 1) (exceeds limit n)
+      (sym (long_by n) ∙ short)
 
   none_dropped : (n : ℕ) → is_long call.connection n ≡ false → dropped ≡ []
   none_dropped n short =
-      undropped now.connection.skipping limit now.connection.offset dropped kept_so.dropped_well (is_short n short).0
+      undropped now.connection.skipping limit now.connection.offset dropped kept_so.dropped_well
+      (is_short n short).0
 
   abbrev DoesSo : Left → Type 0
   DoesSo left = Does limit (dropped ++ now.bytes) left (after_call now left)
 
   -- a call that changes nothing
-  unchanged : (left : Left) → given_by left ≡ [] → left.line.used ≡ 0 → left.connection ≡ now.connection → DoesSo left
+  unchanged : (left : Left) → given_by left ≡ [] → left.line.used ≡ 0
+      → left.connection ≡ now.connection → DoesSo left
   unchanged left none used same = waits dropped none (rw (used, same) kept_so) (rw used refl)
 
   -- a line that ends at k
@@ -128,7 +145,9 @@ module _ (limit : Option ℕ) (now : Caller) (dropped : Bytes) (kept_so : IsKept
     abbrev event_if : Bool → FtpEvent
     event_if long = if long then Refused line_too_long else event_of (outcome line)
 
-    found : (now.connection.offset ≤ k) × (k < length now.bytes) × (is_line_feed (slice_index now.bytes k) ≡ true) × NoLineFeed now.bytes now.connection.offset k
+    found : (now.connection.offset ≤ k) × (k < length now.bytes)
+        × (is_line_feed (slice_index now.bytes k) ≡ true)
+        × NoLineFeed now.bytes now.connection.offset k
     found = line_feed_at now.bytes now.connection.offset k at
 
     line_length : length line ≡ k + 1
@@ -137,17 +156,22 @@ module _ (limit : Option ℕ) (now : Caller) (dropped : Bytes) (kept_so : IsKept
     line_ends : IsLine (dropped ++ line)
     line_ends = record {
       body = dropped ++ take k now.bytes;
-      whole = ap (λ z. dropped ++ z) (lf_at now.bytes k found.1 found.2) ∙ sym (append_assoc dropped (take k now.bytes) (LF ∷ []));
+      whole = ap (λ z. dropped ++ z) (lf_at now.bytes k found.1 found.2)
+          ∙ sym (append_assoc dropped (take k now.bytes) (LF ∷ []));
       one_end =
           Lacks-append LF dropped (take k now.bytes) kept_so.dropped_unended
-          (lacks_upto k now.bytes (omega (arith, found.1)) (none_before now.bytes now.connection.offset k start found.3));
+          (lacks_upto k now.bytes (omega (arith, found.1))
+          (none_before now.bytes now.connection.offset k start found.3));
     }
 
-    event_is : (long : Bool) → is_long call.connection (k + 1) ≡ long → event_if long ≡ event_for limit (dropped ++ line)
+    event_is : (long : Bool) → is_long call.connection (k + 1) ≡ long
+        → event_if long ≡ event_for limit (dropped ++ line)
     event_is true e =
         let long : exceeds limit (length (dropped ++ line)) ≡ true =
-        still_long now.connection.skipping limit now.connection.offset dropped (k + 1) (length (dropped ++ line)) kept_so.dropped_well (sym (long_by (k + 1)) ∙ e)
-        (omega (arith, line_length, length-append dropped line)) (omega (arith, line_length, length-append dropped line)) in
+        still_long now.connection.skipping limit now.connection.offset dropped (k + 1)
+        (length (dropped ++ line)) kept_so.dropped_well (sym (long_by (k + 1)) ∙ e)
+        (omega (arith, line_length, length-append dropped line))
+        (omega (arith, line_length, length-append dropped line)) in
         rw long refl
     event_is false e = rw (none_dropped (k + 1) e, line_length, (is_short (k + 1) e).1) refl
 
@@ -165,12 +189,15 @@ module _ (limit : Option ℕ) (now : Caller) (dropped : Bytes) (kept_so : IsKept
           meaning = event_is long e;
         })
 
-    of_command : (command : FtpCommand) → outcome line ≡ Ok command → is_long call.connection (k + 1) ≡ false
+    of_command : (command : FtpCommand) → outcome line ≡ Ok command
+        → is_long call.connection (k + 1) ≡ false
         → (room : Bool) → nat_le (length (text_of command)) (length area) ≡ room
         → DoesSo (gives now.connection area (k + 1) command)
     of_command command read short true e =
-        let parts = parts_apart (name_of command) (value_of_command command) (drop (length (text_of command)) area) in
-        rw e (took false short _ (rw (command_gives command, parts.0, parts.1, read) refl) refl refl)
+        let parts = parts_apart (name_of command) (value_of_command command)
+        (drop (length (text_of command)) area) in
+        rw e (took false short _ (rw (command_gives command, parts.0, parts.1, read) refl) refl
+        refl)
     of_command command read short false e = rw e (unchanged _ refl refl refl)
 
     of_answer : (answer : Answer) → outcome line ≡ answer → is_long call.connection (k + 1) ≡ false
@@ -178,7 +205,8 @@ module _ (limit : Option ℕ) (now : Caller) (dropped : Bytes) (kept_so : IsKept
     of_answer (Ok command) read short =
         of_command command read short (nat_le (length (text_of command)) (length area)) refl
     of_answer (Err refusal) read short =
-        took false short _ (rw (refusal_gives refusal, read, status_of_refusal refusal) refl) refl refl
+        took false short _ (rw (refusal_gives refusal, read, status_of_refusal refusal) refl) refl
+        refl
 
     of_line : (long : Bool) → is_long call.connection (k + 1) ≡ long → DoesSo (ended call k)
     of_line true e = rw e (took true e _ refl refl refl)
@@ -188,10 +216,13 @@ module _ (limit : Option ℕ) (now : Caller) (dropped : Bytes) (kept_so : IsKept
   module _ (none : line_feed_from now.bytes now.connection.offset ≡ None) where
     unended : Lacks LF now.bytes
     unended =
-        let all = lacks_upto (length now.bytes) now.bytes (omega arith) (none_before now.bytes now.connection.offset (length now.bytes) start (line_feed_nowhere now.bytes now.connection.offset none)) in
+        let all = lacks_upto (length now.bytes) now.bytes (omega arith)
+        (none_before now.bytes now.connection.offset (length now.bytes) start
+        (line_feed_nowhere now.bytes now.connection.offset none)) in
         rw take-length at all
 
-    of_none : (long : Bool) → is_long call.connection (length now.bytes + 1) ≡ long → DoesSo (incomplete call)
+    of_none : (long : Bool) → is_long call.connection (length now.bytes + 1) ≡ long
+        → DoesSo (incomplete call)
     of_none true e = rw e (waits (dropped ++ now.bytes) refl
         (record {
           limited = kept_so.limited;
@@ -199,12 +230,16 @@ module _ (limit : Option ℕ) (now : Caller) (dropped : Bytes) (kept_so : IsKept
           unended = tt;
           dropped_unended = Lacks-append LF dropped now.bytes kept_so.dropped_unended unended;
           dropped_well = (
-            still_long now.connection.skipping limit now.connection.offset dropped (length now.bytes + 1) (length (dropped ++ now.bytes) + 1) kept_so.dropped_well (sym (long_by (length now.bytes + 1)) ∙ e)
-                (omega (arith, length-append dropped now.bytes)) (omega (arith, length-append dropped now.bytes)),
+            still_long now.connection.skipping limit now.connection.offset dropped
+                (length now.bytes + 1) (length (dropped ++ now.bytes) + 1) kept_so.dropped_well
+                (sym (long_by (length now.bytes + 1)) ∙ e)
+                (omega (arith, length-append dropped now.bytes))
+                (omega (arith, length-append dropped now.bytes)),
             refl,
           );
         })
-        (rw (drop_all (length now.bytes) now.bytes (omega arith)) (append-nil (dropped ++ now.bytes))))
+        (rw (drop_all (length now.bytes) now.bytes (omega arith))
+        (append-nil (dropped ++ now.bytes))))
     of_none false e = rw e (waits dropped refl
         (record {
           limited = kept_so.limited;
@@ -215,32 +250,42 @@ module _ (limit : Option ℕ) (now : Caller) (dropped : Bytes) (kept_so : IsKept
         })
         refl)
 
-  by_feed : (o : Option ℕ) → line_feed_from now.bytes now.connection.offset ≡ o → DoesSo (by_line_feed call o)
+  by_feed : (o : Option ℕ) → line_feed_from now.bytes now.connection.offset ≡ o
+      → DoesSo (by_line_feed call o)
   by_feed None e = of_none e (is_long call.connection (length now.bytes + 1)) refl
   by_feed (Some k) e = of_line k e (is_long call.connection (k + 1)) refl
 
   does : (left : Left) → Leaves call left → DoesSo left
-  does left (inl next) = rw (next, next_by (line_feed_from now.bytes now.connection.offset) refl) (by_feed (line_feed_from now.bytes now.connection.offset) refl)
+  does left (inl next) = rw (next, next_by (line_feed_from now.bytes now.connection.offset) refl)
+      (by_feed (line_feed_from now.bytes now.connection.offset) refl)
   does left (inr ran_out) = rw ran_out.1 (unchanged (kept call OutOfMemory) refl refl refl)
 
--- What steps do, one after the other: what is given, and then the events from the first line on, are the events from there on before.
-record Run (limit : Option ℕ) (steps : List CallerStep) (now after : Caller) (dropped : Bytes) : Type 0 where
+-- What steps do, one after the other: what is given, and then the events from the first line on,
+-- are the events from there on before.
+record Run (limit : Option ℕ) (steps : List CallerStep) (now after : Caller)
+    (dropped : Bytes) : Type 0 where
   rest : Bytes
   rest_kept : IsKept limit after rest
-  in_order : all_given steps ++ map given_for (events limit (rest ++ after.bytes)) ≡ map given_for (events limit ((dropped ++ now.bytes) ++ input_of steps))
+  in_order : all_given steps ++ map given_for (events limit (rest ++ after.bytes))
+      ≡ map given_for (events limit ((dropped ++ now.bytes) ++ input_of steps))
 
 module _ (limit : Option ℕ) (after : Caller) where
   abbrev RunFrom : List CallerStep → Caller → Bytes → Type 0
   RunFrom steps now dropped = Run limit steps now after dropped
 
-  after_a_call : (now : Caller) (dropped area : Bytes) (left : Left) (steps : List CallerStep) → Does limit (dropped ++ now.bytes) left (after_call now left)
-      → ((rest : Bytes) → IsKept limit (after_call now left) rest → RunFrom steps (after_call now left) rest) → RunFrom (Called area left ∷ steps) now dropped
+  after_a_call : (now : Caller) (dropped area : Bytes) (left : Left) (steps : List CallerStep)
+      → Does limit (dropped ++ now.bytes) left (after_call now left)
+      → ((rest : Bytes) → IsKept limit (after_call now left) rest
+      → RunFrom steps (after_call now left) rest)
+      → RunFrom (Called area left ∷ steps) now dropped
   after_a_call now dropped area left steps (waits rest none rest_kept whole) later =
       let run = later rest rest_kept in
       record {
         rest = run.rest;
         rest_kept = run.rest_kept;
-        in_order = rw none (run.in_order ∙ ap (λ bytes. map given_for (events limit (bytes ++ input_of steps))) whole);
+        in_order =
+            rw none (run.in_order
+            ∙ ap (λ bytes. map given_for (events limit (bytes ++ input_of steps))) whole);
       }
   after_a_call now dropped area left steps (takes event given rest_kept taken) later =
       let run = later [] rest_kept in
@@ -248,70 +293,101 @@ module _ (limit : Option ℕ) (after : Caller) where
         rest = run.rest;
         rest_kept = run.rest_kept;
         in_order = rw given (ap (λ more. given_for event ∷ more) run.in_order
-            ∙ ap (map given_for) (sym (TakesEvent-events limit (dropped ++ now.bytes) event (after_call now left).bytes taken (input_of steps))));
+            ∙ ap (map given_for)
+            (sym (TakesEvent-events limit (dropped ++ now.bytes) event
+            (after_call now left).bytes taken (input_of steps))));
       }
 
-  run_of : (steps : List CallerStep) (now : Caller) (dropped : Bytes) → IsKept limit now dropped → AreCallerSteps now steps after → RunFrom steps now dropped
+  run_of : (steps : List CallerStep) (now : Caller) (dropped : Bytes) → IsKept limit now dropped
+      → AreCallerSteps now steps after → RunFrom steps now dropped
   run_of [] now dropped kept_so are = record {
     rest = dropped;
     rest_kept = rw are kept_so;
-    in_order = rw are (ap (λ bytes. map given_for (events limit bytes)) (sym (append-nil (dropped ++ now.bytes))));
+    in_order =
+        rw are (ap (λ bytes. map given_for (events limit bytes))
+        (sym (append-nil (dropped ++ now.bytes))));
   }
   run_of (Received piece ∷ steps) now dropped kept_so are =
-      let run = run_of steps (after_piece now piece) dropped (kept_with_piece limit now dropped piece kept_so) are in
-      let joined : (dropped ++ (now.bytes ++ piece)) ++ input_of steps ≡ (dropped ++ now.bytes) ++ (piece ++ input_of steps) = simp append_assoc in
-      record { rest = run.rest; rest_kept = run.rest_kept; in_order = run.in_order ∙ ap (λ bytes. map given_for (events limit bytes)) joined }
+      let run = run_of steps (after_piece now piece) dropped
+      (kept_with_piece limit now dropped piece kept_so) are in
+      let joined : (dropped ++ (now.bytes ++ piece)) ++ input_of steps ≡ (dropped ++ now.bytes)
+      ++ (piece ++ input_of steps) = simp append_assoc in
+      record {
+        rest = run.rest;
+        rest_kept = run.rest_kept;
+        in_order = run.in_order
+            ∙ ap (λ bytes. map given_for (events limit bytes)) joined;
+      }
   run_of (Called area left ∷ steps) now dropped kept_so are =
       after_a_call now dropped area left steps (does limit now dropped kept_so area left are.0)
       (λ rest rest_kept. run_of steps (after_call now left) rest rest_kept are.1)
 
-module _ (limited : ℕ) (after : Caller) (steps : List CallerStep) (are : AreCallerSteps (new_caller limited) steps after) where
+module _ (limited : ℕ) (after : Caller) (steps : List CallerStep)
+    (are : AreCallerSteps (new_caller limited) steps after) where
   run : Run (line_limit limited) steps (new_caller limited) after []
   run = run_of (line_limit limited) after steps (new_caller limited) []
       (kept_from_start (line_limit limited) (new_caller limited) refl refl refl) are
 
-  given_first : (later : List Given) × (all_given steps ++ later ≡ map given_for (events (line_limit limited) (input_of steps)))
-  given_first = (map given_for (events (line_limit limited) (run.rest ++ after.bytes)), run.in_order)
+  given_first : (later : List Given)
+      × (all_given steps ++ later ≡ map given_for (events (line_limit limited) (input_of steps)))
+  given_first =
+      (map given_for (events (line_limit limited) (run.rest ++ after.bytes)), run.in_order)
 
 module _ (limit : Option ℕ) (now : Caller) (area : Bytes) (left : Left) where
   abbrev made : Call
   made = call_of now area
 
-  uses_none : (dropped : Bytes) → IsKept limit now dropped → NextLeft made left ⊎ (left ≡ kept made OutOfMemory) → left.line.used ≡ 0 → gives_none left.result ≡ true
+  uses_none : (dropped : Bytes) → IsKept limit now dropped → NextLeft made left
+      ⊎ (left ≡ kept made OutOfMemory) → left.line.used ≡ 0 → gives_none left.result ≡ true
   uses_none dropped kept_so (inr e) used = rw e refl
   uses_none dropped kept_so (inl (invalid not_valid e)) used =
-      absurd (let within = sym not_valid ∙ valid_place now.connection limit dropped (length now.bytes) kept_so.within kept_so.dropped_well in cc)
+      absurd (let within = sym not_valid ∙ valid_place now.connection limit dropped
+      (length now.bytes) kept_so.within kept_so.dropped_well in cc)
   uses_none dropped kept_so (inl (asks none more)) used = rw more refl
   uses_none dropped kept_so (inl (gave some more)) used = absurd (omega arith)
   uses_none dropped kept_so (inl (no_room k command ok at short read e)) used = rw e refl
 
-  asks_at_the_end : (dropped : Bytes) → IsKept limit now dropped → NextLeft made left ⊎ (left ≡ kept made OutOfMemory) → left.result ≡ status_number More → Lacks LF (dropped ++ now.bytes)
-  asks_at_the_end dropped kept_so (inr e) is = absurd (omega (arith, sym (ap (λ l. l.result) e) ∙ is))
-  asks_at_the_end dropped kept_so (inl (invalid not_valid e)) is = absurd (omega (arith, sym (ap (λ l. l.result) e) ∙ is))
-  asks_at_the_end dropped kept_so (inl (asks none more)) is = Lacks-append LF dropped now.bytes kept_so.dropped_unended (unended limit now dropped kept_so area none)
-  asks_at_the_end dropped kept_so (inl (gave some used)) is = absurd ((gives_some left.result some).0 is)
-  asks_at_the_end dropped kept_so (inl (no_room k command ok at short read e)) is = absurd (omega (arith, sym (ap (λ l. l.result) e) ∙ is))
+  asks_at_the_end : (dropped : Bytes) → IsKept limit now dropped → NextLeft made left
+      ⊎ (left ≡ kept made OutOfMemory) → left.result ≡ status_number More
+      → Lacks LF (dropped ++ now.bytes)
+  asks_at_the_end dropped kept_so (inr e) is =
+      absurd (omega (arith, sym (ap (λ l. l.result) e) ∙ is))
+  asks_at_the_end dropped kept_so (inl (invalid not_valid e)) is =
+      absurd (omega (arith, sym (ap (λ l. l.result) e) ∙ is))
+  asks_at_the_end dropped kept_so (inl (asks none more)) is =
+      Lacks-append LF dropped now.bytes kept_so.dropped_unended
+      (unended limit now dropped kept_so area none)
+  asks_at_the_end dropped kept_so (inl (gave some used)) is =
+      absurd ((gives_some left.result some).0 is)
+  asks_at_the_end dropped kept_so (inl (no_room k command ok at short read e)) is =
+      absurd (omega (arith, sym (ap (λ l. l.result) e) ∙ is))
 
 given_all : (limited : ℕ) (after : Caller) (steps : List CallerStep) (area : Bytes) (left : Left)
     → AreCallerSteps (new_caller limited) steps after → Leaves (call_of after area) left
-    → left.result ≡ status_number More → all_given steps ≡ map given_for (events (line_limit limited) (input_of steps))
+    → left.result ≡ status_number More
+    → all_given steps ≡ map given_for (events (line_limit limited) (input_of steps))
 given_all limited after steps area left are leaves more =
     let before = run limited after steps are in
     let none = events-incomplete (line_limit limited) (before.rest ++ after.bytes)
-    (asks_at_the_end (line_limit limited) after area left before.rest before.rest_kept (left_so (call_of after area) left leaves) more) in
-    sym (append-nil (all_given steps)) ∙ ap (λ later. all_given steps ++ map given_for later) (sym none) ∙ before.in_order
+    (asks_at_the_end (line_limit limited) after area left before.rest before.rest_kept
+    (left_so (call_of after area) left leaves) more) in
+    sym (append-nil (all_given steps)) ∙ ap (λ later. all_given steps ++ map given_for later)
+    (sym none) ∙ before.in_order
 
 given_none : (limited : ℕ) (after : Caller) (steps : List CallerStep) (area : Bytes) (left : Left)
     → AreCallerSteps (new_caller limited) steps after → Leaves (call_of after area) left
     → left.line.used ≡ 0 → gives_none left.result ≡ true
 given_none limited after steps area left are leaves used =
     let before = run limited after steps are in
-    uses_none (line_limit limited) after area left before.rest before.rest_kept (left_so (call_of after area) left leaves) used
+    uses_none (line_limit limited) after area left before.rest before.rest_kept
+    (left_so (call_of after area) left leaves) used
 
 -- the law
 pub returns : goal.returns
 returns c = record {
   first = λ limit steps after are. given_first limit after steps are;
-  all = λ limit steps after area left are leaves more. given_all limit after steps area left are leaves more;
-  nothing_used = λ limit steps after area left are leaves used. given_none limit after steps area left are leaves used;
+  all = λ limit steps after area left are leaves more. given_all limit after steps area left are
+      leaves more;
+  nothing_used = λ limit steps after area left are leaves used. given_none limit after steps area
+      left are leaves used;
 }

@@ -9,8 +9,11 @@ use Rattle.unftp_control_c.proofs.ReplyLemmas.{line_encodes, lines_encode, reads
 use Rattle.unftp_control_c.proofs.reply.unftp_reply.Goals as goal
 
 pub returns-then-not-is_reply_code-clause-writes : goal.returns-then-not-is_reply_code-clause-writes
-returns-then-not-is_reply_code-clause-writes c =
-    (Err UnknownCode, unknown_code (λ is_code. false≢true (c.if-not-is_reply_code.ensures.1 is_code)) refl, c.write.ensures)
+returns-then-not-is_reply_code-clause-writes c = (
+  Err UnknownCode,
+  unknown_code (λ is_code. false≢true (c.if-not-is_reply_code.ensures.1 is_code)) refl,
+  c.write.ensures,
+)
 
 pub returns-in_default-clause-writes : goal.returns-in_default-clause-writes
 returns-in_default-clause-writes c =
@@ -43,9 +46,11 @@ pub returns-clause-writes : goal.returns-clause-writes
 returns-clause-writes c =
     let code = c.if-not-is_reply_code.ensures.0 refl in
     let text = c.in-Ok.ensures.cases in
-    let several = λ (one : Lacks LF c.args.text.now). false≢true (c.if-is_one_line.ensures.1 (subst (Lacks LF) (sym text.0) one)) in (
+    let several = λ (one : Lacks LF c.args.text.now). false≢true
+    (c.if-is_one_line.ensures.1 (subst (Lacks LF) (sym text.0) one)) in (
       made c.encoded_lines.result,
-      lines_encode c.args.code c.args.text.now _ c.encoded_lines.result text.0 code text.1 several c.encoded_lines.ensures.ok
+      lines_encode c.args.code c.args.text.now _ c.encoded_lines.result text.0 code text.1 several
+          c.encoded_lines.ensures.ok
           c.encoded_lines.ensures.err,
       c.write-2.ensures,
     )
@@ -54,10 +59,12 @@ pub returns-clause-read_back : goal.returns-clause-read_back
 returns-clause-read_back c = λ done.
     let code = c.if-not-is_reply_code.ensures.0 refl in
     let text = c.in-Ok.ensures.cases in
-    let several = λ (one : Lacks LF c.args.text.now). false≢true (c.if-is_one_line.ensures.1 (subst (Lacks LF) (sym text.0) one)) in
+    let several = λ (one : Lacks LF c.args.text.now). false≢true
+    (c.if-is_one_line.ensures.1 (subst (Lacks LF) (sym text.0) one)) in
     let left = c.write-2.ensures in
     rw (ap (λ filled. filled.text_length) left, ap (λ filled. filled.area) left)
     (reads_back c.args.code c.args.text.now c.args.out.now (made c.encoded_lines.result)
-    (lines_encode c.args.code c.args.text.now _ c.encoded_lines.result text.0 code text.1 several c.encoded_lines.ensures.ok
+    (lines_encode c.args.code c.args.text.now _ c.encoded_lines.result text.0 code text.1 several
+    c.encoded_lines.ensures.ok
     c.encoded_lines.ensures.err)
     (sym (ap (λ filled. filled.result) left) ∙ done))

@@ -3,4 +3,5 @@ use Rattle.unftp_control_codecs.specs.Encoding.{padded_line}
 use Rattle.unftp_control_codecs.proofs.encoding.append_padded_lines.Given as goal
 
 abbrev pub invariant-loop-line : goal.invariant-loop-line
-invariant-loop-line g l = l.buf.items ≡ l.fn.buf.items ++ flat_map padded_line (map g.S.AsStr.text (take l.line-index l.lines))
+invariant-loop-line g l = l.buf.items ≡ l.fn.buf.items ++ flat_map padded_line
+    (map g.S.AsStr.text (take l.line-index l.lines))

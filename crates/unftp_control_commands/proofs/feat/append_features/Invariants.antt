@@ -4,4 +4,5 @@ use Rattle.unftp_control_commands.proofs.feat.append_features.Given as goal
 
 abbrev pub invariant-loop-feature : goal.invariant-loop-feature
 invariant-loop-feature l = map string_bytes l.lines.items
-    ≡ map string_bytes l.fn.lines.items ++ map (λ feature. SP ∷ feature.now) (take l.feature-index l.features)
+    ≡ map string_bytes l.fn.lines.items ++ map (λ feature. SP ∷ feature.now)
+    (take l.feature-index l.features)

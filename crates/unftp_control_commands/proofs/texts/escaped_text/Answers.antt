@@ -4,4 +4,5 @@ use Rattle.unftp_control_commands.proofs.ReplaceLemmas.{replaced-ok}
 use Rattle.unftp_control_commands.proofs.texts.escaped_text.Goals as goal
 
 pub returns : goal.returns
-returns c = replaced-ok c.replace.result CR (CR ∷ NUL ∷ []) c.args.text.now (lit< tt) c.replace.ensures.ok
+returns c = replaced-ok c.replace.result CR (CR ∷ NUL ∷ []) c.args.text.now
+    (lit< tt) c.replace.ensures.ok

@@ -5,7 +5,11 @@ use Rattle.unftp_control_examples.proofs.lines.lines_have_one_lf.Goals as goal
 
 pub returns : goal.returns
 returns c = record {
-  crlf = record { body = codes "NOOP\r"; whole = refl; one_end = Lacks-test 10 (codes "NOOP\r") refl };
+  crlf = record {
+    body = codes "NOOP\r";
+    whole = refl;
+    one_end = Lacks-test 10 (codes "NOOP\r") refl;
+  };
   lf_only = record { body = []; whole = refl; one_end = tt };
   empty = λ line. let all = lines_of-IsLine _ line in cc;
   cr_only = λ line. let all = lines_of-IsLine _ line in cc;

@@ -6,8 +6,11 @@ pub returns-clause-empty : goal.returns-clause-empty
 returns-clause-empty c = ended
 
 pub returns-clause-text : goal.returns-clause-text
-returns-clause-text c = character (codes "ab") (codes "b") 1 refl (character (codes "b") [] 1 refl ended)
+returns-clause-text c =
+    character (codes "ab") (codes "b") 1 refl (character (codes "b") [] 1 refl ended)
 
 pub returns-clause-parts : goal.returns-clause-parts
 returns-clause-parts c =
-    ill_formed (255 ∷ 226 ∷ 130 ∷ codes "b") _ 1 (λ e. cc) refl (ill_formed (226 ∷ 130 ∷ codes "b") _ 2 (λ e. cc) refl (character (codes "b") [] 1 refl ended))
+    ill_formed (255 ∷ 226 ∷ 130 ∷ codes "b") _ 1 (λ e. cc) refl
+    (ill_formed (226 ∷ 130 ∷ codes "b") _ 2 (λ e. cc) refl
+    (character (codes "b") [] 1 refl ended))

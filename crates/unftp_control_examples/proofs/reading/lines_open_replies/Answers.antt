@@ -11,4 +11,5 @@ pub returns-clause-space : goal.returns-clause-space
 returns-clause-space c = (codes "211", 211, [], [] ∷ [], spells_211, single [] refl refl)
 
 pub returns-clause-dash : goal.returns-clause-dash
-returns-clause-dash c = first_opens (codes "211-x") (codes "211", 211, spells_211, inr (codes "x", inr refl))
+returns-clause-dash c =
+    first_opens (codes "211-x") (codes "211", 211, spells_211, inr (codes "x", inr refl))

@@ -13,9 +13,37 @@ returns c = record {
   no_line_end = line_part (codes "211 a\r") refl;
   letters = line_part (codes "a") refl;
   no_last_line = no_last_line;
-  last_line_unended = several_part [] (codes "211 b\r") tt tt (LacksCrlf-test (codes "211 b\r") refl);
+  last_line_unended =
+      several_part [] (codes "211 b\r") tt tt (LacksCrlf-test (codes "211 b\r") refl);
   text = λ partial. partial.0 (211, codes "a" ∷ [], 7, front_of_text []);
-  last_line = λ partial. partial.0 (211, codes "a" ∷ codes "b" ∷ [], 14, FrontReply-encoded (MultiLine 211 (codes "a" ∷ codes "b" ∷ [])) [] ((lit≤ tt, lit< tt), (Lacks-test 10 (codes "a") refl, (Lacks-test 10 (codes "b") refl, tt))) 211 (codes "a" ∷ codes "b" ∷ []) refl);
-  no_code = λ partial. partial.1 (record { first = codes "x"; rest = []; cut = refl; is_line = LacksCrlf-test (codes "x") refl; opens_none = λ opens. omega (arith, length-Opens (codes "x") opens) });
-  no_code_and_a_dash = λ partial. partial.1 (record { first = codes "x-a"; rest = []; cut = refl; is_line = LacksCrlf-test (codes "x-a") refl; opens_none = λ opens. omega (arith, first-Opens 120 (codes "-a") opens) });
+  last_line =
+      λ partial. partial.0 (
+        211,
+        codes "a" ∷ codes "b" ∷ [],
+        14,
+        FrontReply-encoded (MultiLine 211 (codes "a" ∷ codes "b" ∷ [])) [] (
+          (lit≤ tt, lit< tt),
+          (Lacks-test 10 (codes "a") refl, (Lacks-test 10 (codes "b") refl, tt)),
+        )
+            211 (codes "a" ∷ codes "b" ∷ []) refl,
+      );
+  no_code =
+      λ partial. partial.1
+      (record {
+        first = codes "x";
+        rest = [];
+        cut = refl;
+        is_line = LacksCrlf-test (codes "x") refl;
+        opens_none = λ opens. omega (arith, length-Opens (codes "x") opens);
+      });
+  no_code_and_a_dash =
+      λ partial. partial.1
+      (record {
+        first = codes "x-a";
+        rest = [];
+        cut = refl;
+        is_line = LacksCrlf-test (codes "x-a") refl;
+        opens_none =
+            λ opens. omega (arith, first-Opens 120 (codes "-a") opens);
+      });
 }

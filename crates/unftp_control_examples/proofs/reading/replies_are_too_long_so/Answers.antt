@@ -20,8 +20,22 @@ returns c = record {
   part_at_the_limit = (omega arith, line_part (codes "211 a\r") refl);
   part_below_the_limit = λ long. omega (arith, long.0);
   part_past_the_limit = (omega arith, line_part (codes "211 a") refl);
-  several = (omega arith, several_part [] (codes "211 b\r") tt tt (LacksCrlf-test (codes "211 b\r") refl));
-  several_at_the_limit = λ long. long.1.0 (211, codes "a" ∷ codes "b" ∷ [], 14, FrontReply-encoded (MultiLine 211 (codes "a" ∷ codes "b" ∷ [])) [] ((lit≤ tt, lit< tt), (Lacks-test 10 (codes "a") refl, (Lacks-test 10 (codes "b") refl, tt))) 211 (codes "a" ∷ codes "b" ∷ []) refl);
+  several = (
+    omega arith,
+    several_part [] (codes "211 b\r") tt tt
+        (LacksCrlf-test (codes "211 b\r") refl),
+  );
+  several_at_the_limit =
+      λ long. long.1.0 (
+        211,
+        codes "a" ∷ codes "b" ∷ [],
+        14,
+        FrontReply-encoded (MultiLine 211 (codes "a" ∷ codes "b" ∷ [])) [] (
+          (lit≤ tt, lit< tt),
+          (Lacks-test 10 (codes "a") refl, (Lacks-test 10 (codes "b") refl, tt)),
+        )
+            211 (codes "a" ∷ codes "b" ∷ []) refl,
+      );
   no_last_line = (omega arith, several_part [] [] tt tt lacks_nil);
   malformed = (omega arith, line_part (codes "21 a\r") refl);
   malformed_at_the_limit = λ long. long.1.1 two_digits;

@@ -6,4 +6,5 @@ pub returns-clause-first : goal.returns-clause-first
 returns-clause-first c = record { used = 7; front = front_of_text (codes "22"); after_is = refl }
 
 pub returns-clause-one : goal.returns-clause-one
-returns-clause-one c = (codes "22", record { used = 7; front = front_of_text (codes "22"); after_is = refl }, refl)
+returns-clause-one c =
+    (codes "22", record { used = 7; front = front_of_text (codes "22"); after_is = refl }, refl)

@@ -10,7 +10,17 @@ unfolding is_utf8 chars utf8_lossy utf8_valid_len utf8_error_len lib.Utf8.encode
 returns c =
     let none : events None (codes "NOOP") ≡ [] = refl in
     record {
-      two_pieces = (codes "NO", record { line = codes "NOOP\n"; is_line = record { body = codes "NOOP"; whole = refl; one_end = search rules }; whole = refl; meaning = refl }, refl);
+      two_pieces = (
+        codes "NO",
+        record {
+          line = codes "NOOP\n";
+          is_line = record { body = codes "NOOP"; whole = refl; one_end = search rules };
+          whole =
+              refl;
+          meaning = refl;
+        },
+        refl,
+      );
       not_complete = λ steps. let event = sym none ∙ TakesEvent-events _ _ _ _ steps.1 [] in cc;
       piece_forgotten = λ same. cc;
       input = refl;

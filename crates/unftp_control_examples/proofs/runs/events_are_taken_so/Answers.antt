@@ -13,10 +13,23 @@ returns c =
     let none : events None (codes "NOOP") ≡ [] = refl in
     let two : events None (codes "NOOP\nNOOP\n") ≡ Command Noop ∷ Command Noop ∷ [] = refl in
     record {
-      first = record { line = codes "NOOP\n"; is_line = record { body = codes "NOOP"; whole = refl; one_end = search rules }; whole = refl; meaning = refl };
+      first = record {
+        line = codes "NOOP\n";
+        is_line = record { body = codes "NOOP"; whole = refl; one_end = search rules };
+        whole =
+            refl;
+        meaning = refl;
+      };
       other_event = λ taken. let event = sym one ∙ TakesEvent-events _ _ _ _ taken [] in cc;
       byte_left_out = λ taken. let incomplete = TakesEvent-incomplete _ _ _ _ taken [] in cc;
       no_line = λ taken. let event = sym none ∙ TakesEvent-events _ _ _ _ taken [] in cc;
       two_lines = λ taken. let event = sym two ∙ TakesEvent-events _ _ _ _ taken [] in cc;
-      too_long = record { line = codes "NOOP\n"; is_line = record { body = codes "NOOP"; whole = refl; one_end = search rules }; whole = refl; meaning = refl };
+      too_long =
+          record {
+            line = codes "NOOP\n";
+            is_line = record { body = codes "NOOP"; whole = refl; one_end = search rules };
+            whole =
+                refl;
+            meaning = refl;
+          };
     }

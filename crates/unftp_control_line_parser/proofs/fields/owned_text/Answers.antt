@@ -6,4 +6,5 @@ use Rattle.unftp_control_line_parser.proofs.fields.owned_text.Goals as goal
 pub returns-in-Ok : goal.returns-in-Ok
 returns-in-Ok c =
     let e = ap (λ v. v.items) c.in-Ok.ensures.ok in
-    e ∙ sym (utf8_lossy-IsUtf8 c.args.bytes.items (subst IsUtf8 e (IsUtf8-string_bytes c.in-Ok.text)))
+    e ∙ sym (utf8_lossy-IsUtf8 c.args.bytes.items
+    (subst IsUtf8 e (IsUtf8-string_bytes c.in-Ok.text)))

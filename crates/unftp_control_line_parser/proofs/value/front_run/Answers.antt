@@ -5,13 +5,17 @@ use Rattle.unftp_control_line_parser.proofs.value.front_run.Goals as goal
 
 pub returns-then-bytes-end-eq-LF-2 : goal.returns-then-bytes-end-eq-LF-2
 returns-then-bytes-end-eq-LF-2 c = (
-  crlf_at c.args.bytes.now c.fresh_len-end.result c.fresh_len-end.ensures (omega arith) (c.if-bytes-end-eq-LF.false) c.if-bytes-end-eq-LF-2.true ∙ ap Some (sym c.split_at.ensures.front),
+  crlf_at c.args.bytes.now c.fresh_len-end.result c.fresh_len-end.ensures (omega arith)
+      (c.if-bytes-end-eq-LF.false) c.if-bytes-end-eq-LF-2.true
+      ∙ ap Some (sym c.split_at.ensures.front),
   grind (arith, common_steps),
 )
 
 pub returns : goal.returns
 returns c = (
-  nul_at c.args.bytes.now c.fresh_len-end.result c.fresh_len-end.ensures (omega arith) (c.if-bytes-end-eq-LF.false) c.if-bytes-end-ne-NUL.false ∙ rw (c.split_at-2.ensures.front, c.split_at-3.ensures.back) refl,
+  nul_at c.args.bytes.now c.fresh_len-end.result c.fresh_len-end.ensures (omega arith)
+      (c.if-bytes-end-eq-LF.false) c.if-bytes-end-ne-NUL.false
+      ∙ rw (c.split_at-2.ensures.front, c.split_at-3.ensures.back) refl,
   grind (arith, common_steps),
   grind (arith, common_steps),
 )

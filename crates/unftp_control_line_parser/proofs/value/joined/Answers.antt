@@ -6,5 +6,6 @@ pub parts-preserved-then-begins_with_cr_nul : goal.parts-preserved-then-begins_w
 parts-preserved-then-begins_with_cr_nul c = grind (arith, common_steps)
 
 pub returns-in-Last : goal.returns-in-Last
-returns-in-Last c = c.parts.invariant ∙ ap (option_map (λ w. c.parts.joined.items ++ w)) c.in-Last.ensures.0
+returns-in-Last c = c.parts.invariant
+    ∙ ap (option_map (λ w. c.parts.joined.items ++ w)) c.in-Last.ensures.0
     ∙ ap (λ items. Some items) (sym c.in_ok-extend_from_slice-in-Last.ensures.items)

@@ -5,7 +5,8 @@ use Rattle.unftp_control_line_parser.proofs.value.plain_len.Goals as goal
 pub returns-in-Some : goal.returns-in-Some
 returns-in-Some c = record {
   within = omega (arith, c.in-Some.ensures.0.high);
-  goes_on = skip_nowhere c.args.bytes.now c.in-Some.end (omega (arith, c.in-Some.ensures.0.high)) c.in-Some.ensures.0.before;
+  goes_on = skip_nowhere c.args.bytes.now c.in-Some.end (omega (arith, c.in-Some.ensures.0.high))
+      c.in-Some.ensures.0.before;
   stop = λ lt. c.in-Some.ensures.1;
 }
 

@@ -5,7 +5,10 @@ use Rattle.unftp_control_line_parser.proofs.verb.is_verb.Goals as goal
 
 pub returns-in-Some : goal.returns-in-Some
 returns-in-Some c =
-    let same : c.is_some.result ≡ is_some (row_of c.args.word.now verbs) = c.is_some.ensures ∙ mapped_some c.rule_of.result ∙ ap is_some c.rule_of.ensures ∙ ap (λ w. is_some (row_of w verbs)) (from_four_bytes_back c.args.word.now c.in-Some.word (sym c.in-Some.ensures)) in
+    let same : c.is_some.result ≡ is_some (row_of c.args.word.now verbs) = c.is_some.ensures
+    ∙ mapped_some c.rule_of.result ∙ ap is_some c.rule_of.ensures
+    ∙ ap (λ w. is_some (row_of w verbs))
+    (from_four_bytes_back c.args.word.now c.in-Some.word (sym c.in-Some.ensures)) in
     ((λ found. sym same ∙ found), (λ some. same ∙ some))
 
 pub returns-in-None : goal.returns-in-None

@@ -30,7 +30,8 @@ pub returns-clause-other_name : goal.returns-clause-other_name
 returns-clause-other_name c = not-logged-in only_anna (user wrong ∷ pass secret ∷ []) refl
 
 pub returns-clause-second_password : goal.returns-clause-second_password
-returns-clause-second_password c = not-logged-in only_anna (user anna ∷ pass wrong ∷ pass secret ∷ []) refl
+returns-clause-second_password c =
+    not-logged-in only_anna (user anna ∷ pass wrong ∷ pass secret ∷ []) refl
 
 pub returns-clause-another_user : goal.returns-clause-another_user
 returns-clause-another_user c = not-logged-in only_anna (login ++ user wrong ∷ []) refl
@@ -39,7 +40,8 @@ pub returns-clause-after_auth : goal.returns-clause-after_auth
 returns-clause-after_auth c = not-logged-in only_anna (login ++ Command (Auth Tls) ∷ []) refl
 
 pub returns-clause-name_given : goal.returns-clause-name_given
-returns-clause-name_given c = record { before = user wrong ∷ []; since = Command Noop ∷ []; whole = refl; kept = (refl, tt) }
+returns-clause-name_given c =
+    record { before = user wrong ∷ []; since = Command Noop ∷ []; whole = refl; kept = (refl, tt) }
 
 pub returns-clause-name_changed : goal.returns-clause-name_changed
 returns-clause-name_changed c = name-changed

@@ -2,7 +2,9 @@ use Rattle.unftp_control_login.proofs.AlikeLemmas.{gate-errors-hidden, limit-err
 use Rattle.unftp_control_login.proofs.laws.errors_hide_passwords.Goals as goal
 
 pub returns-clause-gate : goal.returns-clause-gate
-returns-clause-gate g c = λ limit accepts inner. gate-errors-hidden g.H.Handler.law limit accepts inner
+returns-clause-gate g c = λ limit accepts inner. gate-errors-hidden g.H.Handler.law limit accepts
+    inner
 
 pub returns-clause-limit : goal.returns-clause-limit
-returns-clause-limit g c = λ limit accepts left inner. limit-errors-hidden g.H.Handler.law limit accepts left inner
+returns-clause-limit g c = λ limit accepts left inner. limit-errors-hidden g.H.Handler.law limit
+    accepts left inner

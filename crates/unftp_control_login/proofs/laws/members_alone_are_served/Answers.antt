@@ -7,4 +7,5 @@ returns-clause-gate g c = gate_serves-members g.H.Handler.law
 
 pub returns-clause-limit : goal.returns-clause-limit
 returns-clause-limit g c = λ accepts left inner.
-    limit_serves-members (gated_law g.H.Handler.law) accepts left (closed accepts inner) (gate_serves-members g.H.Handler.law accepts inner)
+    limit_serves-members (gated_law g.H.Handler.law) accepts left (closed accepts inner)
+    (gate_serves-members g.H.Handler.law accepts inner)

@@ -6,11 +6,17 @@ use Rattle.unftp_control_read.proofs.LineLemmas.{after_digits}
 use Rattle.unftp_control_read.proofs.lines.last_text.Goals as goal
 
 pub returns-in_err-strip_prefix-clause-none : goal.returns-in_err-strip_prefix-clause-none
-returns-in_err-strip_prefix-clause-none c = rw c.from_residual.ensures (λ text. strip_prefix_is Decides-eqb c.args.line.now c.args.digits.now None c.in_err-strip_prefix.ensures.cases (SP ∷ text))
+returns-in_err-strip_prefix-clause-none c =
+    rw c.from_residual.ensures
+    (λ text. strip_prefix_is Decides-eqb c.args.line.now c.args.digits.now None
+    c.in_err-strip_prefix.ensures.cases (SP ∷ text))
 
 pub returns : goal.returns
 returns c =
-    let first = strip_prefix_is Decides-eqb c.args.line.now c.args.digits.now (Some c.in_ok-strip_prefix.field-0) c.in_ok-strip_prefix.ensures.cases in
-    let second = strip_prefix_is Decides-eqb c.in_ok-strip_prefix.field-0.now (SP ∷ []) c.strip_prefix-2.result c.strip_prefix-2.ensures.cases in
-    let text = after_digits c.args.digits.now c.args.line.now c.in_ok-strip_prefix.field-0.now c.strip_prefix-2.result first second in
+    let first = strip_prefix_is Decides-eqb c.args.line.now c.args.digits.now
+    (Some c.in_ok-strip_prefix.field-0) c.in_ok-strip_prefix.ensures.cases in
+    let second = strip_prefix_is Decides-eqb c.in_ok-strip_prefix.field-0.now
+    (SP ∷ []) c.strip_prefix-2.result c.strip_prefix-2.ensures.cases in
+    let text = after_digits c.args.digits.now c.args.line.now c.in_ok-strip_prefix.field-0.now
+    c.strip_prefix-2.result first second in
     record { found = text.0; none = text.1 }

@@ -20,5 +20,12 @@ returns-in-None c =
       found = tt;
       before = tt;
       none = (feed_found c.args.bytes.now c.args.from None first c.requires).1;
-      tests = omega (arith, c.raise_by-in-None.ensures, c.split_at.ensures.back_len, c.requires, ap length c.split_at.ensures.back, length-drop c.args.from c.args.bytes.now);
+      tests = omega (
+        arith,
+        c.raise_by-in-None.ensures,
+        c.split_at.ensures.back_len,
+        c.requires,
+        ap length c.split_at.ensures.back,
+        length-drop c.args.from c.args.bytes.now,
+      );
     }

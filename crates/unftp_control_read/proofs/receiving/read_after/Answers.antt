@@ -9,12 +9,24 @@ returns-in-Ok g c =
     let old = c.args.buf.now in
     let grown = c.add_room.new.buf in
     let items = c.in_ok-add_room.ensures.ok in
-    let front = c.split_at_mut-room.ensures.front ∙ ap (take c.len-len.result) c.as_mut_slice.ensures.value in
+    let front = c.split_at_mut-room.ensures.front
+    ∙ ap (take c.len-len.result) c.as_mut_slice.ensures.value in
     let long : length c.read.new.buf ≡ length (replicate {A = ℕ} PIECE 0) =
-    omega (arith, c.read.auto.buf, c.split_at_mut-room.ensures.back_len, ap length c.as_mut_slice.ensures.value, ap length items, length-append old.items (replicate {A = ℕ} PIECE 0), c.len-len.ensures, old.ok.0) in
+    omega (
+      arith,
+      c.read.auto.buf,
+      c.split_at_mut-room.ensures.back_len,
+      ap length c.as_mut_slice.ensures.value,
+      ap length items,
+      length-append old.items (replicate {A = ℕ} PIECE 0),
+      c.len-len.ensures,
+      old.ok.0,
+    ) in
     let some : 0 < length {A = ℕ} c.read.new.buf = omega (arith, long) in (
       take c.in-Ok.n c.read.new.buf,
-      c.truncate.ensures.items ∙ read_part old.items (replicate {A = ℕ} PIECE 0) grown.items _ c.read.new.buf _ c.len-len.result c.in-Ok.n grown.len items (c.len-len.ensures ∙ old.ok.0) grown.ok.0 front long,
+      c.truncate.ensures.items ∙ read_part old.items (replicate {A = ℕ} PIECE 0) grown.items _
+          c.read.new.buf _ c.len-len.result c.in-Ok.n grown.len items (c.len-len.ensures ∙ old.ok.0)
+          grown.ok.0 front long,
       sym c.in-Ok.ensures.bound.1,
       omega (arith, c.in-Ok.ensures.bound, long, length-replicate {A = ℕ} PIECE 0),
       c.in-Ok.ensures.bytes.0,

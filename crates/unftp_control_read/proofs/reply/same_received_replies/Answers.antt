@@ -12,7 +12,8 @@ same a b = (
   λ e.
       let parts = and_parts _ _ e in
       λ i. (eqb-true a.code b.code parts.0 i, (same_lines a.lines.items b.lines.items).0 parts.1 i),
-  λ e. and_from _ _ (eq-eqb a.code b.code (λ i. (e i).0)) ((same_lines a.lines.items b.lines.items).1 (λ i. (e i).1)),
+  λ e. and_from _ _ (eq-eqb a.code b.code (λ i. (e i).0))
+      ((same_lines a.lines.items b.lines.items).1 (λ i. (e i).1)),
 )
 
 pub returns : goal.returns

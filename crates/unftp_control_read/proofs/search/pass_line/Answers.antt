@@ -9,7 +9,8 @@ returns-in-None-clause-steps c =
     let line = c.args.line.now in
     let after = c.args.after.now in
     let h = subst (λ o. IsAtLine bytes o c.args.at line after) c.in-Some.is c.requires in
-    line_goes_on bytes c.in-Some.opened c.args.at line after h (take 3 bytes) refl c.in-None.ensures.none
+    line_goes_on bytes c.in-Some.opened c.args.at line after h (take 3 bytes) refl
+    c.in-None.ensures.none
 
 pub returns-in-Some-last_text-clause-steps : goal.returns-in-Some-last_text-clause-steps
 returns-in-Some-last_text-clause-steps c =
@@ -17,4 +18,5 @@ returns-in-Some-last_text-clause-steps c =
     let line = c.args.line.now in
     let after = c.args.after.now in
     let h = subst (λ o. IsAtLine bytes o c.args.at line after) c.in-Some.is c.requires in
-    line_ends bytes c.in-Some.opened c.args.at line after h (take 3 bytes) c.in-Some-last_text.last.now refl c.in-Some-last_text.ensures.found
+    line_ends bytes c.in-Some.opened c.args.at line after h
+    (take 3 bytes) c.in-Some-last_text.last.now refl c.in-Some-last_text.ensures.found

@@ -6,14 +6,22 @@ use Rattle.unftp_control_serve.proofs.LineRunLemmas.{halfway-no_memory, Halfway-
 use Rattle.unftp_control_serve.proofs.engine.answer_lines.Goals as goal
 
 pub loop-event-init : goal.loop-event-init
-loop-event-init g c = record { halfway = Halfway-start _ _ _ _; scanned = refl; limit = refl; held = refl; never_fewer = omega arith }
+loop-event-init g c =
+    record {
+      halfway = Halfway-start _ _ _ _;
+      scanned = refl;
+      limit = refl;
+      held = refl;
+      never_fewer = omega arith;
+    }
 
 pub loop-event-preserved : goal.loop-event-preserved
 loop-event-preserved g c =
     let before = c.loop-event.invariant in
     let first = rw c.in-Some.is at c.in_ok-event.ensures.takes_next in
     record {
-      halfway = Halfway-next _ _ _ _ _ _ _ before.halfway before.limit _ first _ c.in_ok-answer_event.ensures.outcome (sym c.done.ensures ∙ c.if-done.false);
+      halfway = Halfway-next _ _ _ _ _ _ _ before.halfway before.limit _ first _
+          c.in_ok-answer_event.ensures.outcome (sym c.done.ensures ∙ c.if-done.false);
       scanned = omega (arith, before.scanned, c.in_ok-event.ensures.scanned);
       limit = c.in_ok-event.ensures.limit ∙ before.limit;
       held = c.in_ok-event.ensures.held ∙ before.held;
@@ -24,26 +32,32 @@ pub returns-in_err-answer_event-clause-outcome : goal.returns-in_err-answer_even
 returns-in_err-answer_event-clause-outcome g c =
     let before = c.loop-event.invariant in
     let first = rw c.in-Some.is at c.in_ok-event.ensures.takes_next in
-    let error = err_from_is_err_and c.from_residual-in_err-answer_event.result c.from_residual-in_err-answer_event.ensures.1 in
-    rw (error.1, error.2) (line-failed _ _ _ _ _ _ _ before.halfway before.limit _ first _ _ c.in_err-answer_event.ensures.outcome)
+    let error = err_from_is_err_and c.from_residual-in_err-answer_event.result
+    c.from_residual-in_err-answer_event.ensures.1 in
+    rw (error.1, error.2)
+    (line-failed _ _ _ _ _ _ _ before.halfway before.limit _ first _ _
+    c.in_err-answer_event.ensures.outcome)
 
 pub returns-then-done-clause-outcome : goal.returns-then-done-clause-outcome
 returns-then-done-clause-outcome g c =
     let before = c.loop-event.invariant in
     let first = rw c.in-Some.is at c.in_ok-event.ensures.takes_next in
-    last_line-answered _ _ _ _ _ _ _ before.halfway before.limit _ first _ c.in_ok-answer_event.ensures.outcome (sym c.done.ensures ∙ c.if-done.true)
+    last_line-answered _ _ _ _ _ _ _ before.halfway before.limit _ first _
+    c.in_ok-answer_event.ensures.outcome (sym c.done.ensures ∙ c.if-done.true)
 
 pub returns-then-done-clause-ended : goal.returns-then-done-clause-ended
 returns-then-done-clause-ended g c =
     let before = c.loop-event.invariant in
     let first = rw c.in-Some.is at c.in_ok-event.ensures.takes_next in
-    last_line-ended _ _ _ _ _ _ _ before.halfway before.limit _ first _ c.in_ok-answer_event.ensures.outcome (sym c.done.ensures ∙ c.if-done.true)
+    last_line-ended _ _ _ _ _ _ _ before.halfway before.limit _ first _
+    c.in_ok-answer_event.ensures.outcome (sym c.done.ensures ∙ c.if-done.true)
 
 pub returns-then-done-clause-unread : goal.returns-then-done-clause-unread
 returns-then-done-clause-unread g c =
     let before = c.loop-event.invariant in
     let first = rw c.in-Some.is at c.in_ok-event.ensures.takes_next in
-    last_line-unread _ _ _ _ _ _ _ before.halfway before.limit _ first _ c.in_ok-answer_event.ensures.outcome (sym c.done.ensures ∙ c.if-done.true)
+    last_line-unread _ _ _ _ _ _ _ before.halfway before.limit _ first _
+    c.in_ok-answer_event.ensures.outcome (sym c.done.ensures ∙ c.if-done.true)
 
 pub returns-then-done-clause-unscanned : goal.returns-then-done-clause-unscanned
 returns-then-done-clause-unscanned g c =
@@ -77,10 +91,13 @@ pub returns-in-None-clause-kept : goal.returns-in-None-clause-kept
 returns-in-None-clause-kept g c =
     let none = rw c.in-None.is at c.in_ok-event.ensures.takes_next in
     let kept = rw c.in-None.is at c.in_ok-event.ensures.buffered in
-    λ on. kept ∙ none.kept ∙ ap (λ limit. kept_length limit c.loop-event.decoder.bytes) c.loop-event.invariant.limit
+    λ on. kept ∙ none.kept ∙ ap (λ limit. kept_length limit c.loop-event.decoder.bytes)
+    c.loop-event.invariant.limit
     ∙ ap (kept_length c.args.decoder.now.limit) (sym none.same)
 
 pub returns-in_err-event-clause-outcome : goal.returns-in_err-event-clause-outcome
 returns-in_err-event-clause-outcome g c =
     let error = err_from_is_err_and c.from_residual.result c.from_residual.ensures.1 in
-    rw (error.1, error.2) (halfway-no_memory _ _ _ _ _ _ c.loop-event.invariant.limit c.loop-event.invariant.halfway c.in_err-event.ensures.may_run_out)
+    rw (error.1, error.2)
+    (halfway-no_memory _ _ _ _ _ _ c.loop-event.invariant.limit c.loop-event.invariant.halfway
+    c.in_err-event.ensures.may_run_out)

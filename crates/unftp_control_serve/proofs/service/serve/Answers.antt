@@ -3,4 +3,6 @@ use Rattle.unftp_control_serve.proofs.ServiceLemmas.{AnsweredAll-serves}
 use Rattle.unftp_control_serve.proofs.service.serve.Goals as goal
 
 pub returns-clause-serves : goal.returns-clause-serves
-returns-clause-serves g c = IfOk-weaker c.serve_lines.result _ _ (λ served all. AnsweredAll-serves _ _ _ _ _ _ served all) c.serve_lines.ensures.ok
+returns-clause-serves g c =
+    IfOk-weaker c.serve_lines.result _ _ (λ served all. AnsweredAll-serves _ _ _ _ _ _ served all)
+    c.serve_lines.ensures.ok

@@ -3,10 +3,14 @@ use Rattle.unftp_control_serve.proofs.ServiceLemmas.{AnsweredAll-serves, Answere
 use Rattle.unftp_control_serve.proofs.service.serve_with_limit.Goals as goal
 
 pub returns-clause-serves : goal.returns-clause-serves
-returns-clause-serves g c = IfOk-weaker c.serve_lines.result _ _ (λ served all. AnsweredAll-serves _ _ _ _ _ _ served all) c.serve_lines.ensures.ok
+returns-clause-serves g c =
+    IfOk-weaker c.serve_lines.result _ _ (λ served all. AnsweredAll-serves _ _ _ _ _ _ served all)
+    c.serve_lines.ensures.ok
 
 pub returns-clause-bound : goal.returns-clause-bound
-returns-clause-bound g c = IfOk-weaker c.serve_lines.result _ _ (λ served all. AnsweredAll-bound _ _ _ _ _ _ served all) c.serve_lines.ensures.ok
+returns-clause-bound g c =
+    IfOk-weaker c.serve_lines.result _ _ (λ served all. AnsweredAll-bound _ _ _ _ _ _ served all)
+    c.serve_lines.ensures.ok
 
 pub returns-clause-ok : goal.returns-clause-ok
 returns-clause-ok g c = c.serve_lines.ensures.ok

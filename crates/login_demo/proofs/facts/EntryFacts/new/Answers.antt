@@ -10,4 +10,8 @@ returns-in-Directory c = rw c.in-Directory.is (None, refl, refl)
 
 pub returns-in-File : goal.returns-in-File
 returns-in-File c =
-    rw c.in-File.is (Some (file_time c.in-File.file), c.modified.ensures, entry_facts-file c.in-File.file c.size.result c.size.ensures)
+    rw c.in-File.is (
+      Some (file_time c.in-File.file),
+      c.modified.ensures,
+      entry_facts-file c.in-File.file c.size.result c.size.ensures,
+    )

@@ -5,5 +5,6 @@ use Rattle.unftp_control_commands.proofs.feat.Feat.reply_with.Goals as goal
 
 pub returns-clause-ok : goal.returns-clause-ok
 returns-clause-ok c =
-    let spaced = map-map (λ (name : List ℕ). SP ∷ name) (λ (feature : Bor (List ℕ)). feature.now) c.args.features.now in
+    let spaced = map-map (λ (name : List ℕ). SP ∷ name) (λ (feature : Bor (List ℕ)). feature.now)
+    c.args.features.now in
     search (rules, spaced)

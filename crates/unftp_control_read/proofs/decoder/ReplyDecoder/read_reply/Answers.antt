@@ -10,13 +10,16 @@ returns-in_err-reply g c =
     let before = c.args.self.now in
     let n = c.in_err-reply.ensures in
     let error = err_from_is_err_and c.from_residual.result c.from_residual.ensures.1 in
-    let fewer = fewer_bounded before.limit (length now.bytes) now.buffered (length c.next_reply.new.self.bytes) c.next_reply.new.self.buffered (length before.bytes) before.buffered
+    let fewer = fewer_bounded before.limit (length now.bytes) now.buffered
+    (length c.next_reply.new.self.bytes) c.next_reply.new.self.buffered (length before.bytes)
+    before.buffered
     (omega (arith, ap length n.takes_next.1)) (omega (arith, n.buffered)) i.bounded in
     rw (error.1, error.2) (record {
       reply = tt;
       end = tt;
       tests = tt;
-      receives = refused i c.in_err-reply.field-0.0 n.takes_next.0 n.takes_next.1 n.error n.unscanned;
+      receives = refused i c.in_err-reply.field-0.0 n.takes_next.0 n.takes_next.1 n.error
+          n.unscanned;
       limit = n.limit ∙ i.limit_is;
       pending = fewer.0;
       buffered = fewer.1;
@@ -39,14 +42,18 @@ returns-in-Some-clause-tests g c = counted_known (returns-in-Some-clause-receive
 pub returns-in_err-fill_from-clause-receives : goal.returns-in_err-fill_from-clause-receives
 returns-in_err-fill_from-clause-receives g c =
     let n = c.in_ok-reply.ensures in
-    let error = err_from_is_err_and c.from_residual-in_err-fill_from.result c.from_residual-in_err-fill_from.ensures.1 in
-    let u = unended c.loop-turn.self c.next_reply.new.self _ c.in_default.is n.takes_next n.buffered n.limit n.tests n.never_fewer in
+    let error =
+    err_from_is_err_and c.from_residual-in_err-fill_from.result
+    c.from_residual-in_err-fill_from.ensures.1 in
+    let u = unended c.loop-turn.self c.next_reply.new.self _ c.in_default.is n.takes_next n.buffered
+    n.limit n.tests n.never_fewer in
     rw (error.1, error.2) (failed c.loop-turn.invariant u c.in_err-fill_from.ensures)
 
 pub returns-then-branch-eq0-clause-receives : goal.returns-then-branch-eq0-clause-receives
 returns-then-branch-eq0-clause-receives g c =
     let n = c.in_ok-reply.ensures in
-    let u = unended c.loop-turn.self c.next_reply.new.self _ c.in_default.is n.takes_next n.buffered n.limit n.tests n.never_fewer in
+    let u = unended c.loop-turn.self c.next_reply.new.self _ c.in_default.is n.takes_next n.buffered
+    n.limit n.tests n.never_fewer in
     let ended = rw c.if-branch-eq0.true at c.in_ok-fill_from.ensures in
     at_end c.loop-turn.invariant u ended
 
@@ -56,5 +63,7 @@ returns-then-branch-eq0-clause-end g c = whole_end (returns-then-branch-eq0-clau
 pub loop-turn-preserved : goal.loop-turn-preserved
 loop-turn-preserved g c =
     let n = c.in_ok-reply.ensures in
-    let u = unended c.loop-turn.self c.next_reply.new.self _ c.in_default.is n.takes_next n.buffered n.limit n.tests n.never_fewer in
-    more_read c.loop-turn.invariant u c.in_ok-fill_from.field-0 c.in_ok-fill_from.ensures (omega (arith, c.if-branch-eq0.false))
+    let u = unended c.loop-turn.self c.next_reply.new.self _ c.in_default.is n.takes_next n.buffered
+    n.limit n.tests n.never_fewer in
+    more_read c.loop-turn.invariant u c.in_ok-fill_from.field-0 c.in_ok-fill_from.ensures
+    (omega (arith, c.if-branch-eq0.false))

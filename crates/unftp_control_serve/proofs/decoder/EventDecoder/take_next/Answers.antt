@@ -4,28 +4,40 @@ use Rattle.unftp_control_serve.proofs.decoder.EventDecoder.take_next.Goals as go
 
 pub invariant_of-self : goal.invariant_of-self
 invariant_of-self c =
-    let from_start = c.split_at.ensures.back ∙ ap (drop c.self.inside.start) c.as_slice.ensures.value in
+    let from_start = c.split_at.ensures.back
+    ∙ ap (drop c.self.inside.start) c.as_slice.ensures.value in
     rw c.line_length-self-inside.ensures
-    (decoder-after _ _ _ _ _ _ _ _ _ _ _ _ _ c.self.invariant from_start c.split_at-2.ensures.front c.go_on.ensures c.skipping.ensures.skipping
-    c.decode_slice-taken.ensures.limit c.decode_slice-taken.ensures.within c.decode_slice-taken.ensures.decodes c.event_from-event.result)
+    (decoder-after _ _ _ _ _ _ _ _ _ _ _ _ _ c.self.invariant from_start c.split_at-2.ensures.front
+    c.go_on.ensures c.skipping.ensures.skipping
+    c.decode_slice-taken.ensures.limit c.decode_slice-taken.ensures.within
+    c.decode_slice-taken.ensures.decodes c.event_from-event.result)
 
 pub returns-clause-takes_next : goal.returns-clause-takes_next
 returns-clause-takes_next c =
-    let from_start = c.split_at.ensures.back ∙ ap (drop c.self.inside.start) c.as_slice.ensures.value in
+    let from_start = c.split_at.ensures.back
+    ∙ ap (drop c.self.inside.start) c.as_slice.ensures.value in
     rw (sym c.self.view_is)
-    (takes_next-after _ _ _ _ _ _ _ _ _ _ _ _ _ c.self.invariant from_start c.split_at-2.ensures.front c.go_on.ensures c.skipping.ensures.skipping
-    c.decode_slice-taken.ensures.limit c.decode_slice-taken.ensures.within c.decode_slice-taken.ensures.decodes _ c.event_from-event.result c.event_from-event.ensures)
+    (takes_next-after _ _ _ _ _ _ _ _ _ _ _ _ _ c.self.invariant from_start
+    c.split_at-2.ensures.front c.go_on.ensures c.skipping.ensures.skipping
+    c.decode_slice-taken.ensures.limit c.decode_slice-taken.ensures.within
+    c.decode_slice-taken.ensures.decodes _ c.event_from-event.result c.event_from-event.ensures)
 
 pub returns-clause-may_run_out : goal.returns-clause-may_run_out
 returns-clause-may_run_out c =
-    let from_start = c.split_at.ensures.back ∙ ap (drop c.self.inside.start) c.as_slice.ensures.value in
+    let from_start = c.split_at.ensures.back
+    ∙ ap (drop c.self.inside.start) c.as_slice.ensures.value in
     rw (sym c.self.view_is)
-    (runs_out-after _ _ _ _ _ _ _ _ _ _ _ _ _ c.self.invariant from_start c.split_at-2.ensures.front c.go_on.ensures c.skipping.ensures.skipping
-    c.decode_slice-taken.ensures.limit c.decode_slice-taken.ensures.within c.decode_slice-taken.ensures.decodes c.event_from-event.result c.event_from-event.ensures)
+    (runs_out-after _ _ _ _ _ _ _ _ _ _ _ _ _ c.self.invariant from_start c.split_at-2.ensures.front
+    c.go_on.ensures c.skipping.ensures.skipping
+    c.decode_slice-taken.ensures.limit c.decode_slice-taken.ensures.within
+    c.decode_slice-taken.ensures.decodes c.event_from-event.result c.event_from-event.ensures)
 
 pub returns-clause-line : goal.returns-clause-line
 returns-clause-line c =
-    let from_start = c.split_at.ensures.back ∙ ap (drop c.self.inside.start) c.as_slice.ensures.value in
+    let from_start = c.split_at.ensures.back
+    ∙ ap (drop c.self.inside.start) c.as_slice.ensures.value in
     rw (sym c.self.view_is, c.line_length-self-inside.ensures)
-    (line-after _ _ _ _ _ _ _ _ _ _ _ _ _ c.self.invariant from_start c.split_at-2.ensures.front c.go_on.ensures c.skipping.ensures.skipping
-    c.decode_slice-taken.ensures.limit c.decode_slice-taken.ensures.within c.decode_slice-taken.ensures.decodes c.event_from-event.result c.event_from-event.ensures)
+    (line-after _ _ _ _ _ _ _ _ _ _ _ _ _ c.self.invariant from_start c.split_at-2.ensures.front
+    c.go_on.ensures c.skipping.ensures.skipping
+    c.decode_slice-taken.ensures.limit c.decode_slice-taken.ensures.within
+    c.decode_slice-taken.ensures.decodes c.event_from-event.result c.event_from-event.ensures)

@@ -7,21 +7,28 @@ use Rattle.unftp_control_serve.proofs.engine.Engine.answer.Goals as goal
 pub returns-after-ended-clause-fed : goal.returns-after-ended-clause-fed
 returns-after-ended-clause-fed g c =
     let inside = c.self.inside in
-    let not_failed : has_failed inside.phase ≡ false = ap (λ engine. engine.failed) c.self.view_is ∙ c.requires.0 in
-    let not_finished : has_finished inside.phase ≡ false = ap (λ engine. engine.finished) c.self.view_is ∙ c.requires.1 in
+    let not_failed : has_failed inside.phase ≡ false = ap (λ engine. engine.failed) c.self.view_is
+    ∙ c.requires.0 in
+    let not_finished : has_finished inside.phase ≡ false =
+    ap (λ engine. engine.finished) c.self.view_is ∙ c.requires.1 in
     let before = c.self.invariant not_failed in
     let lines = c.in-Ok.ensures in
     rw (sym c.self.view_is) (elim c.if-ended.branch [
       | then-ended w ↦
           rw (w.self-is, w.clear.ensures.cleared, c.left-self-inside.ensures)
-          (fed-ended g.H.Handler.law (g.H.Handler.state c.args.handler.now) inside.decoder c.push.new.self c.answer_lines.new.decoder
-          inside.left (has_failed inside.phase) (has_finished inside.phase) c.args.piece.now c.in-Ok.ended
-          c.in_default.ensures.ok before.0 lines.ended lines.unread lines.unscanned lines.limit lines.held lines.scanned_once w.if-ended.true)
+          (fed-ended g.H.Handler.law (g.H.Handler.state c.args.handler.now) inside.decoder
+          c.push.new.self c.answer_lines.new.decoder
+          inside.left (has_failed inside.phase) (has_finished inside.phase) c.args.piece.now
+          c.in-Ok.ended
+          c.in_default.ensures.ok before.0 lines.ended lines.unread lines.unscanned lines.limit
+          lines.held lines.scanned_once w.if-ended.true)
       | else-ended w ↦
           w.self-is ∙ rw (not_failed, not_finished, c.left-self-inside.ensures)
-          (fed-on g.H.Handler.law (g.H.Handler.state c.args.handler.now) inside.decoder c.push.new.self c.answer_lines.new.decoder
+          (fed-on g.H.Handler.law (g.H.Handler.state c.args.handler.now) inside.decoder
+          c.push.new.self c.answer_lines.new.decoder
           inside.left false false c.args.piece.now c.in-Ok.ended
-          c.in_default.ensures.ok before.0 lines.ended lines.unread lines.unscanned lines.limit lines.held lines.scanned_once w.if-ended.false
+          c.in_default.ensures.ok before.0 lines.ended lines.unread lines.unscanned lines.limit
+          lines.held lines.scanned_once w.if-ended.false
           (lines.kept w.if-ended.false))
     ])
 

@@ -10,6 +10,21 @@ user = record { body = codes "USER a\r"; whole = refl; one_end = search rules }
 pub returns : goal.returns
 unfolding is_utf8 chars utf8_lossy utf8_valid_len utf8_error_len lib.Utf8.encode
 returns c = record {
-  field = record { line = codes "USER a\r\n"; after = codes "NO"; is_line = user; whole = refl; short = refl; takes_memory = (refl, refl) };
-  within_the_limit = record { line = codes "USER a\r\n"; after = []; is_line = user; whole = refl; short = refl; takes_memory = (refl, refl) };
+  field = record {
+    line = codes "USER a\r\n";
+    after = codes "NO";
+    is_line = user;
+    whole = refl;
+    short = refl;
+    takes_memory = (refl, refl);
+  };
+  within_the_limit =
+      record {
+        line = codes "USER a\r\n";
+        after = [];
+        is_line = user;
+        whole = refl;
+        short = refl;
+        takes_memory = (refl, refl);
+      };
 }

@@ -27,16 +27,52 @@ stayed = (stay_dropped _ yes, (stay_dropped _ yes, (stay_dropped _ yes, (stay_dr
 pub with_spec : {M : Type 1} → statement M
 with_spec 𝓤 𝓛 𝓜 𝓡 wired =
     let c = f.clauses 𝓛 𝓜.mem 𝓡.returns in let W = walk_of 𝓛 f.ended stayed c in
-    proved 𝓛 f.ended stayed c 𝓜 𝓡
-    (Goes-dropped 𝓛 1 (RefOf (0 ∷ []) tt (plain (λ _. R)) (λ _. tt)) yes (λ κs x w. refl), (Goes-dropped 𝓛 1 (plain (λ _. usize)) yes (λ κs x w. refl), (Goes-dropped 𝓛 1 (plain (λ _. usize)) yes (λ κs x w. refl), (Goes-dropped 𝓛 1 (plain (λ _. usize)) yes (λ κs x w. refl), tt))))
+    proved 𝓛 f.ended stayed c 𝓜 𝓡 (
+      Goes-dropped 𝓛 1 (RefOf (0 ∷ []) tt (plain (λ _. R)) (λ _. tt)) yes (λ κs x w. refl),
+      (
+        Goes-dropped 𝓛 1 (plain (λ _. usize)) yes (λ κs x w. refl),
+        (
+          Goes-dropped 𝓛 1 (plain (λ _. usize)) yes (λ κs x w. refl),
+          (Goes-dropped 𝓛 1 (plain (λ _. usize)) yes (λ κs x w. refl), tt),
+        ),
+      ),
+    )
     f.Key.name code.function (code.unfolded 𝓤 𝓛.H 𝓜 𝓡 wired)
-    (λ κs. (shr_vals, (uint_vals w64, (uint_vals w64, (uint_vals w64, tt))))) (λ κs. (shr_Tells (named 0) κs.0 R, (uint_Tells w64, (uint_Tells w64, (uint_Tells w64, tt))))) (λ κs qs bounds a _ are.
+    (λ κs. (shr_vals, (uint_vals w64, (uint_vals w64, (uint_vals w64, tt)))))
+    (λ κs. (
+      shr_Tells (named 0) κs.0 R,
+      (uint_Tells w64, (uint_Tells w64, (uint_Tells w64, tt))),
+    )) (λ κs qs bounds a _ are.
     let n = a.0.now ++ replicate (max a.1.1.0 (a.1.1.1.0 - length a.0.now)) a.1.0 in
-    let y : W.Ghost = ((κs, qs, bounds, a, (shr_vals a.0, (uint_vals w64 a.1.0, (uint_vals w64 a.1.1.0, (uint_vals w64 a.1.1.1.0, tt))))), tt) in
-    qed 𝓛 ((raw (alive 𝓛 f.signature κs qs) ⊛ ‵ (owns (types_at f.signature.params κs) a y.0.4)) ∷ raw ((c κs a).requires tt) ∷ []) ∵ move ! (1 ∷ []) $ drop ! $ split ! $ move ! (1 ∷ []) $ drop ! $
-    enter ! _ _ _ _ _ $ alloc_all ! (λ l. pass_all ! refl ((tt, tt), ((tt, record { fits = are.1.0.1 }), ((tt, record { fits = are.1.1.0.1 }), ((tt, record { fits = are.1.1.1.0.1 }), tt)))) $
+    let y : W.Ghost = (
+      (
+        κs,
+        qs,
+        bounds,
+        a,
+        (
+          shr_vals a.0,
+          (uint_vals w64 a.1.0, (uint_vals w64 a.1.1.0, (uint_vals w64 a.1.1.1.0, tt))),
+        ),
+      ),
+      tt,
+    ) in
+    qed 𝓛 ((raw (alive 𝓛 f.signature κs qs) ⊛ ‵ (owns (types_at f.signature.params κs) a y.0.4)) ∷
+    raw ((c κs a).requires tt) ∷ []) ∵ move ! (1 ∷ []) $ drop ! $ split ! $ move !
+    (1 ∷ []) $ drop ! $
+    enter ! _ _ _ _ _ $ alloc_all !
+    (λ l. pass_all ! refl (
+      (tt, tt),
+      (
+        (tt, record { fits = are.1.0.1 }),
+        ((tt, record { fits = are.1.1.0.1 }), ((tt, record { fits = are.1.1.1.0.1 }), tt)),
+      ),
+    ) $
     sets ! (agg ! (and_then ! (unit_lit !) (no_more !))) refl (tt, (tt, tt)) $
     trace_made ! n $
     returns ! (look_at ! 0 refl) $ free_all ! refl $
-    suffices ! _ (ends_at 𝓛 f.ended stayed c y sealed n (tt, (tt, (tt, (tt, tt)))) (tt, (tt, (tt, (tt, tt))))) $ says ! refl $
-    nothing ! $ nothing ! $ fjoin ! $ nothing ! $ fjoin ! $ nothing ! $ fjoin ! $ nothing ! $ fjoin ! $ move ! (2 ∷ 0 ∷ 1 ∷ []) $ done !))
+    suffices ! _
+    (ends_at 𝓛 f.ended stayed c y sealed n (tt, (tt, (tt, (tt, tt))))
+    (tt, (tt, (tt, (tt, tt))))) $ says ! refl $
+    nothing ! $ nothing ! $ fjoin ! $ nothing ! $ fjoin ! $ nothing ! $ fjoin ! $ nothing ! $ fjoin
+    ! $ move ! (2 ∷ 0 ∷ 1 ∷ []) $ done !))
