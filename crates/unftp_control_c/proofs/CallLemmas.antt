@@ -6,7 +6,7 @@ use Rattle.unftp_control_defs.specs.NameAndValue.{command_number}
 use Rattle.unftp_control_defs.specs.Outcome.{outcome}
 use Rattle.unftp_control_codecs.specs.LineFeed.{line_feed_from}
 use Rattle.unftp_control_c.specs.declared.status.Status.TheVariants.{More, NoRoom, OutOfMemory, InvalidArgument}
-use Rattle.unftp_control_c.specs.Next.{Call, Left, Leaves, answered, by_line_feed, ended, gives, incomplete, is_long, is_valid, kept, line_of, next_of, text_of}
+use Rattle.unftp_control_c.specs.Next.{Call, Left, Leaves, answered, by_line_feed, ended, gives, incomplete, is_long, is_valid, kept, line_of, next_of, area_text}
 use Rattle.unftp_control_c.specs.Numbers.{refusal_status, status_number}
 use Rattle.unftp_control_c.specs.Taking.{gives_none}
 
@@ -56,7 +56,7 @@ module _ (call : Call) where
 
   left_command : (k : ℕ) (command : FtpCommand) → valid ≡ true → feed ≡ Some k
       → is_long call.connection (k + 1) ≡ false → outcome (take (k + 1) call.bytes) ≡ Ok command
-      → (room : Bool) → nat_le (length (text_of command)) (length call.area) ≡ room
+      → (room : Bool) → nat_le (length (area_text command)) (length call.area) ≡ room
       → NextLeft call (gives call.connection call.area (k + 1) command)
   left_command k command ok at short read true e = rw e (gave (command_gives command) (omega arith))
   left_command k command ok at short read false e = rw e (no_room k command ok at short read refl)
@@ -65,7 +65,7 @@ module _ (call : Call) where
       → (answer : Answer) → outcome (take (k + 1) call.bytes) ≡ answer
       → NextLeft call (answered call (k + 1) answer)
   left_answer k ok at short (Ok command) read =
-      left_command k command ok at short read (nat_le (length (text_of command)) (length call.area))
+      left_command k command ok at short read (nat_le (length (area_text command)) (length call.area))
       refl
   left_answer k ok at short (Err refusal) read = gave (refusal_gives refusal) (omega arith)
 

@@ -89,9 +89,9 @@ name_of command = (name_and_value command).0
 abbrev pub value_of_command : FtpCommand → Bytes
 value_of_command command = unwrap_or (name_and_value command).1 []
 
--- what is written of a command: its name, and then its value
-abbrev pub text_of : FtpCommand → Bytes
-text_of command = name_of command ++ value_of_command command
+-- what the area has of a command: its name, and then its value
+abbrev pub area_text : FtpCommand → Bytes
+area_text command = name_of command ++ value_of_command command
 
 -- so many bytes are used up, and these are the lengths of the command's name and value
 abbrev pub line_of : ℕ → FtpCommand → Line
@@ -104,11 +104,11 @@ line_of n command = record {
 -- The command of a line of n bytes, where the area has room for its text. Else nothing is used up,
 -- and the area needs the two lengths.
 abbrev pub gives : Connection → Bytes → ℕ → FtpCommand → Left
-gives connection area n command = if nat_le (length (text_of command)) (length area)
+gives connection area n command = if nat_le (length (area_text command)) (length area)
     then record {
       result = command_number command;
       connection = resumed connection 0 false;
-      area = overwritten (text_of command) area;
+      area = overwritten (area_text command) area;
       line = line_of n command;
     }
     else record {

@@ -6,7 +6,7 @@ use Rattle.unftp_control_defs.specs.Bytes.{Bytes}
 use Rattle.unftp_control_defs.specs.FtpCommand.{FtpCommand}
 use Rattle.unftp_control_defs.specs.NameAndValue.{command_number}
 use Rattle.unftp_control_c.specs.declared.status.Status.TheVariants.{NoRoom, OutOfMemory}
-use Rattle.unftp_control_c.specs.Next.{Call, Left, Leaves, kept, name_of, text_of, value_of_command}
+use Rattle.unftp_control_c.specs.Next.{Call, Left, Leaves, kept, name_of, area_text, value_of_command}
 use Rattle.unftp_control_c.specs.Numbers.{status_number}
 use Rattle.unftp_control_c.specs.Taking.{Caller, after_call, call_of, gives_none}
 use Rattle.unftp_control_c.proofs.CallLemmas.{NextLeft, invalid, asks, gave, no_room, command_gives, left_so, gives_some}
@@ -30,8 +30,8 @@ module _ (caller : Caller) (area : Bytes) (left : Left) where
 -- an area as long as a call without room has reported
 room_enough : (command : FtpCommand) (wider : Bytes)
     → length wider ≡ length (name_of command) + length (value_of_command command)
-    → nat_le (length (text_of command)) (length wider) ≡ true
-room_enough command wider wide = le-leb (length (text_of command)) (length wider)
+    → nat_le (length (area_text command)) (length wider) ≡ true
+room_enough command wider wide = le-leb (length (area_text command)) (length wider)
     (omega (arith, wide, length-append (name_of command) (value_of_command command)))
 
 module _ (caller : Caller) (area wider : Bytes) (left again : Left) where

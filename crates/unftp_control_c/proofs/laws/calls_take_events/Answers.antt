@@ -16,7 +16,7 @@ use Rattle.unftp_control_defs.proofs.TakenEventLemmas.{TakesEvent-events}
 use Rattle.unftp_control_codecs.specs.LineFeed.{is_line_feed, line_feed_from}
 use Rattle.unftp_control_codecs.proofs.LineFeedLemmas.{NoLineFeed, line_feed_at, line_feed_nowhere, lacks_upto, none_below, none_before, lf_at, unskipped, longer}
 use Rattle.unftp_control_c.specs.declared.status.Status.TheVariants.{More, OutOfMemory}
-use Rattle.unftp_control_c.specs.Next.{Call, Left, Leaves, answered, by_line_feed, ended, gives, incomplete, is_long, is_valid, kept, line_limit, name_of, next_of, resumed, text_of, value_of_command}
+use Rattle.unftp_control_c.specs.Next.{Call, Left, Leaves, answered, by_line_feed, ended, gives, incomplete, is_long, is_valid, kept, line_limit, name_of, next_of, resumed, area_text, value_of_command}
 use Rattle.unftp_control_c.specs.Numbers.{status_number}
 use Rattle.unftp_control_c.specs.Taking.{AreCallerSteps, Called, Caller, CallerStep, Given, Received, after_call, after_piece, all_given, call_of, given_by, given_for, gives_none, input_of, new_caller}
 use Rattle.unftp_control_c.specs.declared.next.Connection.{Connection}
@@ -191,11 +191,11 @@ module _ (limit : Option ℕ) (now : Caller) (dropped : Bytes) (kept_so : IsKept
 
     of_command : (command : FtpCommand) → outcome line ≡ Ok command
         → is_long call.connection (k + 1) ≡ false
-        → (room : Bool) → nat_le (length (text_of command)) (length area) ≡ room
+        → (room : Bool) → nat_le (length (area_text command)) (length area) ≡ room
         → DoesSo (gives now.connection area (k + 1) command)
     of_command command read short true e =
         let parts = parts_apart (name_of command) (value_of_command command)
-        (drop (length (text_of command)) area) in
+        (drop (length (area_text command)) area) in
         rw e (took false short _ (rw (command_gives command, parts.0, parts.1, read) refl) refl
         refl)
     of_command command read short false e = rw e (unchanged _ refl refl refl)
@@ -203,7 +203,7 @@ module _ (limit : Option ℕ) (now : Caller) (dropped : Bytes) (kept_so : IsKept
     of_answer : (answer : Answer) → outcome line ≡ answer → is_long call.connection (k + 1) ≡ false
         → DoesSo (answered call (k + 1) answer)
     of_answer (Ok command) read short =
-        of_command command read short (nat_le (length (text_of command)) (length area)) refl
+        of_command command read short (nat_le (length (area_text command)) (length area)) refl
     of_answer (Err refusal) read short =
         took false short _ (rw (refusal_gives refusal, read, status_of_refusal refusal) refl) refl
         refl
