@@ -13,6 +13,7 @@ mod PendingLineLemmas
 mod EventMemoryLemmas
 mod NeededLemmas
 mod NoonLemmas
+mod ConversationLemmas
 pub use Rattle.unftp_control_defs.proofs.LineLemmas
 pub use Rattle.unftp_control_defs.proofs.RunLemmas
 pub use Rattle.unftp_control_serve.proofs.SendLemmas

@@ -1,5 +1,6 @@
 pub mod Snapshots
 pub mod RunEnd
+pub mod Conversation
 pub use Rattle.unftp_control_defs.specs.Bytes
 pub use Rattle.unftp_control_defs.specs.Lines
 pub use Rattle.unftp_control_defs.specs.Verbs

@@ -27,9 +27,11 @@ ghost use Rattle.unftp_control_defs.specs.ComputedValue.{value_of};
 ghost use Rattle.unftp_control_defs.specs.Verbs.{Cut, verb_of, parameter_of, upper};
 ghost use Rattle.unftp_control.specs.RunEnd.{EndsAfter, EndsNowhere};
 
+pub mod both_ends;
 pub mod examples;
 pub mod replies;
 
+pub use both_ends::{canonical_lines_change_nothing, conversation};
 pub use replies::{
     any_cutting_of_replies, one_front, one_reading, replies_read_back, replies_stay,
     too_long_replies_stay,

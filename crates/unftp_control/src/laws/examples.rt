@@ -1,6 +1,7 @@
 //! Examples of the definitions of the upper crates, worked out by hand: for each one that holds and
 //! one that doesn't, at the boundary.
 
+pub mod both_ends;
 pub mod decoding;
 pub mod engine;
 pub mod lines;

@@ -1,0 +1,189 @@
+-- What a client and a server understand of each other.
+use Rattle.std.proofs.Common.{◌≡◌, ℕ, ◌≤◌, List, [], ◌∷◌, ◌++◌, flat_map, filter_map, map, length, drop, Option, Some, None, Ok, Err, refl, sym, ap, subst, ◌∙◌, arith}
+use Rattle.std.specs.Prelude.{suc}
+use Rattle.std.specs.List.{AllByRecursion, concat}
+use Rattle.std.proofs.lemmas.List.{append-nil}
+use Rattle.unftp_control_defs.specs.Bytes.{Bytes}
+use Rattle.unftp_control_defs.specs.Events.{Command, event_for, event_of, events}
+use Rattle.unftp_control_defs.specs.FtpCommand.{Answer, FtpCommand}
+use Rattle.unftp_control_defs.specs.FtpReply.{FtpReply, Nothing, CodeAndMsg, MultiLine, IsPlain, encoded, lines_as_read, reply_as_read}
+use Rattle.unftp_control_defs.specs.Lines.{IsLine, lines_of, incomplete_line}
+use Rattle.unftp_control_defs.specs.Outcome.{outcome}
+use Rattle.unftp_control_defs.specs.ReplyReader.{HasFront}
+use Rattle.unftp_control_defs.specs.TakingSteps.{AreReplies, AreTakingSteps, TakesReply, TakingStep, all_pushed, all_taken}
+use Rattle.unftp_control_defs.proofs.CanonicalLineEndLemmas.{IsLine-canonical_line}
+use Rattle.unftp_control_defs.proofs.CanonicalLineLemmas.{outcome-canonical_line}
+use Rattle.unftp_control_defs.proofs.CommandLineLemmas.{HasLine-outcome, HasTypedFields-outcome}
+use Rattle.unftp_control_defs.proofs.EncodingLemmas.{ReadsBack-encoded}
+use Rattle.unftp_control_defs.proofs.ForwardedLineLemmas.{IsLine-forwarded_line, outcome-forwarded_line}
+use Rattle.unftp_control_defs.proofs.LineEventLemmas.{events-canonical_line}
+use Rattle.unftp_control_defs.proofs.LineLemmas.{Lines-lines_of, events-within, lines_of-concat}
+use Rattle.unftp_control_defs.proofs.ReplyAppendLemmas.{TakesReply-append}
+use Rattle.unftp_control_defs.proofs.ReplyCasesLemmas.{front_within}
+use Rattle.unftp_control_defs.proofs.ReplyUniqueLemmas.{FrontReply-unique}
+use Rattle.unftp_control.specs.Conversation.{CanBeSent, IsReadable, KeepsMeaning, Show, canonical_if_read, forwarded_if_read, rewritten, sent}
+use Rattle.unftp_control.proofs.ReplyStepLemmas.{AreReplies-all, AreReplies-unique, steps-replies}
+
+-- Lines, one after the other.
+pub events-sent : (limit : Option ℕ) (commands : List FtpCommand)
+    → AllByRecursion (CanBeSent limit) commands
+    → events limit (sent commands) ≡ map Command commands
+events-sent limit [] each = refl
+events-sent limit (command ∷ commands) each =
+    events-canonical_line limit command (sent commands) each.0.0 each.0.1 each.0.2
+    ∙ ap (λ more. Command command ∷ more) (events-sent limit commands each.1)
+
+pub events-lines : (limit : Option ℕ) (lines : List Bytes) → AllByRecursion IsLine lines
+    → events limit (concat lines) ≡ map (event_for limit) lines
+events-lines limit lines each = ap (map (event_for limit))
+    (ap lines_of (sym (append-nil (concat lines))) ∙ (lines_of-concat lines [] each tt).0)
+
+-- What replies show.
+all_read : (replies : List FtpReply) → AllByRecursion IsReadable replies
+    → Show (filter_map reply_as_read replies) replies
+all_read [] each = refl
+all_read (Nothing ∷ replies) each = absurd (each.0.1 refl)
+all_read (CodeAndMsg code text ∷ replies) each =
+    ap (λ more. Some (code, text ∷ []) ∷ more) (all_read replies each.1)
+all_read (MultiLine code lines ∷ replies) each =
+    ap (λ more. Some (code, lines_as_read lines) ∷ more) (all_read replies each.1)
+
+all_plain : (replies : List FtpReply) → AllByRecursion IsReadable replies
+    → AllByRecursion IsPlain replies
+all_plain [] each = tt
+all_plain (reply ∷ replies) each = (each.0.0, all_plain replies each.1)
+
+same_length : (read : List (ℕ × List Bytes)) (replies : List FtpReply) → Show read replies
+    → length read ≡ length replies
+same_length [] [] show = refl
+same_length [] (reply ∷ replies) show = absurd (cc)
+same_length (reply ∷ read) [] show = absurd (cc)
+same_length (reply ∷ read) (other ∷ replies) show =
+    ap suc (same_length read replies (ap (drop 1) show))
+
+none_of_nothing : ¬ HasFront []
+none_of_nothing (code, lines, used, front) =
+    let within = front_within [] code lines used front in omega (arith, within.0, within.1)
+
+-- Replies that are taken from the first bytes are the first of those that are taken from all.
+AreReplies-append : (input more : Bytes) (taken : List (ℕ × List Bytes)) (pending : Bytes)
+    → AreReplies input taken pending → AreReplies (input ++ more) taken (pending ++ more)
+AreReplies-append input more [] pending are = ap (λ bytes. bytes ++ more) are
+AreReplies-append input more (reply ∷ taken) pending are = (
+  are.0 ++ more,
+  TakesReply-append input more reply are.0 are.1,
+  AreReplies-append are.0 more taken pending are.2,
+)
+
+first_ones : (input : Bytes) (taken all : List (ℕ × List Bytes)) (pending : Bytes)
+    → AreReplies input taken pending → AreReplies input all []
+    → (more : List (ℕ × List Bytes)) × (taken ++ more ≡ all)
+first_ones input [] all pending h k = (all, refl)
+first_ones input (p ∷ taken) [] pending h k = absurd (none_of_nothing
+    (subst HasFront (sym k) (p.0, p.1, h.1.used, h.1.front)))
+first_ones input (p ∷ taken) (q ∷ all) pending h k =
+    let same = FrontReply-unique input p.0 q.0 p.1 q.1 h.1.used k.1.used h.1.front k.1.front in
+    let dropped = ap (λ used. drop used input) (sym same.2) in
+    let following : k.0 ≡ h.0 = k.1.after_is ∙ dropped ∙ sym h.1.after_is in
+    let rest = first_ones h.0 taken all pending h.2
+    (subst (λ bytes. AreReplies bytes all []) following k.2) in
+    (rest.0, λ i. (same.0 i, same.1 i) ∷ rest.1 i)
+
+module _ (replies : List FtpReply) (readable : AllByRecursion IsReadable replies)
+    (steps : List (TakingStep (ℕ × List Bytes))) (pending : Bytes)
+    (are : AreTakingSteps TakesReply [] steps pending) where
+  abbrev text : Bytes
+  text = flat_map encoded replies
+
+  abbrev read : List (ℕ × List Bytes)
+  read = filter_map reply_as_read replies
+
+  all_of_text : AreReplies text read []
+  all_of_text =
+      (AreReplies-all text read).1 (ReadsBack-encoded replies (all_plain replies readable)).0
+
+  taken_of_pushed : AreReplies (all_pushed steps) (all_taken steps) pending
+  taken_of_pushed = steps-replies [] steps pending are
+
+  pub read_so_far : (later : Bytes) → all_pushed steps ++ later ≡ text
+      → (more : List (ℕ × List Bytes)) × Show (all_taken steps ++ more) replies
+  read_so_far later whole =
+      let from_text = subst (λ bytes. AreReplies bytes (all_taken steps) (pending ++ later)) whole
+      (AreReplies-append (all_pushed steps) later (all_taken steps) pending taken_of_pushed) in
+      let first = first_ones text (all_taken steps) read (pending ++ later) from_text all_of_text in
+      (first.0, ap (map Some) first.1 ∙ all_read replies readable)
+
+  pub read_all : all_pushed steps ≡ text → ¬ HasFront pending
+      → Show (all_taken steps) replies × (length (all_taken steps) ≡ length replies)
+      × (pending ≡ [])
+  read_all whole none =
+      let same = AreReplies-unique text (all_taken steps) read pending []
+      (subst (λ bytes. AreReplies bytes (all_taken steps) pending) whole taken_of_pushed) none
+      all_of_text none_of_nothing in
+      let show = ap (map Some) same.0 ∙ all_read replies readable in
+      (show, same_length (all_taken steps) replies show, same.1)
+
+-- Lines that are written anew.
+pub canonical-keeps : (line : Bytes) → IsLine line → (answer : Answer) → outcome line ≡ answer
+    → IsLine (canonical_if_read line answer)
+    × (outcome (canonical_if_read line answer) ≡ outcome line)
+canonical-keeps line is_line (Ok command) read =
+    let has = HasLine-outcome line command is_line read in (
+      IsLine-canonical_line command has,
+      outcome-canonical_line command has (HasTypedFields-outcome line command is_line read)
+          ∙ sym read,
+    )
+canonical-keeps line is_line (Err refusal) read = (is_line, refl)
+
+pub forwarded-keeps : (line : Bytes) → IsLine line → (answer : Answer) → outcome line ≡ answer
+    → IsLine (forwarded_if_read line answer)
+    × (outcome (forwarded_if_read line answer) ≡ outcome line)
+forwarded-keeps line is_line (Ok command) read = (
+  IsLine-forwarded_line line command is_line read,
+  outcome-forwarded_line line command is_line read ∙ sym read,
+)
+forwarded-keeps line is_line (Err refusal) read = (is_line, refl)
+
+module _ (rewrite : Bytes → Bytes) (keeps : KeepsMeaning rewrite) where
+  all_lines : (lines : List Bytes) → AllByRecursion IsLine lines
+      → AllByRecursion IsLine (map rewrite lines)
+  all_lines [] each = tt
+  all_lines (line ∷ lines) each = ((keeps line each.0).0, all_lines lines each.1)
+
+  same_outcomes : (lines : List Bytes) → AllByRecursion IsLine lines
+      → map (event_for None) (map rewrite lines) ≡ map (event_for None) lines
+  same_outcomes [] each = refl
+  same_outcomes (line ∷ lines) each =
+      λ i. event_of ((keeps line each.0).1 i) ∷ same_outcomes lines each.1 i
+
+  all_within : (limit : ℕ) (lines : List Bytes)
+      → AllByRecursion (λ line. (length line ≤ limit) × (length (rewrite line) ≤ limit)) lines
+      → AllByRecursion (λ line. length line ≤ limit) lines
+      × AllByRecursion (λ line. length line ≤ limit) (map rewrite lines)
+  all_within limit [] each = (tt, tt)
+  all_within limit (line ∷ lines) each = let more = all_within limit lines each.1 in
+      ((each.0.0, more.0), (each.0.1, more.1))
+
+  module _ (input : Bytes) where
+    lines_so : (lines_of (rewritten rewrite input) ≡ map rewrite (lines_of input))
+        × (incomplete_line (rewritten rewrite input) ≡ incomplete_line input)
+    lines_so = let of_input = Lines-lines_of input in
+        lines_of-concat (map rewrite (lines_of input)) (incomplete_line input)
+        (all_lines (lines_of input) of_input.each) of_input.unended
+
+    pub events-rewritten : events None (rewritten rewrite input) ≡ events None input
+    events-rewritten = ap (map (event_for None)) lines_so.0
+        ∙ same_outcomes (lines_of input) (Lines-lines_of input).each
+
+    pub incomplete-rewritten : incomplete_line (rewritten rewrite input) ≡ incomplete_line input
+    incomplete-rewritten = lines_so.1
+
+    pub events-rewritten_within : (limit : ℕ)
+        → AllByRecursion (λ line. (length line ≤ limit) × (length (rewrite line) ≤ limit))
+        (lines_of input)
+        → events (Some limit) (rewritten rewrite input) ≡ events (Some limit) input
+    events-rewritten_within limit each =
+        let both = all_within limit (lines_of input) each in
+        events-within limit (rewritten rewrite input)
+        (subst (AllByRecursion (λ line. length line ≤ limit)) (sym lines_so.0) both.1)
+        ∙ events-rewritten ∙ sym (events-within limit input both.0)

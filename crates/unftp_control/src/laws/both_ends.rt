@@ -1,0 +1,65 @@
+//! Laws of both ends of a control connection.
+ghost use Rattle.std.specs.Prelude.{◌≡◌, ◌≤◌, ℕ, Option, None, Some, List, [], ◌++◌, length, map};
+ghost use Rattle.std.specs.List.{AllByRecursion, concat};
+ghost use Rattle.unftp_control_defs.specs.Bytes.{Bytes};
+ghost use Rattle.unftp_control_defs.specs.Events.{Command, event_for, events};
+ghost use Rattle.unftp_control_defs.specs.FtpCommand.{FtpCommand};
+ghost use Rattle.unftp_control_defs.specs.Lines.{IsLine, incomplete_line, lines_of};
+ghost use Rattle.unftp_control_defs.specs.ReplyReader.{HasFront};
+ghost use Rattle.unftp_control_defs.specs.Run.{replies, run_for, text_for};
+ghost use Rattle.unftp_control_defs.specs.TakingSteps.{AreTakingSteps, TakesReply, TakingStep, all_pushed, all_taken};
+ghost use Rattle.unftp_control.specs.Conversation.{CanBeSent, IsReadable, KeepsMeaning, Show, canonical_of, forwarded_of, rewritten, sent};
+
+use unftp_control_serve::Handler;
+
+/// A client that writes lines and takes replies, and a server that answers its input, understand each
+/// other, whatever the pieces in either direction: the commands arrive in their order, and the client
+/// reads exactly one reply for each line of the run, at its place what the handler said to the line
+/// there. A refused line costs one reply, as any other. What the server writes is `text_for`, by the
+/// contract of `serve`; where its run ends, `one_run` says (RFC 959, sections 4.2 and 5.3).
+pub fn conversation<H: Handler>()
+    // The canonical lines of the commands are these commands; and any lines are one event each.
+    ensures commands { (limit : Option ℕ) (commands : List FtpCommand)
+        → AllByRecursion (CanBeSent limit) commands
+        → events limit (sent commands) ≡ map Command commands }
+    ensures lines { (limit : Option ℕ) (lines : List Bytes) → AllByRecursion IsLine lines
+        → events limit (concat lines) ≡ map (event_for limit) lines }
+    // The replies that the client has taken so far are the first ones,
+    ensures so_far { (limit : Option ℕ) (s : H.State) (input : Bytes)
+        (steps : List (TakingStep (ℕ × List Bytes))) (pending later : Bytes)
+        → AllByRecursion IsReadable (replies H.law s (run_for limit H.law s input))
+        → AreTakingSteps TakesReply [] steps pending
+        → all_pushed steps ++ later ≡ text_for limit H.law s input
+        → (more : List (ℕ × List Bytes))
+        × Show (all_taken steps ++ more) (replies H.law s (run_for limit H.law s input)) }
+    // and once all bytes came and no more can be taken, they are all, and no byte is pending.
+    ensures all { (limit : Option ℕ) (s : H.State) (input : Bytes)
+        (steps : List (TakingStep (ℕ × List Bytes))) (pending : Bytes)
+        → AllByRecursion IsReadable (replies H.law s (run_for limit H.law s input))
+        → AreTakingSteps TakesReply [] steps pending
+        → all_pushed steps ≡ text_for limit H.law s input → ¬ HasFront pending
+        → Show (all_taken steps) (replies H.law s (run_for limit H.law s input))
+        × (length (all_taken steps) ≡ length (run_for limit H.law s input))
+        × (pending ≡ []) }
+{}
+
+/// A proxy that writes each line anew changes nothing: neither the events of the input, nor what a
+/// server writes. The canonical line does, and so does the line that `forward` writes; a line that is
+/// refused is sent as it is.
+pub fn canonical_lines_change_nothing<H: Handler>()
+    ensures canonical { KeepsMeaning canonical_of }
+    ensures forwarded { KeepsMeaning forwarded_of }
+    ensures same_events { (rewrite : Bytes → Bytes) (input : Bytes) → KeepsMeaning rewrite
+        → events None (rewritten rewrite input) ≡ events None input }
+    // Under a limit too, where each line is within it before and after.
+    ensures within { (rewrite : Bytes → Bytes) (limit : ℕ) (input : Bytes)
+        → KeepsMeaning rewrite
+        → AllByRecursion (λ line. (length line ≤ limit) × (length (rewrite line) ≤ limit))
+        (lines_of input)
+        → events (Some limit) (rewritten rewrite input) ≡ events (Some limit) input }
+    ensures written { (rewrite : Bytes → Bytes) (s : H.State) (input : Bytes)
+        → KeepsMeaning rewrite
+        → text_for None H.law s (rewritten rewrite input) ≡ text_for None H.law s input }
+    ensures incomplete { (rewrite : Bytes → Bytes) (input : Bytes) → KeepsMeaning rewrite
+        → incomplete_line (rewritten rewrite input) ≡ incomplete_line input }
+{}
