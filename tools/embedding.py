@@ -15,8 +15,9 @@ usage: tools/embedding.py sessions|session SERVER..        the replies of the se
        tools/embedding.py symbols FOLDER                     the libraries there have these functions and no other global name
        tools/embedding.py results PROGRAM                    the version of the library, and a text for each result: PROGRAM is
                                                              tools/results.c
+       tools/embedding.py calls CALLS..                      what the header says of rooms and lengths: CALLS is tools/calls.c
 
-SERVER.. and REPLAY.. may be the program and what runs it. The last line says what was compared; the status is 0 where all is right.
+SERVER.., REPLAY.. and CALLS.. may be the program and what runs it. The last line says what was compared; the status is 0 where all is right.
 """
 
 import os
@@ -24,6 +25,7 @@ import pathlib
 import re
 import signal
 import socket
+import struct
 import subprocess
 import sys
 import tempfile
@@ -376,6 +378,23 @@ def check_forward(*program):
     return f"{read_back(program, 'forward')}, {len(cases)} rows compared"
 
 
+# the vector files with lines and streams that clients sent, and those with texts of replies
+INPUT_FILES = [*LINE_FILES, "decode.tsv", "client_streams.tsv", "encode.tsv"]
+
+
+def check_calls(*program):
+    """What the header says of rooms and lengths, over all that the vector files have between quotes."""
+    words = [word for name in INPUT_FILES for case, _ in rows(name) for word in re.findall(r'"(?:[^"\\]|\\.)*"', case)]
+    inputs = sorted({unquoted(word) for word in words} | {line for line, _ in long_lines()})
+    given = b"".join(struct.pack("<I", len(each)) + each for each in inputs)
+    run = subprocess.run(program, input=given, capture_output=True, timeout=LIFE)
+    said = run.stdout.decode(errors="replace").strip()
+    if run.returncode != 0 or run.stderr:
+        raise Wrong(f"status {run.returncode}: {said} {run.stderr!r}")
+    wants("the number of inputs", said.split(" ")[0], str(len(inputs)))
+    return said
+
+
 def check_valgrind(*logs):
     """The logs of the server and of its children."""
     for log in logs:
@@ -606,6 +625,11 @@ def names_of(*words):
     return sorted(line.split()[-1].split("@")[0] for line in output_of("nm", *words).splitlines() if len(line.split()) > 1)
 
 
+def version_number(text):
+    """A version as numbers."""
+    return [int(part) for part in text.split(".")]
+
+
 # what the libraries take from the C library, at most; the first three are the program's, where it has them
 MEMORY = ["free", "malloc", "realloc"]
 FROM_C = [*MEMORY, "memcmp", "memcpy", "memmove", "memset"]
@@ -624,6 +648,8 @@ def check_symbols(folder):
     wants("the libraries that the shared one needs", re.findall(r"\(NEEDED\).*\[(.*)\]", dynamic), ["libc.so.6"])
     wants("its name", re.findall(r"\(SONAME\).*\[(.*)\]", dynamic), [os.path.basename(loaded)])
     wants("its links", [os.path.realpath(name) for name in [loaded, linked]], [os.path.realpath(file)] * 2)
+    versions = re.findall(r"\(GLIBC_([\d.]+)\)", output_of("objdump", "-T", file))
+    wants("the least version of the C library that has all this", max(versions, key=version_number), "2.14")
     stack = re.findall(r"GNU_STACK.* (R\w+) +0x", output_of("readelf", "-lW", file))
     wants("the rights to its stack", stack, ["RW"])
     return f"{len(calls())} functions, and {len(FROM_C)} at most of the C library's"
@@ -660,6 +686,7 @@ CHECKS = {
     "parameters": check_parameters,
     "symbols": check_symbols,
     "results": check_results,
+    "calls": check_calls,
 }
 
 

@@ -72,5 +72,5 @@ def install(libraries, root, prefix):
         place(root / "lib/cmake/unftp_control" / name, None, filled(name))
     manual = root / "share/man/man3"
     place(manual / "unftp_control.3", TOP / "packaging/unftp_control.3")
-    for call in calls():
+    for call in [*calls(), "unftp_result_text"]:
         link(manual / f"{call}.3", "unftp_control.3")

@@ -1,6 +1,7 @@
 /*
- * Prints the version of the library, and a line for each number from 0 to 255: the number, a tab, and the text that the header has for
- * it. It doesn't compile where the header's types have other sizes than those of the library.
+ * Prints the version of the library, and a line for each number from 0 to 255: the number, a tab,
+ * and the text that the header has for it. It doesn't compile where the header's types are laid out
+ * in another way than those of the library.
  */
 #include <unftp_control.h>
 
