@@ -421,7 +421,7 @@ struct server {
     int stopping[2]; /* a pipe whose end for writing only this process has */
     long connections;
     bool is_failing;
-    sigset_t mask; /* while it waits; beside that it takes no signals */
+    sigset_t mask; /* while it waits no signal is blocked, else those that it handles are */
 };
 
 static volatile sig_atomic_t is_stopping;
@@ -459,7 +459,8 @@ static void handle_signals(struct server *server)
     sigaddset(&handled, SIGTERM);
     sigaddset(&handled, SIGINT);
     sigaddset(&handled, SIGCHLD);
-    if (sigprocmask(SIG_BLOCK, &handled, &server->mask) < 0)
+    sigemptyset(&server->mask);
+    if (sigprocmask(SIG_BLOCK, &handled, NULL) < 0)
         fail("server: sigprocmask");
 }
 
