@@ -31,7 +31,7 @@ import sys
 import tempfile
 import threading
 
-from library import SHARED, STATIC, TOP, calls, header, shared_names, version
+from library import SHARED, STATIC, TOP, calls, global_names, header, names_of, output_of, shared_names, version
 from rows import command_of, quoted, rows, unquoted
 
 RUST = TOP / "bindings/rust/src/ffi.rs"
@@ -615,16 +615,6 @@ def check_structs():
     return f"{len(found['the header'])} structs of {fields} fields in {', '.join(found)}"
 
 
-def output_of(*words):
-    """What a command prints."""
-    return subprocess.run(words, capture_output=True, encoding="utf-8", check=True, timeout=LIFE).stdout
-
-
-def names_of(*words):
-    """The names that nm prints."""
-    return sorted(line.split()[-1].split("@")[0] for line in output_of("nm", *words).splitlines() if len(line.split()) > 1)
-
-
 def version_number(text):
     """A version as numbers."""
     return [int(part) for part in text.split(".")]
@@ -633,21 +623,23 @@ def version_number(text):
 # what the libraries take from the C library, at most; the first three are the program's, where it has them
 MEMORY = ["free", "malloc", "realloc"]
 FROM_C = [*MEMORY, "memcmp", "memcpy", "memmove", "memset"]
+# what a C compiler has each shared library ask for
+WEAK = ("_ITM_", "__gmon_start__", "__cxa_finalize")
 
 
 def check_symbols(folder):
     """The static and the shared library define the header's functions, and nothing else, and need nothing but the C library."""
-    file, loaded, linked = (os.path.join(folder, name) for name in shared_names())
-    archive = os.path.join(folder, STATIC)
-    for what, words in {STATIC: ["-g", archive], SHARED: ["-D", file]}.items():
-        wants(f"the global names of {what}", names_of("--defined-only", *words), sorted(calls()))
-        needed = [name for name in names_of("--undefined-only", *words) if not name.startswith(("_ITM_", "__gmon", "__cxa_finalize"))]
+    folder = pathlib.Path(folder)
+    file, loaded, linked = (folder / name for name in shared_names())
+    wants("the global names", global_names(folder), (sorted(calls()),) * 2)
+    for what, words in {STATIC: ["-g", folder / STATIC], SHARED: ["-D", file]}.items():
+        needed = [name for name in names_of("--undefined-only", *words) if not name.startswith(WEAK)]
         if not set(MEMORY) <= set(needed) <= set(FROM_C):
             raise Wrong(f"{what} needs {needed}")
     dynamic = output_of("readelf", "-dW", file)
     wants("the libraries that the shared one needs", re.findall(r"\(NEEDED\).*\[(.*)\]", dynamic), ["libc.so.6"])
-    wants("its name", re.findall(r"\(SONAME\).*\[(.*)\]", dynamic), [os.path.basename(loaded)])
-    wants("its links", [os.path.realpath(name) for name in [loaded, linked]], [os.path.realpath(file)] * 2)
+    wants("its name", re.findall(r"\(SONAME\).*\[(.*)\]", dynamic), [loaded.name])
+    wants("its links", [loaded.resolve(), linked.resolve()], [file.resolve()] * 2)
     versions = re.findall(r"\(GLIBC_([\d.]+)\)", output_of("objdump", "-T", file))
     wants("the least version of the C library that has all this", max(versions, key=version_number), "2.14")
     stack = re.findall(r"GNU_STACK.* (R\w+) +0x", output_of("readelf", "-lW", file))

@@ -2,6 +2,7 @@
 
 import pathlib
 import re
+import subprocess
 
 TOP = pathlib.Path(__file__).resolve().parent.parent
 HEADER = TOP / "include/unftp_control.h"
@@ -32,6 +33,22 @@ def calls():
 def shared_names():
     """The names of the shared library: the file, the one that programs load, and the one that a linker takes."""
     return f"{SHARED}.{version()}", f"{SHARED}.{version().split('.')[0]}", SHARED
+
+
+def output_of(*words):
+    """What a command prints."""
+    return subprocess.run(words, capture_output=True, encoding="utf-8", check=True).stdout
+
+
+def names_of(*words):
+    """The names that nm prints, without their versions."""
+    lines = [line.split() for line in output_of("nm", *words).splitlines()]
+    return sorted(line[-1].split("@")[0] for line in lines if len(line) > 1)
+
+
+def global_names(folder):
+    """The names that the static and the shared library of a folder define for programs."""
+    return names_of("-g", "--defined-only", folder / STATIC), names_of("-D", "--defined-only", folder / shared_names()[0])
 
 
 def place(root, source, text=None, mode=0o644):
