@@ -447,13 +447,13 @@ def check_numbers():
     """The definitions' numbers, which the contracts tie to the code, are those of the header, and those of bindings/rust are among them."""
     commands = numbers_in("crates/unftp_control_defs/specs/NameAndValue.antt", r"^command_number \(?(\w+).* = (\d+)$")
     statuses = numbers_in("crates/unftp_control_c/specs/Numbers.antt", r"^status_number (\w+) = (\d+)$")
-    header = header_numbers()
-    wants_numbers("the header", header, {**commands, **statuses})
-    wants("the number of the header's names", len(header), len(commands) + len(statuses))
+    declared = header_numbers()
+    wants_numbers("the header", declared, {**commands, **statuses})
+    wants("the number of the header's names", len(declared), len(commands) + len(statuses))
     if RUST.exists():
         used = numbers_in(RUST, r"^pub(?:\(crate\))? const (\w+): u32 = (\d+);")
-        if not commands.items() <= used.items() <= header.items():
-            raise Wrong(f"{RUST.name} has other numbers: {sorted(set(used.items()) ^ set(header.items()))}")
+        if not commands.items() <= used.items() <= declared.items():
+            raise Wrong(f"{RUST.name} has other numbers: {sorted(set(used.items()) ^ set(declared.items()))}")
     return f"{len(commands)} commands, {len(statuses)} other results and {check_codes()}"
 
 

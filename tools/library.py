@@ -51,12 +51,12 @@ def global_names(folder):
     return names_of("-g", "--defined-only", folder / STATIC), names_of("-D", "--defined-only", folder / shared_names()[0])
 
 
-def place(root, source, text=None, mode=0o644):
-    """Puts a file at root, or a text in place of it."""
-    root.parent.mkdir(parents=True, exist_ok=True)
-    root.unlink(missing_ok=True)
-    root.write_bytes(source.read_bytes() if text is None else text.encode())
-    root.chmod(mode)
+def place(at, content, mode=0o644):
+    """Makes a file of these bytes, and the folders above it."""
+    at.parent.mkdir(parents=True, exist_ok=True)
+    at.unlink(missing_ok=True)
+    at.write_bytes(content)
+    at.chmod(mode)
 
 
 def link(at, target):
@@ -66,28 +66,28 @@ def link(at, target):
 
 
 def filled(name, **words):
-    """A file of packaging/ with its words, as @VERSION@, filled in."""
+    """A file of packaging/ as bytes, with its words, as @VERSION@, filled in."""
     file, loaded, _ = shared_names()
     words |= {"VERSION": version(), "SERIES": version().rpartition(".")[0], "FILE": file, "LOADED": loaded}
     text = (TOP / "packaging" / name).read_text(encoding="utf-8")
     for word, value in words.items():
         text = text.replace(f"@{word}@", value)
-    return text
+    return text.encode()
 
 
 def install(libraries, root, prefix):
     """Puts the header, the two libraries, what pkg-config and CMake read, and the page of the manual below root; what pkg-config reads
     has this prefix."""
     file, loaded, linked = shared_names()
-    place(root / "include" / HEADER.name, HEADER)
-    place(root / "lib" / STATIC, libraries / STATIC)
-    place(root / "lib" / file, libraries / file, mode=0o755)
+    place(root / "lib" / STATIC, (libraries / STATIC).read_bytes())
+    place(root / "lib" / file, (libraries / file).read_bytes(), mode=0o755)
     link(root / "lib" / loaded, file)
     link(root / "lib" / linked, loaded)
-    place(root / "lib/pkgconfig/unftp_control.pc", None, filled("unftp_control.pc", PREFIX=prefix))
+    place(root / "include" / HEADER.name, HEADER.read_bytes())
+    place(root / "lib/pkgconfig/unftp_control.pc", filled("unftp_control.pc", PREFIX=prefix))
     for name in ["unftp_control-config.cmake", "unftp_control-config-version.cmake"]:
-        place(root / "lib/cmake/unftp_control" / name, None, filled(name))
+        place(root / "lib/cmake/unftp_control" / name, filled(name))
     manual = root / "share/man/man3"
-    place(manual / "unftp_control.3", TOP / "packaging/unftp_control.3")
+    place(manual / "unftp_control.3", filled("unftp_control.3"))
     for call in [*calls(), "unftp_result_text"]:
         link(manual / f"{call}.3", "unftp_control.3")
