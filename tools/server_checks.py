@@ -206,26 +206,26 @@ def check_connections(program):
 
 
 def check_idle(program):
-    """With an idle timeout of a second: that a command comes is what counts."""
-    with Server([program, "-i", "1"]) as server:
+    """With an idle timeout of two seconds: that a command comes is what counts."""
+    with Server([program, "-i", "2"]) as server:
 
         def silent():
             with server.connect() as connection:
-                within("a silent client", 0.8, 4, lambda: wants("a silent client", all_of(connection), TIMEOUT))
+                within("a silent client", 1.5, 8, lambda: wants("a silent client", all_of(connection), TIMEOUT))
 
         def slow():
             with server.connect() as connection:
-                within("a slow client", 0.8, 4, lambda: until_refused(connection, b"N", 0.1))
+                within("a slow client", 1.5, 8, lambda: until_refused(connection, b"N", 0.1))
                 wants("a slow client", receive(connection, len(TIMEOUT)), TIMEOUT)
 
         def endless():
             with server.connect() as connection:
-                within("a line without an end", 0.8, 6, lambda: until_refused(connection, b"N" * 4096))
+                within("a line without an end", 1.5, 8, lambda: until_refused(connection, b"N" * 4096, 0.001))
 
         def busy():
             with server.connect() as connection:
-                for _ in range(5):
-                    time.sleep(0.4)
+                for _ in range(6):
+                    time.sleep(0.5)
                     asked(connection)
 
         side_by_side(silent, slow, endless, busy)
@@ -261,7 +261,7 @@ def check_staying(program):
     """After QUIT the server's side is at its end at once. What is dropped then has a bound in seconds and one in bytes."""
     with Server([program, "-d", "2"]) as server, server.connect() as staying:
         asked(staying, QUIT, BYE)
-        within("the end of the server's side", 0, 1, lambda: wants("what comes after 221", all_of(staying), b""))
+        within("the end of the server's side", 0, 1.5, lambda: wants("what comes after 221", all_of(staying), b""))
         within("a client that stays", 0.5, 6, lambda: until_refused(staying, b"x", 0.1))
     with Server([program, "-d", "60"]) as server, server.connect() as endless:
         endless.sendall(QUIT)

@@ -1,4 +1,4 @@
-/* What README shows first. */
+/* The first example: takes one line, and prints its path. */
 #include <stdio.h>
 #include <unftp_control.h>
 

@@ -69,7 +69,7 @@ struct options {
 /* A client, and the bytes that it sent: those from start to end are pending. */
 struct client {
     int socket;
-    int stopping; /* a pipe that is at its end once the server stops; -1 where that is no matter */
+    int stopping; /* a pipe that is at its end once the server stops; -1 at the session's end */
     int64_t deadline;
     const struct options *options;
     struct unftp_connection connection;
@@ -390,8 +390,8 @@ static void set_nonblocking(int socket)
         fail("server: fcntl");
 }
 
-/* Has urgent bytes read where they were sent: the line feed of an ABOR may be one, and would be
-   missing (RFC 959, section 4.1.3). Each reply is sent at once, and no call waits but wait_for. */
+/* Urgent bytes are to be read where they were sent: the line feed of an ABOR may be one, and would
+   be missing (RFC 959, section 4.1.3). Each reply is sent at once. No call waits but wait_for. */
 static void prepare(int socket)
 {
     set_option(socket, SOL_SOCKET, SO_OOBINLINE);
@@ -478,7 +478,7 @@ static bool wait_for_client(const struct server *server)
     return count > 0;
 }
 
-/* Counts the sessions that have ended no longer; without WNOHANG it waits for all of them. */
+/* Takes the sessions that have ended off the count; without WNOHANG it waits for all of them. */
 static void reap_sessions(struct server *server, int options)
 {
     int status;
