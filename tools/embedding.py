@@ -1,17 +1,23 @@
 #!/usr/bin/env python3
-"""Makes the checks of tools/embedding that talk to the programs in examples/.
+"""Makes the checks of tools/embedding that compare answers with the vector files, and what the header says with the sources.
 
 usage: tools/embedding.py sessions|session SERVER..        the replies of the server: to all lines, or to one line of each kind
        tools/embedding.py memory PRELOAD SERVER              what it sends at each failed allocation: PRELOAD is tools/fail_allocation.c
        tools/embedding.py answers REPLAY FILE SKIPPED        the answers to a vector file, of which so many may be skipped
        tools/embedding.py read|canonical|forward REPLAY..    the replies that servers wrote; the lines that are written for clients' lines
        tools/embedding.py valgrind LOG..                     whether each process ended without an error
-       tools/embedding.py numbers                            the numbers of the header and of examples/rust are the definition's, and those
+       tools/embedding.py numbers                            the numbers of the header and of bindings/rust are the definition's, and those
                                                              of replies also the documents'
-       tools/embedding.py exports                            header, library and examples/rust have the same functions, which it lists
+       tools/embedding.py structs                            header, library and bindings/rust have the same structs: names, order and
+                                                             types of their fields
+       tools/embedding.py exports                            they have the same functions, which it lists
        tools/embedding.py parameters FUNCTION                names, order and types of its parameters in the three, and of its result
+       tools/embedding.py symbols FOLDER                     the libraries there have these functions and no other global name
+       tools/embedding.py results PROGRAM                    the version of the library, and a text for each result: PROGRAM is
+                                                             tools/results.c
+       tools/embedding.py calls CALLS..                      what the header says of rooms and lengths: CALLS is tools/calls.c
 
-SERVER.. and REPLAY.. may be the program and what runs it. The last line says what was compared; the status is 0 where all is right.
+SERVER.., REPLAY.. and CALLS.. may be the program and what runs it. The last line says what was compared; the status is 0 where all is right.
 """
 
 import os
@@ -19,13 +25,16 @@ import pathlib
 import re
 import signal
 import socket
+import struct
 import subprocess
 import sys
+import tempfile
 import threading
 
+from library import SHARED, STATIC, TOP, calls, global_names, header, names_of, output_of, shared_names, version
 from rows import command_of, quoted, rows, unquoted
 
-TOP = pathlib.Path(__file__).resolve().parent.parent
+RUST = TOP / "bindings/rust/src/ffi.rs"
 LINE_FILES = ["parse.tsv", "client_lines.tsv"]
 
 HOST = "127.0.0.1"
@@ -119,35 +128,46 @@ def reply_to(answer):
 
 
 class Server:
-    """The server while it runs. `timeout` ends it, even where this script was killed before it could. A signal is for the server, and not
-    for its children, which end with their connections."""
+    """The server while it runs, with these words before its port. `timeout` ends it, even where this script was killed before it could.
+    At the end it is stopped as an administrator stops it, and has to end with this status, having written `said` to standard error."""
 
     def __init__(self, arguments):
-        limited = ["timeout", "--foreground", "--kill-after=1", str(LIFE), *arguments, "0"]
-        self.process = subprocess.Popen(limited, stdout=subprocess.PIPE, start_new_session=True)
+        named = ["sh", "-c", 'echo $$; exec "$@"', "sh", *arguments, "0"]  # the process that sh was is the server
+        limited = ["timeout", "--foreground", "--kill-after=5", str(LIFE), *named]
+        self.errors = tempfile.TemporaryFile()
+        self.status, self.said = 0, b""
+        self.process = subprocess.Popen(limited, stdout=subprocess.PIPE, stderr=self.errors, start_new_session=True)
 
     def __enter__(self):
-        self.port = int(self.process.stdout.readline())
+        self.pid = int(self.process.stdout.readline())
+        self.port = int(self.process.stdout.readline() or 0)
         return self
 
-    def __exit__(self, *_):
-        """Ends it, and waits for its children, which have its standard output; what has not ended by then is killed."""
-        self.process.terminate()
+    def stop(self, number=signal.SIGTERM):
+        """Its status and what it has written to standard error, once it has ended at this signal."""
+        self.process.send_signal(number)
+        status = self.process.wait(PATIENCE)
+        self.errors.seek(0)
+        return status, self.errors.read()
+
+    def __exit__(self, raised, *_):
         try:
-            self.process.communicate(timeout=PATIENCE)
+            ended = self.stop()
         except subprocess.TimeoutExpired:
-            pass
+            ended = "it goes on"
         try:
             os.killpg(self.process.pid, signal.SIGKILL)
         except ProcessLookupError:
             pass  # none is left
         self.process.wait()
+        if raised is None:
+            wants("the server's end", ended, (self.status, self.said))
 
-    def connect(self):
+    def connect(self, greeting=GREETING):
         """A connection after its greeting."""
         connection = socket.create_connection((HOST, self.port), PATIENCE)
         connection.setsockopt(socket.IPPROTO_TCP, socket.TCP_NODELAY, 1)
-        wants("the greeting", receive(connection, len(GREETING)), GREETING)
+        wants("the greeting", receive(connection, len(greeting)), greeting)
         return connection
 
 
@@ -358,6 +378,23 @@ def check_forward(*program):
     return f"{read_back(program, 'forward')}, {len(cases)} rows compared"
 
 
+# the vector files with lines and streams that clients sent, and those with texts of replies
+INPUT_FILES = [*LINE_FILES, "decode.tsv", "client_streams.tsv", "encode.tsv"]
+
+
+def check_calls(*program):
+    """What the header says of rooms and lengths, over all that the vector files have between quotes."""
+    words = [word for name in INPUT_FILES for case, _ in rows(name) for word in re.findall(r'"(?:[^"\\]|\\.)*"', case)]
+    inputs = sorted({unquoted(word) for word in words} | {line for line, _ in long_lines()})
+    given = b"".join(struct.pack("<I", len(each)) + each for each in inputs)
+    run = subprocess.run(program, input=given, capture_output=True, timeout=LIFE)
+    said = run.stdout.decode(errors="replace").strip()
+    if run.returncode != 0 or run.stderr:
+        raise Wrong(f"status {run.returncode}: {said} {run.stderr!r}")
+    wants("the number of inputs", said.split(" ")[0], str(len(inputs)))
+    return said
+
+
 def check_valgrind(*logs):
     """The logs of the server and of its children."""
     for log in logs:
@@ -401,42 +438,79 @@ def check_codes():
     return f"{len(named)} codes of replies"
 
 
+def header_numbers():
+    """The results of the header, with their numbers."""
+    return numbers_in("include/unftp_control.h", r"^    UNFTP_(?!CODE_)(\w+) = (\d+)")
+
+
 def check_numbers():
-    """The definitions' numbers, which the contracts tie to the code, are those of the header, and those of examples/rust are among them."""
+    """The definitions' numbers, which the contracts tie to the code, are those of the header, and those of bindings/rust are among them."""
     commands = numbers_in("crates/unftp_control_defs/specs/NameAndValue.antt", r"^command_number \(?(\w+).* = (\d+)$")
     statuses = numbers_in("crates/unftp_control_c/specs/Numbers.antt", r"^status_number (\w+) = (\d+)$")
-    header = numbers_in("include/unftp_control.h", r"^    UNFTP_(?!CODE_)(\w+) = (\d+)")
-    wants_numbers("the header", header, {**commands, **statuses})
-    wants("the number of the header's names", len(header), len(commands) + len(statuses))
-    wants_numbers("command.rs", numbers_in("examples/rust/src/command.rs", r"^    (\d+) (\w+) \""), commands)
-    used = numbers_in("examples/rust/src/ffi.rs", r"^pub const (\w+): u32 = (\d+);")
-    if not used or not used.items() <= statuses.items():
-        raise Wrong(f"ffi.rs has other numbers: {sorted(set(used.items()) - set(statuses.items()))}")
+    declared = header_numbers()
+    wants_numbers("the header", declared, {**commands, **statuses})
+    wants("the number of the header's names", len(declared), len(commands) + len(statuses))
+    if RUST.exists():
+        used = numbers_in(RUST, r"^pub(?:\(crate\))? const (\w+): u32 = (\d+);")
+        if not commands.items() <= used.items() <= declared.items():
+            raise Wrong(f"{RUST.name} has other numbers: {sorted(set(used.items()) ^ set(declared.items()))}")
     return f"{len(commands)} commands, {len(statuses)} other results and {check_codes()}"
 
 
-# what a type of the library's functions is to C: the type, and what follows the parameter's name, for each parameter that it is
+# what a type of the library's functions and structs is to C: the type, and what follows the name, for each parameter that it is; a u32
+# as a result is the enum too, which results.c finds to have the size of a uint32_t
 IN_C = {
     "Global": [],
-    "&[u8]": [("const uint8_t *", ""), ("size_t", "_len")],
-    "&mut [u8]": [("uint8_t *", ""), ("size_t", "_room")],
+    "&[u8]": [("const char *", ""), ("size_t", "_len")],
+    "&mut [u8]": [("char *", ""), ("size_t", "_room")],
     "&mut usize": [("size_t *", "")],
-    "&mut u32": [("uint32_t *", "")],
-    "&mut bool": [("bool *", "")],
     "usize": [("size_t", "")],
     "u32": [("uint32_t", "")],
 }
 
-# what a type of examples/rust is to C
+# what a type of bindings/rust is to C
 FROM_RUST = {
-    "*const u8": "const uint8_t *",
-    "*mut u8": "uint8_t *",
+    "*const u8": "const char *",
+    "*mut u8": "char *",
     "*mut usize": "size_t *",
-    "*mut u32": "uint32_t *",
-    "*mut bool": "bool *",
     "usize": "size_t",
     "u32": "uint32_t",
 }
+
+# the types of results in the header
+RESULTS = ["enum unftp_result", "uint32_t"]
+
+
+def struct_name(name):
+    """The name in C of a struct of the library: that of FoundReply is struct unftp_found_reply."""
+    return "struct unftp_" + constant(name).lower()
+
+
+def type_in_c(kind):
+    """What a type of the library is to C."""
+    reference = re.fullmatch(r"&mut ([A-Z]\w*)", kind)
+    if kind not in IN_C and reference:
+        return [(f"{struct_name(reference[1])} *", "")]
+    return IN_C[kind]
+
+
+def type_from_rust(kind):
+    """What a type of bindings/rust is to C."""
+    pointer = re.fullmatch(r"\*mut ([A-Z]\w*)", kind)
+    if kind not in FROM_RUST and pointer:
+        return f"{struct_name(pointer[1])} *"
+    return FROM_RUST[kind]
+
+
+def names_and_types(parameters):
+    """The parameters or fields of a source in Rust: their names and types."""
+    return [re.sub(r"^pub(\(crate\))? ", "", parameter).split(": ") for parameter in parameters]
+
+
+def split_at(sign, text):
+    """The parts of the text that the sign divides, with one space for each run of spaces."""
+    parts = [" ".join(part.split()) for part in text.split(sign)]
+    return [part for part in parts if part]
 
 
 def functions_in(text, pattern):
@@ -445,50 +519,61 @@ def functions_in(text, pattern):
     for match in re.finditer(pattern, text):
         if match["name"] in found:
             raise Wrong(f"{match['name']} is declared twice")
-        parameters = [" ".join(parameter.split()) for parameter in match["parameters"].split(",")]
-        found[match["name"]] = ([parameter for parameter in parameters if parameter], match["result"])
+        found[match["name"]] = (split_at(",", match["parameters"]), match["result"])
     return found
 
 
 def in_the_library(parameters, result):
     """The parameters of a function of the library, and its result, as C has them."""
-    pairs = [parameter.split(": ") for parameter in parameters]
-    return [(kind, name + end) for name, source in pairs for kind, end in IN_C[source]], IN_C[result][0][0]
+    wants("the result", result, "u32")
+    return [(kind, name + end) for name, source in names_and_types(parameters) for kind, end in type_in_c(source)]
 
 
 def in_the_header(parameters, result):
     """The same of the header."""
-    return [re.fullmatch(r"(.*?) ?(\w+)", parameter).groups() for parameter in parameters], result
+    wants("whether the result is a known one", result in RESULTS, True)
+    return [re.fullmatch(r"(.*?) ?(\w+)", parameter).groups() for parameter in parameters if parameter != "void"]
 
 
 def in_rust(parameters, result):
-    """The same of examples/rust."""
-    pairs = [parameter.split(": ") for parameter in parameters]
-    return [(FROM_RUST[kind], name) for name, kind in pairs], FROM_RUST[result]
+    """The same of bindings/rust."""
+    wants("the result", result, "u32")
+    return [(type_from_rust(kind), name) for name, kind in names_and_types(parameters)]
+
+
+def library_text():
+    """The library's sources, without comments."""
+    sources = sorted((TOP / "crates/unftp_control_c/src").rglob("*.rt"))
+    return "\n".join(re.sub(r"//.*", "", path.read_text(encoding="utf-8")) for path in sources)
+
+
+def rust_text():
+    """The source of bindings/rust that declares the functions, without comments."""
+    return re.sub(r"//.*", "", RUST.read_text(encoding="utf-8"))
 
 
 def exported():
-    """The functions of the library, of the header and of examples/rust, each as C has it."""
-    sources = sorted((TOP / "crates/unftp_control_c/src").rglob("*.rt"))
-    library = "\n".join(path.read_text(encoding="utf-8") for path in sources)
-    header = re.sub(r"/\*.*?\*/", " ", (TOP / "include/unftp_control.h").read_text(encoding="utf-8"), flags=re.S)
-    rust = (TOP / "examples/rust/src/ffi.rs").read_text(encoding="utf-8")
-    declared = rust[rust.index('extern "C" {'):]
-    return {
-        "the library": (in_the_library, functions_in(library, r'extern "C" fn (?P<name>\w+)\((?P<parameters>[^)]*)\) -> (?P<result>\w+)')),
-        "the header": (in_the_header, functions_in(header, r"(?P<result>\w+) (?P<name>unftp_\w+)\((?P<parameters>[^)]*)\)")),
-        "examples/rust": (in_rust, functions_in(declared[:declared.index("\n}")], r"fn (?P<name>\w+)\((?P<parameters>[^)]*)\) -> (?P<result>\w+);")),
-    }
+    """The functions of the library, of the header and of bindings/rust, each with what reads its parameters."""
+    exports = functions_in(library_text(), r'extern "C" fn (?P<name>\w+)\((?P<parameters>[^)]*)\) -> (?P<result>\w+)')
+    declares = functions_in(header(), r"(?P<result>enum unftp_result|\w+) (?P<name>unftp_\w+)\((?P<parameters>[^)]*)\)[\w\s]*;")
+    found = {"the library": (in_the_library, exports), "the header": (in_the_header, declares)}
+    if RUST.exists():
+        text = rust_text()
+        text = text[text.index('extern "C" {'):]
+        declares = functions_in(text[:text.index("\n}")], r"fn (?P<name>\w+)\((?P<parameters>[^)]*)\) -> (?P<result>\w+);")
+        found["bindings/rust"] = (in_rust, declares)
+    return found
 
 
 def check_exports():
-    """The three have the same functions."""
+    """They have the same functions."""
     names = {where: sorted(functions) for where, (_, functions) in exported().items()}
+    wants("tools/library.py", sorted(calls()), names["the header"])
     for where, found in names.items():
         wants(where, found, names["the library"])
     if not names["the library"]:
         raise Wrong("no function is exported")
-    return "\n".join([*names["the library"], f"{len(names['the library'])} functions"])
+    return "\n".join([*names["the library"], f"{len(names['the library'])} functions in {', '.join(names)}"])
 
 
 def check_parameters(name):
@@ -503,7 +588,79 @@ def check_parameters(name):
             raise Wrong(f"{where}: a parameter of {name} has another form: {error}") from error
     for where, parameters in found.items():
         wants(where, parameters, found["the library"])
-    return f"{len(found['the library'][0])} parameters"
+    return f"{len(found['the library'])} parameters in {', '.join(found)}"
+
+
+def structs_in(text):
+    """The structs of a source in Rust whose fields are laid out as C's, as C has them."""
+    pattern = r"#\[repr\(C\)\](?:\s*#\[[^\]]*\])*\s*pub(?:\(crate\))? struct (\w+) \{(.*?)\n\}"
+    found = {}
+    for name, fields in re.findall(pattern, text, re.S):
+        found[struct_name(name)] = [(field, type_in_c(kind)[0][0]) for field, kind in names_and_types(split_at(",", fields))]
+    return found
+
+
+def check_structs():
+    """The structs have the same fields in the same order."""
+    found = {"the library": structs_in(library_text()), "the header": {}}
+    for name, fields in re.findall(r"^(struct \w+) \{(.*?)\};", header(), re.M | re.S):
+        found["the header"][name] = [tuple(reversed(field.rsplit(" ", 1))) for field in split_at(";", fields)]
+    if RUST.exists():
+        found["bindings/rust"] = structs_in(rust_text())
+    for where, structs in found.items():
+        wants(where, structs, found["the header"])
+    fields = sum(map(len, found["the header"].values()))
+    if not fields:
+        raise Wrong("the header has no struct")
+    return f"{len(found['the header'])} structs of {fields} fields in {', '.join(found)}"
+
+
+def version_number(text):
+    """A version as numbers."""
+    return [int(part) for part in text.split(".")]
+
+
+# what the libraries take from the C library, at most; the first three are the program's, where it has them
+MEMORY = ["free", "malloc", "realloc"]
+FROM_C = [*MEMORY, "memcmp", "memcpy", "memmove", "memset"]
+# what a C compiler has each shared library ask for
+WEAK = ("_ITM_", "__gmon_start__", "__cxa_finalize")
+
+
+def check_symbols(folder):
+    """The static and the shared library define the header's functions, and nothing else, and need nothing but the C library."""
+    folder = pathlib.Path(folder)
+    file, loaded, linked = (folder / name for name in shared_names())
+    wants("the global names", global_names(folder), (sorted(calls()),) * 2)
+    for what, words in {STATIC: ["-g", folder / STATIC], SHARED: ["-D", file]}.items():
+        needed = [name for name in names_of("--undefined-only", *words) if not name.startswith(WEAK)]
+        if not set(MEMORY) <= set(needed) <= set(FROM_C):
+            raise Wrong(f"{what} needs {needed}")
+    dynamic = output_of("readelf", "-dW", file)
+    wants("the libraries that the shared one needs", re.findall(r"\(NEEDED\).*\[(.*)\]", dynamic), ["libc.so.6"])
+    wants("its name", re.findall(r"\(SONAME\).*\[(.*)\]", dynamic), [loaded.name])
+    wants("its links", [loaded.resolve(), linked.resolve()], [file.resolve()] * 2)
+    versions = re.findall(r"\(GLIBC_([\d.]+)\)", output_of("objdump", "-T", file))
+    wants("the least version of the C library that has all this", max(versions, key=version_number), "2.14")
+    stack = re.findall(r"GNU_STACK.* (R\w+) +0x", output_of("readelf", "-lW", file))
+    wants("the rights to its stack", stack, ["RW"])
+    return f"{len(calls())} functions, and {len(FROM_C)} at most of the C library's"
+
+
+def check_results(program):
+    """The library has the header's version. Each result has a text of its own, that of a command its verb, and no other number has."""
+    major, minor, patch = map(int, version().split("."))
+    first, *lines = output_of(program).splitlines()
+    wants("the version", first, str(major * 1_000_000 + minor * 1_000 + patch))
+    texts = dict(line.split("\t") for line in lines)
+    known = {number: text for number, text in texts.items() if text != "unknown result"}
+    numbers = {str(number): name for name, number in header_numbers().items()}
+    wants("the numbers that have a text", sorted(known), sorted(numbers))
+    wants("the number of texts", len(set(known.values())), len(known))
+    for number, name in numbers.items():
+        if 1 <= int(number) <= 43:
+            wants(f"the text of {name}", known[number].split()[-1], name)
+    return f"{len(known)} results with a text"
 
 
 CHECKS = {
@@ -516,8 +673,12 @@ CHECKS = {
     "forward": check_forward,
     "valgrind": check_valgrind,
     "numbers": check_numbers,
+    "structs": check_structs,
     "exports": check_exports,
     "parameters": check_parameters,
+    "symbols": check_symbols,
+    "results": check_results,
+    "calls": check_calls,
 }
 
 

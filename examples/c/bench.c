@@ -1,9 +1,13 @@
 /*
- * Measures the calls of unftp_control.h: prints of each the nanoseconds that it takes, for a line or a reply, the median of 50 rounds with
- * the least and the greatest. The lines and the replies are those of crates/control_bench.
+ * Measures the calls of unftp_control.h: prints the nanoseconds that each takes, for a line or
+ * a reply, the median of 50 rounds with the least and the greatest. The lines and the replies are
+ * those of crates/control_bench.
  */
-#include "unftp_control.h"
+#define _POSIX_C_SOURCE 200809L
 
+#include <unftp_control.h>
+
+#include <stdbool.h>
 #include <stdio.h>
 #include <stdlib.h>
 #include <string.h>
@@ -12,11 +16,14 @@
 enum { ROUNDS = 50, CALLS = 1000, SESSIONS = 50, ROOM = 4096 };
 
 static const char session[] =
-    "USER anonymous\r\nPASS guest@example.org\r\nSYST\r\nFEAT\r\nOPTS UTF8 ON\r\nPWD\r\nTYPE I\r\nCWD /pub/linux/kernel/v6.x\r\n"
-    "EPSV\r\nLIST -la\r\nPORT 192,168,150,90,195,149\r\nNLST *.tar.xz\r\nSIZE linux-6.1.55.tar.xz\r\nMDTM linux-6.1.55.tar.xz\r\n"
-    "REST 1048576\r\nRETR linux-6.1.55.tar.xz\r\nSITE CHMOD 644 upload.txt\r\nXCRC linux-6.1.55.tar.xz\r\nNOOP\r\nQUIT\r\n";
+    "USER anonymous\r\nPASS guest@example.org\r\nSYST\r\nFEAT\r\nOPTS UTF8 ON\r\nPWD\r\nTYPE I\r\n"
+    "CWD /pub/linux/kernel/v6.x\r\nEPSV\r\nLIST -la\r\nPORT 192,168,150,90,195,149\r\n"
+    "NLST *.tar.xz\r\nSIZE linux-6.1.55.tar.xz\r\nMDTM linux-6.1.55.tar.xz\r\nREST 1048576\r\n"
+    "RETR linux-6.1.55.tar.xz\r\nSITE CHMOD 644 upload.txt\r\nXCRC linux-6.1.55.tar.xz\r\nNOOP\r\n"
+    "QUIT\r\n";
 static const char features[] =
-    "Extensions supported:\n AUTH TLS\n EPSV\n MDTM\n MLSD\n MLST\n PBSZ\n PROT\n REST STREAM\n SITE MD5\n SIZE\n UTF8\nEND";
+    "Extensions supported:\n AUTH TLS\n EPSV\n MDTM\n MLSD\n MLST\n PBSZ\n PROT\n REST STREAM\n"
+    " SITE MD5\n SIZE\n UTF8\nEND";
 
 static void wants(bool holds)
 {
@@ -25,45 +32,54 @@ static void wants(bool holds)
 }
 
 /* Takes the lines, and begins again after the last. */
-static void take_lines(const uint8_t *bytes, size_t len)
+static void take_lines(const char *bytes, size_t len)
 {
-    uint8_t name[ROOM], value[ROOM];
-    size_t start = 0, offset = 0, name_len, value_len, used;
-    bool skipping = false;
+    struct unftp_connection connection = {ROOM, 0, 0};
+    struct unftp_line line;
+    char area[3 * ROOM];
+    size_t start = 0;
 
-    for (int line = 0; line < CALLS; line++) {
-        uint32_t status = unftp_next(bytes + start, len - start, &offset, ROOM, &skipping,
-                                     name, sizeof name, &name_len, value, sizeof value, &value_len, &used);
-        wants(status >= UNFTP_USER && status < UNFTP_MORE);
-        start = (start + used) % len;
+    for (int call = 0; call < CALLS; call++) {
+        enum unftp_result result =
+            unftp_next(&connection, bytes + start, len - start, area, sizeof area, &line);
+        wants(result >= UNFTP_USER && result < UNFTP_MORE);
+        start = (start + line.used) % len;
     }
 }
 
-static void make_replies(const uint8_t *text, size_t len)
+static void make_replies(const char *text, size_t len)
 {
-    uint8_t out[ROOM];
+    char out[ROOM];
     size_t written;
 
     for (int call = 0; call < CALLS; call++)
         wants(unftp_reply(200, text, len, out, sizeof out, &written) == UNFTP_DONE);
 }
 
-static void find_replies(const uint8_t *bytes, size_t len)
+static void find_replies(const char *bytes, size_t len)
 {
-    uint32_t code;
-    size_t used;
+    struct unftp_found_reply reply;
 
     for (int call = 0; call < CALLS; call++)
-        wants(unftp_front_reply(bytes, len, &code, &used) == UNFTP_DONE && used == len);
+        wants(unftp_front_reply(bytes, len, &reply) == UNFTP_DONE && reply.used == len);
 }
 
-static void write_lines(const uint8_t *line, size_t len)
+static void write_lines(const char *line, size_t len)
 {
-    uint8_t out[ROOM];
+    char out[ROOM];
     size_t written;
 
     for (int call = 0; call < CALLS; call++)
         wants(unftp_canonical(line, len, out, sizeof out, &written) == UNFTP_DONE);
+}
+
+static void forward_lines(const char *line, size_t len)
+{
+    char out[ROOM];
+    size_t written;
+
+    for (int call = 0; call < CALLS; call++)
+        wants(unftp_forward(line, len, out, sizeof out, &written) == UNFTP_DONE);
 }
 
 static int compare(const void *left, const void *right)
@@ -72,20 +88,27 @@ static int compare(const void *left, const void *right)
     return (a > b) - (a < b);
 }
 
-static void measure(const char *what, void (*run)(const uint8_t *, size_t), const char *input)
+static double nanoseconds(void)
+{
+    struct timespec time;
+
+    clock_gettime(CLOCK_MONOTONIC, &time);
+    return (double)time.tv_sec * 1e9 + (double)time.tv_nsec;
+}
+
+static void measure(const char *what, void (*run)(const char *, size_t), const char *input)
 {
     double figures[ROUNDS];
-    struct timespec start, end;
     size_t len = strlen(input);
 
     for (int round = 0; round < ROUNDS; round++) {
-        clock_gettime(CLOCK_MONOTONIC, &start);
-        run((const uint8_t *)input, len);
-        clock_gettime(CLOCK_MONOTONIC, &end);
-        figures[round] = ((double)(end.tv_sec - start.tv_sec) * 1e9 + (double)(end.tv_nsec - start.tv_nsec)) / CALLS;
+        double start = nanoseconds();
+        run(input, len);
+        figures[round] = (nanoseconds() - start) / CALLS;
     }
     qsort(figures, ROUNDS, sizeof figures[0], compare);
-    printf("%s: %.0f ns (%.0f to %.0f)\n", what, figures[ROUNDS / 2], figures[0], figures[ROUNDS - 1]);
+    printf("%s: %.0f ns (%.0f to %.0f)\n", what, figures[ROUNDS / 2], figures[0],
+           figures[ROUNDS - 1]);
 }
 
 int main(void)
@@ -104,5 +127,6 @@ int main(void)
     measure("unftp_front_reply, a reply of one line", find_replies, "200 OK\r\n");
     measure("unftp_front_reply, a reply of 100 lines", find_replies, reply);
     measure("unftp_canonical, RETR a.txt", write_lines, "RETR a.txt\r\n");
+    measure("unftp_forward, LIST -la x", forward_lines, "LIST -la x\r\n");
     return 0;
 }

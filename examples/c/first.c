@@ -1,15 +1,16 @@
-/* What README shows first. */
-#include "unftp_control.h"
+/* The first example: takes one line, and prints its path. */
 #include <stdio.h>
+#include <unftp_control.h>
 
 int main(void)
 {
-    const uint8_t line[] = "retr a.txt\r\n";
-    uint8_t verb[16], path[16];
-    size_t offset = 0, verb_len, path_len, used;
-    bool skipping = false;
+    const char received[] = "retr a.txt\r\nNO";
+    struct unftp_connection connection = {4096, 0, 0};
+    struct unftp_line line;
+    char area[3 * sizeof received];
 
-    if (unftp_next(line, sizeof line - 1, &offset, 4096, &skipping, verb, sizeof verb, &verb_len,
-                   path, sizeof path, &path_len, &used) == UNFTP_RETR)
-        printf("%.*s is asked for\n", (int)path_len, (char *)path);
+    if (unftp_next(&connection, received, sizeof received - 1, area, sizeof area, &line)
+        == UNFTP_RETR)
+        printf("%.*s is asked for\n", (int)line.value_len, area + line.name_len);
+    return 0;
 }

@@ -1,25 +1,37 @@
 /*
- * A small FTP control server over unftp_control.h, with a process for each connection.
+ * An FTP control server over unftp_control.h, with a process for each connection.
  *
- *     server PORT
+ *     server [-a ADDRESS] [-c CONNECTIONS] [-d SECONDS] [-i SECONDS] PORT
  *
- * It listens on 127.0.0.1 and prints its port as one line; where PORT is 0, the system picks one. TLS, data connections and login are
- * left out, and so are limits on time and on the number of connections: it shows how the library is called.
+ * -a  the IPv4 address that it listens on: 127.0.0.1
+ * -c  how many connections it serves at a time: 100; it answers 421 to all others
+ * -d  how long a client may go on sending once its session has ended: 2
+ * -i  how long a client may take until its next command: 300 (RFC 1123, section 4.1.3.2)
+ *
+ * It prints its port as one line; where PORT is 0, the system picks one. SIGTERM and SIGINT end it,
+ * once it has answered 421 to each client. TLS, data connections and logins are left out.
  */
-#include "unftp_control.h"
+#define _POSIX_C_SOURCE 200809L
+
+#include <unftp_control.h>
 
 #include <arpa/inet.h>
 #include <errno.h>
+#include <fcntl.h>
 #include <netinet/in.h>
+#include <netinet/tcp.h>
+#include <poll.h>
 #include <signal.h>
 #include <stdbool.h>
 #include <stdint.h>
 #include <stdio.h>
 #include <stdlib.h>
 #include <string.h>
+#include <sys/select.h>
 #include <sys/socket.h>
 #include <sys/types.h>
 #include <sys/wait.h>
+#include <time.h>
 #include <unistd.h>
 
 enum {
@@ -29,92 +41,170 @@ enum {
     /* at UNFTP_MORE no more than the limit is pending, so a whole read always has room */
     PENDING_ROOM = LINE_LIMIT + READ_MOST,
 
-    /* a line of n bytes has a name of at most n and a value of at most 3 n (unftp_next) */
-    NAME_ROOM = LINE_LIMIT,
-    VALUE_ROOM = 3 * LINE_LIMIT,
+    /* what unftp_next needs at most for a line of n bytes is 3 n */
+    AREA_ROOM = 3 * LINE_LIMIT,
 
-    /* the longest text is "SITE NAME VALUE: not implemented", and its reply has a code, a space and CR LF beside it */
-    TEXT_ROOM = sizeof "SITE  : not implemented" + NAME_ROOM + VALUE_ROOM,
-    REPLY_ROOM = TEXT_ROOM + 6
+    /* the longest text; its reply has a code, a space and CR LF beside it */
+    TEXT_ROOM = sizeof "SITE  : not implemented" + AREA_ROOM,
+    REPLY_ROOM = TEXT_ROOM + 6,
+
+    /* how many bytes a client may send once its session has ended */
+    DROPPED_MOST = 1024 * 1024,
+
+    /* the greatest number that an option may have: as milliseconds it is an int */
+    NUMBER_MOST = 1000 * 1000,
+
+    /* how long no client is accepted after a failure, in milliseconds */
+    FAILURE_PAUSE = 100
+};
+
+struct options {
+    struct in_addr address;
+    long port;
+    long connections;
+    long dropping;
+    long idle;
 };
 
 /* A client, and the bytes that it sent: those from start to end are pending. */
 struct client {
     int socket;
-    uint8_t bytes[PENDING_ROOM];
+    int stopping; /* a pipe that is at its end once the server stops; -1 at the session's end */
+    int64_t deadline;
+    const struct options *options;
+    struct unftp_connection connection;
+    char bytes[PENDING_ROOM];
     size_t start;
     size_t end;
-    size_t offset; /* kept for unftp_next, as is skipping */
-    bool skipping;
 };
 
+/* A command: its name is at the start of the area, and its value after it. */
 struct command {
-    uint32_t number;
-    uint8_t name[NAME_ROOM];
-    size_t name_len;
-    uint8_t value[VALUE_ROOM];
-    size_t value_len;
+    struct unftp_line line;
+    char area[AREA_ROOM];
 };
 
 struct text {
-    uint8_t bytes[TEXT_ROOM];
     size_t len;
+    char bytes[TEXT_ROOM];
 };
 
-/* Sends all of these bytes; false where the client is gone. */
-static bool send_bytes(const struct client *client, const void *bytes, size_t len)
-{
-    const uint8_t *rest = bytes;
+/* What comes of waiting for a client. */
+enum event { READY, GONE, LATE, STOPPED };
 
+static void fail(const char *what)
+{
+    perror(what);
+    exit(EXIT_FAILURE);
+}
+
+/* Milliseconds of a clock that nobody sets. */
+static int64_t now(void)
+{
+    struct timespec time;
+
+    if (clock_gettime(CLOCK_MONOTONIC, &time) < 0)
+        fail("server: clock_gettime");
+    return (int64_t)time.tv_sec * 1000 + time.tv_nsec / 1000000;
+}
+
+static void allow(struct client *client, long seconds)
+{
+    client->deadline = now() + seconds * 1000;
+}
+
+/* Whether a call on a socket that failed may be made again. */
+static bool is_passing(int error)
+{
+    return error == EINTR || error == EAGAIN || error == EWOULDBLOCK;
+}
+
+/* Waits until the client's socket is ready, the server stops, or the deadline has come. */
+static enum event wait_for(const struct client *client, short events)
+{
+    struct pollfd polled[] = {{.fd = client->socket, .events = events},
+                              {.fd = client->stopping, .events = POLLIN}};
+    int64_t left;
+
+    while ((left = client->deadline - now()) > 0) {
+        int count = poll(polled, 2, (int)left);
+        if (count < 0 && errno != EINTR)
+            fail("server: poll");
+        if (count > 0)
+            return polled[1].revents != 0 ? STOPPED : READY;
+    }
+    return LATE;
+}
+
+/* Sends all of these bytes; false where that fails. */
+static bool send_bytes(const struct client *client, const char *bytes, size_t len)
+{
     while (len > 0) {
-        ssize_t sent = write(client->socket, rest, len);
-        if (sent < 0 && errno == EINTR)
-            continue;
-        if (sent < 0)
+        ssize_t sent = write(client->socket, bytes, len);
+        if (sent >= 0) {
+            bytes += sent;
+            len -= (size_t)sent;
+        } else if (!is_passing(errno) || wait_for(client, POLLOUT) != READY) {
             return false;
-        rest += sent;
-        len -= (size_t)sent;
+        }
     }
     return true;
 }
 
-/* Ends the session with a reply whose bytes take no memory. */
-static bool end_out_of_memory(const struct client *client)
+/* Waits for bytes, and reads them. */
+static enum event read_bytes(const struct client *client, char *bytes, size_t room, size_t *len)
 {
-    static const char reply[] = "421 Out of memory\r\n";
+    for (;;) {
+        enum event event = wait_for(client, POLLIN);
+        ssize_t got;
 
-    send_bytes(client, reply, sizeof reply - 1);
+        if (event != READY)
+            return event;
+        got = read(client->socket, bytes, room);
+        if (got > 0) {
+            *len = (size_t)got;
+            return READY;
+        }
+        if (got == 0 || !is_passing(errno))
+            return GONE;
+    }
+}
+
+/* Ends the session with a reply that takes no memory. */
+static bool end_session(struct client *client, const char *reply)
+{
+    client->stopping = -1;
+    allow(client, client->options->dropping);
+    send_bytes(client, reply, strlen(reply));
     return false;
 }
 
 /* Sends the reply with this text; false where the session is over. */
-static bool send_reply(const struct client *client, uint32_t code, const uint8_t *text, size_t text_len)
+static bool send_reply(struct client *client, enum unftp_code code, const char *text, size_t len)
 {
     static const char not_utf8[] = "501 Not UTF-8\r\n";
-    uint8_t reply[REPLY_ROOM];
-    size_t len;
+    char reply[REPLY_ROOM];
+    size_t reply_len;
+    enum unftp_result result = unftp_reply(code, text, len, reply, sizeof reply, &reply_len);
 
-    switch (unftp_reply(code, text, text_len, reply, sizeof reply, &len)) {
-    case UNFTP_DONE:
-        return send_bytes(client, reply, len);
-    case UNFTP_INVALID_UTF8: /* the value of STAT may be any bytes */
+    if (result == UNFTP_DONE)
+        return send_bytes(client, reply, reply_len);
+    if (result == UNFTP_INVALID_UTF8) /* the value of STAT may be any bytes */
         return send_bytes(client, not_utf8, sizeof not_utf8 - 1);
-    case UNFTP_OUT_OF_MEMORY:
-        return end_out_of_memory(client);
-    case UNFTP_NO_ROOM:      /* a text with line feeds is one of this program's, and short */
-    case UNFTP_UNKNOWN_CODE: /* as are all codes, each from 100 to 599 */
-    default:
-        abort();
-    }
+    if (result == UNFTP_OUT_OF_MEMORY)
+        return end_session(client, "421 Out of memory\r\n");
+    /* the codes are those of this program, and its texts with line feeds are short */
+    fprintf(stderr, "server: unftp_reply: %s\n", unftp_result_text(result));
+    abort();
 }
 
 /* Sends the reply with this text of the program's; false where the session is over. */
-static bool send_text(const struct client *client, uint32_t code, const char *text)
+static bool send_text(struct client *client, enum unftp_code code, const char *text)
 {
-    return send_reply(client, code, (const uint8_t *)text, strlen(text));
+    return send_reply(client, code, text, strlen(text));
 }
 
-static void append(struct text *text, const void *bytes, size_t len)
+static void append(struct text *text, const char *bytes, size_t len)
 {
     memcpy(text->bytes + text->len, bytes, len);
     text->len += len;
@@ -126,226 +216,368 @@ static void append_string(struct text *text, const char *string)
 }
 
 /* Answers 502 with what the command says. */
-static bool answer_not_implemented(const struct client *client, const struct command *command)
+static bool answer_not_implemented(struct client *client, enum unftp_result result,
+                                   const struct command *command)
 {
     struct text text;
 
     text.len = 0;
-    if (command->number == UNFTP_SITE || command->number == UNFTP_MD5)
+    if (result == UNFTP_SITE || result == UNFTP_MD5)
         append_string(&text, "SITE ");
-    append(&text, command->name, command->name_len);
-    if (command->value_len > 0) {
+    append(&text, command->area, command->line.name_len);
+    if (command->line.value_len > 0) {
         append_string(&text, " ");
-        append(&text, command->value, command->value_len);
+        append(&text, command->area + command->line.name_len, command->line.value_len);
     }
     append_string(&text, ": not implemented");
     return send_reply(client, UNFTP_CODE_COMMAND_NOT_IMPLEMENTED, text.bytes, text.len);
 }
 
-static bool answer_site(const struct client *client, const struct command *command)
+static bool answer_site(struct client *client, const struct command *command)
 {
     static const char echo[] = "ECHO";
+    size_t name_len = command->line.name_len;
 
-    if (command->name_len == sizeof echo - 1 && memcmp(command->name, echo, command->name_len) == 0)
-        return send_reply(client, UNFTP_CODE_COMMAND_OKAY, command->value, command->value_len);
-    return answer_not_implemented(client, command);
+    if (name_len == sizeof echo - 1 && memcmp(command->area, echo, name_len) == 0)
+        return send_reply(client, UNFTP_CODE_COMMAND_OKAY, command->area + name_len,
+                          command->line.value_len);
+    return answer_not_implemented(client, UNFTP_SITE, command);
 }
 
-/* Answers a command; false where the session is over. A password is in no reply. */
-static bool answer_command(const struct client *client, const struct command *command)
+static bool answer_quit(struct client *client)
 {
-    switch (command->number) {
-    case UNFTP_USER:
-        return send_text(client, UNFTP_CODE_NEED_PASSWORD, "Password required");
-    case UNFTP_PASS:
-        return send_text(client, UNFTP_CODE_USER_LOGGED_IN, "Logged in");
-    case UNFTP_ACCT:
-        return send_text(client, UNFTP_CODE_COMMAND_OKAY_NOT_IMPLEMENTED, "No account needed");
-    case UNFTP_SYST:
-        return send_text(client, UNFTP_CODE_SYSTEM_TYPE, "UNIX Type: L8");
-    case UNFTP_TYPE:
-    case UNFTP_NOOP:
-        return send_text(client, UNFTP_CODE_COMMAND_OKAY, "OK");
-    case UNFTP_FEAT:
-        return send_text(client, UNFTP_CODE_SYSTEM_STATUS, "Features:\n UTF8\nEnd");
-    case UNFTP_HELP:
-        return send_text(client, UNFTP_CODE_HELP_MESSAGE,
-                         "Commands:\n ACCT FEAT HELP NOOP PASS PWD\n QUIT SITE SYST TYPE USER\nEnd");
-    case UNFTP_PWD:
-        return send_text(client, UNFTP_CODE_DIR_CREATED, "\"/\" is the current directory");
-    case UNFTP_SITE:
-        return answer_site(client, command);
-    case UNFTP_QUIT:
-        send_text(client, UNFTP_CODE_CLOSING_CONTROL_CONNECTION, "Bye");
-        return false;
-    default:
-        return answer_not_implemented(client, command);
-    }
+    send_text(client, UNFTP_CODE_CLOSING_CONTROL_CONNECTION, "Bye");
+    return false;
 }
 
-/* Answers a line; false where the session is over. */
-static bool answer_line(const struct client *client, uint32_t status, const struct command *command)
+/* Answers what is no command; false where the session is over. */
+static bool answer_refusal(struct client *client, enum unftp_result result)
 {
-    switch (status) {
+    switch (result) {
     case UNFTP_INVALID_COMMAND:
         return send_text(client, UNFTP_CODE_COMMAND_SYNTAX_ERROR, "Invalid command");
     case UNFTP_INVALID_UTF8:
-        return send_text(client, UNFTP_CODE_COMMAND_SYNTAX_ERROR, "Non-UTF8 character while parsing");
+        return send_text(client, UNFTP_CODE_COMMAND_SYNTAX_ERROR,
+                         "Non-UTF8 character while parsing");
     case UNFTP_INVALID_EOL:
         return send_text(client, UNFTP_CODE_COMMAND_SYNTAX_ERROR, "Invalid end-of-line");
     case UNFTP_LINE_TOO_LONG:
         return send_text(client, UNFTP_CODE_COMMAND_SYNTAX_ERROR, "Line too long");
     case UNFTP_OUT_OF_MEMORY:
-        return end_out_of_memory(client);
-    case UNFTP_NO_ROOM:          /* a command's line is within the limit, and the areas have room for it */
-    case UNFTP_INVALID_ARGUMENT: /* offset and skipping are as unftp_next left them */
+        return end_session(client, "421 Out of memory\r\n");
+    default: /* the area has room for a line within the limit, and the connection is kept */
+        fprintf(stderr, "server: unftp_next: %s\n", unftp_result_text(result));
         abort();
-    default: /* a command */
-        return answer_command(client, command);
     }
 }
 
-/* Takes the next line of the pending bytes: what unftp_next returns. */
-static uint32_t take_line(struct client *client, struct command *command)
+/* Answers a line; false where the session is over. A password is in no reply. Without a default, a
+   compiler names the commands that are forgotten. */
+static bool answer_line(struct client *client, enum unftp_result result,
+                        const struct command *command)
 {
-    size_t used;
-    uint32_t status = unftp_next(client->bytes + client->start, client->end - client->start,
-                                 &client->offset, LINE_LIMIT, &client->skipping,
-                                 command->name, sizeof command->name, &command->name_len,
-                                 command->value, sizeof command->value, &command->value_len, &used);
+    static const char features[] = "Features:\n UTF8\nEnd";
+    static const char help[] =
+        "Commands:\n ACCT FEAT HELP NOOP PASS PWD\n QUIT SITE SYST TYPE USER\nEnd";
+    static const char directory[] = "\"/\" is the current directory";
 
-    client->start += used;
-    command->number = status;
-    return status;
+    switch (result) {
+    case UNFTP_USER: return send_text(client, UNFTP_CODE_NEED_PASSWORD, "Password required");
+    case UNFTP_PASS: return send_text(client, UNFTP_CODE_USER_LOGGED_IN, "Logged in");
+    case UNFTP_ACCT:
+        return send_text(client, UNFTP_CODE_COMMAND_OKAY_NOT_IMPLEMENTED, "No account needed");
+    case UNFTP_SYST: return send_text(client, UNFTP_CODE_SYSTEM_TYPE, "UNIX Type: L8");
+    case UNFTP_TYPE: case UNFTP_NOOP: return send_text(client, UNFTP_CODE_COMMAND_OKAY, "OK");
+    case UNFTP_FEAT: return send_text(client, UNFTP_CODE_SYSTEM_STATUS, features);
+    case UNFTP_HELP: return send_text(client, UNFTP_CODE_HELP_MESSAGE, help);
+    case UNFTP_PWD: return send_text(client, UNFTP_CODE_DIR_CREATED, directory);
+    case UNFTP_SITE: return answer_site(client, command);
+    case UNFTP_QUIT: return answer_quit(client);
+    case UNFTP_STAT: case UNFTP_STRU: case UNFTP_MODE: case UNFTP_PASV: case UNFTP_EPSV:
+    case UNFTP_PORT: case UNFTP_RETR: case UNFTP_STOR: case UNFTP_APPE: case UNFTP_LIST:
+    case UNFTP_NLST: case UNFTP_MLST: case UNFTP_MLSD: case UNFTP_CWD: case UNFTP_CDUP:
+    case UNFTP_OPTS: case UNFTP_DELE: case UNFTP_RMD: case UNFTP_MKD: case UNFTP_ALLO:
+    case UNFTP_ABOR: case UNFTP_STOU: case UNFTP_RNFR: case UNFTP_RNTO: case UNFTP_AUTH:
+    case UNFTP_CCC: case UNFTP_PBSZ: case UNFTP_PROT: case UNFTP_SIZE: case UNFTP_REST:
+    case UNFTP_MDTM: case UNFTP_MD5: case UNFTP_OTHER:
+        return answer_not_implemented(client, result, command);
+    case UNFTP_DONE: case UNFTP_MORE: case UNFTP_INVALID_COMMAND: case UNFTP_INVALID_UTF8:
+    case UNFTP_INVALID_EOL: case UNFTP_LINE_TOO_LONG: case UNFTP_OUT_OF_MEMORY:
+    case UNFTP_NO_ROOM: case UNFTP_NO_LINE: case UNFTP_MALFORMED: case UNFTP_UNKNOWN_CODE:
+    case UNFTP_INVALID_ARGUMENT:
+        break;
+    }
+    return answer_refusal(client, result);
+}
+
+/* Takes the next line of the pending bytes: what unftp_next returns. */
+static enum unftp_result take_line(struct client *client, struct command *command)
+{
+    enum unftp_result result =
+        unftp_next(&client->connection, client->bytes + client->start, client->end - client->start,
+                   command->area, sizeof command->area, &command->line);
+
+    client->start += command->line.used;
+    return result;
 }
 
 /* Answers the complete lines of the pending bytes; false where the session is over. */
 static bool answer_lines(struct client *client)
 {
     struct command command;
-    uint32_t status;
+    enum unftp_result result;
 
-    while ((status = take_line(client, &command)) != UNFTP_MORE) {
-        if (!answer_line(client, status, &command))
+    while ((result = take_line(client, &command)) != UNFTP_MORE) {
+        allow(client, client->options->idle);
+        if (!answer_line(client, result, &command))
             return false;
     }
     return true;
 }
 
-/* Reads, but for signals: as read does. */
-static ssize_t read_socket(int socket, uint8_t *bytes, size_t room)
-{
-    ssize_t got;
-
-    do
-        got = read(socket, bytes, room);
-    while (got < 0 && errno == EINTR);
-    return got;
-}
-
-/* Puts what comes after the pending bytes, which are moved to the front; false at the end of the input. */
+/* Puts what comes after the pending bytes, which are moved to the front; false where the session is
+   over. */
 static bool receive(struct client *client)
 {
-    ssize_t got;
+    size_t got;
 
     client->end -= client->start;
     memmove(client->bytes, client->bytes + client->start, client->end);
     client->start = 0;
-    got = read_socket(client->socket, client->bytes + client->end, sizeof client->bytes - client->end);
-    if (got <= 0)
+    switch (read_bytes(client, client->bytes + client->end, sizeof client->bytes - client->end,
+                       &got)) {
+    case READY:
+        client->end += got;
+        return true;
+    case GONE:
         return false;
-    client->end += (size_t)got;
-    return true;
+    case LATE:
+        return end_session(client, "421 Timeout\r\n");
+    case STOPPED:
+        return end_session(client, "421 Service is stopping\r\n");
+    }
+    return false;
 }
 
-/* Ends the output, and drops what still comes: where a socket is closed before it is read, the last reply may be lost. */
-static void finish(int socket)
+/* Closes the connection, once the client has closed it or has had its time. A socket that is closed
+   with bytes unread resets the connection, and then the last reply may be lost. */
+static void finish(struct client *client)
 {
-    uint8_t dropped[READ_MOST];
+    char bytes[READ_MOST];
+    size_t dropped = 0, got;
 
-    shutdown(socket, SHUT_WR);
-    while (read_socket(socket, dropped, sizeof dropped) > 0)
-        ;
-    close(socket);
+    shutdown(client->socket, SHUT_WR);
+    client->stopping = -1;
+    allow(client, client->options->dropping);
+    while (dropped < DROPPED_MOST && read_bytes(client, bytes, sizeof bytes, &got) == READY)
+        dropped += got;
+    close(client->socket);
+}
+
+static void set_option(int socket, int level, int option)
+{
+    int on = 1;
+
+    if (setsockopt(socket, level, option, &on, sizeof on) < 0)
+        fail("server: setsockopt");
+}
+
+static void set_nonblocking(int socket)
+{
+    int flags = fcntl(socket, F_GETFL);
+
+    if (flags < 0 || fcntl(socket, F_SETFL, flags | O_NONBLOCK) < 0)
+        fail("server: fcntl");
+}
+
+/* Urgent bytes are to be read where they were sent: the line feed of an ABOR may be one, and would
+   be missing (RFC 959, section 4.1.3). Each reply is sent at once. No call waits but wait_for. */
+static void prepare(int socket)
+{
+    set_option(socket, SOL_SOCKET, SO_OOBINLINE);
+    set_option(socket, IPPROTO_TCP, TCP_NODELAY);
+    set_nonblocking(socket);
 }
 
 /* Serves a client from the greeting to the end of the session. */
-static void serve(int socket)
+static void serve(int socket, int stopping, const struct options *options)
 {
-    struct client client = {.socket = socket};
-    bool open = send_text(&client, UNFTP_CODE_SERVICE_READY, "Ready");
+    struct client client = {.socket = socket, .stopping = stopping, .options = options,
+                            .connection = {.limit = LINE_LIMIT}};
+    bool open;
 
+    prepare(socket);
+    allow(&client, options->idle);
+    open = send_text(&client, UNFTP_CODE_SERVICE_READY, "Ready");
     while (open && receive(&client))
         open = answer_lines(&client);
-    finish(socket);
+    finish(&client);
 }
 
-static void fail(const char *what)
+/* The process that listens. */
+struct server {
+    struct options options;
+    int listener;
+    int stopping[2]; /* a pipe whose end for writing only this process has */
+    long connections;
+    bool is_failing;
+    sigset_t mask; /* while it waits no signal is blocked, else those that it handles are */
+};
+
+static volatile sig_atomic_t is_stopping;
+
+static void stop(int number)
 {
-    perror(what);
-    exit(EXIT_FAILURE);
-}
-
-/* Serves the next client in a process of its own. */
-static void accept_client(int listener)
-{
-    int socket = accept(listener, NULL, NULL);
-    pid_t process;
-
-    if (socket < 0 && (errno == EINTR || errno == ECONNABORTED))
-        return;
-    if (socket < 0)
-        fail("server: accept");
-    process = fork();
-    if (process == 0) {
-        close(listener);
-        serve(socket);
-        _exit(EXIT_SUCCESS);
-    }
-    if (process < 0)
-        perror("server: fork");
-    close(socket);
-}
-
-static void reap_children(int number)
-{
-    int saved = errno;
-
     (void)number;
-    while (waitpid(-1, NULL, WNOHANG) > 0)
-        ;
-    errno = saved;
+    is_stopping = 1;
 }
 
-static void handle_signals(void)
+/* That a session has ended interrupts a wait. */
+static void wake(int number)
 {
-    struct sigaction ignore = {.sa_handler = SIG_IGN};
-    struct sigaction reap = {.sa_handler = reap_children, .sa_flags = SA_NOCLDSTOP};
+    (void)number;
+}
 
-    sigemptyset(&ignore.sa_mask);
-    sigemptyset(&reap.sa_mask);
-    if (sigaction(SIGPIPE, &ignore, NULL) < 0 || sigaction(SIGCHLD, &reap, NULL) < 0)
+static void handle(int number, void (*handler)(int))
+{
+    struct sigaction action = {.sa_handler = handler};
+
+    sigemptyset(&action.sa_mask);
+    if (sigaction(number, &action, NULL) < 0)
         fail("server: sigaction");
 }
 
-/* A socket that listens on this port of 127.0.0.1. */
-static int listen_on(uint16_t port)
+static void handle_signals(struct server *server)
+{
+    sigset_t handled;
+
+    handle(SIGPIPE, SIG_IGN);
+    handle(SIGTERM, stop);
+    handle(SIGINT, stop);
+    handle(SIGCHLD, wake);
+    sigemptyset(&handled);
+    sigaddset(&handled, SIGTERM);
+    sigaddset(&handled, SIGINT);
+    sigaddset(&handled, SIGCHLD);
+    sigemptyset(&server->mask);
+    if (sigprocmask(SIG_BLOCK, &handled, NULL) < 0)
+        fail("server: sigprocmask");
+}
+
+/* Waits for a client or a signal; true for a client. */
+static bool wait_for_client(const struct server *server)
+{
+    fd_set listeners;
+    int count;
+
+    FD_ZERO(&listeners);
+    FD_SET(server->listener, &listeners);
+    count = pselect(server->listener + 1, &listeners, NULL, NULL, NULL, &server->mask);
+    if (count < 0 && errno != EINTR)
+        fail("server: pselect");
+    return count > 0;
+}
+
+/* Takes the sessions that have ended off the count; without WNOHANG it waits for all of them. */
+static void reap_sessions(struct server *server, int options)
+{
+    int status;
+
+    while (waitpid(-1, &status, options) > 0) {
+        server->connections--;
+        if (status != 0)
+            fprintf(stderr, "server: a session has ended with status %#x\n", (unsigned)status);
+    }
+}
+
+/* Answers a client that is not served. It has sent nothing yet, where it waits for the greeting. */
+static void refuse(int socket, const char *reply)
+{
+    char dropped[READ_MOST];
+
+    set_nonblocking(socket);
+    if (write(socket, reply, strlen(reply)) < 0 || shutdown(socket, SHUT_WR) < 0
+        || (read(socket, dropped, sizeof dropped) < 0 && !is_passing(errno)))
+        perror("server: a client that is not served");
+    close(socket);
+}
+
+/* Serves a client in a process of its own. It takes no signals either: it learns from the pipe that
+   the server stops. */
+static void start_session(struct server *server, int socket)
+{
+    pid_t process = fork();
+
+    if (process == 0) {
+        close(server->listener);
+        close(server->stopping[1]);
+        serve(socket, server->stopping[0], &server->options);
+        _exit(EXIT_SUCCESS);
+    }
+    if (process < 0) {
+        perror("server: fork");
+        refuse(socket, "421 No process for this connection\r\n");
+        return;
+    }
+    server->connections++;
+    close(socket);
+}
+
+/* Whether accept fails for good, and not only for this client or for a while, as with EMFILE. */
+static bool is_lasting(int error)
+{
+    return error == EBADF || error == EINVAL || error == ENOTSOCK;
+}
+
+/* Goes on after a while, since the client that can't be accepted stays in the queue. */
+static void pause_accepting(struct server *server)
+{
+    struct timespec time = {.tv_nsec = FAILURE_PAUSE * 1000000L};
+
+    if (is_lasting(errno))
+        fail("server: accept");
+    if (!server->is_failing)
+        perror("server: accept");
+    server->is_failing = true;
+    pselect(0, NULL, NULL, NULL, &time, &server->mask);
+}
+
+/* Takes the next client, where one has come. */
+static void accept_client(struct server *server)
+{
+    int socket = accept(server->listener, NULL, NULL);
+
+    if (socket < 0 && (is_passing(errno) || errno == ECONNABORTED))
+        return;
+    if (socket < 0) {
+        pause_accepting(server);
+        return;
+    }
+    server->is_failing = false;
+    if (server->connections < server->options.connections)
+        start_session(server, socket);
+    else
+        refuse(socket, "421 Too many connections\r\n");
+}
+
+/* Listens on the port of the address. */
+static void start_listening(struct server *server)
 {
     struct sockaddr_in address = {.sin_family = AF_INET};
-    int listener = socket(AF_INET, SOCK_STREAM, 0);
-    int reuse = 1;
 
-    address.sin_port = htons(port);
-    address.sin_addr.s_addr = htonl(INADDR_LOOPBACK);
-    if (listener < 0)
+    address.sin_port = htons((uint16_t)server->options.port);
+    address.sin_addr = server->options.address;
+    server->listener = socket(AF_INET, SOCK_STREAM, 0);
+    if (server->listener >= FD_SETSIZE) /* pselect takes no greater one */
+        errno = EMFILE;
+    if (server->listener < 0 || server->listener >= FD_SETSIZE)
         fail("server: socket");
-    if (setsockopt(listener, SOL_SOCKET, SO_REUSEADDR, &reuse, sizeof reuse) < 0)
-        fail("server: setsockopt");
-    if (bind(listener, (const struct sockaddr *)&address, sizeof address) < 0)
+    set_option(server->listener, SOL_SOCKET, SO_REUSEADDR);
+    set_nonblocking(server->listener);
+    if (bind(server->listener, (const struct sockaddr *)&address, sizeof address) < 0)
         fail("server: bind");
-    if (listen(listener, SOMAXCONN) < 0)
+    if (listen(server->listener, SOMAXCONN) < 0)
         fail("server: listen");
-    return listener;
 }
 
 static void print_port(int listener)
@@ -359,32 +591,67 @@ static void print_port(int listener)
         fail("server: standard output");
 }
 
-/* Whether the text is a port, which it then gives. */
-static bool parse_port(const char *text, uint16_t *port)
+/* Ends every session, which sees the end of the pipe, and waits for them. */
+static void end_sessions(struct server *server)
+{
+    close(server->listener);
+    close(server->stopping[1]);
+    reap_sessions(server, 0);
+}
+
+/* Whether the text is a number within these bounds, which it then gives. */
+static bool parse_number(const char *text, long least, long most, long *number)
 {
     char *end;
-    long number;
 
     errno = 0;
-    number = strtol(text, &end, 10);
-    if (errno != 0 || end == text || *end != '\0' || number < 0 || number > UINT16_MAX)
-        return false;
-    *port = (uint16_t)number;
-    return true;
+    *number = strtol(text, &end, 10);
+    return errno == 0 && end != text && *end == '\0' && *number >= least && *number <= most;
+}
+
+static bool parse_option(int option, struct options *options)
+{
+    switch (option) {
+    case 'a': return inet_pton(AF_INET, optarg, &options->address) == 1;
+    case 'c': return parse_number(optarg, 1, NUMBER_MOST, &options->connections);
+    case 'd': return parse_number(optarg, 1, NUMBER_MOST, &options->dropping);
+    case 'i': return parse_number(optarg, 1, NUMBER_MOST, &options->idle);
+    default: return false;
+    }
+}
+
+static bool parse_options(int count, char **arguments, struct options *options)
+{
+    int option;
+
+    while ((option = getopt(count, arguments, "a:c:d:i:")) != -1) {
+        if (!parse_option(option, options))
+            return false;
+    }
+    return optind == count - 1 && parse_number(arguments[optind], 0, UINT16_MAX, &options->port);
 }
 
 int main(int count, char **arguments)
 {
-    uint16_t port;
-    int listener;
+    struct server server = {.options = {.connections = 100, .dropping = 2, .idle = 300}};
 
-    if (count != 2 || !parse_port(arguments[1], &port)) {
-        fputs("usage: server PORT\n", stderr);
+    server.options.address.s_addr = htonl(INADDR_LOOPBACK);
+    if (!parse_options(count, arguments, &server.options)) {
+        fputs("usage: server [-a ADDRESS] [-c CONNECTIONS] [-d SECONDS] [-i SECONDS] PORT\n",
+              stderr);
         return 2;
     }
-    handle_signals();
-    listener = listen_on(port);
-    print_port(listener);
-    for (;;)
-        accept_client(listener);
+    handle_signals(&server);
+    if (pipe(server.stopping) < 0)
+        fail("server: pipe");
+    start_listening(&server);
+    print_port(server.listener);
+    while (!is_stopping) {
+        bool has_client = wait_for_client(&server);
+        reap_sessions(&server, WNOHANG);
+        if (has_client && !is_stopping)
+            accept_client(&server);
+    }
+    end_sessions(&server);
+    return EXIT_SUCCESS;
 }

@@ -1,0 +1,304 @@
+/*
+ * Makes the calls of unftp_control.h over the inputs on standard input, each with its length before
+ * it, as four bytes with the least first. Checks what the header says of rooms and lengths: each
+ * call with no room at all, with one byte less than it asks for, and with enough; the bounds on
+ * what it asks for; what it leaves as it was; and that what is written is read back. Each area has
+ * no byte more than its call is told, so that valgrind finds what is written past it. Prints how
+ * many inputs there were, and of what kind.
+ */
+#include <unftp_control.h>
+
+#include <stdbool.h>
+#include <stdio.h>
+#include <stdlib.h>
+#include <string.h>
+
+enum { FILLING = '.' };
+
+struct bytes {
+    char *at;
+    size_t len;
+};
+
+/* What was taken of an input: the name and the value are in the area. */
+struct taken {
+    enum unftp_result result;
+    struct unftp_line line;
+    struct bytes area;
+};
+
+typedef enum unftp_result (*line_call)(const char *, size_t, char *, size_t, size_t *);
+
+static const struct bytes *current;
+static unsigned long inputs, commands, refused, replies;
+
+static void wants(bool holds, const char *what)
+{
+    if (holds)
+        return;
+    printf("input %lu of %zu bytes: not so: %s\n", inputs, current->len, what);
+    exit(EXIT_FAILURE);
+}
+
+/* So many bytes; of none, there is still an address. */
+static struct bytes area_of(size_t len)
+{
+    struct bytes area = {malloc(len > 0 ? len : 1), len};
+
+    if (area.at == NULL)
+        abort();
+    memset(area.at, FILLING, len);
+    return area;
+}
+
+static bool is_filling(struct bytes area)
+{
+    for (size_t at = 0; at < area.len; at++) {
+        if (area.at[at] != FILLING)
+            return false;
+    }
+    return true;
+}
+
+static size_t line_feeds(const char *bytes, size_t len)
+{
+    size_t count = 0;
+
+    for (size_t at = 0; at < len; at++)
+        count += bytes[at] == '\n';
+    return count;
+}
+
+static bool is_command(enum unftp_result result)
+{
+    return result >= UNFTP_USER && result <= UNFTP_OTHER;
+}
+
+static bool are_same(struct unftp_connection left, struct unftp_connection right)
+{
+    return left.limit == right.limit && left.offset == right.offset
+        && left.skipping == right.skipping;
+}
+
+/* Calls where there is no room: nothing changes, and the lengths are those that are needed. */
+static struct unftp_line lack_room(struct unftp_connection *connection, const char *bytes,
+                                   size_t len, size_t room)
+{
+    struct unftp_connection before = *connection;
+    struct bytes area = area_of(room);
+    struct unftp_line line;
+
+    wants(unftp_next(connection, bytes, len, area.at, room, &line) == UNFTP_NO_ROOM,
+          "unftp_next has no room");
+    wants(line.used == 0 && are_same(*connection, before) && is_filling(area),
+          "unftp_next without room changes nothing");
+    free(area.at);
+    return line;
+}
+
+/* Takes the next line with just enough room. */
+static struct taken take(struct unftp_connection *connection, const char *bytes, size_t len)
+{
+    struct unftp_connection before = *connection;
+    struct taken taken;
+    size_t room;
+
+    taken.area = area_of(0);
+    taken.result = unftp_next(connection, bytes, len, taken.area.at, 0, &taken.line);
+    if (taken.result != UNFTP_NO_ROOM)
+        return taken;
+    wants(are_same(*connection, before), "unftp_next with no room at all changes nothing");
+    room = taken.line.name_len + taken.line.value_len;
+    taken.line = lack_room(connection, bytes, len, room - 1);
+    wants(room == taken.line.name_len + taken.line.value_len, "it asks for the same room again");
+    free(taken.area.at);
+    taken.area = area_of(room);
+    taken.result = unftp_next(connection, bytes, len, taken.area.at, room, &taken.line);
+    wants(is_command(taken.result) && room == taken.line.name_len + taken.line.value_len,
+          "unftp_next has just enough room");
+    wants(room <= 3 * taken.line.used, "a line of n bytes needs at most 3 n");
+    return taken;
+}
+
+static bool are_equal(struct taken left, struct taken right)
+{
+    return left.result == right.result && left.line.name_len == right.line.name_len
+        && left.line.value_len == right.line.value_len
+        && memcmp(left.area.at, right.area.at, left.area.len) == 0;
+}
+
+/* Writes a line with just enough room: it is read as the line that it is written for. */
+static void check_written(line_call call, const char *line, struct taken wanted)
+{
+    size_t used = wanted.line.used, room, again;
+    struct bytes none = area_of(0), less, out;
+    enum unftp_result result = call(line, used, none.at, 0, &room);
+    struct unftp_connection connection = {0, 0, 0};
+    struct taken taken;
+
+    free(none.at);
+    if (!is_command(wanted.result)) {
+        wants(result == wanted.result && room == 0, "a refused line is refused by each call");
+        return;
+    }
+    wants(result == UNFTP_NO_ROOM && room > 0, "a command has a line");
+    less = area_of(room - 1);
+    wants(call(line, used, less.at, room - 1, &again) == UNFTP_NO_ROOM && again == room
+              && is_filling(less),
+          "its line needs this room");
+    out = area_of(room);
+    wants(call(line, used, out.at, room, &again) == UNFTP_DONE && again == room,
+          "its line has just enough room");
+    taken = take(&connection, out.at, room);
+    wants(taken.line.used == room && are_equal(taken, wanted), "its line is read as the command");
+    free(taken.area.at);
+    free(less.at);
+    free(out.at);
+}
+
+/* The limit is exact, and a line that comes in two parts is the same line. */
+static void check_cuts(const char *bytes, struct taken wanted)
+{
+    size_t used = wanted.line.used;
+    struct unftp_connection exact = {used, 0, 0}, small = {used - 1, 0, 0}, parts = {0, 0, 0};
+    struct taken taken = take(&exact, bytes, used);
+
+    wants(are_equal(taken, wanted), "a line of as many bytes as the limit");
+    free(taken.area.at);
+    if (used > 1) {
+        taken = take(&small, bytes, used);
+        wants(taken.result == UNFTP_LINE_TOO_LONG && taken.line.used == used,
+              "a line of more bytes than the limit");
+        free(taken.area.at);
+    }
+    taken = take(&parts, bytes, used - 1);
+    wants(taken.result == UNFTP_MORE && taken.line.used == 0 && parts.offset == used - 1,
+          "a line without its end");
+    free(taken.area.at);
+    taken = take(&parts, bytes, used);
+    wants(are_equal(taken, wanted) && parts.offset == 0, "a line that has come in two parts");
+    free(taken.area.at);
+}
+
+/* Takes all lines of an input. */
+static void check_lines(struct bytes input)
+{
+    struct unftp_connection connection = {0, 0, 0};
+    size_t start = 0;
+
+    for (;;) {
+        const char *bytes = input.at + start;
+        struct taken taken = take(&connection, bytes, input.len - start);
+        if (taken.result == UNFTP_MORE) {
+            free(taken.area.at);
+            break;
+        }
+        wants(taken.line.used > 0 && line_feeds(bytes, taken.line.used) == 1
+                  && bytes[taken.line.used - 1] == '\n',
+              "a line is used up");
+        commands += is_command(taken.result);
+        refused += !is_command(taken.result);
+        check_cuts(bytes, taken);
+        check_written(unftp_canonical, bytes, taken);
+        check_written(unftp_forward, bytes, taken);
+        start += taken.line.used;
+        free(taken.area.at);
+    }
+    wants(line_feeds(input.at + start, input.len - start) == 0, "no line is left");
+}
+
+/* A client finds the reply that these bytes are, and not before its end. */
+static void check_found(struct bytes reply)
+{
+    struct unftp_found_reply found;
+
+    wants(unftp_front_reply(reply.at, reply.len, &found) == UNFTP_DONE && found.used == reply.len
+              && found.code == 299,
+          "a client finds the reply");
+    wants(unftp_front_reply(reply.at, reply.len - 1, &found) == UNFTP_MORE && found.used == 0
+              && found.code == 0,
+          "but not before its end");
+}
+
+/* Makes a reply of this text with just enough room. */
+static void check_reply(struct bytes text)
+{
+    struct bytes none = area_of(0), less, out;
+    size_t room, again, lines = line_feeds(text.at, text.len);
+    enum unftp_result result = unftp_reply(299, text.at, text.len, none.at, 0, &room);
+
+    free(none.at);
+    if (result == UNFTP_INVALID_UTF8) {
+        wants(room == 0, "no room is needed for no reply");
+        return;
+    }
+    wants(result == UNFTP_NO_ROOM && room <= text.len + (lines > 0 ? 2 * lines + 10 : 6),
+          "the room of a reply");
+    less = area_of(room - 1);
+    wants(unftp_reply(299, text.at, text.len, less.at, room - 1, &again) == UNFTP_NO_ROOM
+              && again == room && is_filling(less),
+          "a reply needs this room");
+    out = area_of(room);
+    wants(unftp_reply(299, text.at, text.len, out.at, room, &again) == UNFTP_DONE && again == room,
+          "a reply has just enough room");
+    check_found(out);
+    replies++;
+    free(less.at);
+    free(out.at);
+}
+
+/* What no call leaves, and no code. */
+static void check_arguments(void)
+{
+    const struct unftp_connection wrong[] = {{0, 7, 0}, {0, 1, 1}, {0, 0, 2}, {0, 0, 256}};
+    const char bytes[] = "NOOP\r\n";
+    struct bytes area = area_of(sizeof bytes);
+    struct unftp_line line;
+    size_t len;
+
+    for (size_t at = 0; at < sizeof wrong / sizeof wrong[0]; at++) {
+        struct unftp_connection connection = wrong[at];
+        enum unftp_result result =
+            unftp_next(&connection, bytes, sizeof bytes - 1, area.at, area.len, &line);
+        wants(result == UNFTP_INVALID_ARGUMENT, "an invalid argument");
+        wants(are_same(connection, wrong[at]) && is_filling(area), "what it leaves as it was");
+        wants(line.used == 0 && line.name_len == 0 && line.value_len == 0, "what it reports");
+    }
+    wants(unftp_reply(99, "", 0, area.at, area.len, &len) == UNFTP_UNKNOWN_CODE && len == 0
+              && unftp_reply(600, "", 0, area.at, area.len, &len) == UNFTP_UNKNOWN_CODE && len == 0
+              && is_filling(area),
+          "99 and 600");
+    wants(unftp_reply(100, "", 0, area.at, area.len, &len) == UNFTP_DONE && len == 5
+              && memcmp(area.at, "100\r\n", 5) == 0,
+          "100");
+    free(area.at);
+}
+
+/* The next input; false at the end. */
+static bool read_input(struct bytes *input)
+{
+    unsigned char len[4];
+
+    if (fread(len, 1, sizeof len, stdin) != sizeof len)
+        return false;
+    *input = area_of((size_t)len[0] | (size_t)len[1] << 8 | (size_t)len[2] << 16
+                     | (size_t)len[3] << 24);
+    return fread(input->at, 1, input->len, stdin) == input->len;
+}
+
+int main(void)
+{
+    struct bytes input = {"", 0};
+
+    current = &input;
+    check_arguments();
+    while (read_input(&input)) {
+        inputs++;
+        check_lines(input);
+        check_reply(input);
+        free(input.at);
+    }
+    printf("%lu inputs: %lu commands, %lu refused lines, %lu replies\n", inputs, commands, refused,
+           replies);
+    return EXIT_SUCCESS;
+}

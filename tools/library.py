@@ -1,0 +1,93 @@
+"""The library for C: its version and its calls, which the header has, and its files."""
+
+import pathlib
+import re
+import subprocess
+
+TOP = pathlib.Path(__file__).resolve().parent.parent
+HEADER = TOP / "include/unftp_control.h"
+# where tools/c_library puts it
+OUT = TOP / "crates/unftp_control_c/out"
+
+COMPILED = "libunftp_control_c.a"
+STATIC = "libunftp_control.a"
+SHARED = "libunftp_control.so"
+
+
+def header():
+    """The header without its comments."""
+    return re.sub(r"/\*.*?\*/", " ", HEADER.read_text(encoding="utf-8"), flags=re.S)
+
+
+def version():
+    """The version of the header: 0.1.0."""
+    parts = [re.search(rf"^#define UNFTP_VERSION_{part} (\d+)$", header(), re.M)[1] for part in ["MAJOR", "MINOR", "PATCH"]]
+    return ".".join(parts)
+
+
+def calls():
+    """The functions that the header declares, but does not define."""
+    return re.findall(r"^(?:enum unftp_result|uint32_t) (unftp_\w+)\([^{;]*\;", header(), re.M)
+
+
+def shared_names():
+    """The names of the shared library: the file, the one that programs load, and the one that a linker takes."""
+    return f"{SHARED}.{version()}", f"{SHARED}.{version().split('.')[0]}", SHARED
+
+
+def output_of(*words):
+    """What a command prints."""
+    return subprocess.run(words, capture_output=True, encoding="utf-8", check=True).stdout
+
+
+def names_of(*words):
+    """The names that nm prints, without their versions."""
+    lines = [line.split() for line in output_of("nm", *words).splitlines()]
+    return sorted(line[-1].split("@")[0] for line in lines if len(line) > 1)
+
+
+def global_names(folder):
+    """The names that the static and the shared library of a folder define for programs."""
+    return names_of("-g", "--defined-only", folder / STATIC), names_of("-D", "--defined-only", folder / shared_names()[0])
+
+
+def place(at, content, mode=0o644):
+    """Makes a file of these bytes, and the folders above it."""
+    at.parent.mkdir(parents=True, exist_ok=True)
+    at.unlink(missing_ok=True)
+    at.write_bytes(content)
+    at.chmod(mode)
+
+
+def link(at, target):
+    """Makes a symbolic link."""
+    at.unlink(missing_ok=True)
+    at.symlink_to(target)
+
+
+def filled(name, **words):
+    """A file of packaging/ as bytes, with its words, as @VERSION@, filled in."""
+    file, loaded, _ = shared_names()
+    words |= {"VERSION": version(), "SERIES": version().rpartition(".")[0], "FILE": file, "LOADED": loaded}
+    text = (TOP / "packaging" / name).read_text(encoding="utf-8")
+    for word, value in words.items():
+        text = text.replace(f"@{word}@", value)
+    return text.encode()
+
+
+def install(libraries, root, prefix):
+    """Puts the header, the two libraries, what pkg-config and CMake read, and the page of the manual below root; what pkg-config reads
+    has this prefix."""
+    file, loaded, linked = shared_names()
+    place(root / "lib" / STATIC, (libraries / STATIC).read_bytes())
+    place(root / "lib" / file, (libraries / file).read_bytes(), mode=0o755)
+    link(root / "lib" / loaded, file)
+    link(root / "lib" / linked, loaded)
+    place(root / "include" / HEADER.name, HEADER.read_bytes())
+    place(root / "lib/pkgconfig/unftp_control.pc", filled("unftp_control.pc", PREFIX=prefix))
+    for name in ["unftp_control-config.cmake", "unftp_control-config-version.cmake"]:
+        place(root / "lib/cmake/unftp_control" / name, filled(name))
+    manual = root / "share/man/man3"
+    place(manual / "unftp_control.3", filled("unftp_control.3"))
+    for call in [*calls(), "unftp_result_text"]:
+        link(manual / f"{call}.3", "unftp_control.3")

@@ -1,0 +1,22 @@
+/*
+ * Prints the version of the library, and a line for each number from 0 to 255: the number, a tab,
+ * and the text that the header has for it. It doesn't compile where the header's types are laid out
+ * in another way than those of the library.
+ */
+#include <unftp_control.h>
+
+#include <stdio.h>
+
+/* the library's functions return a u32, and no field of its structs has a gap before it */
+typedef char result_is_a_u32[sizeof(enum unftp_result) == sizeof(uint32_t) ? 1 : -1];
+typedef char connection[offsetof(struct unftp_connection, skipping) == 2 * sizeof(size_t) ? 1 : -1];
+typedef char line[offsetof(struct unftp_line, value_len) == 2 * sizeof(size_t) ? 1 : -1];
+typedef char found_reply[offsetof(struct unftp_found_reply, code) == sizeof(size_t) ? 1 : -1];
+
+int main(void)
+{
+    printf("%lu\n", (unsigned long)unftp_version());
+    for (int number = 0; number < 256; number++)
+        printf("%d\t%s\n", number, unftp_result_text((enum unftp_result)number));
+    return 0;
+}

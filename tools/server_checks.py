@@ -1,0 +1,337 @@
+#!/usr/bin/env python3
+"""Checks that the server of examples/c goes on where it has to, and ends what it has to end.
+
+usage: tools/server_checks.py abort SERVER              urgent data: the ABOR of Python's ftplib
+       tools/server_checks.py descriptors SERVER         no descriptor is left for a client (EMFILE)
+       tools/server_checks.py files PRELOAD SERVER       the system has none left (ENFILE): PRELOAD is tools/fail_calls.c
+       tools/server_checks.py fork PRELOAD SERVER        no process can be made
+       tools/server_checks.py connections SERVER         more clients than it may have, and those that come after them
+       tools/server_checks.py idle SERVER                clients that send nothing, no line feed, or slowly
+       tools/server_checks.py unread SERVER              a client that doesn't read
+       tools/server_checks.py late SERVER                clients that go on sending after QUIT
+       tools/server_checks.py staying SERVER             clients that stay after QUIT, and one that goes on sending for ever
+       tools/server_checks.py gone SERVER                clients that are gone before they are answered
+       tools/server_checks.py stop SERVER                SIGTERM, SIGINT and SIGKILL while clients are served
+
+The last line says what was compared; the status is 0 where all is right.
+"""
+
+import ftplib
+import os
+import pathlib
+import resource
+import signal
+import socket
+import subprocess
+import sys
+import threading
+import time
+
+from embedding import GREETING, HOST, PATIENCE, REPLIES, Server, Wrong, receive, wants
+
+NOOP, QUIT = b"NOOP\r\n", b"QUIT\r\n"
+OKAY, BYE = REPLIES["Noop"], REPLIES["Quit"]
+TIMEOUT = b"421 Timeout\r\n"
+TOO_MANY = b"421 Too many connections\r\n"
+NO_PROCESS = b"421 No process for this connection\r\n"
+STOPPING = b"421 Service is stopping\r\n"
+
+# how many clients send more after QUIT, and what each sends, at how many times
+IMPATIENT, LATE, TIMES = 20, NOOP * 10_000, 6
+
+
+def all_of(connection):
+    """All that the server sends, or the error that it ends with."""
+    try:
+        return receive(connection)
+    except OSError as error:
+        return repr(error)
+
+
+def asked(connection, line=NOOP, reply=OKAY):
+    """Sends a line, which has to get this reply."""
+    connection.sendall(line)
+    wants(f"the reply to {line!r}", receive(connection, len(reply)), reply)
+
+
+def within(what, least, most, call):
+    """Calls, which has to take so many seconds at least and at most."""
+    start = time.monotonic()
+    call()
+    took = time.monotonic() - start
+    if not least <= took <= most:
+        raise Wrong(f"{what} took {took:.1f} seconds, and not {least} to {most}")
+
+
+def until_refused(connection, piece, pause=0.0, most=PATIENCE):
+    """Sends the piece again and again until the connection is closed: how many bytes it took."""
+    sent = 0
+    deadline = time.monotonic() + most
+    try:
+        while time.monotonic() < deadline:
+            sent += connection.send(piece)
+            time.sleep(pause)
+    except (ConnectionResetError, BrokenPipeError):
+        return sent
+    raise Wrong(f"the connection stays open, after {sent} bytes")
+
+
+def side_by_side(*calls):
+    """Makes the calls at once. The first that fails is what failed."""
+    failures = []
+
+    def make(call):
+        try:
+            call()
+        except (Wrong, OSError) as error:
+            failures.append(error)
+
+    threads = [threading.Thread(target=make, args=[call], daemon=True) for call in calls]
+    for thread in threads:
+        thread.start()
+    for thread in threads:
+        thread.join()
+    if failures:
+        raise failures[0]
+
+
+def code_of(call, *arguments):
+    """The code of the reply to a call of ftplib."""
+    try:
+        return call(*arguments)[:3]
+    except ftplib.Error as error:
+        return str(error)[:3]
+
+
+def check_abort(program):
+    """The line feed of ftplib's ABOR is urgent. The server has to find it where it was sent."""
+    with Server([program]) as server, ftplib.FTP(timeout=PATIENCE) as ftp:
+        ftp.connect(HOST, server.port)
+        said = [code_of(ftp.login, "anna", "secret"), code_of(ftp.abort), code_of(ftp.abort), code_of(ftp.quit)]
+    wants("the replies", said, ["230", "502", "502", "221"])
+    return "an ABOR with urgent data gets its reply"
+
+
+def processor_time(pid):
+    """How many seconds of a processor a process has taken."""
+    fields = pathlib.Path(f"/proc/{pid}/stat").read_text(encoding="ascii").rpartition(")")[2].split()
+    return (int(fields[11]) + int(fields[12])) / os.sysconf("SC_CLK_TCK")
+
+
+def check_descriptors(program):
+    """Where `ulimit -n` has no descriptor for a client, it waits in the queue, and the server without haste. Then it is served."""
+    with Server([program]) as server, server.connect() as beside:
+        server.said = b"server: accept: Too many open files\n"
+        before = resource.prlimit(server.pid, resource.RLIMIT_NOFILE)
+        opened = len(os.listdir(f"/proc/{server.pid}/fd"))
+        resource.prlimit(server.pid, resource.RLIMIT_NOFILE, (opened, before[1]))
+        taken = processor_time(server.pid)
+        with socket.create_connection((HOST, server.port), 1) as waiting:
+            try:
+                raise Wrong(f"a client has {waiting.recv(1)!r} where no descriptor is left")
+            except TimeoutError:
+                pass
+            asked(beside)
+            taken = processor_time(server.pid) - taken
+            resource.prlimit(server.pid, resource.RLIMIT_NOFILE, before)
+            waiting.settimeout(PATIENCE)
+            wants("the greeting", receive(waiting, len(GREETING)), GREETING)
+            asked(waiting)
+    if taken > 0.25:
+        raise Wrong(f"a second without descriptors took {taken} seconds of a processor")
+    return f"a client waits while no descriptor is left, with {taken} seconds of a processor for one second, and is served then"
+
+
+def check_files(preload, program):
+    """The system has no file left for some calls of accept."""
+    with Server(["env", f"LD_PRELOAD={preload}", "FAIL_ACCEPT=3", program]) as server:
+        server.said = b"server: accept: Too many open files in system\n"
+        with server.connect() as connection:
+            asked(connection)
+    return "a client is served after three failures"
+
+
+def check_fork(preload, program):
+    """No process can be made for the first two clients."""
+    with Server(["env", f"LD_PRELOAD={preload}", "FAIL_FORK=2", program]) as server:
+        server.said = b"server: fork: Resource temporarily unavailable\n" * 2
+        for _ in range(2):
+            with server.connect(NO_PROCESS) as connection:
+                wants("the end", all_of(connection), b"")
+        with server.connect() as connection:
+            asked(connection)
+    return "421 where there is no process, and the next client is served"
+
+
+def connected_in_time(server):
+    """A connection, once the server has counted out those that have ended."""
+    deadline = time.monotonic() + PATIENCE
+    while time.monotonic() < deadline:
+        try:
+            return server.connect()
+        except Wrong:
+            time.sleep(0.01)
+    raise Wrong("no client is served after those that have ended")
+
+
+def children(pid):
+    """The children of a process, those that have ended among them."""
+    found = []
+    for path in pathlib.Path("/proc").glob("[0-9]*/stat"):
+        try:
+            if int(path.read_text(encoding="ascii", errors="replace").rpartition(")")[2].split()[1]) == pid:
+                found.append(path)
+        except OSError:
+            pass  # it ended just now
+    return found
+
+
+def check_connections(program):
+    """Two clients at a time, and thirty one after the other; no process is left of them."""
+    with Server([program, "-c", "2"]) as server:
+        with server.connect() as first, server.connect() as second:
+            for _ in range(5):
+                with server.connect(TOO_MANY) as third:
+                    wants("the end", all_of(third), b"")
+            asked(first)
+            asked(second)
+        for _ in range(30):
+            with connected_in_time(server) as connection:
+                asked(connection, QUIT, BYE)
+        deadline = time.monotonic() + PATIENCE
+        while children(server.pid) and time.monotonic() < deadline:
+            time.sleep(0.05)
+        wants("the processes of clients that are gone", children(server.pid), [])
+    return "421 for 5 clients too many, and 30 are served after that"
+
+
+def check_idle(program):
+    """With an idle timeout of two seconds: that a command comes is what counts."""
+    with Server([program, "-i", "2"]) as server:
+
+        def silent():
+            with server.connect() as connection:
+                within("a silent client", 1.5, 8, lambda: wants("a silent client", all_of(connection), TIMEOUT))
+
+        def slow():
+            with server.connect() as connection:
+                within("a slow client", 1.5, 8, lambda: until_refused(connection, b"N", 0.1))
+                wants("a slow client", receive(connection, len(TIMEOUT)), TIMEOUT)
+
+        def endless():
+            with server.connect() as connection:
+                within("a line without an end", 1.5, 8, lambda: until_refused(connection, b"N" * 4096, 0.001))
+
+        def busy():
+            with server.connect() as connection:
+                for _ in range(6):
+                    time.sleep(0.5)
+                    asked(connection)
+
+        side_by_side(silent, slow, endless, busy)
+    return "421 for a silent client, and for one that sends a line byte by byte; not for one that sends commands"
+
+
+def check_unread(program):
+    """A client that sends commands and doesn't read is ended too."""
+    with Server([program, "-i", "1"]) as server, server.connect() as connection:
+        within("a client that doesn't read", 0.5, 10, lambda: until_refused(connection, b"HELP\r\n" * 1000))
+        with server.connect() as other:
+            asked(other)
+    return "a client that doesn't read is ended"
+
+
+def check_late(program):
+    """Each can go on sending after QUIT, and then reads the last reply and the end."""
+    size = len(LATE) // TIMES
+    with Server([program]) as server:
+        endings = []
+        for _ in range(IMPATIENT):
+            with server.connect() as connection:
+                connection.sendall(QUIT)
+                for _ in range(TIMES):
+                    connection.sendall(LATE[:size])
+                    time.sleep(0.005)
+                endings.append(all_of(connection))
+    wants("what they get", endings, [BYE] * IMPATIENT)
+    return f"{IMPATIENT} clients that send {size * TIMES} bytes after QUIT get 221"
+
+
+def check_staying(program):
+    """After QUIT the server's side is at its end at once. What is dropped then has a bound in seconds and one in bytes."""
+    with Server([program, "-d", "2"]) as server, server.connect() as staying:
+        asked(staying, QUIT, BYE)
+        within("the end of the server's side", 0, 1.5, lambda: wants("what comes after 221", all_of(staying), b""))
+        within("a client that stays", 0.5, 6, lambda: until_refused(staying, b"x", 0.1))
+    with Server([program, "-d", "60"]) as server, server.connect() as endless:
+        endless.sendall(QUIT)
+        sent = until_refused(endless, b"x" * 65536)
+    return f"a client that stays is ended in time, and one that sends for ever after {sent} bytes"
+
+
+def check_gone(program):
+    """Clients that have sent all that they have to, and go while the server is sending: writing to them would raise SIGPIPE."""
+    with Server([program]) as server:
+        for _ in range(IMPATIENT):
+            with socket.socket() as connection:
+                connection.setsockopt(socket.SOL_SOCKET, socket.SO_RCVBUF, 4096)
+                connection.connect((HOST, server.port))
+                connection.sendall(b"HELP\r\n" * 10_000)
+                connection.shutdown(socket.SHUT_WR)
+                time.sleep(0.02)
+        with server.connect() as connection:
+            asked(connection)
+    return f"{IMPATIENT} clients are gone, and the next is served"
+
+
+def check_stop(program):
+    """Each client gets 421, also in the midst of a line, and no other is served. The server ends after its sessions, which here drop
+    what comes for a second, since these clients stay. Where it is killed itself, each client gets 421 too."""
+    for number in [signal.SIGTERM, signal.SIGINT, signal.SIGKILL]:
+        with Server([program, "-d", "1"]) as server, server.connect() as idle, server.connect() as midst:
+            midst.sendall(b"NOO")
+            if number == signal.SIGKILL:
+                os.kill(server.pid, number)
+                server.status, _ = server.stop()  # as `timeout` reports it
+            else:
+                within("the server's end", 0.5, 5, lambda: wants("the server's end", server.stop(number), (0, b"")))
+            wants("what the clients get", [all_of(idle), all_of(midst)], [STOPPING] * 2)
+            try:
+                server.connect()
+                raise Wrong("a client is served after the end")
+            except ConnectionRefusedError:
+                pass
+    return "each client gets 421 at SIGTERM, at SIGINT, and where the server is killed"
+
+
+CHECKS = {
+    "abort": check_abort,
+    "descriptors": check_descriptors,
+    "files": check_files,
+    "fork": check_fork,
+    "connections": check_connections,
+    "idle": check_idle,
+    "unread": check_unread,
+    "late": check_late,
+    "staying": check_staying,
+    "gone": check_gone,
+    "stop": check_stop,
+}
+
+
+def main():
+    if len(sys.argv) < 3 or sys.argv[1] not in CHECKS:
+        print(__doc__, file=sys.stderr)
+        return 2
+    for number in [signal.SIGHUP, signal.SIGTERM]:
+        signal.signal(number, lambda number, _: sys.exit(128 + number))
+    try:
+        print(CHECKS[sys.argv[1]](*sys.argv[2:]))
+    except (Wrong, OSError, subprocess.SubprocessError, ValueError) as error:
+        print(error)
+        return 1
+    return 0
+
+
+if __name__ == "__main__":
+    sys.exit(main())
