@@ -1,5 +1,5 @@
 -- What is reported of a line that is forwarded.
-use Rattle.std.proofs.Common.{◌≡◌, ◌≢◌, true, Result, Ok, Err, refl, sym, ap, subst, ◌∙◌, Vec, ℕ, Global, take, arith}
+use Rattle.std.proofs.Common.{◌≡◌, true, Result, Ok, Err, refl, sym, ap, subst, ◌∙◌, Vec, ℕ, Global, take, arith}
 use Rattle.std.specs.Prelude.{IfOk}
 use Rattle.std.specs.Str.{is_utf8}
 use Rattle.std.proofs.lemmas.Option.{none-some}

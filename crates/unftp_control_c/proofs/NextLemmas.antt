@@ -1,9 +1,8 @@
 -- What the codec's answer leaves of a call of `unftp_next`.
 use Rattle.std.proofs.Common.{◌≡◌, ℕ, ◌+◌, ◌≤◌, Bool, true, false, ◌⊎◌, inl, inr, length, take, drop, Option, Some, None, Ok, Err, refl, sym, ap, subst, ◌∙◌, arith}
-use Rattle.std.specs.Prelude.{◌==◌, if◌then◌else◌, nat_le}
+use Rattle.std.specs.Prelude.{◌==◌, nat_le}
 use Rattle.std.proofs.lemmas.Bool.{and_parts, leb-true}
 use Rattle.std.specs.Option.{MatchOption}
-use Rattle.unftp_control_defs.specs.Bytes.{Bytes}
 use Rattle.unftp_control_defs.specs.FtpCommand.{FtpCommand, Answer, Refusal, InvalidCommand, InvalidUtf8, InvalidEol}
 use Rattle.unftp_control_defs.specs.Events.{Fault, FtpEvent, Command, Refused, event_of, refusal_fault, line_too_long}
 use Rattle.unftp_control_defs.specs.Events as fault
@@ -18,10 +17,9 @@ use Rattle.unftp_control_codecs.specs.Decoding.{Decoded, Decodes, FindsNone, Ski
 use Rattle.unftp_control_codecs.proofs.MemoryLemmas.{ran_out}
 use Rattle.unftp_control_line_parser.specs.Memory.{MayTakeMemory}
 use Rattle.unftp_control_codecs.proofs.LineFeedLemmas.{line_feed_at}
-use Rattle.unftp_control_c.specs.declared.status.Status.{Status}
 use Rattle.unftp_control_c.specs.declared.status.Status.TheVariants.{More, OutOfMemory}
 use Rattle.unftp_control_c.specs.Numbers.{fault_status, keeps_bytes, refusal_status}
-use Rattle.unftp_control_c.specs.Next.{Call, Left, Leaves, LineMayTakeMemory, by_line_feed, ended, gives, incomplete, is_long, is_valid, left_by, line_limit, next_of, reported, used_up}
+use Rattle.unftp_control_c.specs.Next.{Call, Leaves, LineMayTakeMemory, by_line_feed, ended, gives, incomplete, is_long, is_valid, left_by, line_limit, next_of, reported, used_up}
 
 -- the codec that goes on where the caller's last call stopped
 abbrev pub codec_of : Call → Codec

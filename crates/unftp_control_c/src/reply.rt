@@ -16,7 +16,7 @@ use itoa::Buffer;
 use std::alloc::{AllocError, Global};
 use std::str::from_utf8;
 use unftp_control_codecs::{encode_lines, is_reply_code};
-use unftp_control_read::{FoundReply, find_reply};
+use unftp_control_read::find_reply;
 
 /// The bytes of a reply: `unftp_reply` of include/unftp_control.h.
 #[unsafe(no_mangle)]
@@ -117,7 +117,7 @@ fn is_one_line(text: &str) -> bool
 /// What was found: `struct unftp_found_reply` of include/unftp_control.h.
 #[repr(C)]
 #[derive(Clone, Copy)]
-pub struct Found {
+pub struct FoundReply {
     /// How many bytes the reply takes.
     pub used: usize,
     /// Its code.
@@ -126,7 +126,7 @@ pub struct Found {
 
 /// Finds the reply at the start: `unftp_front_reply` of include/unftp_control.h.
 #[unsafe(no_mangle)]
-pub extern "C" fn unftp_front_reply(bytes: &[u8], reply: &mut Found) -> u32
+pub extern "C" fn unftp_front_reply(bytes: &[u8], reply: &mut FoundReply) -> u32
     ensures found { result ≡ status_number Done
         → ((lines : List Bytes) × FrontReply bytes.now reply.new.code lines reply.new.used)
         × (reply.new.used ≤ length bytes.now) }
@@ -138,16 +138,16 @@ pub extern "C" fn unftp_front_reply(bytes: &[u8], reply: &mut Found) -> u32
     ensures malformed { IsMalformed bytes.now
         → (result ≡ status_number Malformed) × (reply.new ≡ record { used = 0; code = 0 }) }
 {
-    *reply = Found { used: 0, code: 0 };
+    *reply = FoundReply { used: 0, code: 0 };
     match find_reply(bytes) {
-        FoundReply::Whole { code, used } => {
-            *reply = Found {
+        unftp_control_read::FoundReply::Whole { code, used } => {
+            *reply = FoundReply {
                 used,
                 code: u32::from(code),
             };
             Status::Done.number()
         }
-        FoundReply::Partial => Status::More.number(),
-        FoundReply::Malformed => Status::Malformed.number(),
+        unftp_control_read::FoundReply::Partial => Status::More.number(),
+        unftp_control_read::FoundReply::Malformed => Status::Malformed.number(),
     }
 }
