@@ -8,9 +8,10 @@
  * Of every call:
  * - No pointer may be null, also where the length beside it is 0. What a call writes may overlap
  *   nothing else that it is given; an area of no bytes overlaps nothing.
- * - A pointer with a length is to so many bytes. Texts are not ended by a NUL, and may hold any byte.
- * - Areas, lengths and structs that are only written need not be set before. Each length is 0 where its
- *   comment doesn't say what it is.
+ * - A pointer with a length is to so many bytes. Texts are not ended by a NUL, and may hold any
+ *   byte.
+ * - Areas, lengths and structs that are only written need not be set before. Each length is 0 where
+ *   its comment doesn't say what it is.
  * - Where a call has no room or no memory, the caller may call again with the same bytes.
  *
  * What the calls return and write is proved, but for the bounds on lengths, which are tested.
@@ -18,7 +19,6 @@
 #ifndef UNFTP_CONTROL_H
 #define UNFTP_CONTROL_H
 
-#include <stdbool.h>
 #include <stddef.h>
 #include <stdint.h>
 
@@ -44,9 +44,9 @@ enum unftp_result {
     /* It has done what was asked. */
     UNFTP_DONE = 0,
 
-    /* A command, of unftp_next only. Its name is the verb here, also where the line has another word
-       for it: XCWD, XMKD, XPWD and BYE are CWD, MKD, PWD and QUIT. The comment beside each names its
-       value; one in brackets may be absent, and its length is then 0. */
+    /* A command, of unftp_next only. Its name is the verb here, also where the line has another
+       word for it: XCWD, XMKD, XPWD and BYE are CWD, MKD, PWD and QUIT. The comment beside each
+       names its value; one in brackets may be absent, and its length is then 0. */
     UNFTP_USER = 1,    /* [name] */
     UNFTP_PASS = 2,    /* [password] */
     UNFTP_ACCT = 3,    /* [account] */
@@ -98,7 +98,8 @@ enum unftp_result {
     UNFTP_INVALID_COMMAND = 102,
     /* The verb, the subcommand of SITE, AUTH's parameter or a reply's text is not UTF-8. */
     UNFTP_INVALID_UTF8 = 103,
-    /* The line's end is not CR LF or LF, or a CR in its parameter is followed by neither LF nor NUL. */
+    /* The line's end is not CR LF or LF, or a CR in its parameter is followed by neither LF nor
+       NUL. */
     UNFTP_INVALID_EOL = 104,
     /* The line is longer than the limit. */
     UNFTP_LINE_TOO_LONG = 105,
@@ -106,8 +107,8 @@ enum unftp_result {
     UNFTP_OUT_OF_MEMORY = 106,
     /* The area is too small; the lengths say how large it has to be. */
     UNFTP_NO_ROOM = 107,
-    /* No line whose one line feed is its last byte is read as this command; or, of unftp_forward, the
-       bytes are no such line. */
+    /* No line whose one line feed is its last byte is read as this command; or, of unftp_forward,
+       the bytes are no such line. */
     UNFTP_NO_LINE = 108,
     /* The first line opens no reply. */
     UNFTP_MALFORMED = 109,
@@ -118,8 +119,8 @@ enum unftp_result {
     UNFTP_INVALID_ARGUMENT = 111
 };
 
-/* Codes of replies by name, those of RFC 959 (section 4.2.2) where no other RFC is named. unftp_reply
-   takes any other number from 100 to 599 too. */
+/* Codes of replies by name, those of RFC 959 (section 4.2.2) where no other RFC is named.
+   unftp_reply takes any other number from 100 to 599 too. */
 enum unftp_code {
     UNFTP_CODE_RESTART_MARKER = 110,
     UNFTP_CODE_IN_N_MINUTES = 120,
@@ -178,8 +179,8 @@ enum unftp_code {
     UNFTP_CODE_BAD_FILE_NAME = 553
 };
 
-/* What a caller keeps of a connection, beside its pending bytes: those that were received and not used
-   up. At the start of a connection all but the limit is 0: struct unftp_connection c = {4096, 0, 0}. */
+/* What a caller keeps of a connection, beside its pending bytes: those that were received and not
+   used up. At the start of a connection all but the limit is 0, as in {4096, 0, 0}. */
 struct unftp_connection {
     /* How many bytes a line may have, its line feed counted; 0 for any number. */
     size_t limit;
@@ -208,39 +209,42 @@ struct unftp_found_reply {
 };
 
 /*
- * Takes the next line of the pending bytes (RFC 959, section 5.3). It returns the number of a command,
- * UNFTP_INVALID_COMMAND, UNFTP_INVALID_UTF8, UNFTP_INVALID_EOL, UNFTP_LINE_TOO_LONG or UNFTP_MORE. At a
- * command and at a refused line the bytes that are used up are the line, with what its command drops:
- * the `A` of `TYPE A`, the `ALL` of `EPSV ALL`. At UNFTP_LINE_TOO_LONG they are its end, or all of it.
+ * Takes the next line of the pending bytes (RFC 959, section 5.3). It returns the number of a
+ * command, UNFTP_INVALID_COMMAND, UNFTP_INVALID_UTF8, UNFTP_INVALID_EOL, UNFTP_LINE_TOO_LONG or
+ * UNFTP_MORE. At a command and at a refused line the bytes that are used up are the line, with what
+ * its command drops: the `A` of `TYPE A`, the `ALL` of `EPSV ALL`. At UNFTP_LINE_TOO_LONG they are
+ * its end, or all of it.
  *
- * No byte before the connection's offset is scanned again, so the time is linear in what was received,
- * and bytes before it may not change.
+ * No byte before the connection's offset is scanned again, so the time is linear in what was
+ * received, and bytes before it may not change.
  *
- * The name and the value of a command are written to the area, one after the other. The name is UTF-8,
- * with the letters a to z in upper case. The value is what the line has after it, without the line's
- * end: a CR that was sent as CR NUL is one CR. Values are UTF-8, with U+FFFD for each ill-formed part,
- * but those of USER, PASS, ACCT and STAT, which are the bytes that were sent. At UNFTP_NO_ROOM the area
- * needs name_len + value_len bytes; a line of n bytes needs at most 3 n.
+ * The name and the value of a command are written to the area, one after the other. The name is
+ * UTF-8, with the letters a to z in upper case. The value is what the line has after it, without
+ * the line's end: a CR that was sent as CR NUL is one CR. Values are UTF-8, with U+FFFD for each
+ * ill-formed part, but those of USER, PASS, ACCT and STAT, which are the bytes that were sent. At
+ * UNFTP_NO_ROOM the area needs name_len + value_len bytes; a line of n bytes needs at most 3 n.
  *
- * A line of more bytes than the limit is UNFTP_LINE_TOO_LONG once it has ended, whatever it holds. Its
- * bytes are used up before that, at UNFTP_MORE, so no more than limit bytes stay pending then.
+ * A line of more bytes than the limit is UNFTP_LINE_TOO_LONG once it has ended, whatever it holds.
+ * Its bytes are used up before that, at UNFTP_MORE, so no more than limit bytes stay pending then.
  *
  * At UNFTP_OUT_OF_MEMORY, UNFTP_NO_ROOM and UNFTP_INVALID_ARGUMENT nothing is used up, and the
  * connection and the area are as they were.
  */
-enum unftp_result unftp_next(struct unftp_connection *connection, const char *bytes, size_t bytes_len,
+enum unftp_result unftp_next(struct unftp_connection *connection,
+                             const char *bytes, size_t bytes_len,
                              char *area, size_t area_room, struct unftp_line *line) UNFTP_NONNULL;
 
 /*
  * Writes the bytes of a reply to the start of out, and *len is how many they are (RFC 959, section
- * 4.2). The code is any number from 100 to 599. The text is of one line, or of several that are divided
- * by line feeds. It returns UNFTP_DONE; UNFTP_UNKNOWN_CODE for another number; UNFTP_INVALID_UTF8;
- * UNFTP_NO_ROOM, where *len is the room that is needed; or UNFTP_OUT_OF_MEMORY, but never for a text of
- * one line. out is as it was but at UNFTP_DONE. A text of n bytes with k line feeds needs at most
- * n + 2 k + 10.
+ * 4.2). The code is any number from 100 to 599. The text is of one line, or of several that are
+ * divided by line feeds. It returns UNFTP_DONE; UNFTP_UNKNOWN_CODE for another number;
+ * UNFTP_INVALID_UTF8; UNFTP_NO_ROOM, where *len is the room that is needed; or UNFTP_OUT_OF_MEMORY,
+ * but never for a text of one line. out is as it was but at UNFTP_DONE. A text of n bytes with k
+ * line feeds needs at most n + 2 k + 10.
  *
- * A client that reads by RFC 959 finds in these bytes exactly this reply, whatever the text holds: a CR
- * of it is written as it is, and a line before the last that begins with a digit follows a space.
+ * A client that reads by RFC 959 finds in these bytes exactly this reply, whatever the text holds:
+ * a CR of it is written as it is, and a line before the last that begins with a digit follows a
+ * space.
  */
 enum unftp_result unftp_reply(uint32_t code, const char *text, size_t text_len,
                               char *out, size_t out_room, size_t *len) UNFTP_NONNULL;
@@ -248,26 +252,27 @@ enum unftp_result unftp_reply(uint32_t code, const char *text, size_t text_len,
 /*
  * Finds the reply at the start of what a client has received (RFC 959, section 4.2). It returns
  * UNFTP_DONE with its code and how many bytes it takes, UNFTP_MORE where it is not complete, or
- * UNFTP_MALFORMED; both fields are then 0. A line ends at CR LF, and a bare LF belongs to it. It takes
- * no memory, and scans from the start at each call.
+ * UNFTP_MALFORMED; both fields are then 0. A line ends at CR LF, and a bare LF belongs to it. It
+ * takes no memory, and scans from the start at each call.
  */
 enum unftp_result unftp_front_reply(const char *bytes, size_t bytes_len,
                                     struct unftp_found_reply *reply) UNFTP_NONNULL;
 
 /*
- * Writes the canonical line of a line's command, with its CR LF, to the start of out, and *len is how
- * many bytes it has: a line that means the same, in the one form that the library writes. It returns
- * UNFTP_DONE; UNFTP_INVALID_COMMAND, UNFTP_INVALID_UTF8 or UNFTP_INVALID_EOL for a line that is no
- * command; UNFTP_NO_LINE, but never for a line whose one line feed is its last byte; UNFTP_NO_ROOM,
- * where *len is the room that is needed; or UNFTP_OUT_OF_MEMORY. out is as it was but at UNFTP_DONE.
+ * Writes the canonical line of a line's command, with its CR LF, to the start of out, and *len is
+ * how many bytes it has: a line that means the same, in the one form that the library writes. It
+ * returns UNFTP_DONE; UNFTP_INVALID_COMMAND, UNFTP_INVALID_UTF8 or UNFTP_INVALID_EOL for a line
+ * that is no command; UNFTP_NO_LINE, but never for a line whose one line feed is its last byte;
+ * UNFTP_NO_ROOM, where *len is the room that is needed; or UNFTP_OUT_OF_MEMORY. out is as it was
+ * but at UNFTP_DONE.
  */
 enum unftp_result unftp_canonical(const char *line, size_t line_len,
                                   char *out, size_t out_room, size_t *len) UNFTP_NONNULL;
 
 /*
- * Writes the line that a proxy sends to a server for a client's line, with its CR LF, to the start of
- * out, and *len is how many bytes it has. It means the same, and its one line feed is its last byte. A
- * command doesn't hold all that a line says, and this line keeps what a server has to read:
+ * Writes the line that a proxy sends to a server for a client's line, with its CR LF, to the start
+ * of out, and *len is how many bytes it has. It means the same, and its one line feed is its last
+ * byte. A command doesn't hold all that a line says, and this line keeps what a server has to read:
  *
  *     the client's line      unftp_canonical        unftp_forward
  *     type a                 TYPE I                 TYPE a
@@ -278,13 +283,13 @@ enum unftp_result unftp_canonical(const char *line, size_t line_len,
  *     list -la x             LIST x                 LIST -la x
  *     any other, as xcwd a   CWD a                  CWD a
  *
- * The bytes of these six verbs' parameters are those that came, up to the line's end: any bytes, also
- * a CR that no LF follows.
+ * The bytes of these six verbs' parameters are those that came, up to the line's end: any bytes,
+ * also a CR that no LF follows.
  *
- * It returns UNFTP_DONE; UNFTP_NO_LINE exactly where the bytes have no line feed at their end, or one
- * before it; UNFTP_INVALID_COMMAND, UNFTP_INVALID_UTF8 or UNFTP_INVALID_EOL for a line that is no
- * command; UNFTP_NO_ROOM, where *len is the room that is needed; or UNFTP_OUT_OF_MEMORY. out is as it
- * was but at UNFTP_DONE.
+ * It returns UNFTP_DONE; UNFTP_NO_LINE exactly where the bytes have no line feed at their end, or
+ * one before it; UNFTP_INVALID_COMMAND, UNFTP_INVALID_UTF8 or UNFTP_INVALID_EOL for a line that is
+ * no command; UNFTP_NO_ROOM, where *len is the room that is needed; or UNFTP_OUT_OF_MEMORY. out is
+ * as it was but at UNFTP_DONE.
  */
 enum unftp_result unftp_forward(const char *line, size_t line_len,
                                 char *out, size_t out_room, size_t *len) UNFTP_NONNULL;
@@ -352,8 +357,8 @@ static inline const char *unftp_result_text(enum unftp_result result)
     case UNFTP_MALFORMED: return "malformed reply";
     case UNFTP_UNKNOWN_CODE: return "unknown reply code";
     case UNFTP_INVALID_ARGUMENT: return "invalid argument";
+    default: return "unknown result";
     }
-    return "unknown result";
 }
 
 #undef UNFTP_NONNULL
