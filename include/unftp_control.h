@@ -7,15 +7,13 @@
  *
  * Of every call:
  * - No pointer may be null, also where the length beside it is 0. What a call writes may overlap
- *   nothing else that it is given; an area of no bytes overlaps nothing. A bool has to be 0 or 1.
+ *   nothing else that it is given; an area of no bytes overlaps nothing.
  * - A pointer with a length is to so many bytes. Texts are not ended by a NUL, and may hold any byte.
- * - Areas and lengths that are only written need not be set before. Each length is 0 where its comment
- *   doesn't say what it is.
+ * - Areas, lengths and structs that are only written need not be set before. Each length is 0 where its
+ *   comment doesn't say what it is.
  * - Where a call has no room or no memory, the caller may call again with the same bytes.
  *
- * docs/EMBEDDING.md says how a program is linked, and what a caller must not do. What the calls below
- * return and write is proved, but for the two bounds on lengths, which are tested: the contracts of the
- * functions in crates/unftp_control_c/src say it exactly.
+ * What the calls return and write is proved, but for the bounds on lengths, which are tested.
  */
 #ifndef UNFTP_CONTROL_H
 #define UNFTP_CONTROL_H
@@ -28,6 +26,13 @@
 extern "C" {
 #endif
 
+/* The version that this header is of: major * 1,000,000 + minor * 1,000 + patch. */
+#define UNFTP_VERSION_MAJOR 0
+#define UNFTP_VERSION_MINOR 1
+#define UNFTP_VERSION_PATCH 0
+#define UNFTP_VERSION \
+    (UNFTP_VERSION_MAJOR * 1000000 + UNFTP_VERSION_MINOR * 1000 + UNFTP_VERSION_PATCH)
+
 #if defined(__GNUC__)
 #define UNFTP_NONNULL __attribute__((nonnull))
 #else
@@ -39,8 +44,9 @@ enum unftp_result {
     /* It has done what was asked. */
     UNFTP_DONE = 0,
 
-    /* A command, of unftp_next only. The comment beside each names its value; one in brackets may be
-       absent, and its length is then 0. */
+    /* A command, of unftp_next only. Its name is the verb here, also where the line has another word
+       for it: XCWD, XMKD, XPWD and BYE are CWD, MKD, PWD and QUIT. The comment beside each names its
+       value; one in brackets may be absent, and its length is then 0. */
     UNFTP_USER = 1,    /* [name] */
     UNFTP_PASS = 2,    /* [password] */
     UNFTP_ACCT = 3,    /* [account] */
@@ -83,8 +89,8 @@ enum unftp_result {
     UNFTP_REST = 40,   /* offset, decimal digits of a number below 2^64 */
     UNFTP_MDTM = 41,   /* path */
     UNFTP_MD5 = 42,    /* path; SITE MD5, its name is MD5 */
-    UNFTP_SITE = 43,   /* [arguments]; its name is the subcommand in upper case */
-    UNFTP_OTHER = 44,  /* [arguments]; its name is another verb, in upper case */
+    UNFTP_SITE = 43,   /* [arguments]; its name is the subcommand */
+    UNFTP_OTHER = 44,  /* [arguments]; its name is the line's verb, which is none of the above */
 
     /* More bytes are needed. */
     UNFTP_MORE = 101,
@@ -98,7 +104,7 @@ enum unftp_result {
     UNFTP_LINE_TOO_LONG = 105,
     /* An allocation failed. */
     UNFTP_OUT_OF_MEMORY = 106,
-    /* An area is too small; the length that was asked for says how large it has to be. */
+    /* The area is too small; the lengths say how large it has to be. */
     UNFTP_NO_ROOM = 107,
     /* No line whose one line feed is its last byte is read as this command; or, of unftp_forward, the
        bytes are no such line. */
@@ -107,7 +113,8 @@ enum unftp_result {
     UNFTP_MALFORMED = 109,
     /* No reply has this code: it is not from 100 to 599. */
     UNFTP_UNKNOWN_CODE = 110,
-    /* The offset is past the bytes, or is not 0 while bytes are skipped. */
+    /* No call leaves such a connection: its offset is past the bytes, or is not 0 while bytes are
+       skipped, or skipping is greater than 1. */
     UNFTP_INVALID_ARGUMENT = 111
 };
 
@@ -171,33 +178,58 @@ enum unftp_code {
     UNFTP_CODE_BAD_FILE_NAME = 553
 };
 
+/* What a caller keeps of a connection, beside its pending bytes: those that were received and not used
+   up. At the start of a connection all but the limit is 0: struct unftp_connection c = {4096, 0, 0}. */
+struct unftp_connection {
+    /* How many bytes a line may have, its line feed counted; 0 for any number. */
+    size_t limit;
+    /* Of unftp_next: how many of the pending bytes were scanned for a line feed. */
+    size_t offset;
+    /* Of unftp_next: 1 where the first line is too long and bytes of it were dropped, else 0. */
+    uint32_t skipping;
+};
+
+/* What unftp_next has taken. */
+struct unftp_line {
+    /* How many bytes the caller drops from the front of the pending bytes before the next call. */
+    size_t used;
+    /* The command's name is so many bytes at the start of the area. */
+    size_t name_len;
+    /* Its value is so many bytes right after the name. */
+    size_t value_len;
+};
+
+/* What unftp_front_reply has found. */
+struct unftp_found_reply {
+    /* How many bytes the reply takes. */
+    size_t used;
+    /* Its code. */
+    uint32_t code;
+};
+
 /*
  * Takes the next line of the pending bytes (RFC 959, section 5.3). It returns the number of a command,
- * UNFTP_INVALID_COMMAND, UNFTP_INVALID_UTF8, UNFTP_INVALID_EOL, UNFTP_LINE_TOO_LONG or UNFTP_MORE;
- * *used is how many bytes the caller drops from the front of the pending bytes before the next call. At
- * a command and at a refused line they are the line, with what its command drops: the `A` of `TYPE A`,
- * the `ALL` of `EPSV ALL`. At UNFTP_LINE_TOO_LONG they are its end, or all of it.
+ * UNFTP_INVALID_COMMAND, UNFTP_INVALID_UTF8, UNFTP_INVALID_EOL, UNFTP_LINE_TOO_LONG or UNFTP_MORE. At a
+ * command and at a refused line the bytes that are used up are the line, with what its command drops:
+ * the `A` of `TYPE A`, the `ALL` of `EPSV ALL`. At UNFTP_LINE_TOO_LONG they are its end, or all of it.
  *
- * *offset and *skipping are the caller's to keep with its pending bytes: 0 and false at the start of a
- * connection. No byte before *offset is scanned again, so the time is linear in what was received, and
- * bytes before it may not change.
+ * No byte before the connection's offset is scanned again, so the time is linear in what was received,
+ * and bytes before it may not change.
  *
- * A command's name is its verb in upper case, or its subcommand of SITE, in UTF-8. Its value is what it
- * says after that, without the line's end: a CR that was sent as CR NUL is one CR. Values are UTF-8,
- * with U+FFFD for each ill-formed part, but those of USER, PASS, ACCT and STAT, which are the bytes
- * that were sent. At UNFTP_NO_ROOM *name_len and *value_len are the lengths that are needed; a line of n
- * bytes has a name of at most n and a value of at most 3 n.
+ * The name and the value of a command are written to the area, one after the other. The name is UTF-8,
+ * with the letters a to z in upper case. The value is what the line has after it, without the line's
+ * end: a CR that was sent as CR NUL is one CR. Values are UTF-8, with U+FFFD for each ill-formed part,
+ * but those of USER, PASS, ACCT and STAT, which are the bytes that were sent. At UNFTP_NO_ROOM the area
+ * needs name_len + value_len bytes; a line of n bytes needs at most 3 n.
  *
- * A line of more than limit bytes, its line feed counted, is UNFTP_LINE_TOO_LONG once it has ended,
- * whatever it holds. Its bytes are used up before that, at UNFTP_MORE, so no more than limit bytes
- * stay pending then. A limit of 0 is none.
+ * A line of more bytes than the limit is UNFTP_LINE_TOO_LONG once it has ended, whatever it holds. Its
+ * bytes are used up before that, at UNFTP_MORE, so no more than limit bytes stay pending then.
  *
- * At UNFTP_OUT_OF_MEMORY, UNFTP_NO_ROOM and UNFTP_INVALID_ARGUMENT nothing is used up, and *offset,
- * *skipping and both areas are as they were.
+ * At UNFTP_OUT_OF_MEMORY, UNFTP_NO_ROOM and UNFTP_INVALID_ARGUMENT nothing is used up, and the
+ * connection and the area are as they were.
  */
-uint32_t unftp_next(const uint8_t *bytes, size_t bytes_len, size_t *offset, size_t limit,
-                    bool *skipping, uint8_t *name, size_t name_room, size_t *name_len,
-                    uint8_t *value, size_t value_room, size_t *value_len, size_t *used) UNFTP_NONNULL;
+enum unftp_result unftp_next(struct unftp_connection *connection, const char *bytes, size_t bytes_len,
+                             char *area, size_t area_room, struct unftp_line *line) UNFTP_NONNULL;
 
 /*
  * Writes the bytes of a reply to the start of out, and *len is how many they are (RFC 959, section
@@ -210,17 +242,17 @@ uint32_t unftp_next(const uint8_t *bytes, size_t bytes_len, size_t *offset, size
  * A client that reads by RFC 959 finds in these bytes exactly this reply, whatever the text holds: a CR
  * of it is written as it is, and a line before the last that begins with a digit follows a space.
  */
-uint32_t unftp_reply(uint32_t code, const uint8_t *text, size_t text_len,
-                     uint8_t *out, size_t out_room, size_t *len) UNFTP_NONNULL;
+enum unftp_result unftp_reply(uint32_t code, const char *text, size_t text_len,
+                              char *out, size_t out_room, size_t *len) UNFTP_NONNULL;
 
 /*
  * Finds the reply at the start of what a client has received (RFC 959, section 4.2). It returns
  * UNFTP_DONE with its code and how many bytes it takes, UNFTP_MORE where it is not complete, or
- * UNFTP_MALFORMED; *code and *used are then 0. A line ends at CR LF, and a bare LF belongs to it. It
- * takes no memory, and scans from the start at each call.
+ * UNFTP_MALFORMED; both fields are then 0. A line ends at CR LF, and a bare LF belongs to it. It takes
+ * no memory, and scans from the start at each call.
  */
-uint32_t unftp_front_reply(const uint8_t *bytes, size_t bytes_len, uint32_t *code, size_t *used)
-    UNFTP_NONNULL;
+enum unftp_result unftp_front_reply(const char *bytes, size_t bytes_len,
+                                    struct unftp_found_reply *reply) UNFTP_NONNULL;
 
 /*
  * Writes the canonical line of a line's command, with its CR LF, to the start of out, and *len is how
@@ -229,8 +261,8 @@ uint32_t unftp_front_reply(const uint8_t *bytes, size_t bytes_len, uint32_t *cod
  * command; UNFTP_NO_LINE, but never for a line whose one line feed is its last byte; UNFTP_NO_ROOM,
  * where *len is the room that is needed; or UNFTP_OUT_OF_MEMORY. out is as it was but at UNFTP_DONE.
  */
-uint32_t unftp_canonical(const uint8_t *line, size_t line_len,
-                         uint8_t *out, size_t out_room, size_t *len) UNFTP_NONNULL;
+enum unftp_result unftp_canonical(const char *line, size_t line_len,
+                                  char *out, size_t out_room, size_t *len) UNFTP_NONNULL;
 
 /*
  * Writes the line that a proxy sends to a server for a client's line, with its CR LF, to the start of
@@ -254,8 +286,75 @@ uint32_t unftp_canonical(const uint8_t *line, size_t line_len,
  * command; UNFTP_NO_ROOM, where *len is the room that is needed; or UNFTP_OUT_OF_MEMORY. out is as it
  * was but at UNFTP_DONE.
  */
-uint32_t unftp_forward(const uint8_t *line, size_t line_len,
-                       uint8_t *out, size_t out_room, size_t *len) UNFTP_NONNULL;
+enum unftp_result unftp_forward(const char *line, size_t line_len,
+                                char *out, size_t out_room, size_t *len) UNFTP_NONNULL;
+
+/* The version of the library, as UNFTP_VERSION is that of the header. */
+uint32_t unftp_version(void);
+
+/* A text for a result, as for a log: the verb of a command, and a phrase for each other. */
+static inline const char *unftp_result_text(enum unftp_result result)
+{
+    switch (result) {
+    case UNFTP_DONE: return "done";
+    case UNFTP_USER: return "USER";
+    case UNFTP_PASS: return "PASS";
+    case UNFTP_ACCT: return "ACCT";
+    case UNFTP_SYST: return "SYST";
+    case UNFTP_STAT: return "STAT";
+    case UNFTP_TYPE: return "TYPE";
+    case UNFTP_STRU: return "STRU";
+    case UNFTP_MODE: return "MODE";
+    case UNFTP_HELP: return "HELP";
+    case UNFTP_NOOP: return "NOOP";
+    case UNFTP_PASV: return "PASV";
+    case UNFTP_EPSV: return "EPSV";
+    case UNFTP_PORT: return "PORT";
+    case UNFTP_RETR: return "RETR";
+    case UNFTP_STOR: return "STOR";
+    case UNFTP_APPE: return "APPE";
+    case UNFTP_LIST: return "LIST";
+    case UNFTP_NLST: return "NLST";
+    case UNFTP_MLST: return "MLST";
+    case UNFTP_MLSD: return "MLSD";
+    case UNFTP_FEAT: return "FEAT";
+    case UNFTP_PWD: return "PWD";
+    case UNFTP_CWD: return "CWD";
+    case UNFTP_CDUP: return "CDUP";
+    case UNFTP_OPTS: return "OPTS";
+    case UNFTP_DELE: return "DELE";
+    case UNFTP_RMD: return "RMD";
+    case UNFTP_QUIT: return "QUIT";
+    case UNFTP_MKD: return "MKD";
+    case UNFTP_ALLO: return "ALLO";
+    case UNFTP_ABOR: return "ABOR";
+    case UNFTP_STOU: return "STOU";
+    case UNFTP_RNFR: return "RNFR";
+    case UNFTP_RNTO: return "RNTO";
+    case UNFTP_AUTH: return "AUTH";
+    case UNFTP_CCC: return "CCC";
+    case UNFTP_PBSZ: return "PBSZ";
+    case UNFTP_PROT: return "PROT";
+    case UNFTP_SIZE: return "SIZE";
+    case UNFTP_REST: return "REST";
+    case UNFTP_MDTM: return "MDTM";
+    case UNFTP_MD5: return "SITE MD5";
+    case UNFTP_SITE: return "SITE";
+    case UNFTP_OTHER: return "another verb";
+    case UNFTP_MORE: return "more bytes are needed";
+    case UNFTP_INVALID_COMMAND: return "invalid command";
+    case UNFTP_INVALID_UTF8: return "not UTF-8";
+    case UNFTP_INVALID_EOL: return "invalid end of line";
+    case UNFTP_LINE_TOO_LONG: return "line too long";
+    case UNFTP_OUT_OF_MEMORY: return "out of memory";
+    case UNFTP_NO_ROOM: return "no room in the area";
+    case UNFTP_NO_LINE: return "no line of this command";
+    case UNFTP_MALFORMED: return "malformed reply";
+    case UNFTP_UNKNOWN_CODE: return "unknown reply code";
+    case UNFTP_INVALID_ARGUMENT: return "invalid argument";
+    }
+    return "unknown result";
+}
 
 #undef UNFTP_NONNULL
 
