@@ -4,12 +4,22 @@ use std::error::Error;
 use std::fmt::{self, Display, Formatter};
 
 /// What a line is.
-#[derive(Clone, Copy, Debug, PartialEq, Eq)]
+#[derive(Clone, Debug, PartialEq, Eq)]
 pub enum Event<'a> {
     /// A command.
     Command(Command<'a>),
-    /// A line that is no command, and why.
+    /// A line that is no command, and why. The lines after it are not touched by that.
     Refused(Refusal),
+}
+
+impl Event<'_> {
+    /// The same event, whose texts and bytes are copied where they are borrowed.
+    pub fn into_owned(self) -> Event<'static> {
+        match self {
+            Event::Command(command) => Event::Command(command.into_owned()),
+            Event::Refused(refusal) => Event::Refused(refusal),
+        }
+    }
 }
 
 /// Why a line is no command.
@@ -37,11 +47,12 @@ impl Refusal {
     }
 }
 
+/// A text that a server may send as it is, after 500.
 impl Display for Refusal {
     fn fmt(&self, f: &mut Formatter<'_>) -> fmt::Result {
         f.write_str(match self {
             Refusal::InvalidCommand => "invalid command",
-            Refusal::InvalidUtf8 => "non-UTF-8 character while parsing",
+            Refusal::InvalidUtf8 => "non-UTF-8 character in command",
             Refusal::InvalidEol => "invalid end of line",
             Refusal::LineTooLong => "line too long",
         })
