@@ -81,4 +81,4 @@ pub fn pieces(input: &[u8], size: usize, seed: u64) -> Vec<&[u8]> {
 }
 
 /// Sizes of pieces that are tried: 0 stands for random ones.
-pub const SIZES: [usize; 8] = [0, 1, 2, 3, 7, 64, 1000, usize::MAX];
+pub const SIZES: [usize; 6] = [0, 1, 3, 7, 1000, usize::MAX];
