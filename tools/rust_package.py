@@ -1,7 +1,8 @@
 #!/usr/bin/env python3
-"""Makes the checks of tools/rust_package that talk to the server of bindings/rust.
+"""Makes the checks of tools/rust_package that are no test of the package itself, most of them on its server.
 
-usage: tools/rust_package.py session SERVER     lines in pieces, bad ones among them
+usage: tools/rust_package.py codes              the package's codes of replies are the header's
+       tools/rust_package.py session SERVER     lines in pieces, bad ones among them
        tools/rust_package.py urgent SERVER      an ABOR whose end is urgent data
        tools/rust_package.py late SERVER        the last reply, whatever is sent after QUIT
        tools/rust_package.py idle SERVER        clients that send too little
@@ -14,6 +15,7 @@ The last line says what was compared; the status is 0 where all is right.
 """
 
 import os
+import pathlib
 import re
 import signal
 import socket
@@ -23,6 +25,7 @@ import tempfile
 import threading
 import time
 
+TOP = pathlib.Path(__file__).resolve().parent.parent
 HOST = "127.0.0.1"
 # how many seconds the server may run, and how long it and a client may take to answer
 LIFE, PATIENCE = 60, 10
@@ -93,6 +96,20 @@ def send_pieces(connection, sent, size=None):
         connection.sendall(sent[:end])
         sent = sent[end:]
         turn += 1
+
+
+def check_codes():
+    """The names and numbers of enum unftp_code, and those of ReplyCode."""
+    found = [
+        dict(re.findall(pattern, (TOP / path).read_text(encoding="utf-8"), re.M))
+        for path, pattern in [
+            ("include/unftp_control.h", r"^    UNFTP_CODE_(\w+) = (\d+)"),
+            ("bindings/rust/src/code.rs", r'^    (\w+) = (\d+) "'),
+        ]
+    ]
+    wants("code.rs beside the header", set(found[1].items()) ^ set(found[0].items()), set())
+    wants("whether there are codes", len(found[0]) > 0, True)
+    return f"{len(found[0])} codes"
 
 
 SESSION = [
@@ -271,6 +288,7 @@ def check_speed(program, count="100000", connections="4"):
 
 
 CHECKS = {
+    "codes": check_codes,
     "session": check_session,
     "urgent": check_urgent,
     "late": check_late,
@@ -286,7 +304,7 @@ CHECKS = {
 
 
 def main():
-    if len(sys.argv) < 3 or sys.argv[1] not in CHECKS:
+    if len(sys.argv) < 2 or sys.argv[1] not in CHECKS or (len(sys.argv) == 2) != (sys.argv[1] == "codes"):
         print(__doc__, file=sys.stderr)
         return 2
     for number in [signal.SIGHUP, signal.SIGTERM]:

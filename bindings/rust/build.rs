@@ -7,7 +7,7 @@ const LIBRARY: &str = "libunftp_control.a";
 const VARIABLE: &str = "UNFTP_CONTROL_LIB";
 
 fn main() {
-    for variable in [VARIABLE, "PKG_CONFIG", "PKG_CONFIG_PATH", "DOCS_RS"] {
+    for variable in [VARIABLE, "PKG_CONFIG", "PKG_CONFIG_PATH", "PKG_CONFIG_LIBDIR", "DOCS_RS"] {
         println!("cargo:rerun-if-env-changed={variable}");
     }
     if env::var_os("DOCS_RS").is_some() {

@@ -58,7 +58,7 @@
 //! Where the library or an area of it can't allocate, a call returns [`Error::OutOfMemory`] and may
 //! be made again. Owned commands, replies and codecs allocate as all of Rust does, where running out
 //! of memory ends the process. Nothing wipes a password.
-#![deny(missing_docs, unreachable_pub)]
+#![deny(missing_docs, unreachable_pub, unsafe_code)]
 
 mod area;
 mod bytes;
@@ -69,6 +69,7 @@ mod codec;
 mod command;
 mod error;
 mod event;
+#[allow(unsafe_code)]
 mod ffi;
 mod lines;
 mod parameters;

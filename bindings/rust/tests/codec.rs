@@ -291,7 +291,9 @@ async fn a_client_and_a_server_talk() -> Result<(), CodecError> {
     });
     let mut client = Framed::new(near, FtpClientCodec::new());
     let mut replies = vec![client.next().await.expect("a greeting")?];
-    for line in [&b"FEAT\r\n"[..], b"noop\n", b"RETR a.txt\r\n"] {
+    client.send(b"FEAT\r\n").await?;
+    replies.push(client.next().await.expect("a reply")?);
+    for line in [&b"noop\n"[..], b"RETR a.txt\r\n"] {
         client.send(line).await?;
         replies.push(client.next().await.expect("a reply")?);
     }
