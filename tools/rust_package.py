@@ -178,23 +178,18 @@ def check_late(program):
 
 
 def check_idle(program):
-    late = b"421 Idle too long\r\n"
-    with Server(program, 1) as server:
+    late, idle = b"421 Idle too long\r\n", 2
+    with Server(program, idle) as server:
         begun = time.monotonic()
-        with server.greeted() as silent, server.greeted() as slow:
-            for _ in range(20):
-                try:
-                    slow.sendall(b"N")
-                except OSError:
-                    break
-                time.sleep(0.1)
-            wants("a client that sends a byte at a time", receive(slow), late)
-            wants("a client that sends nothing", receive(silent), late)
-        with server.greeted() as busy:
-            while time.monotonic() < begun + 3.5:
+        with server.greeted() as silent, server.greeted() as slow, server.greeted() as busy:
+            while time.monotonic() < begun + 2 * idle:
                 busy.sendall(b"NOOP\r\n")
                 wants("a client that is not idle", receive(busy, len(OK)), OK)
-                time.sleep(0.3)
+                if time.monotonic() < begun + idle / 2:
+                    slow.sendall(b"N")
+                time.sleep(0.2)
+            wants("a client that sends a part of a line", receive(slow), late)
+            wants("a client that sends nothing", receive(silent), late)
     return "3 clients"
 
 

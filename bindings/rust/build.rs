@@ -42,14 +42,19 @@ fn installed_folder() -> Option<PathBuf> {
     (output.status.success() && folder.join(LIBRARY).is_file()).then_some(folder)
 }
 
-/// The folder in the repository that this package is in, where the library is built, or the
-/// toolchain is there to build it, which takes minutes.
+/// The folder in the repository that this package is in: the library is built there already, or is
+/// now, which takes minutes, where the toolchain is installed.
 fn built_folder() -> Option<PathBuf> {
     let top = Path::new(&env::var_os("CARGO_MANIFEST_DIR")?).join("../..");
     let folder = top.join("crates/unftp_control_c/out");
     let tool = top.join("tools/c_library");
-    if !folder.join(LIBRARY).is_file() && tool.is_file() {
+    if !folder.join(LIBRARY).is_file() && tool.is_file() && has_toolchain() {
         Command::new(tool).status().ok()?;
     }
     folder.join(LIBRARY).is_file().then_some(folder)
+}
+
+fn has_toolchain() -> bool {
+    let path = env::var_os("PATH").unwrap_or_default();
+    env::split_paths(&path).any(|folder| folder.join("rt").is_file())
 }

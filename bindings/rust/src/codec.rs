@@ -22,7 +22,8 @@ use tokio_util::codec::{Decoder, Encoder};
 ///
 /// A server that turns to TLS makes a new codec for the new stream, and drops the read buffer of
 /// the old one. One that needs the parameter of TYPE, which is in no command, uses
-/// [`Pending`](crate::Pending).
+/// [`Pending`](crate::Pending). The line feed of an ABOR may come as urgent data;
+/// `examples/server.rs` takes it in line.
 ///
 /// ```
 /// use bytes::BytesMut;
@@ -83,8 +84,8 @@ impl Decoder for FtpCodec {
     }
 }
 
-/// Of `Reply` only, so that `flush` and `close` of a sink need no type; a clone of a reply whose text
-/// is the program's own takes no memory.
+/// Of `Reply` only, so that `flush` and `close` of a sink need no type. A clone of a reply takes no
+/// memory where its text is the program's own.
 impl Encoder<Reply> for FtpCodec {
     type Error = CodecError;
 

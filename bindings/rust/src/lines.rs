@@ -3,13 +3,14 @@ use crate::command::Command;
 use crate::error::Error;
 use crate::event::{Event, Refusal};
 use crate::ffi;
+use std::fmt::{self, Debug, Formatter};
 
 /// The most bytes of a line, its line feed counted, where no other limit is named: enough for a
 /// verb and a path of 4,096 bytes with each CR sent as CR NUL.
 pub const LINE_LIMIT: usize = 8192;
 
 /// Takes the lines of a connection, whose pending bytes its owner keeps.
-#[derive(Clone, Debug)]
+#[derive(Clone)]
 pub(crate) struct Lines {
     connection: ffi::Connection,
     /// Where the library writes names and values.
@@ -64,5 +65,32 @@ impl Lines {
             }),
         };
         Ok(Taken { used: line.used, event })
+    }
+}
+
+/// Shows nothing of the area, where a password may be.
+impl Debug for Lines {
+    fn fmt(&self, f: &mut Formatter<'_>) -> fmt::Result {
+        self.connection.fmt(f)
+    }
+}
+
+#[cfg(test)]
+mod tests {
+    use super::*;
+
+    #[test]
+    fn no_byte_is_scanned_again() -> Result<(), Error> {
+        let mut lines = Lines::new(0);
+        let mut pending = Vec::new();
+        for count in 1..=100 {
+            pending.push(b'a');
+            assert_eq!(lines.take(&pending)?.used, 0);
+            assert_eq!(lines.connection.offset, count);
+        }
+        pending.push(b'\n');
+        assert_eq!(lines.take(&pending)?.used, 101);
+        assert_eq!(lines.connection.offset, 0);
+        Ok(())
     }
 }

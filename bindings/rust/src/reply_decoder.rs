@@ -165,3 +165,27 @@ fn ends_reply(bytes: &[u8], line: usize) -> bool {
     let begin = &bytes[line..];
     begin.starts_with(&bytes[..3]) && begin.get(3) == Some(&b' ')
 }
+
+#[cfg(test)]
+mod tests {
+    use super::*;
+
+    #[test]
+    fn no_byte_is_searched_again() -> Result<(), Error> {
+        let mut search = Search::new(0);
+        let mut pending = Vec::new();
+        for (count, byte) in b"211-a\r\n212 b\r\n211-\r\n211 ".iter().enumerate() {
+            pending.push(*byte);
+            assert_eq!(search.find(&pending)?, None);
+            assert_eq!(search.searched, count + 1);
+            assert_eq!(
+                search.passed,
+                [0, 7, 14, 20][pending.split(|byte| *byte == b'\n').count() - 1]
+            );
+        }
+        pending.extend_from_slice(b"\r\n");
+        assert!(search.find(&pending)?.is_some());
+        assert_eq!((search.searched, search.passed), (0, 0));
+        Ok(())
+    }
+}

@@ -211,6 +211,16 @@ fn the_pending_bytes_stay_where_they_are() {
 }
 
 #[test]
+fn no_text_of_a_codec_has_a_password() {
+    let text = |line: &str| {
+        let mut codec = FtpCodec::new();
+        assert!(codec.decode(&mut BytesMut::from(line)).unwrap().is_some());
+        format!("{codec:?} {:?}", FramedRead::new(tokio::io::empty(), codec.clone()))
+    };
+    assert_eq!(text("PASS a\r\n"), text("PASS secret\r\n"));
+}
+
+#[test]
 fn a_buffer_that_was_cleared_is_read_from_its_start() {
     let mut codec = FtpCodec::new();
     let mut input = BytesMut::from("AUTH");
