@@ -2,6 +2,7 @@
 """Makes the checks of tools/rust_package that are no test of the package itself, most of them on its server.
 
 usage: tools/rust_package.py codes              the package's codes of replies are the header's
+       tools/rust_package.py memory PRELOAD REPLAY     the answer at each failed allocation: PRELOAD is tools/fail_allocation.c
        tools/rust_package.py session SERVER     lines in pieces, bad ones among them
        tools/rust_package.py urgent SERVER      an ABOR whose end is urgent data
        tools/rust_package.py late SERVER        the last reply, whatever is sent after QUIT
@@ -110,6 +111,28 @@ def check_codes():
     wants("code.rs beside the header", set(found[1].items()) ^ set(found[0].items()), set())
     wants("whether there are codes", len(found[0]) > 0, True)
     return f"{len(found[0])} codes"
+
+
+CASE, ANSWER = 'parse\t"RETR a\\r\\0b\\r\\n"\n', 'ok Retr path="a\\rb"\n'
+
+
+def check_memory(preload, program):
+    """Each allocation that fails is no matter, or ends the program by an error of the package or by Rust itself."""
+    errors, ended, number = 0, 0, 1
+    while number < 1000:
+        environment = os.environ | {"LD_PRELOAD": preload, "FAIL_AT": str(number), "RUST_BACKTRACE": "0"}
+        run = subprocess.run([program], input=CASE, env=environment, capture_output=True, text=True, timeout=PATIENCE)
+        if run.stderr == "replay: out of memory\n":
+            errors += 1
+        elif "memory allocation of" in run.stderr:
+            ended += 1
+        else:
+            wants(f"at allocation {number}", (run.returncode, run.stdout), (0, ANSWER))
+            if errors:
+                break
+        number += 1
+    wants("whether an allocation of the library failed", errors > 1, True)
+    return f"{errors} times out of memory, and {ended} times in Rust itself"
 
 
 SESSION = [
@@ -284,6 +307,7 @@ def check_speed(program, count="100000", connections="4"):
 
 CHECKS = {
     "codes": check_codes,
+    "memory": check_memory,
     "session": check_session,
     "urgent": check_urgent,
     "late": check_late,
