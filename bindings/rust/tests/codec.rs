@@ -3,7 +3,7 @@
 mod common;
 
 use bytes::BytesMut;
-use common::{bytes, calls, limit, pieces, shown_decoded, shown_reply, SIZES};
+use common::{bytes, calls, limit, pieces, shown_decoded, shown_reply, sizes, without_lefts};
 use futures_util::{SinkExt, StreamExt};
 use std::io;
 use std::pin::Pin;
@@ -67,20 +67,12 @@ async fn events_of(limit: usize, pieces: Vec<&[u8]>) -> String {
     parts.join(" | ")
 }
 
-/// An answer without what is left after each piece but the last.
-fn without_lefts(answer: &str) -> String {
-    let parts: Vec<&str> = answer.split(" | ").collect();
-    let (left, parts) = parts.split_last().expect("there is what is left");
-    let events = parts.iter().filter(|part| !part.starts_with("left="));
-    events.chain([left]).copied().collect::<Vec<&str>>().join(" | ")
-}
-
 #[tokio::test]
 async fn any_pieces_give_the_events_of_the_vectors() {
     for file in ["decode.tsv", "client_streams.tsv", "worked.tsv"] {
         for (at, (words, answer)) in calls(file, &["decode"]).into_iter().enumerate() {
             let input: Vec<u8> = words[1..].iter().flat_map(|word| bytes(word)).collect();
-            for size in SIZES {
+            for size in sizes(&input) {
                 let events = events_of(limit(&words[0]), pieces(&input, size, at as u64)).await;
                 assert_eq!(events, without_lefts(&answer), "{words:?} by {size}");
             }
@@ -92,7 +84,7 @@ async fn any_pieces_give_the_events_of_the_vectors() {
 async fn any_pieces_give_the_replies_of_the_vectors() {
     for (at, (words, answer)) in calls("server_replies.tsv", &["read"]).into_iter().enumerate() {
         let stream = bytes(&words[0]);
-        for size in SIZES {
+        for size in sizes(&stream) {
             let pieces = Pieces::new(pieces(&stream, size, at as u64));
             let mut framed = FramedRead::new(pieces, FtpClientCodec::with_limit(0));
             let (mut replies, mut end) = (Vec::new(), " rest=0".to_string());

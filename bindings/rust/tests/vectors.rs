@@ -1,7 +1,9 @@
 //! The vector files through the crate.
 mod common;
 
-use common::{bytes, calls, limit, pieces, shown_decoded, shown_event, shown_reply, SIZES};
+use common::{
+    bytes, calls, limit, pieces, shown_decoded, shown_event, shown_reply, sizes, without_lefts,
+};
 use unftp_control::{canonical, forward, reply, Error, Pending, Reply, ReplyCode, ReplyDecoder};
 
 /// The events of all lines that are pending.
@@ -22,14 +24,6 @@ fn decoded(limit: usize, pieces: &[&[u8]]) -> String {
         parts.push(format!("left={}{skipping}", pending.bytes().len()));
     }
     parts.join(" | ")
-}
-
-/// An answer without what is left after each piece but the last.
-fn events_of(answer: &str) -> String {
-    let parts: Vec<&str> = answer.split(" | ").collect();
-    let (left, parts) = parts.split_last().expect("there is what is left");
-    let events = parts.iter().filter(|part| !part.starts_with("left="));
-    events.chain([left]).copied().collect::<Vec<&str>>().join(" | ")
 }
 
 #[test]
@@ -61,10 +55,14 @@ fn each_input_gives_its_events_in_any_pieces() {
             let given: Vec<&[u8]> = inputs.iter().map(Vec::as_slice).collect();
             assert_eq!(decoded(limit, &given), answer, "{words:?}");
             let input = inputs.concat();
-            for size in SIZES {
+            for size in sizes(&input) {
                 if !input.is_empty() {
                     let in_pieces = decoded(limit, &pieces(&input, size, at as u64));
-                    assert_eq!(events_of(&in_pieces), events_of(&answer), "{words:?} by {size}");
+                    assert_eq!(
+                        without_lefts(&in_pieces),
+                        without_lefts(&answer),
+                        "{words:?} by {size}"
+                    );
                 }
             }
         }
@@ -83,6 +81,15 @@ fn steps(words: &[String], mut step: impl FnMut(&str, &[u8])) {
     }
 }
 
+/// How many events or replies a step takes at most.
+fn most(step: &str) -> usize {
+    match step {
+        "all" => usize::MAX,
+        "next" => 1,
+        _ => 0,
+    }
+}
+
 #[test]
 fn events_come_step_by_step() {
     for (words, answer) in calls("worked.tsv", &["events", "event_lines"]) {
@@ -94,9 +101,7 @@ fn events_come_step_by_step() {
                 "clear" => pending.clear(),
                 _ => pending.push(piece).expect("memory is there"),
             }
-            let most =
-                [usize::MAX, 1, 0][["all", "next"].iter().position(|it| *it == step).unwrap_or(2)];
-            for _ in 0..most {
+            for _ in 0..most(step) {
                 let event = pending.next_event().expect("memory is there");
                 let Some(part) = event.map(|event| shown_decoded(&event)) else { break };
                 let line = common::shown::quoted(pending.line());
@@ -127,9 +132,7 @@ fn replies_come_step_by_step() {
                 "clear" => decoder.clear(),
                 _ => decoder.push(piece).expect("memory is there"),
             }
-            let most =
-                [usize::MAX, 1, 0][["all", "next"].iter().position(|it| *it == step).unwrap_or(2)];
-            for _ in 0..most {
+            for _ in 0..most(step) {
                 match decoder.next_reply() {
                     Ok(Some(reply)) => parts.push(shown_reply(&reply)),
                     Ok(None) => break,
@@ -159,7 +162,7 @@ fn each_stream_of_a_server_has_its_replies_in_any_pieces() {
     for file in ["server_replies.tsv", "worked.tsv"] {
         for (at, (words, answer)) in calls(file, &["read"]).into_iter().enumerate() {
             let stream = bytes(&words[0]);
-            for size in SIZES {
+            for size in sizes(&stream) {
                 assert_eq!(read(&pieces(&stream, size, at as u64)), answer, "{words:?} by {size}");
             }
             replies += answer.split(';').count();

@@ -80,5 +80,18 @@ pub fn pieces(input: &[u8], size: usize, seed: u64) -> Vec<&[u8]> {
     pieces
 }
 
-/// Sizes of pieces that are tried: 0 stands for random ones.
-pub const SIZES: [usize; 6] = [0, 1, 3, 7, 1000, usize::MAX];
+/// The sizes of pieces that are tried, of which 0 stands for random ones: of a short input all.
+pub fn sizes(input: &[u8]) -> Vec<usize> {
+    match input.len() {
+        0..=80 => (0..=input.len()).collect(),
+        len => vec![0, 1, 3, 7, 1000, len],
+    }
+}
+
+/// An answer without what is left after each piece but the last.
+pub fn without_lefts(answer: &str) -> String {
+    let parts: Vec<&str> = answer.split(" | ").collect();
+    let (left, parts) = parts.split_last().expect("there is what is left");
+    let events = parts.iter().filter(|part| !part.starts_with("left="));
+    events.chain([left]).copied().collect::<Vec<&str>>().join(" | ")
+}
