@@ -90,7 +90,7 @@ codes! {
     SERVICE_READY = 220 "the service is ready for a new user."
     CLOSING_CONTROL_CONNECTION = 221 "the control connection is being closed."
     DATA_CONNECTION_OPEN = 225 "the data connection is open, and no transfer is under way."
-    CLOSING_DATA_CONNECTION = 226 "the data connection is being closed, and the file action is done."
+    CLOSING_DATA_CONNECTION = 226 "the data connection is being closed; the file action is done."
     ENTERING_PASSIVE_MODE = 227 "the server listens for the data connection."
     ENTERING_LONG_PASSIVE_MODE = 228 "the server listens at a long address (RFC 1639)."
     ENTERING_EXTENDED_PASSIVE_MODE = 229 "the server listens, in extended passive mode (RFC 2428)."

@@ -178,8 +178,8 @@ fn incomplete<T>(src: &BytesMut) -> Result<T, CodecError> {
 pub enum CodecError {
     /// Reading or writing failed.
     Io(io::Error),
-    /// A call of the library failed: out of memory, a reply that a client can't read, or a line that
-    /// it can't send.
+    /// A call of the library failed: out of memory, a reply that a client can't read, or a line
+    /// that it can't send.
     Control(Error),
     /// The input ended within a line or a reply.
     Incomplete {

@@ -29,7 +29,8 @@ pub enum Refusal {
     InvalidCommand,
     /// The verb, the subcommand of SITE or the parameter of AUTH is not UTF-8.
     InvalidUtf8,
-    /// The line's end is not CR LF or LF, or a CR in its parameter is followed by neither LF nor NUL.
+    /// The line's end is not CR LF or LF, or a CR in its parameter is followed by neither LF nor
+    /// NUL.
     InvalidEol,
     /// The line is longer than the limit.
     LineTooLong,

@@ -30,7 +30,7 @@
 //!
 #![cfg_attr(
     feature = "tokio-util",
-    doc = "[`FtpCodec`] does both for tokio, under `Framed`; `examples/server.rs` is a server with it."
+    doc = "[`FtpCodec`] does both for tokio, under `Framed`; `examples/server.rs` is a server."
 )]
 #![cfg_attr(
     not(feature = "tokio-util"),
@@ -56,8 +56,8 @@
 //! # Memory
 //!
 //! Where the library or an area of it can't allocate, a call returns [`Error::OutOfMemory`] and may
-//! be made again. Owned commands, replies and codecs allocate as all of Rust does, where running out
-//! of memory ends the process. Nothing wipes a password.
+//! be made again. Owned commands, replies and codecs allocate as all of Rust does, where running
+//! out of memory ends the process. Nothing wipes a password.
 #![deny(missing_docs, unreachable_pub, unsafe_code)]
 
 mod area;

@@ -65,7 +65,7 @@ pub fn shown(command: &Command) -> String {
     variant(command) + &fields
 }
 
-/// The variant's name, which is where its Debug text begins; the vector files call `Type` otherwise.
+/// The variant's name, with which its Debug text begins; `Type` has another in the vector files.
 fn variant(command: &Command) -> String {
     let debug = format!("{command:?}");
     let name = debug.split(' ').next().unwrap_or_default();
