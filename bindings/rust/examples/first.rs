@@ -1,8 +1,8 @@
-//! What README shows first.
+//! What each line of an input is.
 use unftp_control::{Error, Pending};
 
 fn main() -> Result<(), Error> {
-    let mut pending = Pending::new(None);
+    let mut pending = Pending::new();
     pending.push(b"RETR a.txt\r\nNOOP x\r\nQU")?;
     while let Some(event) = pending.next_event()? {
         println!("{event:?}");

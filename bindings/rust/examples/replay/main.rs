@@ -10,7 +10,7 @@ use cases::{is_one_line, read_bytes, read_reply};
 use shown::{quoted, shown, shown_refusal, shown_refusals};
 use std::io::{self, BufRead, Write};
 use std::process::ExitCode;
-use unftp_control::{canonical, forward, front_reply, reply, Error, Event, FrontReply, Pending};
+use unftp_control::{canonical, forward, front_reply, Error, Event, FrontReply, Pending};
 
 /// What a call answers to a case: `None` where it doesn't take the case.
 type Answer = Result<Option<String>, Error>;
@@ -34,7 +34,7 @@ fn answer_parse(line: &[u8]) -> Answer {
     if !is_one_line(line) {
         return Ok(None);
     }
-    let mut pending = Pending::new(None);
+    let mut pending = Pending::with_limit(0);
     pending.push(line)?;
     Ok(pending.next_event()?.map(|event| match event {
         Event::Command(command) => format!("ok {}", shown(&command)),
@@ -44,7 +44,7 @@ fn answer_parse(line: &[u8]) -> Answer {
 
 /// What each line of an input is, and how many bytes are left.
 fn answer_decode(input: &[u8]) -> Answer {
-    let mut pending = Pending::new(None);
+    let mut pending = Pending::with_limit(0);
     pending.push(input)?;
     let mut answer = String::new();
     while let Some(event) = pending.next_event()? {
@@ -60,7 +60,7 @@ fn answer_decode(input: &[u8]) -> Answer {
 /// The bytes of a reply.
 fn answer_encode(words: &[&str]) -> Answer {
     match read_reply(words) {
-        Some((code, text)) => Ok(Some(quoted(&reply(code, &text)?))),
+        Some(reply) => Ok(Some(quoted(&reply.to_bytes()?))),
         None => Ok(None),
     }
 }
@@ -79,11 +79,7 @@ fn answer_read(stream: &[u8]) -> Answer {
             FrontReply::Malformed => break " malformed",
         }
     };
-    Ok(Some(format!(
-        "{} rest={}{end}",
-        replies.join(";"),
-        rest.len()
-    )))
+    Ok(Some(format!("{} rest={}{end}", replies.join(";"), rest.len())))
 }
 
 /// The canonical line of a line, or the one that is forwarded for it.

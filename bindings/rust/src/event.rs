@@ -4,12 +4,22 @@ use std::error::Error;
 use std::fmt::{self, Display, Formatter};
 
 /// What a line is.
-#[derive(Clone, Copy, Debug, PartialEq, Eq)]
+#[derive(Clone, Debug, PartialEq, Eq)]
 pub enum Event<'a> {
     /// A command.
     Command(Command<'a>),
-    /// A line that is no command, and why.
+    /// A line that is no command, and why. The lines after it are not touched by that.
     Refused(Refusal),
+}
+
+impl Event<'_> {
+    /// The same event, whose texts and bytes are copied where they are borrowed.
+    pub fn into_owned(self) -> Event<'static> {
+        match self {
+            Event::Command(command) => Event::Command(command.into_owned()),
+            Event::Refused(refusal) => Event::Refused(refusal),
+        }
+    }
 }
 
 /// Why a line is no command.
@@ -19,7 +29,8 @@ pub enum Refusal {
     InvalidCommand,
     /// The verb, the subcommand of SITE or the parameter of AUTH is not UTF-8.
     InvalidUtf8,
-    /// The line's end is not CR LF or LF, or a CR in its parameter is followed by neither LF nor NUL.
+    /// The line's end is not CR LF or LF, or a CR in its parameter is followed by neither LF nor
+    /// NUL.
     InvalidEol,
     /// The line is longer than the limit.
     LineTooLong,
@@ -37,11 +48,12 @@ impl Refusal {
     }
 }
 
+/// A text that a server may send as it is, after 500.
 impl Display for Refusal {
     fn fmt(&self, f: &mut Formatter<'_>) -> fmt::Result {
         f.write_str(match self {
             Refusal::InvalidCommand => "invalid command",
-            Refusal::InvalidUtf8 => "non-UTF-8 character while parsing",
+            Refusal::InvalidUtf8 => "non-UTF-8 character in command",
             Refusal::InvalidEol => "invalid end of line",
             Refusal::LineTooLong => "line too long",
         })

@@ -5,6 +5,14 @@ use crate::ffi;
 /// The canonical line of a line's command, with its CR LF: a line that means the same, in the one
 /// form that the library writes.
 ///
+/// ```
+/// use unftp_control::canonical;
+///
+/// assert_eq!(canonical(b"xcwd a\n")?, b"CWD a\r\n");
+/// assert_eq!(canonical(b"list -la x\r\n")?, b"LIST x\r\n");
+/// # Ok::<(), unftp_control::Error>(())
+/// ```
+///
 /// # Errors
 ///
 /// [`Error::Refused`] for a line that is no command; [`Error::NoLine`], but never for a line whose
@@ -16,6 +24,14 @@ pub fn canonical(line: &[u8]) -> Result<Vec<u8>, Error> {
 /// The line that a proxy sends to a server for a client's line, with its CR LF: a line that means
 /// the same, and keeps what no command holds. The lines of SYST, TYPE, HELP, EPSV, ALLO and LIST
 /// have the bytes of their parameter as they came; any other line is the canonical one.
+///
+/// ```
+/// use unftp_control::forward;
+///
+/// assert_eq!(forward(b"xcwd a\n")?, b"CWD a\r\n");
+/// assert_eq!(forward(b"list -la x\r\n")?, b"LIST -la x\r\n");
+/// # Ok::<(), unftp_control::Error>(())
+/// ```
 ///
 /// # Errors
 ///

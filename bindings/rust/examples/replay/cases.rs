@@ -1,12 +1,9 @@
 //! Cases as the vector files write them.
+use unftp_control::{Reply, ReplyCode};
 
 /// Whether the bytes are a line whose one line feed is its last byte.
 pub fn is_one_line(bytes: &[u8]) -> bool {
-    bytes
-        .iter()
-        .position(|&byte| byte == b'\n')
-        .map(|at| at + 1)
-        == Some(bytes.len())
+    bytes.iter().position(|&byte| byte == b'\n').map(|at| at + 1) == Some(bytes.len())
 }
 
 /// The bytes that a word has between quotes.
@@ -47,13 +44,13 @@ fn read_text(word: &str) -> Option<String> {
     String::from_utf8(read_bytes(word)?).ok()
 }
 
-/// The code and the text of a reply that `reply` makes: its code has three digits, and its text is
-/// one line, or several that are joined by line feeds.
-pub fn read_reply(words: &[&str]) -> Option<(u32, String)> {
+/// A reply that this library makes: its code is from 100 to 599, and its text is one line, or
+/// several.
+pub fn read_reply(words: &[&str]) -> Option<Reply> {
     let [kind, code, texts @ ..] = words else {
         return None;
     };
-    let code = code.parse().ok()?;
+    let code = ReplyCode::new(code.parse().ok()?)?;
     let texts: Option<Vec<String>> = texts.iter().map(|word| read_text(word)).collect();
     let texts = texts.filter(|texts| texts.iter().all(|text| !text.contains('\n')))?;
     let is_taken = match *kind {
@@ -61,5 +58,5 @@ pub fn read_reply(words: &[&str]) -> Option<(u32, String)> {
         "multi" => texts.len() > 1,
         _ => false,
     };
-    (is_taken && (100..1000).contains(&code)).then(|| (code, texts.join("\n")))
+    is_taken.then(|| Reply::with_lines(code, texts))
 }

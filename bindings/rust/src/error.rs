@@ -4,35 +4,35 @@ use std::error;
 use std::fmt::{self, Display, Formatter};
 
 /// Why a call gives nothing.
-#[derive(Clone, Copy, Debug, PartialEq, Eq)]
+#[derive(Clone, Copy, Debug, PartialEq, Eq, Hash)]
 #[non_exhaustive]
 pub enum Error {
-    /// An allocation failed. The same call may be made again.
+    /// An allocation of the library or of an area failed. The same call may be made again.
     OutOfMemory,
-    /// No reply has this code: it is not from 100 to 599.
-    UnknownCode,
     /// The line is no command.
     Refused(Refusal),
     /// No line whose one line feed is its last byte is read as this command.
     NoLine,
     /// The bytes are not one line: no line feed is their last byte, or one comes before it.
     NotALine,
+    /// The first line of what a server sent opens no reply.
+    MalformedReply,
+    /// The first reply of what a server sent has more bytes than the limit.
+    ReplyTooLong,
 }
 
 impl Error {
-    /// The error of a status.
-    ///
-    /// # Panics
-    ///
-    /// Where it is none that the header allows, as only a call of another library returns.
+    /// The error of what `unftp_reply`, `unftp_canonical` or `unftp_forward` returns.
     pub(crate) fn of_status(status: u32) -> Error {
         match status {
             ffi::OUT_OF_MEMORY => Error::OutOfMemory,
-            ffi::UNKNOWN_CODE => Error::UnknownCode,
             ffi::NO_LINE => Error::NoLine,
             _ => match Refusal::of_status(status) {
                 Some(refusal) => Error::Refused(refusal),
-                None => panic!("the library returned {status}"),
+                None => unreachable!(
+                    "`EncodesReply`, `IsCanonical` and `IsForwardedLine` leave no status {status} \
+                     for a code from 100 to 599 and a text that is UTF-8"
+                ),
             },
         }
     }
@@ -42,10 +42,11 @@ impl Display for Error {
     fn fmt(&self, f: &mut Formatter<'_>) -> fmt::Result {
         match self {
             Error::OutOfMemory => f.write_str("out of memory"),
-            Error::UnknownCode => f.write_str("no reply has this code"),
             Error::Refused(refusal) => refusal.fmt(f),
             Error::NoLine => f.write_str("no line gives this command"),
             Error::NotALine => f.write_str("not one line"),
+            Error::MalformedReply => f.write_str("malformed reply"),
+            Error::ReplyTooLong => f.write_str("reply too long"),
         }
     }
 }

@@ -1,0 +1,31 @@
+//! A server that knows NOOP and QUIT, under `Framed`: `framed [PORT]`.
+use futures_util::{SinkExt, StreamExt};
+use tokio::net::{TcpListener, TcpStream};
+use tokio_util::codec::Framed;
+use unftp_control::{CodecError, Command, Event, FtpCodec, Reply, ReplyCode};
+
+async fn serve(stream: TcpStream) -> Result<(), CodecError> {
+    let mut client = Framed::new(stream, FtpCodec::new());
+    client.send(Reply::new(ReplyCode::SERVICE_READY, "Ready")).await?;
+    while let Some(event) = client.next().await {
+        let (code, text) = match event? {
+            Event::Command(Command::Noop) => (ReplyCode::COMMAND_OKAY, "OK".to_string()),
+            Event::Command(Command::Quit) => break,
+            Event::Command(_) => (ReplyCode::COMMAND_NOT_IMPLEMENTED, "Not implemented".into()),
+            Event::Refused(refusal) => (ReplyCode::COMMAND_SYNTAX_ERROR, refusal.to_string()),
+        };
+        client.send(Reply::new(code, text)).await?;
+    }
+    client.send(Reply::new(ReplyCode::CLOSING_CONTROL_CONNECTION, "Bye")).await
+}
+
+#[tokio::main]
+async fn main() -> std::io::Result<()> {
+    let port = std::env::args().nth(1).map_or(2121, |port| port.parse().expect("a port"));
+    let listener = TcpListener::bind(("127.0.0.1", port)).await?;
+    println!("{}", listener.local_addr()?.port());
+    loop {
+        let (stream, _) = listener.accept().await?;
+        tokio::spawn(serve(stream));
+    }
+}

@@ -1,0 +1,97 @@
+//! Commands and refusals as the vector files write them.
+use unftp_control::{Command, Refusal};
+
+/// The bytes between quotes, in ASCII: what is printable as it is, and all else escaped.
+pub fn quoted(bytes: &[u8]) -> String {
+    let escaped: String = bytes.iter().map(|&byte| escaped(byte)).collect();
+    format!("\"{escaped}\"")
+}
+
+fn escaped(byte: u8) -> String {
+    match byte {
+        b'\r' => "\\r".to_string(),
+        b'\n' => "\\n".to_string(),
+        b'\0' => "\\0".to_string(),
+        b'\\' => "\\\\".to_string(),
+        b' '..=b'~' => char::from(byte).to_string(),
+        _ => format!("\\x{byte:02x}"),
+    }
+}
+
+/// A field of bytes or of a text.
+fn field(name: &str, value: impl AsRef<[u8]>) -> String {
+    format!(" {name}={}", quoted(value.as_ref()))
+}
+
+/// A field that may be missing.
+fn optional(name: &str, value: Option<impl AsRef<[u8]>>) -> String {
+    match value {
+        Some(value) => field(name, value),
+        None => format!(" {name}=None"),
+    }
+}
+
+/// The command's variant and its fields.
+pub fn shown(command: &Command) -> String {
+    use Command::*;
+    let fields = match command {
+        User { username } => field("username", username),
+        Pass { password } => field("password", password.as_bytes()),
+        Acct { account } => field("account", account),
+        Port { addr } => field("addr", text(addr)),
+        Retr { path } | Stor { path } | Appe { path } | Cwd { path } => field("path", text(path)),
+        Dele { path } | Rmd { path } | Mkd { path } => field("path", text(path)),
+        Rnfr { file } | Rnto { file } | Size { file } => field("file", text(file)),
+        Mdtm { file } | Md5 { file } => field("file", text(file)),
+        Stat { path } => optional("path", path.as_ref()),
+        Nlst { path } | Mlst { path } | Mlsd { path } => optional("path", path.as_deref()),
+        List { options, path } => {
+            optional("options", options.as_deref()) + &optional("path", path.as_deref())
+        }
+        Site { command, arguments } => {
+            field("command", text(command)) + &field("arguments", text(arguments))
+        }
+        Other { command_name, arguments } => {
+            field("command_name", text(command_name)) + &field("arguments", text(arguments))
+        }
+        Stru { structure } => format!(" structure={structure:?}"),
+        Mode { mode } => format!(" mode={mode:?}"),
+        Opts { option: unftp_control::Opt::Utf8 { on } } => format!(" option=Utf8 on={on}"),
+        Auth { protocol } => format!(" protocol={protocol:?}"),
+        Prot { param } => format!(" param={param:?}"),
+        Rest { offset } => format!(" offset={offset}"),
+        _ => String::new(),
+    };
+    variant(command) + &fields
+}
+
+/// The variant's name, with which its Debug text begins; `Type` has another in the vector files.
+fn variant(command: &Command) -> String {
+    let debug = format!("{command:?}");
+    let name = debug.split(' ').next().unwrap_or_default();
+    if name == "Type" { "TypeCode" } else { name }.to_string()
+}
+
+fn text(text: &str) -> &str {
+    text
+}
+
+/// The kind of the parser's error.
+pub fn shown_refusal(refusal: Refusal) -> &'static str {
+    match refusal {
+        Refusal::InvalidCommand => "InvalidCommand",
+        Refusal::InvalidUtf8 => "InvalidUtf8",
+        Refusal::InvalidEol => "InvalidEol",
+        Refusal::LineTooLong => "LineTooLong",
+    }
+}
+
+/// The kind of the control channel's error, and that of the parser's, where the parser refuses.
+pub fn shown_refusals(refusal: Refusal) -> &'static str {
+    match refusal {
+        Refusal::InvalidCommand => "InvalidCommand InvalidCommand",
+        Refusal::InvalidUtf8 => "Utf8Error InvalidUtf8",
+        Refusal::InvalidEol => "InvalidCommand InvalidEol",
+        Refusal::LineTooLong => "LineTooLong",
+    }
+}

@@ -1,0 +1,224 @@
+use crate::canonical::forward;
+use crate::error::Error;
+use crate::event::Event;
+use crate::lines::{Lines, LINE_LIMIT};
+use crate::received::ReceivedReply;
+use crate::reply::Reply;
+use crate::reply_decoder::{Search, REPLY_LIMIT};
+use bytes::{Buf, BytesMut};
+use std::error;
+use std::fmt::{self, Display, Formatter};
+use std::io;
+use tokio_util::codec::{Decoder, Encoder};
+
+/// The codec of a server's control connection: bytes become [`Event`]s, and each [`Reply`] becomes
+/// its bytes. Use it with `Framed`, `FramedRead` or `FramedWrite`.
+///
+/// A line that is refused is an item and no error, so the lines after it are read as ever. The
+/// pending bytes are read where they are, and only what a command holds is copied.
+///
+/// At the end of input, [`CodecError::Incomplete`] says how many bytes of a line came without its
+/// end. They are still in the read buffer.
+///
+/// A server that turns to TLS makes a new codec for the new stream, and drops the read buffer of
+/// the old one. One that needs the parameter of TYPE, which is in no command, uses
+/// [`Pending`](crate::Pending). The line feed of an ABOR may come as urgent data;
+/// `examples/server.rs` takes it in line.
+///
+/// ```
+/// use bytes::BytesMut;
+/// use tokio_util::codec::{Decoder, Encoder};
+/// use unftp_control::{Command, Event, FtpCodec, Refusal, Reply, ReplyCode};
+///
+/// let mut codec = FtpCodec::new();
+/// let mut input = BytesMut::from("NOOP x\r\nNOOP\r\nQU");
+/// let refused = Event::Refused(Refusal::InvalidCommand);
+/// assert_eq!(codec.decode(&mut input)?, Some(refused));
+/// assert_eq!(codec.decode(&mut input)?, Some(Event::Command(Command::Noop)));
+/// assert_eq!(codec.decode(&mut input)?, None);
+///
+/// let mut output = BytesMut::new();
+/// codec.encode(Reply::new(ReplyCode::COMMAND_OKAY, "OK"), &mut output)?;
+/// assert_eq!(output, "200 OK\r\n");
+/// # Ok::<(), unftp_control::CodecError>(())
+/// ```
+#[derive(Clone, Debug)]
+pub struct FtpCodec {
+    lines: Lines,
+}
+
+impl FtpCodec {
+    /// For a connection whose lines may have [`LINE_LIMIT`] bytes.
+    pub fn new() -> FtpCodec {
+        FtpCodec::with_limit(LINE_LIMIT)
+    }
+
+    /// The same with another limit; 0 is none. A line of more bytes, its line feed counted, is
+    /// refused when it ends, and its bytes are dropped before.
+    pub fn with_limit(limit: usize) -> FtpCodec {
+        FtpCodec { lines: Lines::new(limit) }
+    }
+}
+
+impl Default for FtpCodec {
+    fn default() -> FtpCodec {
+        FtpCodec::new()
+    }
+}
+
+impl Decoder for FtpCodec {
+    type Item = Event<'static>;
+    type Error = CodecError;
+
+    fn decode(&mut self, src: &mut BytesMut) -> Result<Option<Event<'static>>, CodecError> {
+        let taken = self.lines.take(src)?;
+        src.advance(taken.used);
+        Ok(taken.event.map(Event::into_owned))
+    }
+
+    fn decode_eof(&mut self, src: &mut BytesMut) -> Result<Option<Event<'static>>, CodecError> {
+        match self.decode(src)? {
+            None if !src.is_empty() || self.lines.is_skipping() => incomplete(src),
+            event => Ok(event),
+        }
+    }
+}
+
+/// Of `Reply` only, so that `flush` and `close` of a sink need no type. A clone of a reply takes no
+/// memory where its text is the program's own.
+impl Encoder<Reply> for FtpCodec {
+    type Error = CodecError;
+
+    fn encode(&mut self, reply: Reply, dst: &mut BytesMut) -> Result<(), CodecError> {
+        Ok(reply.encode(dst)?)
+    }
+}
+
+/// The codec of a client's control connection: bytes become [`ReceivedReply`]s, and each command
+/// line, with its line end, becomes the bytes of [`forward`]. So a line that is no command, or two
+/// lines in one, as a file name with a line feed would make, are never sent.
+///
+/// A reply that is malformed or too long is an error, since nothing says where the next one begins.
+///
+/// ```
+/// use bytes::BytesMut;
+/// use tokio_util::codec::{Decoder, Encoder};
+/// use unftp_control::FtpClientCodec;
+///
+/// let mut codec = FtpClientCodec::new();
+/// let mut output = BytesMut::new();
+/// codec.encode(b"RETR a.txt\r\n", &mut output)?;
+/// assert_eq!(output, "RETR a.txt\r\n");
+/// assert!(codec.encode(b"RETR a\nDELE b\r\n", &mut output).is_err());
+///
+/// let mut input = BytesMut::from("150 Opening\r\n226 Do");
+/// assert_eq!(codec.decode(&mut input)?.map(|reply| reply.code()), Some(150));
+/// assert_eq!(codec.decode(&mut input)?, None);
+/// # Ok::<(), unftp_control::CodecError>(())
+/// ```
+#[derive(Clone, Debug)]
+pub struct FtpClientCodec {
+    search: Search,
+}
+
+impl FtpClientCodec {
+    /// For a connection whose replies may have [`REPLY_LIMIT`] bytes.
+    pub fn new() -> FtpClientCodec {
+        FtpClientCodec::with_limit(REPLY_LIMIT)
+    }
+
+    /// The same with another limit; 0 is none.
+    pub fn with_limit(limit: usize) -> FtpClientCodec {
+        FtpClientCodec { search: Search::new(limit) }
+    }
+}
+
+impl Default for FtpClientCodec {
+    fn default() -> FtpClientCodec {
+        FtpClientCodec::new()
+    }
+}
+
+impl Decoder for FtpClientCodec {
+    type Item = ReceivedReply<'static>;
+    type Error = CodecError;
+
+    fn decode(&mut self, src: &mut BytesMut) -> Result<Option<Self::Item>, CodecError> {
+        let reply = self.search.find(src)?.map(ReceivedReply::into_owned);
+        if let Some(reply) = &reply {
+            src.advance(reply.bytes().len());
+        }
+        Ok(reply)
+    }
+
+    fn decode_eof(&mut self, src: &mut BytesMut) -> Result<Option<Self::Item>, CodecError> {
+        match self.decode(src)? {
+            None if !src.is_empty() => incomplete(src),
+            reply => Ok(reply),
+        }
+    }
+}
+
+impl Encoder<&[u8]> for FtpClientCodec {
+    type Error = CodecError;
+
+    fn encode(&mut self, line: &[u8], dst: &mut BytesMut) -> Result<(), CodecError> {
+        dst.extend_from_slice(&forward(line)?);
+        Ok(())
+    }
+}
+
+fn incomplete<T>(src: &BytesMut) -> Result<T, CodecError> {
+    Err(CodecError::Incomplete { left: src.len() })
+}
+
+/// Why a stream or a sink of a codec ends.
+#[derive(Debug)]
+#[non_exhaustive]
+pub enum CodecError {
+    /// Reading or writing failed.
+    Io(io::Error),
+    /// A call of the library failed: out of memory, a reply that a client can't read, or a line
+    /// that it can't send.
+    Control(Error),
+    /// The input ended within a line or a reply.
+    Incomplete {
+        /// How many of its bytes are in the read buffer: all that came, or 0 where the line is too
+        /// long and its bytes were dropped.
+        left: usize,
+    },
+}
+
+impl Display for CodecError {
+    fn fmt(&self, f: &mut Formatter<'_>) -> fmt::Result {
+        match self {
+            CodecError::Io(error) => error.fmt(f),
+            CodecError::Control(error) => error.fmt(f),
+            CodecError::Incomplete { left } => {
+                write!(f, "the input ended within a line or a reply, after {left} bytes of it")
+            }
+        }
+    }
+}
+
+impl error::Error for CodecError {
+    fn source(&self) -> Option<&(dyn error::Error + 'static)> {
+        match self {
+            CodecError::Io(error) => Some(error),
+            CodecError::Control(error) => Some(error),
+            CodecError::Incomplete { .. } => None,
+        }
+    }
+}
+
+impl From<io::Error> for CodecError {
+    fn from(error: io::Error) -> CodecError {
+        CodecError::Io(error)
+    }
+}
+
+impl From<Error> for CodecError {
+    fn from(error: Error) -> CodecError {
+        CodecError::Control(error)
+    }
+}

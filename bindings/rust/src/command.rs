@@ -1,0 +1,405 @@
+use crate::bytes::{Password, RawBytes};
+use crate::ffi;
+use crate::parameters::{AuthParam, ModeParam, Opt, ProtParam, StruParam};
+use std::borrow::Cow;
+use std::str;
+
+/// A command that a client sends on the control connection. Its texts and bytes are borrowed from
+/// the [`Pending`](crate::Pending) that gave it, or owned: [`into_owned`](Command::into_owned)
+/// makes a `Command<'static>`.
+///
+/// A text is UTF-8, with U+FFFD for each ill-formed part of what was sent; [`RawBytes`] are as they
+/// were sent. In both, a carriage return that was sent as CR NUL is one CR (RFC 854).
+///
+/// `Debug` shows an account, and of a password only asterisks.
+#[derive(Clone, Debug, PartialEq, Eq)]
+#[non_exhaustive]
+pub enum Command<'a> {
+    /// USER: who logs in (RFC 959, section 4.1.1).
+    User {
+        /// The name; it may be empty.
+        username: RawBytes<'a>,
+    },
+    /// PASS: the password (RFC 959, section 4.1.1).
+    Pass {
+        /// The password; it may be empty.
+        password: Password<'a>,
+    },
+    /// ACCT: the account (RFC 959, section 4.1.1).
+    Acct {
+        /// The account; it may be empty.
+        account: RawBytes<'a>,
+    },
+    /// SYST: asks for the operating system (RFC 959, section 4.1.3). Its parameter is ignored.
+    Syst,
+    /// STAT: asks for the status of the server, or of a path (RFC 959, section 4.1.3).
+    Stat {
+        /// The path; never an empty one.
+        path: Option<RawBytes<'a>>,
+    },
+    /// TYPE: the representation of files (RFC 959, section 4.1.2). Its parameter is ignored;
+    /// [`Pending::line`](crate::Pending::line) has it.
+    Type,
+    /// STRU: the structure of files (RFC 959, section 4.1.2).
+    Stru {
+        /// The structure.
+        structure: StruParam,
+    },
+    /// MODE: the transfer mode (RFC 959, section 4.1.2).
+    Mode {
+        /// The mode.
+        mode: ModeParam,
+    },
+    /// HELP: asks for help on the server (RFC 959, section 4.1.3). Its parameter is ignored.
+    Help,
+    /// NOOP: do nothing (RFC 959, section 4.1.3).
+    Noop,
+    /// PASV: listen for the data connection (RFC 959, section 4.1.2).
+    Pasv,
+    /// EPSV: listen for the data connection, over IPv4 or IPv6 (RFC 2428, section 3). Its parameter
+    /// is ignored.
+    Epsv,
+    /// PORT: connect to the client for data (RFC 959, section 4.1.2).
+    Port {
+        /// The address and port as the client wrote them; not empty.
+        addr: Cow<'a, str>,
+    },
+    /// RETR: send a file (RFC 959, section 4.1.3).
+    Retr {
+        /// The file; not empty.
+        path: Cow<'a, str>,
+    },
+    /// STOR: store a file (RFC 959, section 4.1.3).
+    Stor {
+        /// The file; not empty.
+        path: Cow<'a, str>,
+    },
+    /// APPE: append to a file (RFC 959, section 4.1.3).
+    Appe {
+        /// The file; not empty.
+        path: Cow<'a, str>,
+    },
+    /// LIST: list a directory for people (RFC 959, section 4.1.3).
+    List {
+        /// Always `None`: the options before the path are dropped.
+        options: Option<Cow<'a, str>>,
+        /// What to list; never an empty path.
+        path: Option<Cow<'a, str>>,
+    },
+    /// NLST: list the names in a directory (RFC 959, section 4.1.3).
+    Nlst {
+        /// What to list; never an empty path.
+        path: Option<Cow<'a, str>>,
+    },
+    /// MLST: asks for the facts of a path (RFC 3659, section 7).
+    Mlst {
+        /// The path; never an empty one.
+        path: Option<Cow<'a, str>>,
+    },
+    /// MLSD: list a directory with facts (RFC 3659, section 7).
+    Mlsd {
+        /// The directory; never an empty path.
+        path: Option<Cow<'a, str>>,
+    },
+    /// FEAT: list the features beyond RFC 959 (RFC 2389, section 3).
+    Feat,
+    /// PWD or XPWD: asks for the working directory (RFC 959, section 4.1.3; RFC 1123, section
+    /// 4.1.3.1).
+    Pwd,
+    /// CWD or XCWD: change the working directory (RFC 959, section 4.1.1; RFC 1123, section
+    /// 4.1.3.1).
+    Cwd {
+        /// The directory; not empty.
+        path: Cow<'a, str>,
+    },
+    /// CDUP: go to the parent directory (RFC 959, section 4.1.1).
+    Cdup,
+    /// OPTS: set an option (RFC 2389, section 4).
+    Opts {
+        /// The option.
+        option: Opt,
+    },
+    /// DELE: delete a file (RFC 959, section 4.1.3).
+    Dele {
+        /// The file; not empty.
+        path: Cow<'a, str>,
+    },
+    /// RMD: remove a directory (RFC 959, section 4.1.3).
+    Rmd {
+        /// The directory; not empty.
+        path: Cow<'a, str>,
+    },
+    /// QUIT or BYE: end the session (RFC 959, section 4.1.1).
+    Quit,
+    /// MKD or XMKD: make a directory (RFC 959, section 4.1.3; RFC 1123, section 4.1.3.1).
+    Mkd {
+        /// The directory; not empty.
+        path: Cow<'a, str>,
+    },
+    /// ALLO: reserve room (RFC 959, section 4.1.3). Its parameter is ignored.
+    Allo,
+    /// ABOR: end the transfer that is under way (RFC 959, section 4.1.3).
+    Abor,
+    /// STOU: store under a name that the server chooses (RFC 959, section 4.1.3).
+    Stou,
+    /// RNFR: which file is renamed (RFC 959, section 4.1.3).
+    Rnfr {
+        /// The file; not empty.
+        file: Cow<'a, str>,
+    },
+    /// RNTO: what it is renamed to (RFC 959, section 4.1.3).
+    Rnto {
+        /// The new name; not empty.
+        file: Cow<'a, str>,
+    },
+    /// AUTH: protect the control connection (RFC 2228, section 3; RFC 4217, section 4).
+    Auth {
+        /// The mechanism.
+        protocol: AuthParam,
+    },
+    /// CCC: go on without protection of the control connection (RFC 2228, section 3).
+    Ccc,
+    /// PBSZ: the size of protected buffers, always 0 (RFC 2228, section 3; RFC 4217, section 9).
+    Pbsz,
+    /// PROT: the protection of the data connection (RFC 2228, section 3).
+    Prot {
+        /// The level.
+        param: ProtParam,
+    },
+    /// SIZE: asks for the size of a file (RFC 3659, section 4).
+    Size {
+        /// The file; not empty.
+        file: Cow<'a, str>,
+    },
+    /// REST: where the next transfer begins (RFC 3659, section 5).
+    Rest {
+        /// The offset in bytes.
+        offset: u64,
+    },
+    /// MDTM: asks when a file was modified (RFC 3659, section 3).
+    Mdtm {
+        /// The file; not empty.
+        file: Cow<'a, str>,
+    },
+    /// SITE MD5: asks for the MD5 sum of a file; of no RFC.
+    Md5 {
+        /// The file; not empty.
+        file: Cow<'a, str>,
+    },
+    /// SITE with any other subcommand (RFC 959, section 4.1.3).
+    Site {
+        /// The subcommand, its ASCII letters in upper case; it may be empty.
+        command: Cow<'a, str>,
+        /// What follows the subcommand; it may be empty.
+        arguments: Cow<'a, str>,
+    },
+    /// A verb of no other variant.
+    Other {
+        /// The verb, its ASCII letters in upper case; it may be empty.
+        command_name: Cow<'a, str>,
+        /// What follows the verb; it may be empty.
+        arguments: Cow<'a, str>,
+    },
+}
+
+/// Makes the command of the same variant and fields that owns them.
+macro_rules! owned {
+    ($command:expr, $($variant:ident { $($field:ident),* })*) => {
+        match $command {
+            $(Command::$variant { $($field),* } => Command::$variant {
+                $($field: $field.into_owned_field()),*
+            },)*
+        }
+    };
+}
+
+impl Command<'_> {
+    /// The same command, whose texts and bytes are copied where they are borrowed.
+    pub fn into_owned(self) -> Command<'static> {
+        owned! {
+            self,
+            User { username } Pass { password } Acct { account } Syst {} Stat { path } Type {}
+            Stru { structure } Mode { mode } Help {} Noop {} Pasv {} Epsv {} Port { addr }
+            Retr { path } Stor { path } Appe { path } List { options, path } Nlst { path }
+            Mlst { path } Mlsd { path } Feat {} Pwd {} Cwd { path } Cdup {} Opts { option }
+            Dele { path } Rmd { path } Quit {} Mkd { path } Allo {} Abor {} Stou {} Rnfr { file }
+            Rnto { file } Auth { protocol } Ccc {} Pbsz {} Prot { param } Size { file }
+            Rest { offset } Mdtm { file } Md5 { file } Site { command, arguments }
+            Other { command_name, arguments }
+        }
+    }
+}
+
+/// A field of a command.
+trait Field {
+    type Owned;
+
+    fn into_owned_field(self) -> Self::Owned;
+}
+
+macro_rules! fields {
+    ($($field:ty => $owned:ty, $this:ident: $value:expr;)*) => {
+        $(impl Field for $field {
+            type Owned = $owned;
+
+            fn into_owned_field(self) -> $owned {
+                let $this = self;
+                $value
+            }
+        })*
+    };
+}
+
+fields! {
+    RawBytes<'_> => RawBytes<'static>, bytes: bytes.into_owned();
+    Password<'_> => Password<'static>, password: password.into_owned();
+    Cow<'_, str> => Cow<'static, str>, text: Cow::Owned(text.into_owned());
+    StruParam => StruParam, param: param;
+    ModeParam => ModeParam, param: param;
+    AuthParam => AuthParam, param: param;
+    ProtParam => ProtParam, param: param;
+    Opt => Opt, option: option;
+    u64 => u64, offset: offset;
+}
+
+impl<F: Field> Field for Option<F> {
+    type Owned = Option<F::Owned>;
+
+    fn into_owned_field(self) -> Option<F::Owned> {
+        self.map(F::into_owned_field)
+    }
+}
+
+/// Says by which clause of the library's contracts a value doesn't come.
+macro_rules! never {
+    ($($clause:tt)*) => {
+        unreachable!(
+            "{}: `Leaves` of unftp_next gives what `name_and_value` does",
+            format_args!($($clause)*)
+        )
+    };
+}
+
+impl<'a> Command<'a> {
+    /// The command that `unftp_next` gives by a number, a name and a value.
+    pub(crate) fn of_line(number: u32, name: &'a [u8], value: &'a [u8]) -> Command<'a> {
+        match number {
+            ffi::USER => Command::User { username: value.into() },
+            ffi::PASS => Command::Pass { password: value.into() },
+            ffi::ACCT => Command::Acct { account: value.into() },
+            ffi::STAT => Command::Stat { path: unless_empty(value).map(RawBytes::from) },
+            ffi::STRU => Command::Stru { structure: structure(value) },
+            ffi::MODE => Command::Mode { mode: mode(value) },
+            ffi::PORT => Command::Port { addr: text(value) },
+            ffi::RETR => Command::Retr { path: text(value) },
+            ffi::STOR => Command::Stor { path: text(value) },
+            ffi::APPE => Command::Appe { path: text(value) },
+            ffi::LIST => Command::List { options: None, path: unless_empty(value).map(text) },
+            ffi::NLST => Command::Nlst { path: unless_empty(value).map(text) },
+            ffi::MLST => Command::Mlst { path: unless_empty(value).map(text) },
+            ffi::MLSD => Command::Mlsd { path: unless_empty(value).map(text) },
+            ffi::CWD => Command::Cwd { path: text(value) },
+            ffi::OPTS => Command::Opts { option: option(value) },
+            ffi::DELE => Command::Dele { path: text(value) },
+            ffi::RMD => Command::Rmd { path: text(value) },
+            ffi::MKD => Command::Mkd { path: text(value) },
+            ffi::RNFR => Command::Rnfr { file: text(value) },
+            ffi::RNTO => Command::Rnto { file: text(value) },
+            ffi::AUTH => Command::Auth { protocol: mechanism(value) },
+            ffi::PROT => Command::Prot { param: protection(value) },
+            ffi::SIZE => Command::Size { file: text(value) },
+            ffi::REST => Command::Rest { offset: offset(value) },
+            ffi::MDTM => Command::Mdtm { file: text(value) },
+            ffi::MD5 => Command::Md5 { file: text(value) },
+            ffi::SITE => Command::Site { command: text(name), arguments: text(value) },
+            ffi::OTHER => Command::Other { command_name: text(name), arguments: text(value) },
+            _ => Command::without_value(number),
+        }
+    }
+
+    /// The command of a number that has no field.
+    fn without_value(number: u32) -> Command<'a> {
+        match number {
+            ffi::SYST => Command::Syst,
+            ffi::TYPE => Command::Type,
+            ffi::HELP => Command::Help,
+            ffi::NOOP => Command::Noop,
+            ffi::PASV => Command::Pasv,
+            ffi::EPSV => Command::Epsv,
+            ffi::FEAT => Command::Feat,
+            ffi::PWD => Command::Pwd,
+            ffi::CDUP => Command::Cdup,
+            ffi::QUIT => Command::Quit,
+            ffi::ALLO => Command::Allo,
+            ffi::ABOR => Command::Abor,
+            ffi::STOU => Command::Stou,
+            ffi::CCC => Command::Ccc,
+            ffi::PBSZ => Command::Pbsz,
+            _ => never!("{number} is no `command_number`"),
+        }
+    }
+}
+
+/// The value, where there is one: no command has an empty one that it may lack.
+fn unless_empty(value: &[u8]) -> Option<&[u8]> {
+    (!value.is_empty()).then_some(value)
+}
+
+fn text(value: &[u8]) -> Cow<'_, str> {
+    match str::from_utf8(value) {
+        Ok(text) => Cow::Borrowed(text),
+        Err(_) => never!("a text of `outcome` is UTF-8"),
+    }
+}
+
+fn structure(value: &[u8]) -> StruParam {
+    match value {
+        b"F" => StruParam::File,
+        b"R" => StruParam::Record,
+        b"P" => StruParam::Page,
+        _ => never!("`structure_letter` is F, R or P"),
+    }
+}
+
+fn mode(value: &[u8]) -> ModeParam {
+    match value {
+        b"S" => ModeParam::Stream,
+        b"B" => ModeParam::Block,
+        b"C" => ModeParam::Compressed,
+        _ => never!("`mode_letter` is S, B or C"),
+    }
+}
+
+fn option(value: &[u8]) -> Opt {
+    match value {
+        b"UTF8 ON" => Opt::Utf8 { on: true },
+        b"UTF8 OFF" => Opt::Utf8 { on: false },
+        _ => never!("`setting` is UTF8 ON or UTF8 OFF"),
+    }
+}
+
+fn mechanism(value: &[u8]) -> AuthParam {
+    match value {
+        b"SSL" => AuthParam::Ssl,
+        b"TLS" => AuthParam::Tls,
+        _ => never!("`mechanism` is SSL or TLS"),
+    }
+}
+
+fn protection(value: &[u8]) -> ProtParam {
+    match value {
+        b"C" => ProtParam::Clear,
+        b"S" => ProtParam::Safe,
+        b"E" => ProtParam::Confidential,
+        b"P" => ProtParam::Private,
+        _ => never!("`protection_letter` is C, S, E or P"),
+    }
+}
+
+fn offset(value: &[u8]) -> u64 {
+    let digits = str::from_utf8(value).ok();
+    match digits.and_then(|digits| digits.parse().ok()) {
+        Some(offset) => offset,
+        None => never!("the value of REST is `decimal` of a number below 2^64"),
+    }
+}

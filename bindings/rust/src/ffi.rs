@@ -1,0 +1,197 @@
+//! The calls of the C library as safe functions over slices. No other module has unsafe code.
+//!
+//! The header asks two things of a caller, and Rust's references keep them:
+//!
+//! - No pointer is null, also where the length beside it is 0. The pointer of an empty slice may
+//!   dangle, but is never null, and it is to as many bytes as its length says: none.
+//! - What a call writes overlaps nothing else that it is given. All that is written is borrowed
+//!   mutably, and so apart from everything else; an area of no bytes overlaps nothing.
+//!
+//! `enum unftp_result` has no negative number, and C gives such an enum the form of a `u32`.
+
+pub(crate) const DONE: u32 = 0;
+pub(crate) const USER: u32 = 1;
+pub(crate) const PASS: u32 = 2;
+pub(crate) const ACCT: u32 = 3;
+pub(crate) const SYST: u32 = 4;
+pub(crate) const STAT: u32 = 5;
+pub(crate) const TYPE: u32 = 6;
+pub(crate) const STRU: u32 = 7;
+pub(crate) const MODE: u32 = 8;
+pub(crate) const HELP: u32 = 9;
+pub(crate) const NOOP: u32 = 10;
+pub(crate) const PASV: u32 = 11;
+pub(crate) const EPSV: u32 = 12;
+pub(crate) const PORT: u32 = 13;
+pub(crate) const RETR: u32 = 14;
+pub(crate) const STOR: u32 = 15;
+pub(crate) const APPE: u32 = 16;
+pub(crate) const LIST: u32 = 17;
+pub(crate) const NLST: u32 = 18;
+pub(crate) const MLST: u32 = 19;
+pub(crate) const MLSD: u32 = 20;
+pub(crate) const FEAT: u32 = 21;
+pub(crate) const PWD: u32 = 22;
+pub(crate) const CWD: u32 = 23;
+pub(crate) const CDUP: u32 = 24;
+pub(crate) const OPTS: u32 = 25;
+pub(crate) const DELE: u32 = 26;
+pub(crate) const RMD: u32 = 27;
+pub(crate) const QUIT: u32 = 28;
+pub(crate) const MKD: u32 = 29;
+pub(crate) const ALLO: u32 = 30;
+pub(crate) const ABOR: u32 = 31;
+pub(crate) const STOU: u32 = 32;
+pub(crate) const RNFR: u32 = 33;
+pub(crate) const RNTO: u32 = 34;
+pub(crate) const AUTH: u32 = 35;
+pub(crate) const CCC: u32 = 36;
+pub(crate) const PBSZ: u32 = 37;
+pub(crate) const PROT: u32 = 38;
+pub(crate) const SIZE: u32 = 39;
+pub(crate) const REST: u32 = 40;
+pub(crate) const MDTM: u32 = 41;
+pub(crate) const MD5: u32 = 42;
+pub(crate) const SITE: u32 = 43;
+pub(crate) const OTHER: u32 = 44;
+pub(crate) const MORE: u32 = 101;
+pub(crate) const INVALID_COMMAND: u32 = 102;
+pub(crate) const INVALID_UTF8: u32 = 103;
+pub(crate) const INVALID_EOL: u32 = 104;
+pub(crate) const LINE_TOO_LONG: u32 = 105;
+pub(crate) const OUT_OF_MEMORY: u32 = 106;
+pub(crate) const NO_ROOM: u32 = 107;
+pub(crate) const NO_LINE: u32 = 108;
+pub(crate) const MALFORMED: u32 = 109;
+
+/// `struct unftp_connection`.
+#[repr(C)]
+#[derive(Clone, Debug, Default)]
+pub(crate) struct Connection {
+    pub(crate) limit: usize,
+    pub(crate) offset: usize,
+    pub(crate) skipping: u32,
+}
+
+/// `struct unftp_line`.
+#[repr(C)]
+#[derive(Default)]
+pub(crate) struct Line {
+    pub(crate) used: usize,
+    pub(crate) name_len: usize,
+    pub(crate) value_len: usize,
+}
+
+/// `struct unftp_found_reply`.
+#[repr(C)]
+#[derive(Default)]
+pub(crate) struct FoundReply {
+    pub(crate) used: usize,
+    pub(crate) code: u32,
+}
+
+extern "C" {
+    fn unftp_next(
+        connection: *mut Connection,
+        bytes: *const u8,
+        bytes_len: usize,
+        area: *mut u8,
+        area_room: usize,
+        line: *mut Line,
+    ) -> u32;
+
+    fn unftp_reply(
+        code: u32,
+        text: *const u8,
+        text_len: usize,
+        out: *mut u8,
+        out_room: usize,
+        len: *mut usize,
+    ) -> u32;
+
+    fn unftp_front_reply(bytes: *const u8, bytes_len: usize, reply: *mut FoundReply) -> u32;
+
+    fn unftp_canonical(
+        line: *const u8,
+        line_len: usize,
+        out: *mut u8,
+        out_room: usize,
+        len: *mut usize,
+    ) -> u32;
+
+    fn unftp_forward(
+        line: *const u8,
+        line_len: usize,
+        out: *mut u8,
+        out_room: usize,
+        len: *mut usize,
+    ) -> u32;
+
+    fn unftp_version() -> u32;
+}
+
+/// Calls `unftp_next`: what it returns, and the line.
+pub(crate) fn next(connection: &mut Connection, bytes: &[u8], area: &mut [u8]) -> (u32, Line) {
+    let mut line = Line::default();
+    // SAFETY: no pointer is null, since each is of a reference, and each length is that of the
+    // slice beside it. Nothing overlaps: the connection and the area are mutably borrowed, and
+    // `line` is a variable of this function. The structs have the header's fields in its order.
+    let status = unsafe {
+        unftp_next(
+            connection,
+            bytes.as_ptr(),
+            bytes.len(),
+            area.as_mut_ptr(),
+            area.len(),
+            &mut line,
+        )
+    };
+    (status, line)
+}
+
+/// Calls `unftp_reply`: what it returns, and the length.
+pub(crate) fn reply(code: u32, text: &str, out: &mut [u8]) -> (u32, usize) {
+    let mut len = 0;
+    // SAFETY: no pointer is null, since each is of a reference, and each length is that of the
+    // slice beside it. Nothing overlaps: `out` is mutably borrowed, and `len` is a variable here.
+    let status = unsafe {
+        unftp_reply(code, text.as_ptr(), text.len(), out.as_mut_ptr(), out.len(), &mut len)
+    };
+    (status, len)
+}
+
+/// Calls `unftp_front_reply`: what it returns, and the reply.
+pub(crate) fn front_reply(bytes: &[u8]) -> (u32, FoundReply) {
+    let mut reply = FoundReply::default();
+    // SAFETY: no pointer is null, since each is of a reference, and the length is that of the
+    // slice. Nothing overlaps: `reply` is a variable of this function, and has the header's form.
+    let status = unsafe { unftp_front_reply(bytes.as_ptr(), bytes.len(), &mut reply) };
+    (status, reply)
+}
+
+/// Calls `unftp_canonical`: what it returns, and the length.
+pub(crate) fn canonical(line: &[u8], out: &mut [u8]) -> (u32, usize) {
+    let mut len = 0;
+    // SAFETY: no pointer is null, since each is of a reference, and each length is that of the
+    // slice beside it. Nothing overlaps: `out` is mutably borrowed, and `len` is a variable here.
+    let status = unsafe {
+        unftp_canonical(line.as_ptr(), line.len(), out.as_mut_ptr(), out.len(), &mut len)
+    };
+    (status, len)
+}
+
+/// Calls `unftp_forward`: what it returns, and the length.
+pub(crate) fn forward(line: &[u8], out: &mut [u8]) -> (u32, usize) {
+    let mut len = 0;
+    // SAFETY: no pointer is null, since each is of a reference, and each length is that of the
+    // slice beside it. Nothing overlaps: `out` is mutably borrowed, and `len` is a variable here.
+    let status =
+        unsafe { unftp_forward(line.as_ptr(), line.len(), out.as_mut_ptr(), out.len(), &mut len) };
+    (status, len)
+}
+
+/// Calls `unftp_version`.
+pub(crate) fn version() -> u32 {
+    // SAFETY: it takes nothing, and returns a number.
+    unsafe { unftp_version() }
+}

@@ -1,0 +1,99 @@
+//! The control protocol layer of an FTP server: bytes of a control connection become typed commands
+//! or named refusals, and replies become bytes (RFC 959). The work is done by a static C library,
+//! `libunftp_control.a`, whose calls are proved for all inputs; this crate makes them safe and
+//! typed.
+//!
+//! It is a layer and no server: sockets, TLS, data connections, storage and accounts are the
+//! caller's.
+//!
+//! # A server
+//!
+//! [`Pending`] keeps what a client has sent and takes the [`Event`]s of its lines, one after the
+//! other. A [`Reply`] becomes bytes by [`to_bytes`](Reply::to_bytes).
+//!
+//! ```
+//! use unftp_control::{Error, Event, Pending};
+//!
+//! # fn main() -> Result<(), Error> {
+//! let mut pending = Pending::new();
+//! pending.push(b"RETR a.txt\r\nNOOP x\r\nQU")?;
+//! while let Some(event) = pending.next_event()? {
+//!     match event {
+//!         Event::Command(command) => println!("{command:?}"),
+//!         Event::Refused(refusal) => println!("{refusal}"),
+//!     }
+//! }
+//! assert_eq!(pending.bytes(), b"QU");
+//! # Ok(())
+//! # }
+//! ```
+//!
+#![cfg_attr(
+    feature = "tokio-util",
+    doc = "[`FtpCodec`] does both for tokio, under `Framed`; `examples/server.rs` is a server."
+)]
+#![cfg_attr(
+    not(feature = "tokio-util"),
+    doc = "With the feature `tokio-util`, `FtpCodec` does both for tokio, under `Framed`."
+)]
+//!
+//! # A client or a proxy
+//!
+//! A [`ReplyDecoder`] takes the replies that a server has sent, and [`front_reply`] finds the first
+//! one of a slice. [`canonical`] writes the one line that means what a client's line does, and
+//! [`forward`] the line that a proxy sends to a server.
+#![cfg_attr(
+    feature = "tokio-util",
+    doc = "[`FtpClientCodec`] reads replies and writes lines for tokio."
+)]
+//!
+//! # Linking
+//!
+//! The build script looks for the library in the folder that `UNFTP_CONTROL_LIB` names, then by
+//! `pkg-config unftp_control`, and then in the repository that the crate is in, where it is built
+//! if the Rattle toolchain is installed. The crate without features has no dependencies.
+//!
+//! # Memory
+//!
+//! Where the library or an area of it can't allocate, a call returns [`Error::OutOfMemory`] and may
+//! be made again. Owned commands, replies and codecs allocate as all of Rust does, where running
+//! out of memory ends the process. Nothing wipes a password.
+#![deny(missing_docs, unreachable_pub, unsafe_code)]
+
+mod area;
+mod bytes;
+mod canonical;
+mod code;
+#[cfg(feature = "tokio-util")]
+mod codec;
+mod command;
+mod error;
+mod event;
+#[allow(unsafe_code)]
+mod ffi;
+mod lines;
+mod parameters;
+mod pending;
+mod received;
+mod reply;
+mod reply_decoder;
+
+pub use crate::bytes::{Password, RawBytes};
+pub use canonical::{canonical, forward};
+pub use code::{ReplyCode, UnknownCode};
+#[cfg(feature = "tokio-util")]
+pub use codec::{CodecError, FtpClientCodec, FtpCodec};
+pub use command::Command;
+pub use error::Error;
+pub use event::{Event, Refusal};
+pub use lines::LINE_LIMIT;
+pub use parameters::{AuthParam, ModeParam, Opt, ProtParam, StruParam};
+pub use pending::Pending;
+pub use received::ReceivedReply;
+pub use reply::{front_reply, reply, FrontReply, Reply};
+pub use reply_decoder::{ReplyDecoder, REPLY_LIMIT};
+
+/// The version of the C library: `major * 1_000_000 + minor * 1_000 + patch`.
+pub fn library_version() -> u32 {
+    ffi::version()
+}

@@ -1,0 +1,77 @@
+use std::borrow::Cow;
+use std::fmt::{self, Debug, Formatter};
+
+const CR_LF: &[u8] = b"\r\n";
+
+/// A reply that a client has received: a code, and its bytes as they came.
+#[derive(Clone, PartialEq, Eq)]
+pub struct ReceivedReply<'a> {
+    code: u16,
+    bytes: Cow<'a, [u8]>,
+}
+
+impl<'a> ReceivedReply<'a> {
+    /// The reply that has exactly these bytes.
+    pub(crate) fn borrowed(code: u16, bytes: &'a [u8]) -> ReceivedReply<'a> {
+        ReceivedReply { code, bytes: Cow::Borrowed(bytes) }
+    }
+}
+
+impl ReceivedReply<'_> {
+    /// Its code: any three digits, and so at most 999.
+    pub fn code(&self) -> u16 {
+        self.code
+    }
+
+    /// All its bytes, with the codes and the line ends.
+    pub fn bytes(&self) -> &[u8] {
+        &self.bytes
+    }
+
+    /// Its lines, of which there is at least one, without their CR LF (RFC 959, section 4.2). The
+    /// first line and the last are what comes after their code and the one byte that follows it;
+    /// those between are as they came, with a space that a server has put before them. A line ends
+    /// only at CR LF, and may have any bytes.
+    ///
+    /// ```
+    /// use unftp_control::ReplyDecoder;
+    ///
+    /// let mut decoder = ReplyDecoder::new();
+    /// decoder.push(b"211-Features:\r\n UTF8\r\n211 End\r\n")?;
+    /// let reply = decoder.next_reply()?.expect("it is complete");
+    /// let lines: Vec<&[u8]> = reply.lines().collect();
+    /// assert_eq!(lines, [&b"Features:"[..], b" UTF8", b"End"]);
+    /// # Ok::<(), unftp_control::Error>(())
+    /// ```
+    pub fn lines(&self) -> impl Iterator<Item = &[u8]> + '_ {
+        let mut rest = Some(self.bytes.strip_suffix(CR_LF).unwrap_or(&self.bytes));
+        let mut has_code = true;
+        std::iter::from_fn(move || {
+            let bytes = rest?;
+            let end = cr_lf_from(bytes, 0);
+            rest = end.map(|end| &bytes[end + CR_LF.len()..]);
+            let line = &bytes[..end.unwrap_or(bytes.len())];
+            let has_code = std::mem::take(&mut has_code) || rest.is_none();
+            // a first line may be just the code
+            Some(if has_code { line.get(4..).unwrap_or_default() } else { line })
+        })
+    }
+
+    /// The same reply, copied where it is borrowed.
+    pub fn into_owned(self) -> ReceivedReply<'static> {
+        ReceivedReply { code: self.code, bytes: Cow::Owned(self.bytes.into_owned()) }
+    }
+}
+
+/// Shows the lines, with what is not printable ASCII escaped.
+impl Debug for ReceivedReply<'_> {
+    fn fmt(&self, f: &mut Formatter<'_>) -> fmt::Result {
+        let lines: Vec<String> = self.lines().map(|line| line.escape_ascii().to_string()).collect();
+        f.debug_struct("ReceivedReply").field("code", &self.code).field("lines", &lines).finish()
+    }
+}
+
+/// Where the first CR LF from this place on begins.
+pub(crate) fn cr_lf_from(bytes: &[u8], from: usize) -> Option<usize> {
+    Some(from + bytes[from..].windows(2).position(|pair| pair == CR_LF)?)
+}

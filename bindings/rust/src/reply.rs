@@ -1,0 +1,152 @@
+use crate::area::written;
+use crate::code::ReplyCode;
+use crate::error::Error;
+use crate::ffi;
+use std::borrow::Cow;
+
+/// A reply of a server (RFC 959, section 4.2): a code, and a text of one line or of several.
+///
+/// Whatever the text holds, a client that reads by RFC 959 finds exactly this reply in its bytes. A
+/// line feed divides two lines, also one of a file name, and so never begins another reply; a
+/// carriage return is sent as it is.
+///
+/// ```
+/// use unftp_control::{Reply, ReplyCode};
+///
+/// let okay = Reply::new(ReplyCode::COMMAND_OKAY, "OK");
+/// assert_eq!(okay.to_bytes()?, b"200 OK\r\n");
+///
+/// let features = Reply::with_lines(ReplyCode::SYSTEM_STATUS, ["Features:", " UTF8", "End"]);
+/// assert_eq!(features.to_bytes()?, b"211-Features:\r\n UTF8\r\n211 End\r\n");
+/// # Ok::<(), unftp_control::Error>(())
+/// ```
+#[derive(Clone, Debug, PartialEq, Eq)]
+pub struct Reply {
+    code: ReplyCode,
+    text: Cow<'static, str>,
+}
+
+impl Reply {
+    /// A reply whose text is one line, or several that are divided by line feeds. A text of the
+    /// program's own is not copied.
+    pub fn new(code: ReplyCode, text: impl Into<Cow<'static, str>>) -> Reply {
+        Reply { code, text: text.into() }
+    }
+
+    /// A reply of these lines; of none, it is that of one empty line.
+    pub fn with_lines<L: AsRef<str>>(code: ReplyCode, lines: impl IntoIterator<Item = L>) -> Reply {
+        let mut text = String::new();
+        for (at, line) in lines.into_iter().enumerate() {
+            if at > 0 {
+                text.push('\n');
+            }
+            text.push_str(line.as_ref());
+        }
+        Reply::new(code, text)
+    }
+
+    /// Its code.
+    pub fn code(&self) -> ReplyCode {
+        self.code
+    }
+
+    /// Its lines, of which there is at least one.
+    pub fn lines(&self) -> impl Iterator<Item = &str> + '_ {
+        self.text.split('\n')
+    }
+
+    /// The bytes that are sent. Where a line before the last begins with a digit, a space is put
+    /// before it, so that no client takes it for the last one.
+    ///
+    /// # Errors
+    ///
+    /// [`Error::OutOfMemory`].
+    pub fn to_bytes(&self) -> Result<Vec<u8>, Error> {
+        written(self.room(), |out| self.write(out))
+    }
+
+    /// Appends the bytes that are sent, as `FtpCodec` does.
+    ///
+    /// # Errors
+    ///
+    /// [`Error::OutOfMemory`]; the buffer is then as it was.
+    #[cfg(feature = "tokio-util")]
+    pub fn encode(&self, buffer: &mut bytes::BytesMut) -> Result<(), Error> {
+        let start = buffer.len();
+        let mut room = self.room();
+        loop {
+            buffer.resize(start + room, 0);
+            match self.write(&mut buffer[start..]) {
+                (ffi::DONE, len) => {
+                    buffer.truncate(start + len);
+                    return Ok(());
+                }
+                (ffi::NO_ROOM, len) => room = len,
+                (status, _) => {
+                    buffer.truncate(start);
+                    return Err(Error::of_status(status));
+                }
+            }
+        }
+    }
+
+    /// How many bytes its bytes are at most.
+    fn room(&self) -> usize {
+        self.text.len() + 2 * self.text.matches('\n').count() + 10
+    }
+
+    /// Writes its bytes to the start of the area: what `unftp_reply` returns, and the length.
+    fn write(&self, out: &mut [u8]) -> (u32, usize) {
+        ffi::reply(u32::from(self.code.get()), &self.text, out)
+    }
+}
+
+/// The bytes of a reply of these lines: those of [`Reply::with_lines`].
+///
+/// ```
+/// use unftp_control::{reply, ReplyCode};
+///
+/// assert_eq!(reply(ReplyCode::SYSTEM_TYPE, ["UNIX Type: L8"])?, b"215 UNIX Type: L8\r\n");
+/// # Ok::<(), unftp_control::Error>(())
+/// ```
+///
+/// # Errors
+///
+/// [`Error::OutOfMemory`].
+pub fn reply<L: AsRef<str>>(
+    code: ReplyCode,
+    lines: impl IntoIterator<Item = L>,
+) -> Result<Vec<u8>, Error> {
+    Reply::with_lines(code, lines).to_bytes()
+}
+
+/// What is at the start of the bytes that a client has received.
+#[derive(Clone, Copy, Debug, PartialEq, Eq)]
+pub enum FrontReply {
+    /// A reply.
+    Whole {
+        /// Its code: any three digits.
+        code: u16,
+        /// How many bytes it takes.
+        used: usize,
+    },
+    /// Part of a reply, or nothing.
+    Partial,
+    /// A line that opens no reply.
+    Malformed,
+}
+
+/// Finds the reply at the start of what a client has received (RFC 959, section 4.2). It takes no
+/// memory, and searches from the start at each call; a [`ReplyDecoder`](crate::ReplyDecoder) goes
+/// on where it was.
+pub fn front_reply(bytes: &[u8]) -> FrontReply {
+    let (status, reply) = ffi::front_reply(bytes);
+    match (status, u16::try_from(reply.code)) {
+        (ffi::DONE, Ok(code)) => FrontReply::Whole { code, used: reply.used },
+        (ffi::MORE, _) => FrontReply::Partial,
+        (ffi::MALFORMED, _) => FrontReply::Malformed,
+        _ => {
+            unreachable!("unftp_front_reply finds a code of three digits, part of a reply or none")
+        }
+    }
+}

@@ -1,0 +1,284 @@
+//! The calls on inputs whose answers are known.
+use unftp_control::{
+    canonical, forward, front_reply, library_version, reply, Command, Error, Event, FrontReply,
+    Pending, Refusal, Reply, ReplyCode, ReplyDecoder, UnknownCode, LINE_LIMIT, REPLY_LIMIT,
+};
+
+fn command(command: Command) -> Option<Event> {
+    Some(Event::Command(command))
+}
+
+#[test]
+fn the_library_has_the_version_of_the_crate() {
+    let parts = env!("CARGO_PKG_VERSION").split('.').map(|part| part.parse::<u32>().unwrap());
+    assert_eq!(library_version(), parts.fold(0, |version, part| version * 1000 + part));
+}
+
+#[test]
+fn a_line_may_come_in_pieces() -> Result<(), Error> {
+    let mut pending = Pending::new();
+    for piece in [&b"re"[..], b"tr a", b"", b".txt\r"] {
+        pending.push(piece)?;
+        assert_eq!(pending.next_event()?, None);
+    }
+    pending.push(b"\nNOOP x\n")?;
+    assert_eq!(pending.next_event()?, command(Command::Retr { path: "a.txt".into() }));
+    let refused = Event::Refused(Refusal::InvalidCommand);
+    assert_eq!(pending.next_event()?, Some(refused));
+    assert_eq!(pending.next_event()?, None);
+    assert_eq!(pending.bytes(), b"");
+    Ok(())
+}
+
+#[test]
+fn names_and_values_may_have_any_length() -> Result<(), Error> {
+    let mut pending = Pending::with_limit(0);
+    for len in [1, 5000, 9000] {
+        let line = [b"x".repeat(len), b" ".to_vec(), vec![0xff; len], b"\r\n".to_vec()].concat();
+        pending.push(&line)?;
+        let (command_name, arguments) = ("X".repeat(len).into(), "\u{fffd}".repeat(len).into());
+        assert_eq!(pending.next_event()?, command(Command::Other { command_name, arguments }));
+    }
+    Ok(())
+}
+
+#[test]
+fn a_line_over_the_limit_is_refused() -> Result<(), Error> {
+    let mut pending = Pending::with_limit(6);
+    pending.push(b"NOOP\r\nNOOP \r\n")?;
+    assert_eq!(pending.next_event()?, command(Command::Noop));
+    assert_eq!(pending.next_event()?, Some(Event::Refused(Refusal::LineTooLong)));
+    for _ in 0..100 {
+        pending.push(b"0123456789")?;
+        assert_eq!(pending.next_event()?, None);
+        assert!(pending.bytes().len() <= 6);
+        assert!(pending.is_skipping());
+    }
+    pending.push(b"\nNOOP\n")?;
+    assert_eq!(pending.next_event()?, Some(Event::Refused(Refusal::LineTooLong)));
+    assert_eq!(pending.next_event()?, command(Command::Noop));
+    assert!(!pending.is_skipping());
+    Ok(())
+}
+
+#[test]
+fn there_is_a_limit_where_none_is_named() -> Result<(), Error> {
+    for (len, is_long) in [(LINE_LIMIT, false), (LINE_LIMIT + 1, true)] {
+        let mut pending = Pending::default();
+        let path = "a".repeat(len - 7);
+        pending.push(format!("RETR {path}\r\n").as_bytes())?;
+        let refused = Some(Event::Refused(Refusal::LineTooLong));
+        let retr = command(Command::Retr { path: path.into() });
+        assert_eq!(pending.next_event()?, if is_long { refused } else { retr });
+    }
+    Ok(())
+}
+
+#[test]
+fn the_line_has_what_its_command_drops() -> Result<(), Error> {
+    let mut pending = Pending::with_limit(10);
+    pending.push(b"TYPE A\r\nMODE s\r\nNOOP NOOP NOOP\r\nNO")?;
+    for line in [&b"TYPE A\r\n"[..], b"MODE s\r\n", b"", b""] {
+        pending.next_event()?;
+        assert_eq!(pending.line(), line);
+    }
+    pending.push(b"OP\n")?;
+    assert_eq!(pending.line(), b"");
+    pending.next_event()?;
+    assert_eq!(pending.line(), b"NOOP\n");
+    pending.clear();
+    assert_eq!(pending.line(), b"");
+    Ok(())
+}
+
+#[test]
+fn nothing_pending_is_read_after_clear() -> Result<(), Error> {
+    let mut pending = Pending::with_limit(9);
+    for input in [&b"AUTH TLS\nDELE a\r\nQU"[..], b"0123456789", b"NO"] {
+        pending.push(input)?;
+        pending.next_event()?;
+        pending.clear();
+        assert_eq!(pending.bytes(), b"");
+        assert_eq!(pending.next_event()?, None);
+        pending.push(b"NOOP\n")?;
+        assert_eq!(pending.next_event()?, command(Command::Noop));
+    }
+    Ok(())
+}
+
+#[test]
+fn debug_shows_no_pending_byte() -> Result<(), Error> {
+    let mut pending = Pending::new();
+    pending.push(b"PASS secret\r\n")?;
+    assert_eq!(format!("{pending:?}"), "Pending { len: 13, .. }");
+    Ok(())
+}
+
+#[test]
+fn a_reply_is_found_again() -> Result<(), Error> {
+    assert_eq!(reply(ReplyCode::COMMAND_OKAY, [""])?, b"200\r\n");
+    let mut bytes = reply(ReplyCode::SYSTEM_STATUS, ["211 x"; 100])?;
+    let (code, used) = (211, bytes.len());
+    assert_eq!(front_reply(&bytes[..used - 1]), FrontReply::Partial);
+    bytes.extend_from_slice(b"2");
+    assert_eq!(front_reply(&bytes), FrontReply::Whole { code, used });
+    assert_eq!(front_reply(b""), FrontReply::Partial);
+    assert_eq!(front_reply(b"OK\r\n"), FrontReply::Malformed);
+    Ok(())
+}
+
+#[test]
+fn a_reply_has_any_code_from_100_to_599() -> Result<(), Error> {
+    for number in 0..=u16::MAX {
+        let code = ReplyCode::new(number);
+        assert_eq!(code.is_some(), (100..=599).contains(&number));
+        assert_eq!(ReplyCode::try_from(number), code.ok_or(UnknownCode));
+        if let Some(code) = code {
+            assert_eq!((code.get(), u16::from(code)), (number, number));
+            let bytes = Reply::new(code, "a\nb").to_bytes()?;
+            assert_eq!(bytes, format!("{code}-a\r\n{code} b\r\n").as_bytes());
+            assert_eq!(code.is_positive(), (200..=399).contains(&number));
+        }
+    }
+    Ok(())
+}
+
+#[test]
+fn a_reply_of_lines_is_that_of_their_text() {
+    let code = ReplyCode::HELP_MESSAGE;
+    let none: [&str; 0] = [];
+    assert_eq!(Reply::with_lines(code, none), Reply::new(code, ""));
+    for text in ["", "a", "a\nb", "\n", "\n\n1\n"] {
+        let reply = Reply::new(code, text);
+        assert_eq!(Reply::with_lines(code, text.split('\n')), reply);
+        assert_eq!(reply.lines().collect::<Vec<_>>().join("\n"), text);
+        assert_eq!(reply.code(), code);
+    }
+}
+
+#[test]
+fn a_file_name_makes_no_other_reply() -> Result<(), Error> {
+    let reply = Reply::new(ReplyCode::DIR_CREATED, format!("\"{}\"", "a\r\n226 Done\r\nb"));
+    let bytes = reply.to_bytes()?;
+    let mut decoder = ReplyDecoder::new();
+    decoder.push(&bytes)?;
+    let received = decoder.next_reply()?.expect("it is complete");
+    assert_eq!((received.code(), received.bytes()), (257, &bytes[..]));
+    assert_eq!(decoder.next_reply()?, None);
+    Ok(())
+}
+
+#[test]
+fn a_reply_takes_no_more_than_its_bound() -> Result<(), Error> {
+    // a digit that begins a line before the last has a space put before it
+    for line in ["", "a", "1", "a\r"] {
+        for line_feeds in 1..20 {
+            let text = vec![line; line_feeds + 1].join("\n");
+            let bound = text.len() + 2 * line_feeds + 10;
+            let len = Reply::new(ReplyCode::SYSTEM_STATUS, text).to_bytes()?.len();
+            assert_eq!(len, if line == "1" { bound } else { bound - line_feeds });
+        }
+    }
+    Ok(())
+}
+
+#[test]
+fn a_reply_decoder_has_a_limit() -> Result<(), Error> {
+    for (len, is_long) in [(REPLY_LIMIT, false), (REPLY_LIMIT + 1, true)] {
+        let mut decoder = ReplyDecoder::default();
+        decoder.push(format!("220 {}\r\n", "a".repeat(len - 6)).as_bytes())?;
+        let found = decoder.next_reply().map(|reply| reply.map(|reply| reply.bytes().len()));
+        assert_eq!(found, if is_long { Err(Error::ReplyTooLong) } else { Ok(Some(len)) });
+    }
+    Ok(())
+}
+
+#[test]
+fn a_reply_decoder_finds_what_front_reply_does() -> Result<(), Error> {
+    let parts = ["211", "212", "-", " ", "a", "\r\n", "\r", "\n"];
+    let mut inputs = vec![String::new()];
+    for _ in 0..5 {
+        let longer = |input: &String| parts.map(|part| format!("{input}{part}"));
+        inputs = inputs.iter().flat_map(longer).collect();
+    }
+    for input in inputs.iter().map(|input| format!("211-{input}211 \r\n")) {
+        let mut decoder = ReplyDecoder::with_limit(0);
+        for (at, byte) in input.bytes().enumerate() {
+            decoder.push(&[byte])?;
+            let found = match decoder.next_reply() {
+                Ok(Some(reply)) => {
+                    FrontReply::Whole { code: reply.code(), used: reply.bytes().len() }
+                }
+                Ok(None) => FrontReply::Partial,
+                Err(_) => FrontReply::Malformed,
+            };
+            assert_eq!(found, front_reply(&input.as_bytes()[..=at]), "{input:?} to {at}");
+            if found != FrontReply::Partial {
+                break;
+            }
+        }
+    }
+    Ok(())
+}
+
+#[test]
+fn a_received_reply_shows_its_lines() -> Result<(), Error> {
+    let mut decoder = ReplyDecoder::new();
+    decoder.push(b"211-a\xff\r\n 1\r\n211 c\r\n")?;
+    let reply = decoder.next_reply()?.expect("it is complete");
+    let shown = r#"ReceivedReply { code: 211, lines: ["a\\xff", " 1", "c"] }"#;
+    assert_eq!(format!("{reply:?}"), shown);
+    assert_eq!(reply.clone().into_owned(), reply);
+    Ok(())
+}
+
+#[test]
+fn a_canonical_line_says_the_same() -> Result<(), Error> {
+    assert_eq!(canonical(b"xcwd a b\n")?, b"CWD a b\r\n");
+    assert_eq!(canonical(b"USER a\n\n"), Err(Error::NoLine));
+    assert_eq!(canonical(b"USER a\r\0\n"), Err(Error::Refused(Refusal::InvalidEol)));
+    Ok(())
+}
+
+#[test]
+fn a_forwarded_line_keeps_what_its_command_drops() -> Result<(), Error> {
+    assert_eq!(forward(b"type a\n")?, b"TYPE a\r\n");
+    assert_eq!(forward(b"LIST -la x\r\n")?, b"LIST -la x\r\n");
+    assert_eq!(forward(b"xcwd a\n")?, b"CWD a\r\n");
+    assert_eq!(forward(b"TYPE A"), Err(Error::NotALine));
+    assert_eq!(forward(b"NOOP x\r\n"), Err(Error::Refused(Refusal::InvalidCommand)));
+    Ok(())
+}
+
+#[test]
+fn texts_of_100_kb_go_through_each_call() -> Result<(), Error> {
+    let path = "a".repeat(100_000);
+    let line = format!("RETR {path}\r\n");
+    let mut pending = Pending::with_limit(0);
+    pending.push(line.as_bytes())?;
+    let retr = Command::Retr { path: path.as_str().into() };
+    assert_eq!(pending.next_event()?, command(retr));
+    assert_eq!(canonical(line.as_bytes())?, line.as_bytes());
+    let listing = format!("LIST -a {path}\r\n");
+    assert_eq!(forward(listing.as_bytes())?, listing.as_bytes());
+    let bytes = reply(ReplyCode::FILE_ACTION_OKAY, [&path])?;
+    assert_eq!(bytes, format!("250 {path}\r\n").as_bytes());
+    let (code, used) = (250, bytes.len());
+    assert_eq!(front_reply(&bytes), FrontReply::Whole { code, used });
+    Ok(())
+}
+
+#[test]
+fn texts_of_errors_are_short() {
+    for (error, text) in [
+        (Error::OutOfMemory, "out of memory"),
+        (Error::Refused(Refusal::LineTooLong), "line too long"),
+        (Error::NoLine, "no line gives this command"),
+        (Error::NotALine, "not one line"),
+        (Error::MalformedReply, "malformed reply"),
+        (Error::ReplyTooLong, "reply too long"),
+    ] {
+        assert_eq!(error.to_string(), text);
+    }
+    assert_eq!(UnknownCode.to_string(), "no reply has this code");
+}

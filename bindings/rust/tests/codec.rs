@@ -1,0 +1,310 @@
+//! The codecs for tokio, under `Framed` and by themselves.
+#![cfg(feature = "tokio-util")]
+mod common;
+
+use bytes::BytesMut;
+use common::{bytes, calls, limit, pieces, shown_decoded, shown_reply, sizes, without_lefts};
+use futures_util::{SinkExt, StreamExt};
+use std::io;
+use std::pin::Pin;
+use std::task::{Context, Poll};
+use tokio::io::{AsyncRead, AsyncWriteExt, ReadBuf};
+use tokio_util::codec::{Decoder, Encoder, Framed, FramedRead};
+use unftp_control::{
+    CodecError, Command, Error, Event, FtpClientCodec, FtpCodec, Refusal, Reply, ReplyCode,
+};
+
+/// A reader that gives one piece after the other, and then the end or an error.
+struct Pieces<'a> {
+    pieces: std::vec::IntoIter<&'a [u8]>,
+    error: Option<io::ErrorKind>,
+}
+
+impl<'a> Pieces<'a> {
+    fn new(pieces: Vec<&'a [u8]>) -> Pieces<'a> {
+        Pieces { pieces: pieces.into_iter(), error: None }
+    }
+}
+
+impl AsyncRead for Pieces<'_> {
+    fn poll_read(
+        mut self: Pin<&mut Self>,
+        _: &mut Context<'_>,
+        buffer: &mut ReadBuf<'_>,
+    ) -> Poll<io::Result<()>> {
+        if let Some(mut piece) = self.pieces.next() {
+            if piece.len() > buffer.remaining() {
+                let (now, later) = piece.split_at(buffer.remaining());
+                let mut pieces = vec![later];
+                pieces.extend(self.pieces.by_ref());
+                self.pieces = pieces.into_iter();
+                piece = now;
+            }
+            buffer.put_slice(piece);
+        } else if let Some(error) = self.error {
+            return Poll::Ready(Err(error.into()));
+        }
+        Poll::Ready(Ok(()))
+    }
+}
+
+/// The events of a stream of pieces, and what its end is: how many bytes are left.
+async fn events_of(limit: usize, pieces: Vec<&[u8]>) -> String {
+    let mut framed = FramedRead::new(Pieces::new(pieces), FtpCodec::with_limit(limit));
+    let mut parts = Vec::new();
+    let mut end = "left=0".to_string();
+    while let Some(event) = framed.next().await {
+        match event {
+            Ok(event) => parts.push(shown_decoded(&event)),
+            Err(CodecError::Incomplete { left }) => {
+                assert_eq!(framed.read_buffer().len(), left);
+                end = format!("left={left}{}", if left == 0 { " skipping" } else { "" });
+            }
+            Err(error) => panic!("{error}"),
+        }
+    }
+    parts.push(end);
+    parts.join(" | ")
+}
+
+#[tokio::test]
+async fn any_pieces_give_the_events_of_the_vectors() {
+    for file in ["decode.tsv", "client_streams.tsv", "worked.tsv"] {
+        for (at, (words, answer)) in calls(file, &["decode"]).into_iter().enumerate() {
+            let input: Vec<u8> = words[1..].iter().flat_map(|word| bytes(word)).collect();
+            for size in sizes(&input) {
+                let events = events_of(limit(&words[0]), pieces(&input, size, at as u64)).await;
+                assert_eq!(events, without_lefts(&answer), "{words:?} by {size}");
+            }
+        }
+    }
+}
+
+#[tokio::test]
+async fn any_pieces_give_the_replies_of_the_vectors() {
+    for (at, (words, answer)) in calls("server_replies.tsv", &["read"]).into_iter().enumerate() {
+        let stream = bytes(&words[0]);
+        for size in sizes(&stream) {
+            let pieces = Pieces::new(pieces(&stream, size, at as u64));
+            let mut framed = FramedRead::new(pieces, FtpClientCodec::with_limit(0));
+            let (mut replies, mut end) = (Vec::new(), " rest=0".to_string());
+            while let Some(reply) = framed.next().await {
+                match reply {
+                    Ok(reply) => replies.push(shown_reply(&reply)),
+                    Err(CodecError::Incomplete { left }) => end = format!(" rest={left}"),
+                    Err(CodecError::Control(Error::MalformedReply)) => {
+                        end = format!(" rest={} malformed", framed.read_buffer().len());
+                        break;
+                    }
+                    Err(error) => panic!("{error}"),
+                }
+            }
+            let (wanted, _) = answer.split_once(" malformed").unwrap_or((&answer, ""));
+            let found = replies.join(";") + &end;
+            match answer.ends_with("malformed") {
+                // the error comes with the line, where bytes after it may not be read
+                true => assert!(found.ends_with(" malformed"), "{words:?} by {size}"),
+                false => assert_eq!(found, wanted, "{words:?} by {size}"),
+            }
+        }
+    }
+}
+
+#[tokio::test]
+async fn a_bad_line_costs_only_itself() {
+    let input =
+        b"NOOP\r\nNOOP x\r\nPWD\r\n\xff\r\nSYST\r\nUSER a\rb\r\nFEAT\r\nRETR a.txt\r\nQUIT\r\n";
+    let framed = FramedRead::new(&input[..], FtpCodec::with_limit(10));
+    let events: Vec<_> = framed.map(|event| event.expect("no error")).collect().await;
+    let command = Event::Command;
+    let expected = [
+        command(Command::Noop),
+        Event::Refused(Refusal::InvalidCommand),
+        command(Command::Pwd),
+        Event::Refused(Refusal::InvalidUtf8),
+        command(Command::Syst),
+        Event::Refused(Refusal::InvalidEol),
+        command(Command::Feat),
+        Event::Refused(Refusal::LineTooLong),
+        command(Command::Quit),
+    ];
+    assert_eq!(events, expected);
+}
+
+#[tokio::test]
+async fn the_end_within_a_line_is_an_error_that_loses_nothing() {
+    let mut framed = FramedRead::new(&b"NOOP\r\nREST x\r\nQUI"[..], FtpCodec::new());
+    let noop = framed.next().await.expect("a line").expect("no error");
+    assert_eq!(noop, Event::Command(Command::Noop));
+    let refused = framed.next().await.expect("a line").expect("no error");
+    assert_eq!(refused, Event::Refused(Refusal::InvalidCommand));
+    let end = framed.next().await.expect("an error").expect_err("no event");
+    assert!(matches!(end, CodecError::Incomplete { left: 3 }), "{end:?}");
+    let text = "the input ended within a line or a reply, after 3 bytes of it";
+    assert_eq!(end.to_string(), text);
+    assert!(framed.next().await.is_none());
+    assert_eq!(framed.read_buffer(), &b"QUI"[..]);
+}
+
+#[tokio::test]
+async fn the_end_after_a_line_is_no_error() {
+    for input in [&b""[..], b"NOOP\r\n", b"NOOP\n\n"] {
+        let framed = FramedRead::new(input, FtpCodec::new());
+        let events: Vec<_> = framed.map(|event| event.expect("no error")).collect().await;
+        assert_eq!(events.len(), input.iter().filter(|byte| **byte == b'\n').count());
+    }
+}
+
+#[tokio::test]
+async fn the_end_within_a_line_that_is_too_long_is_an_error() {
+    let mut framed = FramedRead::new(&b"NOOP\r\n0123456789"[..], FtpCodec::with_limit(6));
+    assert!(framed.next().await.expect("a line").is_ok());
+    let end = framed.next().await.expect("an error").expect_err("no event");
+    assert!(matches!(end, CodecError::Incomplete { left: 0 }), "{end:?}");
+}
+
+#[tokio::test]
+async fn no_more_than_the_limit_is_kept() {
+    let line = b"0123456789".repeat(100_000);
+    let input = [&line[..], b"\r\nNOOP\r\n"].concat();
+    let mut framed = FramedRead::new(&input[..], FtpCodec::with_limit(100));
+    let first = framed.next().await.expect("a line").expect("no error");
+    assert_eq!(first, Event::Refused(Refusal::LineTooLong));
+    assert!(framed.read_buffer().capacity() < 100_000);
+    let second = framed.next().await.expect("a line").expect("no error");
+    assert_eq!(second, Event::Command(Command::Noop));
+}
+
+#[tokio::test]
+async fn an_error_of_the_reader_is_the_errors_source() {
+    let mut reader = Pieces::new(vec![b"NOOP\r\nQU"]);
+    reader.error = Some(io::ErrorKind::ConnectionReset);
+    let mut framed = FramedRead::new(reader, FtpCodec::new());
+    assert!(framed.next().await.expect("a line").is_ok());
+    let error = framed.next().await.expect("an error").expect_err("no event");
+    assert!(
+        matches!(&error, CodecError::Io(error) if error.kind() == io::ErrorKind::ConnectionReset)
+    );
+    assert!(std::error::Error::source(&error).is_some());
+    assert_eq!(framed.read_buffer(), &b"QU"[..]);
+}
+
+#[test]
+fn the_pending_bytes_stay_where_they_are() {
+    let mut codec = FtpCodec::new();
+    let mut input = BytesMut::from("RETR a.txt\r\nNOOP\r\nQU");
+    let start = input.as_ptr() as usize;
+    for (left, at) in [(8, 12), (2, 18), (2, 18)] {
+        codec.decode(&mut input).expect("memory is there");
+        assert_eq!((input.len(), input.as_ptr() as usize - start), (left, at));
+    }
+    input.extend_from_slice(b"IT\r\n");
+    assert_eq!(codec.decode(&mut input).unwrap(), Some(Event::Command(Command::Quit)));
+}
+
+#[test]
+fn no_text_of_a_codec_has_a_password() {
+    let text = |line: &str| {
+        let mut codec = FtpCodec::new();
+        assert!(codec.decode(&mut BytesMut::from(line)).unwrap().is_some());
+        format!("{codec:?} {:?}", FramedRead::new(tokio::io::empty(), codec.clone()))
+    };
+    assert_eq!(text("PASS a\r\n"), text("PASS secret\r\n"));
+}
+
+#[test]
+fn a_buffer_that_was_cleared_is_read_from_its_start() {
+    let mut codec = FtpCodec::new();
+    let mut input = BytesMut::from("AUTH");
+    assert_eq!(codec.decode(&mut input).unwrap(), None);
+    input.clear();
+    input.extend_from_slice(b"\r\n");
+    assert!(codec.decode(&mut input).unwrap().is_some());
+
+    let mut codec = FtpClientCodec::new();
+    let mut input = BytesMut::from("220-a\r\n220");
+    assert_eq!(codec.decode(&mut input).unwrap(), None);
+    input.clear();
+    input.extend_from_slice(b"331 b\r\n");
+    assert_eq!(codec.decode(&mut input).unwrap().map(|reply| reply.code()), Some(331));
+}
+
+#[test]
+fn replies_are_appended() {
+    let mut codec = FtpCodec::new();
+    let mut sent = BytesMut::new();
+    let mut expected = Vec::new();
+    for (words, answer) in calls("encode.tsv", &["encode"]) {
+        let words: Vec<&str> = words.iter().map(String::as_str).collect();
+        let Some(reply) = common::cases::read_reply(&words) else { continue };
+        reply.encode(&mut sent).expect("memory is there");
+        codec.encode(reply, &mut sent).expect("memory is there");
+        expected.extend(bytes(&answer).repeat(2));
+    }
+    assert_eq!(sent, expected);
+}
+
+#[test]
+fn a_line_that_is_no_line_of_a_command_is_not_sent() {
+    let mut codec = FtpClientCodec::new();
+    let mut sent = BytesMut::from("NOOP\r\n");
+    for (line, wanted) in [
+        (&b"RETR a\r\nDELE b\r\n"[..], Error::NotALine),
+        (b"RETR a", Error::NotALine),
+        (b"NOOP x\r\n", Error::Refused(Refusal::InvalidCommand)),
+    ] {
+        match codec.encode(line, &mut sent) {
+            Err(CodecError::Control(error)) => assert_eq!(error, wanted),
+            other => panic!("{other:?}"),
+        }
+    }
+    codec.encode(b"type a\n", &mut sent).expect("it is a line");
+    assert_eq!(sent, &b"NOOP\r\nTYPE a\r\n"[..]);
+}
+
+#[test]
+fn a_reply_over_the_limit_is_an_error() {
+    let mut codec = FtpClientCodec::with_limit(10);
+    let mut input = BytesMut::from("220 read\r\n220 ready\r\n");
+    assert!(codec.decode(&mut input).unwrap().is_some());
+    let error = codec.decode(&mut input).expect_err("it is too long");
+    assert!(matches!(error, CodecError::Control(Error::ReplyTooLong)), "{error:?}");
+    assert_eq!(input, "220 ready\r\n");
+}
+
+#[tokio::test]
+async fn a_client_and_a_server_talk() -> Result<(), CodecError> {
+    let (near, far) = tokio::io::duplex(7);
+    let server = tokio::spawn(async move {
+        let mut server = Framed::new(far, FtpCodec::new());
+        server.send(Reply::new(ReplyCode::SERVICE_READY, "Ready")).await?;
+        while let Some(event) = server.next().await {
+            let reply = match event? {
+                Event::Command(Command::Feat) => {
+                    Reply::with_lines(ReplyCode::SYSTEM_STATUS, ["Features:", " UTF8", "End"])
+                }
+                Event::Command(_) => Reply::new(ReplyCode::COMMAND_OKAY, "OK"),
+                Event::Refused(why) => Reply::new(ReplyCode::COMMAND_SYNTAX_ERROR, why.to_string()),
+            };
+            server.feed(reply).await?;
+            server.flush().await?;
+        }
+        Ok::<(), CodecError>(())
+    });
+    let mut client = Framed::new(near, FtpClientCodec::new());
+    let mut replies = vec![client.next().await.expect("a greeting")?];
+    client.send(b"FEAT\r\n").await?;
+    replies.push(client.next().await.expect("a reply")?);
+    for line in [&b"noop\n"[..], b"RETR a.txt\r\n"] {
+        client.send(line).await?;
+        replies.push(client.next().await.expect("a reply")?);
+    }
+    client.get_mut().write_all(b"NOOP x\r\n").await?;
+    replies.push(client.next().await.expect("a reply")?);
+    drop(client);
+    server.await.expect("the server ends")?;
+    let codes: Vec<u16> = replies.iter().map(|reply| reply.code()).collect();
+    assert_eq!(codes, [220, 211, 200, 200, 500]);
+    assert!(replies[1].lines().eq([&b"Features:"[..], b" UTF8", b"End"]));
+    Ok(())
+}

@@ -1,0 +1,233 @@
+//! Each command by its variant and fields.
+mod common;
+
+use std::borrow::Cow;
+use unftp_control::{
+    AuthParam, Command, Event, ModeParam, Opt, Password, Pending, ProtParam, RawBytes, Refusal,
+    StruParam,
+};
+
+/// The event of a line.
+fn event_of(line: &[u8]) -> Event<'static> {
+    let mut pending = Pending::with_limit(0);
+    pending.push(line).expect("memory is there");
+    let event = pending.next_event().expect("memory is there").expect("the line is complete");
+    event.into_owned()
+}
+
+fn command_of(line: &[u8]) -> Command<'static> {
+    match event_of(line) {
+        Event::Command(command) => command,
+        Event::Refused(refusal) => panic!("{}: {refusal}", line.escape_ascii()),
+    }
+}
+
+/// A line for each of the 44 variants, in the order of their numbers, and others where a field may
+/// be missing or has a few values.
+fn commands() -> Vec<(&'static str, Command<'static>)> {
+    use Command::*;
+    vec![
+        ("user Dolores\r\n", User { username: b"Dolores".into() }),
+        ("USER\r\n", User { username: b"".into() }),
+        ("PASS secr3t\r\n", Pass { password: b"secr3t".into() }),
+        ("ACCT a\r\n", Acct { account: b"a".into() }),
+        ("SYST\r\n", Syst),
+        ("STAT /\r\n", Stat { path: Some(b"/".into()) }),
+        ("STAT\r\n", Stat { path: None }),
+        ("TYPE A N\r\n", Type),
+        ("STRU F\r\n", Stru { structure: StruParam::File }),
+        ("STRU R\r\n", Stru { structure: StruParam::Record }),
+        ("STRU P\r\n", Stru { structure: StruParam::Page }),
+        ("MODE S\r\n", Mode { mode: ModeParam::Stream }),
+        ("MODE B\r\n", Mode { mode: ModeParam::Block }),
+        ("MODE C\r\n", Mode { mode: ModeParam::Compressed }),
+        ("HELP RETR\r\n", Help),
+        ("NOOP\r\n", Noop),
+        ("PASV\r\n", Pasv),
+        ("EPSV ALL\r\n", Epsv),
+        ("PORT 127,0,0,1,4,0\r\n", Port { addr: "127,0,0,1,4,0".into() }),
+        ("RETR a b\r\n", Retr { path: "a b".into() }),
+        ("STOR a\r\n", Stor { path: "a".into() }),
+        ("APPE a\r\n", Appe { path: "a".into() }),
+        ("LIST -la x\r\n", List { options: None, path: Some("x".into()) }),
+        ("LIST -a\r\n", List { options: None, path: None }),
+        ("NLST x\r\n", Nlst { path: Some("x".into()) }),
+        ("NLST\r\n", Nlst { path: None }),
+        ("MLST x\r\n", Mlst { path: Some("x".into()) }),
+        ("MLSD x\r\n", Mlsd { path: Some("x".into()) }),
+        ("FEAT\r\n", Feat),
+        ("XPWD\r\n", Pwd),
+        ("XCWD /a\r\n", Cwd { path: "/a".into() }),
+        ("CDUP\r\n", Cdup),
+        ("OPTS UTF8 ON\r\n", Opts { option: Opt::Utf8 { on: true } }),
+        ("OPTS utf8 off\r\n", Opts { option: Opt::Utf8 { on: false } }),
+        ("DELE a\r\n", Dele { path: "a".into() }),
+        ("RMD a\r\n", Rmd { path: "a".into() }),
+        ("BYE\r\n", Quit),
+        ("XMKD a\r\n", Mkd { path: "a".into() }),
+        ("ALLO 5 R 3\r\n", Allo),
+        ("ABOR\r\n", Abor),
+        ("STOU\r\n", Stou),
+        ("RNFR a\r\n", Rnfr { file: "a".into() }),
+        ("RNTO b\r\n", Rnto { file: "b".into() }),
+        ("AUTH tls\r\n", Auth { protocol: AuthParam::Tls }),
+        ("AUTH SSL\r\n", Auth { protocol: AuthParam::Ssl }),
+        ("CCC\r\n", Ccc),
+        ("PBSZ 0\r\n", Pbsz),
+        ("PROT C\r\n", Prot { param: ProtParam::Clear }),
+        ("PROT S\r\n", Prot { param: ProtParam::Safe }),
+        ("PROT E\r\n", Prot { param: ProtParam::Confidential }),
+        ("PROT P\r\n", Prot { param: ProtParam::Private }),
+        ("SIZE a\r\n", Size { file: "a".into() }),
+        ("REST +18446744073709551615\r\n", Rest { offset: u64::MAX }),
+        ("MDTM a\r\n", Mdtm { file: "a".into() }),
+        ("SITE MD5 a\r\n", Md5 { file: "a".into() }),
+        ("site chmod 644 a\r\n", Site { command: "CHMOD".into(), arguments: "644 a".into() }),
+        ("clnt x y\r\n", Other { command_name: "CLNT".into(), arguments: "x y".into() }),
+        ("\r\n", Other { command_name: "".into(), arguments: "".into() }),
+    ]
+}
+
+#[test]
+fn each_variant_has_its_fields() {
+    for (line, command) in commands() {
+        assert_eq!(command_of(line.as_bytes()), command, "{line:?}");
+    }
+}
+
+#[test]
+fn all_44_variants_are_reached() {
+    let mut variants: Vec<_> = commands()
+        .into_iter()
+        .map(|(line, _)| std::mem::discriminant(&command_of(line.as_bytes())))
+        .collect();
+    variants.dedup();
+    assert_eq!(variants.len(), 44);
+}
+
+#[test]
+fn an_owned_event_is_equal() {
+    for (line, _) in commands() {
+        let mut pending = Pending::new();
+        pending.push(line.as_bytes()).expect("memory is there");
+        let event = pending.next_event().expect("memory is there").expect("the line is complete");
+        assert_eq!(event.clone().into_owned(), event);
+    }
+    let refused = Event::Refused(Refusal::InvalidCommand);
+    assert_eq!(refused.clone().into_owned(), refused);
+}
+
+#[test]
+fn what_is_borrowed_is_not_copied() {
+    let mut pending = Pending::new();
+    pending.push(b"SITE a b\r\nUSER c\r\n").expect("memory is there");
+    let event = pending.next_event().expect("memory is there");
+    let Some(Event::Command(Command::Site { command, arguments })) = event else {
+        panic!("{event:?}");
+    };
+    assert!(matches!((command, arguments), (Cow::Borrowed("A"), Cow::Borrowed("b"))));
+    let event = pending.next_event().expect("memory is there");
+    let Some(Event::Command(Command::User { username })) = event else { panic!("{event:?}") };
+    assert_eq!(username.into_vec(), b"c");
+}
+
+#[test]
+fn bytes_are_as_they_were_sent_and_texts_are_utf8() {
+    let user = Command::User { username: b"caf\xe9\r".into() };
+    assert_eq!(command_of(b"USER caf\xe9\r\0\r\n"), user);
+    let stat = Command::Stat { path: Some(b"\xff".into()) };
+    assert_eq!(command_of(b"STAT \xff\n"), stat);
+    assert_eq!(command_of(b"RETR a\xffb\n"), Command::Retr { path: "a\u{fffd}b".into() });
+    let other = Command::Other { command_name: "ß".into(), arguments: "\u{fffd}".into() };
+    assert_eq!(command_of(b"\xc3\x9f \xff\r\n"), other);
+}
+
+#[test]
+fn each_refusal_has_its_reason() {
+    for (line, refusal) in [
+        (&b"REST 18446744073709551616\r\n"[..], Refusal::InvalidCommand),
+        (b"NOOP x\r\n", Refusal::InvalidCommand),
+        (b"MODE s\r\n", Refusal::InvalidCommand),
+        (b"SITE MD5\r\n", Refusal::InvalidCommand),
+        (b"AUTH \xff\r\n", Refusal::InvalidUtf8),
+        (b"SITE \xff\r\n", Refusal::InvalidUtf8),
+        (b"\xff\r\n", Refusal::InvalidUtf8),
+        (b"USER a\rb\r\n", Refusal::InvalidEol),
+    ] {
+        assert_eq!(event_of(line), Event::Refused(refusal), "{}", line.escape_ascii());
+    }
+}
+
+#[test]
+fn debug_shows_the_variant_and_its_fields() {
+    for (line, debug) in [
+        (&b"USER a\xff\"b\r\n"[..], r#"User { username: "a\xff\"b" }"#),
+        (b"ACCT a\r\n", r#"Acct { account: "a" }"#),
+        (b"STAT /\r\n", r#"Stat { path: Some("/") }"#),
+        (b"RETR a\r\n", r#"Retr { path: "a" }"#),
+        (b"NOOP\r\n", "Noop"),
+        (b"PASS secret\r\n", "Pass { password: Password { bytes: ******* } }"),
+    ] {
+        assert_eq!(format!("{:?}", command_of(line)), debug);
+    }
+}
+
+/// What each form of a value that has a Debug text is, under each of the formatter's flags.
+macro_rules! debug_texts {
+    ($value:expr) => {
+        [
+            format!("{:?}", $value),
+            format!("{:#?}", $value),
+            format!("{:x?}", $value),
+            format!("{:#X?}", $value),
+            format!("{:>99?}", $value),
+            format!("{:-^+#099.3?}", $value),
+            format!("{:.0?}", $value),
+        ]
+    };
+}
+
+#[test]
+fn no_text_depends_on_a_password() {
+    let texts = |password: &[u8]| {
+        let line = [b"PASS ", password, b"\r\n"].concat();
+        let mut pending = Pending::new();
+        pending.push(&line).expect("memory is there");
+        let mut texts = Vec::new();
+        let event = pending.next_event().expect("memory is there").expect("it is a line");
+        texts.extend(debug_texts!(event));
+        let Event::Command(command) = event.into_owned() else { panic!("it is a command") };
+        texts.extend(debug_texts!(command));
+        let Command::Pass { password } = command else { panic!("it is PASS") };
+        texts.extend(debug_texts!(password));
+        texts.extend([format!("{password}"), format!("{password:>60}"), format!("{password:.3}")]);
+        texts.extend(debug_texts!(pending));
+        texts
+    };
+    assert_eq!(texts(b"secret"), texts(b"\xff"));
+    assert_eq!(texts(b"secret"), texts(b""));
+    assert_eq!(debug_texts!(Password::from(b"a")), ["Password { bytes: ******* }"; 7]);
+}
+
+#[test]
+fn passwords_are_what_the_vectors_say() {
+    for (words, answer) in common::calls("worked.tsv", &["password"]) {
+        let bytes = common::bytes(&words[0]);
+        let password = Password::from(&bytes);
+        let shown = common::shown::quoted(password.as_bytes());
+        let texts = format!("\"{password}\" alike \"{password:?}\" alike bytes={shown}");
+        assert_eq!(texts, answer);
+    }
+}
+
+#[test]
+fn raw_bytes_compare_with_all_that_are_bytes() {
+    let bytes = RawBytes::from(b"ab");
+    assert_eq!(bytes, b"ab");
+    assert_eq!(bytes, b"ab"[..]);
+    assert_eq!(bytes, "ab");
+    assert_eq!(bytes, b"ab".to_vec());
+    assert_eq!(bytes, RawBytes::from(b"ab".to_vec()));
+    assert_ne!(bytes, "a");
+    assert_eq!(bytes.len(), 2);
+}

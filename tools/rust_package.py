@@ -1,0 +1,340 @@
+#!/usr/bin/env python3
+"""Makes the checks of tools/rust_package that are no test of the package itself, most of them on its server.
+
+usage: tools/rust_package.py codes              the package's codes of replies are the header's
+       tools/rust_package.py memory PRELOAD REPLAY     the answer at each failed allocation: PRELOAD is tools/fail_allocation.c
+       tools/rust_package.py session SERVER     lines in pieces, bad ones among them
+       tools/rust_package.py urgent SERVER      an ABOR whose end is urgent data
+       tools/rust_package.py late SERVER        the last reply, whatever is sent after QUIT
+       tools/rust_package.py idle SERVER        clients that send too little
+       tools/rust_package.py limit SERVER       more connections than may be open
+       tools/rust_package.py stop SERVER        sessions that are open at a signal
+       tools/rust_package.py curl|lftp|ncftp|tnftp SERVER     a login, NOOP and QUIT of a real client
+       tools/rust_package.py speed SERVER [COUNT [CONNECTIONS]]  NOOPs a second
+
+The last line says what was compared; the status is 0 where all is right.
+"""
+
+import os
+import pathlib
+import re
+import signal
+import socket
+import subprocess
+import sys
+import tempfile
+import threading
+import time
+
+TOP = pathlib.Path(__file__).resolve().parent.parent
+HOST = "127.0.0.1"
+# how many seconds the server may run, and how long it and a client may take to answer
+LIFE, PATIENCE = 60, 10
+PIECES = [1, 61, 3, 1021, 7, 509]
+LINE_LIMIT = 8192
+
+GREETING = b"220 Ready\r\n"
+OK = b"200 OK\r\n"
+BYE = b"221 Bye\r\n"
+MISSING = b"502 Not implemented\r\n"
+
+
+class Wrong(Exception):
+    """A check failed."""
+
+
+def wants(what, found, expected):
+    if found != expected:
+        raise Wrong(f"{what}: it has {found!r}, and not {expected!r}")
+
+
+class Server:
+    """The server while it runs. `timeout` ends it, even where this script was killed before it could, and hands each signal on to it."""
+
+    def __init__(self, program, *arguments):
+        limited = ["timeout", "--foreground", "--kill-after=1", str(LIFE), program, "0", *map(str, arguments)]
+        self.process = subprocess.Popen(limited, stdout=subprocess.PIPE, start_new_session=True)
+
+    def __enter__(self):
+        self.port = int(self.process.stdout.readline())
+        return self
+
+    def __exit__(self, *_):
+        try:
+            os.killpg(self.process.pid, signal.SIGKILL)
+        except ProcessLookupError:
+            pass  # none is left
+        self.process.communicate()
+
+    def connect(self):
+        connection = socket.create_connection((HOST, self.port), PATIENCE)
+        connection.setsockopt(socket.IPPROTO_TCP, socket.TCP_NODELAY, 1)
+        return connection
+
+    def greeted(self):
+        """A connection after its greeting."""
+        connection = self.connect()
+        wants("the greeting", receive(connection, len(GREETING)), GREETING)
+        return connection
+
+
+
+def receive(connection, count=None):
+    """So many bytes, or all up to the end."""
+    received = b""
+    while count is None or len(received) < count:
+        piece = connection.recv(65536 if count is None else count - len(received))
+        if not piece:
+            break
+        received += piece
+    return received
+
+
+def send_pieces(connection, sent, size=None):
+    turn = 0
+    while sent:
+        end = size or PIECES[turn % len(PIECES)]
+        connection.sendall(sent[:end])
+        sent = sent[end:]
+        turn += 1
+
+
+def check_codes():
+    """The names and numbers of enum unftp_code, and those of ReplyCode."""
+    found = [
+        dict(re.findall(pattern, (TOP / path).read_text(encoding="utf-8"), re.M))
+        for path, pattern in [
+            ("include/unftp_control.h", r"^    UNFTP_CODE_(\w+) = (\d+)"),
+            ("bindings/rust/src/code.rs", r'^    (\w+) = (\d+) "'),
+        ]
+    ]
+    wants("code.rs beside the header", set(found[1].items()) ^ set(found[0].items()), set())
+    wants("whether there are codes", len(found[0]) > 0, True)
+    return f"{len(found[0])} codes"
+
+
+CASE, ANSWER = 'parse\t"RETR a\\r\\0b\\r\\n"\n', 'ok Retr path="a\\rb"\n'
+
+
+def check_memory(preload, program):
+    """Each allocation that fails is no matter, or ends the program by an error of the package or by Rust itself."""
+    errors, ended, number = 0, 0, 1
+    while number < 1000:
+        environment = os.environ | {"LD_PRELOAD": preload, "FAIL_AT": str(number), "RUST_BACKTRACE": "0"}
+        run = subprocess.run([program], input=CASE, env=environment, capture_output=True, text=True, timeout=PATIENCE)
+        if run.stderr == "replay: out of memory\n":
+            errors += 1
+        elif "memory allocation of" in run.stderr:
+            ended += 1
+        else:
+            wants(f"at allocation {number}", (run.returncode, run.stdout), (0, ANSWER))
+            if errors:
+                break
+        number += 1
+    wants("whether an allocation of the library failed", errors > 1, True)
+    return f"{errors} times out of memory, and {ended} times in Rust itself"
+
+
+SESSION = [
+    (b"pwd\r\n", b"530 Not logged in\r\n"),
+    (b"PASS secret\r\n", b"503 USER comes first\r\n"),
+    (b"user anna\n", b"331 Password required\r\n"),
+    (b"PASS secr\xff\r\0\r\n", b"230 Logged in\r\n"),
+    (b"NOOP x\r\n", b"500 invalid command\r\n"),
+    (b"NOOP\r\n", OK),
+    (b"\xff\r\n", b"500 non-UTF-8 character in command\r\n"),
+    (b"RETR a\rb\r\n", b"500 invalid end of line\r\n"),
+    (b"XPWD\r\n", b'257 "/" is the directory\r\n'),
+    (b"x" * LINE_LIMIT + b"\r\n", b"500 line too long\r\n"),
+    (b"RETR " + b"x" * (LINE_LIMIT - 7) + b"\r\n", MISSING),
+    (b"x" * 100_000 + b"\n", b"500 line too long\r\n"),
+    (b"TYPE A\r\n", OK),
+    (b"SYST\r\n", b"215 UNIX Type: L8\r\n"),
+    (b"FEAT\r\n", b"211-Features:\r\n UTF8\r\n211 End\r\n"),
+    (b"\r\n", MISSING),
+    (b"SITE CHMOD 644 a\r\n", MISSING),
+    (b"BYE\r\n", BYE),
+]
+
+
+def check_session(program):
+    lines = b"".join(line for line, _ in SESSION)
+    replies = GREETING + b"".join(reply for _, reply in SESSION)
+    with Server(program) as server:
+        for size in [None, len(lines), 4096, 1000, 61]:
+            with server.connect() as connection:
+                sender = threading.Thread(target=send_pieces, args=(connection, lines, size), daemon=True)
+                sender.start()
+                wants(f"the session in pieces of {size}", receive(connection), replies)
+                sender.join()
+        short = [(line, reply) for line, reply in SESSION if len(line) < 100]
+        with server.greeted() as connection:
+            # each byte by itself, and its reply before the next line
+            for line, reply in short:
+                send_pieces(connection, line, 1)
+                wants(f"the reply to {line!r}", receive(connection, len(reply)), reply)
+            wants("the end after QUIT", receive(connection), b"")
+        with server.greeted() as connection:
+            connection.sendall(b"NOOP\r\nQUI")
+            connection.shutdown(socket.SHUT_WR)
+            wants("a session that ends within a line", receive(connection), OK)
+    return f"{len(SESSION)} lines in pieces of 6 kinds"
+
+
+def check_urgent(program):
+    with Server(program) as server, server.greeted() as connection:
+        for _ in range(20):
+            connection.send(b"ABOR\r\n", socket.MSG_OOB)
+            wants("the reply to an urgent ABOR", receive(connection, len(MISSING)), MISSING)
+            connection.sendall(b"NOOP\r\n")
+            wants("the reply to NOOP after it", receive(connection, len(OK)), OK)
+    return "20 urgent commands answered"
+
+
+def check_late(program):
+    with Server(program) as server:
+        for _ in range(20):
+            with server.connect() as connection:
+                connection.sendall(b"QUIT\r\n" + b"NOOP\r\n" * 10_000)
+                wants("what comes before the end", receive(connection), GREETING + BYE)
+    return "20 sessions ended by their last reply"
+
+
+def check_idle(program):
+    late, idle = b"421 Idle too long\r\n", 2
+    with Server(program, idle) as server:
+        begun = time.monotonic()
+        with server.greeted() as silent, server.greeted() as slow, server.greeted() as busy:
+            while time.monotonic() < begun + 2 * idle:
+                busy.sendall(b"NOOP\r\n")
+                wants("a client that is not idle", receive(busy, len(OK)), OK)
+                if time.monotonic() < begun + idle / 2:
+                    slow.sendall(b"N")
+                time.sleep(0.2)
+            wants("a client that sends a part of a line", receive(slow), late)
+            wants("a client that sends nothing", receive(silent), late)
+    return "3 clients"
+
+
+def check_limit(program):
+    full = b"421 Too many connections\r\n"
+    with Server(program, PATIENCE, 2) as server:
+        with server.greeted() as first, server.greeted():
+            with server.connect() as third:
+                wants("the third connection", receive(third), full)
+            first.sendall(b"NOOP\r\nQUIT\r\n")
+            wants("the first connection beside it", receive(first), OK + BYE)
+        deadline = time.monotonic() + PATIENCE
+        while time.monotonic() < deadline:
+            with server.connect() as another:
+                if receive(another, len(GREETING)) == GREETING:
+                    return "3 connections, and another in the place of the first"
+    raise Wrong("no connection is taken in the place of one that ended")
+
+
+def check_stop(program):
+    for number in [signal.SIGINT, signal.SIGTERM]:
+        with Server(program) as server, server.greeted() as idle, server.greeted() as busy:
+            busy.sendall(b"NOOP\r\nNO")
+            wants("a reply before the signal", receive(busy, len(OK)), OK)
+            server.process.send_signal(number)
+            for connection in [idle, busy]:
+                wants("the last reply", receive(connection), b"421 Stopping\r\n")
+                connection.close()
+            wants("the status", server.process.wait(PATIENCE), 0)
+    return "2 sessions ended at each of 2 signals"
+
+
+def codes(text, mark=""):
+    """The codes of the replies that a client shows."""
+    return re.findall(rf"^{mark}([1-5][0-9][0-9])(?=[ :])", text, re.MULTILINE)
+
+
+def run_client(arguments, typed=""):
+    with tempfile.TemporaryDirectory() as home:
+        environment = {"HOME": home, "NCFTPDIR": home, "LC_ALL": "C", "TERM": "dumb", "PATH": os.environ["PATH"]}
+        run = subprocess.run(arguments, input=typed, env=environment, cwd=home, capture_output=True, text=True, timeout=PATIENCE)
+    return run.stdout, run.stderr
+
+
+def talk_by_curl(port):
+    _, err = run_client(["curl", "-q", "-sS", "-v", "-I", "-Q", "NOOP", "-Q", "QUIT", "-u", "anna:secret", f"ftp://{HOST}:{port}/"])
+    return codes(err, "< ")
+
+
+def talk_by_lftp(port):
+    typed = f"set ftp:ssl-allow no\nopen -u anna,secret -p {port} {HOST}\nquote NOOP\nclose\n"
+    _, err = run_client(["lftp", "--norc", "-d"], typed)
+    return codes(err, "<--- ")
+
+
+def talk_by_ncftp(port):
+    out, _ = run_client(["ncftp"], f"debug 1\nopen -u anna -p secret -P {port} {HOST}\nquote NOOP\nquit\n")
+    return codes(out)
+
+
+def talk_by_tnftp(port):
+    out, _ = run_client(["tnftp", "-n", "-v", "-i"], f"open {HOST} {port}\nuser anna secret\nquote NOOP\nquit\n")
+    return codes(out)
+
+
+def check_client(talk, program):
+    with Server(program) as server:
+        found = talk(server.port)
+    logged_in = found.index("230") if "230" in found else -1
+    if found[:1] != ["220"] or logged_in < 0 or "200" not in found[logged_in:] or found[-1:] != ["221"]:
+        raise Wrong(f"the client has the replies {found}")
+    return f"{len(found)} replies"
+
+
+def check_speed(program, count="100000", connections="4"):
+    """Each connection sends all of its lines while it reads."""
+    lines, replies = b"NOOP\r\n" * int(count), int(count) * len(OK)
+    with Server(program) as server:
+        sockets = [server.connect() for _ in range(int(connections))]
+        for each in sockets:
+            each.recv(4096)  # the greeting
+        begun = time.monotonic()
+        threads = [threading.Thread(target=each.sendall, args=(lines,), daemon=True) for each in sockets]
+        threads += [threading.Thread(target=receive, args=(each, replies), daemon=True) for each in sockets]
+        for thread in threads:
+            thread.start()
+        for thread in threads:
+            thread.join()
+        taken = time.monotonic() - begun
+    return f"{int(count) * len(sockets) / taken:,.0f} NOOPs a second in {connections} connections"
+
+
+CHECKS = {
+    "codes": check_codes,
+    "memory": check_memory,
+    "session": check_session,
+    "urgent": check_urgent,
+    "late": check_late,
+    "idle": check_idle,
+    "limit": check_limit,
+    "stop": check_stop,
+    "curl": lambda program: check_client(talk_by_curl, program),
+    "lftp": lambda program: check_client(talk_by_lftp, program),
+    "ncftp": lambda program: check_client(talk_by_ncftp, program),
+    "tnftp": lambda program: check_client(talk_by_tnftp, program),
+    "speed": check_speed,
+}
+
+
+def main():
+    if len(sys.argv) < 2 or sys.argv[1] not in CHECKS or (len(sys.argv) == 2) != (sys.argv[1] == "codes"):
+        print(__doc__, file=sys.stderr)
+        return 2
+    for number in [signal.SIGHUP, signal.SIGTERM]:
+        signal.signal(number, lambda number, _: sys.exit(128 + number))
+    try:
+        print(CHECKS[sys.argv[1]](*sys.argv[2:]))
+    except (Wrong, OSError, subprocess.SubprocessError, ValueError) as error:
+        print(error)
+        return 1
+    return 0
+
+
+if __name__ == "__main__":
+    sys.exit(main())
