@@ -123,7 +123,7 @@ module _ (replies : List FtpReply) (readable : AllByRecursion IsReadable replies
       let show = ap (map Some) same.0 ∙ all_read replies readable in
       (show, same_length (all_taken steps) replies show, same.1)
 
--- Lines that are written anew.
+-- Lines that are rewritten.
 pub canonical-keeps : (line : Bytes) → IsLine line → (answer : Answer) → outcome line ≡ answer
     → IsLine (canonical_if_read line answer)
     × (outcome (canonical_if_read line answer) ≡ outcome line)

@@ -42,7 +42,7 @@ farewell = record {
   done = λ quit. quit;
 }
 
--- Each complete line of an input is written anew, as by a proxy.
+-- Each complete line of an input is rewritten, as by a proxy.
 abbrev pub rewritten : (Bytes → Bytes) → Bytes → Bytes
 rewritten rewrite input = concat (map rewrite (lines_of input)) ++ incomplete_line input
 

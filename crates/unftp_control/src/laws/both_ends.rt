@@ -43,7 +43,7 @@ pub fn conversation<H: Handler>()
         × (pending ≡ []) }
 {}
 
-/// A proxy that writes each line anew changes nothing: neither the events of the input, nor what a
+/// A proxy that rewrites each line changes nothing: neither the events of the input, nor what a
 /// server writes. The canonical line does, and so does the line that `forward` writes; a line that is
 /// refused is sent as it is.
 pub fn canonical_lines_change_nothing<H: Handler>()

@@ -42,7 +42,7 @@ pub fn lines_are_answered_so()
         (replies farewell false (Command Noop ∷ Command Quit ∷ [])) }
 {}
 
-/// Lines that are written anew, and a line that doesn't keep its meaning.
+/// Lines that are rewritten, and a line that doesn't keep its meaning.
 pub fn lines_are_rewritten_so()
     ensures canonical { rewritten canonical_of (codes "noop \ntype a\nNOOP x\nQU")
         ≡ codes "NOOP\r\nTYPE I\r\nNOOP x\nQU" }
