@@ -127,22 +127,22 @@ module _ (replies : List FtpReply) (readable : AllByRecursion IsReadable replies
 pub canonical-keeps : (line : Bytes) → IsLine line → (answer : Answer) → outcome line ≡ answer
     → IsLine (canonical_if_read line answer)
     × (outcome (canonical_if_read line answer) ≡ outcome line)
-canonical-keeps line is_line (Ok command) read =
-    let has = HasLine-outcome line command is_line read in (
+canonical-keeps line is_line (Ok command) means =
+    let has = HasLine-outcome line command is_line means in (
       IsLine-canonical_line command has,
-      outcome-canonical_line command has (HasTypedFields-outcome line command is_line read)
-          ∙ sym read,
+      outcome-canonical_line command has (HasTypedFields-outcome line command is_line means)
+          ∙ sym means,
     )
-canonical-keeps line is_line (Err refusal) read = (is_line, refl)
+canonical-keeps line is_line (Err refusal) means = (is_line, refl)
 
 pub forwarded-keeps : (line : Bytes) → IsLine line → (answer : Answer) → outcome line ≡ answer
     → IsLine (forwarded_if_read line answer)
     × (outcome (forwarded_if_read line answer) ≡ outcome line)
-forwarded-keeps line is_line (Ok command) read = (
-  IsLine-forwarded_line line command is_line read,
-  outcome-forwarded_line line command is_line read ∙ sym read,
+forwarded-keeps line is_line (Ok command) means = (
+  IsLine-forwarded_line line command is_line means,
+  outcome-forwarded_line line command is_line means ∙ sym means,
 )
-forwarded-keeps line is_line (Err refusal) read = (is_line, refl)
+forwarded-keeps line is_line (Err refusal) means = (is_line, refl)
 
 module _ (rewrite : Bytes → Bytes) (keeps : KeepsMeaning rewrite) where
   all_lines : (lines : List Bytes) → AllByRecursion IsLine lines

@@ -1,22 +1,21 @@
 -- A client that sends lines and takes replies, and a server that answers each line: what each
 -- understands of the other (RFC 959, sections 4.2 and 5.3).
-use Rattle.std.specs.Prelude.{◌≡◌, ◌≢◌, ℕ, Bool, false, ◌||◌, if◌then◌else◌, [], List, ◌++◌, flat_map, length, map, Option, Some, Ok, Err}
+use Rattle.std.specs.Prelude.{◌≡◌, ◌≢◌, ℕ, false, List, ◌++◌, flat_map, length, map, Option, Some, Ok, Err}
 use Rattle.std.specs.List.{concat}
 use Rattle.unftp_control_defs.specs.Bytes.{Bytes}
 use Rattle.unftp_control_defs.specs.Canonical.{canonical_line, HasLine}
-use Rattle.unftp_control_defs.specs.Events.{FtpEvent, Command, Refused, exceeds, is_quit}
+use Rattle.unftp_control_defs.specs.Events.{exceeds}
 use Rattle.unftp_control_defs.specs.Forwarded.{forwarded_line}
 use Rattle.unftp_control_defs.specs.FtpCommand.{Answer, FtpCommand, HasTypedFields}
-use Rattle.unftp_control_defs.specs.FtpReply.{FtpReply, CodeAndMsg, IsPlain, Nothing, reply_as_read}
+use Rattle.unftp_control_defs.specs.FtpReply.{FtpReply, IsPlain, Nothing, reply_as_read}
 use Rattle.unftp_control_defs.specs.Lines.{IsLine, lines_of, incomplete_line}
 use Rattle.unftp_control_defs.specs.Outcome.{outcome}
-use Rattle.unftp_control_defs.specs.Run.{Law}
 
 -- what a client sends for these commands: their canonical lines
 abbrev pub sent : List FtpCommand → Bytes
 sent commands = flat_map canonical_line commands
 
--- The command has a line, which is within the server's limit.
+-- The command has a line, and fields of their types, and its line is within the server's limit.
 abbrev pub CanBeSent : Option ℕ → FtpCommand → Type 0
 CanBeSent limit command = HasLine command × HasTypedFields command
     × (exceeds limit (length (canonical_line command)) ≡ false)
@@ -28,19 +27,6 @@ IsReadable reply = IsPlain reply × (reply ≢ Nothing)
 -- What a client has read is what these replies show: one for each, at its place.
 abbrev pub Show : List (ℕ × List Bytes) → List FtpReply → Type 0
 Show read replies = map Some read ≡ map reply_as_read replies
-
--- a handler for examples, whose state is whether QUIT came
-abbrev pub farewell_reply : FtpEvent → FtpReply
-farewell_reply (Refused fault) = CodeAndMsg 500 []
-farewell_reply (Command command) = CodeAndMsg (if is_quit (Command command) then 221 else 200) []
-
-abbrev pub farewell : Law Bool
-farewell = record {
-  says = λ _ event. farewell_reply event;
-  next = λ quit event. quit || is_quit event;
-  may_fail = λ _ _ _. ⊥;
-  done = λ quit. quit;
-}
 
 -- Each complete line of an input is rewritten, as by a proxy.
 abbrev pub rewritten : (Bytes → Bytes) → Bytes → Bytes

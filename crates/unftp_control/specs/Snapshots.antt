@@ -1,9 +1,9 @@
 -- A handler and snapshots for the examples.
-use Rattle.std.specs.Prelude.{◌≡◌, ℕ, ◌+◌, ◌==◌, false, Option, Some, codes}
+use Rattle.std.specs.Prelude.{◌≡◌, ℕ, ◌+◌, ◌==◌, ◌||◌, Bool, false, if◌then◌else◌, [], Option, Some, codes}
 use Rattle.unftp_control_defs.specs.Bytes.{Bytes}
-use Rattle.unftp_control_defs.specs.Events.{FtpEvent, Command, out_of_memory}
+use Rattle.unftp_control_defs.specs.Events.{FtpEvent, Command, Refused, is_quit, out_of_memory}
 use Rattle.unftp_control_defs.specs.FtpCommand.{Noop}
-use Rattle.unftp_control_defs.specs.FtpReply.{CodeAndMsg, Nothing}
+use Rattle.unftp_control_defs.specs.FtpReply.{FtpReply, CodeAndMsg, Nothing}
 use Rattle.unftp_control_defs.specs.Run.{Law}
 use Rattle.unftp_control_serve.specs.Endings.{Snapshot}
 use Rattle.unftp_control_serve.specs.Engine.{EngineState}
@@ -33,6 +33,19 @@ silent = record {
   next = counting.next;
   may_fail = counting.may_fail;
   done = counting.done;
+}
+
+-- It answers 221 to QUIT, after which it is done, 500 to a refused line, and 200 to any other.
+abbrev pub farewell_reply : FtpEvent → FtpReply
+farewell_reply (Refused fault) = CodeAndMsg 500 []
+farewell_reply (Command command) = CodeAndMsg (if is_quit (Command command) then 221 else 200) []
+
+abbrev pub farewell : Law Bool
+farewell = record {
+  says = λ _ event. farewell_reply event;
+  next = λ quit event. quit || is_quit event;
+  may_fail = λ _ _ _. ⊥;
+  done = λ quit. quit;
 }
 
 abbrev pub noop : FtpEvent

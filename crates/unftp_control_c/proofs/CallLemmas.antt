@@ -6,7 +6,7 @@ use Rattle.unftp_control_defs.specs.NameAndValue.{command_number}
 use Rattle.unftp_control_defs.specs.Outcome.{outcome}
 use Rattle.unftp_control_codecs.specs.LineFeed.{line_feed_from}
 use Rattle.unftp_control_c.specs.declared.status.Status.TheVariants.{More, NoRoom, OutOfMemory, InvalidArgument}
-use Rattle.unftp_control_c.specs.Next.{Call, Left, Leaves, answered, by_line_feed, ended, gives, incomplete, is_long, is_valid, kept, line_of, next_of, area_text}
+use Rattle.unftp_control_c.specs.Next.{Call, Left, Leaves, answered, by_line_feed, ended, gives, incomplete, is_long, is_valid, kept, lengths_of, next_of, area_text}
 use Rattle.unftp_control_c.specs.Numbers.{refusal_status, status_number}
 use Rattle.unftp_control_c.specs.Taking.{gives_none}
 
@@ -27,7 +27,7 @@ without_room call command = record {
   result = status_number NoRoom;
   connection = call.connection;
   area = call.area;
-  line = line_of 0 command;
+  line = lengths_of 0 command;
 }
 
 -- what a call leaves, by its result
@@ -35,7 +35,7 @@ pub data NextLeft (call : Call) (left : Left) : Type 0 where
   invalid : is_valid call.connection (length call.bytes) ≡ false → left ≡ kept call InvalidArgument
       → NextLeft call left
   asks : line_feed_from call.bytes call.connection.offset ≡ None → left.result ≡ status_number More
-      → NextLeft call left
+      → left ≡ incomplete call → NextLeft call left
   gave : gives_none left.result ≡ false → 0 < left.line.used → NextLeft call left
   no_room : (k : ℕ) (command : FtpCommand) → is_valid call.connection (length call.bytes) ≡ true
       → line_feed_from call.bytes call.connection.offset ≡ Some k
@@ -51,8 +51,8 @@ module _ (call : Call) where
 
   left_waiting : feed ≡ None → (long : Bool) → is_long call.connection (length call.bytes + 1)
       ≡ long → NextLeft call (incomplete call)
-  left_waiting none true e = rw e (asks none refl)
-  left_waiting none false e = rw e (asks none refl)
+  left_waiting none true e = rw e (asks none refl (rw e refl))
+  left_waiting none false e = rw e (asks none refl (rw e refl))
 
   left_command : (k : ℕ) (command : FtpCommand) → valid ≡ true → feed ≡ Some k
       → is_long call.connection (k + 1) ≡ false → outcome (take (k + 1) call.bytes) ≡ Ok command

@@ -19,7 +19,8 @@ use Rattle.unftp_control_line_parser.specs.Memory.{MayTakeMemory}
 use Rattle.unftp_control_codecs.proofs.LineFeedLemmas.{line_feed_at}
 use Rattle.unftp_control_c.specs.declared.status.Status.TheVariants.{More, OutOfMemory}
 use Rattle.unftp_control_c.specs.Numbers.{fault_status, keeps_bytes, refusal_status}
-use Rattle.unftp_control_c.specs.Next.{Call, Leaves, LineMayTakeMemory, by_line_feed, ended, gives, incomplete, is_long, is_valid, left_by, line_limit, next_of, reported, used_up}
+use Rattle.unftp_control_c.specs.Answered.{left_by, reported}
+use Rattle.unftp_control_c.specs.Next.{Call, Leaves, LineMayTakeMemory, by_line_feed, ended, gives, incomplete, is_long, is_valid, line_limit, next_of, used_up}
 
 -- the codec that goes on where the caller's last call stopped
 abbrev pub codec_of : Call → Codec
@@ -135,13 +136,14 @@ module _ (call : Call) (new : Codec) (taken : ℕ) where
       by_long false e (inr h) = absurd (let refused = h.0 in cc)
 
   -- a refusal, or memory ran out
-  pub refusal_left : (error : KindAndSource) → (¬ IsOutOfMemory (Err error) → Counted)
+  pub refusal_left : (error : KindAndSource)
+      → is_valid call.connection (length call.bytes) ≡ true → (¬ IsOutOfMemory (Err error) → Counted)
       → (o : Option ℕ) → line_feed_from call.bytes call.connection.offset ≡ o → Says o (Err error)
       → ((by_line_feed call o ≡ used_up call (fault_status (fault_of error)) taken new.place
       new.skipping) × (keeps_bytes (fault_status (fault_of error)) ≡ false))
       ⊎ (LineMayTakeMemory call × (fault_status (fault_of error) ≡ OutOfMemory))
-  refusal_left error counted None at says = absurd (let none = says.0 in cc)
-  refusal_left error counted (Some k) at says = by_long (is_long call.connection (k + 1)) refl says
+  refusal_left error valid counted None at says = absurd (let none = says.0 in cc)
+  refusal_left error valid counted (Some k) at says = by_long (is_long call.connection (k + 1)) refl says
     where
       too_long : is_long call.connection (k + 1) ≡ true → fault_of error ≡ line_too_long
           → taken ≡ k + 1 → new.place ≡ 0 → new.skipping ≡ false
@@ -177,7 +179,7 @@ module _ (call : Call) (new : Codec) (taken : ℕ) where
                 ∙ refusal_uses read.0,
           )
       by_long false e (inr h) =
-          inr ((k, at, e, h.1), status_out_of_memory error (ran_out (Err error) h.0))
+          inr ((k, valid, at, e, h.1), status_out_of_memory error (ran_out (Err error) h.0))
 
   abbrev feed : Option ℕ
   feed = line_feed_from call.bytes call.connection.offset
@@ -203,7 +205,7 @@ module _ (call : Call) (new : Codec) (taken : ℕ) where
         inl (sym (next_valid ∙ none_left within (rw is at counted (λ out. out)) feed
         (rw is at decodes)))
     leaves (Err error) is =
-        by_cases (refusal_left error (rw is at counted) feed refl (rw is at decodes))
+        by_cases (refusal_left error valid (rw is at counted) feed refl (rw is at decodes))
       where
         by_cases : ((by_line_feed call feed ≡ used_up call (fault_status (fault_of error)) taken
             new.place new.skipping) × (keeps_bytes (fault_status (fault_of error)) ≡ false))

@@ -6,15 +6,12 @@ use Rattle.unftp_control_defs.specs.Events.{exceeds}
 use Rattle.unftp_control_defs.specs.NameAndValue.{name_and_value, command_number}
 use Rattle.unftp_control_defs.specs.Outcome.{outcome}
 use Rattle.unftp_control_line_parser.specs.Memory.{MayTakeMemory}
-use Rattle.unftp_control_command.specs.CommandMeaning.{command_of}
-use Rattle.unftp_control_reply.specs.ErrorMeaning.{fault_of}
 use Rattle.unftp_control_codecs.specs.LineFeed.{line_feed_from}
-use Rattle.unftp_control_codecs.specs.Decoding.{Decoded}
 use Rattle.unftp_control_c.specs.declared.next.Connection.{Connection}
 use Rattle.unftp_control_c.specs.declared.next.Line.{Line}
 use Rattle.unftp_control_c.specs.declared.status.Status.{Status}
 use Rattle.unftp_control_c.specs.declared.status.Status.TheVariants.{More, LineTooLong, OutOfMemory, NoRoom, InvalidArgument}
-use Rattle.unftp_control_c.specs.Numbers.{status_number, fault_status, keeps_bytes, refusal_status}
+use Rattle.unftp_control_c.specs.Numbers.{status_number, refusal_status}
 use Rattle.unftp_control_c.specs.Areas.{overwritten}
 
 pub record Call : Type 0 where
@@ -55,8 +52,8 @@ resumed connection offset skipping = record {
 }
 
 -- nothing is used up, and no name and value are given
-abbrev pub no_line : Line
-no_line = record { used = 0; name_len = 0; value_len = 0 }
+abbrev pub no_lengths : Line
+no_lengths = record { used = 0; name_len = 0; value_len = 0 }
 
 -- so many bytes are used up, and no name and value are given
 abbrev pub used_up : Call → Status → ℕ → ℕ → Bool → Left
@@ -73,7 +70,7 @@ kept call status = record {
   result = status_number status;
   connection = call.connection;
   area = call.area;
-  line = no_line;
+  line = no_lengths;
 }
 
 -- no line is complete: the bytes stay, or are dropped where the line is too long already
@@ -94,8 +91,8 @@ abbrev pub area_text : FtpCommand → Bytes
 area_text command = name_of command ++ value_of_command command
 
 -- so many bytes are used up, and these are the lengths of the command's name and value
-abbrev pub line_of : ℕ → FtpCommand → Line
-line_of n command = record {
+abbrev pub lengths_of : ℕ → FtpCommand → Line
+lengths_of n command = record {
   used = n;
   name_len = length (name_of command);
   value_len = length (value_of_command command);
@@ -109,13 +106,13 @@ gives connection area n command = if nat_le (length (area_text command)) (length
       result = command_number command;
       connection = resumed connection 0 false;
       area = overwritten (area_text command) area;
-      line = line_of n command;
+      line = lengths_of n command;
     }
     else record {
       result = status_number NoRoom;
       connection = connection;
       area = area;
-      line = line_of 0 command;
+      line = lengths_of 0 command;
     }
 
 abbrev pub answered : Call → ℕ → Answer → Left
@@ -140,23 +137,10 @@ next_of call = if is_valid call.connection (length call.bytes)
 
 -- a complete line that may take memory
 abbrev pub LineMayTakeMemory : Call → Type 0
-LineMayTakeMemory call = (k : ℕ) × (line_feed_from call.bytes call.connection.offset ≡ Some k)
+LineMayTakeMemory call = (k : ℕ) × (is_valid call.connection (length call.bytes) ≡ true)
+    × (line_feed_from call.bytes call.connection.offset ≡ Some k)
     × (is_long call.connection (k + 1) ≡ false) × MayTakeMemory (take (k + 1) call.bytes)
 
 abbrev pub Leaves : Call → Left → Type 0
 Leaves call left = (left ≡ next_of call)
     ⊎ (LineMayTakeMemory call × (left ≡ kept call OutOfMemory))
-
--- a status that the codec's answer has, after it has taken so many bytes; it goes on at the offset
-abbrev pub reported : Call → Status → ℕ → ℕ → Bool → Left
-reported call status taken offset skipping = if keeps_bytes status
-    then kept call status
-    else used_up call status taken offset skipping
-
--- what the codec's answer leaves
-abbrev pub left_by : Call → Decoded → ℕ → ℕ → Bool → Left
-left_by call (Ok (Some command)) taken offset skipping =
-    gives call.connection call.area taken (command_of command)
-left_by call (Ok None) taken offset skipping = used_up call More taken offset skipping
-left_by call (Err error) taken offset skipping =
-    reported call (fault_status (fault_of error)) taken offset skipping

@@ -52,6 +52,7 @@ pub fn some_lines_may_take_memory()
     ensures no_value { ¬ LineMayTakeMemory (a_call (codes "NOOP\n") 0 0 0 []) }
     ensures no_line { ¬ LineMayTakeMemory (a_call (codes "RETR a") 0 0 0 []) }
     ensures too_long { ¬ LineMayTakeMemory (a_call (codes "RETR a\n") 0 0 6 []) }
+    ensures no_such_call { ¬ LineMayTakeMemory (a_call (codes "RETR a\n") 0 2 0 []) }
 {}
 
 /// Texts that areas have room for or not.

@@ -1,6 +1,6 @@
 //! What the calls promise one after the other, and what is given says: each the contract of a
 //! function that does nothing.
-ghost use Rattle.std.specs.Prelude.{◌≡◌, ◌+◌, ◌++◌, ◌⊎◌, ℕ, List, Option, true, map, length};
+ghost use Rattle.std.specs.Prelude.{◌≡◌, ◌<◌, ◌≤◌, ◌+◌, ◌++◌, ◌⊎◌, ℕ, List, Option, true, false, map, length};
 ghost use Rattle.unftp_control_defs.specs.Bytes.{Bytes};
 ghost use Rattle.unftp_control_defs.specs.Canonical.{HasLine};
 ghost use Rattle.unftp_control_defs.specs.Events.{Command, Fault, Refused, event_for, events};
@@ -37,12 +37,25 @@ pub fn calls_are_made_again()
         → Leaves (call_of caller area) left
         → (left.result ≡ status_number NoRoom) ⊎ (left.result ≡ status_number OutOfMemory)
         → after_call caller left ≡ caller }
-    // An area of the lengths that a call without room reports has room.
+    // With an area of the lengths that a call without room reports, or a greater one, the next call
+    // gives the line, or has no memory.
     ensures room { (caller : Caller) (area wider : Bytes) (left again : Left)
         → Leaves (call_of caller area) left → left.result ≡ status_number NoRoom
-        → length wider ≡ left.line.name_len + left.line.value_len
+        → left.line.name_len + left.line.value_len ≤ length wider
         → Leaves (call_of caller wider) again
-        → gives_none again.result ≡ true → again.result ≡ status_number OutOfMemory }
+        → (again.result ≡ status_number OutOfMemory) ⊎ (gives_none again.result ≡ false) }
+{}
+
+/// With a limit, fewer bytes than it allows stay pending where a call asks for more; and no call
+/// changes the limit.
+pub fn pending_bytes_are_bounded()
+    ensures fewer { (caller : Caller) (area : Bytes) (left : Left)
+        → Leaves (call_of caller area) left → left.result ≡ status_number More
+        → 1 ≤ caller.connection.limit
+        → length (after_call caller left).bytes < caller.connection.limit }
+    ensures limit { (caller : Caller) (area : Bytes) (left : Left)
+        → Leaves (call_of caller area) left
+        → left.connection.limit ≡ caller.connection.limit }
 {}
 
 /// What is given says the event.

@@ -2,7 +2,8 @@
 ghost use Rattle.std.specs.Prelude.{◌≡◌, ◌==◌};
 ghost use Rattle.unftp_control_defs.specs.Bytes.{Bytes};
 ghost use Rattle.unftp_control_command.specs.CommandMeaning.{command_of};
-ghost use Rattle.unftp_control_c.specs.Next.{Leaves, gives, is_valid, left_by, line_limit, no_line, reported};
+ghost use Rattle.unftp_control_c.specs.Answered.{left_by, reported};
+ghost use Rattle.unftp_control_c.specs.Next.{Leaves, gives, is_valid, line_limit, no_lengths};
 
 use crate::areas::overwrite_both;
 use crate::status::{Status, fault_status};
@@ -105,7 +106,7 @@ fn leave(
     area: &mut [u8],
     line: &mut Line,
 ) -> u32
-    requires { line.old ≡ no_line }
+    requires { line.old ≡ no_lengths }
     ensures { (bytes : Bytes) → record {
       result = result;
       connection = connection.new;
@@ -132,7 +133,7 @@ fn report(
     connection: &mut Connection,
     line: &mut Line,
 ) -> u32
-    requires { line.old ≡ no_line }
+    requires { line.old ≡ no_lengths }
     ensures { (bytes area : Bytes) → record {
       result = result;
       connection = connection.new;

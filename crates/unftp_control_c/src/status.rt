@@ -32,7 +32,8 @@ pub enum Status {
     Malformed = 109,
     /// No reply has this code.
     UnknownCode = 110,
-    /// The offset is past the pending bytes, or is not 0 while bytes are skipped.
+    /// The offset is past the pending bytes, or is not 0 while bytes are skipped, or the flag is
+    /// greater than 1.
     InvalidArgument = 111,
 }
 

@@ -13,10 +13,11 @@ ghost use Rattle.unftp_control.specs.Conversation.{CanBeSent, IsReadable, KeepsM
 use unftp_control_serve::Handler;
 
 /// A client that writes lines and takes replies, and a server that answers its input, understand each
-/// other, whatever the pieces in either direction: the commands arrive in their order, and the client
-/// reads exactly one reply for each line of the run, at its place what the handler said to the line
-/// there. A refused line costs one reply, as any other. What the server writes is `text_for`, by the
-/// contract of `serve`; where its run ends, `one_run` says (RFC 959, sections 4.2 and 5.3).
+/// other, whatever the pieces in either direction: the commands arrive in their order; and where each
+/// reply is sent and plain, the client reads exactly one for each line of the run, at its place what
+/// the handler said to the line there. So a refused line costs one reply, as any other. What the
+/// server writes is `text_for`, by the contract of `serve`; where its run ends, `one_run` says (RFC
+/// 959, sections 4.2 and 5.3).
 pub fn conversation<H: Handler>()
     // The canonical lines of the commands are these commands; and any lines are one event each.
     ensures commands { (limit : Option ℕ) (commands : List FtpCommand)
@@ -43,9 +44,9 @@ pub fn conversation<H: Handler>()
         × (pending ≡ []) }
 {}
 
-/// A proxy that rewrites each line changes nothing: neither the events of the input, nor what a
-/// server writes. The canonical line does, and so does the line that `forward` writes; a line that is
-/// refused is sent as it is.
+/// A proxy that rewrites each line as one that means the same changes nothing: neither the events of
+/// the input, nor what a server writes. Such are the canonical line of a command, and the line that
+/// `forward` writes for it; a line that is refused is sent as it is.
 pub fn canonical_lines_change_nothing<H: Handler>()
     ensures canonical { KeepsMeaning canonical_of }
     ensures forwarded { KeepsMeaning forwarded_of }
@@ -60,6 +61,12 @@ pub fn canonical_lines_change_nothing<H: Handler>()
     ensures written { (rewrite : Bytes → Bytes) (s : H.State) (input : Bytes)
         → KeepsMeaning rewrite
         → text_for None H.law s (rewritten rewrite input) ≡ text_for None H.law s input }
+    ensures written_within { (rewrite : Bytes → Bytes) (limit : ℕ) (s : H.State) (input : Bytes)
+        → KeepsMeaning rewrite
+        → AllByRecursion (λ line. (length line ≤ limit) × (length (rewrite line) ≤ limit))
+        (lines_of input)
+        → text_for (Some limit) H.law s (rewritten rewrite input)
+        ≡ text_for (Some limit) H.law s input }
     ensures incomplete { (rewrite : Bytes → Bytes) (input : Bytes) → KeepsMeaning rewrite
         → incomplete_line (rewritten rewrite input) ≡ incomplete_line input }
 {}

@@ -6,12 +6,12 @@ use Rattle.unftp_control_c.proofs.examples.some_lines_may_take_memory.Goals as g
 
 pub returns-clause-path : goal.returns-clause-path
 unfolding is_utf8 chars lib.Utf8.encode
-returns-clause-path c = (6, refl, refl, (refl, refl))
+returns-clause-path c = (6, refl, refl, refl, (refl, refl))
 
 pub returns-clause-no_value : goal.returns-clause-no_value
 unfolding is_utf8 chars lib.Utf8.encode
 returns-clause-no_value c = λ given.
     let may = subst (λ k. MayTakeMemory (take (k + 1) (codes "NOOP\n")))
-    (sym (same_Some 4 given.0 given.1)) given.3 in
+    (sym (same_Some 4 given.0 given.2)) given.4 in
     let no_value : true ≡ false = may.1 in
     cc

@@ -343,7 +343,7 @@ module _ (limit : Option ℕ) (now : Caller) (area : Bytes) (left : Left) where
   uses_none dropped kept_so (inl (invalid not_valid e)) used =
       absurd (let within = sym not_valid ∙ valid_place now.connection limit dropped
       (length now.bytes) kept_so.within kept_so.dropped_well in cc)
-  uses_none dropped kept_so (inl (asks none more)) used = rw more refl
+  uses_none dropped kept_so (inl (asks none more is_incomplete)) used = rw more refl
   uses_none dropped kept_so (inl (gave some more)) used = absurd (omega arith)
   uses_none dropped kept_so (inl (no_room k command ok at short read e)) used = rw e refl
 
@@ -354,7 +354,7 @@ module _ (limit : Option ℕ) (now : Caller) (area : Bytes) (left : Left) where
       absurd (omega (arith, sym (ap (λ l. l.result) e) ∙ is))
   asks_at_the_end dropped kept_so (inl (invalid not_valid e)) is =
       absurd (omega (arith, sym (ap (λ l. l.result) e) ∙ is))
-  asks_at_the_end dropped kept_so (inl (asks none more)) is =
+  asks_at_the_end dropped kept_so (inl (asks none more is_incomplete)) is =
       Lacks-append LF dropped now.bytes kept_so.dropped_unended
       (unended limit now dropped kept_so area none)
   asks_at_the_end dropped kept_so (inl (gave some used)) is =
