@@ -65,7 +65,8 @@ module _ (call : Call) where
       → (answer : Answer) → outcome (take (k + 1) call.bytes) ≡ answer
       → NextLeft call (answered call (k + 1) answer)
   left_answer k ok at short (Ok command) read =
-      left_command k command ok at short read (nat_le (length (area_text command)) (length call.area))
+      left_command k command ok at short read
+      (nat_le (length (area_text command)) (length call.area))
       refl
   left_answer k ok at short (Err refusal) read = gave (refusal_gives refusal) (omega arith)
 

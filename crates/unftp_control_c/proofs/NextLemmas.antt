@@ -137,13 +137,15 @@ module _ (call : Call) (new : Codec) (taken : ℕ) where
 
   -- a refusal, or memory ran out
   pub refusal_left : (error : KindAndSource)
-      → is_valid call.connection (length call.bytes) ≡ true → (¬ IsOutOfMemory (Err error) → Counted)
+      → is_valid call.connection (length call.bytes) ≡ true
+      → (¬ IsOutOfMemory (Err error) → Counted)
       → (o : Option ℕ) → line_feed_from call.bytes call.connection.offset ≡ o → Says o (Err error)
       → ((by_line_feed call o ≡ used_up call (fault_status (fault_of error)) taken new.place
       new.skipping) × (keeps_bytes (fault_status (fault_of error)) ≡ false))
       ⊎ (LineMayTakeMemory call × (fault_status (fault_of error) ≡ OutOfMemory))
   refusal_left error valid counted None at says = absurd (let none = says.0 in cc)
-  refusal_left error valid counted (Some k) at says = by_long (is_long call.connection (k + 1)) refl says
+  refusal_left error valid counted (Some k) at says =
+      by_long (is_long call.connection (k + 1)) refl says
     where
       too_long : is_long call.connection (k + 1) ≡ true → fault_of error ≡ line_too_long
           → taken ≡ k + 1 → new.place ≡ 0 → new.skipping ≡ false

@@ -22,6 +22,7 @@ pub data EncodesReply (code : ℕ) (text : Bytes) (bytes : Made) : Type 0 where
   encodes : IsReplyCode code → IsUtf8 text → (reply : FtpReply) → IsReplyOf code text reply
       → bytes ≡ Ok (encoded reply) → EncodesReply code text bytes
   unknown_code : ¬ IsReplyCode code → bytes ≡ Err UnknownCode → EncodesReply code text bytes
-  not_utf8 : IsReplyCode code → ¬ IsUtf8 text → bytes ≡ Err InvalidUtf8 → EncodesReply code text bytes
+  not_utf8 : IsReplyCode code → ¬ IsUtf8 text → bytes ≡ Err InvalidUtf8
+      → EncodesReply code text bytes
   out_of_memory : IsReplyCode code → IsUtf8 text → bytes ≡ Err OutOfMemory
       → EncodesReply code text bytes

@@ -61,5 +61,6 @@ returns c = record {
   kept = λ caller area left leaves is.
       nothing_lost caller area left (left_so (call_of caller area) left leaves) is;
   room = λ caller area wider left again leaves is wide later.
-      in_time caller area wider left again (left_so (call_of caller area) left leaves) is wide later;
+      in_time caller area wider left again (left_so (call_of caller area) left leaves) is wide
+      later;
 }

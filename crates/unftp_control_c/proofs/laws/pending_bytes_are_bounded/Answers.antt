@@ -26,7 +26,8 @@ not_longer limit n some short = by_test (limit == 0) refl short
 module _ (caller : Caller) (some : 1 ≤ caller.connection.limit) where
   waiting : (area : Bytes) (long : Bool)
       → is_long caller.connection (length caller.bytes + 1) ≡ long
-      → length (after_call caller (incomplete (call_of caller area))).bytes < caller.connection.limit
+      → length (after_call caller (incomplete (call_of caller area))).bytes <
+      caller.connection.limit
   waiting area true e = rw (e, drop_all (length caller.bytes) caller.bytes (omega arith)) some
   waiting area false e = rw e (not_longer caller.connection.limit (length caller.bytes) some
       (unskipped (caller.connection.skipping == 1)

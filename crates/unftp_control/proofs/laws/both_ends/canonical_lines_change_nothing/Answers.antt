@@ -11,7 +11,8 @@ returns g c = record {
   same_events = λ rewrite input keeps. events-rewritten rewrite keeps input;
   within = λ rewrite limit input keeps each. events-rewritten_within rewrite keeps input limit each;
   written = λ rewrite s input keeps.
-      ap (λ events. text_of g.H.Handler.law s (run_of g.H.Handler.law s events)) (events-rewritten rewrite keeps input);
+      ap (λ events. text_of g.H.Handler.law s (run_of g.H.Handler.law s events))
+      (events-rewritten rewrite keeps input);
   written_within = λ rewrite limit s input keeps each.
       ap (λ events. text_of g.H.Handler.law s (run_of g.H.Handler.law s events))
       (events-rewritten_within rewrite keeps input limit each);

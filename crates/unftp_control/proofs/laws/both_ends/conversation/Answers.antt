@@ -9,8 +9,13 @@ returns g c = record {
   commands = events-sent;
   lines = events-lines;
   so_far = λ limit s input steps pending later readable are whole.
-      read_so_far (replies g.H.Handler.law s (run_for limit g.H.Handler.law s input)) readable steps pending are later whole;
+      read_so_far (replies g.H.Handler.law s (run_for limit g.H.Handler.law s input)) readable steps
+      pending are later whole;
   all = λ limit s input steps pending readable are whole none.
-      let read = read_all (replies g.H.Handler.law s (run_for limit g.H.Handler.law s input)) readable steps pending are whole none in
-      (read.0, read.1 ∙ length-replies g.H.Handler.law s (run_for limit g.H.Handler.law s input), read.2);
+      let read = read_all (replies g.H.Handler.law s (run_for limit g.H.Handler.law s input))
+      readable steps pending are whole none in (
+        read.0,
+        read.1 ∙ length-replies g.H.Handler.law s (run_for limit g.H.Handler.law s input),
+        read.2,
+      );
 }
