@@ -30,9 +30,14 @@ def calls():
     return re.findall(r"^(?:enum unftp_result|uint32_t) (unftp_\w+)\([^{;]*\;", header(), re.M)
 
 
+def series():
+    """The versions that a program may have in place of each other: 0.1 are all 0.1.x, but not 0.2.0."""
+    return version().rpartition(".")[0]
+
+
 def shared_names():
     """The names of the shared library: the file, the one that programs load, and the one that a linker takes."""
-    return f"{SHARED}.{version()}", f"{SHARED}.{version().split('.')[0]}", SHARED
+    return f"{SHARED}.{version()}", f"{SHARED}.{series()}", SHARED
 
 
 def output_of(*words):
@@ -68,7 +73,7 @@ def link(at, target):
 def filled(name, **words):
     """A file of packaging/ as bytes, with its words, as @VERSION@, filled in."""
     file, loaded, _ = shared_names()
-    words |= {"VERSION": version(), "SERIES": version().rpartition(".")[0], "FILE": file, "LOADED": loaded}
+    words |= {"VERSION": version(), "SERIES": series(), "FILE": file, "LOADED": loaded}
     text = (TOP / "packaging" / name).read_text(encoding="utf-8")
     for word, value in words.items():
         text = text.replace(f"@{word}@", value)
