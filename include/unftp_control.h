@@ -12,9 +12,12 @@
  *   byte.
  * - Areas, lengths and structs that are only written need not be set before. Each length is 0 where
  *   its comment doesn't say what it is.
+ * - Memory is allocated by malloc, and freed before the call returns. So no call may be made from a
+ *   signal handler, nor in the forked child of a process with threads. Passwords are not wiped.
  * - Where a call has no room or no memory, the caller may call again with the same bytes.
  *
- * What the calls return and write is proved, but for the bounds on lengths, which are tested.
+ * What the library's functions return and write is proved; the bounds on lengths, and that this
+ * header matches the library, are tested.
  */
 #ifndef UNFTP_CONTROL_H
 #define UNFTP_CONTROL_H
@@ -98,8 +101,8 @@ enum unftp_result {
     UNFTP_INVALID_COMMAND = 102,
     /* The verb, the subcommand of SITE, AUTH's parameter or a reply's text is not UTF-8. */
     UNFTP_INVALID_UTF8 = 103,
-    /* The line's end is not CR LF or LF, or a CR in its parameter is followed by neither LF nor
-       NUL. */
+    /* The line's end is not CR LF or LF; or a CR in its parameter, other than its first byte, is
+       followed by neither LF nor NUL; or CR NUL is followed directly by LF. */
     UNFTP_INVALID_EOL = 104,
     /* The line is longer than the limit. */
     UNFTP_LINE_TOO_LONG = 105,
@@ -182,7 +185,8 @@ enum unftp_code {
 /* What a caller keeps of a connection, beside its pending bytes: those that were received and not
    used up. At the start of a connection all but the limit is 0, as in {4096, 0, 0}. */
 struct unftp_connection {
-    /* How many bytes a line may have, its line feed counted; 0 for any number. */
+    /* How many bytes a line may have, its line feed counted; 0 for any number. It may be changed
+       between two calls; what is proved of a sequence of calls is for one limit. */
     size_t limit;
     /* Of unftp_next: how many of the pending bytes were scanned for a line feed. */
     size_t offset;
@@ -192,9 +196,11 @@ struct unftp_connection {
 
 /* What unftp_next has taken. */
 struct unftp_line {
-    /* How many bytes the caller drops from the front of the pending bytes before the next call. */
+    /* How many bytes the caller drops from the front of the pending bytes before the next call,
+       whatever the result: at UNFTP_MORE it is not 0 where the line is too long. */
     size_t used;
-    /* The command's name is so many bytes at the start of the area. */
+    /* The command's name is so many bytes at the start of the area: none for SITE without a
+       subcommand, and for an empty line, which is UNFTP_OTHER. */
     size_t name_len;
     /* Its value is so many bytes right after the name. */
     size_t value_len;
@@ -204,28 +210,31 @@ struct unftp_line {
 struct unftp_found_reply {
     /* How many bytes the reply takes. */
     size_t used;
-    /* Its code. */
+    /* Its code: any three digits, so 0 to 999. */
     uint32_t code;
 };
 
 /*
  * Takes the next line of the pending bytes (RFC 959, section 5.3). It returns the number of a
  * command, UNFTP_INVALID_COMMAND, UNFTP_INVALID_UTF8, UNFTP_INVALID_EOL, UNFTP_LINE_TOO_LONG or
- * UNFTP_MORE. At a command and at a refused line the bytes that are used up are the line, with what
- * its command drops: the `A` of `TYPE A`, the `ALL` of `EPSV ALL`. At UNFTP_LINE_TOO_LONG they are
- * its end, or all of it.
+ * UNFTP_MORE; or UNFTP_OUT_OF_MEMORY, UNFTP_NO_ROOM or UNFTP_INVALID_ARGUMENT (below). At a command
+ * and at a refused line the used bytes are the whole line, including the parts that its command
+ * ignores: the `A` of `TYPE A`, the `ALL` of `EPSV ALL`. At UNFTP_LINE_TOO_LONG they are its end,
+ * or all of it.
  *
- * No byte before the connection's offset is scanned again, so the time is linear in what was
- * received, and bytes before it may not change.
+ * After UNFTP_MORE no byte before the connection's offset is scanned again, and these bytes may not
+ * change.
  *
  * The name and the value of a command are written to the area, one after the other. The name is
  * UTF-8, with the letters a to z in upper case. The value is what the line has after it, without
- * the line's end: a CR that was sent as CR NUL is one CR. Values are UTF-8, with U+FFFD for each
- * ill-formed part, but those of USER, PASS, ACCT and STAT, which are the bytes that were sent. At
- * UNFTP_NO_ROOM the area needs name_len + value_len bytes; a line of n bytes needs at most 3 n.
+ * the line's end: a CR that was sent as CR NUL, or as the parameter's first byte, is one CR. Values
+ * are UTF-8, with U+FFFD for each ill-formed part, but those of USER, PASS, ACCT and STAT, which are
+ * the bytes that were sent. At UNFTP_NO_ROOM the area needs name_len + value_len bytes; a line of n
+ * bytes needs at most 3 n.
  *
  * A line of more bytes than the limit is UNFTP_LINE_TOO_LONG once it has ended, whatever it holds.
- * Its bytes are used up before that, at UNFTP_MORE, so no more than limit bytes stay pending then.
+ * Where a longer line comes in pieces, its bytes are used up at UNFTP_MORE, so fewer than limit
+ * bytes stay pending then.
  *
  * At UNFTP_OUT_OF_MEMORY, UNFTP_NO_ROOM and UNFTP_INVALID_ARGUMENT nothing is used up, and the
  * connection and the area are as they were.
@@ -253,7 +262,8 @@ enum unftp_result unftp_reply(uint32_t code, const char *text, size_t text_len,
  * Finds the reply at the start of what a client has received (RFC 959, section 4.2). It returns
  * UNFTP_DONE with its code and how many bytes it takes, UNFTP_MORE where it is not complete, or
  * UNFTP_MALFORMED; both fields are then 0. A line ends at CR LF, and a bare LF belongs to it. It
- * takes no memory, and scans from the start at each call.
+ * takes no memory, and scans from the start at each call. There is no bound on a reply's length:
+ * the caller sets one.
  */
 enum unftp_result unftp_front_reply(const char *bytes, size_t bytes_len,
                                     struct unftp_found_reply *reply) UNFTP_NONNULL;
@@ -261,6 +271,7 @@ enum unftp_result unftp_front_reply(const char *bytes, size_t bytes_len,
 /*
  * Writes the canonical line of a line's command, with its CR LF, to the start of out, and *len is
  * how many bytes it has: a line that means the same, in the one form that the library writes. It
+ * reads its bytes as one line, also where they are not one: pass what unftp_next used up. It
  * returns UNFTP_DONE; UNFTP_INVALID_COMMAND, UNFTP_INVALID_UTF8 or UNFTP_INVALID_EOL for a line
  * that is no command; UNFTP_NO_LINE, but never for a line whose one line feed is its last byte;
  * UNFTP_NO_ROOM, where *len is the room that is needed; or UNFTP_OUT_OF_MEMORY. out is as it was

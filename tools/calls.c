@@ -40,15 +40,24 @@ static void wants(bool holds, const char *what)
     exit(EXIT_FAILURE);
 }
 
-/* So many bytes; of none, there is still an address. */
+/* So many bytes, at the end of a block; of none, there is still an address, past the block. */
 static struct bytes area_of(size_t len)
 {
-    struct bytes area = {malloc(len > 0 ? len : 1), len};
+    size_t before = len == 0;
+    char *block = malloc(before + len);
+    struct bytes area;
 
-    if (area.at == NULL)
+    if (block == NULL)
         abort();
+    area.at = block + before;
+    area.len = len;
     memset(area.at, FILLING, len);
     return area;
+}
+
+static void free_area(struct bytes area)
+{
+    free(area.at - (area.len == 0));
 }
 
 static bool is_filling(struct bytes area)
@@ -92,7 +101,7 @@ static struct unftp_line lack_room(struct unftp_connection *connection, const ch
           "unftp_next has no room");
     wants(line.used == 0 && are_same(*connection, before) && is_filling(area),
           "unftp_next without room changes nothing");
-    free(area.at);
+    free_area(area);
     return line;
 }
 
@@ -111,7 +120,7 @@ static struct taken take(struct unftp_connection *connection, const char *bytes,
     room = taken.line.name_len + taken.line.value_len;
     taken.line = lack_room(connection, bytes, len, room - 1);
     wants(room == taken.line.name_len + taken.line.value_len, "it asks for the same room again");
-    free(taken.area.at);
+    free_area(taken.area);
     taken.area = area_of(room);
     taken.result = unftp_next(connection, bytes, len, taken.area.at, room, &taken.line);
     wants(is_command(taken.result) && room == taken.line.name_len + taken.line.value_len,
@@ -136,7 +145,7 @@ static void check_written(line_call call, const char *line, struct taken wanted)
     struct unftp_connection connection = {0, 0, 0};
     struct taken taken;
 
-    free(none.at);
+    free_area(none);
     if (!is_command(wanted.result)) {
         wants(result == wanted.result && room == 0, "a refused line is refused by each call");
         return;
@@ -151,9 +160,9 @@ static void check_written(line_call call, const char *line, struct taken wanted)
           "its line has just enough room");
     taken = take(&connection, out.at, room);
     wants(taken.line.used == room && are_equal(taken, wanted), "its line is read as the command");
-    free(taken.area.at);
-    free(less.at);
-    free(out.at);
+    free_area(taken.area);
+    free_area(less);
+    free_area(out);
 }
 
 /* The limit is exact, and a line that comes in two parts is the same line. */
@@ -164,20 +173,20 @@ static void check_cuts(const char *bytes, struct taken wanted)
     struct taken taken = take(&exact, bytes, used);
 
     wants(are_equal(taken, wanted), "a line of as many bytes as the limit");
-    free(taken.area.at);
+    free_area(taken.area);
     if (used > 1) {
         taken = take(&small, bytes, used);
         wants(taken.result == UNFTP_LINE_TOO_LONG && taken.line.used == used,
               "a line of more bytes than the limit");
-        free(taken.area.at);
+        free_area(taken.area);
     }
     taken = take(&parts, bytes, used - 1);
     wants(taken.result == UNFTP_MORE && taken.line.used == 0 && parts.offset == used - 1,
           "a line without its end");
-    free(taken.area.at);
+    free_area(taken.area);
     taken = take(&parts, bytes, used);
     wants(are_equal(taken, wanted) && parts.offset == 0, "a line that has come in two parts");
-    free(taken.area.at);
+    free_area(taken.area);
 }
 
 /* Takes all lines of an input. */
@@ -190,7 +199,7 @@ static void check_lines(struct bytes input)
         const char *bytes = input.at + start;
         struct taken taken = take(&connection, bytes, input.len - start);
         if (taken.result == UNFTP_MORE) {
-            free(taken.area.at);
+            free_area(taken.area);
             break;
         }
         wants(taken.line.used > 0 && line_feeds(bytes, taken.line.used) == 1
@@ -202,7 +211,7 @@ static void check_lines(struct bytes input)
         check_written(unftp_canonical, bytes, taken);
         check_written(unftp_forward, bytes, taken);
         start += taken.line.used;
-        free(taken.area.at);
+        free_area(taken.area);
     }
     wants(line_feeds(input.at + start, input.len - start) == 0, "no line is left");
 }
@@ -227,7 +236,7 @@ static void check_reply(struct bytes text)
     size_t room, again, lines = line_feeds(text.at, text.len);
     enum unftp_result result = unftp_reply(299, text.at, text.len, none.at, 0, &room);
 
-    free(none.at);
+    free_area(none);
     if (result == UNFTP_INVALID_UTF8) {
         wants(room == 0, "no room is needed for no reply");
         return;
@@ -243,8 +252,8 @@ static void check_reply(struct bytes text)
           "a reply has just enough room");
     check_found(out);
     replies++;
-    free(less.at);
-    free(out.at);
+    free_area(less);
+    free_area(out);
 }
 
 /* What no call leaves, and no code. */
@@ -271,7 +280,7 @@ static void check_arguments(void)
     wants(unftp_reply(100, "", 0, area.at, area.len, &len) == UNFTP_DONE && len == 5
               && memcmp(area.at, "100\r\n", 5) == 0,
           "100");
-    free(area.at);
+    free_area(area);
 }
 
 /* The next input; false at the end. */
@@ -296,7 +305,7 @@ int main(void)
         inputs++;
         check_lines(input);
         check_reply(input);
-        free(input.at);
+        free_area(input);
     }
     printf("%lu inputs: %lu commands, %lu refused lines, %lu replies\n", inputs, commands, refused,
            replies);

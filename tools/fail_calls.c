@@ -8,7 +8,9 @@
 
 #include <dlfcn.h>
 #include <errno.h>
+#include <stdio.h>
 #include <stdlib.h>
+#include <string.h>
 #include <sys/socket.h>
 #include <unistd.h>
 
@@ -19,16 +21,31 @@ static int has_to_fail(const char *name, long *calls)
     return text != NULL && ++*calls <= atol(text);
 }
 
-int accept(int listener, struct sockaddr *address, socklen_t *len)
+/* the function that this library stands before */
+static void *next_of(const char *name)
+{
+    void *next = dlsym(RTLD_NEXT, name);
+
+    if (next == NULL) {
+        fprintf(stderr, "fail_calls: no %s\n", name);
+        abort();
+    }
+    return next;
+}
+
+/* glibc's type of an address lets each kind of one be passed */
+int accept(int listener, __SOCKADDR_ARG address, socklen_t *__restrict len)
 {
     static long calls;
-    int (*next)(int, struct sockaddr *, socklen_t *);
+    int (*next)(int, __SOCKADDR_ARG, socklen_t *);
+    void *found;
 
     if (has_to_fail("FAIL_ACCEPT", &calls)) {
         errno = ENFILE;
         return -1;
     }
-    *(void **)&next = dlsym(RTLD_NEXT, "accept");
+    found = next_of("accept");
+    memcpy(&next, &found, sizeof next);
     return next(listener, address, len);
 }
 
@@ -36,11 +53,13 @@ pid_t fork(void)
 {
     static long calls;
     pid_t (*next)(void);
+    void *found;
 
     if (has_to_fail("FAIL_FORK", &calls)) {
         errno = EAGAIN;
         return -1;
     }
-    *(void **)&next = dlsym(RTLD_NEXT, "fork");
+    found = next_of("fork");
+    memcpy(&next, &found, sizeof next);
     return next();
 }

@@ -30,9 +30,14 @@ def calls():
     return re.findall(r"^(?:enum unftp_result|uint32_t) (unftp_\w+)\([^{;]*\;", header(), re.M)
 
 
+def series():
+    """The versions that a program may have in place of each other: 0.1 are all 0.1.x, but not 0.2.0."""
+    return version().rpartition(".")[0]
+
+
 def shared_names():
     """The names of the shared library: the file, the one that programs load, and the one that a linker takes."""
-    return f"{SHARED}.{version()}", f"{SHARED}.{version().split('.')[0]}", SHARED
+    return f"{SHARED}.{version()}", f"{SHARED}.{series()}", SHARED
 
 
 def output_of(*words):
@@ -51,16 +56,25 @@ def global_names(folder):
     return names_of("-g", "--defined-only", folder / STATIC), names_of("-D", "--defined-only", folder / shared_names()[0])
 
 
+def make_folder(at):
+    """Makes a folder, and those above it that are missing. All may read them, whatever the umask."""
+    if not at.is_dir():
+        make_folder(at.parent)
+        at.mkdir()
+        at.chmod(0o755)
+
+
 def place(at, content, mode=0o644):
     """Makes a file of these bytes, and the folders above it."""
-    at.parent.mkdir(parents=True, exist_ok=True)
+    make_folder(at.parent)
     at.unlink(missing_ok=True)
     at.write_bytes(content)
     at.chmod(mode)
 
 
 def link(at, target):
-    """Makes a symbolic link."""
+    """Makes a symbolic link, and the folders above it."""
+    make_folder(at.parent)
     at.unlink(missing_ok=True)
     at.symlink_to(target)
 
@@ -68,26 +82,44 @@ def link(at, target):
 def filled(name, **words):
     """A file of packaging/ as bytes, with its words, as @VERSION@, filled in."""
     file, loaded, _ = shared_names()
-    words |= {"VERSION": version(), "SERIES": version().rpartition(".")[0], "FILE": file, "LOADED": loaded}
+    words |= {"VERSION": version(), "SERIES": series(), "FILE": file, "LOADED": loaded}
     text = (TOP / "packaging" / name).read_text(encoding="utf-8")
     for word, value in words.items():
         text = text.replace(f"@{word}@", value)
     return text.encode()
 
 
-def install(libraries, root, prefix):
-    """Puts the header, the two libraries, what pkg-config and CMake read, and the page of the manual below root; what pkg-config reads
-    has this prefix."""
+def read_libraries(folder):
+    """The two libraries of a folder: each name with its bytes and its mode."""
+    file = shared_names()[0]
+    return {STATIC: ((folder / STATIC).read_bytes(), 0o644), file: ((folder / file).read_bytes(), 0o755)}
+
+
+def place_libraries(libraries, folder):
+    """Puts the two libraries into a folder, with the links to the shared one."""
+    for name, (content, mode) in libraries.items():
+        place(folder / name, content, mode)
     file, loaded, linked = shared_names()
-    place(root / "lib" / STATIC, (libraries / STATIC).read_bytes())
-    place(root / "lib" / file, (libraries / file).read_bytes(), mode=0o755)
-    link(root / "lib" / loaded, file)
-    link(root / "lib" / linked, loaded)
-    place(root / "include" / HEADER.name, HEADER.read_bytes())
-    place(root / "lib/pkgconfig/unftp_control.pc", filled("unftp_control.pc", PREFIX=prefix))
+    link(folder / loaded, file)
+    link(folder / linked, loaded)
+
+
+def texts(prefix, libdir):
+    """The other files, by their paths below the prefix: the header, what pkg-config and CMake read, and the page of the manual."""
+    words = {"PREFIX": prefix, "LIBDIR": libdir, "UP": "/".join([".."] * len(pathlib.PurePath(libdir, "cmake/unftp_control").parts))}
+    found = {f"include/{HEADER.name}": HEADER.read_bytes(), f"{libdir}/pkgconfig/unftp_control.pc": filled("unftp_control.pc", **words)}
     for name in ["unftp_control-config.cmake", "unftp_control-config-version.cmake"]:
-        place(root / "lib/cmake/unftp_control" / name, filled(name))
-    manual = root / "share/man/man3"
-    place(manual / "unftp_control.3", filled("unftp_control.3"))
+        found[f"{libdir}/cmake/unftp_control/{name}"] = filled(name, **words)
+    found["share/man/man3/unftp_control.3"] = filled("unftp_control.3")
+    return found
+
+
+def install(libraries, root, prefix, libdir="lib"):
+    """Puts all below root, the libraries in its folder libdir; what pkg-config reads has this prefix. It reads everything first, so that
+    nothing is installed where one is missing."""
+    read, others = read_libraries(libraries), texts(prefix, libdir)
+    place_libraries(read, root / libdir)
+    for path, content in others.items():
+        place(root / path, content)
     for call in [*calls(), "unftp_result_text"]:
-        link(manual / f"{call}.3", "unftp_control.3")
+        link(root / "share/man/man3" / f"{call}.3", "unftp_control.3")

@@ -11,7 +11,10 @@ usage: tools/server_checks.py abort SERVER              urgent data: the ABOR of
        tools/server_checks.py late SERVER                clients that go on sending after QUIT
        tools/server_checks.py staying SERVER             clients that stay after QUIT, and one that goes on sending for ever
        tools/server_checks.py gone SERVER                clients that are gone before they are answered
-       tools/server_checks.py stop SERVER                SIGTERM, SIGINT and SIGKILL while clients are served
+       tools/server_checks.py killed SERVER              a session that is killed
+       tools/server_checks.py children SERVER            children that are no sessions
+       tools/server_checks.py stop SERVER                SIGTERM, SIGINT, SIGHUP and SIGKILL while clients are served
+       tools/server_checks.py twice SERVER               another signal while the sessions end
 
 The last line says what was compared; the status is 0 where all is right.
 """
@@ -22,6 +25,7 @@ import pathlib
 import resource
 import signal
 import socket
+import struct
 import subprocess
 import sys
 import threading
@@ -154,7 +158,7 @@ def check_files(preload, program):
 def check_fork(preload, program):
     """No process can be made for the first two clients."""
     with Server(["env", f"LD_PRELOAD={preload}", "FAIL_FORK=2", program]) as server:
-        server.said = b"server: fork: Resource temporarily unavailable\n" * 2
+        server.said = b"server: fork: Resource temporarily unavailable\n"
         for _ in range(2):
             with server.connect(NO_PROCESS) as connection:
                 wants("the end", all_of(connection), b"")
@@ -180,28 +184,43 @@ def children(pid):
     for path in pathlib.Path("/proc").glob("[0-9]*/stat"):
         try:
             if int(path.read_text(encoding="ascii", errors="replace").rpartition(")")[2].split()[1]) == pid:
-                found.append(path)
+                found.append(int(path.parent.name))
         except OSError:
             pass  # it ended just now
     return found
 
 
+def wants_children(pid, count):
+    """A process has so many children, after a while at least."""
+    deadline = time.monotonic() + PATIENCE
+    while len(children(pid)) != count and time.monotonic() < deadline:
+        time.sleep(0.05)
+    found = children(pid)
+    wants("the number of children", len(found), count)
+    return found
+
+
+def come_and_go(server, count):
+    """So many clients connect, and reset the connection at once."""
+    for _ in range(count):
+        with socket.create_connection((HOST, server.port), PATIENCE) as connection:
+            connection.setsockopt(socket.SOL_SOCKET, socket.SO_LINGER, struct.pack("ii", 1, 0))
+
+
 def check_connections(program):
-    """Two clients at a time, and thirty one after the other; no process is left of them."""
+    """Two clients at a time, and thirty one after the other; no process is left of them. Nothing is said of those that are refused."""
     with Server([program, "-c", "2"]) as server:
         with server.connect() as first, server.connect() as second:
             for _ in range(5):
                 with server.connect(TOO_MANY) as third:
                     wants("the end", all_of(third), b"")
+            come_and_go(server, 20)
             asked(first)
             asked(second)
         for _ in range(30):
             with connected_in_time(server) as connection:
                 asked(connection, QUIT, BYE)
-        deadline = time.monotonic() + PATIENCE
-        while children(server.pid) and time.monotonic() < deadline:
-            time.sleep(0.05)
-        wants("the processes of clients that are gone", children(server.pid), [])
+        wants_children(server.pid, 0)
     return "421 for 5 clients too many, and 30 are served after that"
 
 
@@ -284,10 +303,34 @@ def check_gone(program):
     return f"{IMPATIENT} clients are gone, and the next is served"
 
 
+def check_killed(program):
+    """A session that is killed is named, and the next client is served."""
+    with Server([program, "-c", "1"]) as server:
+        server.said = b"server: a session has ended with status 0x9\n"
+        with server.connect() as connection:
+            os.kill(wants_children(server.pid, 1)[0], signal.SIGKILL)
+            wants("what the client gets", all_of(connection), b"")
+        with connected_in_time(server) as connection:
+            asked(connection)
+    return "a session that is killed is named"
+
+
+def check_children(program):
+    """The program had children before it was this server. One ends, which takes off no session; the server doesn't wait for the other."""
+    with Server(["sh", "-c", 'sleep 1 & sleep 20 & exec "$@"', "sh", program, "-c", "1"]) as server:
+        with server.connect() as connection:
+            wants_children(server.pid, 2)
+            with server.connect(TOO_MANY) as second:
+                wants("the end", all_of(second), b"")
+            asked(connection, QUIT, BYE)
+        within("the server's end", 0, 5, lambda: wants("the server's end", server.stop(), (0, b"")))
+    return "children that are no sessions are not counted"
+
+
 def check_stop(program):
     """Each client gets 421, also in the midst of a line, and no other is served. The server ends after its sessions, which here drop
     what comes for a second, since these clients stay. Where it is killed itself, each client gets 421 too."""
-    for number in [signal.SIGTERM, signal.SIGINT, signal.SIGKILL]:
+    for number in [signal.SIGTERM, signal.SIGINT, signal.SIGHUP, signal.SIGKILL]:
         with Server([program, "-d", "1"]) as server, server.connect() as idle, server.connect() as midst:
             midst.sendall(b"NOO")
             if number == signal.SIGKILL:
@@ -301,7 +344,23 @@ def check_stop(program):
                 raise Wrong("a client is served after the end")
             except ConnectionRefusedError:
                 pass
-    return "each client gets 421 at SIGTERM, at SIGINT, and where the server is killed"
+    return "each client gets 421 at SIGTERM, SIGINT and SIGHUP, and where the server is killed"
+
+
+def check_twice(program):
+    """While the sessions end, another signal ends the server at once. They go on dropping what comes, and then end too."""
+    for number in [signal.SIGTERM, signal.SIGINT, signal.SIGHUP]:
+        with Server([program, "-d", "3"]) as server, server.connect() as staying:
+            session = wants_children(server.pid, 1)[0]
+            os.kill(server.pid, signal.SIGTERM)
+            wants("what the client gets", all_of(staying), STOPPING)
+            os.kill(server.pid, number)
+            within("the server's end", 0, 1.5, lambda: server.process.wait(PATIENCE))
+            wants("the session goes on", pathlib.Path(f"/proc/{session}").exists(), True)
+            server.status, _ = server.stop()  # as `timeout` reports it
+            wants("whether the server ended well", server.status == 0, False)
+            until_refused(staying, b"x", 0.1)
+    return "a second SIGTERM, SIGINT or SIGHUP ends the server at once"
 
 
 CHECKS = {
@@ -315,7 +374,10 @@ CHECKS = {
     "late": check_late,
     "staying": check_staying,
     "gone": check_gone,
+    "killed": check_killed,
+    "children": check_children,
     "stop": check_stop,
+    "twice": check_twice,
 }
 
 

@@ -8,8 +8,9 @@
  * -d  how long a client may go on sending once its session has ended: 2
  * -i  how long a client may take until its next command: 300 (RFC 1123, section 4.1.3.2)
  *
- * It prints its port as one line; where PORT is 0, the system picks one. SIGTERM and SIGINT end it,
- * once it has answered 421 to each client. TLS, data connections and logins are left out.
+ * It prints its port as one line; where PORT is 0, the system picks one. SIGTERM, SIGINT and SIGHUP
+ * end it once its sessions have ended; each that waits for a command answers 421. A second one ends
+ * it at once. TLS, data connections and logins are left out.
  */
 #define _POSIX_C_SOURCE 200809L
 
@@ -38,7 +39,7 @@ enum {
     LINE_LIMIT = 4096,
     READ_MOST = 4096,
 
-    /* at UNFTP_MORE no more than the limit is pending, so a whole read always has room */
+    /* at UNFTP_MORE fewer bytes than the limit are pending, so a whole read always has room */
     PENDING_ROOM = LINE_LIMIT + READ_MOST,
 
     /* what unftp_next needs at most for a line of n bytes is 3 n */
@@ -71,6 +72,7 @@ struct client {
     int socket;
     int stopping; /* a pipe that is at its end once the server stops; -1 at the session's end */
     int64_t deadline;
+    bool is_late; /* wait_for has looked once since the deadline has come */
     const struct options *options;
     struct unftp_connection connection;
     char bytes[PENDING_ROOM];
@@ -89,7 +91,7 @@ struct text {
     char bytes[TEXT_ROOM];
 };
 
-/* What comes of waiting for a client. */
+/* How waiting for a client ends. */
 enum event { READY, GONE, LATE, STOPPED };
 
 static void fail(const char *what)
@@ -111,6 +113,7 @@ static int64_t now(void)
 static void allow(struct client *client, long seconds)
 {
     client->deadline = now() + seconds * 1000;
+    client->is_late = false;
 }
 
 /* Whether a call on a socket that failed may be made again. */
@@ -119,25 +122,30 @@ static bool is_passing(int error)
     return error == EINTR || error == EAGAIN || error == EWOULDBLOCK;
 }
 
-/* Waits until the client's socket is ready, the server stops, or the deadline has come. */
-static enum event wait_for(const struct client *client, short events)
+/* Waits until the client's socket is ready, the server stops, or the deadline has come. Once it has
+   come this looks once more, for what came in time while the process did not run. */
+static enum event wait_for(struct client *client, short events)
 {
     struct pollfd polled[] = {{.fd = client->socket, .events = events},
                               {.fd = client->stopping, .events = POLLIN}};
-    int64_t left;
 
-    while ((left = client->deadline - now()) > 0) {
-        int count = poll(polled, 2, (int)left);
+    for (;;) {
+        int64_t left = client->deadline - now();
+        int count;
+
+        if (left <= 0 && client->is_late)
+            return LATE;
+        client->is_late = left <= 0;
+        count = poll(polled, 2, left > 0 ? (int)left : 0);
         if (count < 0 && errno != EINTR)
             fail("server: poll");
         if (count > 0)
             return polled[1].revents != 0 ? STOPPED : READY;
     }
-    return LATE;
 }
 
 /* Sends all of these bytes; false where that fails. */
-static bool send_bytes(const struct client *client, const char *bytes, size_t len)
+static bool send_bytes(struct client *client, const char *bytes, size_t len)
 {
     while (len > 0) {
         ssize_t sent = write(client->socket, bytes, len);
@@ -152,7 +160,7 @@ static bool send_bytes(const struct client *client, const char *bytes, size_t le
 }
 
 /* Waits for bytes, and reads them. */
-static enum event read_bytes(const struct client *client, char *bytes, size_t room, size_t *len)
+static enum event read_bytes(struct client *client, char *bytes, size_t room, size_t *len)
 {
     for (;;) {
         enum event event = wait_for(client, POLLIN);
@@ -382,12 +390,11 @@ static void set_option(int socket, int level, int option)
         fail("server: setsockopt");
 }
 
-static void set_nonblocking(int socket)
+static bool set_nonblocking(int socket)
 {
     int flags = fcntl(socket, F_GETFL);
 
-    if (flags < 0 || fcntl(socket, F_SETFL, flags | O_NONBLOCK) < 0)
-        fail("server: fcntl");
+    return flags >= 0 && fcntl(socket, F_SETFL, flags | O_NONBLOCK) >= 0;
 }
 
 /* Urgent bytes are to be read where they were sent: the line feed of an ABOR may be one, and would
@@ -396,7 +403,8 @@ static void prepare(int socket)
 {
     set_option(socket, SOL_SOCKET, SO_OOBINLINE);
     set_option(socket, IPPROTO_TCP, TCP_NODELAY);
-    set_nonblocking(socket);
+    if (!set_nonblocking(socket))
+        fail("server: fcntl");
 }
 
 /* Serves a client from the greeting to the end of the session. */
@@ -419,6 +427,7 @@ struct server {
     struct options options;
     int listener;
     int stopping[2]; /* a pipe whose end for writing only this process has */
+    pid_t *sessions; /* as many as there are connections */
     long connections;
     bool is_failing;
     sigset_t mask; /* while it waits no signal is blocked, else those that it handles are */
@@ -447,17 +456,30 @@ static void handle(int number, void (*handler)(int))
         fail("server: sigaction");
 }
 
+/* Handles the signals that end the server. SIGHUP stays ignored where it is, as under nohup. */
+static void handle_ends(void (*handler)(int))
+{
+    struct sigaction action;
+
+    handle(SIGTERM, handler);
+    handle(SIGINT, handler);
+    if (sigaction(SIGHUP, NULL, &action) < 0)
+        fail("server: sigaction");
+    if (action.sa_handler != SIG_IGN)
+        handle(SIGHUP, handler);
+}
+
 static void handle_signals(struct server *server)
 {
     sigset_t handled;
 
     handle(SIGPIPE, SIG_IGN);
-    handle(SIGTERM, stop);
-    handle(SIGINT, stop);
     handle(SIGCHLD, wake);
+    handle_ends(stop);
     sigemptyset(&handled);
     sigaddset(&handled, SIGTERM);
     sigaddset(&handled, SIGINT);
+    sigaddset(&handled, SIGHUP);
     sigaddset(&handled, SIGCHLD);
     sigemptyset(&server->mask);
     if (sigprocmask(SIG_BLOCK, &handled, NULL) < 0)
@@ -478,27 +500,48 @@ static bool wait_for_client(const struct server *server)
     return count > 0;
 }
 
-/* Takes the sessions that have ended off the count; without WNOHANG it waits for all of them. */
+/* Takes a session off the list; false where the process is none, but a child that the program had
+   before it was this server. */
+static bool remove_session(struct server *server, pid_t process)
+{
+    for (long at = 0; at < server->connections; at++) {
+        if (server->sessions[at] == process) {
+            server->sessions[at] = server->sessions[--server->connections];
+            return true;
+        }
+    }
+    return false;
+}
+
+/* Takes the sessions that have ended off the list; without WNOHANG it waits for all of them. */
 static void reap_sessions(struct server *server, int options)
 {
+    pid_t process;
     int status;
 
-    while (waitpid(-1, &status, options) > 0) {
-        server->connections--;
-        if (status != 0)
+    while (server->connections > 0 && (process = waitpid(-1, &status, options)) > 0) {
+        if (remove_session(server, process) && status != 0)
             fprintf(stderr, "server: a session has ended with status %#x\n", (unsigned)status);
     }
 }
 
-/* Answers a client that is not served. It has sent nothing yet, where it waits for the greeting. */
+/* Names what has failed: only the first failure, until a client is served again. */
+static void report(struct server *server, const char *what)
+{
+    if (!server->is_failing)
+        perror(what);
+    server->is_failing = true;
+}
+
+/* Answers a client that is not served. It has sent nothing yet, where it waits for the greeting.
+   Where a call fails, the client is gone, and there is nobody to tell. */
 static void refuse(int socket, const char *reply)
 {
     char dropped[READ_MOST];
+    bool is_told = set_nonblocking(socket) && write(socket, reply, strlen(reply)) >= 0
+        && shutdown(socket, SHUT_WR) == 0 && read(socket, dropped, sizeof dropped) >= 0;
 
-    set_nonblocking(socket);
-    if (write(socket, reply, strlen(reply)) < 0 || shutdown(socket, SHUT_WR) < 0
-        || (read(socket, dropped, sizeof dropped) < 0 && !is_passing(errno)))
-        perror("server: a client that is not served");
+    (void)is_told;
     close(socket);
 }
 
@@ -515,11 +558,12 @@ static void start_session(struct server *server, int socket)
         _exit(EXIT_SUCCESS);
     }
     if (process < 0) {
-        perror("server: fork");
+        report(server, "server: fork");
         refuse(socket, "421 No process for this connection\r\n");
         return;
     }
-    server->connections++;
+    server->is_failing = false;
+    server->sessions[server->connections++] = process;
     close(socket);
 }
 
@@ -536,9 +580,7 @@ static void pause_accepting(struct server *server)
 
     if (is_lasting(errno))
         fail("server: accept");
-    if (!server->is_failing)
-        perror("server: accept");
-    server->is_failing = true;
+    report(server, "server: accept");
     pselect(0, NULL, NULL, NULL, &time, &server->mask);
 }
 
@@ -553,7 +595,6 @@ static void accept_client(struct server *server)
         pause_accepting(server);
         return;
     }
-    server->is_failing = false;
     if (server->connections < server->options.connections)
         start_session(server, socket);
     else
@@ -573,7 +614,8 @@ static void start_listening(struct server *server)
     if (server->listener < 0 || server->listener >= FD_SETSIZE)
         fail("server: socket");
     set_option(server->listener, SOL_SOCKET, SO_REUSEADDR);
-    set_nonblocking(server->listener);
+    if (!set_nonblocking(server->listener))
+        fail("server: fcntl");
     if (bind(server->listener, (const struct sockaddr *)&address, sizeof address) < 0)
         fail("server: bind");
     if (listen(server->listener, SOMAXCONN) < 0)
@@ -591,11 +633,16 @@ static void print_port(int listener)
         fail("server: standard output");
 }
 
-/* Ends every session, which sees the end of the pipe, and waits for them. */
+/* Ends every session, which sees the end of the pipe, and waits for them. A second signal that ends
+   the server does so at once; the sessions then end by themselves. */
 static void end_sessions(struct server *server)
 {
     close(server->listener);
     close(server->stopping[1]);
+    handle(SIGCHLD, SIG_DFL); /* which does not interrupt a wait */
+    handle_ends(SIG_DFL);
+    if (sigprocmask(SIG_SETMASK, &server->mask, NULL) < 0)
+        fail("server: sigprocmask");
     reap_sessions(server, 0);
 }
 
@@ -641,6 +688,9 @@ int main(int count, char **arguments)
               stderr);
         return 2;
     }
+    server.sessions = calloc((size_t)server.options.connections, sizeof *server.sessions);
+    if (server.sessions == NULL)
+        fail("server: calloc");
     handle_signals(&server);
     if (pipe(server.stopping) < 0)
         fail("server: pipe");
@@ -653,5 +703,6 @@ int main(int count, char **arguments)
             accept_client(&server);
     }
     end_sessions(&server);
+    free(server.sessions);
     return EXIT_SUCCESS;
 }
