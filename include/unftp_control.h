@@ -228,9 +228,9 @@ struct unftp_found_reply {
  * The name and the value of a command are written to the area, one after the other. The name is
  * UTF-8, with the letters a to z in upper case. The value is what the line has after it, without
  * the line's end: a CR that was sent as CR NUL, or as the parameter's first byte, is one CR. Values
- * are UTF-8, with U+FFFD for each ill-formed part, but those of USER, PASS, ACCT and STAT, which are
- * the bytes that were sent. At UNFTP_NO_ROOM the area needs name_len + value_len bytes; a line of n
- * bytes needs at most 3 n.
+ * are UTF-8, with U+FFFD for each ill-formed part, but those of USER, PASS, ACCT and STAT, which
+ * are the bytes that were sent. At UNFTP_NO_ROOM the area needs name_len + value_len bytes; a line
+ * of n bytes needs at most 3 n.
  *
  * A line of more bytes than the limit is UNFTP_LINE_TOO_LONG once it has ended, whatever it holds.
  * Where a longer line comes in pieces, its bytes are used up at UNFTP_MORE, so fewer than limit
