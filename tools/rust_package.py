@@ -9,7 +9,6 @@ usage: tools/rust_package.py codes              the package's codes of replies a
        tools/rust_package.py idle SERVER        clients that send too little
        tools/rust_package.py limit SERVER       more connections than may be open
        tools/rust_package.py stop SERVER        sessions that are open at a signal
-       tools/rust_package.py curl|lftp|ncftp|tnftp SERVER     a login, NOOP and QUIT of a real client
        tools/rust_package.py speed SERVER [COUNT [CONNECTIONS]]  NOOPs a second
 
 The last line says what was compared; the status is 0 where all is right.
@@ -278,7 +277,11 @@ def talk_by_tnftp(port):
     return codes(out)
 
 
+TALKS = {"curl": talk_by_curl, "lftp": talk_by_lftp, "ncftp": talk_by_ncftp, "tnftp": talk_by_tnftp}
+
+
 def check_client(talk, program):
+    """A real client logs in to the server, sends NOOP, and quits."""
     with Server(program) as server:
         found = talk(server.port)
     logged_in = found.index("230") if "230" in found else -1
@@ -314,10 +317,6 @@ CHECKS = {
     "idle": check_idle,
     "limit": check_limit,
     "stop": check_stop,
-    "curl": lambda program: check_client(talk_by_curl, program),
-    "lftp": lambda program: check_client(talk_by_lftp, program),
-    "ncftp": lambda program: check_client(talk_by_ncftp, program),
-    "tnftp": lambda program: check_client(talk_by_tnftp, program),
     "speed": check_speed,
 }
 
