@@ -67,7 +67,7 @@ impl Pending {
     }
 
     /// The bytes of the line whose event the last call returned, its line feed among them: also
-    /// those that its command drops, as the `A` of `TYPE A`. It is empty where the line is too
+    /// those that its command ignores, as the `A` of `TYPE A`. It is empty where the line is too
     /// long, where that call returned no event, and after `push`.
     ///
     /// The line of PASS holds the password.
