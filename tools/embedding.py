@@ -33,18 +33,13 @@ import threading
 
 from library import SHARED, STATIC, TOP, calls, global_names, header, names_of, output_of, shared_names, version
 from rows import command_of, quoted, rows, unquoted
+from started_server import GREETING, HOST, LIFE, PATIENCE, StartedServer, Wrong, receive, send_pieces, wants
 
 RUST = TOP / "bindings/rust/src/ffi.rs"
 LINE_FILES = ["parse.tsv", "client_lines.tsv"]
 
-HOST = "127.0.0.1"
-# how many seconds the server may run, and how long it may take to answer
-LIFE, PATIENCE = 60, 10
-# how many bytes are sent at a time, by turns
-PIECES = [1, 61, 3, 1021, 7, 509]
 LINE_LIMIT = 4096
 
-GREETING = b"220 Ready\r\n"
 NOT_UTF8 = b"501 Not UTF-8\r\n"
 TOO_LONG = b"500 Line too long\r\n"
 OUT_OF_MEMORY = b"421 Out of memory\r\n"
@@ -76,15 +71,6 @@ WORDS = {
     "Auth": {"Tls": b"TLS", "Ssl": b"SSL"},
     "Prot": {"Clear": b"C", "Safe": b"S", "Confidential": b"E", "Private": b"P"},
 }
-
-
-class Wrong(Exception):
-    """A check failed."""
-
-
-def wants(what, found, expected):
-    if found != expected:
-        raise Wrong(f"{what}: it has {found!r}, and not {expected!r}")
 
 
 def one_lines():
@@ -127,21 +113,19 @@ def reply_to(answer):
     return b"502 " + text + b"\r\n"
 
 
-class Server:
-    """The server while it runs, with these words before its port. `timeout` ends it, even where this script was killed before it could.
-    At the end it is stopped as an administrator stops it, and has to end with this status, having written `said` to standard error."""
+class Server(StartedServer):
+    """The server while it runs, with these words before its port. At the end it is stopped as an administrator stops it, and has to end
+    with this status, having written `said` to standard error."""
 
     def __init__(self, arguments):
         named = ["sh", "-c", 'echo $$; exec "$@"', "sh", *arguments, "0"]  # the process that sh was is the server
-        limited = ["timeout", "--foreground", "--kill-after=5", str(LIFE), *named]
         self.errors = tempfile.TemporaryFile()
         self.status, self.said = 0, b""
-        self.process = subprocess.Popen(limited, stdout=subprocess.PIPE, stderr=self.errors, start_new_session=True)
+        super().__init__(named, self.errors)
 
     def __enter__(self):
         self.pid = int(self.process.stdout.readline())
-        self.port = int(self.process.stdout.readline() or 0)
-        return self
+        return super().__enter__()
 
     def stop(self, number=signal.SIGTERM):
         """Its status and what it has written to standard error, once it has ended at this signal."""
@@ -155,40 +139,13 @@ class Server:
             ended = self.stop()
         except subprocess.TimeoutExpired:
             ended = "it goes on"
-        try:
-            os.killpg(self.process.pid, signal.SIGKILL)
-        except ProcessLookupError:
-            pass  # none is left
-        self.process.wait()
+        super().__exit__()
         if raised is None:
             wants("the server's end", ended, (self.status, self.said))
 
-    def connect(self, greeting=GREETING):
-        """A connection after its greeting."""
-        connection = socket.create_connection((HOST, self.port), PATIENCE)
-        connection.setsockopt(socket.IPPROTO_TCP, socket.TCP_NODELAY, 1)
-        wants("the greeting", receive(connection, len(greeting)), greeting)
-        return connection
 
-
-def receive(connection, count=None):
-    """So many bytes, or all up to the end."""
-    received = b""
-    while count is None or len(received) < count:
-        piece = connection.recv(65536 if count is None else count - len(received))
-        if not piece:
-            break
-        received += piece
-    return received
-
-
-def send_pieces(connection, sent, ends):
-    turn = 0
-    while sent:
-        size = PIECES[turn % len(PIECES)]
-        connection.sendall(sent[:size])
-        sent = sent[size:]
-        turn += 1
+def send_all(connection, sent, ends):
+    send_pieces(connection, sent)
     if ends:
         connection.shutdown(socket.SHUT_WR)
 
@@ -198,8 +155,8 @@ def converse(server, lines, replies):
     client sends another line, and leaves its side open."""
     quits = replies[-1:] == [REPLIES["Quit"]]
     sent = b"".join(lines) + (b"NOOP\r\n" if quits else b"")
-    with server.connect() as connection:
-        sender = threading.Thread(target=send_pieces, args=(connection, sent, not quits), daemon=True)
+    with server.greeted() as connection:
+        sender = threading.Thread(target=send_all, args=(connection, sent, not quits), daemon=True)
         sender.start()
         received = receive(connection)
         sender.join()
@@ -237,7 +194,7 @@ def long_lines():
 def check_sessions(*arguments):
     """All lines, over as many connections as there are QUITs, and one beside them."""
     lines = one_lines()
-    with Server(arguments) as server, server.connect() as beside:
+    with Server(arguments) as server, server.greeted() as beside:
         sessions = [*sessions_of(lines), [*long_lines()]]
         for session in sessions:
             converse(server, [line for line, _ in session], [reply for _, reply in session])
@@ -274,7 +231,7 @@ def replies_without(preload, program, number):
     replies = [GREETING, *map(reply_to, answers)]
     with Server(["env", f"LD_PRELOAD={preload}", f"FAIL_AT={number}", program]) as server:
         with socket.create_connection((HOST, server.port), PATIENCE) as connection:
-            send_pieces(connection, b"".join(lines), ends=True)
+            send_all(connection, b"".join(lines), ends=True)
             received = receive(connection)
     if received == b"".join(replies):
         return False

@@ -25,77 +25,19 @@ import tempfile
 import threading
 import time
 
+from started_server import GREETING, HOST, PATIENCE, StartedServer, Wrong, receive, send_pieces, wants
+
 TOP = pathlib.Path(__file__).resolve().parent.parent
-HOST = "127.0.0.1"
-# how many seconds the server may run, and how long it and a client may take to answer
-LIFE, PATIENCE = 60, 10
-PIECES = [1, 61, 3, 1021, 7, 509]
 LINE_LIMIT = 8192
 
-GREETING = b"220 Ready\r\n"
 OK = b"200 OK\r\n"
 BYE = b"221 Bye\r\n"
 MISSING = b"502 Not implemented\r\n"
 
 
-class Wrong(Exception):
-    """A check failed."""
-
-
-def wants(what, found, expected):
-    if found != expected:
-        raise Wrong(f"{what}: it has {found!r}, and not {expected!r}")
-
-
-class Server:
-    """The server while it runs. `timeout` ends it, even where this script was killed before it could, and hands each signal on to it."""
-
-    def __init__(self, program, *arguments):
-        limited = ["timeout", "--foreground", "--kill-after=1", str(LIFE), program, "0", *map(str, arguments)]
-        self.process = subprocess.Popen(limited, stdout=subprocess.PIPE, start_new_session=True)
-
-    def __enter__(self):
-        self.port = int(self.process.stdout.readline())
-        return self
-
-    def __exit__(self, *_):
-        try:
-            os.killpg(self.process.pid, signal.SIGKILL)
-        except ProcessLookupError:
-            pass  # none is left
-        self.process.communicate()
-
-    def connect(self):
-        connection = socket.create_connection((HOST, self.port), PATIENCE)
-        connection.setsockopt(socket.IPPROTO_TCP, socket.TCP_NODELAY, 1)
-        return connection
-
-    def greeted(self):
-        """A connection after its greeting."""
-        connection = self.connect()
-        wants("the greeting", receive(connection, len(GREETING)), GREETING)
-        return connection
-
-
-
-def receive(connection, count=None):
-    """So many bytes, or all up to the end."""
-    received = b""
-    while count is None or len(received) < count:
-        piece = connection.recv(65536 if count is None else count - len(received))
-        if not piece:
-            break
-        received += piece
-    return received
-
-
-def send_pieces(connection, sent, size=None):
-    turn = 0
-    while sent:
-        end = size or PIECES[turn % len(PIECES)]
-        connection.sendall(sent[:end])
-        sent = sent[end:]
-        turn += 1
+def started(program, *arguments):
+    """The server on a port that the system chooses."""
+    return StartedServer([program, "0", *map(str, arguments)])
 
 
 def check_codes():
@@ -159,7 +101,7 @@ SESSION = [
 def check_session(program):
     lines = b"".join(line for line, _ in SESSION)
     replies = GREETING + b"".join(reply for _, reply in SESSION)
-    with Server(program) as server:
+    with started(program) as server:
         for size in [None, len(lines), 4096, 1000, 61]:
             with server.connect() as connection:
                 sender = threading.Thread(target=send_pieces, args=(connection, lines, size), daemon=True)
@@ -181,7 +123,7 @@ def check_session(program):
 
 
 def check_urgent(program):
-    with Server(program) as server, server.greeted() as connection:
+    with started(program) as server, server.greeted() as connection:
         for _ in range(20):
             connection.send(b"ABOR\r\n", socket.MSG_OOB)
             wants("the reply to an urgent ABOR", receive(connection, len(MISSING)), MISSING)
@@ -191,7 +133,7 @@ def check_urgent(program):
 
 
 def check_late(program):
-    with Server(program) as server:
+    with started(program) as server:
         for _ in range(20):
             with server.connect() as connection:
                 connection.sendall(b"QUIT\r\n" + b"NOOP\r\n" * 10_000)
@@ -201,7 +143,7 @@ def check_late(program):
 
 def check_idle(program):
     late, idle = b"421 Idle too long\r\n", 2
-    with Server(program, idle) as server:
+    with started(program, idle) as server:
         begun = time.monotonic()
         with server.greeted() as silent, server.greeted() as slow, server.greeted() as busy:
             while time.monotonic() < begun + 2 * idle:
@@ -217,7 +159,7 @@ def check_idle(program):
 
 def check_limit(program):
     full = b"421 Too many connections\r\n"
-    with Server(program, PATIENCE, 2) as server:
+    with started(program, PATIENCE, 2) as server:
         with server.greeted() as first, server.greeted():
             with server.connect() as third:
                 wants("the third connection", receive(third), full)
@@ -233,7 +175,7 @@ def check_limit(program):
 
 def check_stop(program):
     for number in [signal.SIGINT, signal.SIGTERM]:
-        with Server(program) as server, server.greeted() as idle, server.greeted() as busy:
+        with started(program) as server, server.greeted() as idle, server.greeted() as busy:
             busy.sendall(b"NOOP\r\nNO")
             wants("a reply before the signal", receive(busy, len(OK)), OK)
             server.process.send_signal(number)
@@ -282,7 +224,7 @@ TALKS = {"curl": talk_by_curl, "lftp": talk_by_lftp, "ncftp": talk_by_ncftp, "tn
 
 def check_client(talk, program):
     """A real client logs in to the server, sends NOOP, and quits."""
-    with Server(program) as server:
+    with started(program) as server:
         found = talk(server.port)
     logged_in = found.index("230") if "230" in found else -1
     if found[:1] != ["220"] or logged_in < 0 or "200" not in found[logged_in:] or found[-1:] != ["221"]:
@@ -293,7 +235,7 @@ def check_client(talk, program):
 def check_speed(program, count="100000", connections="4"):
     """Each connection sends all of its lines while it reads."""
     lines, replies = b"NOOP\r\n" * int(count), int(count) * len(OK)
-    with Server(program) as server:
+    with started(program) as server:
         sockets = [server.connect() for _ in range(int(connections))]
         for each in sockets:
             each.recv(4096)  # the greeting

@@ -31,7 +31,8 @@ import sys
 import threading
 import time
 
-from embedding import GREETING, HOST, PATIENCE, REPLIES, Server, Wrong, receive, wants
+from embedding import REPLIES, Server
+from started_server import GREETING, HOST, PATIENCE, Wrong, receive, wants
 
 NOOP, QUIT = b"NOOP\r\n", b"QUIT\r\n"
 OKAY, BYE = REPLIES["Noop"], REPLIES["Quit"]
@@ -124,7 +125,7 @@ def processor_time(pid):
 
 def check_descriptors(program):
     """Where `ulimit -n` has no descriptor for a client, it waits in the queue, and the server without haste. Then it is served."""
-    with Server([program]) as server, server.connect() as beside:
+    with Server([program]) as server, server.greeted() as beside:
         server.said = b"server: accept: Too many open files\n"
         before = resource.prlimit(server.pid, resource.RLIMIT_NOFILE)
         opened = len(os.listdir(f"/proc/{server.pid}/fd"))
@@ -150,7 +151,7 @@ def check_files(preload, program):
     """The system has no file left for some calls of accept."""
     with Server(["env", f"LD_PRELOAD={preload}", "FAIL_ACCEPT=3", program]) as server:
         server.said = b"server: accept: Too many open files in system\n"
-        with server.connect() as connection:
+        with server.greeted() as connection:
             asked(connection)
     return "a client is served after three failures"
 
@@ -160,9 +161,9 @@ def check_fork(preload, program):
     with Server(["env", f"LD_PRELOAD={preload}", "FAIL_FORK=2", program]) as server:
         server.said = b"server: fork: Resource temporarily unavailable\n"
         for _ in range(2):
-            with server.connect(NO_PROCESS) as connection:
+            with server.greeted(NO_PROCESS) as connection:
                 wants("the end", all_of(connection), b"")
-        with server.connect() as connection:
+        with server.greeted() as connection:
             asked(connection)
     return "421 where there is no process, and the next client is served"
 
@@ -172,7 +173,7 @@ def connected_in_time(server):
     deadline = time.monotonic() + PATIENCE
     while time.monotonic() < deadline:
         try:
-            return server.connect()
+            return server.greeted()
         except Wrong:
             time.sleep(0.01)
     raise Wrong("no client is served after those that have ended")
@@ -210,9 +211,9 @@ def come_and_go(server, count):
 def check_connections(program):
     """Two clients at a time, and thirty one after the other; no process is left of them. Nothing is said of those that are refused."""
     with Server([program, "-c", "2"]) as server:
-        with server.connect() as first, server.connect() as second:
+        with server.greeted() as first, server.greeted() as second:
             for _ in range(5):
-                with server.connect(TOO_MANY) as third:
+                with server.greeted(TOO_MANY) as third:
                     wants("the end", all_of(third), b"")
             come_and_go(server, 20)
             asked(first)
@@ -229,20 +230,20 @@ def check_idle(program):
     with Server([program, "-i", "2"]) as server:
 
         def silent():
-            with server.connect() as connection:
+            with server.greeted() as connection:
                 within("a silent client", 1.5, 8, lambda: wants("a silent client", all_of(connection), TIMEOUT))
 
         def slow():
-            with server.connect() as connection:
+            with server.greeted() as connection:
                 within("a slow client", 1.5, 8, lambda: until_refused(connection, b"N", 0.1))
                 wants("a slow client", receive(connection, len(TIMEOUT)), TIMEOUT)
 
         def endless():
-            with server.connect() as connection:
+            with server.greeted() as connection:
                 within("a line without an end", 1.5, 8, lambda: until_refused(connection, b"N" * 4096, 0.001))
 
         def busy():
-            with server.connect() as connection:
+            with server.greeted() as connection:
                 for _ in range(6):
                     time.sleep(0.5)
                     asked(connection)
@@ -253,9 +254,9 @@ def check_idle(program):
 
 def check_unread(program):
     """A client that sends commands and doesn't read is ended too."""
-    with Server([program, "-i", "1"]) as server, server.connect() as connection:
+    with Server([program, "-i", "1"]) as server, server.greeted() as connection:
         within("a client that doesn't read", 0.5, 10, lambda: until_refused(connection, b"HELP\r\n" * 1000))
-        with server.connect() as other:
+        with server.greeted() as other:
             asked(other)
     return "a client that doesn't read is ended"
 
@@ -266,7 +267,7 @@ def check_late(program):
     with Server([program]) as server:
         endings = []
         for _ in range(IMPATIENT):
-            with server.connect() as connection:
+            with server.greeted() as connection:
                 connection.sendall(QUIT)
                 for _ in range(TIMES):
                     connection.sendall(LATE[:size])
@@ -278,11 +279,11 @@ def check_late(program):
 
 def check_staying(program):
     """After QUIT the server's side is at its end at once. What is dropped then has a bound in seconds and one in bytes."""
-    with Server([program, "-d", "2"]) as server, server.connect() as staying:
+    with Server([program, "-d", "2"]) as server, server.greeted() as staying:
         asked(staying, QUIT, BYE)
         within("the end of the server's side", 0, 1.5, lambda: wants("what comes after 221", all_of(staying), b""))
         within("a client that stays", 0.5, 6, lambda: until_refused(staying, b"x", 0.1))
-    with Server([program, "-d", "60"]) as server, server.connect() as endless:
+    with Server([program, "-d", "60"]) as server, server.greeted() as endless:
         endless.sendall(QUIT)
         sent = until_refused(endless, b"x" * 65536)
     return f"a client that stays is ended in time, and one that sends for ever after {sent} bytes"
@@ -298,7 +299,7 @@ def check_gone(program):
                 connection.sendall(b"HELP\r\n" * 10_000)
                 connection.shutdown(socket.SHUT_WR)
                 time.sleep(0.02)
-        with server.connect() as connection:
+        with server.greeted() as connection:
             asked(connection)
     return f"{IMPATIENT} clients are gone, and the next is served"
 
@@ -307,7 +308,7 @@ def check_killed(program):
     """A session that is killed is named, and the next client is served."""
     with Server([program, "-c", "1"]) as server:
         server.said = b"server: a session has ended with status 0x9\n"
-        with server.connect() as connection:
+        with server.greeted() as connection:
             os.kill(wants_children(server.pid, 1)[0], signal.SIGKILL)
             wants("what the client gets", all_of(connection), b"")
         with connected_in_time(server) as connection:
@@ -318,9 +319,9 @@ def check_killed(program):
 def check_children(program):
     """The program had children before it was this server. One ends, which takes off no session; the server doesn't wait for the other."""
     with Server(["sh", "-c", 'sleep 1 & sleep 20 & exec "$@"', "sh", program, "-c", "1"]) as server:
-        with server.connect() as connection:
+        with server.greeted() as connection:
             wants_children(server.pid, 2)
-            with server.connect(TOO_MANY) as second:
+            with server.greeted(TOO_MANY) as second:
                 wants("the end", all_of(second), b"")
             asked(connection, QUIT, BYE)
         within("the server's end", 0, 5, lambda: wants("the server's end", server.stop(), (0, b"")))
@@ -331,7 +332,7 @@ def check_stop(program):
     """Each client gets 421, also in the midst of a line, and no other is served. The server ends after its sessions, which here drop
     what comes for a second, since these clients stay. Where it is killed itself, each client gets 421 too."""
     for number in [signal.SIGTERM, signal.SIGINT, signal.SIGHUP, signal.SIGKILL]:
-        with Server([program, "-d", "1"]) as server, server.connect() as idle, server.connect() as midst:
+        with Server([program, "-d", "1"]) as server, server.greeted() as idle, server.greeted() as midst:
             midst.sendall(b"NOO")
             if number == signal.SIGKILL:
                 os.kill(server.pid, number)
@@ -340,7 +341,7 @@ def check_stop(program):
                 within("the server's end", 0.5, 5, lambda: wants("the server's end", server.stop(number), (0, b"")))
             wants("what the clients get", [all_of(idle), all_of(midst)], [STOPPING] * 2)
             try:
-                server.connect()
+                server.greeted()
                 raise Wrong("a client is served after the end")
             except ConnectionRefusedError:
                 pass
@@ -350,7 +351,7 @@ def check_stop(program):
 def check_twice(program):
     """While the sessions end, another signal ends the server at once. They go on dropping what comes, and then end too."""
     for number in [signal.SIGTERM, signal.SIGINT, signal.SIGHUP]:
-        with Server([program, "-d", "3"]) as server, server.connect() as staying:
+        with Server([program, "-d", "3"]) as server, server.greeted() as staying:
             session = wants_children(server.pid, 1)[0]
             os.kill(server.pid, signal.SIGTERM)
             wants("what the client gets", all_of(staying), STOPPING)

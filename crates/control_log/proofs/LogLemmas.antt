@@ -189,7 +189,7 @@ module _ (limit : Option ℕ) (remaining between remaining' : Option Bytes) (bef
       };
     }
 
-    module _ (full emptied : Pending) (is : full ≡ pushed decoder piece full.buffered)
+    module _ (full emptied : Pending) (is : full ≡ pushed decoder piece)
         (after : OutputState) where
       bytes_are : full.bytes ≡ incomplete_line so_far.read ++ piece
       bytes_are = ap (λ pending. pending.bytes) is ∙ ap (λ bytes. bytes ++ piece) so_far.pending

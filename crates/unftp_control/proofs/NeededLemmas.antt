@@ -8,7 +8,7 @@ use Rattle.unftp_control_defs.proofs.LackLemmas.{Lacks-test}
 use Rattle.unftp_control_defs.proofs.EncodingLemmas.{FrontReply-encoded}
 use Rattle.unftp_control_defs.proofs.ReplyPartLemmas.{part_is_partial}
 use Rattle.unftp_control_defs.proofs.ReplyCasesLemmas.{lacks_nil, lacks_one, lacks_more}
-use Rattle.unftp_control_read.specs.ReplyDecoding.{appended, nothing_pending}
+use Rattle.unftp_control_read.specs.ReplyDecoding.{appended, no_bytes}
 use Rattle.unftp_control_read.specs.Receiving.{IsNeeded}
 
 no_crlf : (text : Bytes) → Lacks LF text → LacksCrlf text
@@ -30,11 +30,11 @@ front more = FrontReply-encoded (CodeAndMsg 211 (codes "a")) more
 no_part : (more : Bytes) → IsPartial (codes "211 a\r\n" ++ more) → ⊥
 no_part more partial = partial.0 (211, codes "a" ∷ [], 7, front more)
 
-pub after_a_reply : IsNeeded (appended (nothing_pending None) (codes "211 a\r\n")) (codes "2") → ⊥
+pub after_a_reply : IsNeeded (appended (no_bytes None) (codes "211 a\r\n")) (codes "2") → ⊥
 after_a_reply (inl none) = absurd (cc)
 after_a_reply (inr last) = no_part last.first last.part.0
 
-pub at_the_limit : IsNeeded (appended (nothing_pending (Some 6)) (codes "211 a\r")) (codes "\n") → ⊥
+pub at_the_limit : IsNeeded (appended (no_bytes (Some 6)) (codes "211 a\r")) (codes "\n") → ⊥
 at_the_limit (inl none) = absurd (cc)
 at_the_limit (inr last) =
     absurd (let short = last.part.1 in

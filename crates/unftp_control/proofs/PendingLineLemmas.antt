@@ -11,22 +11,22 @@ first_line : (pending : Pending) (v : MayRunOut pending)
     → lines_of pending.bytes ≡ v.line ∷ lines_of v.after
 first_line pending v = ap lines_of v.whole ∙ (line_first v.line v.after v.is_line).0
 
-pub no_line-no_memory : MayRunOut (pushed (no_bytes None) (codes "USER a") 6) → ⊥
+pub no_line-no_memory : MayRunOut (pushed (no_bytes None) (codes "USER a")) → ⊥
 no_line-no_memory v = absurd (let none = first_line _ v in cc)
 
-noop : (v : MayRunOut (pushed (no_bytes None) (codes "NOOP\r\nUSER a\r\n") 14))
+noop : (v : MayRunOut (pushed (no_bytes None) (codes "NOOP\r\nUSER a\r\n")))
     → codes "NOOP\r\n" ≡ v.line
 noop v = let first = first_line _ v in cc
 
 takes_none : MayTakeMemory (codes "NOOP\r\n") → ⊥
 takes_none takes = search rules
 
-pub noop-no_memory : MayRunOut (pushed (no_bytes None) (codes "NOOP\r\nUSER a\r\n") 14) → ⊥
+pub noop-no_memory : MayRunOut (pushed (no_bytes None) (codes "NOOP\r\nUSER a\r\n")) → ⊥
 noop-no_memory v = takes_none (rw (← noop v) at v.takes_memory)
 
-user : (v : MayRunOut (pushed (no_bytes (Some 7)) (codes "USER a\r\n") 8))
+user : (v : MayRunOut (pushed (no_bytes (Some 7)) (codes "USER a\r\n")))
     → codes "USER a\r\n" ≡ v.line
 user v = let first = first_line _ v in cc
 
-pub too_long-no_memory : MayRunOut (pushed (no_bytes (Some 7)) (codes "USER a\r\n") 8) → ⊥
+pub too_long-no_memory : MayRunOut (pushed (no_bytes (Some 7)) (codes "USER a\r\n")) → ⊥
 too_long-no_memory v = false≢true (sym (rw (← user v) at v.short))

@@ -2,22 +2,22 @@
 use Rattle.std.proofs.Common.{[], ◌∷◌, refl, sym}
 use Rattle.std.proofs.lemmas.Bool.{false≢true}
 use Rattle.unftp_control.specs.RunEnd.{EndsAfter, EndsNowhere}
-use Rattle.unftp_control.specs.Snapshots.{counting_to_five, noop}
+use Rattle.unftp_control.specs.Snapshots.{counter_to_five, noop}
 
-pub ends-nowhere : EndsNowhere counting_to_five 3 (noop ∷ [])
+pub ends-nowhere : EndsNowhere counter_to_five 3 (noop ∷ [])
 ends-nowhere [] later event split = refl
 ends-nowhere (e ∷ []) later event split = absurd (cc)
 ends-nowhere (e ∷ f ∷ first) later event split = absurd (cc)
 
-pub ends-somewhere : EndsNowhere counting_to_five 3 (noop ∷ noop ∷ noop ∷ []) → ⊥
+pub ends-somewhere : EndsNowhere counter_to_five 3 (noop ∷ noop ∷ noop ∷ []) → ⊥
 ends-somewhere on = false≢true (sym (on (noop ∷ []) (noop ∷ []) noop refl))
 
-pub ends-after : EndsAfter counting_to_five 3 (noop ∷ noop ∷ noop ∷ []) (noop ∷ []) noop
+pub ends-after : EndsAfter counter_to_five 3 (noop ∷ noop ∷ noop ∷ []) (noop ∷ []) noop
 ends-after = record { later = noop ∷ []; split = refl; none_before = ends-nowhere; done = refl }
 
-pub ends-not_before : EndsAfter counting_to_five 3 (noop ∷ noop ∷ noop ∷ []) [] noop → ⊥
+pub ends-not_before : EndsAfter counter_to_five 3 (noop ∷ noop ∷ noop ∷ []) [] noop → ⊥
 ends-not_before v = false≢true v.done
 
-pub ends-not_later : EndsAfter counting_to_five 3 (noop ∷ noop ∷ noop ∷ []) (noop ∷ noop ∷ []) noop
+pub ends-not_later : EndsAfter counter_to_five 3 (noop ∷ noop ∷ noop ∷ []) (noop ∷ noop ∷ []) noop
     → ⊥
 ends-not_later v = false≢true v.done

@@ -9,8 +9,8 @@ use Rattle.unftp_control_serve.specs.Endings.{Snapshot}
 use Rattle.unftp_control_serve.specs.Engine.{EngineState}
 
 -- It counts the events, and its reply to each is `200 OK`. It may fail with `OutOfMemory` only.
-abbrev pub counting : Law ℕ
-counting = record {
+abbrev pub counter : Law ℕ
+counter = record {
   says = λ _ _. CodeAndMsg 200 (codes "OK");
   next = λ taken _. taken + 1;
   may_fail = λ _ _ fault. fault ≡ out_of_memory;
@@ -18,11 +18,11 @@ counting = record {
 }
 
 -- As the one before, but done once it has taken five events.
-abbrev pub counting_to_five : Law ℕ
-counting_to_five = record {
-  says = counting.says;
-  next = counting.next;
-  may_fail = counting.may_fail;
+abbrev pub counter_to_five : Law ℕ
+counter_to_five = record {
+  says = counter.says;
+  next = counter.next;
+  may_fail = counter.may_fail;
   done = λ taken. taken == 5;
 }
 
@@ -30,9 +30,9 @@ counting_to_five = record {
 abbrev pub silent : Law ℕ
 silent = record {
   says = λ _ _. Nothing;
-  next = counting.next;
-  may_fail = counting.may_fail;
-  done = counting.done;
+  next = counter.next;
+  may_fail = counter.may_fail;
+  done = counter.done;
 }
 
 -- It answers 221 to QUIT, after which it is done, 500 to a refused line, and 200 to any other.

@@ -1,5 +1,6 @@
 -- To be read in this order.
 pub mod Bytes
+pub mod Buffer
 pub mod Lines
 pub mod Verbs
 pub mod Values

@@ -1,5 +1,89 @@
-//! A buffer of bytes that are taken from its start.
-ghost use Rattle.std.specs.Prelude.{◌≡◌, ◌≤◌, drop, vec_len};
+//! Buffers whose bytes are taken from the start.
+ghost use Rattle.std.specs.Prelude.{◌≡◌, ◌≤◌, ◌+◌, [], ◌++◌, OnErr, OnOk, drop, length, vec_len};
+ghost use Rattle.unftp_control_defs.specs.Buffer.{IsTakenWithin, held_after_piece, pending_in};
+
+use std::alloc::{AllocError, Global};
+
+/// Bytes that come in pieces at the end, and are taken from the start. What is taken is only counted,
+/// so that bytes move once for a piece, and not for each line or reply of it.
+#[derive(Drop)]
+pub struct PendingBytes {
+    /// The bytes that it holds.
+    pub bytes: Vec<u8>,
+    /// How many of them are taken.
+    pub start: usize,
+}
+
+impl PendingBytes {
+    /// A buffer that holds nothing. No memory is taken.
+    pub fn new(alloc: Global) -> PendingBytes
+        ensures bytes { result.bytes.items ≡ [] }
+        ensures start { result.start ≡ 0 }
+    {
+        PendingBytes {
+            bytes: Vec::new(alloc),
+            start: 0,
+        }
+    }
+
+    /// The bytes that are not taken.
+    pub fn pending(&self) -> &[u8]
+        requires { IsTakenWithin self.now }
+        ensures { result.now ≡ pending_in self.now }
+    {
+        self.bytes.as_slice().split_at(self.start).1
+    }
+
+    /// Appends a piece. When out of memory, nothing changes; it never is for an empty piece.
+    pub fn push(&mut self, piece: &[u8]) -> Result<(), AllocError>
+        requires { IsTakenWithin self.old }
+        ensures ok { OnOk result (pending_in self.new ≡ pending_in self.old ++ piece.now) }
+        ensures held { OnOk result (length self.new.bytes.items ≡ held_after_piece
+            (length self.old.bytes.items) (length (pending_in self.old)) (length piece.now)) }
+        ensures within { OnOk result (IsTakenWithin self.new) }
+        ensures err { OnErr result ((self.new.bytes.items ≡ self.old.bytes.items)
+            × (self.new.start ≡ self.old.start)) }
+        ensures some { OnErr result (¬ (piece.now ≡ [])) }
+    {
+        append(&mut self.bytes, piece)?;
+        // each move is paid for by as many bytes that were taken
+        if self.start > self.bytes.len() - self.start {
+            self.settle();
+        }
+        Ok(())
+    }
+
+    /// Removes the bytes that are taken: the others move to the start.
+    pub fn settle(&mut self)
+        requires { IsTakenWithin self.old }
+        ensures bytes { self.new.bytes.items ≡ pending_in self.old }
+        ensures start { self.new.start ≡ 0 }
+    {
+        remove_front(&mut self.bytes, self.start);
+        self.start = 0;
+    }
+
+    /// Removes all bytes.
+    pub fn clear(&mut self)
+        ensures bytes { self.new.bytes.items ≡ [] }
+        ensures start { self.new.start ≡ 0 }
+    {
+        self.bytes.clear();
+        self.start = 0;
+    }
+}
+
+/// Appends the bytes, or none of them when out of memory: never so where there are none.
+pub fn append(buf: &mut Vec<u8>, bytes: &[u8]) -> Result<(), AllocError>
+    ensures ok { OnOk result (buf.new.items ≡ buf.old.items ++ bytes.now) }
+    ensures err { OnErr result (buf.new.items ≡ buf.old.items) }
+    ensures some { OnErr result (¬ (bytes.now ≡ [])) }
+{
+    match bytes {
+        [] => Ok(()),
+        _ => buf.extend_from_slice(bytes),
+    }
+}
 
 /// Removes this many bytes from the start of the buffer. The rest is moved once, where `drain` would
 /// turn the whole buffer.

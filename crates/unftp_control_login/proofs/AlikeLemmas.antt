@@ -26,7 +26,7 @@ use Rattle.unftp_control_login.specs.declared.stage.Stage.TheVariants.{NoName, N
 use Rattle.unftp_control_login.specs.Login.{Accounts}
 use Rattle.unftp_control_login.specs.Gate.{Gated, admitted, closed, gated_law, inner_after, not_accepted, password_reply, stage_after, stage_after_password}
 use Rattle.unftp_control_login.specs.LoginLimit.{Limited, is_pass, limited_law, limited_to, too_many}
-use Rattle.unftp_control_login.specs.Promises.{AllLookAlike, AnsweredAlike, AtEachPlace, CanBeSent, FailsAlike, IsRefusedLogin, LooksAlike, login_lines, pass_line}
+use Rattle.unftp_control_login.specs.Promises.{AllLookAlike, AnsweredAlike, AtEachPlace, PasswordFits, FailsAlike, IsRefusedLogin, LooksAlike, login_lines, pass_line}
 use Rattle.unftp_control_login.proofs.StageLemmas.{Reason, stage_after-reason}
 
 -- Lines of passwords may take memory.
@@ -462,7 +462,7 @@ limit-steps law s name password other another h = record {
 
 -- Events that look alike, in bytes.
 pub events-pass : (limit : Option ℕ) (before after password : Bytes) → incomplete_line before ≡ []
-    → CanBeSent limit password
+    → PasswordFits limit password
     → events limit (before ++ (pass_line password ++ after))
     ≡ events limit before ++ Command (Pass password) ∷ events limit after
 events-pass limit before after password ended sent =
@@ -534,7 +534,7 @@ module _ {S : Type 0} (law : Law S) (s : S) (accepts : Accounts) (Holds : List F
         (from_lines limit (lines_of other) (Lines-lines_of other).each) failed
 
     pub text-passwords : (before after password other : Bytes) → incomplete_line before ≡ []
-        → CanBeSent limit password → CanBeSent limit other
+        → PasswordFits limit password → PasswordFits limit other
         → AnsweredAlike accepts (events limit before) password other
         → text_for limit law s (before ++ (pass_line password ++ after)) ≡ text_for limit law s
         (before ++ (pass_line other ++ after))
@@ -585,7 +585,7 @@ module _ {S : Type 0} (law : Law S) (limit : Option ℕ) (accepts : Accounts) (i
       (follows law accepts) limit (gate-step law accepts)
 
   pub gate-text-passwords : (before after password other : Bytes)
-      → incomplete_line before ≡ [] → CanBeSent limit password → CanBeSent limit other
+      → incomplete_line before ≡ [] → PasswordFits limit password → PasswordFits limit other
       → AnsweredAlike accepts (events limit before) password other
       → text_for limit (gated_law law) (closed accepts inner)
       (before ++ (pass_line password ++ after))
@@ -654,7 +654,7 @@ module _ {S : Type 0} (law : Law S) (limit : Option ℕ) (accepts : Accounts) (l
       limit limit-alike
 
   pub limit-text-passwords : (before after password other : Bytes)
-      → incomplete_line before ≡ [] → CanBeSent limit password → CanBeSent limit other
+      → incomplete_line before ≡ [] → PasswordFits limit password → PasswordFits limit other
       → AnsweredAlike accepts (events limit before) password other
       → text_for limit (limited_law (gated_law law)) (limited_to left (closed accepts inner))
       (before ++ (pass_line password ++ after))

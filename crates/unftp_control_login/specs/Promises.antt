@@ -111,12 +111,12 @@ abbrev pub login_lines : Bytes → Bytes → Bytes
 login_lines name password = canonical_line (User name) ++ pass_line password
 
 -- a password that a line within the limit can give
-abbrev pub CanBeSent : Option ℕ → Bytes → Type 0
-CanBeSent limit password = Lacks LF password × Fits limit (pass_line password)
+abbrev pub PasswordFits : Option ℕ → Bytes → Type 0
+PasswordFits limit password = Lacks LF password × Fits limit (pass_line password)
 
 -- A name and a password that lines within the limit can give, and that the accounts refuse.
 pub record IsRefusedLogin (limit : Option ℕ) (accepts : Accounts) (name password : Bytes)
     : Type 0 where
   pub name_sent : Lacks LF name × Fits limit (canonical_line (User name))
-  pub password_sent : CanBeSent limit password
+  pub password_sent : PasswordFits limit password
   pub refused : accepts name password ≡ false

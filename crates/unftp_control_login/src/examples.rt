@@ -13,7 +13,7 @@ ghost use Rattle.unftp_control_defs.specs.declared.parameters.StruParam.TheVaria
 ghost use Rattle.unftp_control_login.specs.Login.{GaveName, HasLoggedIn, IsLoggedIn, flushes_login, is_login, needs_login};
 ghost use Rattle.unftp_control_login.specs.Gate.{closed, gated_law, logged_in, login_needed, name_needed, not_accepted, password_needed};
 ghost use Rattle.unftp_control_login.specs.LoginLimit.{EndsWith, failed_in_run, limited_law, limited_to, too_many};
-ghost use Rattle.unftp_control_login.specs.Promises.{AllLookAlike, CanBeSent, FailsAlike, IsRefusedLogin, IsSentPlain, IsTurnedAway, LearnsName, LooksAlike, MembersAlone, NoFailure, ReachesHandler, SendsPlainReplies, ServesMembersAlone, login_lines};
+ghost use Rattle.unftp_control_login.specs.Promises.{AllLookAlike, PasswordFits, FailsAlike, IsRefusedLogin, IsSentPlain, IsTurnedAway, LearnsName, LooksAlike, MembersAlone, NoFailure, ReachesHandler, SendsPlainReplies, ServesMembersAlone, login_lines};
 ghost use Rattle.unftp_control_login.specs.Examples.{anna, anna_and_ben, ben, counting, here, login, only_anna, pass, secret, silent, user, wrong};
 
 /// Which events need a login, and which undo one.
@@ -95,9 +95,9 @@ pub fn members_are_served()
 
 /// Which lines can be sent, and which logins are refused.
 pub fn refused_logins()
-    ensures sent { CanBeSent (Some 13) secret }
-    ensures too_long { CanBeSent (Some 12) secret → ⊥ }
-    ensures line_feed { CanBeSent None (codes "a\nb") → ⊥ }
+    ensures sent { PasswordFits (Some 13) secret }
+    ensures too_long { PasswordFits (Some 12) secret → ⊥ }
+    ensures line_feed { PasswordFits None (codes "a\nb") → ⊥ }
     ensures refused { IsRefusedLogin None only_anna anna wrong
         × IsRefusedLogin None only_anna wrong secret }
     ensures accepted { IsRefusedLogin None only_anna anna secret → ⊥ }

@@ -9,7 +9,7 @@ ghost use Rattle.unftp_control_defs.specs.Lines.{incomplete_line};
 ghost use Rattle.unftp_control_login.specs.Login.{Accounts, GaveName, IsLoggedIn, is_login, needs_login};
 ghost use Rattle.unftp_control_login.specs.Gate.{Gated, closed, gated_law};
 ghost use Rattle.unftp_control_login.specs.LoginLimit.{EndsWith, Limited, failed_in_run, is_failed_login, limited_law, limited_to, too_many};
-ghost use Rattle.unftp_control_login.specs.Promises.{AllLookAlike, AnsweredAlike, CanBeSent, FailsAlike, IsRefusedLogin, IsTurnedAway, LearnsName, MembersAlone, ReachesHandler, SendsPlainReplies, ServesMembersAlone, login_lines, pass_line};
+ghost use Rattle.unftp_control_login.specs.Promises.{AllLookAlike, AnsweredAlike, PasswordFits, FailsAlike, IsRefusedLogin, IsTurnedAway, LearnsName, MembersAlone, ReachesHandler, SendsPlainReplies, ServesMembersAlone, login_lines, pass_line};
 
 use unftp_control_serve::Handler;
 
@@ -94,7 +94,7 @@ pub fn errors_hide_passwords<H: Handler>()
 pub fn refused_passwords_look_alike<H: Handler>()
     ensures gate { (limit : Option ℕ) (accepts : Accounts) (inner : H.State)
         (before after password other : Bytes) → incomplete_line before ≡ []
-        → CanBeSent limit password → CanBeSent limit other
+        → PasswordFits limit password → PasswordFits limit other
         → AnsweredAlike accepts (events limit before) password other
         → text_for limit (gated_law H.law) (closed accepts inner)
         (before ++ (pass_line password ++ after))
@@ -102,7 +102,7 @@ pub fn refused_passwords_look_alike<H: Handler>()
         (before ++ (pass_line other ++ after)) }
     ensures limit { (limit : Option ℕ) (accepts : Accounts) (left : ℕ) (inner : H.State)
         (before after password other : Bytes) → incomplete_line before ≡ []
-        → CanBeSent limit password → CanBeSent limit other
+        → PasswordFits limit password → PasswordFits limit other
         → AnsweredAlike accepts (events limit before) password other
         → text_for limit (limited_law (gated_law H.law))
         (limited_to left (closed accepts inner)) (before ++ (pass_line password ++ after))

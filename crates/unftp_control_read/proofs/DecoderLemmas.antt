@@ -1,6 +1,6 @@
 -- The pending bytes of a reply decoder, of which a search sees those that a reply may have.
 use Rattle.std.proofs.Common.{◌≡◌, ℕ, ◌+◌, ◌-◌, ◌*◌, ◌<◌, ◌≤◌, true, false, Option, Some, None, Result, Ok, Err, List, [], ◌++◌, ⊎_elim, length, take, drop, flat_map, refl, sym, ap, subst, ◌∙◌, Vec, Global, arith, append-nil, length-append}
-use Rattle.std.specs.Prelude.{IfSome, nat_lt}
+use Rattle.std.specs.Prelude.{IfSome}
 use Rattle.std.proofs.Math.Seq.{take-append-add}
 use Rattle.std.proofs.lemmas.Bool.{cases_lt}
 use Rattle.std.proofs.lemmas.List.{take_all, take-append-drop, take-append-le, drop-append-le, length-take-le}
@@ -11,7 +11,7 @@ use Rattle.unftp_control_defs.proofs.ReplyAppendLemmas.{FrontReply-append, IsMal
 use Rattle.unftp_control_defs.proofs.ReplyCasesLemmas.{front_within}
 use Rattle.unftp_control_read.specs.Reading.{ReturnsRefusal}
 use Rattle.unftp_control_read.specs.Search.{IsSearched, scan_offset}
-use Rattle.unftp_control_read.specs.ReplyDecoding.{CountsNextReply, HasError, IsReplyDecoder, PendingReplies, appended, error_of, only_pending, pending_replies, piece_pushed, within_limit}
+use Rattle.unftp_control_read.specs.ReplyDecoding.{CountsNextReply, HasError, IsReplyDecoder, error_of, pending_replies, within_limit}
 use Rattle.unftp_control_read.specs.Receiving.{AppendsPiece, AppendsPending}
 use Rattle.unftp_control_read.specs.declared.errors.ReceiveError.{ReceiveError}
 use Rattle.unftp_control_read.specs.declared.search.Search.{Search}
@@ -76,48 +76,42 @@ offset_pending limit bytes s h =
 
 -- ---- a piece after them
 
-module _ (limit : Option ℕ) (s : Search) (buf after piece : Bytes) (start : ℕ)
-    (well : IsReplyDecoder limit s buf start) (e : after ≡ buf ++ piece) where
-  dropped : drop start after ≡ drop start buf ++ piece
-  dropped = ap (drop start) e ∙ drop-append-le start buf piece well.start_within
-
-  pub decoder_more : IsReplyDecoder limit s after start
+-- The buffer holds these bytes then, of which so many are taken.
+module _ {limit : Option ℕ} {s : Search} {buf : Bytes} {start : ℕ}
+    (well : IsReplyDecoder limit s buf start) (after piece : Bytes) (start' : ℕ)
+    (start_within : start' ≤ length after)
+    (e : drop start' after ≡ drop start buf ++ piece) where
+  pub decoder_more : IsReplyDecoder limit s after start'
   decoder_more = record {
-    start_within = omega (arith, well.start_within, ap length e, length-append buf piece);
-    searched = subst (λ b. IsSearched (within_limit limit b) s) (sym dropped)
+    start_within = start_within;
+    searched = subst (λ b. IsSearched (within_limit limit b) s) (sym e)
         (searched_more limit (drop start buf) piece s well.searched);
   }
 
-  pub view_more : (tests : ℕ) → pending_replies limit s tests (drop start after) (length after)
-      ≡ appended (pending_replies limit s tests (drop start buf) (length buf)) piece
-  view_more tests =
-      let unscanned : length (drop start after) - scan_offset s
+  pub view_more : (tests : ℕ) {buffered : ℕ} → length after ≡ buffered
+      → pending_replies limit s tests (drop start' after) (length after) ≡ record {
+        bytes = drop start buf ++ piece;
+        limit = limit;
+        tests = tests;
+        unscanned = length (drop start buf) - scan_offset s + length piece;
+        buffered = buffered;
+      }
+  view_more tests {buffered} held =
+      let unscanned : length (drop start' after) - scan_offset s
       ≡ length (drop start buf) - scan_offset s + length piece =
       omega (
         arith,
         offset_pending limit (drop start buf) s well.searched,
-        ap length dropped,
+        ap length e,
         length-append (drop start buf) piece,
       ) in
-      let buffered : length after ≡ length buf + length piece = ap length e
-      ∙ length-append buf piece in
       λ i. record {
-        bytes = dropped i;
+        bytes = e i;
         limit = limit;
         tests = tests;
         unscanned = unscanned i;
-        buffered = buffered i;
+        buffered = held i;
       }
-
-pub pushed_moved : (p : PendingReplies) (piece : Bytes)
-    → nat_lt (length (p.bytes ++ piece)) (p.buffered - length p.bytes) ≡ true
-    → only_pending (appended p piece) ≡ piece_pushed p piece
-pushed_moved p piece h = rw h refl
-
-pub pushed_kept : (p : PendingReplies) (piece : Bytes)
-    → nat_lt (length (p.bytes ++ piece)) (p.buffered - length p.bytes) ≡ false
-    → appended p piece ≡ piece_pushed p piece
-pushed_kept p piece h = rw h refl
 
 -- ---- what a search of them means for all
 
@@ -125,11 +119,9 @@ pushed_kept p piece h = rw h refl
 pub record WithinLimit (limit : Option ℕ) (bytes searched : Bytes) : Type 0 where
   pub is : searched ≡ within_limit limit bytes
 
-pub within : (limit : Option ℕ) (start : ℕ) {buf slice pending searched : Bytes} → slice ≡ buf
-    → pending ≡ drop start slice → searched ≡ within_limit limit pending
-    → WithinLimit limit (drop start buf) searched
-within limit start is back first =
-    record { is = first ∙ ap (within_limit limit) (back ∙ ap (drop start) is) }
+pub within : (limit : Option ℕ) {bytes pending searched : Bytes} → pending ≡ bytes
+    → searched ≡ within_limit limit pending → WithinLimit limit bytes searched
+within limit same first = record { is = first ∙ ap (within_limit limit) same }
 
 module _ {limit : Option ℕ} {bytes searched : Bytes} (w : WithinLimit limit bytes searched) where
   pub searched_length : length searched ≤ length bytes
@@ -241,22 +233,40 @@ module _ {limit : Option ℕ} {bytes searched : Bytes} (w : WithinLimit limit by
 
 -- ---- one read, seen from where the pending bytes begin
 
-module _ (limit : Option ℕ) (s : Search) (buf after : Bytes) (start most : ℕ)
-    (remaining remaining' : Option Bytes) where
-  pub decoder_read : (result : Result ℕ ReceiveError) → IsReplyDecoder limit s buf start
-      → AppendsPiece most buf after remaining remaining' result → IsReplyDecoder limit s after start
-  decoder_read (Ok n) well h = decoder_more limit s buf after h.0 start well h.1
-  decoder_read (Err error) well h = subst (λ b. IsReplyDecoder limit s b start) (sym h.0) well
+module _ {limit : Option ℕ} {s : Search} {buf : Bytes} {start : ℕ}
+    (well : IsReplyDecoder limit s buf start) (after : Bytes) where
+  after_piece : (piece : Bytes) → after ≡ buf ++ piece
+      → (start ≤ length after) × (drop start after ≡ drop start buf ++ piece)
+  after_piece piece e = (
+    omega (arith, well.start_within, ap length e, length-append buf piece),
+    ap (drop start) e ∙ drop-append-le start buf piece well.start_within,
+  )
 
-  pub reads_pending : (result : Result ℕ ReceiveError) → IsReplyDecoder limit s buf start
-      → AppendsPiece most buf after remaining remaining' result → (tests : ℕ)
-      → AppendsPending most (pending_replies limit s tests (drop start buf) (length buf))
-      (pending_replies limit s tests (drop start after) (length after)) remaining remaining'
-      result
-  reads_pending (Ok n) well h tests =
-      (h.0, view_more limit s buf after h.0 start well h.1 tests, h.2, h.3, h.4, h.5)
-  reads_pending (Err error) well h tests =
-      (ap (λ b. pending_replies limit s tests (drop start b) (length b)) h.0, h.1, h.2)
+  module _ (most : ℕ) (remaining remaining' : Option Bytes) where
+    pub decoder_read : (result : Result ℕ ReceiveError)
+        → AppendsPiece most buf after remaining remaining' result
+        → IsReplyDecoder limit s after start
+    decoder_read (Ok n) h =
+        let more = after_piece h.0 h.1 in decoder_more well after h.0 start more.0 more.1
+    decoder_read (Err error) h = subst (λ b. IsReplyDecoder limit s b start) (sym h.0) well
+
+    pub reads_pending : (tests : ℕ) (result : Result ℕ ReceiveError)
+        → AppendsPiece most buf after remaining remaining' result
+        → AppendsPending most (pending_replies limit s tests (drop start buf) (length buf))
+        (pending_replies limit s tests (drop start after) (length after)) remaining remaining'
+        result
+    reads_pending tests (Ok n) h =
+        let more = after_piece h.0 h.1 in (
+          h.0,
+          view_more well after h.0 start more.0 more.1 tests
+              (ap length h.1 ∙ length-append buf h.0),
+          h.2,
+          h.3,
+          h.4,
+          h.5,
+        )
+    reads_pending tests (Err error) h =
+        (ap (λ b. pending_replies limit s tests (drop start b) (length b)) h.0, h.1, h.2)
 
 -- ---- two answers that are not the same
 

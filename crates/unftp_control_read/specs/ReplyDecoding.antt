@@ -1,6 +1,7 @@
 -- The pending bytes of a reply decoder.
-use Rattle.std.specs.Prelude.{◌≡◌, ℕ, ◌+◌, ◌-◌, ◌<◌, ◌≤◌, if◌then◌else◌, List, [], ◌++◌, length, take, drop, Option, Some, None, Result, Ok, Err, MatchResult, MatchOption, IfSome, OnOk, OnErr, nat_lt}
+use Rattle.std.specs.Prelude.{◌≡◌, ℕ, ◌+◌, ◌-◌, ◌<◌, ◌≤◌, List, [], ◌++◌, length, take, drop, Option, Some, None, Result, Ok, Err, MatchResult, MatchOption, IfSome, OnOk, OnErr}
 use Rattle.unftp_control_defs.specs.Bytes.{Bytes}
+use Rattle.unftp_control_defs.specs.Buffer.{held_after_piece}
 use Rattle.unftp_control_defs.specs.ReplyReader.{HasFront, IsMalformed, IsPartial}
 use Rattle.unftp_control_defs.specs.ReplyLimit.{IsTooLongReply}
 use Rattle.unftp_control_defs.specs.TakingSteps.{TakesReply}
@@ -42,8 +43,8 @@ pub record PendingReplies : Type 0 where
   pub buffered : ℕ
 
 -- no bytes so far
-abbrev pub nothing_pending : Option ℕ → PendingReplies
-nothing_pending limit = record {
+abbrev pub no_bytes : Option ℕ → PendingReplies
+no_bytes limit = record {
   bytes = [];
   limit = limit;
   tests = 0;
@@ -62,8 +63,8 @@ pending_replies limit search tests bytes buffered = record {
 }
 
 -- The replies that were taken have left the buffer.
-abbrev pub only_pending : PendingReplies → PendingReplies
-only_pending pending = record {
+abbrev pub settled : PendingReplies → PendingReplies
+settled pending = record {
   bytes = pending.bytes;
   limit = pending.limit;
   tests = pending.tests;
@@ -81,21 +82,19 @@ appended pending piece = record {
   buffered = pending.buffered + length piece;
 }
 
--- A piece comes after them. The replies that were taken leave the buffer where they have more bytes
--- than what is pending then.
-abbrev pub piece_pushed : PendingReplies → Bytes → PendingReplies
-piece_pushed pending piece = record {
+-- A piece comes after them, and the replies that were taken may leave the buffer.
+abbrev pub pushed : PendingReplies → Bytes → PendingReplies
+pushed pending piece = record {
   bytes = pending.bytes ++ piece;
   limit = pending.limit;
   tests = pending.tests;
   unscanned = pending.unscanned + length piece;
-  buffered = (if nat_lt (length (pending.bytes ++ piece)) (pending.buffered - length pending.bytes)
-      then length (pending.bytes ++ piece) else pending.buffered + length piece);
+  buffered = held_after_piece pending.buffered (length pending.bytes) (length piece);
 }
 
 -- The pending bytes have left the buffer too.
-abbrev pub all_cleared : PendingReplies → PendingReplies
-all_cleared pending = record {
+abbrev pub cleared : PendingReplies → PendingReplies
+cleared pending = record {
   bytes = [];
   limit = pending.limit;
   tests = pending.tests;

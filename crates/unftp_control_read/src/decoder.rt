@@ -1,9 +1,9 @@
 //! The pending bytes, and the replies that they begin with.
-ghost use Rattle.std.specs.Prelude.{◌≡◌, ◌<◌, ◌≤◌, ◌+◌, ℕ, List, None, Some, OnOk, OnErr, IfSome, IsTrue, false, length};
+ghost use Rattle.std.specs.Prelude.{◌≡◌, ◌<◌, ◌≤◌, ◌+◌, ℕ, List, [], None, Some, OnOk, OnErr, IfSome, IsTrue, false, length};
 ghost use Rattle.unftp_control_defs.specs.Bytes.{Bytes};
 ghost use Rattle.unftp_control_defs.specs.ReplyReader.{FrontReply, IsPartial, IsMalformed};
 ghost use Rattle.unftp_control_defs.specs.ReplyLimit.{IsTooLongReply};
-ghost use Rattle.unftp_control_read.specs.ReplyDecoding.{IsReturned, TakesNextReply, CountsNextReply, all_cleared, copy_scans, held_after, nothing_pending, only_pending, piece_pushed, within_limit};
+ghost use Rattle.unftp_control_read.specs.ReplyDecoding.{IsReturned, TakesNextReply, CountsNextReply, cleared, copy_scans, held_after, no_bytes, settled, pushed, within_limit};
 ghost use Rattle.unftp_control_read.specs.Receiving.{AppendsPending};
 
 use crate::errors::{NextReplyError, ReceiveError};
@@ -14,46 +14,44 @@ use crate::{Front, read_front};
 use std::alloc::{AllocError, Global};
 use std::io::Read;
 use std::marker::Model;
-use unftp_control_defs::buffer::remove_front;
+use unftp_control_defs::buffer::PendingBytes;
 use unftp_control_defs::count::Count;
 
 /// Cuts replies from an input that comes in pieces: for a client with an event loop of its own. A
 /// piece is pushed, and replies are taken until there is none; between two of them the client does
 /// what it likes, and after the last it may clear what is pending.
-// The pending bytes begin at `start`: the replies before it are taken. The search, which counts
-// from `start`, keeps how far it has come, so that no byte is searched again with each piece.
+// The search, which counts from the first pending byte, keeps how far it has come, so that no byte is
+// searched again with each piece.
 #[derive(Drop)]
 pub struct ReplyDecoder {
-    buf: Vec<u8>,
-    start: usize,
+    buffer: PendingBytes,
     limit: Option<usize>,
     search: Search,
     tests: Count,
 }
 
 impl Model for ReplyDecoder {
-    ghost use Rattle.std.specs.Prelude.{length, drop};
+    ghost use Rattle.std.specs.Prelude.{length};
+    ghost use Rattle.unftp_control_defs.specs.Buffer.{pending_in};
     ghost use Rattle.unftp_control_read.specs.ReplyDecoding.{IsReplyDecoder, PendingReplies, pending_replies};
 
     ghost Value = { PendingReplies };
 
     ghost view = { λ decoder. pending_replies decoder.limit decoder.search decoder.tests
-        (drop decoder.start decoder.buf.items)
-        (length decoder.buf.items) };
+        (pending_in decoder.buffer) (length decoder.buffer.bytes.items) };
 
     ghost invariant = { λ decoder. IsReplyDecoder decoder.limit decoder.search
-        decoder.buf.items decoder.start };
+        decoder.buffer.bytes.items decoder.buffer.start };
 }
 
 impl ReplyDecoder {
     /// A decoder that was pushed nothing. A reply may have any length, and all its bytes are kept
     /// until its last line is complete: for a server that is not trusted, set a limit.
     pub fn new(alloc: Global) -> ReplyDecoder
-        ensures { result ≡ nothing_pending None }
+        ensures { result ≡ no_bytes None }
     {
         ReplyDecoder {
-            buf: Vec::new(alloc),
-            start: 0,
+            buffer: PendingBytes::new(alloc),
             limit: None,
             search: Search::new(),
             tests: Count::new(),
@@ -64,11 +62,10 @@ impl ReplyDecoder {
     /// counted (RFC 959 names no limit).
     pub fn with_limit(alloc: Global, limit: usize) -> ReplyDecoder
         requires { 1 ≤ limit }
-        ensures { result ≡ nothing_pending (Some limit) }
+        ensures { result ≡ no_bytes (Some limit) }
     {
         ReplyDecoder {
-            buf: Vec::new(alloc),
-            start: 0,
+            buffer: PendingBytes::new(alloc),
             limit: Some(limit),
             search: Search::new(),
             tests: Count::new(),
@@ -80,7 +77,7 @@ impl ReplyDecoder {
     pub fn pending(&self) -> &[u8]
         ensures { result.now ≡ self.now.bytes }
     {
-        self.buf.as_slice().split_at(self.start).1
+        self.buffer.pending()
     }
 
     /// How many bytes were scanned for a line feed. Only contracts see it.
@@ -90,16 +87,14 @@ impl ReplyDecoder {
         self.tests.same()
     }
 
-    /// Appends a piece to the pending bytes. When out of memory, nothing changes.
+    /// Appends a piece to the pending bytes. When out of memory, nothing changes; it never is for an
+    /// empty piece.
     pub fn push(&mut self, piece: &[u8]) -> Result<(), AllocError>
-        ensures ok { OnOk result (self.new ≡ piece_pushed self.old piece.now) }
+        ensures ok { OnOk result (self.new ≡ pushed self.old piece.now) }
         ensures err { OnErr result (self.new ≡ self.old) }
+        ensures some { OnErr result (¬ (piece.now ≡ [])) }
     {
-        self.buf.extend_from_slice(piece)?;
-        // each move is paid for by as many bytes that were taken
-        if self.start > self.buf.len() - self.start {
-            self.settle();
-        }
+        self.buffer.push(piece)?;
         Ok(())
     }
 
@@ -162,12 +157,11 @@ impl ReplyDecoder {
         ensures limit { self.new.limit ≡ self.old.limit }
         ensures counts { CountsNextReply self.old result self.new }
     {
-        let alloc = *self.buf.allocator();
-        let (_, pending) = self.buf.as_slice().split_at(self.start);
-        let searched = first_bytes(pending, self.limit);
+        let alloc = *self.buffer.bytes.allocator();
+        let searched = first_bytes(self.buffer.pending(), self.limit);
         match read_front(alloc, &mut self.search, searched, &mut self.tests)? {
             Front::Whole { code, lines, used } => {
-                self.start += used;
+                self.buffer.start += used;
                 self.search = Search::new();
                 Ok(Some(ReceivedReply { code, lines }))
             }
@@ -182,18 +176,16 @@ impl ReplyDecoder {
 
     /// Removes the replies that were taken: the pending bytes move to the start of the buffer.
     fn settle(&mut self)
-        ensures { self.new ≡ only_pending self.old }
+        ensures { self.new ≡ settled self.old }
     {
-        remove_front(&mut self.buf, self.start);
-        self.start = 0;
+        self.buffer.settle();
     }
 
     /// Drops all pending bytes, as a client does before TLS begins: no later reply comes of them.
     pub fn clear(&mut self)
-        ensures { self.new ≡ all_cleared self.old }
+        ensures { self.new ≡ cleared self.old }
     {
-        self.buf.clear();
-        self.start = 0;
+        self.buffer.clear();
         self.search.restart();
     }
 
@@ -203,7 +195,7 @@ impl ReplyDecoder {
         ensures { AppendsPending PIECE self.old self.new
             (R.remaining reader.old) (R.remaining reader.new) result }
     {
-        read_after(&mut self.buf, reader)
+        read_after(&mut self.buffer.bytes, reader)
     }
 }
 

@@ -20,7 +20,7 @@ use Rattle.unftp_control_codecs.proofs.LineFeedLemmas.{NoLineFeed, line_feed_at,
 use Rattle.unftp_control_serve.specs.declared.event.Event.{Event}
 use Rattle.unftp_control_serve.specs.Decoder.{kept_length}
 use Rattle.unftp_control_serve.specs.EventMeaning.{event_meant, refuses_length}
-use Rattle.unftp_control_serve.specs.Decoder.{IsWithin, IsDropped, IsDecoder, MayRunOut, dropped_after, line_length, pending_of, TakesNext, ReturnsEvent}
+use Rattle.unftp_control_serve.specs.Decoder.{IsScannedWithin, IsDropped, IsDecoder, MayRunOut, dropped_after, line_length, pending_of, TakesNext, ReturnsEvent}
 
 -- the event of the first line, of which the codec may have dropped a part
 abbrev first_event : Codec → Bytes → FtpEvent
@@ -65,7 +65,7 @@ module _ (old new : Codec) (before after : Bytes) (answer : Decoded) where
   DecodesAt found = MatchOption found (AnswersNone old new before after answer)
       (λ k. AnswersLine k old new before after answer)
 
-  comes : IsWithin old before → Decodes old new before after answer
+  comes : IsScannedWithin old before → Decodes old new before after answer
       → Comes old new before after answer
   comes well decodes = by_place (line_feed_from before old.place) refl decodes
     where
@@ -203,7 +203,7 @@ line_some line l = omega (arith, ap length l.whole, length-append l.body (LF ∷
 
 -- of the bytes after those that were dropped, the codec takes the first ones
 module _ (old new : Codec) (dropped before : Bytes) (taken : ℕ) (answer : Decoded)
-    (well : IsWithin old before) (lost : IsDropped old dropped)
+    (well : IsScannedWithin old before) (lost : IsDropped old dropped)
     (limited : IfSome old.limit (λ limit. 1 ≤ limit)) (limit : new.limit ≡ old.limit)
     (within : taken + new.place ≤ length before)
     (decodes : Decodes old new before (drop taken before) answer) where
@@ -231,7 +231,7 @@ module _ (old new : Codec) (dropped before : Bytes) (taken : ℕ) (answer : Deco
         (unskipped old.skipping (exceeds old.limit (length before + 1)) short).0
 
     none_within : (too_long : Bool) → IfTooLong too_long (SkipsAll old new before after)
-        (FindsNone old new before after) → IsWithin new after
+        (FindsNone old new before after) → IsScannedWithin new after
     none_within true skips = rw skips.place (omega arith, tt)
     none_within false keeps =
         rw (keeps.place, keeps.kept) (omega arith, rw take-length none.unended)
@@ -273,10 +273,10 @@ module _ (old new : Codec) (dropped before : Bytes) (taken : ℕ) (answer : Deco
           (unskipped old.skipping (exceeds old.limit (length before + 1)) short).1,
         ) refl
 
-  within-after : IsWithin new after
+  within-after : IsScannedWithin new after
   within-after = by_end came
     where
-      by_end : Comes old new before after answer → IsWithin new after
+      by_end : Comes old new before after answer → IsScannedWithin new after
       by_end (inl none) = none_within none (is_too_long old (length before + 1)) none.leaves
       by_end (inr (inl first)) = rw first.place (omega arith, tt)
       by_end (inr (inr no_memory)) = rw (no_memory.place, no_memory.kept) well

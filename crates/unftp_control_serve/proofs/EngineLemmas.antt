@@ -44,7 +44,7 @@ engine_of pending left failed finished = record {
 -- `q`.
 module _ {S : Type 0} (law : Law S) (s : S) (d p q : Pending) (left : ℕ) (failed finished : Bool)
     (piece : Bytes) (ended : Bool)
-    (push : p ≡ pushed d piece p.buffered) (all_scanned : d.unscanned ≡ 0)
+    (push : p ≡ pushed d piece) (all_scanned : d.unscanned ≡ 0)
     (ends : ended ≡ ends_for p.limit law s p.bytes)
     (pending : q.bytes ≡ unread p.limit law s p.bytes)
     (unscanned : q.unscanned ≡ (if ended then length q.bytes else 0))

@@ -1,6 +1,7 @@
 -- The pending bytes of a decoder.
 use Rattle.std.specs.Prelude.{◌≡◌, ℕ, ◌+◌, ◌-◌, ◌^◌, ◌≤◌, Bool, true, false, if◌then◌else◌, [], ◌++◌, length, min, max, take, drop, Option, Some, None, Result, Ok, Err, MatchResult, MatchOption, IfSome, option_map}
 use Rattle.unftp_control_defs.specs.Bytes.{Bytes, LF, Lacks}
+use Rattle.unftp_control_defs.specs.Buffer.{held_after_piece}
 use Rattle.unftp_control_defs.specs.Events.{FtpEvent, exceeds}
 use Rattle.unftp_control_defs.specs.Lines.{IsLine}
 use Rattle.unftp_control_line_parser.specs.Memory.{MayTakeMemory}
@@ -20,8 +21,8 @@ kept_length limit incomplete =
     if exceeds limit (length incomplete + 1) then 0 else length incomplete
 
 -- there is no line feed before the codec's scan offset, which is within the bytes
-abbrev pub IsWithin : Codec → Bytes → Type 0
-IsWithin codec bytes = (codec.place ≤ length bytes) × Lacks LF (take codec.place bytes)
+abbrev pub IsScannedWithin : Codec → Bytes → Type 0
+IsScannedWithin codec bytes = (codec.place ≤ length bytes) × Lacks LF (take codec.place bytes)
 
 -- The bytes that were dropped begin a line that is too long; while the codec is not skipping, there
 -- are none.
@@ -40,7 +41,7 @@ dropped_after skipping dropped bytes = if skipping then dropped ++ bytes else []
 pub record IsDecoder (codec : Codec) (dropped buf : Bytes) (start line held : ℕ) : Type 0 where
   pub start_within : start ≤ length buf
   pub line_within : line ≤ start
-  pub place_within : IsWithin codec (drop start buf)
+  pub place_within : IsScannedWithin codec (drop start buf)
   pub dropped_well : IsDropped codec dropped
   pub limited : IfSome codec.limit (λ limit. 1 ≤ limit)
   pub no_more : length buf ≤ held
@@ -107,16 +108,16 @@ settled pending = record {
   held = pending.held;
 }
 
--- A piece comes after them, and the buffer holds so many bytes then.
-abbrev pub pushed : Pending → Bytes → ℕ → Pending
-pushed pending piece buffered = record {
+-- A piece comes after them.
+abbrev pub pushed : Pending → Bytes → Pending
+pushed pending piece = record {
   bytes = pending.bytes ++ piece;
   kept = pending.kept + length piece;
   limit = pending.limit;
   line = [];
   scanned = pending.scanned;
   unscanned = pending.unscanned + length piece;
-  buffered = buffered;
+  buffered = held_after_piece pending.buffered pending.kept (length piece);
   held = max pending.held (pending.buffered + length piece);
 }
 

@@ -3,28 +3,25 @@ ghost use Rattle.std.specs.Prelude.{◌≡◌, ◌≤◌, ◌+◌, [], None, Som
 ghost use Rattle.unftp_control_serve.specs.Decoder.{MayRunOut, TakesNext, ReturnsEvent, buffered_after, cleared, kept_bytes, line_after, line_length, no_bytes, pushed, saturating_u64, settled};
 
 use crate::event::Event;
-use crate::send::append;
 use crate::skipped::Skipped;
 use std::alloc::{AllocError, Global};
 use std::marker::Model;
 use unftp_control_codecs::FtpCodec;
 use unftp_control_command::Command;
-use unftp_control_defs::buffer::remove_front;
+use unftp_control_defs::buffer::PendingBytes;
 use unftp_control_defs::count::Count;
 use unftp_control_reply::error::{ControlChanError, ControlChanErrorKind};
 
 /// Cuts an input that comes in pieces into lines, and returns the event of each: for a server with
 /// an event loop of its own. A piece is pushed, and events are taken until there is none; between
 /// two of them the server does what it likes, and after the last it may clear what is pending.
-// The pending bytes begin at `start`: the lines before it are taken. There is no line feed between
-// `start` and the codec's scan offset, which counts from `start`. Where the codec has a limit, it
-// keeps no bytes of a line that is longer: they are `skipped`. The `line` bytes before `start` are
-// those of the event that was returned last.
+// There is no line feed between the first pending byte and the codec's scan offset, which counts from
+// there. Where the codec has a limit, it keeps no bytes of a line that is longer: they are `skipped`.
+// The last `line` bytes that were taken are those of the event that was returned last.
 #[derive(Drop)]
 pub struct EventDecoder {
     codec: FtpCodec,
-    buf: Vec<u8>,
-    start: usize,
+    buffer: PendingBytes,
     line: usize,
     skipped: Skipped,
     held: Count,
@@ -32,17 +29,17 @@ pub struct EventDecoder {
 
 impl Model for EventDecoder {
     ghost use Rattle.std.specs.Prelude.{◌-◌, length, drop, take};
+    ghost use Rattle.unftp_control_defs.specs.Buffer.{pending_in};
     ghost use Rattle.unftp_control_serve.specs.Decoder.{IsDecoder, Pending, pending_of};
 
     ghost Value = { Pending };
 
     ghost view = { λ decoder. pending_of decoder.codec decoder.skipped
-        (take decoder.line (drop (decoder.start - decoder.line) decoder.buf.items))
-        (drop decoder.start decoder.buf.items)
-        (length decoder.buf.items) decoder.held };
+        (take decoder.line (drop (decoder.buffer.start - decoder.line) decoder.buffer.bytes.items))
+        (pending_in decoder.buffer) (length decoder.buffer.bytes.items) decoder.held };
 
     ghost invariant = { λ decoder. IsDecoder decoder.codec decoder.skipped
-        decoder.buf.items decoder.start decoder.line decoder.held };
+        decoder.buffer.bytes.items decoder.buffer.start decoder.line decoder.held };
 }
 
 impl EventDecoder {
@@ -71,8 +68,7 @@ impl EventDecoder {
     {
         EventDecoder {
             codec: FtpCodec::resume(limit, 0, false),
-            buf: Vec::new(alloc),
-            start: 0,
+            buffer: PendingBytes::new(alloc),
             line: 0,
             skipped: Skipped::none(),
             held: Count::new(),
@@ -85,7 +81,7 @@ impl EventDecoder {
     pub fn pending(&self) -> &[u8]
         ensures { result.now ≡ kept_bytes self.now }
     {
-        self.buf.as_slice().split_at(self.start).1
+        self.buffer.pending()
     }
 
     /// The bytes of the line whose event the last call of `next_event` returned, its line feed among
@@ -94,7 +90,8 @@ impl EventDecoder {
     pub fn line(&self) -> &[u8]
         ensures { result.now ≡ self.now.line }
     {
-        let (_, line_on) = self.buf.as_slice().split_at(self.start - self.line);
+        let line_start = self.buffer.start - self.line;
+        let (_, line_on) = self.buffer.bytes.as_slice().split_at(line_start);
         line_on.split_at(self.line).0
     }
 
@@ -103,7 +100,7 @@ impl EventDecoder {
     pub fn left(&self) -> u64
         ensures { result ≡ saturating_u64 (length self.now.bytes) }
     {
-        let kept = self.buf.len() - self.start;
+        let kept = self.buffer.pending().len();
         self.skipped.count().saturating_add(kept as u64)
     }
 
@@ -124,20 +121,14 @@ impl EventDecoder {
     /// Appends a piece to the pending bytes. When out of memory, nothing changes; it never is for an
     /// empty piece.
     pub fn push(&mut self, piece: &[u8]) -> Result<(), AllocError>
-        ensures ok { OnOk result (self.new ≡ pushed self.old piece.now self.new.buffered) }
-        ensures buffered { self.new.buffered ≤ self.old.buffered + length piece.now }
-        // of lines that were taken, the buffer holds no more bytes than of those that are pending
-        ensures moved { OnOk result (self.new.buffered ≤ self.new.kept + self.new.kept) }
+        ensures ok { OnOk result (self.new ≡ pushed self.old piece.now) }
         ensures err { OnErr result (self.new ≡ self.old) }
         ensures some { OnErr result (¬ (piece.now ≡ [])) }
     {
-        append(&mut self.buf, piece)?;
-        self.held.raise_to(self.buf.len());
+        let most = self.buffer.bytes.len() + piece.len();
+        self.buffer.push(piece)?;
+        self.held.raise_to(most);
         self.line = 0;
-        // each move is paid for by as many bytes that were taken
-        if self.start > self.buf.len() - self.start {
-            self.settle();
-        }
         Ok(())
     }
 
@@ -184,11 +175,12 @@ impl EventDecoder {
         ensures may_run_out { OnErr result (MayRunOut self.old) }
         ensures never_fewer { self.old.scanned ≤ self.new.scanned }
     {
-        let (_, pending) = self.buf.as_slice().split_at(self.start);
-        let (taken, answer) = self.codec.decode_slice(*self.buf.allocator(), pending);
+        let alloc = *self.buffer.bytes.allocator();
+        let pending = self.buffer.pending();
+        let (taken, answer) = self.codec.decode_slice(alloc, pending);
         let (front, _) = pending.split_at(taken);
         self.skipped.go_on(self.codec.skipping(), front);
-        self.start += taken;
+        self.buffer.start += taken;
         let event = event_from(answer);
         self.line = line_length(&event, taken);
         event
@@ -198,8 +190,7 @@ impl EventDecoder {
     fn settle(&mut self)
         ensures { self.new ≡ settled self.old }
     {
-        remove_front(&mut self.buf, self.start);
-        self.start = 0;
+        self.buffer.settle();
         self.line = 0;
     }
 
@@ -210,8 +201,7 @@ impl EventDecoder {
         ensures limit { IfSome self.new.limit (λ limit. 1 ≤ limit) }
     {
         self.codec.reset();
-        self.buf.clear();
-        self.start = 0;
+        self.buffer.clear();
         self.line = 0;
         self.skipped = Skipped::none();
     }

@@ -5,8 +5,8 @@ ghost use Rattle.unftp_control_serve.specs.Writing.{OutputState, Sends, Writes, 
 
 use crate::error::ServeError;
 use crate::output::Output;
-use std::alloc::AllocError;
 use std::io::Write;
+use unftp_control_defs::buffer::append;
 
 /// Takes the replies of an engine, one after the other: an `Output` writes and flushes each, and a
 /// `Vec` holds them for a server that sends them itself.
@@ -56,18 +56,6 @@ impl Sink for Vec<u8> {
 
     fn send(&mut self, bytes: &[u8]) -> Result<(), ServeError> {
         Ok(append(self, bytes)?)
-    }
-}
-
-/// Appends the bytes, or none of them when out of memory: never so where there are none.
-pub(crate) fn append(buf: &mut Vec<u8>, bytes: &[u8]) -> Result<(), AllocError>
-    ensures ok { OnOk result (buf.new.items ≡ buf.old.items ++ bytes.now) }
-    ensures err { OnErr result (buf.new.items ≡ buf.old.items) }
-    ensures some { OnErr result (¬ (bytes.now ≡ [])) }
-{
-    match bytes {
-        [] => Ok(()),
-        _ => buf.extend_from_slice(bytes),
     }
 }
 

@@ -10,7 +10,7 @@ ghost use Rattle.unftp_control_reply.specs.ErrorParts.{KindAndSource};
 ghost use Rattle.unftp_control_serve.specs.Endings.{Snapshot, Finished, Write, Handler, LineMemory, ReplyMemory, IsCauseOf, EventMayTakeMemory, AllAnswered, RunEnded, NoRoom, OnWrite, OnMemory};
 ghost use Rattle.unftp_control_serve.specs.Decoder.{kept_length, saturating_u64};
 ghost use Rattle.unftp_control_serve.specs.Engine.{EngineState, FailedAfter, fed, has_failed, has_finished, more_left, run_with};
-ghost use Rattle.unftp_control.specs.Snapshots.{counting, counting_to_five, noop, silent, snapshot, waiting};
+ghost use Rattle.unftp_control.specs.Snapshots.{counter, counter_to_five, noop, silent, snapshot, waiting};
 ghost use Rattle.unftp_control_serve.specs.declared.engine.Phase.TheVariants as phase;
 ghost use Rattle.unftp_control_serve.specs.Writing.{Begins, Flushed, OutputState, Sends, appended_state_of};
 ghost use Rattle.std.specs.declared.vec.Vec.{Vec};
@@ -21,61 +21,61 @@ use unftp_control_serve::ServeError;
 /// The handler took both events, their replies were written and flushed, and nothing failed.
 pub fn all_events_are_answered()
     ensures state { (after : Snapshot ℕ)
-        → AllAnswered counting (snapshot 3 (codes "x") 1) (noop ∷ noop ∷ []) after
+        → AllAnswered counter (snapshot 3 (codes "x") 1) (noop ∷ noop ∷ []) after
         → after.state ≡ 5 }
     ensures written { (after : Snapshot ℕ)
-        → AllAnswered counting (snapshot 3 (codes "x") 1) (noop ∷ noop ∷ []) after
+        → AllAnswered counter (snapshot 3 (codes "x") 1) (noop ∷ noop ∷ []) after
         → Appends (Some (codes "x")) after.output.written (codes "200 OK\r\n200 OK\r\n") }
     ensures flushed { (after : Snapshot ℕ)
-        → AllAnswered counting (snapshot 3 (codes "x") 1) (noop ∷ noop ∷ []) after
+        → AllAnswered counter (snapshot 3 (codes "x") 1) (noop ∷ noop ∷ []) after
         → after.output.unflushed ≡ 0 }
     ensures quiet { (after : Snapshot ℕ)
-        → AllAnswered counting (snapshot 3 (codes "x") 1) (noop ∷ noop ∷ []) after
+        → AllAnswered counter (snapshot 3 (codes "x") 1) (noop ∷ noop ∷ []) after
         → (after.output.failures ≡ 0) × (after.failures ≡ 0) }
     ensures none_left { (after : Snapshot ℕ)
-        → RunEnded counting (snapshot 3 (codes "x") 1) [] (noop ∷ []) Finished after → ⊥ }
+        → RunEnded counter (snapshot 3 (codes "x") 1) [] (noop ∷ []) Finished after → ⊥ }
 {}
 
 /// The writer failed at the reply to the second of two events: the first was written and flushed, and
 /// then a part, which may not be flushed.
 pub fn a_write_failed_at_a_reply()
     ensures part { (part : Bytes) (after : Snapshot ℕ)
-        → RunEnded counting (snapshot 3 (codes "x") 1) (noop ∷ []) (noop ∷ []) (Write part) after
+        → RunEnded counter (snapshot 3 (codes "x") 1) (noop ∷ []) (noop ∷ []) (Write part) after
         → Begins (codes "200 OK\r\n") part × (after.output.unflushed ≤ length part) }
     ensures written { (after : Snapshot ℕ)
-        → RunEnded counting (snapshot 3 (codes "x") 1) (noop ∷ []) (noop ∷ []) (Write (codes "20"))
+        → RunEnded counter (snapshot 3 (codes "x") 1) (noop ∷ []) (noop ∷ []) (Write (codes "20"))
         after
         → Appends (Some (codes "x")) after.output.written (codes "200 OK\r\n20") }
     ensures state { (part : Bytes) (after : Snapshot ℕ)
-        → RunEnded counting (snapshot 3 (codes "x") 1) (noop ∷ []) (noop ∷ []) (Write part) after
+        → RunEnded counter (snapshot 3 (codes "x") 1) (noop ∷ []) (noop ∷ []) (Write part) after
         → after.state ≡ 5 }
     ensures failed { (part : Bytes) (after : Snapshot ℕ)
-        → RunEnded counting (snapshot 3 (codes "x") 1) (noop ∷ []) (noop ∷ []) (Write part) after
+        → RunEnded counter (snapshot 3 (codes "x") 1) (noop ∷ []) (noop ∷ []) (Write part) after
         → (after.output.failures ≡ 1) × (after.failures ≡ 0) }
     ensures no_event { (part : Bytes) (after : Snapshot ℕ)
-        → RunEnded counting (snapshot 3 (codes "x") 1) (noop ∷ []) [] (Write part) after → ⊥ }
+        → RunEnded counter (snapshot 3 (codes "x") 1) (noop ∷ []) [] (Write part) after → ⊥ }
 {}
 
 /// The handler failed at the event, with a fault that its law allows. Nothing was written.
 pub fn the_handler_failed_at_an_event()
     ensures fault { (fault : Fault) (after : Snapshot ℕ)
-        → RunEnded counting (snapshot 3 (codes "x") 1) [] (noop ∷ []) (Handler fault) after
+        → RunEnded counter (snapshot 3 (codes "x") 1) [] (noop ∷ []) (Handler fault) after
         → fault ≡ out_of_memory }
     ensures written { (fault : Fault) (after : Snapshot ℕ)
-        → RunEnded counting (snapshot 3 (codes "x") 1) [] (noop ∷ []) (Handler fault) after
+        → RunEnded counter (snapshot 3 (codes "x") 1) [] (noop ∷ []) (Handler fault) after
         → Appends (Some (codes "x")) after.output.written [] × (after.output.unflushed ≤ 1) }
     ensures failed { (fault : Fault) (after : Snapshot ℕ)
-        → RunEnded counting (snapshot 3 (codes "x") 1) [] (noop ∷ []) (Handler fault) after
+        → RunEnded counter (snapshot 3 (codes "x") 1) [] (noop ∷ []) (Handler fault) after
         → (after.failures ≡ 1) × (after.output.failures ≡ 0) }
     ensures no_event { (fault : Fault) (after : Snapshot ℕ)
-        → RunEnded counting (snapshot 3 (codes "x") 1) (noop ∷ []) [] (Handler fault) after → ⊥ }
+        → RunEnded counter (snapshot 3 (codes "x") 1) (noop ∷ []) [] (Handler fault) after → ⊥ }
 {}
 
 /// Memory ran out: for the command of a line, which the handler didn't take, or for the reply to it,
 /// which it did. It never does for a command without a field, nor for no reply.
 pub fn memory_ran_out()
     ensures line { (after : Snapshot ℕ)
-        → RunEnded counting (snapshot 3 (codes "x") 1) [] (Command (User (codes "a")) ∷ [])
+        → RunEnded counter (snapshot 3 (codes "x") 1) [] (Command (User (codes "a")) ∷ [])
         LineMemory after
         → (after.state ≡ 3) × Appends (Some (codes "x")) after.output.written []
         × (after.output.unflushed ≤ 1) }
@@ -83,12 +83,12 @@ pub fn memory_ran_out()
     ensures no_field { EventMayTakeMemory noop → ⊥ }
     ensures too_long { EventMayTakeMemory (Refused line_too_long) → ⊥ }
     ensures reply { (after : Snapshot ℕ)
-        → RunEnded counting (snapshot 3 (codes "x") 1) [] (noop ∷ []) ReplyMemory after
+        → RunEnded counter (snapshot 3 (codes "x") 1) [] (noop ∷ []) ReplyMemory after
         → (after.state ≡ 4) × Appends (Some (codes "x")) after.output.written [] }
     ensures no_reply { (after : Snapshot ℕ)
         → RunEnded silent (snapshot 3 (codes "x") 1) [] (noop ∷ []) ReplyMemory after → ⊥ }
     ensures quiet { (after : Snapshot ℕ)
-        → RunEnded counting (snapshot 3 (codes "x") 1) [] (noop ∷ []) ReplyMemory after
+        → RunEnded counter (snapshot 3 (codes "x") 1) [] (noop ∷ []) ReplyMemory after
         → (after.output.failures ≡ 0) × (after.failures ≡ 0) }
 {}
 
@@ -103,7 +103,7 @@ pub fn flushes_and_beginnings()
 /// An engine that has the start of a line is fed its end and the start of the next; or its end and a
 /// line after the end of the session.
 pub fn an_engine_is_fed()
-    ensures goes_on { fed counting 3 (waiting None) (codes "OP\r\nP") ≡ record {
+    ensures goes_on { fed counter 3 (waiting None) (codes "OP\r\nP") ≡ record {
       incomplete = codes "P";
       left = 1;
       failed = false;
@@ -113,7 +113,7 @@ pub fn an_engine_is_fed()
       buffered = 1;
       held = 7;
     } }
-    ensures ended { fed counting_to_five 4 (waiting None) (codes "OP\r\nPWD\r\n") ≡ record {
+    ensures ended { fed counter_to_five 4 (waiting None) (codes "OP\r\nPWD\r\n") ≡ record {
       incomplete = [];
       left = 5;
       failed = false;
@@ -123,9 +123,9 @@ pub fn an_engine_is_fed()
       buffered = 0;
       held = 11;
     } }
-    ensures at_the_limit { (fed counting 3 (waiting (Some 5)) (codes "OP")).buffered ≡ 4 }
-    ensures over_the_limit { (fed counting 3 (waiting (Some 4)) (codes "OP")).buffered ≡ 0 }
-    ensures too_long { run_with (waiting (Some 5)) counting 3 (codes "OP\r\nP")
+    ensures at_the_limit { (fed counter 3 (waiting (Some 5)) (codes "OP")).buffered ≡ 4 }
+    ensures over_the_limit { (fed counter 3 (waiting (Some 4)) (codes "OP")).buffered ≡ 0 }
+    ensures too_long { run_with (waiting (Some 5)) counter 3 (codes "OP\r\nP")
         ≡ Refused line_too_long ∷ [] }
     ensures more_left { (more_left (waiting None) (codes "OP")).left ≡ 4 }
     ensures phases { (has_failed phase.Failed ≡ true) × (has_failed phase.Finished ≡ false)

@@ -17,11 +17,11 @@ pub fn events_say_that_a_line_is_too_long()
 /// The line of an event is what was taken of the pending bytes, with its line feed.
 pub fn a_line_is_returned()
     ensures whole { (event : Event) → event_meant event ≡ Command TypeCode
-        → line_after {E = Unit {0}} (pushed (no_bytes None) (codes "TYPE A\r\nNO") 10)
-        (Ok (Some event)) (pushed (no_bytes None) (codes "NO") 10) ≡ codes "TYPE A\r\n" }
+        → line_after {E = Unit {0}} (pushed (no_bytes None) (codes "TYPE A\r\nNO"))
+        (Ok (Some event)) (pushed (no_bytes None) (codes "NO")) ≡ codes "TYPE A\r\n" }
     ensures too_long { (event : Event) → event_meant event ≡ Refused line_too_long
-        → line_after {E = Unit {0}} (pushed (no_bytes (Some 7)) (codes "TYPE A\r\nNO") 10)
-        (Ok (Some event)) (pushed (no_bytes (Some 7)) (codes "NO") 10) ≡ [] }
-    ensures no_event { line_after {E = Unit {0}} (pushed (no_bytes None) (codes "TYPE A") 6)
-        (Ok None) (pushed (no_bytes None) (codes "TYPE A") 6) ≡ [] }
+        → line_after {E = Unit {0}} (pushed (no_bytes (Some 7)) (codes "TYPE A\r\nNO"))
+        (Ok (Some event)) (pushed (no_bytes (Some 7)) (codes "NO")) ≡ [] }
+    ensures no_event { line_after {E = Unit {0}} (pushed (no_bytes None) (codes "TYPE A"))
+        (Ok None) (pushed (no_bytes None) (codes "TYPE A")) ≡ [] }
 {}

@@ -26,13 +26,13 @@ pub fn lines_that_take_no_memory()
 
 /// The first of the pending lines may need an allocation.
 pub fn a_pending_line_may_take_memory()
-    ensures field { MayRunOut (pushed (no_bytes None) (codes "USER a\r\nNO") 10) }
-    ensures within_the_limit { MayRunOut (pushed (no_bytes (Some 8)) (codes "USER a\r\n") 8) }
+    ensures field { MayRunOut (pushed (no_bytes None) (codes "USER a\r\nNO")) }
+    ensures within_the_limit { MayRunOut (pushed (no_bytes (Some 8)) (codes "USER a\r\n")) }
 {}
 
 /// No line is pending, or the first needs no allocation.
 pub fn a_pending_line_takes_no_memory()
-    ensures no_line { MayRunOut (pushed (no_bytes None) (codes "USER a") 6) → ⊥ }
-    ensures no_value { MayRunOut (pushed (no_bytes None) (codes "NOOP\r\nUSER a\r\n") 14) → ⊥ }
-    ensures too_long { MayRunOut (pushed (no_bytes (Some 7)) (codes "USER a\r\n") 8) → ⊥ }
+    ensures no_line { MayRunOut (pushed (no_bytes None) (codes "USER a")) → ⊥ }
+    ensures no_value { MayRunOut (pushed (no_bytes None) (codes "NOOP\r\nUSER a\r\n")) → ⊥ }
+    ensures too_long { MayRunOut (pushed (no_bytes (Some 7)) (codes "USER a\r\n")) → ⊥ }
 {}

@@ -7,7 +7,7 @@ ghost use Rattle.unftp_control_defs.specs.Events.{events};
 ghost use Rattle.unftp_control_reply.specs.ErrorParts.{KindAndSource};
 ghost use Rattle.unftp_control_serve.specs.Endings.{Snapshot, AllAnswered};
 ghost use Rattle.unftp_control.specs.RunEnd.{EndsAfter, EndsNowhere};
-ghost use Rattle.unftp_control.specs.Snapshots.{counting, counting_to_five, noop, snapshot};
+ghost use Rattle.unftp_control.specs.Snapshots.{counter, counter_to_five, noop, snapshot};
 ghost use Rattle.unftp_control_serve.specs.Service.{InputState, AnsweredAll, EndsInLast, EndedLate, NoRoomForPiece, ReadFailed, ReadTooOften, ServeEnded, Serves, WereRead, most_held};
 ghost use Rattle.unftp_control_serve.specs.Writing.{Begins};
 ghost use Rattle.unftp_control_serve.specs.declared.service.Served.{Served};
@@ -17,88 +17,88 @@ use unftp_control_serve::ServeError;
 /// Which errors `serve` returns, and what each one says.
 pub fn errors_of_serve()
     ensures read { (before after : Snapshot ℕ) (input input_after : InputState) (error : _)
-        → ServeEnded None counting before after input input_after (ServeError.Read error)
-        → ReadFailed None counting before after input input_after }
+        → ServeEnded None counter before after input input_after (ServeError.Read error)
+        → ReadFailed None counter before after input input_after }
     ensures read_failed { (before after : Snapshot ℕ) (input input_after : InputState)
-        → ReadFailed None counting before after input input_after
+        → ReadFailed None counter before after input input_after
         → input.failures < input_after.failures }
     ensures write { (before after : Snapshot ℕ) (input input_after : InputState) (error : _)
-        → ServeEnded None counting before after input input_after (ServeError.Write error)
-        → EndedLate None counting before after input input_after (ServeError.Write error) }
+        → ServeEnded None counter before after input input_after (ServeError.Write error)
+        → EndedLate None counter before after input input_after (ServeError.Write error) }
     ensures write_zero { (before after : Snapshot ℕ) (input input_after : InputState)
-        → ServeEnded None counting before after input input_after ServeError.WriteZero
-        → EndedLate None counting before after input input_after ServeError.WriteZero }
+        → ServeEnded None counter before after input input_after ServeError.WriteZero
+        → EndedLate None counter before after input input_after ServeError.WriteZero }
     ensures handler { (before after : Snapshot ℕ) (input input_after : InputState)
         (error : KindAndSource)
-        → ServeEnded None counting before after input input_after (ServeError.Handler error)
-        → EndedLate None counting before after input input_after (ServeError.Handler error) }
+        → ServeEnded None counter before after input input_after (ServeError.Handler error)
+        → EndedLate None counter before after input input_after (ServeError.Handler error) }
     ensures memory { (before after : Snapshot ℕ) (input input_after : InputState)
-        → ServeEnded None counting before after input input_after ServeError.OutOfMemory
-        → NoRoomForPiece None counting before after input input_after
-        ⊎ EndedLate None counting before after input input_after ServeError.OutOfMemory }
+        → ServeEnded None counter before after input input_after ServeError.OutOfMemory
+        → NoRoomForPiece None counter before after input input_after
+        ⊎ EndedLate None counter before after input input_after ServeError.OutOfMemory }
     ensures many_reads { (before after : Snapshot ℕ) (input input_after : InputState)
-        → ServeEnded None counting before after input input_after ServeError.TooManyReads
-        → ReadTooOften None counting before after input input_after }
+        → ServeEnded None counter before after input input_after ServeError.TooManyReads
+        → ReadTooOften None counter before after input input_after }
     ensures many { (before after : Snapshot ℕ) (input input_after : InputState)
-        (v : ReadTooOften None counting before after input input_after)
+        (v : ReadTooOften None counter before after input input_after)
         → 2 ^ 64 - 1 ≤ length (concat v.pieces) }
     ensures stopped { (before after : Snapshot ℕ) (input input_after : InputState)
-        → ServeEnded None counting before after input input_after ServeError.Stopped → ⊥ }
+        → ServeEnded None counter before after input input_after ServeError.Stopped → ⊥ }
     // the lines that were read before the last piece are answered
     ensures late { (before after : Snapshot ℕ) (input input_after : InputState) (error : ServeError)
-        (v : EndedLate None counting before after input input_after error)
+        (v : EndedLate None counter before after input input_after error)
         → Begins v.done (events None (concat v.pieces)) }
     ensures no_room { (before after : Snapshot ℕ) (input input_after : InputState)
-        (v : NoRoomForPiece None counting before after input input_after)
-        → AllAnswered counting before (events None (concat v.pieces)) after × (v.last ≡ [] → ⊥) }
+        (v : NoRoomForPiece None counter before after input input_after)
+        → AllAnswered counter before (events None (concat v.pieces)) after × (v.last ≡ [] → ⊥) }
 {}
 
 /// An input without its last line feed that was served whole.
 pub fn an_input_is_served()
     ensures whole { (after : Snapshot ℕ) (served : Served)
-        → Serves None counting (snapshot 3 (codes "x") 1) after (Some []) served
+        → Serves None counter (snapshot 3 (codes "x") 1) after (Some []) served
         (codes "NOOP\r\nNO")
         → Appends (Some (codes "x")) after.output.written (codes "200 OK\r\n")
         × (after.state ≡ 4) × (served.done ≡ false) × (served.left ≡ 2) × (served.tests ≡ 8) }
     ensures any_reader { (before after : Snapshot ℕ) (input : InputState) (served : Served)
         → served.done ≡ false
-        → AnsweredAll None counting before after
+        → AnsweredAll None counter before after
         (record { remaining = Some (codes "NOOP\r\nNO"); reads = []; failures = 2 }) input served
-        → AllAnswered counting before (noop ∷ []) after × IsAtEnd input.remaining
+        → AllAnswered counter before (noop ∷ []) after × IsAtEnd input.remaining
         × (input.failures ≡ 2) }
     ensures read_to_the_end { (before after : Snapshot ℕ) (input input_after : InputState)
         (served : Served) → served.done ≡ false
-        → AnsweredAll None counting before after input input_after served
+        → AnsweredAll None counter before after input input_after served
         → (reads : List ℕ) × (input_after.reads ≡ reads ++ 0 ∷ []) }
 {}
 
 /// Where a run ends: at the fifth event, and nowhere where there are fewer.
 pub fn a_run_ends_so()
-    ensures nowhere { EndsNowhere counting_to_five 3 (noop ∷ []) }
-    ensures somewhere { EndsNowhere counting_to_five 3 (noop ∷ noop ∷ noop ∷ []) → ⊥ }
-    ensures after { EndsAfter counting_to_five 3 (noop ∷ noop ∷ noop ∷ []) (noop ∷ []) noop }
-    ensures not_before { EndsAfter counting_to_five 3 (noop ∷ noop ∷ noop ∷ []) [] noop → ⊥ }
-    ensures not_later { EndsAfter counting_to_five 3 (noop ∷ noop ∷ noop ∷ []) (noop ∷ noop ∷ [])
+    ensures nowhere { EndsNowhere counter_to_five 3 (noop ∷ []) }
+    ensures somewhere { EndsNowhere counter_to_five 3 (noop ∷ noop ∷ noop ∷ []) → ⊥ }
+    ensures after { EndsAfter counter_to_five 3 (noop ∷ noop ∷ noop ∷ []) (noop ∷ []) noop }
+    ensures not_before { EndsAfter counter_to_five 3 (noop ∷ noop ∷ noop ∷ []) [] noop → ⊥ }
+    ensures not_later { EndsAfter counter_to_five 3 (noop ∷ noop ∷ noop ∷ []) (noop ∷ noop ∷ [])
         noop → ⊥ }
 {}
 
 /// A session that the handler ended, and some bytes after its end, of which two were not read.
 pub fn a_session_is_ended()
     ensures whole { (after : Snapshot ℕ) (served : Served)
-        → Serves None counting_to_five (snapshot 4 (codes "x") 1) after (Some (codes "NO")) served
+        → Serves None counter_to_five (snapshot 4 (codes "x") 1) after (Some (codes "NO")) served
         (codes "NOOP\r\nNOOP\r\nNO")
         → Appends (Some (codes "x")) after.output.written (codes "200 OK\r\n")
         × (after.state ≡ 5) × (served.done ≡ true) × (served.left ≡ 6) × (served.tests ≡ 6) }
     ensures not_read { (after : Snapshot ℕ) (served : Served) (remaining : Option Bytes)
-        → Serves None counting_to_five (snapshot 4 (codes "x") 1) after remaining served
+        → Serves None counter_to_five (snapshot 4 (codes "x") 1) after remaining served
         (codes "NOOP\r\nNO")
         → served.left ≡ 0 → remaining ≡ Some (codes "NO") }
     ensures going_on { (after : Snapshot ℕ) (input input_after : InputState) (served : Served)
-        (all : AnsweredAll None counting_to_five (snapshot 4 (codes "x") 0) after input input_after
+        (all : AnsweredAll None counter_to_five (snapshot 4 (codes "x") 0) after input input_after
         served)
         → served.done ≡ true → all.pieces ≡ codes "NOOP" ∷ [] → ⊥ }
     ensures in_last { (after : Snapshot ℕ) (input input_after : InputState) (pieces : List Bytes)
-        (v : EndsInLast None counting_to_five (snapshot 4 (codes "x") 0) after input input_after
+        (v : EndsInLast None counter_to_five (snapshot 4 (codes "x") 0) after input input_after
         pieces)
         → v.first ≡ codes "NOOP" ∷ codes "\r\n" ∷ [] → ⊥ }
 {}

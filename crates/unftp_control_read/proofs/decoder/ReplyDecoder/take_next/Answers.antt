@@ -10,8 +10,7 @@ use Rattle.unftp_control_read.proofs.decoder.ReplyDecoder.take_next.Goals as goa
 pub returns-in_err-code : goal.returns-in_err-code
 returns-in_err-code c =
     let d = c.self.inside in
-    let w = within d.limit d.start c.as_slice.ensures.value c.split_at.ensures.back
-    c.first_bytes-searched.ensures in
+    let w = within d.limit c.pending.ensures c.first_bytes-searched.ensures in
     let error = err_from_is_err_and c.from_residual.result c.from_residual.ensures.1 in
     let r = c.in_err-code.ensures in
     rw (error.1, error.2, ← c.self.view_is) (record {
@@ -32,8 +31,7 @@ returns-in_err-code c =
 pub returns-in-Whole : goal.returns-in-Whole
 returns-in-Whole c =
     let d = c.self.inside in
-    let w = within d.limit d.start c.as_slice.ensures.value c.split_at.ensures.back
-    c.first_bytes-searched.ensures in
+    let w = within d.limit c.pending.ensures c.first_bytes-searched.ensures in
     let r = c.in_ok-code.ensures in
     let code = c.in-Whole.code in
     let lines = contents c.in-Whole.lines in
@@ -49,7 +47,7 @@ returns-in-Whole c =
         takes = record {
           used = used;
           front = front_of_all w code lines used front;
-          after_is = sym (drop-drop used d.start d.buf.items);
+          after_is = sym (drop-drop used d.buffer.start d.buffer.bytes.items);
         };
         within = front_short w code lines used front;
         none_scanned = omega (arith, c.new-self-inside.ensures.offset);
@@ -63,11 +61,11 @@ returns-in-Whole c =
       limit = refl;
       counts =
           let offset =
-          offset_pending d.limit (drop d.start d.buf.items) d.search c.self.invariant.searched
+          offset_pending d.limit (drop d.buffer.start d.buffer.bytes.items) d.search c.self.invariant.searched
           in
           let long = searched_length w in
-          let pending = length-drop d.start d.buf.items in
-          let left = length-drop (d.start + used) d.buf.items in
+          let pending = length-drop d.buffer.start d.buffer.bytes.items in
+          let left = length-drop (d.buffer.start + used) d.buffer.bytes.items in
           record {
             exact = omega (
               arith,
@@ -98,8 +96,7 @@ returns-in-Whole c =
 pub returns-then-is_full : goal.returns-then-is_full
 returns-then-is_full c =
     let d = c.self.inside in
-    let w = within d.limit d.start c.as_slice.ensures.value c.split_at.ensures.back
-    c.first_bytes-searched.ensures in
+    let w = within d.limit c.pending.ensures c.first_bytes-searched.ensures in
     let r = c.in_ok-code.ensures in
     let part = rw c.in-Partial.is at r.front in
     let whole = rw c.in-Partial.is at r.whole in
@@ -121,8 +118,7 @@ returns-then-is_full c =
 pub returns-else-is_full : goal.returns-else-is_full
 returns-else-is_full c =
     let d = c.self.inside in
-    let w = within d.limit d.start c.as_slice.ensures.value c.split_at.ensures.back
-    c.first_bytes-searched.ensures in
+    let w = within d.limit c.pending.ensures c.first_bytes-searched.ensures in
     let r = c.in_ok-code.ensures in
     let part = rw c.in-Partial.is at r.front in
     let counted = rw c.in-Partial.is at r.counts in
@@ -131,7 +127,7 @@ returns-else-is_full c =
     let short = c.is_full.ensures.no c.if-is_full.false in
     let all = all_within w short in
     let offset =
-    offset_pending d.limit (drop d.start d.buf.items) d.search c.self.invariant.searched in
+    offset_pending d.limit (drop d.buffer.start d.buffer.bytes.items) d.search c.self.invariant.searched in
     rw (← c.self.view_is) (record {
       takes_next = record {
         partial = subst IsPartial all part;
@@ -144,7 +140,7 @@ returns-else-is_full c =
       malformed = λ m. absurd (ok_is_no_error _ _ (malformed (subst IsMalformed (sym w.is) m)));
       too_long =
           λ l. absurd
-          (not_too_long d.limit (drop d.start d.buf.items)
+          (not_too_long d.limit (drop d.buffer.start d.buffer.bytes.items)
           (subst (λ b. IfSome d.limit (λ most. length b < most)) all short) l);
       buffered = refl;
       limit = refl;

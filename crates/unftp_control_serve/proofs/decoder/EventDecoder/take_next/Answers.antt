@@ -1,43 +1,35 @@
-use Rattle.std.proofs.Common.{◌∙◌, sym, ap, drop}
+use Rattle.std.proofs.Common.{sym}
 use Rattle.unftp_control_serve.proofs.DecoderLemmas.{decoder-after, line-after, runs_out-after, takes_next-after}
 use Rattle.unftp_control_serve.proofs.decoder.EventDecoder.take_next.Goals as goal
 
 pub invariant_of-self : goal.invariant_of-self
 invariant_of-self c =
-    let from_start = c.split_at.ensures.back
-    ∙ ap (drop c.self.inside.start) c.as_slice.ensures.value in
     rw c.line_length-self-inside.ensures
-    (decoder-after _ _ _ _ _ _ _ _ _ _ _ _ _ c.self.invariant from_start c.split_at-2.ensures.front
+    (decoder-after _ _ _ _ _ _ _ _ _ _ _ _ _ c.self.invariant c.pending-pending.ensures c.split_at.ensures.front
     c.go_on.ensures c.skipping.ensures.skipping
     c.decode_slice-taken.ensures.limit c.decode_slice-taken.ensures.within
     c.decode_slice-taken.ensures.decodes c.event_from-event.result)
 
 pub returns-clause-takes_next : goal.returns-clause-takes_next
 returns-clause-takes_next c =
-    let from_start = c.split_at.ensures.back
-    ∙ ap (drop c.self.inside.start) c.as_slice.ensures.value in
     rw (sym c.self.view_is)
-    (takes_next-after _ _ _ _ _ _ _ _ _ _ _ _ _ c.self.invariant from_start
-    c.split_at-2.ensures.front c.go_on.ensures c.skipping.ensures.skipping
+    (takes_next-after _ _ _ _ _ _ _ _ _ _ _ _ _ c.self.invariant c.pending-pending.ensures
+    c.split_at.ensures.front c.go_on.ensures c.skipping.ensures.skipping
     c.decode_slice-taken.ensures.limit c.decode_slice-taken.ensures.within
     c.decode_slice-taken.ensures.decodes _ c.event_from-event.result c.event_from-event.ensures)
 
 pub returns-clause-may_run_out : goal.returns-clause-may_run_out
 returns-clause-may_run_out c =
-    let from_start = c.split_at.ensures.back
-    ∙ ap (drop c.self.inside.start) c.as_slice.ensures.value in
     rw (sym c.self.view_is)
-    (runs_out-after _ _ _ _ _ _ _ _ _ _ _ _ _ c.self.invariant from_start c.split_at-2.ensures.front
+    (runs_out-after _ _ _ _ _ _ _ _ _ _ _ _ _ c.self.invariant c.pending-pending.ensures c.split_at.ensures.front
     c.go_on.ensures c.skipping.ensures.skipping
     c.decode_slice-taken.ensures.limit c.decode_slice-taken.ensures.within
     c.decode_slice-taken.ensures.decodes c.event_from-event.result c.event_from-event.ensures)
 
 pub returns-clause-line : goal.returns-clause-line
 returns-clause-line c =
-    let from_start = c.split_at.ensures.back
-    ∙ ap (drop c.self.inside.start) c.as_slice.ensures.value in
     rw (sym c.self.view_is, c.line_length-self-inside.ensures)
-    (line-after _ _ _ _ _ _ _ _ _ _ _ _ _ c.self.invariant from_start c.split_at-2.ensures.front
+    (line-after _ _ _ _ _ _ _ _ _ _ _ _ _ c.self.invariant c.pending-pending.ensures c.split_at.ensures.front
     c.go_on.ensures c.skipping.ensures.skipping
     c.decode_slice-taken.ensures.limit c.decode_slice-taken.ensures.within
     c.decode_slice-taken.ensures.decodes c.event_from-event.result c.event_from-event.ensures)

@@ -1,0 +1,74 @@
+"""A server that a check starts, and what a client of it does."""
+
+import os
+import signal
+import socket
+import subprocess
+
+HOST = "127.0.0.1"
+# how many seconds a server may run, and how long it and a client may take to answer
+LIFE, PATIENCE = 60, 10
+# how many bytes are sent at a time, by turns
+PIECES = [1, 61, 3, 1021, 7, 509]
+GREETING = b"220 Ready\r\n"
+
+
+class Wrong(Exception):
+    """A check failed."""
+
+
+def wants(what, found, expected):
+    if found != expected:
+        raise Wrong(f"{what}: it has {found!r}, and not {expected!r}")
+
+
+class StartedServer:
+    """A server while it runs: the command prints its port. `timeout` ends it, even where this script was killed before it could, and
+    hands each signal on to it."""
+
+    def __init__(self, command, errors=None):
+        limited = ["timeout", "--foreground", "--kill-after=5", str(LIFE), *command]
+        self.process = subprocess.Popen(limited, stdout=subprocess.PIPE, stderr=errors, start_new_session=True)
+
+    def __enter__(self):
+        self.port = int(self.process.stdout.readline() or 0)
+        return self
+
+    def __exit__(self, *_):
+        try:
+            os.killpg(self.process.pid, signal.SIGKILL)
+        except ProcessLookupError:
+            pass  # none is left
+        self.process.communicate()
+
+    def connect(self):
+        connection = socket.create_connection((HOST, self.port), PATIENCE)
+        connection.setsockopt(socket.IPPROTO_TCP, socket.TCP_NODELAY, 1)
+        return connection
+
+    def greeted(self, greeting=GREETING):
+        """A connection after its greeting."""
+        connection = self.connect()
+        wants("the greeting", receive(connection, len(greeting)), greeting)
+        return connection
+
+
+def receive(connection, count=None):
+    """So many bytes, or all up to the end."""
+    received = b""
+    while count is None or len(received) < count:
+        piece = connection.recv(65536 if count is None else count - len(received))
+        if not piece:
+            break
+        received += piece
+    return received
+
+
+def send_pieces(connection, sent, size=None):
+    """Sends pieces of this size, or of PIECES by turns."""
+    turn = 0
+    while sent:
+        end = size or PIECES[turn % len(PIECES)]
+        connection.sendall(sent[:end])
+        sent = sent[end:]
+        turn += 1
