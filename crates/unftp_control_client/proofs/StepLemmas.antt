@@ -1,0 +1,409 @@
+-- The runs of a client.
+use Rattle.std.proofs.Common.{◌≡◌, ◌<◌, ◌≤◌, ◌+◌, ℕ, suc, Bool, true, false, if◌then◌else◌, nat_lt, ◌-◌, ◌⊎◌, List, [], ◌∷◌, ◌++◌, length, Option, Some, None, unwrap_or, refl, sym, ap, subst, ◌∙◌, inl, inr, ⊎_elim, arith, eqb-true}
+use Rattle.std.proofs.lemmas.Bool.{ltb-true, ltb-false}
+use Rattle.std.specs.List.{filter}
+use Rattle.unftp_control_defs.specs.Bytes.{Bytes}
+use Rattle.unftp_control_defs.specs.TakingSteps.{AreTakingSteps, TakesReply}
+use Rattle.unftp_control_client.specs.Dialogue.{agrees, after_command, after_final, after_reply, commands_owed, first_owed, is_preliminary, next_to}
+use Rattle.unftp_control_client.specs.Steps.{AreExchanges, AreSteps, ClientStep, IsStep, ReplyTo, Sent, Received, Took, commands_sent, decoder_steps, is_final, replies_owed, replies_taken, was_owed}
+use Rattle.unftp_control_client.specs.declared.Client.{Client}
+use Rattle.unftp_control_client.specs.declared.dialogue.Dialogue.{Dialogue}
+use Rattle.unftp_control_client.specs.declared.dialogue.To.{To}
+use Rattle.unftp_control_client.specs.declared.dialogue.To.TheVariants.{Greeting, Command, Nothing}
+
+-- ---- what one reply changes
+
+-- the exchange that is not complete
+abbrev open_exchange : Option ℕ → To
+open_exchange None = Greeting
+open_exchange (Some answered) = Command answered
+
+-- how many exchanges are complete
+abbrev complete : Option ℕ → ℕ
+complete None = 0
+complete (Some answered) = suc answered
+
+-- how many commands have their final reply after a reply to this, which may be a preliminary one
+abbrev answered_after : Bool → To → Option ℕ → Option ℕ
+answered_after true to answered = answered
+answered_after false Greeting answered = Some 0
+answered_after false (Command place) answered = Some (suc place)
+answered_after false Nothing answered = answered
+
+answered-after_final : (preliminary : Bool) (to : To) (d : Dialogue)
+    → (if preliminary then d else after_final d to).answered ≡ answered_after preliminary to d.answered
+answered-after_final true to d = refl
+answered-after_final false Greeting d = refl
+answered-after_final false (Command place) d = refl
+answered-after_final false Nothing d = refl
+
+sent-after_final : (preliminary : Bool) (to : To) (d : Dialogue)
+    → (if preliminary then d else after_final d to).sent ≡ d.sent
+sent-after_final true to d = refl
+sent-after_final false Greeting d = refl
+sent-after_final false (Command place) d = refl
+sent-after_final false Nothing d = refl
+
+-- what the next reply is to, where the test says whether a command is owed one
+abbrev owed_where : Option ℕ → Bool → To
+owed_where None owed = Greeting
+owed_where (Some answered) owed = if owed then Command answered else Nothing
+
+abbrev is_owed : Option ℕ → ℕ → Bool
+is_owed None sent = true
+is_owed (Some answered) sent = nat_lt answered sent
+
+first-owed : (answered : Option ℕ) (sent : ℕ)
+    → first_owed answered sent ≡ owed_where answered (is_owed answered sent)
+first-owed None sent = refl
+first-owed (Some answered) sent = refl
+
+module _ (replies : List ReplyTo) (reply : ℕ × List Bytes) where
+  abbrev with_next : Option ℕ → Bool → List ReplyTo
+  with_next answered owed =
+      filter was_owed (record { to = owed_where answered owed; reply = reply } ∷ replies)
+
+  exchanges-took : (answered : Option ℕ) (owed preliminary : Bool)
+      → is_preliminary reply.0 ≡ preliminary
+      → AreExchanges
+      (open_exchange (answered_after preliminary (owed_where answered owed) answered))
+      (filter was_owed replies)
+      → AreExchanges (open_exchange answered) (with_next answered owed)
+  exchanges-took None owed true e h = (refl, rw e h)
+  exchanges-took None owed false e h = (refl, rw e h)
+  exchanges-took (Some answered) true true e h = (refl, rw e h)
+  exchanges-took (Some answered) true false e h = (refl, rw e h)
+  exchanges-took (Some answered) false true e h = h
+  exchanges-took (Some answered) false false e h = h
+
+  complete-took : (answered : Option ℕ) (owed preliminary : Bool)
+      → is_preliminary reply.0 ≡ preliminary
+      → complete (answered_after preliminary (owed_where answered owed) answered)
+      + length (filter is_final (filter was_owed replies))
+      ≡ complete answered + length (filter is_final (with_next answered owed))
+  complete-took None owed true e = rw e (omega arith)
+  complete-took None owed false e = rw e (omega arith)
+  complete-took (Some answered) true true e = rw e (omega arith)
+  complete-took (Some answered) true false e = rw e (omega arith)
+  complete-took (Some answered) false true e = refl
+  complete-took (Some answered) false false e = refl
+
+-- a reply that is taken
+module _ (before next : Client) (taken : ReplyTo) (step : IsStep before (Took taken) next) where
+  abbrev d : Dialogue
+  d = before.dialogue
+
+  abbrev owed : Bool
+  owed = is_owed d.answered d.sent
+
+  abbrev preliminary : Bool
+  preliminary = is_preliminary taken.reply.0
+
+  is_to : taken.to ≡ owed_where d.answered owed
+  is_to = step.0 ∙ first-owed d.answered d.sent
+
+  now_answered : next.dialogue.answered
+      ≡ answered_after preliminary (owed_where d.answered owed) d.answered
+  now_answered = ap (λ (d : Dialogue). d.answered) step.1
+      ∙ answered-after_final preliminary (next_to d) d
+      ∙ ap (λ to. answered_after preliminary to d.answered) (first-owed d.answered d.sent)
+
+  now_sent : next.dialogue.sent ≡ d.sent
+  now_sent = ap (λ (d : Dialogue). d.sent) step.1 ∙ sent-after_final preliminary (next_to d) d
+
+  took-exchanges : (replies : List ReplyTo)
+      → AreExchanges (open_exchange next.dialogue.answered) (filter was_owed replies)
+      → AreExchanges (open_exchange d.answered) (filter was_owed (taken ∷ replies))
+  took-exchanges replies h =
+      subst (λ to. AreExchanges (open_exchange d.answered)
+      (filter was_owed (record { to = to; reply = taken.reply } ∷ replies))) (sym is_to)
+      (exchanges-took replies taken.reply d.answered owed preliminary refl
+      (subst (λ answered. AreExchanges (open_exchange answered) (filter was_owed replies))
+      now_answered h))
+
+  took-complete : (replies : List ReplyTo)
+      → complete next.dialogue.answered + length (filter is_final (filter was_owed replies))
+      ≡ complete d.answered + length (filter is_final (filter was_owed (taken ∷ replies)))
+  took-complete replies =
+      ap (λ answered. complete answered + length (filter is_final (filter was_owed replies)))
+      now_answered
+      ∙ complete-took replies taken.reply d.answered owed preliminary refl
+      ∙ ap (λ to. complete d.answered + length (filter is_final
+      (filter was_owed (record { to = to; reply = taken.reply } ∷ replies)))) (sym is_to)
+
+-- ---- all steps
+
+pub steps-exchanges : (steps : List ClientStep) (before after : Client)
+    → AreSteps before steps after
+    → AreExchanges (open_exchange before.dialogue.answered) (replies_owed steps)
+steps-exchanges [] before after are = tt
+steps-exchanges (Sent command ∷ steps) before after (next, step, are) =
+    subst (λ (d : Dialogue). AreExchanges (open_exchange d.answered) (replies_owed steps)) step.0
+    (steps-exchanges steps next after are)
+steps-exchanges (Received piece ∷ steps) before after (next, step, are) =
+    subst (λ (d : Dialogue). AreExchanges (open_exchange d.answered) (replies_owed steps)) step.0
+    (steps-exchanges steps next after are)
+steps-exchanges (Took taken ∷ steps) before after (next, step, are) =
+    took-exchanges before next taken step (replies_taken steps)
+    (steps-exchanges steps next after are)
+
+steps-sent : (steps : List ClientStep) (before after : Client) → AreSteps before steps after
+    → after.dialogue.sent ≡ before.dialogue.sent + length (commands_sent steps)
+steps-sent [] before after are = omega (arith, ap (λ (d : Dialogue). d.sent) are.0)
+steps-sent (Sent command ∷ steps) before after (next, step, are) =
+    omega (arith, ap (λ (d : Dialogue). d.sent) step.0, steps-sent steps next after are)
+steps-sent (Received piece ∷ steps) before after (next, step, are) =
+    omega (arith, ap (λ (d : Dialogue). d.sent) step.0, steps-sent steps next after are)
+steps-sent (Took taken ∷ steps) before after (next, step, are) =
+    omega (arith, now_sent before next taken step, steps-sent steps next after are)
+
+steps-complete : (steps : List ClientStep) (before after : Client) → AreSteps before steps after
+    → complete after.dialogue.answered
+    ≡ complete before.dialogue.answered + length (filter is_final (replies_owed steps))
+steps-complete [] before after are =
+    omega (arith, ap (λ (d : Dialogue). complete d.answered) are.0)
+steps-complete (Sent command ∷ steps) before after (next, step, are) =
+    omega (
+      arith,
+      ap (λ (d : Dialogue). complete d.answered) step.0,
+      steps-complete steps next after are,
+    )
+steps-complete (Received piece ∷ steps) before after (next, step, are) =
+    omega (
+      arith,
+      ap (λ (d : Dialogue). complete d.answered) step.0,
+      steps-complete steps next after are,
+    )
+steps-complete (Took taken ∷ steps) before after (next, step, are) =
+    steps-complete steps next after are
+    ∙ took-complete before next taken step (replies_taken steps)
+
+pub steps-taken : (steps : List ClientStep) (before after : Client) → AreSteps before steps after
+    → AreTakingSteps TakesReply before.replies.bytes (decoder_steps steps) after.replies.bytes
+steps-taken [] before after are = are.1
+steps-taken (Sent command ∷ steps) before after (next, step, are) =
+    subst (λ bytes. AreTakingSteps TakesReply bytes (decoder_steps steps) after.replies.bytes)
+    step.1 (steps-taken steps next after are)
+steps-taken (Received piece ∷ steps) before after (next, step, are) =
+    subst (λ bytes. AreTakingSteps TakesReply bytes (decoder_steps steps) after.replies.bytes)
+    step.1 (steps-taken steps next after are)
+steps-taken (Took taken ∷ steps) before after (next, step, are) =
+    (next.replies.bytes, step.2, steps-taken steps next after are)
+
+-- ---- steps after some others
+
+-- those of a client that is as another
+from_same : (steps : List ClientStep) (before same after : Client)
+    → same.dialogue ≡ before.dialogue → same.replies.bytes ≡ before.replies.bytes
+    → AreSteps same steps after → AreSteps before steps after
+from_same [] before same after d b are = (are.0 ∙ d, are.1 ∙ b)
+from_same (Sent command ∷ steps) before same after d b (next, step, are) =
+    (next, (step.0 ∙ ap after_command d, step.1 ∙ b), are)
+from_same (Received piece ∷ steps) before same after d b (next, step, are) =
+    (next, (step.0 ∙ d, step.1 ∙ ap (λ bytes. bytes ++ piece) b), are)
+from_same (Took taken ∷ steps) before same after d b (next, step, are) = (
+  next,
+  (
+    step.0 ∙ ap next_to d,
+    step.1 ∙ ap (λ d. after_reply d taken.reply.0) d,
+    subst (λ bytes. TakesReply bytes taken.reply next.replies.bytes) b step.2,
+  ),
+  are,
+)
+
+pub steps-append : (first later : List ClientStep) (before middle after : Client)
+    → AreSteps before first middle → AreSteps middle later after
+    → AreSteps before (first ++ later) after
+steps-append [] later before middle after are more =
+    from_same later before middle after are.0 are.1 more
+steps-append (step ∷ first) later before middle after (next, is, are) more =
+    (next, is, steps-append first later next middle after are more)
+
+split : (first steps : List ClientStep) (before after : Client)
+    → AreSteps before (first ++ steps) after
+    → (middle : Client) × AreSteps before first middle × AreSteps middle steps after
+split [] steps before after are = (before, (refl, refl), are)
+split (step ∷ first) steps before after (next, is, are) =
+    let s = split first steps next after are in (s.0, (next, is, s.1), s.2)
+
+asked : (answered sent place : ℕ) (owed : Bool) → nat_lt answered sent ≡ owed
+    → Command place ≡ (if owed then Command answered else Nothing) → place < sent
+asked answered sent place true e to =
+    let same : place ≡ answered = cc in omega (arith, ltb-true answered sent e)
+asked answered sent place false e to = absurd (cc)
+
+asked_of : (answered : Option ℕ) (sent place : ℕ) → Command place ≡ first_owed answered sent
+    → place < sent
+asked_of None sent place to = absurd (cc)
+asked_of (Some answered) sent place to =
+    asked answered sent place (nat_lt answered sent) refl to
+
+unasked : (answered sent : ℕ) (owed : Bool) → nat_lt answered sent ≡ owed
+    → Nothing ≡ (if owed then Command answered else Nothing) → sent ≤ answered
+unasked answered sent true e to = absurd (cc)
+unasked answered sent false e to = ltb-false answered sent e
+
+unasked_of : (answered : Option ℕ) (sent : ℕ) → Nothing ≡ first_owed answered sent
+    → suc sent ≤ complete answered
+unasked_of None sent to = absurd (cc)
+unasked_of (Some answered) sent to =
+    omega (arith, unasked answered sent (nat_lt answered sent) refl to)
+
+module _ (start after : Client) (before later : List ClientStep) (reply : ℕ × List Bytes)
+    (none_sent : start.dialogue.sent ≡ 0) (none : start.dialogue.answered ≡ None) where
+  pub sent_before : (place : ℕ)
+      → AreSteps start (before ++ Took (record { to = Command place; reply = reply }) ∷ later) after
+      → place < length (commands_sent before)
+  sent_before place are =
+      let s = split before (Took (record { to = Command place; reply = reply }) ∷ later) start after
+      are in
+      omega (
+        arith,
+        none_sent,
+        steps-sent before start s.0 s.1,
+        asked_of s.0.dialogue.answered s.0.dialogue.sent place s.2.1.0,
+      )
+
+  pub none_owed :
+      AreSteps start (before ++ Took (record { to = Nothing; reply = reply }) ∷ later) after
+      → suc (length (commands_sent before)) ≤ length (filter is_final (replies_owed before))
+  none_owed are =
+      let s = split before (Took (record { to = Nothing; reply = reply }) ∷ later) start after are in
+      omega (
+        arith,
+        none_sent,
+        ap complete none,
+        steps-sent before start s.0 s.1,
+        steps-complete before start s.0 s.1,
+        unasked_of s.0.dialogue.answered s.0.dialogue.sent s.2.1.0,
+      )
+
+-- ---- an agreement to begin TLS
+
+agreed_to : (to : To) (code : ℕ) → agrees to code ≡ true
+    → (place : ℕ) × (to ≡ Command place) × (code ≡ 234)
+agreed_to Greeting code e = absurd (cc)
+agreed_to (Command place) code e = (place, refl, eqb-true code 234 e)
+agreed_to Nothing code e = absurd (cc)
+
+-- The last reply of these steps is a 234 to a command.
+pub record LastAgrees (steps : List ClientStep) (after : Client) : Type 0 where
+  pub earlier : List ReplyTo
+  pub place : ℕ
+  pub lines : List Bytes
+  pub taken : replies_taken steps
+      ≡ earlier ++ record { to = Command place; reply = (234, lines) } ∷ []
+  pub answered : after.dialogue.answered ≡ Some (suc place)
+  pub sent : place < after.dialogue.sent
+
+-- or there is none, and the client had agreed before
+abbrev AgreedBefore : Client → List ClientStep → Client → Type 0
+AgreedBefore before steps after = (replies_taken steps ≡ [])
+    × (before.dialogue.agreed ≡ true)
+    × (after.dialogue.answered ≡ before.dialogue.answered)
+
+same_dialogue : (steps : List ClientStep) (before next after : Client)
+    → before.dialogue.agreed ≡ next.dialogue.agreed
+    → next.dialogue.answered ≡ before.dialogue.answered
+    → AgreedBefore next steps after → AgreedBefore before steps after
+same_dialogue steps before next after agreed answered (none, is, same) =
+    (none, agreed ∙ is, same ∙ answered)
+
+first_agrees : (steps : List ClientStep) (before next after : Client) (taken : ReplyTo)
+    → IsStep before (Took taken) next → AreSteps next steps after → AgreedBefore next steps after
+    → LastAgrees (Took taken ∷ steps) after
+first_agrees steps before next after taken step are (none, agreed, same) =
+    let d = before.dialogue in
+    let is = agreed_to (next_to d) taken.reply.0
+    (sym (ap (λ (d : Dialogue). d.agreed) step.1) ∙ agreed) in
+    let to = is.1 in
+    let code = is.2 in
+    record {
+      earlier = [];
+      place = is.0;
+      lines = taken.reply.1;
+      taken =
+          λ i. record { to = (step.0 ∙ to) i; reply = (code i, taken.reply.1) } ∷ none i;
+      answered = same ∙ ap (λ (d : Dialogue). d.answered) step.1
+          ∙ answered-after_final (is_preliminary taken.reply.0) (next_to d) d
+          ∙ ap (λ code. answered_after (is_preliminary code) (next_to d) d.answered) code
+          ∙ ap (λ to. answered_after false to d.answered) to;
+      sent = omega (
+        arith,
+        asked_of d.answered d.sent is.0 (sym to),
+        now_sent before next taken step,
+        steps-sent steps next after are,
+      );
+    }
+
+later_agrees : (steps : List ClientStep) (after : Client) (taken : ReplyTo)
+    → LastAgrees steps after → LastAgrees (Took taken ∷ steps) after
+later_agrees steps after taken last = record {
+  earlier = taken ∷ last.earlier;
+  place = last.place;
+  lines = last.lines;
+  taken = ap (λ replies. taken ∷ replies) last.taken;
+  answered = last.answered;
+  sent = last.sent;
+}
+
+steps-agree : (steps : List ClientStep) (before after : Client) → AreSteps before steps after
+    → after.dialogue.agreed ≡ true → AgreedBefore before steps after ⊎ LastAgrees steps after
+steps-agree [] before after are agreed = inl (
+  refl,
+  sym (ap (λ (d : Dialogue). d.agreed) are.0) ∙ agreed,
+  ap (λ (d : Dialogue). d.answered) are.0,
+)
+steps-agree (Sent command ∷ steps) before after (next, step, are) agreed =
+    ⊎_elim
+    (λ (h : AgreedBefore next steps after). inl
+    (same_dialogue steps before next after (sym (ap (λ (d : Dialogue). d.agreed) step.0))
+    (ap (λ (d : Dialogue). d.answered) step.0) h))
+    (λ (h : LastAgrees steps after). inr (record {
+      earlier = h.earlier;
+      place = h.place;
+      lines = h.lines;
+      taken = h.taken;
+      answered = h.answered;
+      sent = h.sent;
+    }))
+    (steps-agree steps next after are agreed)
+steps-agree (Received piece ∷ steps) before after (next, step, are) agreed =
+    ⊎_elim
+    (λ (h : AgreedBefore next steps after). inl
+    (same_dialogue steps before next after (sym (ap (λ (d : Dialogue). d.agreed) step.0))
+    (ap (λ (d : Dialogue). d.answered) step.0) h))
+    (λ (h : LastAgrees steps after). inr (record {
+      earlier = h.earlier;
+      place = h.place;
+      lines = h.lines;
+      taken = h.taken;
+      answered = h.answered;
+      sent = h.sent;
+    }))
+    (steps-agree steps next after are agreed)
+steps-agree (Took taken ∷ steps) before after (next, step, are) agreed =
+    ⊎_elim
+    (λ (h : AgreedBefore next steps after). inr
+    (first_agrees steps before next after taken step are h))
+    (λ (h : LastAgrees steps after). inr (later_agrees steps after taken h))
+    (steps-agree steps next after are agreed)
+
+pub last_agrees : (steps : List ClientStep) (start after : Client)
+    → start.dialogue.sent ≡ 0 → start.dialogue.agreed ≡ false → AreSteps start steps after
+    → after.dialogue.agreed ≡ true → commands_owed after.dialogue ≡ 0
+    → (earlier : List ReplyTo) × (place : ℕ) × (lines : List Bytes)
+    × (replies_taken steps ≡ earlier ++ record { to = Command place; reply = (234, lines) } ∷ [])
+    × (suc place ≡ length (commands_sent steps))
+last_agrees steps start after none_sent not_agreed are agreed none_owed =
+    ⊎_elim
+    (λ (h : AgreedBefore start steps after). absurd (cc))
+    (λ (h : LastAgrees steps after).
+    let owed = ap (λ answered. after.dialogue.sent - unwrap_or answered 0) h.answered in (
+      h.earlier,
+      h.place,
+      h.lines,
+      h.taken,
+      omega (arith, none_sent, none_owed, owed, h.sent, steps-sent steps start after are),
+    ))
+    (steps-agree steps start after are agreed)

@@ -1,0 +1,26 @@
+use Rattle.std.proofs.Common.{refl, ap}
+use Rattle.unftp_control_read.specs.ReplyDecoding.{appended}
+use Rattle.unftp_control_client.specs.declared.Client.{Client}
+use Rattle.unftp_control_client.proofs.StepLemmas.{steps-append}
+use Rattle.unftp_control_client.proofs.laws.calls_are_steps.Goals as goal
+
+pub returns : goal.returns
+returns c = record {
+  send = λ before after command is. (
+    after,
+    (ap (λ (c : Client). c.dialogue) is, ap (λ (c : Client). c.replies.bytes) is),
+    (refl, refl),
+  );
+  receive = λ before after piece is. (
+    after,
+    (ap (λ (c : Client). c.dialogue) is, ap (λ (c : Client). c.replies.bytes) is),
+    (refl, refl),
+  );
+  next_reply = λ before after taken takes is. (after, (is.0, is.1, takes.takes), (refl, refl));
+  read_reply = λ before after taken input left receives is. (
+    record before { replies = appended before.replies receives.read },
+    (refl, refl),
+    (after, (is.0, is.1, receives.takes_next.takes), (refl, refl)),
+  );
+  in_turn = steps-append;
+}

@@ -1,0 +1,14 @@
+use Rattle.std.proofs.Common.{refl}
+use Rattle.unftp_control_client.specs.Exchange.{new_client}
+use Rattle.unftp_control_client.proofs.StepLemmas.{none_owed, sent_before, steps-exchanges, steps-taken}
+use Rattle.unftp_control_client.proofs.laws.replies_are_exchanges.Goals as goal
+
+pub returns : goal.returns
+returns c = record {
+  exchanges = λ limit steps client are. steps-exchanges steps (new_client limit) client are;
+  sent_before = λ limit before later place reply client are.
+      sent_before (new_client limit) client before later reply refl refl place are;
+  unasked = λ limit before later reply client are.
+      none_owed (new_client limit) client before later reply refl refl are;
+  taken = λ limit steps client are. steps-taken steps (new_client limit) client are;
+}

@@ -1,0 +1,4 @@
+-- To be read in this order.
+pub mod Dialogue
+pub mod Exchange
+pub mod Steps

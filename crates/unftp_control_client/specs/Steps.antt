@@ -1,0 +1,97 @@
+-- Whole runs of a client: its calls one after the other, and the replies that it takes.
+use Rattle.std.specs.Prelude.{◌≡◌, ℕ, suc, Bool, true, false, not, if◌then◌else◌, List, [], ◌∷◌, ◌++◌, Option, Some, None, ⊤}
+use Rattle.std.specs.List.{filter, filter_map}
+use Rattle.unftp_control_defs.specs.Bytes.{Bytes}
+use Rattle.unftp_control_defs.specs.FtpCommand.{FtpCommand}
+use Rattle.unftp_control_defs.specs.TakingSteps.{TakesReply, TakingStep, Pushed, Taken}
+use Rattle.unftp_control_read.specs.ReplyDecoding.{content}
+use Rattle.unftp_control_client.specs.Dialogue.{after_command, after_reply, is_preliminary, next_to}
+use Rattle.unftp_control_client.specs.declared.Client.{Client}
+use Rattle.unftp_control_client.specs.declared.dialogue.ClientReply.{ClientReply}
+use Rattle.unftp_control_client.specs.declared.dialogue.To.{To}
+use Rattle.unftp_control_client.specs.declared.dialogue.To.TheVariants.{Greeting, Command, Nothing}
+
+-- a reply, its code and lines, and what it is to
+pub record ReplyTo : Type 0 where
+  pub to : To
+  pub reply : ℕ × List Bytes
+
+-- what a reply of a client holds, whatever the capacity of its lines
+abbrev pub reply_to : ClientReply → ReplyTo
+reply_to taken = record { to = taken.to; reply = content taken.reply }
+
+-- A client sends a command, receives a piece, or takes a reply.
+pub data ClientStep : Type 0 where
+  Sent : FtpCommand → ClientStep
+  Received : Bytes → ClientStep
+  Took : ReplyTo → ClientStep
+
+-- what each changes
+abbrev pub IsStep : Client → ClientStep → Client → Type 0
+IsStep before (Sent command) after = (after.dialogue ≡ after_command before.dialogue)
+    × (after.replies.bytes ≡ before.replies.bytes)
+IsStep before (Received piece) after = (after.dialogue ≡ before.dialogue)
+    × (after.replies.bytes ≡ before.replies.bytes ++ piece)
+IsStep before (Took taken) after = (taken.to ≡ next_to before.dialogue)
+    × (after.dialogue ≡ after_reply before.dialogue taken.reply.0)
+    × TakesReply before.replies.bytes taken.reply after.replies.bytes
+
+-- one after the other
+abbrev pub AreSteps : Client → List ClientStep → Client → Type 0
+AreSteps before [] after = (after.dialogue ≡ before.dialogue)
+    × (after.replies.bytes ≡ before.replies.bytes)
+AreSteps before (step ∷ steps) after =
+    (next : Client) × IsStep before step next × AreSteps next steps after
+
+-- the commands that were sent
+abbrev pub sent_by : ClientStep → Option FtpCommand
+sent_by (Sent command) = Some command
+sent_by _ = None
+
+abbrev pub commands_sent : List ClientStep → List FtpCommand
+commands_sent steps = filter_map sent_by steps
+
+-- the replies that were taken
+abbrev pub taken_by : ClientStep → Option ReplyTo
+taken_by (Took taken) = Some taken
+taken_by _ = None
+
+abbrev pub replies_taken : List ClientStep → List ReplyTo
+replies_taken steps = filter_map taken_by steps
+
+-- and those of them that were owed
+abbrev pub is_something : To → Bool
+is_something Nothing = false
+is_something _ = true
+
+abbrev pub was_owed : ReplyTo → Bool
+was_owed taken = is_something taken.to
+
+abbrev pub replies_owed : List ClientStep → List ReplyTo
+replies_owed steps = filter was_owed (replies_taken steps)
+
+-- what comes from the server, and what is taken of it
+abbrev pub decoder_step : ClientStep → Option (TakingStep (ℕ × List Bytes))
+decoder_step (Sent command) = None
+decoder_step (Received piece) = Some (Pushed piece)
+decoder_step (Took taken) = Some (Taken taken.reply)
+
+abbrev pub decoder_steps : List ClientStep → List (TakingStep (ℕ × List Bytes))
+decoder_steps steps = filter_map decoder_step steps
+
+-- The reply completes its exchange.
+abbrev pub is_final : ReplyTo → Bool
+is_final taken = not (is_preliminary taken.reply.0)
+
+-- what the next exchange is to
+abbrev pub after_to : To → To
+after_to Greeting = Command 0
+after_to (Command place) = Command (suc place)
+after_to Nothing = Nothing
+
+-- The replies are exchanges in order, of which the first is to this, each next one to the next
+-- command: some preliminary replies and then a final one. The last may lack its final reply.
+abbrev pub AreExchanges : To → List ReplyTo → Type 0
+AreExchanges to [] = ⊤
+AreExchanges to (taken ∷ replies) =
+    (taken.to ≡ to) × AreExchanges (if is_final taken then after_to to else to) replies

@@ -1,0 +1,113 @@
+//! How far the dialogue with a server has come.
+ghost use Rattle.std.specs.Prelude.{◌≡◌, ◌-◌, ◌^◌, MatchOption};
+ghost use Rattle.unftp_control_client.specs.Dialogue.{after_command, after_reply, at_start, commands_owed, is_preliminary, next_to};
+
+use unftp_control_read::ReceivedReply;
+
+/// What a reply is to.
+#[derive(Clone, Copy, Debug, PartialEq, Eq)]
+pub enum To {
+    /// The connection: the server greets the client (RFC 959, section 5.4).
+    Greeting,
+    /// The command of this place among all that were sent. The first one has place 0.
+    Command(u64),
+    /// Nothing: no reply was owed. A server may say 421 so before it closes the connection.
+    Nothing,
+}
+
+/// A reply, and what it is to.
+#[derive(Debug, PartialEq, Eq, Drop)]
+pub struct ClientReply {
+    /// What it is to.
+    pub to: To,
+    /// What was received. Where its code is 1yz, another reply to the same command follows.
+    pub reply: ReceivedReply,
+}
+
+/// How far the dialogue with a server has come (RFC 959, section 5.4).
+#[derive(Drop)]
+pub(crate) struct Dialogue {
+    /// How many commands were sent.
+    sent: u64,
+    /// How many of them have their final reply, once the greeting is complete.
+    answered: Option<u64>,
+    /// Whether the last reply was a 234 to a command.
+    agreed: bool,
+}
+
+/// Whether another reply to the same command follows one with this code (RFC 959, section 4.2.1).
+fn is_preliminary(code: u16) -> bool
+    ensures { result ≡ is_preliminary code }
+{
+    (100..200).contains(&code)
+}
+
+impl Dialogue {
+    /// Nothing was sent or received.
+    pub(crate) fn new() -> Dialogue
+        ensures { result ≡ at_start }
+    {
+        Dialogue {
+            sent: 0,
+            answered: None,
+            agreed: false,
+        }
+    }
+
+    /// How many commands are owed their final reply.
+    pub(crate) fn owed(&self) -> u64
+        ensures { result ≡ commands_owed self.now }
+    {
+        self.sent.saturating_sub(self.answered.unwrap_or(0))
+    }
+
+    /// Whether the last reply was a 234 to a command.
+    pub(crate) fn agreed(&self) -> bool
+        ensures { result ≡ self.now.agreed }
+    {
+        self.agreed
+    }
+
+    /// Notes that a command is sent, and returns its place, unless 64 bits don't count it.
+    pub(crate) fn add_command(&mut self) -> Option<u64>
+        ensures { MatchOption result
+            ((self.new ≡ self.old) × (self.old.sent ≡ 2 ^ 64 - 1))
+            (λ place. (self.new ≡ after_command self.old) × (place ≡ self.old.sent)) }
+    {
+        let place = self.sent;
+        self.sent = place.checked_add(1)?;
+        Some(place)
+    }
+
+    /// Notes that a reply came, and says what it is to.
+    pub(crate) fn add_reply(&mut self, reply: ReceivedReply) -> ClientReply
+        ensures to { result ≡ record { to = next_to self.old; reply = reply } }
+        ensures after { self.new ≡ after_reply self.old reply.code }
+    {
+        let to = self.add_code(reply.code);
+        ClientReply { to, reply }
+    }
+
+    /// Notes that a reply with this code came, and returns what it is to.
+    fn add_code(&mut self, code: u16) -> To
+        ensures to { result ≡ next_to self.old }
+        ensures after { self.new ≡ after_reply self.old code }
+    {
+        let is_final = !is_preliminary(code);
+        self.agreed = false;
+        let Some(place) = self.answered else {
+            if is_final {
+                self.answered = Some(0);
+            }
+            return To::Greeting;
+        };
+        if place >= self.sent {
+            return To::Nothing;
+        }
+        self.agreed = code == 234;
+        if is_final {
+            self.answered = Some(place + 1);
+        }
+        To::Command(place)
+    }
+}

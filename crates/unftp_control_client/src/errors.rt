@@ -1,0 +1,31 @@
+//! Why no command is sent.
+use thiserror::Error;
+use unftp_control_write::WriteCommandError;
+
+/// Why no command is sent.
+#[derive(Debug, Drop, Error)]
+pub enum SendError {
+    /// No line whose one line feed is its last byte is read as this command.
+    #[error("no line gives this command")]
+    NoLine,
+    /// An allocation failed.
+    #[error("out of memory")]
+    OutOfMemory,
+    /// As many commands were sent as 64 bits count.
+    #[error("too many commands")]
+    TooManyCommands,
+}
+
+impl From<WriteCommandError> for SendError {
+    ghost use Rattle.std.specs.Prelude.{◌≡◌};
+    ghost use Rattle.unftp_control_client.specs.Exchange.{send_error_of};
+
+    ghost from_gives = { λ refusal error. error ≡ send_error_of refusal };
+
+    fn from(refusal: WriteCommandError) -> SendError {
+        match refusal {
+            WriteCommandError::NoLine => SendError::NoLine,
+            WriteCommandError::OutOfMemory => SendError::OutOfMemory,
+        }
+    }
+}

@@ -1,0 +1,74 @@
+//! What holds of each run of a client, each the contract of a function that does nothing.
+ghost use Rattle.std.specs.Prelude.{◌≡◌, ◌<◌, ◌≤◌, ℕ, suc, Option, Some, Ok, List, [], ◌∷◌, ◌++◌, length, IsTrue};
+ghost use Rattle.std.specs.List.{filter};
+ghost use Rattle.unftp_control_defs.specs.Bytes.{Bytes};
+ghost use Rattle.unftp_control_defs.specs.TakingSteps.{AreTakingSteps, TakesReply};
+ghost use Rattle.unftp_control_defs.specs.FtpCommand.{FtpCommand};
+ghost use Rattle.unftp_control_read.specs.ReplyDecoding.{TakesFirst, content, piece_pushed};
+ghost use Rattle.unftp_control_read.specs.Receiving.{Receives};
+ghost use Rattle.unftp_control_client.specs.Dialogue.{after_command, commands_owed};
+ghost use Rattle.unftp_control_client.specs.Exchange.{IsNext, new_client};
+ghost use Rattle.unftp_control_client.specs.Steps.{AreExchanges, AreSteps, ClientStep, Received, Sent, Took, ReplyTo, commands_sent, decoder_steps, is_final, replies_owed, replies_taken, reply_to};
+ghost use Rattle.unftp_control_client.specs.declared.Client.{Client as RustClient};
+ghost use Rattle.unftp_control_client.specs.declared.dialogue.ClientReply.{ClientReply as RustReply};
+ghost use Rattle.unftp_control_client.specs.declared.dialogue.To.TheVariants.{Greeting, Command, Nothing};
+
+/// What the contract of each call ensures makes it a step, and calls one after the other are steps:
+/// so the law `replies_are_exchanges` is one of all runs.
+pub fn calls_are_steps()
+    ensures send { (before after : RustClient) (command : FtpCommand)
+        → after ≡ record before { dialogue = after_command before.dialogue }
+        → AreSteps before (Sent command ∷ []) after }
+    ensures receive { (before after : RustClient) (piece : Bytes)
+        → after ≡ record before { replies = piece_pushed before.replies piece }
+        → AreSteps before (Received piece ∷ []) after }
+    ensures next_reply { (before after : RustClient) (taken : RustReply)
+        → TakesFirst before.replies (content taken.reply) after.replies
+        → IsNext {E = Unit {0}} before.dialogue (Ok (Some taken)) after.dialogue
+        → AreSteps before (Took (reply_to taken) ∷ []) after }
+    // What `read_reply` reads is received.
+    ensures read_reply { (before after : RustClient) (taken : RustReply) (input left : Option Bytes)
+        (receives : Receives before.replies input (Ok (Some taken.reply)) after.replies left)
+        → IsNext {E = Unit {0}} before.dialogue (Ok (Some taken)) after.dialogue
+        → AreSteps before (Received receives.read ∷ Took (reply_to taken) ∷ []) after }
+    ensures in_turn { (first later : List ClientStep) (before middle after : RustClient)
+        → AreSteps before first middle → AreSteps middle later after
+        → AreSteps before (first ++ later) after }
+{}
+
+/// Whatever a client sends, and however the server's bytes are split: of the replies that it takes,
+/// those that were owed are the ones to the greeting, then those to command 0, to command 1 and so
+/// on, some preliminary ones and then a final one each (RFC 959, sections 4.2 and 5.4).
+pub fn replies_are_exchanges()
+    ensures exchanges { (limit : Option ℕ) (steps : List ClientStep) (client : RustClient)
+        → AreSteps (new_client limit) steps client
+        → AreExchanges Greeting (replies_owed steps) }
+    // No command has a reply before it was sent,
+    ensures sent_before { (limit : Option ℕ) (before later : List ClientStep) (place : ℕ)
+        (reply : ℕ × List Bytes) (client : RustClient)
+        → AreSteps (new_client limit)
+        (before ++ Took (record { to = Command place; reply = reply }) ∷ later) client
+        → place < length (commands_sent before) }
+    // and a reply is to nothing only where the greeting and each command have their final one.
+    ensures unasked { (limit : Option ℕ) (before later : List ClientStep)
+        (reply : ℕ × List Bytes) (client : RustClient)
+        → AreSteps (new_client limit)
+        (before ++ Took (record { to = Nothing; reply = reply }) ∷ later) client
+        → suc (length (commands_sent before)) ≤ length (filter is_final (replies_owed before)) }
+    // The replies are cut from what was received as those of a decoder are.
+    ensures taken { (limit : Option ℕ) (steps : List ClientStep) (client : RustClient)
+        → AreSteps (new_client limit) steps client
+        → AreTakingSteps TakesReply [] (decoder_steps steps) client.replies.bytes }
+{}
+
+/// TLS may begin only where the last reply that was taken is a 234 to the last command that was sent
+/// (RFC 4217, section 4): `tls_agreed` asks for this, and for no pending byte.
+pub fn tls_begins_after_234()
+    ensures { (limit : Option ℕ) (steps : List ClientStep) (client : RustClient)
+        → AreSteps (new_client limit) steps client
+        → IsTrue client.dialogue.agreed → commands_owed client.dialogue ≡ 0
+        → (earlier : List ReplyTo) × (place : ℕ) × (lines : List Bytes)
+        × (replies_taken steps
+        ≡ earlier ++ record { to = Command place; reply = (234, lines) } ∷ [])
+        × (suc place ≡ length (commands_sent steps)) }
+{}

@@ -1,0 +1,202 @@
+//! A client's end of a control connection, without input and output: it writes the lines of commands,
+//! and says to which of them each reply is.
+#![tactic(auto)]
+
+ghost use Rattle.std.specs.Prelude.{◌≡◌, ◌↔◌, ◌+◌, ◌≤◌, ◌++◌, ℕ, List, [], Some, None, Ok, Err, IsTrue, IfErr, IfNone, IfOk, IfSome, OnErr, OnOk, length, max};
+ghost use Rattle.unftp_control_command.specs.CommandMeaning.{command_of};
+ghost use Rattle.unftp_control_defs.specs.Bytes.{Bytes};
+ghost use Rattle.unftp_control_defs.specs.Canonical.{HasLine, canonical_line};
+ghost use Rattle.unftp_control_defs.specs.Lines.{IsLine};
+ghost use Rattle.unftp_control_defs.specs.Outcome.{outcome};
+ghost use Rattle.unftp_control_defs.specs.ReplyLimit.{IsTooLongReply};
+ghost use Rattle.unftp_control_defs.specs.ReplyReader.{FrontReply, IsMalformed, IsPartial};
+ghost use Rattle.unftp_control_defs.specs.TakingSteps.{TakesReply};
+ghost use Rattle.unftp_control_read.specs.ReplyDecoding.{IsReturned, TakesNextReply, content, held_after, piece_pushed, within_limit};
+ghost use Rattle.unftp_control_read.specs.Receiving.{Receives};
+ghost use Rattle.unftp_control_client.specs.Dialogue.{after_command, commands_owed};
+ghost use Rattle.unftp_control_client.specs.Exchange.{IsNext, IsOtherError, new_client, only_reply};
+
+mod dialogue;
+mod errors;
+pub mod laws;
+
+use crate::dialogue::Dialogue;
+pub use crate::dialogue::{ClientReply, To};
+pub use crate::errors::SendError;
+use std::alloc::{AllocError, Global};
+use std::io::Read;
+use unftp_control_command::Command;
+use unftp_control_read::{NextReplyError, ReceiveError, ReplyDecoder};
+use unftp_control_write::write_command;
+
+/// A client's end of a control connection. It writes the lines that the caller sends, and takes
+/// replies from the bytes that the caller receives. A server replies in order, so the client knows
+/// to which command each reply is (RFC 959, sections 4.2 and 5.4). Commands may be sent before
+/// the replies to earlier ones came.
+#[derive(Drop)]
+pub struct Client {
+    replies: ReplyDecoder,
+    dialogue: Dialogue,
+}
+
+impl Client {
+    /// A client that has sent and received nothing. The greeting is expected first. A reply may
+    /// have any length: for a server that is not trusted, set a limit.
+    pub fn new(alloc: Global) -> Client
+        ensures { result ≡ new_client None }
+    {
+        Client {
+            replies: ReplyDecoder::new(alloc),
+            dialogue: Dialogue::new(),
+        }
+    }
+
+    /// A client that has sent and received nothing. A reply may have at most `limit` bytes, its line
+    /// ends counted (RFC 959 names no limit).
+    pub fn with_limit(alloc: Global, limit: usize) -> Client
+        requires { 1 ≤ limit }
+        ensures { result ≡ new_client (Some limit) }
+    {
+        Client {
+            replies: ReplyDecoder::with_limit(alloc, limit),
+            dialogue: Dialogue::new(),
+        }
+    }
+
+    /// Appends the canonical line of the command to `out`, as `write_command` does, and returns the
+    /// command's place among all that were sent (RFC 959, section 5.3). The command is then owed a
+    /// reply: the caller sends the bytes, each once.
+    ///
+    /// It is refused with `NoLine` where no line is read as this command, with `OutOfMemory` where
+    /// `out` has to grow and can't, and with `TooManyCommands` where 2^64 - 1 commands were sent.
+    /// At an error nothing changes: `out` is as it was, and so is what is owed.
+    pub fn send(&mut self, command: &Command, out: &mut Vec<u8>) -> Result<u64, SendError>
+        ensures place { IfOk result (λ place. place ≡ self.old.dialogue.sent) }
+        ensures ok { OnOk result
+            (self.new ≡ record self.old { dialogue = after_command self.old.dialogue }) }
+        ensures out { OnOk result
+            (out.new.items ≡ out.old.items ++ canonical_line (command_of command.now)) }
+        ensures line { OnOk result (IsLine (canonical_line (command_of command.now))) }
+        ensures read_back { OnOk result
+            (outcome (canonical_line (command_of command.now)) ≡ Ok (command_of command.now)) }
+        ensures err { OnErr result (self.new ≡ self.old) }
+        ensures out_err { OnErr result (out.new.items ≡ out.old.items) }
+        ensures no_line { ¬ HasLine (command_of command.now) → result ≡ Err SendError.NoLine }
+        ensures has_line { HasLine (command_of command.now)
+            → IfErr result (λ error. IsOtherError self.old.dialogue.sent error) }
+    {
+        let length = out.len();
+        write_command(command, out)?;
+        let Some(place) = self.dialogue.add_command() else {
+            out.truncate(length);
+            return Err(SendError::TooManyCommands);
+        };
+        Ok(place)
+    }
+
+    /// Appends a piece of what the server sent to the pending bytes. When out of memory, nothing
+    /// changes.
+    pub fn receive(&mut self, piece: &[u8]) -> Result<(), AllocError>
+        ensures ok { OnOk result (self.new
+            ≡ record self.old { replies = piece_pushed self.old.replies piece.now }) }
+        ensures err { OnErr result (self.new ≡ self.old) }
+    {
+        self.replies.push(piece)
+    }
+
+    /// Takes the first reply of the pending bytes, with what it is to, or returns `None` where they
+    /// are only a part of one (RFC 959, sections 4.2 and 5.4). The greeting comes first, then the
+    /// replies to each command in turn. After one whose code is 1yz another follows to the same. A
+    /// reply that comes where none is owed is to `Nothing`.
+    ///
+    /// At an error all bytes stay pending, and what is owed is as before. `Malformed` and `TooLong`
+    /// are returned from then on. After `OutOfMemory` the next call finds the same reply again.
+    pub fn next_reply(&mut self) -> Result<Option<ClientReply>, NextReplyError>
+        ensures takes_next { TakesNextReply self.old.replies (only_reply result) self.new.replies }
+        ensures dialogue { IsNext self.old.dialogue result self.new.dialogue }
+        ensures whole { (code : ℕ) (lines : List Bytes) (used : ℕ)
+            → FrontReply self.old.replies.bytes code lines used
+            → IfSome self.old.replies.limit (λ limit. used ≤ limit)
+            → IsReturned code lines (only_reply result) }
+        ensures partial { IsPartial self.old.replies.bytes
+            → ¬ IsTooLongReply self.old.replies.limit self.old.replies.bytes
+            → result ≡ Ok None }
+        ensures malformed { IsMalformed
+            (within_limit self.old.replies.limit self.old.replies.bytes)
+            → result ≡ Err NextReplyError.Malformed }
+        ensures too_long { IsTooLongReply self.old.replies.limit self.old.replies.bytes
+            → result ≡ Err NextReplyError.TooLong }
+        ensures buffered { self.new.replies.buffered
+            ≡ held_after self.old.replies (only_reply result) self.new.replies }
+        ensures limit { self.new.replies.limit ≡ self.old.replies.limit }
+    {
+        match self.replies.next_reply()? {
+            Some(reply) => Ok(Some(self.dialogue.add_reply(reply))),
+            None => Ok(None),
+        }
+    }
+
+    /// Takes the first reply of the pending bytes, as `next_reply` does, and reads on while they are
+    /// only a part of one, at most 4096 bytes at a time. It returns `None` only at the reader's end,
+    /// with less than a reply pending. Bytes that were read after the reply stay pending.
+    ///
+    /// At an error all bytes stay pending, those that were read too, and what is owed is as before.
+    /// `Read` is any error of the reader, also `Interrupted`: after it, and after `OutOfMemory`, the
+    /// call can be made again. `Malformed` and `TooLong` are returned from then on. `TooManyReads`
+    /// is never returned.
+    pub fn read_reply<R: Read>(
+        &mut self,
+        reader: &mut R,
+    ) -> Result<Option<ClientReply>, ReceiveError>
+        // The reply is the first of the pending bytes and the remaining input, and what follows it
+        // is left.
+        ensures reply { IfOk result (λ next. IfSome next (λ taken.
+            IfSome (R.remaining reader.old) (λ input. IfSome (R.remaining reader.new) (λ left.
+            TakesReply (self.old.replies.bytes ++ input) (content taken.reply)
+            (self.new.replies.bytes ++ left))))) }
+        // The whole input is a part of a reply, and pending.
+        ensures end { IfOk result (λ next. IfNone next (IfSome (R.remaining reader.old) (λ input.
+            IsPartial (self.old.replies.bytes ++ input)
+            × (self.new.replies.bytes ≡ self.old.replies.bytes ++ input)))) }
+        ensures dialogue { IsNext self.old.dialogue result self.new.dialogue }
+        // What holds of any reader, and at each error.
+        ensures receives { Receives self.old.replies (R.remaining reader.old) (only_reply result)
+            self.new.replies (R.remaining reader.new) }
+        ensures limit { self.new.replies.limit ≡ self.old.replies.limit }
+        // With a limit, no more is pending then than the limit and one read, or than before.
+        ensures pending { IfSome self.old.replies.limit (λ limit.
+            length self.new.replies.bytes ≤ max (length self.old.replies.bytes) (limit + 4095)) }
+    {
+        match self.replies.read_reply(reader)? {
+            Some(reply) => Ok(Some(self.dialogue.add_reply(reply))),
+            None => Ok(None),
+        }
+    }
+
+    /// How many commands are owed their final reply.
+    pub fn owed(&self) -> u64
+        ensures { result ≡ commands_owed self.now.dialogue }
+    {
+        self.dialogue.owed()
+    }
+
+    /// The pending bytes: those after the last reply that was taken.
+    pub fn pending(&self) -> &[u8]
+        ensures { result.now ≡ self.now.replies.bytes }
+    {
+        self.replies.pending()
+    }
+
+    /// Whether TLS may begin: the last reply was a 234 to a command, no command is owed a reply, and
+    /// no byte was received after it (RFC 4217, section 4).
+    ///
+    /// Bytes that came after the reply in clear text must not be taken for replies under TLS: where
+    /// there are any, the connection has to be closed.
+    pub fn tls_agreed(&self) -> bool
+        ensures { IsTrue result ↔ (IsTrue self.now.dialogue.agreed
+            × (commands_owed self.now.dialogue ≡ 0)
+            × (self.now.replies.bytes ≡ [])) }
+    {
+        self.dialogue.agreed() && self.owed() == 0 && self.pending().is_empty()
+    }
+}
