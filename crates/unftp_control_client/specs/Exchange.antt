@@ -1,6 +1,6 @@
 -- What the calls of a client return, and what they leave.
 use Rattle.std.specs.Prelude.{◌≡◌, ℕ, ◌-◌, ◌^◌, Option, Some, None, Result, Ok, Err, ⊤}
-use Rattle.unftp_control_read.specs.ReplyDecoding.{NextReply, nothing_pending}
+use Rattle.unftp_control_read.specs.ReplyDecoding.{NextReply, no_bytes}
 use Rattle.unftp_control_write.specs.declared.WriteCommandError.{WriteCommandError}
 use Rattle.unftp_control_write.specs.declared.WriteCommandError.TheVariants as refusal
 use Rattle.unftp_control_client.specs.Dialogue.{after_reply, at_start, next_to}
@@ -12,7 +12,7 @@ use Rattle.unftp_control_client.specs.declared.errors.SendError.TheVariants.{NoL
 
 -- a client that has sent and received nothing
 abbrev pub new_client : Option ℕ → Client
-new_client limit = record { replies = nothing_pending limit; dialogue = at_start }
+new_client limit = record { replies = no_bytes limit; dialogue = at_start }
 
 -- the error that a refusal is
 abbrev pub send_error_of : WriteCommandError → SendError

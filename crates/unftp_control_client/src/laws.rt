@@ -4,7 +4,7 @@ ghost use Rattle.std.specs.List.{filter};
 ghost use Rattle.unftp_control_defs.specs.Bytes.{Bytes};
 ghost use Rattle.unftp_control_defs.specs.TakingSteps.{AreTakingSteps, TakesReply};
 ghost use Rattle.unftp_control_defs.specs.FtpCommand.{FtpCommand};
-ghost use Rattle.unftp_control_read.specs.ReplyDecoding.{TakesFirst, content, piece_pushed};
+ghost use Rattle.unftp_control_read.specs.ReplyDecoding.{TakesFirst, content, pushed};
 ghost use Rattle.unftp_control_read.specs.Receiving.{Receives};
 ghost use Rattle.unftp_control_client.specs.Dialogue.{after_command, commands_owed};
 ghost use Rattle.unftp_control_client.specs.Exchange.{IsNext, new_client};
@@ -20,7 +20,7 @@ pub fn calls_are_steps()
         → after ≡ record before { dialogue = after_command before.dialogue }
         → AreSteps before (Sent command ∷ []) after }
     ensures receive { (before after : RustClient) (piece : Bytes)
-        → after ≡ record before { replies = piece_pushed before.replies piece }
+        → after ≡ record before { replies = pushed before.replies piece }
         → AreSteps before (Received piece ∷ []) after }
     ensures next_reply { (before after : RustClient) (taken : RustReply)
         → TakesFirst before.replies (content taken.reply) after.replies

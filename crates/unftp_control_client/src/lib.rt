@@ -11,7 +11,7 @@ ghost use Rattle.unftp_control_defs.specs.Outcome.{outcome};
 ghost use Rattle.unftp_control_defs.specs.ReplyLimit.{IsTooLongReply};
 ghost use Rattle.unftp_control_defs.specs.ReplyReader.{FrontReply, IsMalformed, IsPartial};
 ghost use Rattle.unftp_control_defs.specs.TakingSteps.{TakesReply};
-ghost use Rattle.unftp_control_read.specs.ReplyDecoding.{IsReturned, TakesNextReply, content, held_after, piece_pushed, within_limit};
+ghost use Rattle.unftp_control_read.specs.ReplyDecoding.{IsReturned, TakesNextReply, content, held_after, pushed, within_limit};
 ghost use Rattle.unftp_control_read.specs.Receiving.{Receives};
 ghost use Rattle.unftp_control_client.specs.Dialogue.{after_command, commands_owed};
 ghost use Rattle.unftp_control_client.specs.Exchange.{IsNext, IsOtherError, new_client, only_reply};
@@ -98,7 +98,7 @@ impl Client {
     /// changes.
     pub fn receive(&mut self, piece: &[u8]) -> Result<(), AllocError>
         ensures ok { OnOk result (self.new
-            ≡ record self.old { replies = piece_pushed self.old.replies piece.now }) }
+            ≡ record self.old { replies = pushed self.old.replies piece.now }) }
         ensures err { OnErr result (self.new ≡ self.old) }
     {
         self.replies.push(piece)
