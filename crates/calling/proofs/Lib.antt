@@ -2,3 +2,4 @@ mod PieceLemmas
 mod ExampleLemmas
 mod CallerLemmas
 mod EventLoopLemmas
+mod ConversingLemmas

@@ -1,27 +1,26 @@
 -- What a client and a server in one process understand of each other (RFC 959, sections 4.2 and
 -- 5.4).
-use Rattle.std.specs.Prelude.{◌≡◌, ℕ, suc, true, false, List, [], ◌∷◌, ◌++◌, map, option_map, Option, Some, Ok, IfSome}
+use Rattle.std.specs.Prelude.{◌≡◌, ℕ, ◌+◌, suc, false, List, [], ◌∷◌, ◌++◌, length, map, option_map, Option, Some, Ok, IfSome}
+use Rattle.std.specs.List.{AllByRecursion}
 use Rattle.unftp_control.specs.Bytes.{Bytes}
 use Rattle.unftp_control.specs.Canonical.{canonical_line}
-use Rattle.unftp_control.specs.ClientSteps.{ReplyTo, reply_to}
-use Rattle.unftp_control.specs.Dialogue.{after_reply, is_preliminary, next_to}
+use Rattle.unftp_control.specs.Conversation.{sent}
+use Rattle.unftp_control.specs.Dialogue.{is_preliminary}
 use Rattle.unftp_control.specs.Events.{Command}
 use Rattle.unftp_control.specs.FtpCommand.{FtpCommand}
 use Rattle.unftp_control.specs.FtpReply.{FtpReply, reply_as_read}
 use Rattle.unftp_control.specs.Lines.{IsLine}
 use Rattle.unftp_control.specs.Outcome.{outcome}
-use Rattle.unftp_control.specs.ReplyDecoding.{content}
 use Rattle.unftp_control.specs.Run.{Law, replies, run_of}
-use Rattle.unftp_control.specs.TakingSteps.{AreTakingSteps, TakesReply, TakingStep, all_pushed, all_taken}
+use Rattle.unftp_control.specs.Steps.{AreSteps, ClientStep, ReplyTo, commands_sent, decoder_steps, replies_taken, reply_to}
+use Rattle.unftp_control.specs.TakingSteps.{all_pushed}
 use Rattle.unftp_control.specs.declared.client.Client.{Client}
 use Rattle.unftp_control.specs.declared.client.ClientReply.{ClientReply}
-use Rattle.unftp_control.specs.declared.client.Dialogue.{Dialogue}
 use Rattle.unftp_control.specs.declared.client.To.TheVariants as to
 
 -- The greeting came, no command is owed a reply, and nothing is pending.
 pub record IsAtRest (client : Client) : Type 0 where
-  pub greeted : client.dialogue.greeted ≡ true
-  pub none_owed : client.dialogue.answered ≡ client.dialogue.sent
+  pub none_owed : client.dialogue.answered ≡ Some client.dialogue.sent
   pub none_pending : client.replies.bytes ≡ []
 
 -- what a handler says to these commands, up to the one that ends its session
@@ -51,22 +50,25 @@ IsReadBack command =
 abbrev pub with_sent : Client → ℕ → Client
 with_sent client sent = record client { dialogue = record client.dialogue { sent = sent } }
 
--- Each reply is to what the next one is to, and the dialogue goes on so.
-abbrev pub GoesOn : Dialogue → List ClientReply → Dialogue → Type 0
-GoesOn before [] after = after ≡ before
-GoesOn before (taken ∷ more) after =
-    (taken.to ≡ next_to before) × GoesOn (after_reply before taken.reply.code) more after
-
--- The client received these bytes, and took these replies.
-pub record Takes (before : Client) (received : Bytes) (taken : List ClientReply) (after : Client)
+-- The client sent nothing, received these bytes, and took these replies.
+pub record Takes (before : Client) (received : Bytes) (taken : List ReplyTo) (after : Client)
     : Type 0 where
-  pub steps : List (TakingStep (ℕ × List Bytes))
-  pub are : AreTakingSteps TakesReply before.replies.bytes steps after.replies.bytes
-  pub pushed : all_pushed steps ≡ received
-  pub taken_are : all_taken steps ≡ map (λ taken. content taken.reply) taken
-  pub dialogue : GoesOn before.dialogue taken after.dialogue
+  pub steps : List ClientStep
+  pub are : AreSteps before steps after
+  pub none_sent : commands_sent steps ≡ []
+  pub received_are : all_pushed (decoder_steps steps) ≡ received
+  pub taken_are : replies_taken steps ≡ taken
 
--- It took some after these.
-abbrev pub TakesMore : Client → Bytes → List ClientReply → Client → List ClientReply → Type 0
-TakesMore before received taken after taken' = (more : List ClientReply)
-    × (taken' ≡ taken ++ more) × Takes before received more after
+-- It received the first of the bytes, after which these are still to come.
+pub record TakesOf (before : Client) (whole rest : Bytes) (taken : List ClientReply)
+    (after : Client) : Type 0 where
+  pub received : Bytes
+  pub split : whole ≡ received ++ rest
+  pub takes : Takes before received (map reply_to taken) after
+
+-- These commands were sent after the bytes: each has a line that is read back, and is owed a reply.
+pub record HasSent (before after : Client) (out out' : Bytes) (commands : List FtpCommand)
+    : Type 0 where
+  pub bytes : out' ≡ out ++ sent commands
+  pub read_back : AllByRecursion IsReadBack commands
+  pub client : after ≡ with_sent before (before.dialogue.sent + length commands)

@@ -6,6 +6,7 @@ pub mod EventLoop
 pub mod NoFiles
 pub mod NextCode
 pub mod Sessions
+pub mod Conversing
 pub mod Pieces
 pub mod FactList
 pub mod WholeLine

@@ -1,8 +1,11 @@
 -- What a client makes of the replies that it receives (RFC 959, section 4.2).
-use Rattle.std.specs.Prelude.{◌≡◌, ℕ, ◌==◌, Bool, false, [], Option, Some, None, Result, Ok, Err, MatchResult}
+use Rattle.std.specs.Prelude.{◌≡◌, ◌↔◌, ℕ, Bool, IsTrue, [], Option, Some, None, Result, Ok, Err, MatchResult}
 use Rattle.unftp_control.specs.Bytes.{Bytes}
+use Rattle.unftp_control.specs.Dialogue.{commands_owed}
+use Rattle.unftp_control.specs.Exchange.{IsNext, NextClientReply, only_reply}
 use Rattle.unftp_control.specs.ReplyDecoding.{NextReply, PendingReplies}
 use Rattle.unftp_control.specs.Receiving.{Receives}
+use Rattle.unftp_control.specs.declared.client.Client.{Client}
 use Rattle.unftp_control.specs.declared.read.ReceiveError.{ReceiveError}
 
 -- of a reply only its code
@@ -17,17 +20,19 @@ abbrev pub ReceivesCode : PendingReplies → Option Bytes → Result (Option ℕ
 ReceivesCode before remaining result after remaining' = (received : NextReply ReceiveError)
     × Receives before remaining received after remaining' × (result ≡ only_code received)
 
--- TLS begins where the reply to AUTH is 234 and nothing was received after it (RFC 2228, section
--- 3; RFC 4217, section 4).
-abbrev pub begins_tls : Option ℕ → Bytes → Bool
-begins_tls (Some code) [] = code == 234
-begins_tls _ _ = false
+-- TLS may begin: the last reply was a 234 to a command, no command is owed a reply, and nothing is
+-- pending (RFC 2228, section 3; RFC 4217, section 4).
+abbrev pub MayBeginTls : Client → Type 0
+MayBeginTls client = IsTrue client.dialogue.agreed × (commands_owed client.dialogue ≡ 0)
+    × (client.replies.bytes ≡ [])
 
--- whether it begins after the next reply, or why there is none
-abbrev pub ReceivesAgreement : PendingReplies → Option Bytes → Result Bool ReceiveError
-    → PendingReplies → Option Bytes → Type 0
+-- whether it may after the next reply, or why there is none
+abbrev pub ReceivesAgreement : Client → Option Bytes → Result Bool ReceiveError → Client
+    → Option Bytes → Type 0
 ReceivesAgreement before remaining result after remaining' =
-    (next : Result (Option ℕ) ReceiveError) × ReceivesCode before remaining next after remaining'
+    (next : NextClientReply ReceiveError)
+    × Receives before.replies remaining (only_reply next) after.replies remaining'
+    × IsNext before.dialogue next after.dialogue
     × MatchResult next
-    (λ code. result ≡ Ok (begins_tls code after.bytes))
+    (λ _. (agreed : Bool) × (result ≡ Ok agreed) × (IsTrue agreed ↔ MayBeginTls after))
     (λ error. result ≡ Err error)

@@ -1,13 +1,15 @@
 //! A client.
-ghost use Rattle.std.specs.Prelude.{◌≡◌, ◌++◌, List, true, IfErr, IfOk, IfSome, MatchOption};
+ghost use Rattle.std.specs.Prelude.{◌≡◌, ◌≤◌, ◌++◌, List, IsTrue, IfErr, IfOk, IfSome, MatchOption};
 ghost use Rattle.calling.specs.NextCode.{ReceivesAgreement, ReceivesCode};
 ghost use Rattle.unftp_control.specs.Bytes.{Bytes};
+ghost use Rattle.unftp_control.specs.Dialogue.{commands_owed};
 ghost use Rattle.unftp_control.specs.ReplyReader.{FrontReply, IsPartial};
 ghost use Rattle.unftp_control.specs.TakingSteps.{TakesReply};
 ghost use Rattle.unftp_control.specs.Reading.{ReturnsRefusal};
 
 use std::alloc::Global;
 use std::io::Read;
+use unftp_control::client::Client;
 use unftp_control::read::{Front, ReadReplyError, ReceiveError, ReplyDecoder, read_reply};
 
 /// The code of the server's next reply, or `None` where it has closed the connection.
@@ -31,25 +33,24 @@ pub fn next_code<R: Read>(
     }
 }
 
-/// Reads the reply to AUTH TLS, and returns whether the client may begin TLS: the server agrees,
-/// and nothing was received after its reply.
+/// Reads the reply to AUTH TLS, which was sent last, and returns whether TLS may begin: the server
+/// agrees, and nothing was received after its reply.
 ///
 /// Bytes that came after the reply in clear text must not be taken for replies under TLS: where
 /// there are any, the connection has to be closed.
-pub fn tls_agreed<R: Read>(replies: &mut ReplyDecoder, stream: &mut R) -> Result<bool, ReceiveError>
-    // TLS begins exactly where the next reply is 234 and nothing is pending after it,
-    ensures receives { ReceivesAgreement replies.old (R.remaining stream.old) result
-        replies.new (R.remaining stream.new) }
-    // and the stream then begins with the byte after this reply
-    ensures reply { IfOk result (λ agreed. agreed ≡ true →
-        IfSome (R.remaining stream.old) (λ input. IfSome (R.remaining stream.new) (λ left.
-        (lines : List Bytes) × TakesReply (replies.old.bytes ++ input) (234, lines) left))) }
-    ensures limit { replies.new.limit ≡ replies.old.limit }
+pub fn tls_agreed<R: Read>(client: &mut Client, stream: &mut R) -> Result<bool, ReceiveError>
+    // the next reply is taken, if there is one, and TLS begins exactly where the client says so
+    ensures receives { ReceivesAgreement client.old (R.remaining stream.old) result
+        client.new (R.remaining stream.new) }
+    // where AUTH was owed its reply, this is a 234, and the stream begins with the byte after it
+    ensures reply { IfOk result (λ agreed. IsTrue agreed → 1 ≤ commands_owed client.old.dialogue
+        → IfSome (R.remaining stream.old) (λ input. IfSome (R.remaining stream.new) (λ left.
+        (lines : List Bytes)
+        × TakesReply (client.old.replies.bytes ++ input) (234, lines) left))) }
+    ensures limit { client.new.replies.limit ≡ client.old.replies.limit }
 {
-    match next_code(replies, stream)? {
-        Some(234) => Ok(replies.pending().is_empty()),
-        _ => Ok(false),
-    }
+    client.read_reply(stream)?;
+    Ok(client.tls_agreed())
 }
 
 /// The code of the first reply in `received` and how many bytes it takes, once it is complete.

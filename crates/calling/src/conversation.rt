@@ -1,11 +1,11 @@
 //! A client and a server in one process, and a network between them.
 ghost use Rattle.std.specs.Prelude.{◌≡◌, ◌≤◌, ◌+◌, ◌⊎◌, [], ◌++◌, IfOk, OnOk, Some, length, map};
 ghost use Rattle.std.specs.List.{AllByRecursion};
-ghost use Rattle.calling.specs.Conversing.{IsAtRest, IsFinal, Receives, numbered, said, taken_of};
+ghost use Rattle.calling.specs.Conversing.{HasSent, IsAtRest, IsFinal, TakesOf, numbered, said};
 ghost use Rattle.unftp_control.specs.CommandMeaning.{command_of};
-ghost use Rattle.unftp_control.specs.Conversation.{IsReadable, sent};
-ghost use Rattle.unftp_control.specs.Lines.{IsLine};
-ghost use Rattle.unftp_control.specs.Outcome.{outcome};
+ghost use Rattle.unftp_control.specs.Conversation.{IsReadable};
+ghost use Rattle.unftp_control.specs.ReplyReader.{IsPartial};
+ghost use Rattle.unftp_control.specs.Steps.{reply_to};
 
 use crate::serving::serve_connection;
 use std::alloc::{AllocError, AllocFailed, Global};
@@ -15,6 +15,7 @@ use thiserror::Error;
 use unftp_control::client::{Client, ClientReply, SendError};
 use unftp_control::command::Command;
 use unftp_control::laws::both_ends::conversation;
+use unftp_control::laws::commands_of_lines;
 use unftp_control::read::NextReplyError;
 use unftp_control::serve::{Handler, ServeError};
 
@@ -123,12 +124,13 @@ pub fn converse<H: Handler>(
     ensures understood { IfOk result (λ taken. IsAtRest client.old
         → AllByRecursion IsReadable (said H.law (H.state handler.old) (map command_of commands.now))
         → AllByRecursion IsFinal (said H.law (H.state handler.old) (map command_of commands.now))
-        → map taken_of taken.items ≡ numbered client.old.dialogue.sent
+        → map (λ reply. Some (reply_to reply)) taken.items ≡ numbered client.old.dialogue.sent
         (said H.law (H.state handler.old) (map command_of commands.now))) }
     ensures sent { OnOk result (client.new.dialogue.sent
         ≡ client.old.dialogue.sent + length commands.now) }
 {
     conversation::<H>();
+    commands_of_lines();
     let mut to_server = Vec::new(alloc);
     send_all(client, commands, &mut to_server)?;
     let carried = Network::new(to_server.as_slice(), seed);
@@ -143,11 +145,8 @@ fn send_all(
     commands: &[Command],
     to_server: &mut Vec<u8>,
 ) -> Result<(), ConverseError>
-    ensures sent { OnOk result (to_server.new.items
-        ≡ to_server.old.items ++ sent (map command_of commands.now)) }
-    ensures lines { OnOk result (AllByRecursion IsReadBack (map command_of commands.now)) }
-    ensures client { OnOk result (client.new
-        ≡ with_sent client.old (client.old.dialogue.sent + length commands.now)) }
+    ensures { OnOk result (HasSent client.old client.new to_server.old.items to_server.new.items
+        (map command_of commands.now)) }
 {
     for command in commands {
         client.send(command, to_server)?;
@@ -155,30 +154,28 @@ fn send_all(
     Ok(())
 }
 
-/// Takes all complete replies of what was received.
-fn take_complete(client: &mut Client, taken: &mut Vec<ClientReply>) -> Result<(), ConverseError>
-    ensures taken { OnOk result (Takes client.old [] taken.old.items client.new taken.new.items) }
-    ensures none { OnOk result (IsPartial client.new.replies.bytes) }
-{
-    while let Some(reply) = client.next_reply()? {
-        taken.push(reply)?;
-    }
-    Ok(())
-}
-
-/// Receives all that the network carries, and takes the replies of each piece.
+/// Receives all that the network carries, and takes the replies.
 fn take_all(
     alloc: Global,
     client: &mut Client,
     network: Network<'_>,
 ) -> Result<Vec<ClientReply>, ConverseError>
-    ensures { IfOk result (λ taken. TakesAll client.old network.rest.now client.new taken.items) }
+    ensures taken { IfOk result (λ taken.
+        TakesOf client.old network.rest.now [] taken.items client.new) }
+    ensures none { OnOk result (IsPartial client.new.replies.bytes) }
 {
     let mut network = network;
     let mut taken = Vec::new(alloc);
-    while !network.rest.is_empty() {
-        client.receive(network.next_piece(PIECE))?;
-        take_complete(client, &mut taken)?;
+    loop {
+        match client.next_reply()? {
+            Some(reply) => taken.push(reply)?,
+            None => {
+                let piece = network.next_piece(PIECE);
+                if piece.is_empty() {
+                    return Ok(taken);
+                }
+                client.receive(piece)?;
+            }
+        }
     }
-    Ok(taken)
 }

@@ -8,7 +8,7 @@ use Rattle.unftp_control_client.specs.declared.Client.{Client}
 use Rattle.unftp_control_client.specs.declared.dialogue.ClientReply.{ClientReply}
 use Rattle.unftp_control_client.specs.declared.dialogue.Dialogue.{Dialogue}
 use Rattle.unftp_control_client.specs.declared.errors.SendError.{SendError}
-use Rattle.unftp_control_client.specs.declared.errors.SendError.TheVariants.{NoLine, OutOfMemory, TooManyCommands}
+use Rattle.unftp_control_client.specs.declared.errors.SendError.TheVariants.{NoLine, NotALine, OutOfMemory, TooManyCommands}
 
 -- a client that has sent and received nothing
 abbrev pub new_client : Option ℕ → Client
@@ -19,9 +19,10 @@ abbrev pub send_error_of : WriteCommandError → SendError
 send_error_of refusal.NoLine = NoLine
 send_error_of refusal.OutOfMemory = OutOfMemory
 
--- an error of a command that has a line: there are too many where the count of those sent is full
+-- an error of one line: there are too many where the count of those sent is full
 abbrev pub IsOtherError : ℕ → SendError → Type 0
 IsOtherError sent NoLine = ⊥
+IsOtherError sent NotALine = ⊥
 IsOtherError sent OutOfMemory = ⊤
 IsOtherError sent TooManyCommands = sent ≡ 2 ^ 64 - 1
 

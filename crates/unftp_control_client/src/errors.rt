@@ -1,4 +1,5 @@
 //! Why no command is sent.
+use std::alloc::AllocError;
 use thiserror::Error;
 use unftp_control_write::WriteCommandError;
 
@@ -8,6 +9,9 @@ pub enum SendError {
     /// No line whose one line feed is its last byte is read as this command.
     #[error("no line gives this command")]
     NoLine,
+    /// The bytes are not one line: no line feed is their last byte, or one comes before it.
+    #[error("not one line")]
+    NotALine,
     /// An allocation failed.
     #[error("out of memory")]
     OutOfMemory,
@@ -27,5 +31,16 @@ impl From<WriteCommandError> for SendError {
             WriteCommandError::NoLine => SendError::NoLine,
             WriteCommandError::OutOfMemory => SendError::OutOfMemory,
         }
+    }
+}
+
+impl From<AllocError> for SendError {
+    ghost use Rattle.std.specs.Prelude.{◌≡◌};
+    ghost use Rattle.unftp_control_client.specs.declared.errors.SendError.TheVariants.{OutOfMemory};
+
+    ghost from_gives = { λ _ error. error ≡ OutOfMemory };
+
+    fn from(_failed: AllocError) -> SendError {
+        SendError::OutOfMemory
     }
 }

@@ -2,7 +2,7 @@
 //! and says to which of them each reply is.
 #![tactic(auto)]
 
-ghost use Rattle.std.specs.Prelude.{◌≡◌, ◌↔◌, ◌+◌, ◌≤◌, ◌++◌, ℕ, List, [], Some, None, Ok, Err, IsTrue, IfErr, IfNone, IfOk, IfSome, OnErr, OnOk, length, max};
+ghost use Rattle.std.specs.Prelude.{◌≡◌, ◌↔◌, ◌+◌, ◌-◌, ◌^◌, ◌≤◌, ◌++◌, ℕ, List, [], Some, None, Ok, Err, IsTrue, IfErr, IfNone, IfOk, IfSome, OnErr, OnOk, length, max, take, vec_len};
 ghost use Rattle.unftp_control_command.specs.CommandMeaning.{command_of};
 ghost use Rattle.unftp_control_defs.specs.Bytes.{Bytes};
 ghost use Rattle.unftp_control_defs.specs.Canonical.{HasLine, canonical_line};
@@ -27,7 +27,7 @@ use std::alloc::{AllocError, Global};
 use std::io::Read;
 use unftp_control_command::Command;
 use unftp_control_read::{NextReplyError, ReceiveError, ReplyDecoder};
-use unftp_control_write::write_command;
+use unftp_control_write::{is_line, write_command};
 
 /// A client's end of a control connection. It writes the lines that the caller sends, and takes
 /// replies from the bytes that the caller receives. A server replies in order, so the client knows
@@ -87,6 +87,47 @@ impl Client {
     {
         let length = out.len();
         write_command(command, out)?;
+        self.add_command(out, length)
+    }
+
+    /// Appends a line to `out` as it is, for what no `Command` says, as `TYPE A` or `OPTS MLST size`,
+    /// and returns its place as `send` does (RFC 959, section 5.3). It is then owed a reply.
+    ///
+    /// Bytes without a line feed at their end, or with another before it, are refused with
+    /// `NotALine`, so that no second line is sent with the first. It is refused with `OutOfMemory` and
+    /// `TooManyCommands` as `send` is. At an error nothing changes.
+    pub fn send_line(&mut self, line: &[u8], out: &mut Vec<u8>) -> Result<u64, SendError>
+        ensures place { IfOk result (λ place. place ≡ self.old.dialogue.sent) }
+        ensures ok { OnOk result
+            (self.new ≡ record self.old { dialogue = after_command self.old.dialogue }) }
+        ensures out { OnOk result (out.new.items ≡ out.old.items ++ line.now) }
+        ensures err { OnErr result (self.new ≡ self.old) }
+        ensures out_err { OnErr result (out.new.items ≡ out.old.items) }
+        ensures not_a_line { ¬ IsLine line.now → result ≡ Err SendError.NotALine }
+        ensures is_line { IsLine line.now
+            → IfErr result (λ error. IsOtherError self.old.dialogue.sent error) }
+    {
+        if !is_line(line) {
+            return Err(SendError::NotALine);
+        }
+        let length = out.len();
+        out.extend_from_slice(line)?;
+        self.add_command(out, length)
+    }
+
+    /// Counts the command whose line comes after this many bytes, and returns its place; or removes the
+    /// line where 64 bits don't count it.
+    fn add_command(&mut self, out: &mut Vec<u8>, length: usize) -> Result<u64, SendError>
+        requires { length ≤ vec_len out.old }
+        ensures place { IfOk result (λ place. place ≡ self.old.dialogue.sent) }
+        ensures ok { OnOk result
+            (self.new ≡ record self.old { dialogue = after_command self.old.dialogue }) }
+        ensures out { OnOk result (out.new.items ≡ out.old.items) }
+        ensures err { OnErr result (self.new ≡ self.old) }
+        ensures out_err { OnErr result (out.new.items ≡ take length out.old.items) }
+        ensures why { IfErr result (λ error. (error ≡ SendError.TooManyCommands)
+            × (self.old.dialogue.sent ≡ 2 ^ 64 - 1)) }
+    {
         let Some(place) = self.dialogue.add_command() else {
             out.truncate(length);
             return Err(SendError::TooManyCommands);

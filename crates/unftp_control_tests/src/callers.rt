@@ -2,6 +2,7 @@
 use crate::held::assert_held;
 use calling::client::{first_code, next_code, tls_agreed};
 use calling::codec::{answer, first_is_noop, next_is_noop};
+use calling::conversation::converse;
 use calling::event_loop::{Turn, answer_next};
 use calling::handler::Basic;
 use calling::lines::log_line;
@@ -13,7 +14,10 @@ use std::alloc::Global;
 use std::io;
 use std::io::{Read, Write};
 use std::process::Abort;
+use unftp_control::client::{Client, ClientReply, To};
 use unftp_control::codecs::FtpCodec;
+use unftp_control::command::Command;
+use unftp_control::commands::AuthParam;
 use unftp_control::read::{ReceiveError, ReplyDecoder};
 use unftp_control::serve::{EventDecoder, Output, ServeError, Served};
 
@@ -63,9 +67,25 @@ fn assert_first(rt: &impl Abort, alloc: Global, bytes: &[u8], want: Option<(u16,
     assert!(rt; first == want);
 }
 
-/// The client begins TLS, or doesn't, where the stream gives this.
-fn assert_agreed(rt: &impl Abort, replies: &mut ReplyDecoder, mut stream: &[u8], want: bool) {
-    let is_agreed = tls_agreed(replies, &mut stream).expect(rt, "a reply");
+/// A client that was greeted, and that has sent AUTH TLS.
+fn asking_for_tls(rt: &impl Abort, alloc: Global) -> Client {
+    let mut client = greeted(rt, alloc);
+    let auth = Command::Auth {
+        protocol: AuthParam::Tls,
+    };
+    let mut out = Vec::new(alloc);
+    let place = client.send(&auth, &mut out).expect(rt, "a line");
+    drop(auth);
+    assert!(rt; place == 0);
+    assert_held(rt, out, b"AUTH TLS\r\n");
+    client
+}
+
+/// The client begins TLS, or doesn't, where the server then sends this.
+fn assert_agreed(rt: &impl Abort, alloc: Global, mut sent: &[u8], want: bool) {
+    let mut client = asking_for_tls(rt, alloc);
+    let is_agreed = tls_agreed(&mut client, &mut sent).expect(rt, "a reply");
+    drop(client);
     assert!(rt; is_agreed == want);
 }
 
@@ -77,22 +97,56 @@ fn a_client_reads_replies(rt: HostRuntime) {
     let mut stream = b"220 ready\r\n234 Begin TLS\r\n".as_slice();
     let code = next_code(&mut replies, &mut stream).expect(&rt, "a reply");
     assert_eq!(rt; code, Some(220));
-    // the second reply was received with the first, and nothing after it
-    assert_agreed(&rt, &mut replies, stream, true);
-}
-
-/// After the server sent this, the client doesn't begin TLS.
-fn assert_not_agreed(rt: &impl Abort, alloc: Global, sent: &[u8]) {
-    assert_agreed(rt, &mut ReplyDecoder::new(alloc), sent, false);
+    // the second reply was received with the first
+    let code = next_code(&mut replies, &mut stream).expect(&rt, "a reply");
+    assert_eq!(rt; code, Some(234));
 }
 
 #[test]
 fn a_client_begins_tls_right_after_the_reply_or_not_at_all(rt: HostRuntime) {
     let alloc = rt.alloc();
-    assert_not_agreed(&rt, alloc, b"234 Begin TLS\r\n230 Welcome\r\n");
-    assert_not_agreed(&rt, alloc, b"234 Begin TLS\r\n2");
-    assert_not_agreed(&rt, alloc, b"502 No TLS\r\n");
-    assert_not_agreed(&rt, alloc, b"234 Begin");
+    assert_agreed(&rt, alloc, b"234 Begin TLS\r\n", true);
+    assert_agreed(&rt, alloc, b"234 Begin TLS\r\n230 Welcome\r\n", false);
+    assert_agreed(&rt, alloc, b"234 Begin TLS\r\n2", false);
+    assert_agreed(&rt, alloc, b"502 No TLS\r\n", false);
+    assert_agreed(&rt, alloc, b"234 Begin", false);
+}
+
+/// A client that was greeted.
+fn greeted(rt: &impl Abort, alloc: Global) -> Client {
+    let mut client = Client::new(alloc);
+    let mut greeting = b"220 ready\r\n".as_slice();
+    let taken = client.read_reply(&mut greeting).expect(rt, "a reply");
+    assert!(rt; taken.is_some());
+    drop(taken);
+    client
+}
+
+/// The reply is to the command of this place, and has this code.
+fn assert_to(rt: &impl Abort, taken: &ClientReply, place: u64, code: u16) {
+    assert!(rt; taken.to == To::Command(place) && taken.reply.code == code);
+}
+
+/// The replies to NOOP, PWD and QUIT are taken, each as one to its command.
+fn assert_understood(rt: &impl Abort, alloc: Global, seed: u32) {
+    let mut client = greeted(rt, alloc);
+    let commands = [Command::Noop, Command::Pwd, Command::Quit];
+    let answers = converse(alloc, &mut client, &commands, &mut Basic::new(), seed);
+    drop(commands);
+    let taken = answers.expect(rt, "replies");
+    assert!(rt; taken.len() == 3 && client.owed() == 0);
+    drop(client);
+    assert_to(rt, &taken[0], 0, 200);
+    assert_to(rt, &taken[1], 1, 502);
+    assert_to(rt, &taken[2], 2, 221);
+    drop(taken);
+}
+
+#[test]
+fn a_client_and_a_server_converse_whatever_the_pieces(rt: HostRuntime) {
+    for seed in 0..200 {
+        assert_understood(&rt, rt.alloc(), seed);
+    }
 }
 
 /// Two bytes are left.
@@ -244,9 +298,9 @@ fn the_error_of_a_read_is_returned(rt: HostRuntime) {
     let mut replies = ReplyDecoder::new(alloc);
     let code = next_code(&mut replies, &mut NoReads(104));
     assert_number(&rt, receive_error(code), 104);
-    let is_agreed = tls_agreed(&mut replies, &mut NoReads(110));
-    assert_number(&rt, receive_error(is_agreed), 110);
     drop(replies);
+    let is_agreed = tls_agreed(&mut Client::new(alloc), &mut NoReads(110));
+    assert_number(&rt, receive_error(is_agreed), 110);
     let (served, _) = serve_connection(alloc, NoReads(104), Vec::new(alloc), &mut Basic::new());
     assert_number(&rt, read_error(served), 104);
     let (next, _) = serve_until_tls(alloc, NoReads(110), Vec::new(alloc));

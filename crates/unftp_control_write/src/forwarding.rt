@@ -81,6 +81,13 @@ fn without_end(line: &[u8]) -> Option<&[u8]>
     Some(body.strip_suffix(b"\r").unwrap_or(body))
 }
 
+/// Whether the bytes are one line: one line feed, their last byte (RFC 959, section 5.3).
+pub fn is_line(bytes: &[u8]) -> bool
+    ensures { IsTrue result ↔ IsLine bytes.now }
+{
+    without_end(bytes).is_some()
+}
+
 /// Whether the text has no line feed.
 fn lacks_line_feed(text: &[u8]) -> bool
     ensures { IsTrue result ↔ Lacks LF text.now }

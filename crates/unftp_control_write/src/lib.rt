@@ -14,7 +14,7 @@ mod line;
 pub mod parts;
 
 use crate::canonical::line_of;
-pub use forwarding::{ForwardError, forward};
+pub use forwarding::{ForwardError, forward, is_line};
 use thiserror::Error;
 use unftp_control_command::Command;
 

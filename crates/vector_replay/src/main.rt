@@ -5,6 +5,7 @@
 #![tactic(auto)]
 
 mod answers;
+mod clients;
 mod commands;
 mod decoding;
 mod ends;
@@ -67,6 +68,7 @@ fn answer_reply_call(
         "read" => lines::answer_bytes(BytesCall::Read, words, answers),
         "receive" => reading::answer_receive(false, words, answers),
         "receive_from" => reading::answer_receive(true, words, answers),
+        "client" => clients::answer_client(words, answers),
         "reply" => commands::answer_reply(words, answers),
         "feat_with" => commands::answer_reply_with(false, words, answers),
         "help_with" => commands::answer_reply_with(true, words, answers),
