@@ -1,6 +1,7 @@
 pub mod Snapshots
 pub mod RunEnd
 pub mod Conversation
+pub mod ClientRuns
 pub use Rattle.unftp_control_defs.specs.Bytes
 pub use Rattle.unftp_control_defs.specs.Lines
 pub use Rattle.unftp_control_defs.specs.Verbs
@@ -54,4 +55,7 @@ pub use Rattle.unftp_control_read.specs.Receiving
 pub use Rattle.unftp_control_write.specs.Forwarding
 pub use Rattle.unftp_control_write.specs.declared.WriteCommandError
 pub use Rattle.unftp_control_write.specs.declared.forwarding.ForwardError
+pub use Rattle.unftp_control_client.specs.Dialogue
+pub use Rattle.unftp_control_client.specs.Exchange
+pub use Rattle.unftp_control_client.specs.Steps
 pub use Rattle.unftp_control_log.specs.LogLine
