@@ -1,3 +1,4 @@
+mod ClientRunLemmas
 mod FoldLemmas
 mod EpsvLemmas
 mod PieceLemmas

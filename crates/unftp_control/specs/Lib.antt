@@ -1,6 +1,7 @@
 pub mod Snapshots
 pub mod RunEnd
 pub mod Conversation
+pub mod ClientRuns
 pub use Rattle.unftp_control_defs.specs.Bytes
 pub use Rattle.unftp_control_defs.specs.Lines
 pub use Rattle.unftp_control_defs.specs.Verbs

@@ -209,7 +209,7 @@ impl Client {
             length self.new.replies.bytes ≤ max (length self.old.replies.bytes) (limit + 4095)) }
     {
         match self.replies.read_reply(reader)? {
-            Some(reply) => Ok(Some(self.dialogue.add_reply(reply))),
+            Some(received) => Ok(Some(self.dialogue.add_reply(received))),
             None => Ok(None),
         }
     }

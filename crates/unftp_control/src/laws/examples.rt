@@ -2,6 +2,7 @@
 //! one that doesn't, at the boundary.
 
 pub mod both_ends;
+pub mod client;
 pub mod decoding;
 pub mod engine;
 pub mod lines;

@@ -1,0 +1,21 @@
+-- Replies and states of a client for the examples.
+use Rattle.std.specs.Prelude.{ℕ, false, [], ◌∷◌, Option, None}
+use Rattle.unftp_control_defs.specs.Bytes.{Bytes}
+use Rattle.unftp_control_read.specs.ReplyDecoding.{appended, nothing_pending}
+use Rattle.unftp_control_client.specs.Steps.{ReplyTo}
+use Rattle.unftp_control_client.specs.declared.Client.{Client}
+use Rattle.unftp_control_client.specs.declared.dialogue.Dialogue.{Dialogue}
+use Rattle.unftp_control_client.specs.declared.dialogue.To.{To}
+
+-- a reply with this code and an empty text, to this
+abbrev pub reply_with : ℕ → To → ReplyTo
+reply_with code to = record { to = to; reply = (code, [] ∷ []) }
+
+-- So many commands were sent, and so many of them have their final reply.
+abbrev pub dialogue : ℕ → Option ℕ → Dialogue
+dialogue sent answered = record { sent = sent; answered = answered; agreed = false }
+
+-- a client with these bytes pending
+abbrev pub client_with : Dialogue → Bytes → Client
+client_with dialogue bytes =
+    record { replies = appended (nothing_pending None) bytes; dialogue = dialogue }
