@@ -63,7 +63,7 @@ returns-in-Ok-clause-within c =
 pub returns-in-Ok-clause-counts : goal.returns-in-Ok-clause-counts
 returns-in-Ok-clause-counts c =
     let found = c.in-Whole.ensures.finds in
-    let scanned = scanned_length c.in-Whole.texts found.0 _ found.1
+    let scanned = scanned_length c.in-Whole.texts found.1
     (c.in-Ok.ensures.copied found.0 found.1) in
     let counted = c.in-Whole.ensures.tests in
     (omega (arith, scanned, counted, c.in-Ok.ensures.tests), omega (arith, scanned, counted))

@@ -24,9 +24,8 @@ returns-in-Ok g c =
     ) in
     let some : 0 < length {A = ℕ} c.read.new.buf = omega (arith, long) in (
       take c.in-Ok.n c.read.new.buf,
-      c.truncate.ensures.items ∙ read_part old.items (replicate {A = ℕ} PIECE 0) grown.items _
-          c.read.new.buf _ c.len-len.result c.in-Ok.n grown.len items (c.len-len.ensures ∙ old.ok.0)
-          grown.ok.0 front long,
+      c.truncate.ensures.items ∙ read_part old.items (replicate {A = ℕ} PIECE 0)
+          c.read.new.buf _ c.in-Ok.n items (c.len-len.ensures ∙ old.ok.0) grown.ok.0 front long,
       sym c.in-Ok.ensures.bound.1,
       omega (arith, c.in-Ok.ensures.bound, long, length-replicate {A = ℕ} PIECE 0),
       c.in-Ok.ensures.bytes.0,
