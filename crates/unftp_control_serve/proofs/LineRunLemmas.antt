@@ -87,7 +87,7 @@ pub record Halfway {S : Type 0} (law : Law S) (limit : Option ℕ) (m n : Snapsh
   pub same_end : ends_for limit law m.state bytes ≡ ends_for limit law n.state pending
   pub same_unread : unread limit law m.state bytes ≡ unread limit law n.state pending
 
-module _ {S : Type 0} (law : Law S) (limit : Option ℕ) (m : Snapshot S) where
+module _ {S : Type 0} {law : Law S} {limit : Option ℕ} {m : Snapshot S} where
   pub Halfway-start : (bytes : Bytes) → Halfway law limit m m bytes bytes
   Halfway-start bytes = record {
     answering = record { done = []; split = refl; all = AllAnswered-nothing law m };
@@ -95,12 +95,11 @@ module _ {S : Type 0} (law : Law S) (limit : Option ℕ) (m : Snapshot S) where
     same_unread = refl;
   }
 
-  module _ (n : Snapshot S) (bytes : Bytes) (p q : Pending)
+  module _ {n : Snapshot S} {bytes : Bytes} {p q : Pending}
       (so_far : Halfway law limit m n bytes p.bytes) where
     module _ (none : HasNoLine p q) where
       pub no_line-answered : AllAnswered law m (run_for limit law m.state bytes) n
-      no_line-answered = Answering-end law m n (run_for limit law m.state bytes)
-          (run_for limit law n.state p.bytes) so_far.answering
+      no_line-answered = Answering-end law (run_for limit law n.state p.bytes) so_far.answering
           (no_line-run law limit p q n.state none)
 
       pub no_line-not_ended : false ≡ ends_for limit law m.state bytes
@@ -109,23 +108,19 @@ module _ {S : Type 0} (law : Law S) (limit : Option ℕ) (m : Snapshot S) where
       pub no_line-all_unread : q.bytes ≡ unread limit law m.state bytes
       no_line-all_unread = sym (so_far.same_unread ∙ no_line-unread law limit p q n.state none)
 
-    module _ (same : p.limit ≡ limit) (event : FtpEvent) (first : TakesLine p event q)
-        (k : Snapshot S) where
-      pub line-failed : (error : ServeError)
+    module _ (same : p.limit ≡ limit) {event : FtpEvent} (first : TakesLine p event q)
+        {k : Snapshot S} where
+      pub line-failed : {error : ServeError}
           → (done : List FtpEvent) × RunFailed law n (event ∷ []) k error done →
           (done : List FtpEvent) × RunFailed law m (run_for limit law m.state bytes) k error done
-      line-failed error failed =
-          Answering-failed law m n (run_for limit law m.state bytes) k event
-          (run_for limit law n.state p.bytes) (run_after law limit p q n.state same event first)
-          error
+      line-failed failed =
+          Answering-failed law
           so_far.answering (first_line-run law limit p q n.state same event first) failed
 
       module _ (all : AllAnswered law n (event ∷ []) k) where
         pub Halfway-next : law.done k.state ≡ false → Halfway law limit m k bytes q.bytes
         Halfway-next on = record {
-          answering = Answering-next law m n (run_for limit law m.state bytes) k event
-              (run_for limit law n.state p.bytes) (run_for limit law k.state q.bytes)
-              so_far.answering
+          answering = Answering-next law so_far.answering
               (first_line-on law limit p q n.state same event first k.state all.ends_at on) all;
           same_end = so_far.same_end ∙ first_line-same_end law limit p q n.state same event first
               k.state all.ends_at on;
@@ -136,10 +131,7 @@ module _ {S : Type 0} (law : Law S) (limit : Option ℕ) (m : Snapshot S) where
         module _ (done : law.done k.state ≡ true) where
           pub last_line-answered : AllAnswered law m (run_for limit law m.state bytes) k
           last_line-answered =
-              Answering-end law m k (run_for limit law m.state bytes) []
-              (Answering-next law m n (run_for limit law m.state bytes) k event
-              (run_for limit law n.state p.bytes) []
-              so_far.answering
+              Answering-end law [] (Answering-next law so_far.answering
               (first_line-last law limit p q n.state same event first k.state all.ends_at done)
               all)
               refl
@@ -155,8 +147,8 @@ module _ {S : Type 0} (law : Law S) (limit : Option ℕ) (m : Snapshot S) where
               k.state all.ends_at done)
 
 -- memory runs out for the next line
-module _ {S : Type 0} (law : Law S) (limit : Option ℕ) (m n : Snapshot S) (bytes : Bytes)
-    (p : Pending) (same : p.limit ≡ limit) (h : Halfway law limit m n bytes p.bytes)
+module _ {S : Type 0} {law : Law S} {limit : Option ℕ} {m n : Snapshot S} {bytes : Bytes}
+    {p : Pending} (same : p.limit ≡ limit) (h : Halfway law limit m n bytes p.bytes)
     (v : MayRunOut p) where
   abbrev next : FtpEvent
   next = event_of (outcome v.line)
