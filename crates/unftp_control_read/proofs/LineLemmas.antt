@@ -58,7 +58,7 @@ lines_unique [] (l ∷ ls) {y} p q f g e =
 lines_unique (k ∷ ks) [] {x} p q f g e =
     absurd (g k (flat_map with_crlf ks ++ x) (sym e ∙ line_apart k ks x))
 lines_unique (k ∷ ks) (l ∷ ls) {x} {y} p q f g e =
-    let cut = cut_first k l ks ls x y p.0 q.0 e in
+    let cut = cut_first ks ls x y p.0 q.0 e in
     let more = lines_unique ks ls p.1 q.1 f g cut.1 in
     λ i. cut.0 i ∷ more i
 
@@ -69,7 +69,7 @@ pub after_digits : (digits : Bytes) {line : Bytes} (rest : Bytes) (r : Option (B
     → IfSome r (λ text. line ≡ digits ++ SP ∷ text.now) × IfNone r (GoesOn digits line)
 after_digits digits rest (Some text) e h = (e ∙ ap (λ r. digits ++ r) h, tt)
 after_digits digits rest None e h =
-    (tt, λ text f. h text (same_front digits digits rest (SP ∷ text) refl (sym e ∙ f)).1)
+    (tt, λ text f. h text (same_front refl (sym e ∙ f)).1)
 
 -- ---- the first line, where the beginning is known to have no CR LF
 
