@@ -42,14 +42,21 @@ engine_of pending left failed finished = record {
 
 -- A piece was pushed to `d`, which made it `p`, and the lines of the run were taken, which made it
 -- `q`.
-module _ {S : Type 0} (law : Law S) (s : S) (d p q : Pending) (left : ℕ) (failed finished : Bool)
-    (piece : Bytes) (ended : Bool)
-    (push : p ≡ pushed d piece p.buffered) (all_scanned : d.unscanned ≡ 0)
-    (ends : ended ≡ ends_for p.limit law s p.bytes)
-    (pending : q.bytes ≡ unread p.limit law s p.bytes)
-    (unscanned : q.unscanned ≡ (if ended then length q.bytes else 0))
-    (same_limit : q.limit ≡ p.limit) (same_held : q.held ≡ p.held)
-    (scanned_once : q.scanned + q.unscanned ≡ p.scanned + p.unscanned) where
+pub record WasFed {S : Type 0} (law : Law S) (s : S) (d p q : Pending) (piece : Bytes)
+    (ended : Bool) : Type 0 where
+  pub push : p ≡ pushed d piece p.buffered
+  pub all_scanned : d.unscanned ≡ 0
+  pub ends : ended ≡ ends_for p.limit law s p.bytes
+  pub pending : q.bytes ≡ unread p.limit law s p.bytes
+  pub unscanned : q.unscanned ≡ (if ended then length q.bytes else 0)
+  pub same_limit : q.limit ≡ p.limit
+  pub same_held : q.held ≡ p.held
+  pub scanned_once : q.scanned + q.unscanned ≡ p.scanned + p.unscanned
+
+module _ {S : Type 0} {law : Law S} {s : S} {d p q : Pending} {piece : Bytes} {ended : Bool}
+    (h : WasFed law s d p q piece ended) (left : ℕ) (failed finished : Bool) where
+  open h use {push, all_scanned, ends, pending, unscanned, same_limit, same_held, scanned_once}
+
   abbrev engine : EngineState
   engine = engine_of d left failed finished
 
