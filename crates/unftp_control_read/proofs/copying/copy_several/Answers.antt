@@ -1,5 +1,4 @@
 use Rattle.unftp_control_defs.proofs.ReplyCasesLemmas.{lacks_nil}
-use Rattle.unftp_control_read.specs.Reading.{contents}
 use Rattle.unftp_control_read.proofs.CopyLemmas.{copied_all, contents_more}
 use Rattle.unftp_control_read.proofs.copying.copy_several.Goals as goal
 
