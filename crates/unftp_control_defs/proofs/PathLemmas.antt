@@ -55,8 +55,8 @@ no_alone [] more h = let e : SP ≡ DASH = cc in omega arith
 no_alone (b ∷ []) more h = let e : SP ∷ more ≡ [] = cc in cc
 no_alone (b ∷ c ∷ letters) more h = let e : c ∷ (letters ++ SP ∷ more) ≡ [] = cc in cc
 
-no_front : (letters more : Bytes) {rest : Bytes} → Lacks SP letters → DASH ∷ letters ≢ DASH ∷ DASH ∷
-    []
+no_front : (letters more : Bytes) {rest : Bytes} → Lacks SP letters
+    → DASH ∷ letters ≢ DASH ∷ DASH ∷ []
     → letters ++ SP ∷ more ≡ DASH ∷ SP ∷ rest → ⊥
 no_front [] more lacks ne h = let e : SP ≡ DASH = cc in omega arith
 no_front (b ∷ []) more lacks ne h = let e : b ≡ DASH = cc in ne (ap (λ x. DASH ∷ x ∷ []) e)

@@ -76,13 +76,13 @@ first_opens line (digits, code, spells, inr (text, inr same)) =
 pub reply_opens : {digits : Bytes} {code : ℕ} {whole lines : List Bytes} → SpellsCode digits code
     → IsReply digits whole lines
     → (k : Bytes) × (ks : List Bytes) × (whole ≡ k ∷ ks) × Opens k
-reply_opens {digits} {code} {whole} {lines} spells reply = let k = first digits whole lines reply in
-    (
-  k.0,
-  k.1,
-  k.2,
-  (digits, code, k.1, lines, spells, subst (λ w. IsReply digits w lines) k.2 reply),
-)
+reply_opens {digits} {code} {whole} {lines} spells reply =
+    let k = first digits whole lines reply in (
+      k.0,
+      k.1,
+      k.2,
+      (digits, code, k.1, lines, spells, subst (λ w. IsReply digits w lines) k.2 reply),
+    )
   where
     first : (digits : Bytes) (whole lines : List Bytes) → IsReply digits whole lines
         → (k : Bytes) × (ks : List Bytes) × (whole ≡ k ∷ ks)
@@ -99,9 +99,8 @@ line_is_first : {bytes : Bytes} (k : Bytes) (ks : List Bytes) (x : Bytes) → La
 line_is_first k ks x h e = h k (flat_map with_crlf ks ++ x) (e ∙ line_apart k ks x)
 
 -- lines with a last one are no lines that all go on, with an unfinished one after them
-no_end : {d e : Bytes} (ms ns : List Bytes) (s x : Bytes) {y : Bytes} → d ≡ e → AllByRecursion
-    (GoesOn e) ns
-    → LacksCrlf y
+no_end : {d e : Bytes} (ms ns : List Bytes) (s x : Bytes) {y : Bytes} → d ≡ e
+    → AllByRecursion (GoesOn e) ns → LacksCrlf y
     → AllByRecursion LacksCrlf (ms ++ (d ++ SP ∷ s) ∷ []) → AllByRecursion LacksCrlf ns
     → flat_map with_crlf (ms ++ (d ++ SP ∷ s) ∷ []) ++ x ≡ flat_map with_crlf ns ++ y → ⊥
 no_end {d} [] [] s x same go lacks p q h = line_is_first (d ++ SP ∷ s) [] x lacks (sym h)
@@ -128,23 +127,22 @@ front_opened {bytes} {code} {lines} f o = by_kind f.whole f.each f.cut f.reply
         let cut' = ap (λ (u : List Bytes). flat_map with_crlf u ++ f.rest) (sym e) ∙ sym cut ∙ o.cut
         in
         no_longer o.digits DASH o.text long
-        (cut_first [] o.middle f.rest o.rest each'.0
-        o.each.0 cut').0
+        (cut_first [] o.middle f.rest o.rest each'.0 o.each.0 cut').0
     by_kind whole each cut (single text e g) =
         let each' = subst (AllByRecursion LacksCrlf) e each in
         let cut' = ap (λ (u : List Bytes). flat_map with_crlf u ++ f.rest) (sym e) ∙ sym cut ∙ o.cut
         in
         let first =
-        (cut_first [] o.middle f.rest o.rest
-        each'.0 o.each.0 cut').0 in
+        (cut_first [] o.middle f.rest o.rest each'.0 o.each.0 cut').0 in
         let parts = same_front long first in
         let clash : SP ≡ DASH = cc in omega arith
     by_kind whole each cut (several text last middle go e g) =
         let each' = subst (AllByRecursion LacksCrlf) e each in
         let cut' = ap (λ (u : List Bytes). flat_map with_crlf u ++ f.rest) (sym e) ∙ sym cut ∙ o.cut
         in
-        let first = cut_first
-        (middle ++ (f.digits ++ SP ∷ last) ∷ []) o.middle f.rest o.rest each'.0 o.each.0 cut' in
+        let first =
+        cut_first (middle ++ (f.digits ++ SP ∷ last) ∷ []) o.middle f.rest o.rest
+        each'.0 o.each.0 cut' in
         let parts = same_front long first.0 in
         no_end middle o.middle last f.rest parts.0 o.goes_on o.unended
         each'.1 o.each.1 first.1

@@ -309,8 +309,7 @@ module _ (a : ℕ) (bytes v : Bytes) where
           false≢true
           (sym e ∙ and_from (a == CR) (b == NUL) (eq-eqb a CR is_cr) (eq-eqb b NUL is_nul)) in
           subst (Division (a ∷ b ∷ rest)) p.2
-          (division (Byte a) (no_lf, apart)
-          (later_back Fresh (b ∷ rest) p.0 p.1))
+          (division (Byte a) (no_lf, apart) (later_back Fresh (b ∷ rest) p.0 p.1))
 
       by_bytes : (bytes : Bytes) → first_value a bytes ≡ Some v → Division (a ∷ bytes) v
       by_bytes [] h = absurd (none-some v h)
