@@ -16,13 +16,13 @@ use Rattle.unftp_control.specs.FtpReply.{FtpReply, reply_as_read}
 use Rattle.unftp_control.specs.ReplyDecoding.{content}
 use Rattle.unftp_control.specs.ReplyReader.{HasFront, IsPartial}
 use Rattle.unftp_control.specs.Run.{Law, run_of}
-use Rattle.unftp_control.specs.Steps.{AreSteps, ClientStep, Received, ReplyTo, Sent, Took, commands_sent, decoder_step, decoder_steps, replies_taken, reply_to, sent_by, taken_by}
+use Rattle.unftp_control.specs.Steps.{AreSteps, ClientStep, Received, ReplyTo, Sent, Took, lines_sent, decoder_step, decoder_steps, replies_taken, reply_to, sent_by, taken_by}
 use Rattle.unftp_control.specs.TakingSteps.{AreTakingSteps, Pushed, Taken, TakesReply, TakingStep, all_pushed, all_taken}
 use Rattle.unftp_control.specs.declared.client.Client.{Client}
 use Rattle.unftp_control.specs.declared.client.ClientReply.{ClientReply}
 use Rattle.unftp_control.specs.declared.client.To.TheVariants as to
 use Rattle.unftp_control.proofs.RunLemmas.{length-replies, run_of-length}
-use Rattle.unftp_control.proofs.StepLemmas.{steps-append, steps-taken}
+use Rattle.unftp_control.proofs.ClientStepLemmas.{steps-append, steps-taken}
 use Rattle.calling.specs.Conversing.{HasSent, IsFinal, IsReadBack, Takes, TakesOf, numbered, reply_at, said, with_sent}
 
 pushed-then : {A : Type 0} (xs ys : List (TakingStep A))
@@ -120,7 +120,7 @@ next_command : (client : Client) (answered : ℕ) → client.dialogue.answered �
 next_command client answered is owed = rw (is, lt-ltb _ _ owed) refl
 
 pub numbered-so : (steps : List ClientStep) (before after : Client) (said : List FtpReply)
-    (answered : ℕ) → AreSteps before steps after → commands_sent steps ≡ []
+    (answered : ℕ) → AreSteps before steps after → lines_sent steps ≡ []
     → before.dialogue.answered ≡ Some answered
     → answered + length said ≤ before.dialogue.sent
     → map (λ taken. Some taken.reply) (replies_taken steps) ≡ map reply_as_read said
@@ -128,7 +128,7 @@ pub numbered-so : (steps : List ClientStep) (before after : Client) (said : List
     → map Some (replies_taken steps) ≡ numbered answered said
 numbered-so [] before after [] answered are none is owed show final = refl
 numbered-so [] before after (reply ∷ said) answered are none is owed show final = absurd (cc)
-numbered-so (Sent command ∷ steps) before after said answered are none is owed show final =
+numbered-so (Sent line ∷ steps) before after said answered are none is owed show final =
     absurd (cc)
 numbered-so (Received piece ∷ steps) before after said answered (next, step, are) none is owed
     show final =
@@ -197,7 +197,7 @@ taken-of : (steps : List ClientStep)
     → map Some (all_taken (decoder_steps steps))
     ≡ map (λ taken. Some taken.reply) (replies_taken steps)
 taken-of [] = refl
-taken-of (Sent command ∷ steps) = taken-of steps
+taken-of (Sent line ∷ steps) = taken-of steps
 taken-of (Received piece ∷ steps) = taken-of steps
 taken-of (Took taken ∷ steps) = ap (λ more. Some taken.reply ∷ more) (taken-of steps)
 

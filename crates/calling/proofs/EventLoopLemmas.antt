@@ -22,33 +22,31 @@ left_after-on GoOn following on = refl
 left_after-on Close following on = absurd (on refl)
 left_after-on StartTls following on = refl
 
-module _ (before middle : Pending) (event : FtpEvent) (taken : TakesLine before event middle)
-    (pending : Bytes) (is : pending ≡ kept_bytes middle) where
-  pub all_pending : pending ≡ middle.bytes
-  all_pending = is ∙ kept_bytes-all middle taken.all_kept
+all_pending : {before middle : Pending} {event : FtpEvent} {pending : Bytes}
+    → TakesLine before event middle → pending ≡ kept_bytes middle → pending ≡ middle.bytes
+all_pending {middle = middle} taken is = is ∙ kept_bytes-all middle taken.all_kept
 
-pub AnswersNext-taken : (before middle : Pending) (event : FtpEvent)
-    (taken : TakesLine before event middle) (sent sent' pending pending' : Bytes)
-    → pending ≡ kept_bytes middle → pending' ≡ kept_bytes middle →
-    sent' ≡ sent ++ flat_map encoded (replies_to event pending) → (turn : Turn) (after : Pending)
+pub AnswersNext-taken : {before middle after : Pending} {event : FtpEvent} {turn : Turn}
+    {sent sent' pending pending' : Bytes} → (taken : TakesLine before event middle)
+    → pending ≡ kept_bytes middle → pending' ≡ kept_bytes middle
+    → sent' ≡ sent ++ flat_map encoded (replies_to event pending)
     → turn ≡ turn_after event pending' → after.bytes ≡ left_after turn middle.bytes
     → AnswersNext before sent turn after sent'
-AnswersNext-taken before middle event taken sent sent' pending pending' is is' appended turn after
-    turn_is left = inr record {
+AnswersNext-taken {middle = middle} {event = event} {sent = sent} taken is is' appended turn_is
+    left = inr record {
       event = event;
       following = middle.bytes;
       takes = taken.takes;
-      turn_is =
-          turn_is ∙ ap (turn_after event) (all_pending before middle event taken pending' is');
+      turn_is = turn_is ∙ ap (turn_after event) (all_pending taken is');
       left = left;
       appended = appended ∙ ap (λ following. sent ++ flat_map encoded (replies_to event following))
-          (all_pending before middle event taken pending is);
+          (all_pending taken is);
     }
 
 -- out of memory for the command of a line
-pub LeavesUnanswered-kept : (before after : Pending) (sent : Bytes) → MayRunOut before
+pub LeavesUnanswered-kept : {before after : Pending} {sent : Bytes} → MayRunOut before
     → StaysPending before after → LeavesUnanswered before sent after sent
-LeavesUnanswered-kept before after sent may stays = record {
+LeavesUnanswered-kept {before} may stays = record {
   event = event_for before.limit may.line;
   following = may.after;
   is_first = record { line = may.line; is_line = may.is_line; whole = may.whole; meaning = refl };

@@ -10,8 +10,7 @@ use Rattle.unftp_control.specs.Events.{events}
 use Rattle.unftp_control.specs.Run.{Law, last_state, run_for, ends_for, unread}
 use Rattle.unftp_control.specs.Lines.{incomplete_line}
 use Rattle.unftp_control.specs.Decoder.{saturating_u64}
-use Rattle.unftp_control.specs.Endings.{AllAnswered, Finished, PieceOutcome, Snapshot, snapshot_with}
-use Rattle.unftp_control.specs.Writing.{OutputState}
+use Rattle.unftp_control.specs.Endings.{AllAnswered, Finished, PieceOutcome, Snapshot}
 use Rattle.unftp_control.specs.Engine.{EngineState, IsRunning, bytes_with, fed, run_with, more_left}
 use Rattle.unftp_control.specs.declared.serve.ServeError.{ServeError}
 use Rattle.unftp_control.proofs.EndingLemmas.{RunEnded-then, RunFailed-then}
@@ -29,8 +28,15 @@ pub record AnsweredSoFar {S : Type 0} (law : Law S) (m n : Snapshot S) (sent : B
   pub left : engine.left ≡ saturating_u64 (length (unread None law m.state sent))
   pub answered : AllAnswered law m (run_for None law m.state sent) n
 
-module _ {S : Type 0} (law : Law S) (m n : Snapshot S) (sent : Bytes) (engine : EngineState)
-    (so_far : AnsweredSoFar law m n sent engine) (piece : Bytes) (k : Snapshot S) where
+-- a piece among others, after those that were sent
+pub record ComesAfter (sent piece : Bytes) (pieces : List Bytes) : Type 0 where
+  pub first : List Bytes
+  pub later : List Bytes
+  pub whole : pieces ≡ first ++ piece ∷ later
+  pub same : concat first ≡ sent
+
+module _ {S : Type 0} {law : Law S} {m n : Snapshot S} {sent : Bytes} {engine : EngineState}
+    (so_far : AnsweredSoFar law m n sent engine) (piece : Bytes) where
   -- while the run goes on
   module _ (on : engine.finished ≡ false) where
     goes_on : ends_for None law m.state sent ≡ false
@@ -59,10 +65,11 @@ module _ {S : Type 0} (law : Law S) (m n : Snapshot S) (sent : Bytes) (engine : 
         ∙ ap (λ run. events None sent ++ run)
         (moved (λ limit state bytes. run_for limit law state bytes))
 
-    AnsweredSoFar-on : AllAnswered law n (run_with engine law n.state piece) k
-        → (engine' : EngineState) → engine' ≡ fed law n.state engine piece
+    AnsweredSoFar-on : {k : Snapshot S} {engine' : EngineState}
+        → AllAnswered law n (run_with engine law n.state piece) k
+        → engine' ≡ fed law n.state engine piece
         → AnsweredSoFar law m k (sent ++ piece) engine'
-    AnsweredSoFar-on answered engine' is = rw is record {
+    AnsweredSoFar-on answered is = rw is record {
       no_failure = refl;
       any_length = so_far.any_length;
       finished =
@@ -77,42 +84,39 @@ module _ {S : Type 0} (law : Law S) (m n : Snapshot S) (sent : Bytes) (engine : 
           ∙ moved (λ limit state bytes. unread limit law state bytes)));
       answered =
           rw run_so
-          (RunEnded-then law m n k (events None sent) all_events (run_with engine law n.state piece)
-          [] Finished answered);
+          (RunEnded-then law all_events (run_with engine law n.state piece) [] Finished answered);
     }
 
-    FailsAtPiece-on : (first later : List Bytes) → concat first ≡ sent
-        → (error : ServeError) (T : Type 0)
+    FailsAtPiece-on : {k : Snapshot S} {error : ServeError} {pieces : List Bytes} (T : Type 0)
+        → ComesAfter sent piece pieces
         → PieceOutcome {S = S} {T = T} law n (run_with engine law n.state piece) piece k (Err error)
-        →
-        FailsAtPiece law m (first ++ piece ∷ later) k error
-    FailsAtPiece-on first later same error T (inl (out_of_memory, some, kept)) = record {
-      first = first;
+        → FailsAtPiece law m pieces k error
+    FailsAtPiece-on T place (inl (out_of_memory, some, kept)) = record {
+      first = place.first;
       last = piece;
-      later = later;
-      whole = refl;
-      failed = inl (out_of_memory, some, rw (same, kept) all_events);
+      later = place.later;
+      whole = place.whole;
+      failed = inl (out_of_memory, some, rw (place.same, kept) all_events);
     }
-    FailsAtPiece-on first later same error T (inr (done, failed)) = record {
-      first = first;
+    FailsAtPiece-on T place (inr (done, failed)) = record {
+      first = place.first;
       last = piece;
-      later = later;
-      whole = refl;
+      later = place.later;
+      whole = place.whole;
       failed = inr (
         events None sent ++ done,
-        rw same (RunFailed-then law m n k (events None sent) all_events _
-            (run_with engine law n.state piece) done error run_so failed),
+        rw place.same (RunFailed-then law all_events run_so failed),
       );
     }
 
   -- a piece after the end
-  module _ (done : engine.finished ≡ true) (same : k ≡ n) (engine' : EngineState)
-      (counted : engine' ≡ more_left engine piece) where
+  module _ (done : engine.finished ≡ true) where
     ended : ends_for None law m.state sent ≡ true
     ended = sym so_far.finished ∙ done
 
-    AnsweredSoFar-ended : AnsweredSoFar law m k (sent ++ piece) engine'
-    AnsweredSoFar-ended = rw (counted, same) record {
+    AnsweredSoFar-ended : {k : Snapshot S} {engine' : EngineState} → k ≡ n
+        → engine' ≡ more_left engine piece → AnsweredSoFar law m k (sent ++ piece) engine'
+    AnsweredSoFar-ended same counted = rw (counted, same) record {
       no_failure = so_far.no_failure;
       any_length = so_far.any_length;
       finished = done ∙ sym (run-ended law None m.state sent piece ended).1;
@@ -126,33 +130,31 @@ module _ {S : Type 0} (law : Law S) (m n : Snapshot S) (sent : Bytes) (engine : 
       answered = rw (run-ended law None m.state sent piece ended).0 so_far.answered;
     }
 
-  pub AnsweredSoFar-more : (engine' : EngineState)
+  pub AnsweredSoFar-more : {k : Snapshot S} {engine' : EngineState}
       → (IsRunning engine → engine' ≡ fed law n.state engine piece)
       → (IsRunning engine → AllAnswered law n (run_with engine law n.state piece) k)
       → (engine.finished ≡ true → (k ≡ n) × (engine' ≡ more_left engine piece))
       → AnsweredSoFar law m k (sent ++ piece) engine'
-  AnsweredSoFar-more engine' is answered over = by_end engine.finished refl
+  AnsweredSoFar-more {k} {engine'} is answered over = by_end engine.finished refl
     where
       by_end : (finished : Bool) → engine.finished ≡ finished
           → AnsweredSoFar law m k (sent ++ piece) engine'
-      by_end false on = AnsweredSoFar-on on (answered (so_far.no_failure, on)) engine'
+      by_end false on = AnsweredSoFar-on on (answered (so_far.no_failure, on))
           (is (so_far.no_failure, on))
-      by_end true done = AnsweredSoFar-ended done (over done).0 engine' (over done).1
+      by_end true done = AnsweredSoFar-ended done (over done).0 (over done).1
 
   -- at an error of `feed`
-  pub FailsAtPiece-so : (pieces first later : List Bytes) → pieces ≡ first ++ piece ∷ later
-      → concat first ≡ sent → (error : ServeError) (T : Type 0) (result : Result T ServeError)
-      → result ≡ Err error →
-      (IsRunning engine → PieceOutcome law n (run_with engine law n.state piece) piece k result)
-      → (engine.finished ≡ true → IsTrue (is_ok result)) →
-      FailsAtPiece law m pieces k error
-  FailsAtPiece-so pieces first later whole same error T result failed outcome over =
-      by_end engine.finished refl
+  pub FailsAtPiece-so : {k : Snapshot S} {pieces : List Bytes} {error : ServeError} {T : Type 0}
+      {result : Result T ServeError} → ComesAfter sent piece pieces → result ≡ Err error
+      → (IsRunning engine
+      → PieceOutcome law n (run_with engine law n.state piece) piece k result)
+      → (engine.finished ≡ true → IsTrue (is_ok result))
+      → FailsAtPiece law m pieces k error
+  FailsAtPiece-so {k} {pieces} {error} {T} place failed outcome over = by_end engine.finished refl
     where
       by_end : (finished : Bool) → engine.finished ≡ finished → FailsAtPiece law m pieces k error
       by_end false on =
-          rw whole (FailsAtPiece-on on first later same error T
-          (rw failed at (outcome (so_far.no_failure, on))))
+          FailsAtPiece-on on T place (rw failed at (outcome (so_far.no_failure, on)))
       by_end true done = absurd (false≢true (rw failed at (over done)))
 
 pub sent-more : (pieces : List (Bor Bytes)) (i : ℕ) (d : Bor Bytes) → i < length pieces →
@@ -166,7 +168,7 @@ sent-more pieces i d within =
     ∙ ap (λ end. concat (map (λ piece. piece.now) (take i pieces)) ++ end)
     (append-nil (get_or pieces i d).now)
 
-pub pieces-split : (pieces : List (Bor Bytes)) (i : ℕ) (d : Bor Bytes) → i < length pieces →
+pieces-split : (pieces : List (Bor Bytes)) (i : ℕ) (d : Bor Bytes) → i < length pieces →
     map (λ piece. piece.now) pieces ≡ map (λ piece. piece.now) (take i pieces)
     ++ (get_or pieces i d).now ∷ map (λ piece. piece.now) (drop (suc i) pieces)
 pieces-split [] i d within = absurd (omega (arith, within))
@@ -174,9 +176,12 @@ pieces-split (piece ∷ pieces) zero d within = refl
 pieces-split (piece ∷ pieces) (suc i) d within =
     ap (λ z. piece.now ∷ z) (pieces-split pieces i d (omega (arith, within)))
 
--- a call that changes neither handler nor output
-pub same_snapshot : {H S K : Type 0} (state : H → S) (failures : H → ℕ)
-    (output_state : K → OutputState) (h h' : H) (o o' : K) → h' ≡ h → o' ≡ o →
-    snapshot_with state failures output_state h' o' ≡ snapshot_with state failures output_state h o
-same_snapshot state failures output_state h h' o o' same_handler same_output =
-    rw (same_handler, same_output) refl
+pub ComesAfter-at : (pieces : List (Bor Bytes)) (i : ℕ) (d : Bor Bytes) → i < length pieces
+    → ComesAfter (concat (map (λ piece. piece.now) (take i pieces))) (get_or pieces i d).now
+    (map (λ piece. piece.now) pieces)
+ComesAfter-at pieces i d within = record {
+  first = map (λ piece. piece.now) (take i pieces);
+  later = map (λ piece. piece.now) (drop (suc i) pieces);
+  whole = pieces-split pieces i d within;
+  same = refl;
+}

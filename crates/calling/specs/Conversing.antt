@@ -12,7 +12,7 @@ use Rattle.unftp_control.specs.FtpReply.{FtpReply, reply_as_read}
 use Rattle.unftp_control.specs.Lines.{IsLine}
 use Rattle.unftp_control.specs.Outcome.{outcome}
 use Rattle.unftp_control.specs.Run.{Law, replies, run_of}
-use Rattle.unftp_control.specs.Steps.{AreSteps, ClientStep, ReplyTo, commands_sent, decoder_steps, replies_taken, reply_to}
+use Rattle.unftp_control.specs.Steps.{AreSteps, ClientStep, ReplyTo, lines_sent, decoder_steps, replies_taken, reply_to}
 use Rattle.unftp_control.specs.TakingSteps.{all_pushed}
 use Rattle.unftp_control.specs.declared.client.Client.{Client}
 use Rattle.unftp_control.specs.declared.client.ClientReply.{ClientReply}
@@ -55,7 +55,7 @@ pub record Takes (before : Client) (received : Bytes) (taken : List ReplyTo) (af
     : Type 0 where
   pub steps : List ClientStep
   pub are : AreSteps before steps after
-  pub none_sent : commands_sent steps ≡ []
+  pub none_sent : lines_sent steps ≡ []
   pub received_are : all_pushed (decoder_steps steps) ≡ received
   pub taken_are : replies_taken steps ≡ taken
 

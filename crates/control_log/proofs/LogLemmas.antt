@@ -35,9 +35,9 @@ Sent-nothing : (output : OutputState) → Sent [] output output
 Sent-nothing output =
     record { written = Appends-nothing output.written; no_failure = refl; flushed = omega arith }
 
-Sent-then : (text more : Bytes) (before between after : OutputState) → Sent text before between
+Sent-then : {text more : Bytes} {before between after : OutputState} → Sent text before between
     → Sent more between after → Sent (text ++ more) before after
-Sent-then text more before between after first second = record {
+Sent-then {text} {more} {before} {between} {after} first second = record {
   written = Appends-then before.written between.written after.written text more first.written
       second.written;
   no_failure = second.no_failure ∙ first.no_failure;
@@ -52,7 +52,7 @@ FailsAt-memory limit [] output = (refl, refl)
 FailsAt-memory limit (line ∷ lines) output = refl
 
 -- the entry of an event that was taken is that of its line
-module _ (limit : Option ℕ) (p q : Pending) (same : p.limit ≡ limit) (event : Event)
+module _ {limit : Option ℕ} {p q : Pending} (same : p.limit ≡ limit) (event : Event)
     (first : TakesLine p (event_meant event) q) where
   meant : event_meant event ≡ event_for limit first.takes.line
   meant = first.takes.meaning ∙ ap (λ limit. event_for limit first.takes.line) same
@@ -62,11 +62,11 @@ module _ (limit : Option ℕ) (p q : Pending) (same : p.limit ≡ limit) (event 
   kept = ap (λ too_long. if too_long then [] else first.takes.line)
       (ap refuses_length meant ∙ refuses_length-exceeds limit first.takes.line)
 
-  entry_is : (line : Bytes) → line ≡ line_after {E = Unit {0}} p (Ok (Some event)) q
+  entry_is : {line : Bytes} → line ≡ line_after {E = Unit {0}} p (Ok (Some event)) q
       → log_line (event_meant event) line ++ LF ∷ [] ≡ log_entry limit first.takes.line
-  entry_is line is =
+  entry_is is =
       ap (λ line. log_line (event_meant event) line ++ LF ∷ [])
-      (is ∙ line_after-taken (Unit {0}) p q event first ∙ kept)
+      (is ∙ line_after-taken (Unit {0}) event first ∙ kept)
       ∙ ap (λ event. log_line event (unless_too_long limit first.takes.line) ++ LF ∷ []) meant
 
 -- in the loop over the pending lines: the first of them are logged
@@ -82,11 +82,11 @@ pub Halfway-start : (limit : Option ℕ) (bytes : Bytes) (output : OutputState)
 Halfway-start limit bytes output =
     record { logged = []; split = refl; same_end = refl; sent = Sent-nothing output }
 
-module _ (limit : Option ℕ) (bytes : Bytes) (before now : OutputState) where
+module _ {limit : Option ℕ} {bytes : Bytes} {before now : OutputState} where
   -- memory runs out for the next line
-  pub Halfway-memory : (pending : Bytes) → Halfway limit bytes pending before now
+  pub Halfway-memory : {pending : Bytes} → Halfway limit bytes pending before now
       → StopsAt limit (lines_of bytes) before now error.OutOfMemory
-  Halfway-memory pending so_far = record {
+  Halfway-memory {pending} so_far = record {
     logged = so_far.logged;
     later = lines_of pending;
     split = so_far.split;
@@ -95,7 +95,7 @@ module _ (limit : Option ℕ) (bytes : Bytes) (before now : OutputState) where
     fails = FailsAt-memory limit (lines_of pending) now;
   }
 
-  module _ (p q : Pending) (so_far : Halfway limit bytes p.bytes before now) where
+  module _ {p q : Pending} (so_far : Halfway limit bytes p.bytes before now) where
     -- no line is left
     module _ (none : HasNoLine p q) where
       pub Halfway-all : Sent (log_of limit bytes) before now
@@ -110,17 +110,17 @@ module _ (limit : Option ℕ) (bytes : Bytes) (before now : OutputState) where
 
     -- the next line is logged, or it fails there
     module _ (same : p.limit ≡ limit) (event : Event) (first : TakesLine p (event_meant event) q)
-        (line : Bytes) (is : line ≡ line_after {E = Unit {0}} p (Ok (Some event)) q)
-        (after : OutputState) where
+        {line : Bytes} (is : line ≡ line_after {E = Unit {0}} p (Ok (Some event)) q) where
       next_lines : lines_of p.bytes ≡ first.takes.line ∷ lines_of q.bytes
       next_lines = ap lines_of first.takes.whole
           ∙ (line_first first.takes.line q.bytes first.takes.is_line).0
 
-      pub Halfway-next : Sent (log_line (event_meant event) line ++ LF ∷ []) now after
+      pub Halfway-next : {after : OutputState}
+          → Sent (log_line (event_meant event) line ++ LF ∷ []) now after
           → Halfway limit bytes q.bytes before after
-      Halfway-next sent =
+      Halfway-next {after} sent =
           let entry =
-          subst (λ entry. Sent entry now after) (entry_is limit p q same event first line is
+          subst (λ entry. Sent entry now after) (entry_is same event first is
           ∙ sym (append-nil (log_entry limit first.takes.line))) sent in
           let lines = log_entries-append limit so_far.logged (first.takes.line ∷ []) in
           record {
@@ -130,21 +130,20 @@ module _ (limit : Option ℕ) (bytes : Bytes) (before now : OutputState) where
             same_end = so_far.same_end ∙ ap incomplete_line first.takes.whole
                 ∙ (line_first first.takes.line q.bytes first.takes.is_line).1;
             sent = subst (λ text. Sent text before after) (sym lines)
-                (Sent-then (log_entries limit so_far.logged)
-                (log_entry limit first.takes.line ++ []) before now after so_far.sent entry);
+                (Sent-then so_far.sent entry);
           }
 
-      pub Halfway-failed : (error : ServeError)
+      pub Halfway-failed : {error : ServeError} {after : OutputState}
           → SendFailed error (log_line (event_meant event) line ++ LF ∷ []) now after
           → StopsAt limit (lines_of bytes) before after error
-      Halfway-failed error failed = record {
+      Halfway-failed {error} {after} failed = record {
         logged = so_far.logged;
         later = first.takes.line ∷ lines_of q.bytes;
         split = so_far.split ∙ ap (λ lines. so_far.logged ++ lines) next_lines;
         between = now;
         sent = so_far.sent;
         fails = subst (λ entry. SendFailed error entry now after)
-            (entry_is limit p q same event first line is) failed;
+            (entry_is same event first is) failed;
       }
 
 -- Reads that are put together.
@@ -156,6 +155,25 @@ Consumes-then (Some a) (Some b) None first second p q = absurd q
 Consumes-then (Some a) (Some b) (Some c) first second p q = p ∙ ap (λ bytes. first ++ bytes) q
     ∙ sym (append_assoc first second c)
 
+-- an error of the log is none of a read
+no_read : (limit : Option ℕ) (lines : List Bytes) (between after : OutputState) (failed : Error)
+    → FailsAt limit lines between after (error.Read failed) → ⊥
+no_read limit [] between after failed fails = cc
+no_read limit (line ∷ lines) between after failed fails = fails
+
+not_too_many : (limit : Option ℕ) (lines : List Bytes) (between after : OutputState)
+    → FailsAt limit lines between after error.TooManyReads → ⊥
+not_too_many limit [] between after fails = cc
+not_too_many limit (line ∷ lines) between after fails = fails
+
+ends_by : {limit : Option ℕ} {before after : OutputState} (read : Bytes) (error : ServeError)
+    → StopsAt limit (lines_of read) before after error → EndsBy limit read before after error
+ends_by {limit} {after = after} read (error.Read failed) stops =
+    absurd (no_read limit stops.later stops.between after failed stops.fails)
+ends_by {limit} {after = after} read error.TooManyReads stops =
+    absurd (not_too_many limit stops.later stops.between after stops.fails)
+ends_by read error stops = stops
+
 -- in the loop over the pieces: all lines that were read are logged
 pub record Logging (limit : Option ℕ) (remaining remaining' : Option Bytes)
     (before now : OutputState) (decoder : Pending) (turn : ℕ) : Type 0 where
@@ -166,11 +184,12 @@ pub record Logging (limit : Option ℕ) (remaining remaining' : Option Bytes)
   pub sent : Sent (log_of limit read) before now
   pub turns : turn ≤ length read
 
-module _ (limit : Option ℕ) (remaining between remaining' : Option Bytes) (before now : OutputState)
-    (decoder : Pending) (turn : ℕ)
+module _ {limit : Option ℕ} {remaining between : Option Bytes} {before now : OutputState}
+    {decoder : Pending} {turn : ℕ}
     (so_far : Logging limit remaining between before now decoder turn) where
   -- a piece was read
-  module _ (piece : Bytes) (given : Consumes between remaining' piece) where
+  module _ (remaining' : Option Bytes) (piece : Bytes)
+      (given : Consumes between remaining' piece) where
     both : Consumes remaining remaining' (so_far.read ++ piece)
     both = Consumes-then remaining between remaining' so_far.read piece so_far.consumed given
 
@@ -189,8 +208,7 @@ module _ (limit : Option ℕ) (remaining between remaining' : Option Bytes) (bef
       };
     }
 
-    module _ (full emptied : Pending) (is : full ≡ pushed decoder piece)
-        (after : OutputState) where
+    module _ {full : Pending} (is : full ≡ pushed decoder piece) where
       bytes_are : full.bytes ≡ incomplete_line so_far.read ++ piece
       bytes_are = ap (λ pending. pending.bytes) is ∙ ap (λ bytes. bytes ++ piece) so_far.pending
 
@@ -198,10 +216,11 @@ module _ (limit : Option ℕ) (remaining between remaining' : Option Bytes) (bef
       limit_is = ap (λ pending. pending.limit) is ∙ so_far.limited
 
       -- its lines are logged
-      pub Logging-next : 0 < length piece → Sent (log_of full.limit full.bytes) now after
+      pub Logging-next : {emptied : Pending} {after : OutputState} → 0 < length piece
+          → Sent (log_of full.limit full.bytes) now after
           → emptied.bytes ≡ incomplete_line full.bytes → emptied.limit ≡ full.limit →
           Logging limit remaining remaining' before after emptied (turn + 1)
-      Logging-next some sent left kept_limit = record {
+      Logging-next {after = after} some sent left kept_limit = record {
         read = so_far.read ++ piece;
         consumed = both;
         pending = left ∙ ap incomplete_line bytes_are
@@ -212,16 +231,16 @@ module _ (limit : Option ℕ) (remaining between remaining' : Option Bytes) (bef
             ≡ log_of limit (incomplete_line so_far.read ++ piece) =
             ap (λ limit. log_of limit full.bytes) limit_is ∙ ap (log_of limit) bytes_are in
             subst (λ text. Sent text before after) (sym (log_of-append limit so_far.read piece))
-            (Sent-then (log_of limit so_far.read)
-            (log_of limit (incomplete_line so_far.read ++ piece)) before now after so_far.sent
+            (Sent-then so_far.sent
             (subst (λ text. Sent text now after) text sent));
         turns = omega (arith, so_far.turns, length-append so_far.read piece, some);
       }
 
       -- it fails at one of them
-      stopped : (error : ServeError) → StopsAt full.limit (lines_of full.bytes) now after error
+      stopped : {error : ServeError} {after : OutputState}
+          → StopsAt full.limit (lines_of full.bytes) now after error
           → StopsAt limit (lines_of (so_far.read ++ piece)) before after error
-      stopped error failed = record {
+      stopped {error} {after} failed = record {
         logged = lines_of so_far.read ++ failed.logged;
         later = failed.later;
         split =
@@ -234,38 +253,18 @@ module _ (limit : Option ℕ) (remaining between remaining' : Option Bytes) (bef
             let text = ap (λ limit. log_entries limit failed.logged) limit_is in
             subst (λ text. Sent text before failed.between)
             (sym (log_entries-append limit (lines_of so_far.read) failed.logged))
-            (Sent-then (log_of limit so_far.read) (log_entries limit failed.logged) before now
-            failed.between so_far.sent
+            (Sent-then so_far.sent
             (subst (λ text. Sent text now failed.between) text failed.sent));
         fails = subst (λ limit. FailsAt limit failed.later failed.between after error) limit_is
             failed.fails;
       }
 
-      -- such an error is none of a read
-      no_read : (lines : List Bytes) (between : OutputState) (failed : Error)
-          → FailsAt limit lines between after (error.Read failed) → ⊥
-      no_read [] between failed fails = cc
-      no_read (line ∷ lines) between failed fails = fails
-
-      not_too_many : (lines : List Bytes) (between : OutputState)
-          → FailsAt limit lines between after error.TooManyReads → ⊥
-      not_too_many [] between fails = cc
-      not_too_many (line ∷ lines) between fails = fails
-
-      ends_by : (read : Bytes) (error : ServeError)
-          → StopsAt limit (lines_of read) before after error → EndsBy limit read before after error
-      ends_by read (error.Read failed) stops =
-          absurd (no_read stops.later stops.between failed stops.fails)
-      ends_by read error.TooManyReads stops =
-          absurd (not_too_many stops.later stops.between stops.fails)
-      ends_by read error stops = stops
-
-      pub Logging-failed : (error : ServeError)
+      pub Logging-failed : {error : ServeError} {after : OutputState}
           → StopsAt full.limit (lines_of full.bytes) now after error
           → LogEnded limit remaining remaining' before after error
-      Logging-failed error failed =
+      Logging-failed {error} failed =
           record {
             read = so_far.read ++ piece;
             consumed = both;
-            ends = ends_by (so_far.read ++ piece) error (stopped error failed);
+            ends = ends_by (so_far.read ++ piece) error (stopped failed);
           }

@@ -38,20 +38,25 @@ tree_reply-other directory (command.Size x) pwd mlst size mdtm = absurd (size x 
 tree_reply-other directory (command.Mdtm x) pwd mlst size mdtm = absurd (mdtm x refl)
 tree_reply-other directory _ pwd mlst size mdtm = refl
 
-pub standing_reply-other : (c : Command)
-    → ((x : _) → c ≡ command.Auth x → ⊥) → ((x : _) → c ≡ command.Prot x → ⊥)
-    → ((x : _) → c ≡ command.Mode x → ⊥)
-    → ((x : _) → c ≡ command.Opts x → ⊥) → ((x : _) → c ≡ command.Stru x → ⊥)
-    → (c ≡ command.Feat → ⊥) → (c ≡ command.Help → ⊥)
-    → ((x y : _) → c ≡ command.Site x y → ⊥)
+-- a command that is answered alike in each session
+pub record IsFixed (c : Command) : Type 0 where
+  pub no_auth : (x : _) → c ≡ command.Auth x → ⊥
+  pub no_prot : (x : _) → c ≡ command.Prot x → ⊥
+  pub no_mode : (x : _) → c ≡ command.Mode x → ⊥
+  pub no_opts : (x : _) → c ≡ command.Opts x → ⊥
+  pub no_stru : (x : _) → c ≡ command.Stru x → ⊥
+  pub no_feat : c ≡ command.Feat → ⊥
+  pub no_help : c ≡ command.Help → ⊥
+  pub no_site : (x y : _) → c ≡ command.Site x y → ⊥
+
+pub standing_reply-other : (c : Command) → IsFixed c
     → standing_reply (command_of c) ≡ fixed_reply (command_of c)
-standing_reply-other (command.Auth x) auth prot mode opts stru feat help site = absurd (auth x refl)
-standing_reply-other (command.Prot x) auth prot mode opts stru feat help site = absurd (prot x refl)
-standing_reply-other (command.Mode x) auth prot mode opts stru feat help site = absurd (mode x refl)
-standing_reply-other (command.Opts x) auth prot mode opts stru feat help site = absurd (opts x refl)
-standing_reply-other (command.Stru x) auth prot mode opts stru feat help site = absurd (stru x refl)
-standing_reply-other command.Feat auth prot mode opts stru feat help site = absurd (feat refl)
-standing_reply-other command.Help auth prot mode opts stru feat help site = absurd (help refl)
-standing_reply-other (command.Site x y) auth prot mode opts stru feat help site =
-    absurd (site x y refl)
-standing_reply-other _ auth prot mode opts stru feat help site = refl
+standing_reply-other (command.Auth x) not = absurd (not.no_auth x refl)
+standing_reply-other (command.Prot x) not = absurd (not.no_prot x refl)
+standing_reply-other (command.Mode x) not = absurd (not.no_mode x refl)
+standing_reply-other (command.Opts x) not = absurd (not.no_opts x refl)
+standing_reply-other (command.Stru x) not = absurd (not.no_stru x refl)
+standing_reply-other command.Feat not = absurd (not.no_feat refl)
+standing_reply-other command.Help not = absurd (not.no_help refl)
+standing_reply-other (command.Site x y) not = absurd (not.no_site x y refl)
+standing_reply-other _ not = refl

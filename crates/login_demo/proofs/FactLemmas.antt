@@ -23,26 +23,27 @@ unfolding digits
 entry_facts-file file.Readme size h = rw h refl
 entry_facts-file file.Today size h = rw h refl
 
-pub same_time : (nanosecond : ℤ) (text time : Bytes) → IsTimeText nanosecond (Some text)
+pub same_time : {nanosecond : ℤ} {text time : Bytes} → IsTimeText nanosecond (Some text)
     → IsTimeText nanosecond (Some time) → text ≡ time
-same_time nanosecond text time p q =
-    let same : Some text ≡ Some time = IsTimeText-unique nanosecond (Some text) (Some time) p q in
+same_time {text} {time} p q =
+    let same : Some text ≡ Some time = IsTimeText-unique p q in
     cc
 
-pub has_time : (nanosecond : ℤ) (time : Bytes) → IsTimeText nanosecond None
+pub has_time : {nanosecond : ℤ} {time : Bytes} → IsTimeText nanosecond None
     → IsTimeText nanosecond (Some time) → ⊥
-has_time nanosecond time p q =
-    let same : None ≡ Some time = IsTimeText-unique nanosecond None (Some time) p q in cc
+has_time {time} p q =
+    let same : None ≡ Some time = IsTimeText-unique p q in cc
 
-only_reply : (file : FileFacts) (facts path : Bytes) (reply : FtpReply) → IsFacts file facts
+only_reply : (file : FileFacts) {facts : Bytes} (path : Bytes) {reply : FtpReply}
+    → IsFacts file facts
     → IsFactsReply file path reply → reply ≡ facts_reply facts path
-only_reply file facts path reply known said =
-    said.2 ∙ ap (λ f. facts_reply f path) (IsFacts-unique file said.0 facts said.1 known)
+only_reply file path known said =
+    said.2 ∙ ap (λ f. facts_reply f path) (IsFacts-unique file said.1 known)
 
-pub only_facts_reply : {E : Type 0} (file : FileFacts) (facts path shown : Bytes)
+pub only_facts_reply : {E : Type 0} (file : FileFacts) {facts path shown : Bytes}
     (answer : Result Reply E) → path ≡ shown → IsFacts file facts
     → IfOk answer (λ reply. IsFactsReply file path (reply_of reply))
     → IfOk answer (λ reply. reply_of reply ≡ facts_reply facts shown)
-only_facts_reply file facts path shown (Ok reply) same known said =
-    only_reply file facts path (reply_of reply) known said ∙ ap (facts_reply facts) same
-only_facts_reply file facts path shown (Err error) same known said = tt
+only_facts_reply file {facts} {path} (Ok reply) same known said =
+    only_reply file path known said ∙ ap (facts_reply facts) same
+only_facts_reply file (Err error) same known said = tt

@@ -14,9 +14,9 @@ differs name text h =
     is_false (bytes_eq name text) (λ same. h ((bytes_eq-Decides name text).0 same))
 
 -- a name of its own leads one down
-pub entered-name : (names : List Bytes) (name : Bytes) → name ≢ [] → name ≢ codes "."
+pub entered-name : (names : List Bytes) {name : Bytes} → name ≢ [] → name ≢ codes "."
     → name ≢ codes ".." → entered names name ≡ names ++ name ∷ []
-entered-name names name a b d =
+entered-name names {name} a b d =
     rw (differs name [] a, differs name (codes ".") b, differs name (codes "..") d) refl
 
 pub path_text-below : (names : List Bytes) → names ≢ []

@@ -1,53 +1,16 @@
 -- The instants of the files on the calendar.
-use Rattle.std.proofs.Common.{◌≡◌, ℤ, pos, Some, codes, refl, sym, ◌∙◌, arith}
+use Rattle.std.proofs.Common.{◌≡◌, ℤ, pos, Some, codes, refl, sym, ◌∙◌, rules}
 use Rattle.jiff_core.specs.declared.civil.datetime.DateTime.{DateTime}
 use Rattle.jiff_core.specs.Calendar.{days_from_civil, day_count, days_of_years, days_of_months}
 use Rattle.jiff_core.specs.DateTime.{civil_nanos}
 use Rattle.unftp_control_commands.specs.Facts.{IsTimeText}
+use Rattle.unftp_control_commands.proofs.CivilLemmas.{civil}
 
 readme_civil : DateTime
-readme_civil = record {
-  date = record {
-    year = pos 2024;
-    month = 2;
-    day = 29;
-    year_in = (omega arith, omega arith);
-    month_in = (omega arith, omega arith);
-    day_in = (omega arith, omega arith);
-  };
-  time = record {
-    hour = 12;
-    minute = 34;
-    second = 56;
-    subsec_nanosecond = 0;
-    hour_in = omega arith;
-    minute_in = omega arith;
-    second_in = omega arith;
-    subsec_in = omega arith;
-  };
-}
+readme_civil = civil 2024 2 29 12 34 56 (search rules)
 
 today_civil : DateTime
-today_civil = record {
-  date = record {
-    year = pos 2026;
-    month = 1;
-    day = 1;
-    year_in = (omega arith, omega arith);
-    month_in = (omega arith, omega arith);
-    day_in = (omega arith, omega arith);
-  };
-  time = record {
-    hour = 0;
-    minute = 0;
-    second = 0;
-    subsec_nanosecond = 0;
-    hour_in = omega arith;
-    minute_in = omega arith;
-    second_in = omega arith;
-    subsec_in = omega arith;
-  };
-}
+today_civil = civil 2026 1 1 0 0 0 (search rules)
 
 readme_nanos : civil_nanos readme_civil ≡ pos 1_709_210_096_000_000_000
 unfolding civil_nanos readme_civil days_from_civil day_count days_of_years days_of_months

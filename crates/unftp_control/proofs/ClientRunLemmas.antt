@@ -2,7 +2,6 @@
 use Rattle.std.proofs.Common.{◌≡◌, List, [], ◌∷◌, ◌++◌, None, Some, codes, refl, arith, lit<, lit≤}
 use Rattle.std.specs.Fmt.{digits}
 use Rattle.unftp_control_defs.specs.Bytes.{Bytes}
-use Rattle.unftp_control_defs.specs.FtpCommand.{Noop, Retr}
 use Rattle.unftp_control_defs.specs.FtpReply.{CodeAndMsg}
 use Rattle.unftp_control_defs.specs.TakingSteps.{TakesReply}
 use Rattle.unftp_control_defs.proofs.EncodingLemmas.{FrontReply-encoded}
@@ -11,8 +10,8 @@ use Rattle.unftp_control_client.specs.Exchange.{new_client}
 use Rattle.unftp_control_client.specs.Steps.{AreSteps, ClientStep, Received, Sent, Took}
 use Rattle.unftp_control_client.specs.declared.Client.{Client}
 use Rattle.unftp_control_client.specs.declared.dialogue.To.TheVariants.{Greeting, Command, Nothing}
-use Rattle.unftp_control_client.proofs.StepLemmas.{sent_before, steps-exchanges}
-use Rattle.unftp_control.specs.ClientRuns.{client_with, dialogue, reply_with}
+use Rattle.unftp_control_client.proofs.ClientStepLemmas.{sent_before, steps-exchanges}
+use Rattle.unftp_control.specs.ClientRuns.{client_with, dialogue, noop, reply_with, retr}
 
 module _ (more : Bytes) where
   pub greeting : TakesReply (codes "220\r\n" ++ more) (220, [] ∷ []) more
@@ -56,7 +55,7 @@ module _ (more : Bytes) where
   }
 
 pub both : AreSteps (new_client None)
-    (Sent (Retr (codes "x")) ∷ Sent Noop ∷ Received (codes "220\r\n150\r\n")
+    (Sent retr ∷ Sent noop ∷ Received (codes "220\r\n150\r\n")
     ∷ Took (reply_with 220 Greeting) ∷ Took (reply_with 150 (Command 0))
     ∷ Received (codes "226\r\n200\r\n2")
     ∷ Took (reply_with 226 (Command 0)) ∷ Took (reply_with 200 (Command 1)) ∷ [])
@@ -112,7 +111,7 @@ unasked = (
 )
 
 abbrev settling : List ClientStep
-settling = Sent (Retr (codes "x")) ∷ Sent Noop ∷ Received (codes "220\r\n150\r\n226\r\n")
+settling = Sent retr ∷ Sent noop ∷ Received (codes "220\r\n150\r\n226\r\n")
     ∷ Took (reply_with 220 Greeting) ∷ Took (reply_with 150 (Command 0))
     ∷ Took (reply_with 226 (Command 1)) ∷ []
 
@@ -123,12 +122,12 @@ settled_by_150 client are =
 
 pub not_sent : (client : Client) → AreSteps (new_client None)
     (Received (codes "220\r\n200\r\n")
-    ∷ Took (reply_with 220 Greeting) ∷ Took (reply_with 200 (Command 0)) ∷ Sent Noop ∷ []) client
+    ∷ Took (reply_with 220 Greeting) ∷ Took (reply_with 200 (Command 0)) ∷ Sent noop ∷ []) client
     → ⊥
 not_sent client are =
     absurd (omega (
       arith,
       sent_before (new_client None) client
-          (Received (codes "220\r\n200\r\n") ∷ Took (reply_with 220 Greeting) ∷ []) (Sent Noop ∷ [])
+          (Received (codes "220\r\n200\r\n") ∷ Took (reply_with 220 Greeting) ∷ []) (Sent noop ∷ [])
           (200, [] ∷ []) refl refl 0 are,
     ))

@@ -71,7 +71,7 @@ AreReplies-append : (input more : Bytes) (taken : List (ℕ × List Bytes)) (pen
 AreReplies-append input more [] pending are = ap (λ bytes. bytes ++ more) are
 AreReplies-append input more (reply ∷ taken) pending are = (
   are.0 ++ more,
-  TakesReply-append input more reply are.0 are.1,
+  TakesReply-append more are.1,
   AreReplies-append are.0 more taken pending are.2,
 )
 
@@ -82,7 +82,7 @@ first_ones input [] all pending h k = (all, refl)
 first_ones input (p ∷ taken) [] pending h k = absurd (none_of_nothing
     (subst HasFront (sym k) (p.0, p.1, h.1.used, h.1.front)))
 first_ones input (p ∷ taken) (q ∷ all) pending h k =
-    let same = FrontReply-unique input p.0 q.0 p.1 q.1 h.1.used k.1.used h.1.front k.1.front in
+    let same = FrontReply-unique h.1.front k.1.front in
     let dropped = ap (λ used. drop used input) (sym same.2) in
     let following : k.0 ≡ h.0 = k.1.after_is ∙ dropped ∙ sym h.1.after_is in
     let rest = first_ones h.0 taken all pending h.2
@@ -117,7 +117,7 @@ module _ (replies : List FtpReply) (readable : AllByRecursion IsReadable replies
       → Show (all_taken steps) replies × (length (all_taken steps) ≡ length replies)
       × (pending ≡ [])
   read_all whole none =
-      let same = AreReplies-unique text (all_taken steps) read pending []
+      let same = AreReplies-unique text (all_taken steps) read
       (subst (λ bytes. AreReplies bytes (all_taken steps) pending) whole taken_of_pushed) none
       all_of_text none_of_nothing in
       let show = ap (map Some) same.0 ∙ all_read replies readable in

@@ -13,9 +13,9 @@ text_of _ = codes ""
 small : (n : ℕ) → n < 2 ^ 16 → n < 2 ^ 64
 small n h = omega arith
 
-pub port_reply-injective : (port other : ℕ) → port < 2 ^ 16 → other < 2 ^ 16
+pub port_reply-injective : {port other : ℕ} → port < 2 ^ 16 → other < 2 ^ 16
     → port_reply port ≡ port_reply other → port ≡ other
-port_reply-injective port other small_port small_other e =
+port_reply-injective {port} {other} small_port small_other e =
     decimal_injective port other (small port small_port) (small other small_other)
     (append_cancel_right (decimal port) (decimal other) (codes "|)")
     (append_cancel_left (codes "Entering Extended Passive Mode (|||") (decimal port ++ codes "|)")

@@ -45,20 +45,20 @@ module _ {S : Type 0} (law : Law S) where
       let more = at_end (law.next s f) first later event (ends_nowhere-later s f first on) done in
       (step.0 ∙ ap (λ run. f ∷ run) more.0, step.1 ∙ more.1)
 
-  pub ends_after-run : (s : S) (events first : List FtpEvent) (event : FtpEvent)
+  pub ends_after-run : {s : S} {events first : List FtpEvent} {event : FtpEvent}
       → EndsAfter law s events first event →
       (run_of law s events ≡ first ++ event ∷ []) × (ends law s events ≡ true)
-  ends_after-run s events first event h =
+  ends_after-run {s} {first} {event} h =
       rw (h.split) (at_end s first h.later event h.none_before h.done)
 
   -- an event before the others goes on too
-  ends_nowhere-first : (s : S) (event : FtpEvent) (events : List FtpEvent)
+  ends_nowhere-first : (s : S) {event : FtpEvent} {events : List FtpEvent}
       → law.done (law.next s event) ≡ false →
       EndsNowhere law (law.next s event) events → EndsNowhere law s (event ∷ events)
-  ends_nowhere-first s event events on rest [] later last same =
+  ends_nowhere-first s {event} on rest [] later last same =
       let head : event ≡ last = cc in
       rw (← head) on
-  ends_nowhere-first s event events on rest (f ∷ first) later last same =
+  ends_nowhere-first s {event} {events} on rest (f ∷ first) later last same =
       let head : event ≡ f = cc in
       let tail : events ≡ first ++ last ∷ later = cc in
       rw (← head) (rest first later last tail)
@@ -67,13 +67,13 @@ module _ {S : Type 0} (law : Law S) where
   ends_nowhere-none s [] later last same = absurd (cc)
   ends_nowhere-none s (f ∷ first) later last same = absurd (cc)
 
-  found-first : (s : S) (event : FtpEvent) (events : List FtpEvent)
+  found-first : {s : S} {event : FtpEvent} {events : List FtpEvent}
       → ends law s (event ∷ events) ≡ true →
       (ends law (law.next s event) events ≡ true → (first : List FtpEvent) × (last : FtpEvent)
       × EndsAfter law (law.next s event) events first last) →
       (done : Bool) → law.done (law.next s event) ≡ done → (first : List FtpEvent)
       × (last : FtpEvent) × EndsAfter law s (event ∷ events) first last
-  found-first s event events h later true done = (
+  found-first {s} {event} {events} h later true done = (
     [],
     event,
     record {
@@ -83,7 +83,7 @@ module _ {S : Type 0} (law : Law S) where
       done = done;
     },
   )
-  found-first s event events h later false on =
+  found-first {s} {event} {events} h later false on =
       let found = later (sym (run_of-on law s event events on).1 ∙ h) in
       let end = found.2 in (
         event ∷ found.0,
@@ -91,7 +91,7 @@ module _ {S : Type 0} (law : Law S) where
         record {
           later = end.later;
           split = ap (λ more. event ∷ more) end.split;
-          none_before = ends_nowhere-first s event found.0 on end.none_before;
+          none_before = ends_nowhere-first s on end.none_before;
           done = end.done;
         },
       )
@@ -100,5 +100,4 @@ module _ {S : Type 0} (law : Law S) where
       → (first : List FtpEvent) × (last : FtpEvent) × EndsAfter law s events first last
   ends-found s [] h = absurd (cc)
   ends-found s (event ∷ events) h =
-      found-first s event events h (ends-found (law.next s event) events)
-      (law.done (law.next s event)) refl
+      found-first h (ends-found (law.next s event) events) (law.done (law.next s event)) refl

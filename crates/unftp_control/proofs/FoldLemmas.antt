@@ -33,9 +33,9 @@ site_answer-Cut parameter name arguments cut = let same = Cut-unique parameter n
 same_utf8 : (text other : Bytes) → upper text ≡ upper other → is_utf8 text ≡ is_utf8 other
 same_utf8 text other e = sym (is_utf8-upper text) ∙ ap is_utf8 e ∙ is_utf8-upper other
 
-pub outcome-verb_case : (line other verb other_verb parameter : Bytes) → Cut line verb parameter
+pub outcome-verb_case : {line other verb other_verb parameter : Bytes} → Cut line verb parameter
     → Cut other other_verb parameter → upper verb ≡ upper other_verb → outcome line ≡ outcome other
-outcome-verb_case line other verb other_verb parameter a b e =
+outcome-verb_case {line} {other} {verb} {other_verb} {parameter} a b e =
     outcome-Cut line verb parameter a
     ∙ (λ i. cond (same_utf8 verb other_verb e i) (answer_by (rule_of (e i)) parameter)
     (Err InvalidUtf8))
@@ -52,25 +52,24 @@ unfolding is_utf8 chars lib.Utf8.encode
 site_written parameter = refl
 
 -- a line of SITE means what its name says
-site_outcome : (line verb parameter : Bytes) → Cut line verb parameter → upper verb ≡ codes "SITE"
+site_outcome : {line verb parameter : Bytes} → Cut line verb parameter → upper verb ≡ codes "SITE"
     → outcome line ≡ site_answer parameter
-site_outcome line verb parameter cut e =
+site_outcome {line} {verb} {parameter} cut e =
     let utf8 : is_utf8 verb ≡ is_utf8 (codes "SITE") = sym (is_utf8-upper verb) ∙ ap is_utf8 e in
     outcome-Cut line verb parameter cut
     ∙ ap (λ t. cond t (answer_by (rule_of (upper verb)) parameter) (Err InvalidUtf8)) utf8
     ∙ ap (λ t. cond (is_utf8 (codes "SITE")) (answer_by (rule_of t) parameter) (Err InvalidUtf8)) e
     ∙ site_written parameter
 
-pub outcome-name_case : (line other verb other_verb parameter other_parameter name other_name
-    arguments : Bytes)
+pub outcome-name_case : {line other verb other_verb parameter other_parameter name other_name
+    arguments : Bytes}
     → Cut line verb parameter → Cut other other_verb other_parameter → upper verb ≡ codes "SITE"
     → upper other_verb ≡ codes "SITE"
     → Cut parameter name arguments → Cut other_parameter other_name arguments
     → upper name ≡ upper other_name → outcome line ≡ outcome other
-outcome-name_case line other verb other_verb parameter other_parameter name other_name arguments a b
-    s t c d e =
-    site_outcome line verb parameter a s
+outcome-name_case {parameter} {other_parameter} {name} {other_name} {arguments} a b s t c d e =
+    site_outcome a s
     ∙ site_answer-Cut parameter name arguments c
     ∙ site_case name other_name arguments e
     ∙ sym (site_answer-Cut other_parameter other_name arguments d)
-    ∙ sym (site_outcome other other_verb other_parameter b t)
+    ∙ sym (site_outcome b t)

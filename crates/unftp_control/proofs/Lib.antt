@@ -21,4 +21,4 @@ pub use Rattle.unftp_control_serve.proofs.SendLemmas
 pub use Rattle.unftp_control_serve.proofs.EndingLemmas
 pub use Rattle.unftp_control_serve.proofs.ServesLemmas
 pub use Rattle.unftp_control_login.proofs.MemberLemmas
-pub use Rattle.unftp_control_client.proofs.StepLemmas
+pub use Rattle.unftp_control_client.proofs.ClientStepLemmas

@@ -14,7 +14,7 @@ use Rattle.unftp_control_read.specs.Receiving.{IsNeeded}
 no_crlf : (text : Bytes) → Lacks LF text → LacksCrlf text
 no_crlf [] h = lacks_nil
 no_crlf (a ∷ []) h = lacks_one a
-no_crlf (a ∷ b ∷ text) h = lacks_more a b text (λ _ is_lf. h.1.0 is_lf) (no_crlf (b ∷ text) h.1)
+no_crlf (a ∷ b ∷ text) h = lacks_more (λ _ is_lf. h.1.0 is_lf) (no_crlf (b ∷ text) h.1)
 
 pub part : IsPartial (codes "211 a\r")
 part = part_is_partial _ (inl (no_crlf (codes "211 a\r") (Lacks-test 10 (codes "211 a\r") refl)))
@@ -25,7 +25,7 @@ empty_part = part_is_partial _ (inl lacks_nil)
 front : (more : Bytes) → FrontReply (codes "211 a\r\n" ++ more) 211 (codes "a" ∷ []) 7
 unfolding digits
 front more = FrontReply-encoded (CodeAndMsg 211 (codes "a")) more
-    ((lit≤ tt, lit< tt), Lacks-test 10 (codes "a") refl) 211 (codes "a" ∷ []) refl
+    ((lit≤ tt, lit< tt), Lacks-test 10 (codes "a") refl) refl
 
 no_part : (more : Bytes) → IsPartial (codes "211 a\r\n" ++ more) → ⊥
 no_part more partial = partial.0 (211, codes "a" ∷ [], 7, front more)

@@ -1,5 +1,5 @@
 -- A file that was last modified at noon, and its facts.
-use Rattle.std.proofs.Common.{◌≡◌, pos, false, Some, codes, refl, sym, ◌∙◌, arith}
+use Rattle.std.proofs.Common.{◌≡◌, pos, false, Some, codes, refl, sym, ◌∙◌, rules}
 use Rattle.std.specs.Fmt.{digits}
 use Rattle.jiff_core.specs.declared.civil.datetime.DateTime.{DateTime}
 use Rattle.jiff_core.specs.declared.timestamp.Timestamp.{Timestamp}
@@ -7,29 +7,11 @@ use Rattle.jiff_core.specs.Calendar.{days_from_civil, day_count, days_of_years, 
 use Rattle.jiff_core.specs.DateTime.{civil_nanos}
 use Rattle.unftp_control_defs.specs.Bytes.{Bytes}
 use Rattle.unftp_control_commands.specs.Facts.{FileFacts, IsFacts, IsModified}
+use Rattle.unftp_control_commands.proofs.CivilLemmas.{civil}
 use Rattle.unftp_control_commands.proofs.FactTextLemmas.{IsFacts-unique}
 
 noon : DateTime
-noon = record {
-  date = record {
-    year = pos 2023;
-    month = 12;
-    day = 1;
-    year_in = (omega arith, omega arith);
-    month_in = (omega arith, omega arith);
-    day_in = (omega arith, omega arith);
-  };
-  time = record {
-    hour = 12;
-    minute = 0;
-    second = 0;
-    subsec_nanosecond = 0;
-    hour_in = omega arith;
-    minute_in = omega arith;
-    second_in = omega arith;
-    subsec_in = omega arith;
-  };
-}
+noon = civil 2023 12 1 12 0 0 (search rules)
 
 at_noon : civil_nanos noon ≡ pos 1_701_432_000_000_000_000
 unfolding civil_nanos noon days_from_civil day_count days_of_years days_of_months
@@ -52,4 +34,4 @@ pub noon-only : (instant : Timestamp) (facts : Bytes)
     → instant.nanosecond ≡ pos 1_701_432_000_000_000_000 → IsFacts (file_of instant) facts
     → codes "type=file;size=1234;modify=20231201120000;" ≡ facts
 noon-only instant facts same other =
-    IsFacts-unique (file_of instant) _ facts (IsFacts-noon instant same) other
+    IsFacts-unique (file_of instant) (IsFacts-noon instant same) other

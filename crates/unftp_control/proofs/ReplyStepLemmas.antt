@@ -18,7 +18,7 @@ steps-replies before (Pushed piece ∷ steps) after are =
     (steps-replies (before ++ piece) steps after are)
 steps-replies before (Taken reply ∷ steps) after (following, taken, are) = (
   following ++ all_pushed steps,
-  TakesReply-append before (all_pushed steps) reply following taken,
+  TakesReply-append (all_pushed steps) taken,
   steps-replies following steps after are,
 )
 
@@ -27,21 +27,21 @@ TakesReply-front : (before : Bytes) (reply : ℕ × List Bytes) (after : Bytes)
     → TakesReply before reply after → HasFront before
 TakesReply-front before reply after taken = (reply.0, reply.1, taken.used, taken.front)
 
-pub AreReplies-unique : (input : Bytes) (replies others : List (ℕ × List Bytes)) (after end : Bytes)
+pub AreReplies-unique : (input : Bytes) (replies others : List (ℕ × List Bytes)) {after end : Bytes}
     → AreReplies input replies after → ¬ HasFront after
     → AreReplies input others end → ¬ HasFront end
     → (replies ≡ others) × (after ≡ end)
-AreReplies-unique input [] [] after end h none k ended = (refl, h ∙ sym k)
-AreReplies-unique input [] (q ∷ others) after end h none k ended =
+AreReplies-unique input [] [] h none k ended = (refl, h ∙ sym k)
+AreReplies-unique input [] (q ∷ others) h none k ended =
     absurd (none (subst HasFront (sym h) (TakesReply-front input q k.0 k.1)))
-AreReplies-unique input (p ∷ replies) [] after end h none k ended =
+AreReplies-unique input (p ∷ replies) [] h none k ended =
     absurd (ended (subst HasFront (sym k) (TakesReply-front input p h.0 h.1)))
-AreReplies-unique input (p ∷ replies) (q ∷ others) after end h none k ended =
-    let same = FrontReply-unique input p.0 q.0 p.1 q.1 h.1.used k.1.used h.1.front k.1.front in
+AreReplies-unique input (p ∷ replies) (q ∷ others) {after} {end} h none k ended =
+    let same = FrontReply-unique h.1.front k.1.front in
     let dropped = ap (λ used. drop used input) (sym same.2) in
     let following : k.0 ≡ h.0 = k.1.after_is ∙ dropped ∙ sym h.1.after_is in
     let others_follow = subst (λ bytes. AreReplies bytes others end) following k.2 in
-    let more = AreReplies-unique h.0 replies others after end h.2 none others_follow ended in
+    let more = AreReplies-unique h.0 replies others h.2 none others_follow ended in
     (λ i. (same.0 i, same.1 i) ∷ more.0 i, more.1)
 
 -- where no bytes are after them they are all replies

@@ -1,11 +1,18 @@
 -- Replies and states of a client for the examples.
-use Rattle.std.specs.Prelude.{ℕ, false, [], ◌∷◌, Option, None}
+use Rattle.std.specs.Prelude.{ℕ, false, [], ◌∷◌, Option, None, codes}
 use Rattle.unftp_control_defs.specs.Bytes.{Bytes}
-use Rattle.unftp_control_read.specs.ReplyDecoding.{appended, nothing_pending}
+use Rattle.unftp_control_read.specs.ReplyDecoding.{appended, no_bytes}
 use Rattle.unftp_control_client.specs.Steps.{ReplyTo}
 use Rattle.unftp_control_client.specs.declared.Client.{Client}
 use Rattle.unftp_control_client.specs.declared.dialogue.Dialogue.{Dialogue}
 use Rattle.unftp_control_client.specs.declared.dialogue.To.{To}
+
+-- lines that a client sends
+abbrev pub noop : Bytes
+noop = codes "NOOP\r\n"
+
+abbrev pub retr : Bytes
+retr = codes "RETR x\r\n"
 
 -- a reply with this code and an empty text, to this
 abbrev pub reply_with : ℕ → To → ReplyTo
@@ -18,4 +25,4 @@ dialogue sent answered = record { sent = sent; answered = answered; agreed = fal
 -- a client with these bytes pending
 abbrev pub client_with : Dialogue → Bytes → Client
 client_with dialogue bytes =
-    record { replies = appended (nothing_pending None) bytes; dialogue = dialogue }
+    record { replies = appended (no_bytes None) bytes; dialogue = dialogue }

@@ -1,1 +1,1 @@
-pub mod StepLemmas
+pub mod ClientStepLemmas

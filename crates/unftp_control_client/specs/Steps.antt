@@ -2,7 +2,6 @@
 use Rattle.std.specs.Prelude.{◌≡◌, ℕ, suc, Bool, true, false, not, if◌then◌else◌, List, [], ◌∷◌, ◌++◌, Option, Some, None, ⊤}
 use Rattle.std.specs.List.{filter, filter_map}
 use Rattle.unftp_control_defs.specs.Bytes.{Bytes}
-use Rattle.unftp_control_defs.specs.FtpCommand.{FtpCommand}
 use Rattle.unftp_control_defs.specs.TakingSteps.{TakesReply, TakingStep, Pushed, Taken}
 use Rattle.unftp_control_read.specs.ReplyDecoding.{content}
 use Rattle.unftp_control_client.specs.Dialogue.{after_command, after_reply, is_preliminary, next_to}
@@ -20,15 +19,15 @@ pub record ReplyTo : Type 0 where
 abbrev pub reply_to : ClientReply → ReplyTo
 reply_to taken = record { to = taken.to; reply = content taken.reply }
 
--- A client sends a command, receives a piece, or takes a reply.
+-- A client sends a line, receives a piece, or takes a reply.
 pub data ClientStep : Type 0 where
-  Sent : FtpCommand → ClientStep
+  Sent : Bytes → ClientStep
   Received : Bytes → ClientStep
   Took : ReplyTo → ClientStep
 
 -- what each changes
 abbrev pub IsStep : Client → ClientStep → Client → Type 0
-IsStep before (Sent command) after = (after.dialogue ≡ after_command before.dialogue)
+IsStep before (Sent line) after = (after.dialogue ≡ after_command before.dialogue)
     × (after.replies.bytes ≡ before.replies.bytes)
 IsStep before (Received piece) after = (after.dialogue ≡ before.dialogue)
     × (after.replies.bytes ≡ before.replies.bytes ++ piece)
@@ -43,13 +42,13 @@ AreSteps before [] after = (after.dialogue ≡ before.dialogue)
 AreSteps before (step ∷ steps) after =
     (next : Client) × IsStep before step next × AreSteps next steps after
 
--- the commands that were sent
-abbrev pub sent_by : ClientStep → Option FtpCommand
-sent_by (Sent command) = Some command
+-- the lines that were sent
+abbrev pub sent_by : ClientStep → Option Bytes
+sent_by (Sent line) = Some line
 sent_by _ = None
 
-abbrev pub commands_sent : List ClientStep → List FtpCommand
-commands_sent steps = filter_map sent_by steps
+abbrev pub lines_sent : List ClientStep → List Bytes
+lines_sent steps = filter_map sent_by steps
 
 -- the replies that were taken
 abbrev pub taken_by : ClientStep → Option ReplyTo
@@ -72,7 +71,7 @@ replies_owed steps = filter was_owed (replies_taken steps)
 
 -- what comes from the server, and what is taken of it
 abbrev pub decoder_step : ClientStep → Option (TakingStep (ℕ × List Bytes))
-decoder_step (Sent command) = None
+decoder_step (Sent line) = None
 decoder_step (Received piece) = Some (Pushed piece)
 decoder_step (Took taken) = Some (Taken taken.reply)
 

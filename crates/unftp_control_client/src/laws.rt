@@ -3,12 +3,11 @@ ghost use Rattle.std.specs.Prelude.{◌≡◌, ◌<◌, ◌≤◌, ℕ, suc, Opt
 ghost use Rattle.std.specs.List.{filter};
 ghost use Rattle.unftp_control_defs.specs.Bytes.{Bytes};
 ghost use Rattle.unftp_control_defs.specs.TakingSteps.{AreTakingSteps, TakesReply};
-ghost use Rattle.unftp_control_defs.specs.FtpCommand.{FtpCommand};
 ghost use Rattle.unftp_control_read.specs.ReplyDecoding.{TakesFirst, content, pushed};
 ghost use Rattle.unftp_control_read.specs.Receiving.{Receives};
 ghost use Rattle.unftp_control_client.specs.Dialogue.{after_command, commands_owed};
 ghost use Rattle.unftp_control_client.specs.Exchange.{IsNext, new_client};
-ghost use Rattle.unftp_control_client.specs.Steps.{AreExchanges, AreSteps, ClientStep, Received, Sent, Took, ReplyTo, commands_sent, decoder_steps, is_final, replies_owed, replies_taken, reply_to};
+ghost use Rattle.unftp_control_client.specs.Steps.{AreExchanges, AreSteps, ClientStep, Received, Sent, Took, ReplyTo, lines_sent, decoder_steps, is_final, replies_owed, replies_taken, reply_to};
 ghost use Rattle.unftp_control_client.specs.declared.Client.{Client as RustClient};
 ghost use Rattle.unftp_control_client.specs.declared.dialogue.ClientReply.{ClientReply as RustReply};
 ghost use Rattle.unftp_control_client.specs.declared.dialogue.To.TheVariants.{Greeting, Command, Nothing};
@@ -16,9 +15,9 @@ ghost use Rattle.unftp_control_client.specs.declared.dialogue.To.TheVariants.{Gr
 /// What the contract of each call ensures makes it a step, and calls one after the other are steps:
 /// so the law `replies_are_exchanges` is one of all runs.
 pub fn calls_are_steps()
-    ensures send { (before after : RustClient) (command : FtpCommand)
+    ensures send { (before after : RustClient) (line : Bytes)
         → after ≡ record before { dialogue = after_command before.dialogue }
-        → AreSteps before (Sent command ∷ []) after }
+        → AreSteps before (Sent line ∷ []) after }
     ensures receive { (before after : RustClient) (piece : Bytes)
         → after ≡ record before { replies = pushed before.replies piece }
         → AreSteps before (Received piece ∷ []) after }
@@ -48,13 +47,13 @@ pub fn replies_are_exchanges()
         (reply : ℕ × List Bytes) (client : RustClient)
         → AreSteps (new_client limit)
         (before ++ Took (record { to = Command place; reply = reply }) ∷ later) client
-        → place < length (commands_sent before) }
+        → place < length (lines_sent before) }
     // and a reply is to nothing only where the greeting and each command have their final one.
     ensures unasked { (limit : Option ℕ) (before later : List ClientStep)
         (reply : ℕ × List Bytes) (client : RustClient)
         → AreSteps (new_client limit)
         (before ++ Took (record { to = Nothing; reply = reply }) ∷ later) client
-        → suc (length (commands_sent before)) ≤ length (filter is_final (replies_owed before)) }
+        → suc (length (lines_sent before)) ≤ length (filter is_final (replies_owed before)) }
     // The replies are cut from what was received as those of a decoder are.
     ensures taken { (limit : Option ℕ) (steps : List ClientStep) (client : RustClient)
         → AreSteps (new_client limit) steps client
@@ -70,5 +69,5 @@ pub fn tls_begins_after_234()
         → (earlier : List ReplyTo) × (place : ℕ) × (lines : List Bytes)
         × (replies_taken steps
         ≡ earlier ++ record { to = Command place; reply = (234, lines) } ∷ [])
-        × (suc place ≡ length (commands_sent steps)) }
+        × (suc place ≡ length (lines_sent steps)) }
 {}

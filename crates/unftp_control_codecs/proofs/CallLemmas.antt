@@ -30,11 +30,11 @@ module _ (old new : Codec) (before after : Bytes) (within : old.place ≤ length
         omega (arith, s.place),
       )
 
-  counts_line : (k : ℕ) (answer : Decoded) → line_feed_from before old.place ≡ Some k
+  counts_line : {k : ℕ} (answer : Decoded) → line_feed_from before old.place ≡ Some k
       → ¬ IsOutOfMemory answer → (long : Bool) → is_too_long old (k + 1) ≡ long
       → AnswersLine k old new before after answer → Counts old new before after
-  counts_line k answer at memory true e h = counts_cut k at ((rw e at h).1)
-  counts_line k answer at memory false e h =
+  counts_line {k} answer at memory true e h = counts_cut k at ((rw e at h).1)
+  counts_line {k} answer at memory false e h =
       ⊎_elim (λ cut. counts_cut k at cut.1) (λ out. absurd (memory (ran_out answer out.0)))
       (rw e at h)
 
@@ -44,7 +44,7 @@ module _ (old new : Codec) (before after : Bytes) (within : old.place ≤ length
       (λ k. AnswersLine k old new before after answer) → Counts old new before after
   counts_found answer memory None at h = counts_none (is_too_long old (length before + 1)) h.1
   counts_found answer memory (Some k) at h =
-      counts_line k answer at memory (is_too_long old (k + 1)) refl h
+      counts_line answer at memory (is_too_long old (k + 1)) refl h
 
   pub counts_decode : (answer : Decoded) → ¬ IsOutOfMemory answer
       → Decodes old new before after answer → Counts old new before after

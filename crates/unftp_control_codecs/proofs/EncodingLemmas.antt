@@ -42,11 +42,12 @@ encoded-lines_before_last code (line ∷ next ∷ lines) last =
     ∙ lines_before_last-back code line (next ∷ lines) last
 
 -- so a reply of these lines is appended part by part
-pub appended-lines : {S : Type 0} (text : S → Bytes) (code : ℕ) (lines front : List S) (last : S)
-    (start opened coded : Bytes) → lines ≡ front ++ last ∷ []
+pub appended-lines : {S : Type 0} (text : S → Bytes) (code : ℕ) {lines : List S} (front : List S)
+    (last : S)
+    (start : Bytes) {opened coded : Bytes} → lines ≡ front ++ last ∷ []
     → opened ≡ start ++ lines_before_last code (map text front) → coded ≡ opened ++ decimal code
     → coded ++ spaced_line (text last) ≡ start ++ encoded (MultiLine code (map text lines))
-appended-lines text code lines front last start opened coded parts a b =
+appended-lines text code front last start parts a b =
     let texts = map text front in
     let end = spaced_line (text last) in
     ap (λ t. t ++ end) (b ∙ ap (λ t. t ++ decimal code) a)
@@ -66,11 +67,12 @@ pub three_digits : (code : ℕ) → IsReplyCode code → HasThreeDigits code
 three_digits code is_code = (is_code.0, omega arith)
 
 -- these lines, after the bytes that were there before
-pub appended_back : (code : ℕ) (lines : List Bytes) (start whole : Bytes) (n : ℕ) → IsReplyCode code
+pub appended_back : (code : ℕ) (lines : List Bytes) (start : Bytes) {whole : Bytes} {n : ℕ}
+    → IsReplyCode code
     → n ≡ length start
     → whole ≡ start ++ encoded (MultiLine code lines) → AllByRecursion (Lacks LF) lines
     → ReadsBack (drop n whole) (MultiLine code lines ∷ [])
-appended_back code lines start whole n is_code n_is whole_is lack =
+appended_back code lines start {n} is_code n_is whole_is lack =
     let reply = MultiLine code lines in
     subst (λ bytes. ReadsBack bytes (reply ∷ []))
     (sym (ap (drop n) whole_is ∙ drop_at start (encoded reply) n (sym n_is)))

@@ -38,9 +38,9 @@ line_feed_from_None bytes from low before =
     position_from_is bytes from n low (omega arith) before (λ below. absurd (omega arith)) in
     grind (arith, common_steps, e, length-drop from bytes)
 
-pub line_feed_from_Some : (bytes : List ℕ) (from j : ℕ) → from ≤ j → j < length bytes
+pub line_feed_from_Some : (bytes : List ℕ) (from : ℕ) {j : ℕ} → from ≤ j → j < length bytes
     → NoLineFeed bytes from j → slice_index bytes j ≡ 10 → line_feed_from bytes from ≡ Some j
-line_feed_from_Some bytes from j low high before at =
+line_feed_from_Some bytes from {j} low high before at =
     let e : position_or_len is_line_feed (drop from bytes) ≡ j - from =
     position_from_is bytes from j low (omega arith) before (λ below. rw at refl) in
     grind (arith, common_steps, e, length-drop from bytes)

@@ -3,3 +3,4 @@ pub mod FactTextLemmas
 mod ReplaceLemmas
 mod QuoteLemmas
 mod SingleLineLemmas
+pub mod CivilLemmas

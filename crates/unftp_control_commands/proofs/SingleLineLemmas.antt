@@ -25,25 +25,25 @@ first-not_lf : (b : ℕ) → (b ≡ LF) ⊎ (b ≡ LF → ⊥) → first b ≢ L
 first-not_lf b (inl e) = rw (eq-eqb b LF e) (λ q. omega arith)
 first-not_lf b (inr ne) = rw (ne_eqb b LF ne) ne
 
-first-injective : (a b : ℕ) → a ≢ NUL → b ≢ NUL → (a ≡ LF) ⊎ (a ≡ LF → ⊥) → (b ≡ LF) ⊎ (b ≡ LF → ⊥)
+first-injective : {a b : ℕ} → a ≢ NUL → b ≢ NUL → (a ≡ LF) ⊎ (a ≡ LF → ⊥) → (b ≡ LF) ⊎ (b ≡ LF → ⊥)
     → first a ≡ first b → a ≡ b
-first-injective a b p q (inl x) (inl y) e = x ∙ sym y
-first-injective a b p q (inl x) (inr y) e =
+first-injective p q (inl x) (inl y) e = x ∙ sym y
+first-injective {a} {b} p q (inl x) (inr y) e =
     let zero : NUL ≡ b = rw (eq-eqb a LF x, ne_eqb b LF y) at e in absurd (q (sym zero))
-first-injective a b p q (inr x) (inl y) e =
+first-injective {a} {b} p q (inr x) (inl y) e =
     let zero : a ≡ NUL = rw (ne_eqb a LF x, eq-eqb b LF y) at e in absurd (p zero)
-first-injective a b p q (inr x) (inr y) e = rw (ne_eqb a LF x, ne_eqb b LF y) at e
+first-injective {a} {b} p q (inr x) (inr y) e = rw (ne_eqb a LF x, ne_eqb b LF y) at e
 
 followed-lacks : (b : ℕ) (line : Bytes) → Lacks LF line → (b ≡ CR) ⊎ (b ≡ CR → ⊥)
     → Lacks LF (followed b line)
 followed-lacks b line h (inl e) = rw (eq-eqb b CR e) ((λ q. omega arith), h)
 followed-lacks b line h (inr ne) = rw (ne_eqb b CR ne) h
 
-followed-injective : (b : ℕ) (line other : Bytes) → (b ≡ CR) ⊎ (b ≡ CR → ⊥)
+followed-injective : {b : ℕ} {line other : Bytes} → (b ≡ CR) ⊎ (b ≡ CR → ⊥)
     → followed b line ≡ followed b other → line ≡ other
-followed-injective b line other (inl x) e =
+followed-injective {b} {line} {other} (inl x) e =
     let same : NUL ∷ line ≡ NUL ∷ other = rw (eq-eqb b CR x) at e in cc
-followed-injective b line other (inr x) e = rw (ne_eqb b CR x) at e
+followed-injective {b} (inr x) e = rw (ne_eqb b CR x) at e
 
 pub Lacks-single_line : (text : Bytes) → Lacks LF (single_line text)
 Lacks-single_line [] = tt
@@ -64,11 +64,11 @@ single_line-injective (a ∷ text) [] h g e =
 single_line-injective (a ∷ text) (b ∷ other) h g e =
     let both : first a ∷ followed a (single_line text) ≡ first b ∷ followed b (single_line other)
     = sym (single_line-cons a text) ∙ e ∙ single_line-cons b other in
-    let same : a ≡ b = first-injective a b h.0 g.0 (cases_eq a LF) (cases_eq b LF) (cc) in
+    let same : a ≡ b = first-injective h.0 g.0 (cases_eq a LF) (cases_eq b LF) (cc) in
     let after : followed a (single_line text) ≡ followed b (single_line other) = cc in
     let after_one : followed b (single_line text) ≡ followed b (single_line other) =
     ap (λ x. followed x (single_line text)) (sym same) ∙ after in
     let rest : single_line text ≡ single_line other =
-    followed-injective b (single_line text) (single_line other) (cases_eq b CR) after_one in
+    followed-injective (cases_eq b CR) after_one in
     let later : text ≡ other = single_line-injective text other h.1 g.1 rest in
     cc

@@ -16,14 +16,18 @@ pub time_text-some : (y : ℤ) (dt : DateTime) → int_lt y (pos 0) ≡ false
 time_text-some (pos n) dt h = refl
 time_text-some (negsuc n) dt h = cc
 
-same_year : (y : ℤ) (a b : DateTime) → a.date.month ≡ b.date.month → a.date.day ≡ b.date.day
-    → a.time.hour ≡ b.time.hour → a.time.minute ≡ b.time.minute → a.time.second ≡ b.time.second
-    → time_text y a ≡ time_text y b
-same_year (negsuc n) a b m d h mi s = refl
-same_year (pos n) a b m d h mi s = cc
+-- they agree in all but the year
+pub record SameParts (a b : DateTime) : Type 0 where
+  pub month : a.date.month ≡ b.date.month
+  pub day : a.date.day ≡ b.date.day
+  pub hour : a.time.hour ≡ b.time.hour
+  pub minute : a.time.minute ≡ b.time.minute
+  pub second : a.time.second ≡ b.time.second
 
-pub same_parts : (a b : DateTime) → a.date.year ≡ b.date.year → a.date.month ≡ b.date.month
-    → a.date.day ≡ b.date.day
-    → a.time.hour ≡ b.time.hour → a.time.minute ≡ b.time.minute → a.time.second ≡ b.time.second
+same_year : (y : ℤ) {a b : DateTime} → SameParts a b → time_text y a ≡ time_text y b
+same_year (negsuc n) same = refl
+same_year (pos n) same = cc
+
+pub same_parts : {a b : DateTime} → a.date.year ≡ b.date.year → SameParts a b
     → time_text a.date.year a ≡ time_text b.date.year b
-same_parts a b y m d h mi s = ap (λ v. time_text v a) y ∙ same_year b.date.year a b m d h mi s
+same_parts {a} {b} y same = ap (λ v. time_text v a) y ∙ same_year b.date.year same

@@ -34,10 +34,10 @@ pub passed : (test : Bool) (answer : Answer) (refusal : Refusal) (command : FtpC
 passed true answer refusal command e = (refl, e)
 passed false answer refusal command e = cc
 
-not_refused : (test : Bool) (answer : Answer) (refusal : Refusal) (command : FtpCommand)
+not_refused : (test : Bool) {answer : Answer} (refusal : Refusal) {command : FtpCommand}
     → cond test (Err refusal) answer ≡ Ok command → answer ≡ Ok command
-not_refused true answer refusal command e = cc
-not_refused false answer refusal command e = e
+not_refused true refusal e = cc
+not_refused false refusal e = e
 
 -- for each way to take a value
 pub raw_gives : (command : Bytes → FtpCommand)
@@ -96,27 +96,26 @@ maybe_gives command each (b ∷ v) meant h e =
     (unless_empty-some (b ∷ v) (some_value b v))) ∙ e)
 
 -- one of a few commands
-chosen_step : (test : Bool) (made meant : FtpCommand) (other : Answer) → IsSound made
+chosen_step : (test : Bool) (made : FtpCommand) {meant : FtpCommand} {other : Answer} → IsSound made
     → (other ≡ Ok meant → IsSound meant) → cond test (Ok made) other ≡ Ok meant → IsSound meant
-chosen_step true made meant other is_sound more e = sound made meant is_sound e
-chosen_step false made meant other is_sound more e = more e
+chosen_step true made {meant} is_sound more e = sound made meant is_sound e
+chosen_step false made is_sound more e = more e
 
 any_chosen : (rows : List (Bytes × FtpCommand)) → AllByRecursion (λ row. IsSound row.1) rows
-    → (v : Bytes) (meant : FtpCommand) → chosen rows v ≡ Ok meant → IsSound meant
-any_chosen [] each v meant e = cc
-any_chosen (row ∷ rows) each v meant e = chosen_step (bytes_eq row.0 v) row.1 meant
-    (chosen rows v) each.0 (λ q. any_chosen rows each.1 v meant q) e
+    → (v : Bytes) {meant : FtpCommand} → chosen rows v ≡ Ok meant → IsSound meant
+any_chosen [] each v e = cc
+any_chosen (row ∷ rows) each v {meant} e = chosen_step (bytes_eq row.0 v) row.1 each.0
+    (λ q. any_chosen rows each.1 v q) e
 
 pub chosen_gives : (rows : List (Bytes × FtpCommand)) → AllByRecursion (λ row. IsSound row.1) rows
     → Gives (chosen rows)
-chosen_gives rows each v meant h e = any_chosen rows each v meant e
+chosen_gives rows each v meant h e = any_chosen rows each v e
 
 pub auth_gives : Gives auth
 auth_gives v meant h e =
     let short =
-    not_refused (nat_lt 3 (length v))
-    (cond (is_utf8 v) (chosen mechanisms (upper v)) (Err InvalidUtf8)) InvalidCommand meant e in
-    any_chosen mechanisms ((tt, tt), ((tt, tt), tt)) (upper v) meant
+    not_refused (nat_lt 3 (length v)) InvalidCommand e in
+    any_chosen mechanisms ((tt, tt), ((tt, tt), tt)) (upper v)
     (passed (is_utf8 v) (chosen mechanisms (upper v)) InvalidUtf8 meant short).1
 
 offset_sound : (text : Bytes) (meant : FtpCommand) → offset text ≡ Ok meant → IsSound meant

@@ -1,9 +1,9 @@
 -- Whether a text is UTF-8 doesn't change when its letters are upper-cased.
-use Rattle.std.proofs.Common.{◌≡◌, ◌≤◌, ◌<◌, ◌+◌, ◌/◌, ◌%◌, ℕ, Bool, true, false, cond, nat_lt, List, [], ◌∷◌, ◌++◌, map, ◌⊎◌, refl, sym, ap, subst, ◌∙◌, inl, inr, arith}
+use Rattle.std.proofs.Common.{◌≡◌, ◌≤◌, ◌<◌, ℕ, Bool, true, false, cond, nat_lt, List, [], ◌∷◌, ◌++◌, map, ◌⊎◌, refl, sym, ap, subst, ◌∙◌, inl, inr, arith}
 use Rattle.std.specs.Char.{to_ascii_uppercase}
 use Rattle.std.specs.List.{AllByRecursion}
 use Rattle.std.specs.Str.{IsUtf8, is_utf8}
-use Rattle.std.proofs.lemmas.Bool.{cases_lt, and_parts, and_from, le-ltb}
+use Rattle.std.proofs.lemmas.Bool.{cases_lt, and_parts, and_from, false≢true, le-ltb}
 use Rattle.std.proofs.lemmas.Bool.Decides.{nat_tests}
 use Rattle.std.proofs.lemmas.List.{map-append}
 use Rattle.std.proofs.lemmas.Str.{IsUtf8-from_is_utf8, is_utf8-from_IsUtf8, encode_ascii}
@@ -28,23 +28,18 @@ high_uppercased c h = grind (arith, nat_tests)
 abbrev High : Bytes → Type 0
 High bytes = AllByRecursion (λ b. 128 ≤ b) bytes
 
-by_length : (a b c d e f g h i j : ℕ) (low two three : Bool) → low ≡ false → 128 ≤ b → 128 ≤ c
-    → 128 ≤ d → 128 ≤ e → 128 ≤ f → 128 ≤ g → 128 ≤ h → 128 ≤ i → 128 ≤ j
-    → High (cond low (a ∷ [])
-    (cond two (b ∷ c ∷ []) (cond three (d ∷ e ∷ f ∷ []) (g ∷ h ∷ i ∷ j ∷ []))))
-by_length a b c d e f g h i j true two three l p2 p3 p4 p5 p6 p7 p8 p9 p10 = cc
-by_length a b c d e f g h i j false true three l p2 p3 p4 p5 p6 p7 p8 p9 p10 = (p2, (p3, tt))
-by_length a b c d e f g h i j false false true l p2 p3 p4 p5 p6 p7 p8 p9 p10 = (p4, (p5, (p6, tt)))
-by_length a b c d e f g h i j false false false l p2 p3 p4 p5 p6 p7 p8 p9 p10 =
-    (p7, (p8, (p9, (p10, tt))))
+High-cond : (test : Bool) (short long : Bytes) → (test ≡ true → High short) → High long
+    → High (cond test short long)
+High-cond true short long h k = h refl
+High-cond false short long h k = k
 
 High-encode : (c : ℕ) → 128 ≤ c → High (encode c)
 unfolding encode
-High-encode c h = by_length c (192 + c / 64) (128 + c % 64) (224 + c / 4096) (128 + c / 64 % 64)
-    (128 + c % 64) (240 + c / 262144) (128 + c / 4096 % 64) (128 + c / 64 % 64) (128 + c % 64)
-    (nat_lt c 128) (nat_lt c 2048) (nat_lt c 65536) (le-ltb c 128 h) (omega arith) (omega arith)
-    (omega arith) (omega arith) (omega arith) (omega arith) (omega arith) (omega arith)
-    (omega arith)
+High-encode c h =
+    High-cond (nat_lt c 128) _ _ (λ low. absurd (false≢true (sym (le-ltb c 128 h) ∙ low)))
+    (High-cond (nat_lt c 2048) _ _ (λ _. (omega arith, (omega arith, tt)))
+    (High-cond (nat_lt c 65536) _ _ (λ _. (omega arith, (omega arith, (omega arith, tt))))
+    (omega arith, (omega arith, (omega arith, (omega arith, tt))))))
 
 upper-High : (bytes : Bytes) → High bytes → upper bytes ≡ bytes
 upper-High [] h = refl

@@ -38,9 +38,9 @@ name_gives name is_name is_text = by_test (bytes_eq name (codes "MD5")) refl
         ))
 
 value_gives : (answer : Bytes → Answer) → Gives answer → (parameter : Bytes) → EndsAtLf parameter
-    → (command : FtpCommand) → value_answer answer (value_of parameter) ≡ Ok command
+    → {command : FtpCommand} → value_answer answer (value_of parameter) ≡ Ok command
     → IsSound command
-value_gives answer gives parameter ends command e = by_option (value_of parameter) refl e
+value_gives answer gives parameter ends {command} e = by_option (value_of parameter) refl e
   where
     by_option : (o : Option Bytes) → value_of parameter ≡ o → value_answer answer o ≡ Ok command
         → IsSound command
@@ -62,14 +62,14 @@ site_gives parameter ends command e =
     let p = passed (is_utf8 (verb_of parameter))
     (value_answer answer (value_of (parameter_of parameter))) InvalidUtf8 command e in
     value_gives answer (name_gives name (uppercased_name parameter) (uppercased_utf8 parameter p.0))
-    (parameter_of parameter) (parameter_of-ends parameter ends) command p.1
+    (parameter_of parameter) (parameter_of-ends parameter ends) p.1
 
 answer_gives : (rule : Rule) → RuleGives rule → (parameter : Bytes) → EndsAtLf parameter
-    → (command : FtpCommand) → answer_by rule parameter ≡ Ok command → IsSound command
-answer_gives (Ignores made) gives parameter ends command e = sound made command gives e
-answer_gives (Takes answer) gives parameter ends command e =
-    value_gives answer gives parameter ends command e
-answer_gives Splits gives parameter ends command e = site_gives parameter ends command e
+    → {command : FtpCommand} → answer_by rule parameter ≡ Ok command → IsSound command
+answer_gives (Ignores made) gives parameter ends {command} e = sound made command gives e
+answer_gives (Takes answer) gives parameter ends e =
+    value_gives answer gives parameter ends e
+answer_gives Splits gives parameter ends {command} e = site_gives parameter ends command e
 
 outcome_sound : (line : Bytes) (command : FtpCommand) → IsLine line → outcome line ≡ Ok command
     → IsSound command
@@ -79,7 +79,7 @@ outcome_sound line command l e =
     e in
     answer_gives rule
     (rule_gives (upper (verb_of line)) (uppercased_name line) (uppercased_utf8 line p.0))
-    (parameter_of line) (parameter_of-ends line (IsLine-ends line l)) command p.1
+    (parameter_of line) (parameter_of-ends line (IsLine-ends line l)) p.1
 
 pub HasLine-outcome : (line : Bytes) (command : FtpCommand) → IsLine line
     → outcome line ≡ Ok command → HasLine command

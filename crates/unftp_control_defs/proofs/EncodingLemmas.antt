@@ -90,9 +90,9 @@ record Following (digits : Bytes) (code : ℕ) (next : Bytes) (lines : List Byte
       (middle ++ (digits ++ SP ∷ last) ∷ [])
 
 -- a line after the digits and a byte
-lacks_after : (digits : Bytes) (b : ℕ) (text : Bytes) → Lacks LF digits → b ≢ LF → Lacks LF text
+lacks_after : (digits : Bytes) {b : ℕ} (text : Bytes) → Lacks LF digits → b ≢ LF → Lacks LF text
     → LacksCrlf (digits ++ b ∷ text)
-lacks_after digits b text p ne q =
+lacks_after digits {b} text p ne q =
     no_crlf (digits ++ b ∷ text) (Lacks-append LF digits (b ∷ text) p (ne, q))
 
 module _ (code : ℕ) (spells : SpellsCode (decimal code) code) where
@@ -103,7 +103,7 @@ module _ (code : ℕ) (spells : SpellsCode (decimal code) code) where
     last = next;
     goes_on = tt;
     lack = (
-      lacks_after (decimal code) SP next (lacks_digits (decimal code) code spells)
+      lacks_after (decimal code) next (lacks_digits (decimal code) code spells)
           (λ e. omega arith) h,
       tt,
     );
@@ -123,11 +123,11 @@ module _ (code : ℕ) (spells : SpellsCode (decimal code) code) where
       }
 
 -- A reply whose bytes are some whole lines is the front of whatever they begin.
-front_from : (digits : Bytes) (code : ℕ) (whole lines : List Bytes) (bytes more : Bytes)
+front_from : {digits : Bytes} {code : ℕ} {whole lines : List Bytes} {bytes : Bytes} (more : Bytes)
     → SpellsCode digits code → bytes ≡ flat_map with_crlf whole
     → AllByRecursion LacksCrlf whole → IsReply digits whole lines
     → FrontReply (bytes ++ more) code lines (length bytes)
-front_from digits code whole lines bytes more spells bytes_are lack reply = record {
+front_from {digits} {whole} more spells bytes_are lack reply = record {
   digits = digits;
   code_is = spells;
   whole = whole;
@@ -146,11 +146,9 @@ module _ (code : ℕ) (three : HasThreeDigits code) (more : Bytes) where
   front_single : (text : Bytes) → Lacks LF text
       → FrontReply ((decimal code ++ spaced_line text) ++ more) code (text ∷ [])
       (length (decimal code ++ spaced_line text))
-  front_single text h = front_from (decimal code) code ((decimal code ++ SP ∷ text) ∷ [])
-      (text ∷ []) (decimal code ++ spaced_line text) more spells
-      (sym (append_assoc (decimal code) (SP ∷ text) crlf)
+  front_single text h = front_from more spells (sym (append_assoc (decimal code) (SP ∷ text) crlf)
       ∙ sym (append-nil ((decimal code ++ SP ∷ text) ++ crlf))) (
-        lacks_after (decimal code) SP text (lacks_digits (decimal code) code spells)
+        lacks_after (decimal code) text (lacks_digits (decimal code) code spells)
             (λ e. omega arith) h,
         tt,
       )
@@ -158,9 +156,7 @@ module _ (code : ℕ) (three : HasThreeDigits code) (more : Bytes) where
 
   front_bare : FrontReply ((decimal code ++ crlf) ++ more) code ([] ∷ [])
       (length (decimal code ++ crlf))
-  front_bare = front_from (decimal code) code (decimal code ∷ []) ([] ∷ []) (decimal code ++ crlf)
-      more spells
-      (sym (append-nil (decimal code ++ crlf)))
+  front_bare = front_from more spells (sym (append-nil (decimal code ++ crlf)))
       (no_crlf (decimal code) (lacks_digits (decimal code) code spells), tt)
       (code_only refl refl)
 
@@ -171,16 +167,13 @@ module _ (code : ℕ) (three : HasThreeDigits code) (more : Bytes) where
       (length (encoded (MultiLine code (line ∷ next ∷ lines))))
   front_several line next lines h =
       let b = following code spells next lines h.1.0 h.1.1 in
-      front_from (decimal code) code
-      ((decimal code ++ DASH ∷ padded line) ∷ (b.middle ++ (decimal code ++ SP ∷ b.last) ∷ []))
-      (lines_as_read (line ∷ next ∷ lines))
-      (encoded (MultiLine code (line ∷ next ∷ lines))) more spells
+      front_from more spells
       (ap (λ t. decimal code ++ DASH ∷ ((padded line ++ crlf) ++ t)) b.bytes_are
       ∙ sym (append_assoc (decimal code) (DASH ∷ (padded line ++ crlf))
       (flat_map with_crlf (b.middle ++ (decimal code ++ SP ∷ b.last) ∷ [])))
       ∙ ap (λ t. t ++ flat_map with_crlf (b.middle ++ (decimal code ++ SP ∷ b.last) ∷ []))
       (sym (append_assoc (decimal code) (DASH ∷ padded line) crlf))) (
-        lacks_after (decimal code) DASH (padded line) (lacks_digits (decimal code) code spells)
+        lacks_after (decimal code) (padded line) (lacks_digits (decimal code) code spells)
             (λ e. omega arith) (lacks_padded line h.0),
         b.lack,
       )
@@ -204,26 +197,26 @@ module _ (code : ℕ) (three : HasThreeDigits code) (more : Bytes) where
 -- The bytes of a plain reply that writes any are one front, and what it shows is read, whatever
 -- follows.
 pub FrontReply-encoded : (reply : FtpReply) (more : Bytes) → IsPlain reply
-    → (code : ℕ) (lines : List Bytes) → reply_as_read reply ≡ Some (code, lines)
+    → {code : ℕ} {lines : List Bytes} → reply_as_read reply ≡ Some (code, lines)
     → FrontReply (encoded reply ++ more) code lines (length (encoded reply))
-FrontReply-encoded Nothing more h code lines e = absurd (none-some (code, lines) e)
-FrontReply-encoded (CodeAndMsg n text) more h code lines e =
+FrontReply-encoded Nothing more h {code} {lines} e = absurd (none-some (code, lines) e)
+FrontReply-encoded (CodeAndMsg n text) more h {code} {lines} e =
     let p = same_Some (n, text ∷ []) (code, lines) e in
     subst (λ (q : ℕ × List Bytes). FrontReply (encoded (CodeAndMsg n text) ++ more) q.0 q.1
     (length (encoded (CodeAndMsg n text)))) p (front_message n h.0 more text h.1)
-FrontReply-encoded (MultiLine n ls) more h code lines e =
+FrontReply-encoded (MultiLine n ls) more h {code} {lines} e =
     let p = same_Some (n, lines_as_read ls) (code, lines) e in
     subst (λ (q : ℕ × List Bytes). FrontReply (encoded (MultiLine n ls) ++ more) q.0 q.1
     (length (encoded (MultiLine n ls)))) p (front_lines n h.0 more ls h.1)
 
 -- So the bytes of plain replies in a row are read as what they show, and as nothing else
 -- (`AllReplies-unique`).
-next_reply : (reply : FtpReply) (more : Bytes) (rest : List (ℕ × List Bytes)) (code : ℕ)
-    (lines : List Bytes) → IsPlain reply → reply_as_read reply ≡ Some (code, lines)
+next_reply : (reply : FtpReply) (more : Bytes) (rest : List (ℕ × List Bytes)) {code : ℕ}
+    {lines : List Bytes} → IsPlain reply → reply_as_read reply ≡ Some (code, lines)
     → AllReplies more rest → AllReplies (encoded reply ++ more) ((code, lines) ∷ rest)
-next_reply reply more rest code lines h e all = (
+next_reply reply more rest h e all = (
   length (encoded reply),
-  FrontReply-encoded reply more h code lines e,
+  FrontReply-encoded reply more h e,
   subst (λ (t : Bytes). AllReplies t rest)
       (sym (drop_at (encoded reply) more (length (encoded reply)) refl)) all,
 )
@@ -234,10 +227,10 @@ AllReplies-encoded [] h = refl
 AllReplies-encoded (Nothing ∷ replies) h = AllReplies-encoded replies h.1
 AllReplies-encoded (CodeAndMsg code text ∷ replies) h =
     next_reply (CodeAndMsg code text) (flat_map encoded replies) (filter_map reply_as_read replies)
-    code (text ∷ []) h.0 refl (AllReplies-encoded replies h.1)
+    h.0 refl (AllReplies-encoded replies h.1)
 AllReplies-encoded (MultiLine code lines ∷ replies) h =
     next_reply (MultiLine code lines) (flat_map encoded replies) (filter_map reply_as_read replies)
-    code (lines_as_read lines) h.0 refl (AllReplies-encoded replies h.1)
+    h.0 refl (AllReplies-encoded replies h.1)
 
 -- So the bytes of plain replies are read as what they show, and as nothing else.
 pub ReadsBack-encoded : (replies : List FtpReply) → AllByRecursion IsPlain replies

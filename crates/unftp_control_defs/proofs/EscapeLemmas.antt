@@ -16,33 +16,33 @@ abbrev ReadsBack : Bytes → Type 0
 ReadsBack text = (later_value Fresh (escaped text ++ crlf) ≡ Some text)
     × (later_value Plain (escaped text ++ crlf) ≡ Some text)
 
-next_back : (b : ℕ) (text : Bytes) → b ≢ LF → ReadsBack text → (b ≡ CR) ⊎ (b ≡ CR → ⊥)
+next_back : {b : ℕ} {text : Bytes} → b ≢ LF → ReadsBack text → (b ≡ CR) ⊎ (b ≡ CR → ⊥)
     → ReadsBack (b ∷ text)
-next_back b text no_lf more (inl e) =
+next_back {b} {text} no_lf more (inl e) =
     rw (eq-eqb b CR e, e) (
       return_step true (escaped text ++ crlf) text more.0,
       return_step false (escaped text ++ crlf) text more.0,
     )
-next_back b text no_lf more (inr ne) =
+next_back {b} {text} no_lf more (inr ne) =
     rw (ne_eqb b CR ne) (
-      byte_step true b (escaped text ++ crlf) text ne (λ _. refl) more.1,
-      byte_step false b (escaped text ++ crlf) text ne (λ e. absurd (no_lf e)) more.1,
+      byte_step true (escaped text ++ crlf) ne (λ _. refl) more.1,
+      byte_step false (escaped text ++ crlf) ne (λ e. absurd (no_lf e)) more.1,
     )
 
 escaped_later : (text : Bytes) → Lacks LF text → ReadsBack text
 escaped_later [] h = (refl, refl)
-escaped_later (b ∷ text) h = next_back b text h.0 (escaped_later text h.1) (cases_eq b CR)
+escaped_later (b ∷ text) h = next_back h.0 (escaped_later text h.1) (cases_eq b CR)
 
-first_back : (b : ℕ) (text : Bytes) → b ≢ LF → ReadsBack text → (b ≡ CR) ⊎ (b ≡ CR → ⊥)
+first_back : {b : ℕ} {text : Bytes} → b ≢ LF → ReadsBack text → (b ≡ CR) ⊎ (b ≡ CR → ⊥)
     → value_of (escaped (b ∷ text) ++ crlf) ≡ Some (b ∷ text)
-first_back b text no_lf more (inl e) = rw (eq-eqb b CR e, e, more.0)
-first_back b text no_lf more (inr ne) =
-    rw (ne_eqb b CR ne) (first_step b (escaped text ++ crlf) text (no_lf, λ rest e. ne cc) more.0)
+first_back {b} no_lf more (inl e) = rw (eq-eqb b CR e, e, more.0)
+first_back {b} {text} no_lf more (inr ne) =
+    rw (ne_eqb b CR ne) (first_step (escaped text ++ crlf) (no_lf, λ rest e. ne cc) more.0)
 
 -- the value of an escaped text
 pub value_of-escaped : (text : Bytes) → Lacks LF text → value_of (escaped text ++ crlf) ≡ Some text
 value_of-escaped [] h = refl
-value_of-escaped (b ∷ text) h = first_back b text h.0 (escaped_later text h.1) (cases_eq b CR)
+value_of-escaped (b ∷ text) h = first_back h.0 (escaped_later text h.1) (cases_eq b CR)
 
 -- a text without a CR needs no escape
 escaped-without_cr : (text : Bytes) → Lacks CR text → escaped text ≡ text

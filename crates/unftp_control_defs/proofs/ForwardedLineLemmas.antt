@@ -62,44 +62,45 @@ before_end-crlf (b ∷ text) rest h =
     ∙ ap (λ t. b ∷ t) (before_end-crlf text rest h.1)
 
 -- The units of a value and an end.
-units_before_end : (fresh : Bool) (units : List ValueUnit) (end ignored : Bytes)
+units_before_end : (fresh : Bool) (units : List ValueUnit) {end : Bytes} (ignored : Bytes)
     → LaterUnits fresh units → Lacks LF (map unit_value units) → (end ≡ crlf) ⊎ (end ≡ LF ∷ [])
     → before_end (flat_map unit_bytes units ++ (end ++ ignored)) ≡ flat_map unit_bytes units
-units_before_end fresh [] end ignored are h (inl e) = rw e
-units_before_end fresh [] end ignored are h (inr e) = rw e
-units_before_end fresh (Return ∷ units) end ignored are h e =
-    ap (λ t. CR ∷ NUL ∷ t) (units_before_end true units end ignored are h.1 e)
-units_before_end fresh (Byte b ∷ units) end ignored are h e =
+units_before_end fresh [] ignored are h (inl e) = rw e
+units_before_end fresh [] ignored are h (inr e) = rw e
+units_before_end fresh (Return ∷ units) {end} ignored are h e =
+    ap (λ t. CR ∷ NUL ∷ t) (units_before_end true units ignored are h.1 e)
+units_before_end fresh (Byte b ∷ units) {end} ignored are h e =
     rw (ne_eqb b LF h.0, ne_eqb b CR are.0)
-    (ap (λ t. b ∷ t) (units_before_end false units end ignored are.2 h.1 e))
+    (ap (λ t. b ∷ t) (units_before_end false units ignored are.2 h.1 e))
 
 either_end : (later : List ValueUnit) (end : Bytes) → End later end → (end ≡ crlf) ⊎ (end ≡ LF ∷ [])
 either_end later end (inl e) = inl e
 either_end later end (inr p) = inr p.3
 
 -- no LF follows the first unit
-after_first : (later : List ValueUnit) (end ignored : Bytes) → Lacks LF (map unit_value later)
+after_first : (later : List ValueUnit) {end : Bytes} (ignored : Bytes)
+    → Lacks LF (map unit_value later)
     → End later end → begins_with_lf (flat_map unit_bytes later ++ (end ++ ignored)) ≡ false
-after_first [] end ignored h (inl e) = rw e
-after_first [] end ignored h (inr p) = absurd (no_units p.0 p.1 p.2)
+after_first [] ignored h (inl e) = rw e
+after_first [] ignored h (inr p) = absurd (no_units p.0 p.1 p.2)
   where
     no_units : (before : List ValueUnit) (b : ℕ) → [] ≡ before ++ Byte b ∷ [] → ⊥
     no_units [] b e = cc
     no_units (unit ∷ before) b e = cc
-after_first (Return ∷ later) end ignored h e = refl
-after_first (Byte b ∷ later) end ignored h e = rw (ne_eqb b LF h.0)
+after_first (Return ∷ later) ignored h e = refl
+after_first (Byte b ∷ later) ignored h e = rw (ne_eqb b LF h.0)
 
-first_before_end : (first : ValueUnit) (later : List ValueUnit) (end ignored : Bytes)
+first_before_end : (first : ValueUnit) (later : List ValueUnit) {end : Bytes} (ignored : Bytes)
     → LaterUnits true later → Lacks LF (unit_value first ∷ map unit_value later) → End later end
     → before_end (unit_bytes first ++ (flat_map unit_bytes later ++ (end ++ ignored)))
     ≡ unit_bytes first ++ flat_map unit_bytes later
-first_before_end Return later end ignored are h e =
+first_before_end Return later {end} ignored are h e =
     ap (λ t. CR ∷ NUL ∷ t)
-    (units_before_end true later end ignored are h.1 (either_end later end e))
-first_before_end (Byte b) later end ignored are h e =
+    (units_before_end true later ignored are h.1 (either_end later end e))
+first_before_end (Byte b) later {end} ignored are h e =
     let after : Bytes = flat_map unit_bytes later ++ (end ++ ignored) in
-    before_end-byte b after (no_end b after h.0 (after_first later end ignored h.1 e))
-    ∙ ap (λ t. b ∷ t) (units_before_end true later end ignored are h.1 (either_end later end e))
+    before_end-byte b after (no_end b after h.0 (after_first later ignored h.1 e))
+    ∙ ap (λ t. b ∷ t) (units_before_end true later ignored are h.1 (either_end later end e))
 
 -- with CR LF for its end the first unit is the same
 same_first : (first : ValueUnit) (later : List ValueUnit) (more : Bytes)
@@ -121,7 +122,7 @@ divided_kept : (parameter v : Bytes) → Lacks LF v → Division parameter v
 divided_kept parameter v h d =
     let front : Bytes = unit_bytes d.first ++ flat_map unit_bytes d.later in
     let units : before_end parameter ≡ front = ap before_end d.whole
-    ∙ first_before_end d.first d.later d.end d.ignored d.are_later (subst (Lacks LF) d.joined h)
+    ∙ first_before_end d.first d.later d.ignored d.are_later (subst (Lacks LF) d.joined h)
     d.is_end in
     let whole : before_end parameter ++ crlf ≡ unit_bytes d.first
     ++ (flat_map unit_bytes d.later ++ (crlf ++ [])) = ap (λ t. t ++ crlf) units
@@ -152,7 +153,7 @@ value_kept parameter v ends h = by_reads (Reads-value_of parameter v h)
     by_reads (one_byte b no_cr no_lf p e) =
         let alone : before_end (b ∷ LF ∷ []) ≡ b ∷ [] = rw (ne_eqb b LF no_lf, ne_eqb b CR no_cr) in
         rw (p, e) (ap (λ t. value_of (t ++ crlf)) alone
-        ∙ first_step b crlf [] (no_lf, λ rest q. no_cr cc) refl)
+        ∙ first_step crlf (no_lf, λ rest q. no_cr cc) refl)
     by_reads (divided d) = divided_kept parameter v (value_of-lacks parameter v ends h) d
 
 -- the parameter bytes of the line that is made
@@ -169,12 +170,12 @@ before_end-made_parameter [] h = refl
 before_end-made_parameter (b ∷ text) h = before_end-crlf (b ∷ text) [] h
 
 -- the rule makes the same of them
-answer_kept : (rule : Rule) (parameter : Bytes) (command : FtpCommand) → rule ≢ Splits
+answer_kept : (rule : Rule) (parameter : Bytes) {command : FtpCommand} → rule ≢ Splits
     → EndsAtLf parameter → answer_by rule parameter ≡ Ok command
     → answer_by rule (made_parameter (before_end parameter)) ≡ Ok command
-answer_kept (Ignores made) parameter command other ends e = e
-answer_kept Splits parameter command other ends e = absurd (other refl)
-answer_kept (Takes answer) parameter command other ends e = by_option (value_of parameter) refl e
+answer_kept (Ignores made) parameter other ends e = e
+answer_kept Splits parameter other ends e = absurd (other refl)
+answer_kept (Takes answer) parameter {command} other ends e = by_option (value_of parameter) refl e
   where
     by_option : (o : Option Bytes) → value_of parameter ≡ o → value_answer answer o ≡ Ok command
         → value_answer answer (value_of (made_parameter (before_end parameter))) ≡ Ok command
@@ -251,7 +252,7 @@ module _ (line : Bytes) (command : FtpCommand) (is_line : IsLine line)
       )
 
   kept_back : keeps_parameter name ≡ true → outcome (kept_line line) ≡ Ok command
-  kept_back keeps = kept_answer ∙ answer_kept rule (parameter_of line) command (not_site name keeps)
+  kept_back keeps = kept_answer ∙ answer_kept rule (parameter_of line) (not_site name keeps)
       (parameter_of-ends line (IsLine-ends line is_line)) read.1
 
   kept_lacks : (t : Bytes) → Lacks LF t → Lacks LF (with_parameter name t)

@@ -14,12 +14,12 @@ longer_line : (b : ℕ) (line : Bytes) → b ≢ LF → IsLine line → IsLine (
 longer_line b line ne l =
     record { body = b ∷ l.body; whole = ap (λ t. b ∷ t) l.whole; one_end = (ne, l.one_end) }
 
-with_byte : (b : ℕ) (bytes : Bytes) (lines : List Bytes) (incomplete : Bytes) → b ≢ LF
+with_byte : {b : ℕ} {bytes : Bytes} (lines : List Bytes) {incomplete : Bytes} → b ≢ LF
     → Lines bytes lines incomplete
     → Lines (b ∷ bytes) (onto_line b lines) (onto_incomplete_line b lines incomplete)
-with_byte b bytes [] incomplete ne l =
+with_byte {b} [] ne l =
     record { whole = ap (λ t. b ∷ t) l.whole; each = tt; unended = (ne, l.unended) }
-with_byte b bytes (line ∷ lines) incomplete ne l =
+with_byte {b} (line ∷ lines) ne l =
     record {
       whole = ap (λ t. b ∷ t) l.whole;
       each = (longer_line b line ne l.each.0, l.each.1);
@@ -31,21 +31,20 @@ with_lf : (bytes : Bytes) (lines : List Bytes) (incomplete : Bytes) → Lines by
 with_lf bytes lines incomplete l =
     record { whole = ap (λ t. LF ∷ t) l.whole; each = (lf_alone, l.each); unended = l.unended }
 
-next_byte : (b : ℕ) (bytes : Bytes) (lines : List Bytes) (incomplete : Bytes)
+next_byte : {b : ℕ} {bytes : Bytes} {lines : List Bytes} {incomplete : Bytes}
     → Lines bytes lines incomplete
     → (b ≡ LF) ⊎ (b ≢ LF)
     → Lines (b ∷ bytes) (cond (b == LF) ((LF ∷ []) ∷ lines) (onto_line b lines))
     (cond (b == LF) incomplete (onto_incomplete_line b lines incomplete))
-next_byte b bytes lines incomplete l (inl e) =
+next_byte {b} {bytes} {lines} {incomplete} l (inl e) =
     rw (eq-eqb b LF e, e) (with_lf bytes lines incomplete l)
-next_byte b bytes lines incomplete l (inr ne) =
-    rw (ne_eqb b LF ne) (with_byte b bytes lines incomplete ne l)
+next_byte {b} {lines} l (inr ne) =
+    rw (ne_eqb b LF ne) (with_byte lines ne l)
 
 -- what is computed is the pair
 pub Lines-lines_of : (bytes : Bytes) → Lines bytes (lines_of bytes) (incomplete_line bytes)
 Lines-lines_of [] = record { whole = refl; each = tt; unended = tt }
-Lines-lines_of (b ∷ bytes) = next_byte b bytes (lines_of bytes) (incomplete_line bytes)
-    (Lines-lines_of bytes) (cases_eq b LF)
+Lines-lines_of (b ∷ bytes) = next_byte (Lines-lines_of bytes) (cases_eq b LF)
 
 pub lines_of-incomplete : (incomplete : Bytes) → Lacks LF incomplete → lines_of incomplete ≡ []
 lines_of-incomplete [] h = refl
@@ -107,44 +106,43 @@ Lines-unique bytes lines incomplete l =
 
 -- Inputs that are put together.
 lines-with_byte : (b : ℕ) (is_lf : Bool) (lines : List Bytes) (incomplete : Bytes)
-    (all : List Bytes) (more : Bytes → List Bytes) →
+    {all : List Bytes} (more : Bytes → List Bytes) →
     ((r : Bytes) → more (b ∷ r) ≡ cond is_lf ((LF ∷ []) ∷ more r) (onto_line b (more r)))
     → all ≡ lines ++ more incomplete →
     cond is_lf ((LF ∷ []) ∷ all) (onto_line b all) ≡ cond is_lf ((LF ∷ []) ∷ lines)
     (onto_line b lines)
     ++ more (cond is_lf incomplete (onto_incomplete_line b lines incomplete))
-lines-with_byte b true lines incomplete all more step e = ap (λ ls. (LF ∷ []) ∷ ls) e
-lines-with_byte b false [] incomplete all more step e = ap (onto_line b) e ∙ sym (step incomplete)
-lines-with_byte b false (line ∷ lines) incomplete all more step e = ap (onto_line b) e
+lines-with_byte b true lines incomplete more step e = ap (λ ls. (LF ∷ []) ∷ ls) e
+lines-with_byte b false [] incomplete more step e = ap (onto_line b) e ∙ sym (step incomplete)
+lines-with_byte b false (line ∷ lines) incomplete more step e = ap (onto_line b) e
 
 pub lines_of-append : (bytes more : Bytes) → lines_of (bytes ++ more) ≡ lines_of bytes ++ lines_of
     (incomplete_line bytes ++ more)
 lines_of-append [] more = refl
 lines_of-append (b ∷ bytes) more =
-    lines-with_byte b (b == LF) (lines_of bytes) (incomplete_line bytes) (lines_of (bytes ++ more))
+    lines-with_byte b (b == LF) (lines_of bytes) (incomplete_line bytes)
     (λ r. lines_of (r ++ more)) (λ r. refl) (lines_of-append bytes more)
 
-incomplete-with_byte : (b : ℕ) (is_lf : Bool) (lines : List Bytes) (incomplete : Bytes)
-    (all : List Bytes) (left : Bytes) (lines_with : Bytes → List Bytes) (incomplete_with : Bytes
+incomplete-with_byte : (b : ℕ) (is_lf : Bool) (lines : List Bytes) {incomplete : Bytes}
+    {all : List Bytes} {left : Bytes} (lines_with : Bytes → List Bytes) (incomplete_with : Bytes
     → Bytes) →
     ((r : Bytes) → incomplete_with (b ∷ r) ≡ cond is_lf (incomplete_with r)
     (onto_incomplete_line b (lines_with r) (incomplete_with r))) →
     all ≡ lines ++ lines_with incomplete → left ≡ incomplete_with incomplete →
     cond is_lf left (onto_incomplete_line b all left) ≡ incomplete_with
     (cond is_lf incomplete (onto_incomplete_line b lines incomplete))
-incomplete-with_byte b true lines incomplete all left lines_with incomplete_with step e h = h
-incomplete-with_byte b false [] incomplete all left lines_with incomplete_with step e h =
+incomplete-with_byte b true lines lines_with incomplete_with step e h = h
+incomplete-with_byte b false [] {incomplete} {left} lines_with incomplete_with step e h =
     ap (λ ls. onto_incomplete_line b ls left) e
     ∙ ap (onto_incomplete_line b (lines_with incomplete)) h ∙ sym (step incomplete)
-incomplete-with_byte b false (line ∷ lines) incomplete all left lines_with incomplete_with step e
+incomplete-with_byte b false (line ∷ lines) {left} lines_with incomplete_with step e
     h = ap (λ ls. onto_incomplete_line b ls left) e ∙ h
 
 pub incomplete_line-append : (bytes more : Bytes)
     → incomplete_line (bytes ++ more) ≡ incomplete_line (incomplete_line bytes ++ more)
 incomplete_line-append [] more = refl
 incomplete_line-append (b ∷ bytes) more =
-    incomplete-with_byte b (b == LF) (lines_of bytes) (incomplete_line bytes)
-    (lines_of (bytes ++ more)) (incomplete_line (bytes ++ more))
+    incomplete-with_byte b (b == LF) (lines_of bytes)
     (λ r. lines_of (r ++ more)) (λ r. incomplete_line (r ++ more)) (λ r. refl)
     (lines_of-append bytes more) (incomplete_line-append bytes more)
 

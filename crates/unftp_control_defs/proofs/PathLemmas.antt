@@ -55,11 +55,12 @@ no_alone [] more h = let e : SP ≡ DASH = cc in omega arith
 no_alone (b ∷ []) more h = let e : SP ∷ more ≡ [] = cc in cc
 no_alone (b ∷ c ∷ letters) more h = let e : c ∷ (letters ++ SP ∷ more) ≡ [] = cc in cc
 
-no_front : (letters more rest : Bytes) → Lacks SP letters → DASH ∷ letters ≢ DASH ∷ DASH ∷ []
+no_front : (letters more : Bytes) {rest : Bytes} → Lacks SP letters
+    → DASH ∷ letters ≢ DASH ∷ DASH ∷ []
     → letters ++ SP ∷ more ≡ DASH ∷ SP ∷ rest → ⊥
-no_front [] more rest lacks ne h = let e : SP ≡ DASH = cc in omega arith
-no_front (b ∷ []) more rest lacks ne h = let e : b ≡ DASH = cc in ne (ap (λ x. DASH ∷ x ∷ []) e)
-no_front (b ∷ c ∷ letters) more rest lacks ne h = let e : c ≡ SP = cc in lacks.1.0 e
+no_front [] more lacks ne h = let e : SP ≡ DASH = cc in omega arith
+no_front (b ∷ []) more lacks ne h = let e : b ≡ DASH = cc in ne (ap (λ x. DASH ∷ x ∷ []) e)
+no_front (b ∷ c ∷ letters) more lacks ne h = let e : c ≡ SP = cc in lacks.1.0 e
 
 option_step : (word more : Bytes) → IsOptionWord word → path_from false (with_space word ++ more)
     ≡ path_from false more
@@ -70,7 +71,7 @@ option_step word more w =
     let not_end : DASH ∷ w.letters ≢ DASH ∷ DASH ∷ [] = λ e. w.not_end (w.dash ∙ e) in
     ap (path_from false) whole
     ∙ word_step (w.letters ++ SP ∷ more) (no_alone w.letters more)
-    (λ rest. no_front w.letters more rest lacks not_end)
+    (λ rest. no_front w.letters more lacks not_end)
     ∙ skip_word w.letters more lacks
 
 last_option : (word : Bytes) → IsOptionWord word → path_from false word ≡ []
@@ -93,19 +94,19 @@ tail_path tail path (inr (inl e)) = ap (path_from false) e
 tail_path tail path (inr (inr p)) = ⊎_elim (λ w. last_option tail w ∙ sym p.0)
     (λ e. ap (path_from false) e ∙ sym p.0) p.1
 
-from_options : (options : List Bytes) (tail path : Bytes) → AllByRecursion IsOptionWord options
+from_options : (options : List Bytes) {tail path : Bytes} → AllByRecursion IsOptionWord options
     → EndsInPath tail path
     → path_from false (flat_map with_space options ++ tail) ≡ path
-from_options [] tail path each end = tail_path tail path end
-from_options (word ∷ options) tail path each end =
+from_options [] {tail} {path} each end = tail_path tail path end
+from_options (word ∷ options) {tail} {path} each end =
     ap (path_from false) (append_assoc (with_space word) (flat_map with_space options) tail)
     ∙ option_step word (flat_map with_space options ++ tail) each.0
-    ∙ from_options options tail path each.1 end
+    ∙ from_options options each.1 end
 
 -- the path that a text has is the computed one
 pub path_of-ListPath : (text path : Bytes) → ListPath text path → path_of text ≡ path
 path_of-ListPath text path l = ap (path_from false) l.whole
-    ∙ from_options l.options l.tail path l.each l.end
+    ∙ from_options l.options l.each l.end
 
 -- The other way. Within a word: its letters, and then the end, or a space and a text with that
 -- path.
@@ -122,8 +123,8 @@ Follows false text path = ListPath text path
 space_skipped : (text path : Bytes) → ListPath text path → Skipped (SP ∷ text) path
 space_skipped text path l = record { letters = []; lacks = tt; goes_on = inr (text, refl, l) }
 
-letter_skipped : (b : ℕ) (text path : Bytes) → b ≢ SP → Skipped text path → Skipped (b ∷ text) path
-letter_skipped b text path ne s = record {
+letter_skipped : {b : ℕ} {text path : Bytes} → b ≢ SP → Skipped text path → Skipped (b ∷ text) path
+letter_skipped {b} ne s = record {
   letters = b ∷ s.letters;
   lacks = (ne, s.lacks);
   goes_on = ⊎_elim (λ p. inl (ap (λ t. b ∷ t) p.0, p.1)) (λ p. inr (p.0, ap (λ t. b ∷ t) p.1, p.2))
@@ -133,10 +134,10 @@ letter_skipped b text path ne s = record {
 whole_tail : (text path : Bytes) → EndsInPath text path → ListPath text path
 whole_tail text path e = record { options = []; tail = text; each = tt; whole = refl; end = e }
 
-word_found : (text path : Bytes) → (text ≡ DASH ∷ [] → ⊥)
+word_found : {text path : Bytes} → (text ≡ DASH ∷ [] → ⊥)
     → ((more : Bytes) → text ≡ DASH ∷ SP ∷ more → ⊥) → Skipped text path
     → ListPath (DASH ∷ text) path
-word_found text path alone front s = by_rest s.goes_on
+word_found {text} {path} alone front s = by_rest s.goes_on
   where
     word : (DASH ∷ s.letters ≢ DASH ∷ DASH ∷ []) → IsOptionWord (DASH ∷ s.letters)
     word ne = record {
@@ -181,7 +182,7 @@ module _ (b : ℕ) (text : Bytes) (further : (in_word : Bool)
           (subst (λ x. Skipped (x ∷ text) (path_from false text)) (sym (eqb-true b SP e))
           (space_skipped text (path_from false text) (further false)))
       by_space (inr e) = subst (Skipped (b ∷ text)) (ap (λ t. path_from (not t) text) (sym e))
-          (letter_skipped b text (path_from true text) (eqb-false b SP e) (further true))
+          (letter_skipped (eqb-false b SP e) (further true))
 
   dash_found : ListPath (DASH ∷ text) (path_from false (DASH ∷ text))
   dash_found = by_alone (cases_Bool (bytes_eq text (DASH ∷ [])))
@@ -194,7 +195,7 @@ module _ (b : ℕ) (text : Bytes) (further : (in_word : Bool)
           rw (a, f)
           (whole_tail (DASH ∷ text) (drop 2 text)
           (inr (inl (ap (λ t. DASH ∷ t) (dash_space text f)))))
-      by_front a (inr f) = rw (a, f) (word_found text (path_from true text)
+      by_front a (inr f) = rw (a, f) (word_found
           (λ e. false≢true (sym a ∙ (bytes_decides text (DASH ∷ [])).1 e))
           (λ more e. false≢true (sym f ∙ ap (λ t. starts_with nat_eq t (DASH ∷ SP ∷ [])) e))
           (further true))

@@ -28,9 +28,9 @@ IsMalformed-append bytes more m = record {
   opens_none = m.opens_none;
 }
 
-pub TakesReply-append : (before more : Bytes) (reply : ℕ × List Bytes) (after : Bytes)
+pub TakesReply-append : {before : Bytes} (more : Bytes) {reply : ℕ × List Bytes} {after : Bytes}
     → TakesReply before reply after → TakesReply (before ++ more) reply (after ++ more)
-TakesReply-append before more reply after t = record {
+TakesReply-append {before} more {reply} t = record {
   used = t.used;
   front = FrontReply-append before more reply.0 reply.1 t.used t.front;
   after_is = ap (λ b. b ++ more) t.after_is

@@ -22,18 +22,19 @@ pub lacks_one : (b : ℕ) → LacksCrlf (b ∷ [])
 lacks_one b [] after e = cc
 lacks_one b (x ∷ before) after e = lacks_nil before after (cc)
 
-pub lacks_more : (a b : ℕ) (t : Bytes) → (a ≡ CR → b ≢ LF) → LacksCrlf (b ∷ t)
+pub lacks_more : {a b : ℕ} {t : Bytes} → (a ≡ CR → b ≢ LF) → LacksCrlf (b ∷ t)
     → LacksCrlf (a ∷ b ∷ t)
-lacks_more a b t apart h [] after e = let is_cr : a ≡ CR = cc in let is_lf : b ≡ LF = cc in
+lacks_more {a} {b} apart h [] after e = let is_cr : a ≡ CR = cc in let is_lf : b ≡ LF = cc in
     apart is_cr is_lf
-lacks_more a b t apart h (x ∷ before) after e = h before after (cc)
+lacks_more apart h (x ∷ before) after e = h before after (cc)
 
-line_more : (a b : ℕ) (t line rest : Bytes) → (a ≡ CR → b ≢ LF) → b ∷ t ≡ line ++ CR ∷ LF ∷ rest
+line_more : {a b : ℕ} {t : Bytes} (line rest : Bytes) → (a ≡ CR → b ≢ LF)
+    → b ∷ t ≡ line ++ CR ∷ LF ∷ rest
     → LacksCrlf line → LacksCrlf (a ∷ line)
-line_more a b t [] rest apart e h = lacks_one a
-line_more a b t (c ∷ line) rest apart e h =
+line_more {a} [] rest apart e h = lacks_one a
+line_more {b} (c ∷ line) rest apart e h =
     let same : b ≡ c = cc in
-    lacks_more a c line (λ is_cr is_lf. apart is_cr (same ∙ is_lf)) h
+    lacks_more (λ is_cr is_lf. apart is_cr (same ∙ is_lf)) h
 
 first_line_step : (a : ℕ) (t : Bytes) → LacksCrlf t ⊎ FirstLine t → LacksCrlf (a ∷ t)
     ⊎ FirstLine (a ∷ t)
@@ -49,13 +50,13 @@ first_line_step a (b ∷ t) r = ⊎_elim
   where
     further : (a ≡ CR → b ≢ LF) → LacksCrlf (b ∷ t) ⊎ FirstLine (b ∷ t) → LacksCrlf (a ∷ b ∷ t)
         ⊎ FirstLine (a ∷ b ∷ t)
-    further apart (inl h) = inl (lacks_more a b t apart h)
+    further apart (inl h) = inl (lacks_more apart h)
     further apart (inr f) =
         inr (record {
           line = a ∷ f.line;
           rest = f.rest;
           cut = ap (λ s. a ∷ s) f.cut;
-          is_line = line_more a b t f.line f.rest apart f.cut f.is_line;
+          is_line = line_more f.line f.rest apart f.cut f.is_line;
         })
 
 pub first_line : (bytes : Bytes) → LacksCrlf bytes ⊎ FirstLine bytes
@@ -77,9 +78,9 @@ ends_or_not (d ∷ digits) (b ∷ line) = ⊎_elim
     (λ (no : b ≢ d). inr (λ text f. no (cc)))
     (cases_eq b d)
 
-ended_more : (digits line rest : Bytes) → LacksCrlf line → GoesOn digits line → IsEnded digits rest
+ended_more : {digits line rest : Bytes} → LacksCrlf line → GoesOn digits line → IsEnded digits rest
     → IsEnded digits (line ++ CR ∷ LF ∷ rest)
-ended_more digits line rest is_line goes f = record {
+ended_more {digits} {line} {rest} is_line goes f = record {
   middle = line ∷ f.middle;
   last = f.last;
   rest = f.rest;
@@ -89,9 +90,9 @@ ended_more digits line rest is_line goes f = record {
   goes_on = (goes, f.goes_on);
 }
 
-unended_more : (digits line rest : Bytes) → LacksCrlf line → GoesOn digits line
+unended_more : {digits line rest : Bytes} → LacksCrlf line → GoesOn digits line
     → IsUnended digits rest → IsUnended digits (line ++ CR ∷ LF ∷ rest)
-unended_more digits line rest is_line goes f = record {
+unended_more {line} {rest} is_line goes f = record {
   middle = line ∷ f.middle;
   rest = f.rest;
   cut = ap (λ s. line ++ CR ∷ LF ∷ s) f.cut ∙ sym (line_apart line f.middle f.rest);
@@ -136,9 +137,9 @@ ended_or_not digits (suc n) bytes short = ⊎_elim
     (ended_here digits h.0 f.rest is_line)))
     (λ (goes : GoesOn digits f.line). ⊎_elim
     (λ (h : IsEnded digits f.rest). inl
-    (subst (IsEnded digits) (sym f.cut) (ended_more digits f.line f.rest f.is_line goes h)))
+    (subst (IsEnded digits) (sym f.cut) (ended_more f.is_line goes h)))
     (λ (h : IsUnended digits f.rest). inr
-    (subst (IsUnended digits) (sym f.cut) (unended_more digits f.line f.rest f.is_line goes h)))
+    (subst (IsUnended digits) (sym f.cut) (unended_more f.is_line goes h)))
     (ended_or_not digits n f.rest shorter))
     (ends_or_not digits f.line))
     (first_line bytes)
@@ -200,20 +201,20 @@ opens_code line opened = by_first (opens_as line opened)
     by_first (digits, code, spells, inr (text, inr e)) = (digits, code, DASH ∷ text, spells, e)
 
 -- a space or a dash follows the code, or nothing
-pub opens_not : (digits line : Bytes) (code b : ℕ) (text : Bytes) → SpellsCode digits code
+pub opens_not : {digits line : Bytes} {code b : ℕ} (text : Bytes) → SpellsCode digits code
     → line ≡ digits ++ b ∷ text → b ≢ SP → b ≢ DASH → ¬ Opens line
-opens_not digits line code b text spells is no_space no_dash opens =
+opens_not {digits} {line} {code} {b} text spells is no_space no_dash opens =
     let opened = opens_as line opens in
     let long : length opened.0 ≡ length digits = code_length opened.0 opened.1 opened.2
     ∙ sym (code_length digits code spells) in
     ⊎_elim
-    (λ (e : line ≡ opened.0). no_longer opened.0 digits b text long (sym e ∙ is))
+    (λ (e : line ≡ opened.0). no_longer digits b text long (sym e ∙ is))
     (λ (h : (t : Bytes) × ((line ≡ opened.0 ++ SP ∷ t) ⊎ (line ≡ opened.0 ++ DASH ∷ t))). ⊎_elim
     (λ (e : line ≡ opened.0 ++ SP ∷ h.0).
-    let f = (same_front opened.0 digits (SP ∷ h.0) (b ∷ text) long (sym e ∙ is)).1 in
+    let f = (same_front long (sym e ∙ is)).1 in
     no_space (cc))
     (λ (e : line ≡ opened.0 ++ DASH ∷ h.0).
-    let f = (same_front opened.0 digits (DASH ∷ h.0) (b ∷ text) long (sym e ∙ is)).1 in
+    let f = (same_front long (sym e ∙ is)).1 in
     no_dash (cc))
     h.1)
     opened.3
@@ -231,16 +232,16 @@ opens_or_not line = ⊎_elim (λ (s : BeginsWithCode line). following s.0 s.1 s.
         (λ (no_space : b ≢ SP). ⊎_elim
         (λ (is : b ≡ DASH). inl
         (digits, code, spells, inr (text, inr (e ∙ ap (λ x. digits ++ x ∷ text) is))))
-        (λ (no_dash : b ≢ DASH). inr (opens_not digits line code b text spells e no_space no_dash))
+        (λ (no_dash : b ≢ DASH). inr (opens_not text spells e no_space no_dash))
         (cases_eq b DASH))
         (cases_eq b SP)
 
 -- The three kinds of replies that bytes begin with.
 
-pub bare_front : (bytes digits rest : Bytes) (code : ℕ) → SpellsCode digits code
+pub bare_front : {bytes digits : Bytes} (rest : Bytes) {code : ℕ} → SpellsCode digits code
     → bytes ≡ digits ++ CR ∷ LF ∷ rest → LacksCrlf digits
     → FrontReply bytes code ([] ∷ []) (length (flat_map with_crlf (digits ∷ [])))
-bare_front bytes digits rest code spells cut is_line = record {
+bare_front {digits} rest spells cut is_line = record {
   digits = digits;
   code_is = spells;
   whole = digits ∷ [];
@@ -251,10 +252,10 @@ bare_front bytes digits rest code spells cut is_line = record {
   length_is = refl;
 }
 
-pub single_front : (bytes digits text rest : Bytes) (code : ℕ) → SpellsCode digits code
+pub single_front : {bytes digits text : Bytes} (rest : Bytes) {code : ℕ} → SpellsCode digits code
     → bytes ≡ (digits ++ SP ∷ text) ++ CR ∷ LF ∷ rest → LacksCrlf (digits ++ SP ∷ text)
     → FrontReply bytes code (text ∷ []) (length (flat_map with_crlf ((digits ++ SP ∷ text) ∷ [])))
-single_front bytes digits text rest code spells cut is_line = record {
+single_front {digits} {text} rest spells cut is_line = record {
   digits = digits;
   code_is = spells;
   whole = (digits ++ SP ∷ text) ∷ [];
@@ -270,12 +271,12 @@ abbrev pub several_whole : Bytes → Bytes → List Bytes → Bytes → List Byt
 several_whole digits text middle last =
     (digits ++ DASH ∷ text) ∷ (middle ++ (digits ++ SP ∷ last) ∷ [])
 
-pub several_front : (bytes digits text following : Bytes) (code : ℕ) → SpellsCode digits code
+pub several_front : {bytes digits text following : Bytes} {code : ℕ} → SpellsCode digits code
     → bytes ≡ (digits ++ DASH ∷ text) ++ CR ∷ LF ∷ following
     → LacksCrlf (digits ++ DASH ∷ text) → (f : IsEnded digits following)
     → FrontReply bytes code (text ∷ (f.middle ++ f.last ∷ []))
     (length (flat_map with_crlf (several_whole digits text f.middle f.last)))
-several_front bytes digits text following code spells cut is_line f = record {
+several_front {digits} {text} spells cut is_line f = record {
   digits = digits;
   code_is = spells;
   whole = several_whole digits text f.middle f.last;
@@ -287,10 +288,11 @@ several_front bytes digits text following code spells cut is_line f = record {
   length_is = refl;
 }
 
-opened_front : (bytes digits text following : Bytes) (code : ℕ) → SpellsCode digits code
+opened_front : {bytes digits : Bytes} (text : Bytes) {following : Bytes} {code : ℕ}
+    → SpellsCode digits code
     → bytes ≡ (digits ++ DASH ∷ text) ++ CR ∷ LF ∷ following
     → LacksCrlf (digits ++ DASH ∷ text) → IsUnended digits following → IsOpened bytes
-opened_front bytes digits text following code spells cut is_line f = record {
+opened_front {digits} text {code} spells cut is_line f = record {
   digits = digits;
   code = code;
   code_is = spells;
@@ -333,7 +335,7 @@ front_part_or_malformed bytes = by_line (first_line bytes)
               code,
               _,
               _,
-              bare_front bytes digits f.rest code spells
+              bare_front f.rest spells
                   (f.cut ∙ ap (λ l. l ++ CR ∷ LF ∷ f.rest) e) (subst LacksCrlf e f.is_line),
             )
         by_opening digits code spells (inr (text, inl e)) =
@@ -341,7 +343,7 @@ front_part_or_malformed bytes = by_line (first_line bytes)
               code,
               _,
               _,
-              single_front bytes digits text f.rest code spells
+              single_front f.rest spells
                   (f.cut ∙ ap (λ l. l ++ CR ∷ LF ∷ f.rest) e) (subst LacksCrlf e f.is_line),
             )
         by_opening digits code spells (inr (text, inr e)) =
@@ -349,9 +351,9 @@ front_part_or_malformed bytes = by_line (first_line bytes)
             let is_line = subst LacksCrlf e f.is_line in
             ⊎_elim
             (λ (h : IsEnded digits f.rest). inl
-            (code, _, _, several_front bytes digits text f.rest code spells cut is_line h))
+            (code, _, _, several_front spells cut is_line h))
             (λ (h : IsUnended digits f.rest). inr
-            (inl (inr (opened_front bytes digits text f.rest code spells cut is_line h))))
+            (inl (inr (opened_front text spells cut is_line h))))
             (ended_or_not digits (length f.rest) f.rest (omega arith))
 
 pub some_reading : (bytes : Bytes) → HasFront bytes ⊎ (IsPartial bytes ⊎ IsMalformed bytes)
@@ -376,7 +378,7 @@ partial_is_part bytes partial = by_kind (front_part_or_malformed bytes)
 pub front_within : (bytes : Bytes) (code : ℕ) (lines : List Bytes) (used : ℕ)
     → FrontReply bytes code lines used → (0 < used) × (used ≤ length bytes)
 front_within bytes code lines used f =
-    let k = reply_opens f.digits code f.whole lines f.code_is f.reply in
+    let k = reply_opens f.code_is f.reply in
     let whole = ap (λ (u : List Bytes). flat_map with_crlf u) k.2 in (
       omega (
         arith,
@@ -396,9 +398,9 @@ front_within bytes code lines used f =
 pub front_is_formed : (bytes : Bytes) → HasFront bytes → ¬ IsMalformed bytes
 front_is_formed bytes h m =
     let f = h.3 in
-    let k = reply_opens f.digits h.0 f.whole h.1 f.code_is f.reply in
+    let k = reply_opens f.code_is f.reply in
     let each = subst (AllByRecursion LacksCrlf) k.2 f.each in
     let cut = f.cut ∙ ap (λ (u : List Bytes). flat_map with_crlf u ++ f.rest) k.2
     ∙ line_apart k.0 k.1 f.rest in
-    let same = (first_crlf k.0 m.first _ _ each.0 m.is_line (sym cut ∙ m.cut)).0 in
+    let same = (first_crlf k.0 m.first each.0 m.is_line (sym cut ∙ m.cut)).0 in
     m.opens_none (subst Opens same k.3)

@@ -20,9 +20,9 @@ take_after (suc n) (b ∷ first) rest within =
     (more.0, ap (λ bytes. b ∷ bytes) more.1)
 
 -- a reply that is within them
-pub FrontReply-take : (n : ℕ) (bytes : Bytes) (code : ℕ) (lines : List Bytes) (used : ℕ)
+pub FrontReply-take : (n : ℕ) {bytes : Bytes} {code : ℕ} {lines : List Bytes} {used : ℕ}
     → FrontReply bytes code lines used → used ≤ n → FrontReply (take n bytes) code lines used
-FrontReply-take n bytes code lines used f within =
+FrontReply-take n f within =
     let whole = flat_map with_crlf f.whole in
     let first = take_after n whole f.rest (omega (arith, f.length_is, within)) in
     record {
@@ -37,14 +37,14 @@ FrontReply-take n bytes code lines used f within =
     }
 
 -- what they begin with, all bytes begin with
-FrontReply-from_take : (n : ℕ) (bytes : Bytes) (code : ℕ) (lines : List Bytes) (used : ℕ)
+FrontReply-from_take : (n : ℕ) {bytes : Bytes} {code : ℕ} {lines : List Bytes} {used : ℕ}
     → FrontReply (take n bytes) code lines used → FrontReply bytes code lines used
-FrontReply-from_take n bytes code lines used f =
+FrontReply-from_take n {bytes} {code} {lines} {used} f =
     subst (λ b. FrontReply b code lines used) (take-append-drop n bytes)
     (FrontReply-append (take n bytes) (drop n bytes) code lines used f)
 
 HasFront-from_take : (n : ℕ) (bytes : Bytes) → HasFront (take n bytes) → HasFront bytes
-HasFront-from_take n bytes h = (h.0, h.1, h.2, FrontReply-from_take n bytes h.0 h.1 h.2 h.3)
+HasFront-from_take n bytes h = (h.0, h.1, h.2, FrontReply-from_take n h.3)
 
 IsMalformed-from_take : (n : ℕ) (bytes : Bytes) → IsMalformed (take n bytes) → IsMalformed bytes
 IsMalformed-from_take n bytes m =
@@ -68,15 +68,15 @@ IsTooLongReply-append (Some limit) bytes more h = (
 )
 
 -- bytes that begin with a reply
-pub IsTooLongReply-front : (limit : ℕ) (bytes : Bytes) (code : ℕ) (lines : List Bytes) (used : ℕ)
+pub IsTooLongReply-front : (limit : ℕ) {bytes : Bytes} {code : ℕ} {lines : List Bytes} {used : ℕ}
     → FrontReply bytes code lines used → IsTooLongReply (Some limit) bytes ↔ (limit < used)
-IsTooLongReply-front limit bytes code lines used f = (longer, too_long)
+IsTooLongReply-front limit {bytes} {code} {lines} {used} f = (longer, too_long)
   where
     longer : IsTooLongReply (Some limit) bytes → limit < used
     longer h = ⊎_elim
         (λ (less : limit < used). less)
         (λ (within : used ≤ limit).
-        let front = FrontReply-take limit bytes code lines used f within in
+        let front = FrontReply-take limit f within in
         absurd (h.1.0 (code, lines, used, front)))
         (cases_lt limit used)
 
@@ -88,8 +88,8 @@ IsTooLongReply-front limit bytes code lines used f = (longer, too_long)
 
         no_front : ¬ HasFront (take limit bytes)
         no_front h =
-            let other = FrontReply-from_take limit bytes h.0 h.1 h.2 h.3 in
-            let same = (FrontReply-unique bytes code h.0 lines h.1 used h.2 f other).2 in
+            let other = FrontReply-from_take limit h.3 in
+            let same = (FrontReply-unique f other).2 in
             let within = (front_within (take limit bytes) h.0 h.1 h.2 h.3).1 in
             omega (arith, less, same, within, length-take-le limit bytes enough)
 
@@ -106,10 +106,10 @@ IsTooLongReply-partial limit bytes partial = (
 )
 
 -- where the first bytes are malformed, their first line is that of all bytes
-same_line : (n : ℕ) (first rest : Bytes) → LacksCrlf first
+same_line : (n : ℕ) {first : Bytes} (rest : Bytes) → LacksCrlf first
     → (m : IsMalformed (take n (with_crlf first ++ rest))) → first ≡ m.first
-same_line n first rest is_line m =
-    (first_crlf first m.first rest _ is_line m.is_line (sym (append_assoc first crlf rest) ∙ cut)).0
+same_line n {first} rest is_line m =
+    (first_crlf first m.first is_line m.is_line (sym (append_assoc first crlf rest) ∙ cut)).0
   where
     after : Bytes
     after = drop n (with_crlf first ++ rest)
@@ -156,7 +156,7 @@ IsTooLongReply-malformed limit first rest is_line opens_none = (longer, too_long
         -- it has the whole first line, which is longer
         formed : ¬ IsMalformed (take limit bytes)
         formed h =
-            let same = ap length (same_line limit first rest is_line h) in
+            let same = ap length (same_line limit rest is_line h) in
             let line = length-append first crlf in
             let held = length-append h.first (CR ∷ LF ∷ h.rest) in
             let taken = length-take-le limit bytes enough in

@@ -73,15 +73,16 @@ first_opens line (digits, code, spells, inr (text, inr same)) =
     )
 
 -- a reply has a first line
-pub reply_opens : (digits : Bytes) (code : ℕ) (whole lines : List Bytes) → SpellsCode digits code
+pub reply_opens : {digits : Bytes} {code : ℕ} {whole lines : List Bytes} → SpellsCode digits code
     → IsReply digits whole lines
     → (k : Bytes) × (ks : List Bytes) × (whole ≡ k ∷ ks) × Opens k
-reply_opens digits code whole lines spells reply = let k = first digits whole lines reply in (
-  k.0,
-  k.1,
-  k.2,
-  (digits, code, k.1, lines, spells, subst (λ w. IsReply digits w lines) k.2 reply),
-)
+reply_opens {digits} {code} {whole} {lines} spells reply =
+    let k = first digits whole lines reply in (
+      k.0,
+      k.1,
+      k.2,
+      (digits, code, k.1, lines, spells, subst (λ w. IsReply digits w lines) k.2 reply),
+    )
   where
     first : (digits : Bytes) (whole lines : List Bytes) → IsReply digits whole lines
         → (k : Bytes) × (ks : List Bytes) × (whole ≡ k ∷ ks)
@@ -93,28 +94,28 @@ reply_opens digits code whole lines spells reply = let k = first digits whole li
 -- ---- it is no reply, and not malformed
 
 -- bytes with a whole line have a CR LF
-line_is_first : (bytes k : Bytes) (ks : List Bytes) (x : Bytes) → LacksCrlf bytes
+line_is_first : {bytes : Bytes} (k : Bytes) (ks : List Bytes) (x : Bytes) → LacksCrlf bytes
     → bytes ≡ flat_map with_crlf (k ∷ ks) ++ x → ⊥
-line_is_first bytes k ks x h e = h k (flat_map with_crlf ks ++ x) (e ∙ line_apart k ks x)
+line_is_first k ks x h e = h k (flat_map with_crlf ks ++ x) (e ∙ line_apart k ks x)
 
 -- lines with a last one are no lines that all go on, with an unfinished one after them
-no_end : (d e : Bytes) (ms ns : List Bytes) (s x y : Bytes) → d ≡ e → AllByRecursion (GoesOn e) ns
-    → LacksCrlf y
+no_end : {d e : Bytes} (ms ns : List Bytes) (s x : Bytes) {y : Bytes} → d ≡ e
+    → AllByRecursion (GoesOn e) ns → LacksCrlf y
     → AllByRecursion LacksCrlf (ms ++ (d ++ SP ∷ s) ∷ []) → AllByRecursion LacksCrlf ns
     → flat_map with_crlf (ms ++ (d ++ SP ∷ s) ∷ []) ++ x ≡ flat_map with_crlf ns ++ y → ⊥
-no_end d e [] [] s x y same go lacks p q h = line_is_first y (d ++ SP ∷ s) [] x lacks (sym h)
-no_end d e (m ∷ ms) [] s x y same go lacks p q h =
-    line_is_first y m (ms ++ (d ++ SP ∷ s) ∷ []) x lacks (sym h)
-no_end d e [] (n ∷ ns) s x y same go lacks p q h =
-    let first = (cut_first (d ++ SP ∷ s) n [] ns x y p.0 q.0 h).0 in
+no_end {d} [] [] s x same go lacks p q h = line_is_first (d ++ SP ∷ s) [] x lacks (sym h)
+no_end {d} (m ∷ ms) [] s x same go lacks p q h =
+    line_is_first m (ms ++ (d ++ SP ∷ s) ∷ []) x lacks (sym h)
+no_end [] (n ∷ ns) s x {y} same go lacks p q h =
+    let first = (cut_first [] ns x y p.0 q.0 h).0 in
     go.0 s (sym first ∙ ap (λ c. c ++ SP ∷ s) same)
-no_end d e (m ∷ ms) (n ∷ ns) s x y same go lacks p q h =
-    let cut = cut_first m n (ms ++ (d ++ SP ∷ s) ∷ []) ns x y p.0 q.0 h in
-    no_end d e ms ns s x y same go.1 lacks p.1 q.1 cut.1
+no_end {d} {e} (m ∷ ms) (n ∷ ns) s x {y} same go lacks p q h =
+    let cut = cut_first (ms ++ (d ++ SP ∷ s) ∷ []) ns x y p.0 q.0 h in
+    no_end ms ns s x same go.1 lacks p.1 q.1 cut.1
 
-front_opened : (bytes : Bytes) (code : ℕ) (lines : List Bytes) (used : ℕ)
+front_opened : {bytes : Bytes} {code : ℕ} {lines : List Bytes} {used : ℕ}
     → FrontReply bytes code lines used → IsOpened bytes → ⊥
-front_opened bytes code lines used f o = by_kind f.whole f.each f.cut f.reply
+front_opened {bytes} {code} {lines} f o = by_kind f.whole f.each f.cut f.reply
   where
     long : length f.digits ≡ length o.digits
     long = code_length f.digits code f.code_is ∙ sym (code_length o.digits o.code o.code_is)
@@ -125,41 +126,40 @@ front_opened bytes code lines used f o = by_kind f.whole f.each f.cut f.reply
         let each' = subst (AllByRecursion LacksCrlf) e each in
         let cut' = ap (λ (u : List Bytes). flat_map with_crlf u ++ f.rest) (sym e) ∙ sym cut ∙ o.cut
         in
-        no_longer f.digits o.digits DASH o.text long
-        (cut_first f.digits (o.digits ++ DASH ∷ o.text) [] o.middle f.rest o.rest each'.0
-        o.each.0 cut').0
+        no_longer o.digits DASH o.text long
+        (cut_first [] o.middle f.rest o.rest each'.0 o.each.0 cut').0
     by_kind whole each cut (single text e g) =
         let each' = subst (AllByRecursion LacksCrlf) e each in
         let cut' = ap (λ (u : List Bytes). flat_map with_crlf u ++ f.rest) (sym e) ∙ sym cut ∙ o.cut
         in
         let first =
-        (cut_first (f.digits ++ SP ∷ text) (o.digits ++ DASH ∷ o.text) [] o.middle f.rest o.rest
-        each'.0 o.each.0 cut').0 in
-        let parts = same_front f.digits o.digits (SP ∷ text) (DASH ∷ o.text) long first in
+        (cut_first [] o.middle f.rest o.rest each'.0 o.each.0 cut').0 in
+        let parts = same_front long first in
         let clash : SP ≡ DASH = cc in omega arith
     by_kind whole each cut (several text last middle go e g) =
         let each' = subst (AllByRecursion LacksCrlf) e each in
         let cut' = ap (λ (u : List Bytes). flat_map with_crlf u ++ f.rest) (sym e) ∙ sym cut ∙ o.cut
         in
-        let first = cut_first (f.digits ++ DASH ∷ text) (o.digits ++ DASH ∷ o.text)
-        (middle ++ (f.digits ++ SP ∷ last) ∷ []) o.middle f.rest o.rest each'.0 o.each.0 cut' in
-        let parts = same_front f.digits o.digits (DASH ∷ text) (DASH ∷ o.text) long first.0 in
-        no_end f.digits o.digits middle o.middle last f.rest o.rest parts.0 o.goes_on o.unended
+        let first =
+        cut_first (middle ++ (f.digits ++ SP ∷ last) ∷ []) o.middle f.rest o.rest
+        each'.0 o.each.0 cut' in
+        let parts = same_front long first.0 in
+        no_end middle o.middle last f.rest parts.0 o.goes_on o.unended
         each'.1 o.each.1 first.1
 
 part_no_front : (bytes : Bytes) → IsPart bytes → ¬ HasFront bytes
 part_no_front bytes (inl lacks) h =
     let f = h.3 in
-    let k = reply_opens f.digits h.0 f.whole h.1 f.code_is f.reply in
-    line_is_first bytes k.0 k.1 f.rest lacks
+    let k = reply_opens f.code_is f.reply in
+    line_is_first k.0 k.1 f.rest lacks
     (f.cut ∙ ap (λ (u : List Bytes). flat_map with_crlf u ++ f.rest) k.2)
-part_no_front bytes (inr o) h = front_opened bytes h.0 h.1 h.2 h.3 o
+part_no_front bytes (inr o) h = front_opened h.3 o
 
 part_formed : (bytes : Bytes) → IsPart bytes → ¬ IsMalformed bytes
 part_formed bytes (inl lacks) m = lacks m.first m.rest m.cut
 part_formed bytes (inr o) m =
     let same =
-    (first_crlf (o.digits ++ DASH ∷ o.text) m.first _ _ o.each.0 m.is_line
+    (first_crlf (o.digits ++ DASH ∷ o.text) m.first o.each.0 m.is_line
     (sym (line_apart (o.digits ++ DASH ∷ o.text) o.middle o.rest) ∙ sym o.cut ∙ m.cut)).0 in
     m.opens_none
     (subst Opens same (first_opens _ (o.digits, o.code, o.code_is, inr (o.text, inr refl))))

@@ -49,11 +49,11 @@ all_rules = search (
 )
 
 -- the row that is found
-found : {A : Type 0} (P : A → Type 0) (name : Bytes) (rows : List (Bytes × A)) (x : A)
+found : {A : Type 0} (P : A → Type 0) (name : Bytes) (rows : List (Bytes × A)) {x : A}
     → AllByRecursion (λ row. P row.1) rows → row_of name rows ≡ Some x → P x
-found P name [] x each e = cc
-found P name (row ∷ rows) x each e =
-    by_test (bytes_eq name row.0) (λ q. found P name rows x each.1 q) e
+found P name [] each e = cc
+found P name (row ∷ rows) {x} each e =
+    by_test (bytes_eq name row.0) (λ q. found P name rows each.1 q) e
   where
     by_test : (test : Bool) → (row_of name rows ≡ Some x → P x)
         → option_map (λ r. r.1) (cond test (Some row) (find (λ r. bytes_eq name r.0) rows)) ≡ Some x
@@ -68,4 +68,4 @@ rule_gives verb is_name is_text = by_row (row_of verb verbs) refl
     by_row : (row : Option Rule) → row_of verb verbs ≡ row
         → RuleGives (unwrap_or row (Takes (any_text (Other verb))))
     by_row None none = any_gives (Other verb) (λ text h utf8. ((is_name, none, h), (is_text, utf8)))
-    by_row (Some rule) is = found RuleGives verb verbs rule all_rules is
+    by_row (Some rule) is = found RuleGives verb verbs all_rules is

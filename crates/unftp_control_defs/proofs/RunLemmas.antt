@@ -128,19 +128,18 @@ module _ {S : Type 0} (law : Law S) where
       (law.done (law.next s event)) refl
 
   -- a run has the first of the events
-  taken-first : (done : Bool) (event : FtpEvent) (events run : List FtpEvent)
+  taken-first : (done : Bool) {event : FtpEvent} (events : List FtpEvent) {run : List FtpEvent}
       → take (length run) events ≡ run
       → take (length (event ∷ (if done then [] else run))) (event ∷ events)
       ≡ event ∷ (if done then [] else run)
-  taken-first true event events run taken = refl
-  taken-first false event events run taken = ap (λ later. event ∷ later) taken
+  taken-first true events taken = refl
+  taken-first false {event} events taken = ap (λ later. event ∷ later) taken
 
   pub run_of-taken : (s : S) (events : List FtpEvent) → take (length (run_of law s events)) events
       ≡ run_of law s events
   run_of-taken s [] = refl
   run_of-taken s (event ∷ events) =
-      taken-first (law.done (law.next s event)) event events (run_of law (law.next s event) events)
-      (run_of-taken (law.next s event) events)
+      taken-first (law.done (law.next s event)) events (run_of-taken (law.next s event) events)
 
   -- a handler that is never done takes all events
   pub never_ends : ((s : S) → law.done s ≡ false) → (s : S) (events : List FtpEvent)
@@ -290,17 +289,17 @@ module _ {S : Type 0} (law : Law S) where
           ∙ sym (append_assoc left (incomplete_line input) more)
 
     -- the replies of pieces: those of the first one, and later ones where the run goes on
-    in_turn-first : (s : S) (first more : Bytes) (later : List FtpReply) →
+    in_turn-first : (s : S) (first more : Bytes) {later : List FtpReply} →
         later ≡ replies law (last_state law s (events limit first))
         (run_for limit law (last_state law s (events limit first))
         (incomplete_line first ++ more)) →
         (ended : Bool) → ends_for limit law s first ≡ ended →
         replies law s (run_for limit law s first) ++ (if ended then [] else later)
         ≡ replies law s (run_for limit law s (first ++ more))
-    in_turn-first s first more later is true ended =
+    in_turn-first s first more is true ended =
         append-nil (replies law s (run_for limit law s first))
         ∙ sym (ap (replies law s) (run-ended s first more ended).0)
-    in_turn-first s first more later is false on =
+    in_turn-first s first more {later} is false on =
         let s' : S = last_state law s (events limit first) in
         ap (λ run. replies law s run ++ later) (run_of-all s (events limit first) on)
         ∙ ap (λ later. replies law s (events limit first) ++ later) is
@@ -318,7 +317,6 @@ module _ {S : Type 0} (law : Law S) where
         let first : Bytes = incomplete ++ piece in
         let s' : S = last_state law s (events limit first) in
         in_turn-first s first (concat pieces)
-        (replies_in_turn limit law s' (incomplete_line first) pieces)
         (in_turn s' (incomplete_line first) pieces (Lines-lines_of first).unended)
         (ends_for limit law s first) refl
         ∙ ap (λ input. replies law s (run_for limit law s input))

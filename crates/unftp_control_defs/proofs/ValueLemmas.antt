@@ -35,10 +35,10 @@ end_after later end h =
     (p.3, subst (λ us. last_fresh true us ≡ false) (sym p.2) (last_fresh_push true p.0 p.1))) h
 
 -- A later unit at the front of what is read.
-pub byte_step : (fresh : Bool) (b : ℕ) (rest : Bytes) (v : Bytes) → b ≢ CR → (b ≡ LF → IsTrue fresh)
+pub byte_step : (fresh : Bool) {b : ℕ} (rest : Bytes) {v : Bytes} → b ≢ CR → (b ≡ LF → IsTrue fresh)
     → later_value Plain rest ≡ Some v → later_value (context_of fresh) (b ∷ rest) ≡ Some (b ∷ v)
-byte_step true b rest v ne may h = rw (ne_eqb b CR ne, h)
-byte_step false b rest v ne may h =
+byte_step true {b} rest ne may h = rw (ne_eqb b CR ne, h)
+byte_step false {b} rest ne may h =
     let no_lf : b ≢ LF = λ e. false≢true (may e) in
     rw (ne_eqb b CR ne, ne_eqb b LF no_lf, h)
 
@@ -48,38 +48,38 @@ return_step true rest v h = rw h
 return_step false rest v h = rw h
 
 -- what the units after the first and the end give
-pub later_is : (fresh : Bool) (units : List ValueUnit) (end ignored : Bytes)
+pub later_is : (fresh : Bool) (units : List ValueUnit) {end : Bytes} (ignored : Bytes)
     → LaterUnits fresh units → EndsAfter fresh units end
     → later_value (context_of fresh) (flat_map unit_bytes units ++ (end ++ ignored))
     ≡ Some (map unit_value units)
-later_is true [] end ignored are (inl e) = rw e
-later_is false [] end ignored are (inl e) = rw e
-later_is true [] end ignored are (inr p) = absurd (false≢true (sym p.1))
-later_is false [] end ignored are (inr p) = rw p.0
-later_is fresh (Return ∷ units) end ignored are e =
+later_is true [] ignored are (inl e) = rw e
+later_is false [] ignored are (inl e) = rw e
+later_is true [] ignored are (inr p) = absurd (false≢true (sym p.1))
+later_is false [] ignored are (inr p) = rw p.0
+later_is fresh (Return ∷ units) {end} ignored are e =
     return_step fresh (flat_map unit_bytes units ++ (end ++ ignored)) (map unit_value units)
-    (later_is true units end ignored are e)
-later_is fresh (Byte b ∷ units) end ignored are e =
-    byte_step fresh b (flat_map unit_bytes units ++ (end ++ ignored)) (map unit_value units) are.0
-    are.1 (later_is false units end ignored are.2 e)
+    (later_is true units ignored are e)
+later_is fresh (Byte b ∷ units) {end} ignored are e =
+    byte_step fresh (flat_map unit_bytes units ++ (end ++ ignored)) are.0
+    are.1 (later_is false units ignored are.2 e)
 
-plain_first : (a b : ℕ) (bytes v : Bytes) → a ≢ LF → bytes_eq (b ∷ bytes) (LF ∷ []) ≡ false
+plain_first : {a : ℕ} (b : ℕ) (bytes : Bytes) {v : Bytes} → a ≢ LF → bytes_eq (b ∷ bytes) (LF ∷ [])
+    ≡ false
     → ((a == CR) && (b == NUL)) ≡ false
     → later_value Fresh (b ∷ bytes) ≡ Some v → value_of (a ∷ b ∷ bytes) ≡ Some (a ∷ v)
-plain_first a b bytes v no_lf more apart h = rw (ne_eqb a LF no_lf, more, apart, h)
+plain_first {a} b bytes no_lf more apart h = rw (ne_eqb a LF no_lf, more, apart, h)
 
 -- a byte as the first unit
-pub first_step : (a : ℕ) (bytes v : Bytes) → FirstUnit (a ∷ bytes) (Byte a)
+pub first_step : {a : ℕ} (bytes : Bytes) {v : Bytes} → FirstUnit (a ∷ bytes) (Byte a)
     → later_value Fresh bytes ≡ Some v → value_of (a ∷ bytes) ≡ Some (a ∷ v)
-first_step a [] v first h = absurd (none-some v h)
-first_step a (b ∷ bytes) v first h = ⊎_elim
-    (λ lone. absurd
+first_step [] {v} first h = absurd (none-some v h)
+first_step {a} (b ∷ bytes) {v} first h = ⊎_elim (λ lone. absurd
     (none-some v (sym (ap (later_value Fresh) ((bytes_decides (b ∷ bytes) (LF ∷ [])).0 lone))
     ∙ h)))
     (λ more. ⊎_elim
     (λ both. let parts = and_parts (a == CR) (b == NUL) both in
     absurd (first.1 bytes (λ i. eqb-true a CR parts.0 i ∷ (eqb-true b NUL parts.1 i ∷ bytes))))
-    (λ apart. plain_first a b bytes v first.0 more apart h)
+    (λ apart. plain_first b bytes first.0 more apart h)
     (cases_Bool ((a == CR) && (b == NUL))))
     (cases_Bool (bytes_eq (b ∷ bytes) (LF ∷ [])))
 
@@ -90,7 +90,7 @@ divided_is parameter v d = by_first d.first d.whole d.is_first d.joined
     tail = flat_map unit_bytes d.later ++ (d.end ++ d.ignored)
 
     read : later_value Fresh tail ≡ Some (map unit_value d.later)
-    read = later_is true d.later d.end d.ignored d.are_later (end_after d.later d.end d.is_end)
+    read = later_is true d.later d.ignored d.are_later (end_after d.later d.end d.is_end)
 
     by_first : (first : ValueUnit) → parameter ≡ unit_bytes first ++ tail
         → FirstUnit parameter first → v ≡ unit_value first ∷ map unit_value d.later
@@ -98,7 +98,7 @@ divided_is parameter v d = by_first d.first d.whole d.is_first d.joined
     by_first Return whole is_first joined = rw (whole, joined, read)
     by_first (Byte a) whole is_first joined =
         rw (whole, joined)
-        (first_step a tail _ (subst (λ p. FirstUnit p (Byte a)) whole is_first) read)
+        (first_step tail (subst (λ p. FirstUnit p (Byte a)) whole is_first) read)
 
 -- the value that a parameter has is the computed one
 pub value_of-Reads : (parameter v : Bytes) → Reads parameter v → value_of parameter ≡ Some v
@@ -115,10 +115,10 @@ pub option_map_some : {A B : Type 0} (f : A → B) (o : Option A) (y : B) → op
 option_map_some f None y h = absurd (none-some y h)
 option_map_some f (Some x) y h = (x, refl, same_Some (f x) y h)
 
-chosen : {A : Type 0} (b : Bool) (x y z : A) → cond b x y ≡ z → ((b ≡ true) × (x ≡ z))
+chosen : {A : Type 0} (b : Bool) {x y z : A} → cond b x y ≡ z → ((b ≡ true) × (x ≡ z))
     ⊎ ((b ≡ false) × (y ≡ z))
-chosen true x y z h = inl (refl, h)
-chosen false x y z h = inr (refl, h)
+chosen true h = inl (refl, h)
+chosen false h = inr (refl, h)
 
 -- later units, an end and ignored bytes
 record Later (fresh : Bool) (bytes v : Bytes) : Type 0 where
@@ -165,9 +165,9 @@ at_return fresh rest v l = record {
   joined = ap (λ w. CR ∷ w) l.joined;
 }
 
-at_byte : (fresh : Bool) (b : ℕ) (rest v : Bytes) → b ≢ CR → (b ≡ LF → IsTrue fresh)
+at_byte : {fresh : Bool} {b : ℕ} {rest v : Bytes} → b ≢ CR → (b ≡ LF → IsTrue fresh)
     → Later false rest v → Later fresh (b ∷ rest) (b ∷ v)
-at_byte fresh b rest v ne may l = record {
+at_byte {b} ne may l = record {
   units = Byte b ∷ l.units;
   end = l.end;
   ignored = l.ignored;
@@ -195,7 +195,7 @@ module _ (b : ℕ) (bytes v : Bytes) (further : (context : Context) (w : Bytes)
       → Later fresh (b ∷ bytes) v
   kept fresh ne may h =
       let p = option_map_some _ _ v h in
-      subst (Later fresh (b ∷ bytes)) p.2 (at_byte fresh b bytes p.0 ne may (further Plain p.0 p.1))
+      subst (Later fresh (b ∷ bytes)) p.2 (at_byte ne may (further Plain p.0 p.1))
 
   fresh_back : later_value Fresh (b ∷ bytes) ≡ Some v → Later true (b ∷ bytes) v
   fresh_back h = by_test (cases_Bool (b == CR))
@@ -268,9 +268,9 @@ end_before later end (inl e) = inl e
 end_before later end (inr p) = ⊎_elim (λ q. absurd (false≢true (sym q.1)))
     (λ q. inr (q.0, q.1, q.2, p.0)) (last_byte true later p.1)
 
-division : (first : ValueUnit) (rest w : Bytes) → FirstUnit (unit_bytes first ++ rest) first
+division : (first : ValueUnit) {rest w : Bytes} → FirstUnit (unit_bytes first ++ rest) first
     → Later true rest w → Division (unit_bytes first ++ rest) (unit_value first ∷ w)
-division first rest w is_first l = record {
+division first is_first l = record {
   first = first;
   later = l.units;
   end = l.end;
@@ -293,7 +293,7 @@ module _ (a : ℕ) (bytes v : Bytes) where
           let p = option_map_some _ _ v h in
           let d : Division (CR ∷ NUL ∷ rest) v =
           subst (Division (CR ∷ NUL ∷ rest)) p.2
-          (division Return rest p.0 tt (later_back Fresh rest p.0 p.1)) in
+          (division Return tt (later_back Fresh rest p.0 p.1)) in
           subst (λ (q : Bytes). Division q v)
           (λ i. sym (eqb-true a CR parts.0) i ∷ (sym (eqb-true b NUL parts.1) i ∷ rest)) d
 
@@ -309,8 +309,7 @@ module _ (a : ℕ) (bytes v : Bytes) where
           false≢true
           (sym e ∙ and_from (a == CR) (b == NUL) (eq-eqb a CR is_cr) (eq-eqb b NUL is_nul)) in
           subst (Division (a ∷ b ∷ rest)) p.2
-          (division (Byte a) (b ∷ rest) p.0 (no_lf, apart)
-          (later_back Fresh (b ∷ rest) p.0 p.1))
+          (division (Byte a) (no_lf, apart) (later_back Fresh (b ∷ rest) p.0 p.1))
 
       by_bytes : (bytes : Bytes) → first_value a bytes ≡ Some v → Division (a ∷ bytes) v
       by_bytes [] h = absurd (none-some v h)

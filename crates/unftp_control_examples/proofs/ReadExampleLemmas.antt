@@ -23,7 +23,7 @@ LacksCrlf-test [] h = lacks_nil
 LacksCrlf-test (a ∷ []) h = lacks_one a
 LacksCrlf-test (a ∷ b ∷ text) h =
     let parts = and_parts (not ((a == CR) && (b == LF))) (lacks_crlf (b ∷ text)) h in
-    lacks_more a b text
+    lacks_more
     (λ is_cr is_lf. true≢false
     (sym parts.0 ∙ (λ i. not (eq-eqb a CR is_cr i && eq-eqb b LF is_lf i))))
     (LacksCrlf-test (b ∷ text) parts.1)
@@ -69,7 +69,7 @@ third-Opens a b c rest opens =
 pub front_of_text : (more : Bytes) → FrontReply (codes "211 a\r\n" ++ more) 211 (codes "a" ∷ []) 7
 unfolding digits
 front_of_text more = FrontReply-encoded (CodeAndMsg 211 (codes "a")) more
-    ((lit≤ tt, lit< tt), Lacks-test 10 (codes "a") refl) 211 (codes "a" ∷ []) refl
+    ((lit≤ tt, lit< tt), Lacks-test 10 (codes "a") refl) refl
 
 -- an incomplete line
 pub line_part : (text : Bytes) → lacks_crlf text ≡ true → IsPartial text

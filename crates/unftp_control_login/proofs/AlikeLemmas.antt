@@ -69,14 +69,6 @@ module _ (limit : Option ℕ) (line password : Bytes) (is_line : IsLine line) wh
     (pass-verb (is_utf8 (verb_of line)) refl same, pass-answer (outcome line) same),
   )
 
-memory-alike : (limit : Option ℕ) (accepts : Accounts) (past : List FtpEvent)
-    (event other : FtpEvent) → LooksAlike accepts past event other
-    → FromLine limit other → EventMayTakeMemory event → EventMayTakeMemory other
-memory-alike limit accepts past (Command (Pass password)) (Command (Pass other)) same
-    (line, is_line, from) may =
-    pass-memory limit line other is_line (exceeds limit (length line)) from
-memory-alike limit accepts past event other same from may = subst EventMayTakeMemory same may
-
 all-later : (P : FtpEvent → Type 0) (events later : List FtpEvent)
     → AllByRecursion P (events ++ later) → AllByRecursion P later
 all-later P [] later each = each
@@ -86,12 +78,6 @@ all-or-none : (P : FtpEvent → Type 0) (done : Bool) (later : List FtpEvent) �
     → AllByRecursion P (cond done [] later)
 all-or-none P true later each = tt
 all-or-none P false later each = each
-
-alike-or-none : (accepts : Accounts) (past : List FtpEvent) (done : Bool)
-    (later others : List FtpEvent) → AtEachPlace (LooksAlike accepts) past later others
-    → AtEachPlace (LooksAlike accepts) past (cond done [] later) (cond done [] others)
-alike-or-none accepts past true later others alike = tt
-alike-or-none accepts past false later others alike = alike
 
 -- A run over events, and one over others that look like them.
 module _ {S : Type 0} (law : Law S) where
@@ -114,11 +100,11 @@ module _ {S : Type 0} (law : Law S) where
   later-same true s events others same = refl
   later-same false s events others same = same
 
-  first-same : (s : S) (event other : FtpEvent) (events others : List FtpEvent)
+  first-same : {s : S} {event other : FtpEvent} (events others : List FtpEvent)
       → SameStep s event other
       → text (law.next s event) events ≡ text (law.next s event) others
       → text s (event ∷ events) ≡ text s (other ∷ others)
-  first-same s event other events others step same =
+  first-same {s} {event} events others step same =
       ap (λ later. encoded (law.says s event) ++ later)
       (later-same (law.done (law.next s event)) (law.next s event) events others same)
       ∙ (λ i. encoded (step.says i) ++ text_of law (step.next i) (later_run (step.next i) others))
@@ -130,23 +116,22 @@ module _ {S : Type 0} (law : Law S) where
     pub says_next : law.says (law.next s first) second ≡ law.says (law.next s other) another
     pub next : law.next (law.next s first) second ≡ law.next (law.next s other) another
 
-  second-same : (done : Bool) (s t : S) (second another : FtpEvent) (events : List FtpEvent)
+  second-same : (done : Bool) {s t : S} {second another : FtpEvent} (events : List FtpEvent)
       → law.says s second ≡ law.says t another → law.next s second ≡ law.next t another
       → text_of law s (cond done [] (run_of law s (second ∷ events)))
       ≡ text_of law t (cond done [] (run_of law t (another ∷ events)))
-  second-same true s t second another events says next = refl
-  second-same false s t second another events says next =
+  second-same true events says next = refl
+  second-same false events says next =
       λ i. encoded (says i) ++ text_of law (next i) (later_run (next i) events)
 
-  pub two-same : (s : S) (first second other another : FtpEvent) (events : List FtpEvent)
+  pub two-same : {s : S} {first second other another : FtpEvent} (events : List FtpEvent)
       → SameSteps s first second other another
       → text s (first ∷ second ∷ events) ≡ text s (other ∷ another ∷ events)
-  two-same s first second other another events h =
+  two-same {s} {first} {second} {other} events h =
       (λ i. encoded (h.says i) ++ text_of law (law.next s first)
       (cond (h.done i) [] (run_of law (law.next s first) (second ∷ events))))
       ∙ ap (λ later. encoded (law.says s other) ++ later)
-      (second-same (law.done (law.next s other)) (law.next s first) (law.next s other) second
-      another events h.says_next h.next)
+      (second-same (law.done (law.next s other)) events h.says_next h.next)
 
   all-run : (P : FtpEvent → Type 0) (s : S) (events : List FtpEvent) → AllByRecursion P events
       → AllByRecursion P (run_of law s events)
@@ -157,178 +142,188 @@ module _ {S : Type 0} (law : Law S) where
         (all-run P (law.next s event) events each.1),
   )
 
-  -- what holds of the state after some events
-  module _ (Holds : List FtpEvent → S → Type 0)
-      (holds : (past : List FtpEvent) (s : S) (event : FtpEvent) → Holds past s
-      → Holds (past ++ event ∷ []) (law.next s event)) where
-    pub text-after : (past : List FtpEvent) (s : S) (before events others : List FtpEvent)
-        → Holds past s
-        → ((past : List FtpEvent) (s : S) → Holds past s → text s events ≡ text s others)
-        → text s (before ++ events) ≡ text s (before ++ others)
-    text-after past s [] events others h same = same past s h
-    text-after past s (event ∷ before) events others h same =
-        first-same s event event (before ++ events) (before ++ others)
-        (record { says = refl; next = refl; may_fail = λ fault may. may })
-        (text-after (past ++ event ∷ []) (law.next s event) before events others
-        (holds past s event h) same)
+-- What holds of the state after some events, and of events that look alike the same step.
+pub record Alike {S : Type 0} (law : Law S) (accepts : Accounts) : Type 1 where
+  pub Holds : List FtpEvent → S → Type 0
+  pub holds : {past : List FtpEvent} {s : S} (event : FtpEvent) → Holds past s
+      → Holds (past ++ event ∷ []) (law.next s event)
+  pub step : {past : List FtpEvent} {s : S} {event other : FtpEvent} → Holds past s
+      → LooksAlike accepts past event other → SameStep law s event other
 
-    holds-after : (past : List FtpEvent) (s : S) (events : List FtpEvent) → Holds past s
-        → Holds (past ++ events) (last_state law s events)
-    holds-after past s [] h = subst (λ past. Holds past s) (sym (append-nil past)) h
-    holds-after past s (event ∷ events) h =
-        subst (λ past. Holds past (last_state law (law.next s event) events))
-        (append_assoc past (event ∷ []) events)
-        (holds-after (past ++ event ∷ []) (law.next s event) events (holds past s event h))
+module _ {S : Type 0} {law : Law S} {accepts : Accounts} (alike : Alike law accepts) where
+  open alike use {Holds, holds, step}
 
-    module _ (accepts : Accounts)
-        (step : (past : List FtpEvent) (s : S) (event other : FtpEvent) → Holds past s
-        → LooksAlike accepts past event other → SameStep s event other) where
-      pub text-alike : (past : List FtpEvent) (s : S) (events others : List FtpEvent) → Holds past s
-          → AtEachPlace (LooksAlike accepts) past events others
-          → text s events ≡ text s others
-      text-alike past s [] [] h alike = refl
-      text-alike past s [] (other ∷ others) h alike = absurd alike
-      text-alike past s (event ∷ events) [] h alike = absurd alike
-      text-alike past s (event ∷ events) (other ∷ others) h alike =
-          first-same s event other events others (step past s event other h alike.0)
-          (text-alike (past ++ event ∷ []) (law.next s event) events others (holds past s event h)
-          alike.1)
+  abbrev AllAlike : List FtpEvent → List FtpEvent → List FtpEvent → Type 0
+  AllAlike past events others = AtEachPlace (LooksAlike accepts) past events others
 
-      -- the runs look alike, too
-      run-alike : (past : List FtpEvent) (s : S) (events others : List FtpEvent) → Holds past s
-          → AtEachPlace (LooksAlike accepts) past events others
-          → AtEachPlace (LooksAlike accepts) past (run_of law s events) (run_of law s others)
-      run-alike past s [] [] h alike = tt
-      run-alike past s [] (other ∷ others) h alike = absurd alike
-      run-alike past s (event ∷ events) [] h alike = absurd alike
-      run-alike past s (event ∷ events) (other ∷ others) h alike = (
-        alike.0,
-        subst (λ t. AtEachPlace (LooksAlike accepts) (past ++ event ∷ [])
-            (later_run (law.next s event) events) (later_run t others))
-            (step past s event other h alike.0).next
-            (alike-or-none accepts (past ++ event ∷ []) (law.done (law.next s event))
-            (run_of law (law.next s event) events) (run_of law (law.next s event) others)
-            (run-alike (past ++ event ∷ []) (law.next s event) events others (holds past s event h)
-            alike.1)),
-      )
+  text-after : (before events others : List FtpEvent) {past : List FtpEvent} {s : S}
+      → Holds past s
+      → ((past : List FtpEvent) (s : S) → Holds past s → text law s events ≡ text law s others)
+      → text law s (before ++ events) ≡ text law s (before ++ others)
+  text-after [] events others {past} {s} h same = same past s h
+  text-after (event ∷ before) events others h same =
+      first-same law (before ++ events) (before ++ others)
+      (record { says = refl; next = refl; may_fail = λ fault may. may })
+      (text-after before events others (holds event h) same)
 
-      last-same : (past : List FtpEvent) (s : S) (events others : List FtpEvent) → Holds past s
-          → AtEachPlace (LooksAlike accepts) past events others
-          → last_state law s events ≡ last_state law s others
-      last-same past s [] [] h alike = refl
-      last-same past s [] (other ∷ others) h alike = absurd alike
-      last-same past s (event ∷ events) [] h alike = absurd alike
-      last-same past s (event ∷ events) (other ∷ others) h alike =
-          last-same (past ++ event ∷ []) (law.next s event) events others (holds past s event h)
-          alike.1
-          ∙ ap (λ t. last_state law t others) (step past s event other h alike.0).next
+  holds-after : (events : List FtpEvent) {past : List FtpEvent} {s : S} → Holds past s
+      → Holds (past ++ events) (last_state law s events)
+  holds-after [] {past} {s} h = subst (λ past. Holds past s) (sym (append-nil past)) h
+  holds-after (event ∷ events) {past} {s} h =
+      subst (λ past. Holds past (last_state law (law.next s event) events))
+      (append_assoc past (event ∷ []) events)
+      (holds-after events (holds event h))
 
-      replies-same : (past : List FtpEvent) (s : S) (events others : List FtpEvent) → Holds past s
-          → AtEachPlace (LooksAlike accepts) past events others
-          → text_of law s events ≡ text_of law s others
-      replies-same past s [] [] h alike = refl
-      replies-same past s [] (other ∷ others) h alike = absurd alike
-      replies-same past s (event ∷ events) [] h alike = absurd alike
-      replies-same past s (event ∷ events) (other ∷ others) h alike =
-          let same = step past s event other h alike.0 in
-          ap (λ later. encoded (law.says s event) ++ later)
-          (replies-same (past ++ event ∷ []) (law.next s event) events others (holds past s event h)
-          alike.1)
-          ∙ (λ i. encoded (same.says i) ++ text_of law (same.next i) others)
+  text-alike : (events others : List FtpEvent) {past : List FtpEvent} {s : S} → Holds past s
+      → AllAlike past events others → text law s events ≡ text law s others
+  text-alike [] [] h same = refl
+  text-alike [] (other ∷ others) h same = absurd same
+  text-alike (event ∷ events) [] h same = absurd same
+  text-alike (event ∷ events) (other ∷ others) h same =
+      first-same law events others (step h same.0) (text-alike events others (holds event h) same.1)
 
-      -- A run that failed after some of its events.
-      record Split (past done later run : List FtpEvent) : Type 0 where
-        done_too : List FtpEvent
-        later_too : List FtpEvent
-        whole : run ≡ done_too ++ later_too
-        done_alike : AtEachPlace (LooksAlike accepts) past done done_too
-        later_alike : AtEachPlace (LooksAlike accepts) (past ++ done) later later_too
+  alike-or-none : (past : List FtpEvent) (done : Bool) (later others : List FtpEvent)
+      → AllAlike past later others → AllAlike past (cond done [] later) (cond done [] others)
+  alike-or-none past true later others same = tt
+  alike-or-none past false later others same = same
 
-      split : (past done later run : List FtpEvent)
-          → AtEachPlace (LooksAlike accepts) past (done ++ later) run → Split past done later run
-      split past [] later run alike = record {
-        done_too = [];
-        later_too = run;
-        whole = refl;
-        done_alike = tt;
-        later_alike = subst (λ past. AtEachPlace (LooksAlike accepts) past later run)
-            (sym (append-nil past)) alike;
+  -- the runs look alike, too
+  run-alike : (events others : List FtpEvent) {past : List FtpEvent} {s : S} → Holds past s
+      → AllAlike past events others → AllAlike past (run_of law s events) (run_of law s others)
+  run-alike [] [] h same = tt
+  run-alike [] (other ∷ others) h same = absurd same
+  run-alike (event ∷ events) [] h same = absurd same
+  run-alike (event ∷ events) (other ∷ others) {past} {s} h same = (
+    same.0,
+    subst (λ t. AllAlike (past ++ event ∷ []) (later_run law (law.next s event) events)
+        (later_run law t others)) (step h same.0).next
+        (alike-or-none (past ++ event ∷ []) (law.done (law.next s event)) _ _
+        (run-alike events others (holds event h) same.1)),
+  )
+
+  last-same : (events others : List FtpEvent) {past : List FtpEvent} {s : S} → Holds past s
+      → AllAlike past events others → last_state law s events ≡ last_state law s others
+  last-same [] [] h same = refl
+  last-same [] (other ∷ others) h same = absurd same
+  last-same (event ∷ events) [] h same = absurd same
+  last-same (event ∷ events) (other ∷ others) h same =
+      last-same events others (holds event h) same.1
+      ∙ ap (λ t. last_state law t others) (step h same.0).next
+
+  replies-same : (events others : List FtpEvent) {past : List FtpEvent} {s : S} → Holds past s
+      → AllAlike past events others → text_of law s events ≡ text_of law s others
+  replies-same [] [] h same = refl
+  replies-same [] (other ∷ others) h same = absurd same
+  replies-same (event ∷ events) [] h same = absurd same
+  replies-same (event ∷ events) (other ∷ others) {past} {s} h same =
+      let first : SameStep law s event other = step h same.0 in
+      ap (λ later. encoded (law.says s event) ++ later)
+      (replies-same events others (holds event h) same.1)
+      ∙ (λ i. encoded (first.says i) ++ text_of law (first.next i) others)
+
+  -- A run that failed after some of its events.
+  record Split (past done later run : List FtpEvent) : Type 0 where
+    done_too : List FtpEvent
+    later_too : List FtpEvent
+    whole : run ≡ done_too ++ later_too
+    done_alike : AllAlike past done done_too
+    later_alike : AllAlike (past ++ done) later later_too
+
+  split : (done run : List FtpEvent) {past later : List FtpEvent}
+      → AllAlike past (done ++ later) run → Split past done later run
+  split [] run {past} {later} same = record {
+    done_too = [];
+    later_too = run;
+    whole = refl;
+    done_alike = tt;
+    later_alike = subst (λ past. AllAlike past later run) (sym (append-nil past)) same;
+  }
+  split (event ∷ done) [] same = absurd same
+  split (event ∷ done) (other ∷ run) {past} {later} same =
+      let rest : Split (past ++ event ∷ []) done later run = split done run same.1 in
+      record {
+        done_too = other ∷ rest.done_too;
+        later_too = rest.later_too;
+        whole = ap (λ events. other ∷ events) rest.whole;
+        done_alike = (same.0, rest.done_alike);
+        later_alike = subst (λ past. AllAlike past later rest.later_too)
+            (append_assoc past (event ∷ []) done) rest.later_alike;
       }
-      split past (event ∷ done) later [] alike = absurd alike
-      split past (event ∷ done) later (other ∷ run) alike =
-          let rest = split (past ++ event ∷ []) done later run alike.1 in
+
+  module _ (limit : Option ℕ) where
+    memory-alike : (past : List FtpEvent) (event other : FtpEvent)
+        → LooksAlike accepts past event other
+        → FromLine limit other → EventMayTakeMemory event → EventMayTakeMemory other
+    memory-alike past (Command (Pass password)) (Command (Pass other)) same (line, is_line, from)
+        may =
+        pass-memory limit line other is_line (exceeds limit (length line)) from
+    memory-alike past event other same from may = subst EventMayTakeMemory same may
+
+    -- what may come at the end of a run, and what looks like it
+    record EndsAlike (past : List FtpEvent) (t : S) (later others : List FtpEvent) : Type 0 where
+      now : Holds past t
+      same : AllAlike past later others
+      lines : AllByRecursion (FromLine limit) others
+
+    ends_at-alike : {past : List FtpEvent} {t : S} (cause : Cause) (later others : List FtpEvent)
+        (t' : S) → EndsAlike past t later others
+        → EndsAt law cause t later t' → EndsAt law cause t others t'
+    ends_at-alike Finished [] [] t' both ends = ends
+    ends_at-alike Finished [] (other ∷ others) t' both ends = absurd both.same
+    ends_at-alike cause (event ∷ events) [] t' both ends = absurd both.same
+    ends_at-alike {past} {t} (Write part) (event ∷ events) (other ∷ others) t' both ends =
+        let first : SameStep law t event other = step both.now both.same.0 in
+        (ends.0 ∙ first.next, subst (λ reply. Begins (encoded reply) part) first.says ends.1)
+    ends_at-alike (Handler fault) (event ∷ events) (other ∷ others) t' both ends =
+        (step both.now both.same.0).may_fail fault ends
+    ends_at-alike {past} LineMemory (event ∷ events) (other ∷ others) t' both ends =
+        (ends.0, memory-alike past event other both.same.0 both.lines.0 ends.1)
+    ends_at-alike {past} {t} ReplyMemory (event ∷ events) (other ∷ others) t' both ends =
+        let first : SameStep law t event other = step both.now both.same.0 in
+        (ends.0 ∙ first.next, λ none. ends.1 (first.says ∙ none))
+    ends_at-alike cause events others t' both ends = absurd ends
+
+    fails-alike : {before after : Snapshot S} {error : ServeError} {done : List FtpEvent}
+        (events others : List FtpEvent) → Holds [] before.state → AllAlike [] events others
+        → AllByRecursion (FromLine limit) others
+        → RunFailed law before (run_of law before.state events) after error done
+        → (done_too : List FtpEvent) × RunFailed law before (run_of law before.state others)
+        after error done_too
+    fails-alike {before} {after} {error} {done} events others h same lines failed =
+        let s = before.state in
+        let runs = run-alike events others h same in
+        let cut = split done (run_of law s others)
+        (subst (λ run. AllAlike [] run (run_of law s others)) failed.split runs) in
+        let from = subst (AllByRecursion (FromLine limit)) cut.whole
+        (all-run law (FromLine limit) s others lines) in
+        let text = replies-same done cut.done_too h cut.done_alike in (
+          cut.done_too,
           record {
-            done_too = other ∷ rest.done_too;
-            later_too = rest.later_too;
-            whole = ap (λ events. other ∷ events) rest.whole;
-            done_alike = (alike.0, rest.done_alike);
-            later_alike = subst (λ past. AtEachPlace (LooksAlike accepts) past later rest.later_too)
-                (append_assoc past (event ∷ []) done) rest.later_alike;
-          }
-
-      module _ (limit : Option ℕ) where
-        ends_at-alike : (past : List FtpEvent) (t : S) (cause : Cause)
-            (later others : List FtpEvent) (t' : S) → Holds past t
-            → AtEachPlace (LooksAlike accepts) past later others
-            → AllByRecursion (FromLine limit) others
-            → EndsAt law cause t later t' → EndsAt law cause t others t'
-        ends_at-alike past t Finished [] [] t' h alike lines ends = ends
-        ends_at-alike past t Finished [] (other ∷ others) t' h alike lines ends = absurd alike
-        ends_at-alike past t cause (event ∷ events) [] t' h alike lines ends = absurd alike
-        ends_at-alike past t (Write part) (event ∷ events) (other ∷ others) t' h alike lines ends =
-            let same = step past t event other h alike.0 in
-            (ends.0 ∙ same.next, subst (λ reply. Begins (encoded reply) part) same.says ends.1)
-        ends_at-alike past t (Handler fault) (event ∷ events) (other ∷ others) t' h alike lines
-            ends =
-            (step past t event other h alike.0).may_fail fault ends
-        ends_at-alike past t LineMemory (event ∷ events) (other ∷ others) t' h alike lines ends =
-            (ends.0, memory-alike limit accepts past event other alike.0 lines.0 ends.1)
-        ends_at-alike past t ReplyMemory (event ∷ events) (other ∷ others) t' h alike lines ends =
-            let same = step past t event other h alike.0 in
-            (ends.0 ∙ same.next, λ none. ends.1 (same.says ∙ none))
-        ends_at-alike past t cause events others t' h alike lines ends = absurd ends
-
-        pub fails-alike : (before after : Snapshot S) (error : ServeError)
-            (done events others : List FtpEvent) → Holds [] before.state
-            → AtEachPlace (LooksAlike accepts) [] events others
-            → AllByRecursion (FromLine limit) others
-            → RunFailed law before (run_of law before.state events) after error done
-            → (done_too : List FtpEvent) × RunFailed law before (run_of law before.state others)
-            after error done_too
-        fails-alike before after error done events others h alike lines failed =
-            let s = before.state in
-            let runs = run-alike [] s events others h alike in
-            let cut = split [] done failed.later (run_of law s others)
-            (subst (λ run. AtEachPlace (LooksAlike accepts) [] run (run_of law s others))
-            failed.split runs) in
-            let from = subst (AllByRecursion (FromLine limit)) cut.whole
-            (all-run (FromLine limit) s others lines) in
-            let text = replies-same [] s done cut.done_too h cut.done_alike in (
-              cut.done_too,
-              record {
-                later = cut.later_too;
-                split = cut.whole;
-                cause = failed.cause;
-                means = failed.means;
-                ended = record {
-                  ends_at = subst (λ t. EndsAt law failed.cause t cut.later_too after.state)
-                      (last-same [] s done cut.done_too h cut.done_alike)
-                      (ends_at-alike done (last_state law s done) failed.cause failed.later
-                      cut.later_too after.state
-                      (holds-after [] s done h) cut.later_alike
-                      (all-later (FromLine limit) cut.done_too cut.later_too from)
-                      failed.ended.ends_at);
-                  written =
-                      subst (λ text. Appends before.output.written after.output.written
-                      (text_until text failed.cause)) text failed.ended.written;
-                  flushed =
-                      subst (λ text. Flushed text (part_written failed.cause)
-                      before.output.unflushed after.output.unflushed) text failed.ended.flushed;
-                  write_failed = failed.ended.write_failed;
-                  handler_failed = failed.ended.handler_failed;
-                };
-              },
-            )
+            later = cut.later_too;
+            split = cut.whole;
+            cause = failed.cause;
+            means = failed.means;
+            ended = record {
+              ends_at = subst (λ t. EndsAt law failed.cause t cut.later_too after.state)
+                  (last-same done cut.done_too h cut.done_alike)
+                  (ends_at-alike failed.cause failed.later cut.later_too after.state
+                  (record {
+                    now = holds-after done h;
+                    same = cut.later_alike;
+                    lines = all-later (FromLine limit) cut.done_too cut.later_too from;
+                  })
+                  failed.ended.ends_at);
+              written =
+                  subst (λ text. Appends before.output.written after.output.written
+                  (text_until text failed.cause)) text failed.ended.written;
+              flushed =
+                  subst (λ text. Flushed text (part_written failed.cause)
+                  before.output.unflushed after.output.unflushed) text failed.ended.flushed;
+              write_failed = failed.ended.write_failed;
+              handler_failed = failed.ended.handler_failed;
+            };
+          },
+        )
 
 -- Steps of the gate.
 record Outcome : Type 0 where
@@ -342,14 +337,6 @@ outcome_of accepts stage password = record {
   stage = stage_after_password accepts stage password;
   name = admitted accepts stage password;
 }
-
-outcome-alike : (accepts : Accounts) (past : List FtpEvent) (stage : Stage) (password other : Bytes)
-    → Reason accepts stage past
-    → AnsweredAlike accepts past password other → outcome_of accepts stage password
-    ≡ outcome_of accepts stage other
-outcome-alike accepts past (Named name) password other given same = rw (same name given) refl
-outcome-alike accepts past NoName password other given same = refl
-outcome-alike accepts past LoggedIn password other given same = refl
 
 abbrev after_outcome : {S : Type 0} → Law S → Gated S → Outcome → Gated S
 after_outcome law s outcome = record {
@@ -370,30 +357,41 @@ pub record Follows {S : Type 0} (accepts : Accounts) (past : List FtpEvent)
   pub accounts : s.accepts ≡ accepts
   pub reason : Reason accepts s.stage past
 
-pub follows : {S : Type 0} (law : Law S) (accepts : Accounts) (past : List FtpEvent) (s : Gated S)
+follows : {S : Type 0} (law : Law S) {accepts : Accounts} {past : List FtpEvent} {s : Gated S}
     (event : FtpEvent)
     → Follows accepts past s → Follows accepts (past ++ event ∷ []) ((gated_law law).next s event)
-follows law accepts past s event h = record {
+follows law {accepts} {past} {s} event h = record {
   accounts = h.accounts;
   reason = subst (λ told. Reason accepts (stage_after told s.stage event) (past ++ event ∷ []))
       (sym h.accounts)
       (stage_after-reason accepts s.stage past event h.reason);
 }
 
-pub gate-step : {S : Type 0} (law : Law S) (accepts : Accounts) (past : List FtpEvent) (s : Gated S)
+outcome-alike : {S : Type 0} {accepts : Accounts} {past : List FtpEvent} {s : Gated S}
+    (password other : Bytes) → Follows accepts past s → AnsweredAlike accepts past password other
+    → outcome_of s.accepts s.stage password ≡ outcome_of s.accepts s.stage other
+outcome-alike {accepts = accepts} {past = past} {s = s} password other h same =
+    subst (λ told. outcome_of told s.stage password ≡ outcome_of told s.stage other)
+    (sym h.accounts) (by_stage s.stage h.reason)
+  where
+    by_stage : (stage : Stage) → Reason accepts stage past
+        → outcome_of accepts stage password ≡ outcome_of accepts stage other
+    by_stage (Named name) given = rw (same name given) refl
+    by_stage NoName given = refl
+    by_stage LoggedIn given = refl
+
+gate-step : {S : Type 0} (law : Law S) {accepts : Accounts} {past : List FtpEvent} {s : Gated S}
     (event other : FtpEvent)
     → Follows accepts past s → LooksAlike accepts past event other
     → SameStep (gated_law law) s event other
-gate-step law accepts past s (Command (Pass password)) (Command (Pass other)) h same =
-    let outcome = subst (λ told. outcome_of told s.stage password ≡ outcome_of told s.stage other)
-    (sym h.accounts)
-    (outcome-alike accepts past s.stage password other h.reason same) in
+gate-step law {s = s} (Command (Pass password)) (Command (Pass other)) h same =
+    let outcome = outcome-alike password other h same in
     record {
       says = ap (λ (outcome : Outcome). outcome.reply) outcome;
       next = ap (after_outcome law s) outcome;
       may_fail = λ fault may. subst (MayFail law s fault) outcome may;
     }
-gate-step law accepts past s event other h same = record {
+gate-step law {s = s} event other h same = record {
   says = ap ((gated_law law).says s) same;
   next = ap ((gated_law law).next s) same;
   may_fail = λ fault may. subst (λ event. (gated_law law).may_fail s event fault) same may;
@@ -402,13 +400,12 @@ gate-step law accepts past s event other h same = record {
 abbrev refused : Outcome
 refused = record { reply = not_accepted; stage = NoName; name = None }
 
-pub gate-steps : {S : Type 0} (law : Law S) (accepts : Accounts)
-    (name password other another : Bytes)
-    → accepts name password ≡ false → accepts other another ≡ false
-    → (past : List FtpEvent) (s : Gated S) → Follows accepts past s
+gate-steps : {S : Type 0} (law : Law S) {accepts : Accounts} {past : List FtpEvent} {s : Gated S}
+    {name password other another : Bytes}
+    → accepts name password ≡ false → accepts other another ≡ false → Follows accepts past s
     → SameSteps (gated_law law) s (Command (User name)) (Command (Pass password))
     (Command (User other)) (Command (Pass another))
-gate-steps law accepts name password other another first second past s h =
+gate-steps law {s = s} {name} {password} {other} {another} first second h =
     let one : outcome_of s.accepts (Named name) password ≡ refused = rw (h.accounts, first) refl in
     let two : outcome_of s.accepts (Named other) another ≡ refused = rw (h.accounts, second) refl in
     let same = one ∙ sym two in
@@ -425,10 +422,10 @@ is_pass-alike : (accepts : Accounts) (past : List FtpEvent) (event other : FtpEv
 is_pass-alike accepts past (Command (Pass password)) (Command (Pass other)) same = refl
 is_pass-alike accepts past event other same = ap is_pass same
 
-pub limit-step : {S : Type 0} (law : Law S) (s : Limited S) (event other : FtpEvent)
+limit-step : {S : Type 0} {law : Law S} {s : Limited S} {event other : FtpEvent}
     → is_pass event ≡ is_pass other
     → SameStep law s.inner event other → SameStep (limited_law law) s event other
-limit-step law s event other pass same = record {
+limit-step {law = law} {s} {event} {other} pass same = record {
   says = λ i. cond ((pass i && not (is_positive (same.says i))) && nat_le s.left 1) too_many
       (same.says i);
   next = λ i. record {
@@ -444,12 +441,12 @@ limit-step law s event other pass same = record {
     fails fault (inr last) =
         inr (subst IsTrue (λ i. pass i && not (is_positive (same.says i))) last.0, last.1, last.2)
 
-pub limit-steps : {S : Type 0} (law : Law S) (s : Limited S) (name password other another : Bytes)
+limit-steps : {S : Type 0} {law : Law S} {s : Limited S} {name password other another : Bytes}
     → SameSteps law s.inner (Command (User name)) (Command (Pass password)) (Command (User other))
     (Command (Pass another))
     → SameSteps (limited_law law) s (Command (User name)) (Command (Pass password))
     (Command (User other)) (Command (Pass another))
-limit-steps law s name password other another h = record {
+limit-steps {s = s} h = record {
   says = h.says;
   done = ap (λ done. (s.left == 0) || done) h.done;
   says_next = λ i. cond ((true && not (is_positive (h.says_next i))) && nat_le s.left 1) too_many
@@ -461,7 +458,7 @@ limit-steps law s name password other another h = record {
 }
 
 -- Events that look alike, in bytes.
-pub events-pass : (limit : Option ℕ) (before after password : Bytes) → incomplete_line before ≡ []
+events-pass : (limit : Option ℕ) (before after password : Bytes) → incomplete_line before ≡ []
     → PasswordFits limit password
     → events limit (before ++ (pass_line password ++ after))
     ≡ events limit before ++ Command (Pass password) ∷ events limit after
@@ -470,12 +467,12 @@ events-pass limit before after password ended sent =
     ∙ ap (λ later. events limit before ++ later)
     (events-canonical_line limit (Pass password) after sent.0 tt sent.1)
 
-pub events-login : (limit : Option ℕ) (accepts : Accounts) (before after name password : Bytes)
-    → incomplete_line before ≡ []
+events-login : {limit : Option ℕ} {accepts : Accounts} {name password : Bytes}
+    (before after : Bytes) → incomplete_line before ≡ []
     → IsRefusedLogin limit accepts name password
     → events limit (before ++ (login_lines name password ++ after))
     ≡ events limit before ++ Command (User name) ∷ Command (Pass password) ∷ events limit after
-events-login limit accepts before after name password ended h =
+events-login {limit} {name = name} {password = password} before after ended h =
     events-after limit before (login_lines name password ++ after) ended
     ∙ ap (λ bytes. events limit before ++ events limit bytes)
     (append_assoc (canonical_line (User name)) (pass_line password) after)
@@ -485,125 +482,116 @@ events-login limit accepts before after name password ended h =
     ∙ ap (λ events. Command (User name) ∷ events)
     (events-canonical_line limit (Pass password) after h.password_sent.0 tt h.password_sent.1))
 
-alike-itself : (accepts : Accounts) (past : List FtpEvent) (event : FtpEvent)
-    → LooksAlike accepts past event event
-alike-itself accepts past (Command (Pass password)) = λ name given. refl
-alike-itself accepts past event = refl
+module _ (accepts : Accounts) where
+  alike-itself : (past : List FtpEvent) (event : FtpEvent) → LooksAlike accepts past event event
+  alike-itself past (Command (Pass password)) = λ name given. refl
+  alike-itself past event = refl
 
-alike-themselves : (accepts : Accounts) (past events : List FtpEvent)
-    → AtEachPlace (LooksAlike accepts) past events events
-alike-themselves accepts past [] = tt
-alike-themselves accepts past (event ∷ events) =
-    (alike-itself accepts past event, alike-themselves accepts (past ++ event ∷ []) events)
+  alike-themselves : (past events : List FtpEvent)
+      → AtEachPlace (LooksAlike accepts) past events events
+  alike-themselves past [] = tt
+  alike-themselves past (event ∷ events) =
+      (alike-itself past event, alike-themselves (past ++ event ∷ []) events)
 
-pub alike-after : (accepts : Accounts) (past before more : List FtpEvent) (event other : FtpEvent)
-    → LooksAlike accepts (past ++ before) event other
-    → AtEachPlace (LooksAlike accepts) past (before ++ event ∷ more) (before ++ other ∷ more)
-alike-after accepts past [] more event other same = (
-  subst (λ past. LooksAlike accepts past event other) (append-nil past) same,
-  alike-themselves accepts (past ++ event ∷ []) more,
-)
-alike-after accepts past (first ∷ before) more event other same = (
-  alike-itself accepts past first,
-  alike-after accepts (past ++ first ∷ []) before more event other
-      (subst (λ past. LooksAlike accepts past event other)
-      (sym (append_assoc past (first ∷ []) before)) same),
-)
+  alike-after : (past before more : List FtpEvent) (event other : FtpEvent)
+      → LooksAlike accepts (past ++ before) event other
+      → AtEachPlace (LooksAlike accepts) past (before ++ event ∷ more) (before ++ other ∷ more)
+  alike-after past [] more event other same = (
+    subst (λ past. LooksAlike accepts past event other) (append-nil past) same,
+    alike-themselves (past ++ event ∷ []) more,
+  )
+  alike-after past (first ∷ before) more event other same = (
+    alike-itself past first,
+    alike-after (past ++ first ∷ []) before more event other
+        (subst (λ past. LooksAlike accepts past event other)
+        (sym (append_assoc past (first ∷ []) before)) same),
+  )
 
--- A handler whose steps are so, over inputs.
-module _ {S : Type 0} (law : Law S) (s : S) (accepts : Accounts) (Holds : List FtpEvent → S
-    → Type 0) (first : Holds [] s)
-    (holds : (past : List FtpEvent) (s : S) (event : FtpEvent) → Holds past s
-    → Holds (past ++ event ∷ []) (law.next s event)) (limit : Option ℕ) where
-  module _ (step : (past : List FtpEvent) (s : S) (event other : FtpEvent) → Holds past s
-      → LooksAlike accepts past event other → SameStep law s event other) where
-    pub text-hidden : (input other : Bytes)
-        → AllLookAlike accepts (events limit input) (events limit other)
-        → text_for limit law s input ≡ text_for limit law s other
-    text-hidden input other alike =
-        text-alike law Holds holds accepts step [] s (events limit input) (events limit other) first
-        alike
+-- What is said of a handler, from some state on: of inputs that look alike, of passwords that are
+-- answered alike, and of logins that are refused.
+module _ {S : Type 0} (limit : Option ℕ) (accepts : Accounts) (law : Law S) (s : S) where
+  abbrev pub TextHidden : Type 0
+  TextHidden = (input other : Bytes)
+      → AllLookAlike accepts (events limit input) (events limit other)
+      → text_for limit law s input ≡ text_for limit law s other
 
-    pub errors-hidden : (input other : Bytes)
-        → AllLookAlike accepts (events limit input) (events limit other)
-        → FailsAlike limit law s input other
-    errors-hidden input other alike before after error done same failed =
-        fails-alike law Holds holds accepts step limit before after error done (events limit input)
-        (events limit other)
-        (subst (Holds []) (sym same) first) alike
-        (from_lines limit (lines_of other) (Lines-lines_of other).each) failed
+  abbrev pub ErrorsHidden : Type 0
+  ErrorsHidden = (input other : Bytes)
+      → AllLookAlike accepts (events limit input) (events limit other)
+      → FailsAlike limit law s input other
 
-    pub text-passwords : (before after password other : Bytes) → incomplete_line before ≡ []
-        → PasswordFits limit password → PasswordFits limit other
-        → AnsweredAlike accepts (events limit before) password other
-        → text_for limit law s (before ++ (pass_line password ++ after)) ≡ text_for limit law s
-        (before ++ (pass_line other ++ after))
-    text-passwords before after password other ended one two same =
-        text-hidden (before ++ (pass_line password ++ after)) (before ++ (pass_line other ++ after))
-        (rw (
-          events-pass limit before after password ended one,
-          events-pass limit before after other ended two,
-        )
-        (alike-after accepts [] (events limit before) (events limit after) (Command (Pass password))
-        (Command (Pass other)) same))
+  abbrev pub PasswordsAlike : Type 0
+  PasswordsAlike = (before after password other : Bytes) → incomplete_line before ≡ []
+      → PasswordFits limit password → PasswordFits limit other
+      → AnsweredAlike accepts (events limit before) password other
+      → text_for limit law s (before ++ (pass_line password ++ after))
+      ≡ text_for limit law s (before ++ (pass_line other ++ after))
 
-  pub text-logins : ((name password other another : Bytes) → accepts name password ≡ false
-      → accepts other another ≡ false
-      → (past : List FtpEvent) (s : S) → Holds past s
-      → SameSteps law s (Command (User name)) (Command (Pass password)) (Command (User other))
-      (Command (Pass another)))
-      → (before after name password other another : Bytes) → incomplete_line before ≡ []
+  abbrev pub LoginsAlike : Type 0
+  LoginsAlike = (before after name password other another : Bytes) → incomplete_line before ≡ []
       → IsRefusedLogin limit accepts name password → IsRefusedLogin limit accepts other another
       → text_for limit law s (before ++ (login_lines name password ++ after))
       ≡ text_for limit law s (before ++ (login_lines other another ++ after))
+
+-- A handler whose steps are so, over inputs.
+module _ {S : Type 0} {law : Law S} {accepts : Accounts} (alike : Alike law accepts)
+    (limit : Option ℕ) (s : S) (first : alike.Holds [] s) where
+  text-hidden : TextHidden limit accepts law s
+  text-hidden input other same = text-alike alike (events limit input) (events limit other) first
+      same
+
+  errors-hidden : ErrorsHidden limit accepts law s
+  errors-hidden input other same before after error done is failed =
+      fails-alike alike limit (events limit input) (events limit other)
+      (subst (alike.Holds []) (sym is) first) same
+      (from_lines limit (lines_of other) (Lines-lines_of other).each) failed
+
+  text-passwords : PasswordsAlike limit accepts law s
+  text-passwords before after password other ended one two same =
+      text-hidden (before ++ (pass_line password ++ after)) (before ++ (pass_line other ++ after))
+      (rw (
+        events-pass limit before after password ended one,
+        events-pass limit before after other ended two,
+      )
+      (alike-after accepts [] (events limit before) (events limit after) (Command (Pass password))
+      (Command (Pass other)) same))
+
+  text-logins : ((name password other another : Bytes) (past : List FtpEvent) (s : S)
+      → accepts name password ≡ false → accepts other another ≡ false → alike.Holds past s
+      → SameSteps law s (Command (User name)) (Command (Pass password)) (Command (User other))
+      (Command (Pass another)))
+      → LoginsAlike limit accepts law s
   text-logins steps before after name password other another ended one two =
-      ap (text law s) (events-login limit accepts before after name password ended one)
-      ∙ text-after law Holds holds [] s (events limit before) _ _ first
-      (λ past s h. two-same law s (Command (User name)) (Command (Pass password))
-      (Command (User other)) (Command (Pass another)) (events limit after)
-      (steps name password other another one.refused two.refused past s h))
-      ∙ sym (ap (text law s) (events-login limit accepts before after other another ended two))
+      ap (text law s) (events-login before after ended one)
+      ∙ text-after alike (events limit before) _ _ first
+      (λ past s h. two-same law (events limit after)
+      (steps _ _ _ _ past s one.refused two.refused h))
+      ∙ sym (ap (text law s) (events-login before after ended two))
 
 -- The gate, and a limit before it.
 module _ {S : Type 0} (law : Law S) (limit : Option ℕ) (accepts : Accounts) (inner : S) where
+  abbrev gate_alike : Alike (gated_law law) accepts
+  gate_alike = record {
+    Holds = Follows accepts;
+    holds = follows law;
+    step = gate-step law _ _;
+  }
+
   begins : Follows accepts [] (closed accepts inner)
   begins = record { accounts = refl; reason = tt }
 
-  pub gate-text-hidden : (input other : Bytes)
-      → AllLookAlike accepts (events limit input) (events limit other)
-      → text_for limit (gated_law law) (closed accepts inner) input ≡ text_for limit (gated_law law)
-      (closed accepts inner) other
-  gate-text-hidden =
-      text-hidden (gated_law law) (closed accepts inner) accepts (Follows accepts) begins
-      (follows law accepts) limit (gate-step law accepts)
+  pub gate-text-hidden : TextHidden limit accepts (gated_law law) (closed accepts inner)
+  gate-text-hidden = text-hidden gate_alike limit (closed accepts inner) begins
 
-  pub gate-errors-hidden : (input other : Bytes)
-      → AllLookAlike accepts (events limit input) (events limit other)
-      → FailsAlike limit (gated_law law) (closed accepts inner) input other
-  gate-errors-hidden =
-      errors-hidden (gated_law law) (closed accepts inner) accepts (Follows accepts) begins
-      (follows law accepts) limit (gate-step law accepts)
+  pub gate-errors-hidden : ErrorsHidden limit accepts (gated_law law) (closed accepts inner)
+  gate-errors-hidden = errors-hidden gate_alike limit (closed accepts inner) begins
 
-  pub gate-text-passwords : (before after password other : Bytes)
-      → incomplete_line before ≡ [] → PasswordFits limit password → PasswordFits limit other
-      → AnsweredAlike accepts (events limit before) password other
-      → text_for limit (gated_law law) (closed accepts inner)
-      (before ++ (pass_line password ++ after))
-      ≡ text_for limit (gated_law law) (closed accepts inner) (before ++ (pass_line other ++ after))
-  gate-text-passwords =
-      text-passwords (gated_law law) (closed accepts inner) accepts (Follows accepts) begins
-      (follows law accepts) limit (gate-step law accepts)
+  pub gate-text-passwords : PasswordsAlike limit accepts (gated_law law) (closed accepts inner)
+  gate-text-passwords = text-passwords gate_alike limit (closed accepts inner) begins
 
-  pub gate-text-logins : (before after name password other another : Bytes)
-      → incomplete_line before ≡ [] → IsRefusedLogin limit accepts name password
-      → IsRefusedLogin limit accepts other another
-      → text_for limit (gated_law law) (closed accepts inner)
-      (before ++ (login_lines name password ++ after))
-      ≡ text_for limit (gated_law law) (closed accepts inner)
-      (before ++ (login_lines other another ++ after))
-  gate-text-logins =
-      text-logins (gated_law law) (closed accepts inner) accepts (Follows accepts) begins
-      (follows law accepts) limit (gate-steps law accepts)
+  pub gate-text-logins : LoginsAlike limit accepts (gated_law law) (closed accepts inner)
+  gate-text-logins = text-logins gate_alike limit (closed accepts inner) begins
+      (λ name password other another past s. gate-steps law)
 
 module _ {S : Type 0} (law : Law S) (limit : Option ℕ) (accepts : Accounts) (left : ℕ)
     (inner : S) where
@@ -613,62 +601,26 @@ module _ {S : Type 0} (law : Law S) (limit : Option ℕ) (accepts : Accounts) (l
   abbrev start : Limited (Gated S)
   start = limited_to left (closed accepts inner)
 
-  abbrev LimitFollows : List FtpEvent → Limited (Gated S) → Type 0
-  LimitFollows past s = Follows accepts past s.inner
+  abbrev limit_alike : Alike limited accepts
+  limit_alike = record {
+    Holds = λ past s. Follows accepts past s.inner;
+    holds = follows law;
+    step = λ h same. limit-step (is_pass-alike accepts _ _ _ same) (gate-step law _ _ h same);
+  }
 
-  limit_begins : LimitFollows [] start
+  limit_begins : Follows accepts [] start.inner
   limit_begins = record { accounts = refl; reason = tt }
 
-  limit_follows : (past : List FtpEvent) (s : Limited (Gated S)) (event : FtpEvent)
-      → LimitFollows past s → LimitFollows (past ++ event ∷ []) (limited.next s event)
-  limit_follows past s event h = follows law accepts past s.inner event h
+  pub limit-text-hidden : TextHidden limit accepts limited start
+  limit-text-hidden = text-hidden limit_alike limit start limit_begins
 
-  limit-alike : (past : List FtpEvent) (s : Limited (Gated S)) (event other : FtpEvent)
-      → LimitFollows past s → LooksAlike accepts past event other
-      → SameStep limited s event other
-  limit-alike past s event other h same =
-      limit-step (gated_law law) s event other (is_pass-alike accepts past event other same)
-      (gate-step law accepts past s.inner event other h same)
+  pub limit-errors-hidden : ErrorsHidden limit accepts limited start
+  limit-errors-hidden = errors-hidden limit_alike limit start limit_begins
 
-  limit-two : (name password other another : Bytes) → accepts name password ≡ false
-      → accepts other another ≡ false
-      → (past : List FtpEvent) (s : Limited (Gated S)) → LimitFollows past s
-      → SameSteps limited s (Command (User name)) (Command (Pass password)) (Command (User other))
-      (Command (Pass another))
-  limit-two name password other another one two past s h =
-      limit-steps (gated_law law) s name password other another
-      (gate-steps law accepts name password other another one two past s.inner h)
+  pub limit-text-passwords : PasswordsAlike limit accepts limited start
+  limit-text-passwords = text-passwords limit_alike limit start limit_begins
 
-  pub limit-text-hidden : (input other : Bytes)
-      → AllLookAlike accepts (events limit input) (events limit other)
-      → text_for limit (limited_law (gated_law law)) (limited_to left (closed accepts inner)) input
-      ≡ text_for limit (limited_law (gated_law law)) (limited_to left (closed accepts inner)) other
-  limit-text-hidden = text-hidden limited start accepts LimitFollows limit_begins limit_follows
-      limit limit-alike
-
-  pub limit-errors-hidden : (input other : Bytes)
-      → AllLookAlike accepts (events limit input) (events limit other)
-      → FailsAlike limit (limited_law (gated_law law)) (limited_to left (closed accepts inner))
-      input other
-  limit-errors-hidden = errors-hidden limited start accepts LimitFollows limit_begins limit_follows
-      limit limit-alike
-
-  pub limit-text-passwords : (before after password other : Bytes)
-      → incomplete_line before ≡ [] → PasswordFits limit password → PasswordFits limit other
-      → AnsweredAlike accepts (events limit before) password other
-      → text_for limit (limited_law (gated_law law)) (limited_to left (closed accepts inner))
-      (before ++ (pass_line password ++ after))
-      ≡ text_for limit (limited_law (gated_law law)) (limited_to left (closed accepts inner))
-      (before ++ (pass_line other ++ after))
-  limit-text-passwords = text-passwords limited start accepts LimitFollows limit_begins
-      limit_follows limit limit-alike
-
-  pub limit-text-logins : (before after name password other another : Bytes)
-      → incomplete_line before ≡ [] → IsRefusedLogin limit accepts name password
-      → IsRefusedLogin limit accepts other another
-      → text_for limit (limited_law (gated_law law)) (limited_to left (closed accepts inner))
-      (before ++ (login_lines name password ++ after))
-      ≡ text_for limit (limited_law (gated_law law)) (limited_to left (closed accepts inner))
-      (before ++ (login_lines other another ++ after))
-  limit-text-logins = text-logins limited start accepts LimitFollows limit_begins limit_follows
-      limit limit-two
+  pub limit-text-logins : LoginsAlike limit accepts limited start
+  limit-text-logins = text-logins limit_alike limit start limit_begins
+      (λ name password other another past s first second h.
+      limit-steps (gate-steps law first second h))

@@ -46,18 +46,18 @@ module _ {S : Type 0} (law : Law S) where
     pub few : failed_in_run limited s events ≤ s.left
     pub last : failed_in_run limited s events ≡ s.left → EndsWith too_many limited s events
 
-  with_done : (done : Bool) (s : Limited S) (event : FtpEvent) (events : List FtpEvent)
+  with_done : (done : Bool) {s : Limited S} {event : FtpEvent} {events : List FtpEvent}
       → limited.done (limited.next s event) ≡ done
       → cond (is_failed_login event (limited.says s event)) 1 0 + (limited.next s event).left
       ≡ s.left
       → (cond (is_failed_login event (limited.says s event)) 1 0 ≡ s.left
       → limited.says s event ≡ too_many)
       → (done ≡ false → IsBounded (limited.next s event) events) → IsBounded s (event ∷ events)
-  with_done true s event events e counted last later = record {
+  with_done true e counted last later = record {
     few = rw (e) (omega (arith, counted));
     last = rw (e) (λ all. (refl, [], ap (λ reply. reply ∷ []) (last (omega (arith, all)))));
   }
-  with_done false s event events e counted last later =
+  with_done false {s} {event} e counted last later =
       let rest = later refl in
       record {
         few = rw (e) (let few = rest.few in omega (arith, counted, few));
@@ -73,7 +73,7 @@ module _ {S : Type 0} (law : Law S) where
   bounded s (event ∷ events) some =
       let reply = law.says s.inner event in
       let same = failed-limited s.left event reply in
-      with_done (limited.done (limited.next s event)) s event events refl
+      with_done (limited.done (limited.next s event)) refl
       (ap (λ failed. cond failed 1 0 + (limited.next s event).left) same
       ∙ left-counted (is_failed_login event reply) s.left some)
       (λ all. last-reply (is_failed_login event reply) s.left reply some

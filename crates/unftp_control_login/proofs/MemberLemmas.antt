@@ -171,13 +171,13 @@ IsPlain-sent Nothing h = absurd h
 IsPlain-sent (CodeAndMsg code text) h = h
 IsPlain-sent (MultiLine code lines) h = h
 
-NoFailure-read : (reply : FtpReply) (code : ℕ) (lines : List Bytes)
+NoFailure-read : (reply : FtpReply) {code : ℕ} {lines : List Bytes}
     → reply_as_read reply ≡ Some (code, lines) → code < 400 → NoFailure reply
-NoFailure-read Nothing code lines e low = tt
-NoFailure-read (CodeAndMsg said text) code lines e low =
+NoFailure-read Nothing e low = tt
+NoFailure-read (CodeAndMsg said text) {code} {lines} e low =
     subst (λ (read : ℕ × List Bytes). read.0 < 400)
     (sym (same_Some (said, text ∷ []) (code, lines) e)) low
-NoFailure-read (MultiLine said texts) code lines e low =
+NoFailure-read (MultiLine said texts) {code} {lines} e low =
     subst (λ (read : ℕ × List Bytes). read.0 < 400)
     (sym (same_Some (said, lines_as_read texts) (code, lines) e)) low
 
@@ -201,7 +201,7 @@ module _ {S : Type 0} (law : Law S) (first : S) (accepts : Accounts)
       rw (read.1) (
         λ needs low. serves before event needs
             (subst (λ t. NoFailure (law.says t event)) (sym same)
-            (NoFailure-read (law.says s event) read.0.0 read.0.1 read.1 low)),
+            (NoFailure-read (law.says s event) read.1 low)),
         after_login (before ++ event ∷ []) (law.next s event) events
             (last_state-append law first before (event ∷ []) ∙ ap (λ t. law.next t event) same),
       )

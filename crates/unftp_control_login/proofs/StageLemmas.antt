@@ -41,29 +41,29 @@ Reason accepts NoName past = Unit {0}
 Reason accepts (Named name) past = GaveName name past
 Reason accepts LoggedIn past = IsLoggedIn accepts past
 
-AllByRecursion-push : {X : Type 0} (P : X → Type 0) (xs : List X) (x : X) → AllByRecursion P xs
+AllByRecursion-push : {X : Type 0} (P : X → Type 0) (xs : List X) {x : X} → AllByRecursion P xs
     → P x → AllByRecursion P (xs ++ x ∷ [])
-AllByRecursion-push P [] x h last = (last, tt)
-AllByRecursion-push P (y ∷ xs) x h last = (h.0, AllByRecursion-push P xs x h.1 last)
+AllByRecursion-push P [] h last = (last, tt)
+AllByRecursion-push P (y ∷ xs) h last = (h.0, AllByRecursion-push P xs h.1 last)
 
-one_more : (past before since : List FtpEvent) (mark event : FtpEvent)
+one_more : {past : List FtpEvent} (before since : List FtpEvent) (mark event : FtpEvent)
     → past ≡ before ++ mark ∷ since
     → past ++ event ∷ [] ≡ before ++ mark ∷ (since ++ event ∷ [])
-one_more past before since mark event e = ap (λ l. l ++ event ∷ []) e
+one_more before since mark event e = ap (λ l. l ++ event ∷ []) e
     ∙ append_assoc before (mark ∷ since) (event ∷ [])
 
-login_stays : (accepts : Accounts) (past : List FtpEvent) (event : FtpEvent) → KeepsLogin event
+login_stays : {accepts : Accounts} {past : List FtpEvent} (event : FtpEvent) → KeepsLogin event
     → IsLoggedIn accepts past → IsLoggedIn accepts (past ++ event ∷ [])
-login_stays accepts past event keeps (name, h) = (
+login_stays event keeps (name, h) = (
   name,
   record {
     before = h.before;
     password = h.password;
     since = h.since ++ event ∷ [];
-    whole = one_more past h.before h.since (Command (Pass h.password)) event h.whole;
+    whole = one_more h.before h.since (Command (Pass h.password)) event h.whole;
     named = h.named;
     accepted = h.accepted;
-    kept = AllByRecursion-push KeepsLogin h.since event h.kept keeps;
+    kept = AllByRecursion-push KeepsLogin h.since h.kept keeps;
   },
 )
 
@@ -74,11 +74,11 @@ stays accepts NoName past event name_kept login_kept h = tt
 stays accepts (Named name) past event name_kept login_kept h = record {
   before = h.before;
   since = h.since ++ event ∷ [];
-  whole = one_more past h.before h.since (Command (User name)) event h.whole;
-  kept = AllByRecursion-push KeepsName h.since event h.kept name_kept;
+  whole = one_more h.before h.since (Command (User name)) event h.whole;
+  kept = AllByRecursion-push KeepsName h.since h.kept name_kept;
 }
 stays accepts LoggedIn past event name_kept login_kept h =
-    login_stays accepts past event login_kept h
+    login_stays event login_kept h
 
 pub by_test : {X : Type 0} (P : X → Type 0) (test : Bool) (x y : X) → (test ≡ true → P x)
     → (test ≡ false → P y) → P (cond test x y)
@@ -109,7 +109,7 @@ stage_after-reason accepts (Named name) past (Command (Pass password)) h =
       },
     )) (λ _. tt)
 stage_after-reason accepts LoggedIn past (Command (Pass password)) h =
-    login_stays accepts past (Command (Pass password)) refl h
+    login_stays (Command (Pass password)) refl h
 stage_after-reason accepts stage past (Command (Auth mechanism)) h = tt
 stage_after-reason accepts stage past (Command command) h =
     stays accepts stage past (Command command) refl refl h
@@ -124,19 +124,19 @@ reason accepts stage past (event ∷ events) h =
     (reason accepts (stage_after accepts stage event) (past ++ event ∷ []) events
     (stage_after-reason accepts stage past event h))
 
-logged_in-reason : (accepts : Accounts) (stage : Stage) (past : List FtpEvent)
+logged_in-reason : {accepts : Accounts} (stage : Stage) {past : List FtpEvent}
     → Reason accepts stage past → is_logged_in stage ≡ true
     → IsLoggedIn accepts past
-logged_in-reason accepts NoName past h e = absurd (false≢true e)
-logged_in-reason accepts (Named name) past h e = absurd (false≢true e)
-logged_in-reason accepts LoggedIn past h e = h
+logged_in-reason NoName h e = absurd (false≢true e)
+logged_in-reason (Named name) h e = absurd (false≢true e)
+logged_in-reason LoggedIn h e = h
 
 -- One who is at that stage has logged in,
 pub logged_in-stage : (accepts : Accounts) (events : List FtpEvent)
     → is_logged_in (stage_after_all accepts NoName events) ≡ true
     → IsLoggedIn accepts events
-logged_in-stage accepts events e = logged_in-reason accepts (stage_after_all accepts NoName events)
-    events (reason accepts NoName [] events tt) e
+logged_in-stage accepts events e = logged_in-reason (stage_after_all accepts NoName events)
+    (reason accepts NoName [] events tt) e
 
 -- and one who has given a name, or logged in, is at that stage.
 keeps_name : (accepts : Accounts) (name : Bytes) (event : FtpEvent) → KeepsName event

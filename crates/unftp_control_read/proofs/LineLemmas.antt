@@ -23,9 +23,9 @@ lacks_by_place text h before after e = h
     (ap (λ t. get_or t (length before) 0) e ∙ get_or-append_seam before CR (LF ∷ after) 0)
     (ap (λ t. get_or t (length before + 1) 0) e ∙ get_or-append-add before (CR ∷ LF ∷ after) 1 0)
 
-pub cut_at_place : (text : Bytes) (at : ℕ) → at + 1 < length text → get_or text at 0 ≡ CR
+pub cut_at_place : {text : Bytes} (at : ℕ) → at + 1 < length text → get_or text at 0 ≡ CR
     → get_or text (at + 1) 0 ≡ LF → text ≡ take at text ++ CR ∷ LF ∷ drop 2 (drop at text)
-cut_at_place text at short is_cr is_lf =
+cut_at_place {text} at short is_cr is_lf =
     let at_lf : get_or text (suc at) 0 ≡ LF = subst (λ k. get_or text k 0 ≡ LF) (omega arith) is_lf
     in
     let a = drop-cons text at 0 (omega arith) in
@@ -35,10 +35,10 @@ cut_at_place text at short is_cr is_lf =
     sym (take-append-drop at text)
     ∙ ap (λ s. take at text ++ s) (both ∙ sym (ap (λ s. CR ∷ LF ∷ drop 2 s) both))
 
-pub all_snoc : (P : Bytes → Type 0) (lines : List Bytes) (line : Bytes) → AllByRecursion P lines
+pub all_snoc : (P : Bytes → Type 0) (lines : List Bytes) {line : Bytes} → AllByRecursion P lines
     → P line → AllByRecursion P (lines ++ line ∷ [])
-all_snoc P [] line h p = (p, tt)
-all_snoc P (l ∷ lines) line h p = (h.0, all_snoc P lines line h.1 p)
+all_snoc P [] h p = (p, tt)
+all_snoc P (l ∷ lines) {line} h p = (h.0, all_snoc P lines h.1 p)
 
 pub one_more : (lines : List Bytes) (line rest : Bytes)
     → flat_map with_crlf lines ++ (line ++ CR ∷ LF ∷ rest) ≡ flat_map with_crlf (lines ++ line ∷ [])
@@ -49,31 +49,32 @@ one_more lines line rest =
     ∙ ap (λ s. s ++ rest) (sym (flat_map-append with_crlf lines (line ∷ [])))
 
 -- bytes have one list of whole lines, and one rest
-pub lines_unique : (ks ls : List Bytes) (x y : Bytes) → AllByRecursion LacksCrlf ks
+pub lines_unique : (ks ls : List Bytes) {x y : Bytes} → AllByRecursion LacksCrlf ks
     → AllByRecursion LacksCrlf ls → LacksCrlf x → LacksCrlf y
     → flat_map with_crlf ks ++ x ≡ flat_map with_crlf ls ++ y → ks ≡ ls
-lines_unique [] [] x y p q f g e = refl
-lines_unique [] (l ∷ ls) x y p q f g e =
+lines_unique [] [] p q f g e = refl
+lines_unique [] (l ∷ ls) {y} p q f g e =
     absurd (f l (flat_map with_crlf ls ++ y) (e ∙ line_apart l ls y))
-lines_unique (k ∷ ks) [] x y p q f g e =
+lines_unique (k ∷ ks) [] {x} p q f g e =
     absurd (g k (flat_map with_crlf ks ++ x) (sym e ∙ line_apart k ks x))
-lines_unique (k ∷ ks) (l ∷ ls) x y p q f g e =
-    let cut = cut_first k l ks ls x y p.0 q.0 e in
-    let more = lines_unique ks ls x y p.1 q.1 f g cut.1 in
+lines_unique (k ∷ ks) (l ∷ ls) {x} {y} p q f g e =
+    let cut = cut_first ks ls x y p.0 q.0 e in
+    let more = lines_unique ks ls p.1 q.1 f g cut.1 in
     λ i. cut.0 i ∷ more i
 
 -- the text after the digits and a space, or that there is none
-pub after_digits : (digits line rest : Bytes) (r : Option (Bor Bytes)) → line ≡ digits ++ rest
+pub after_digits : (digits : Bytes) {line : Bytes} (rest : Bytes) (r : Option (Bor Bytes))
+    → line ≡ digits ++ rest
     → MatchOption r ((text : Bytes) → rest ≢ SP ∷ text) (λ text. rest ≡ SP ∷ text.now)
     → IfSome r (λ text. line ≡ digits ++ SP ∷ text.now) × IfNone r (GoesOn digits line)
-after_digits digits line rest (Some text) e h = (e ∙ ap (λ r. digits ++ r) h, tt)
-after_digits digits line rest None e h =
-    (tt, λ text f. h text (same_front digits digits rest (SP ∷ text) refl (sym e ∙ f)).1)
+after_digits digits rest (Some text) e h = (e ∙ ap (λ r. digits ++ r) h, tt)
+after_digits digits rest None e h =
+    (tt, λ text f. h text (same_front refl (sym e ∙ f)).1)
 
 -- ---- the first line, where the beginning is known to have no CR LF
 
 lacks_at : (text : Bytes) (k : ℕ) → LacksCrlf text → k + 1 < length text → NoCrlfAt text k
-lacks_at text k lacks within is_cr is_lf = lacks _ _ (cut_at_place text k within is_cr is_lf)
+lacks_at text k lacks within is_cr is_lf = lacks _ _ (cut_at_place k within is_cr is_lf)
 
 -- none in the part that is searched, and no line feed after it that ends a line: so none
 pub lacks_up_to : (bytes : Bytes) (searched to : ℕ) → searched ≤ to → to ≤ length bytes

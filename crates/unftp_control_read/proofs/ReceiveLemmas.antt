@@ -286,7 +286,7 @@ whole_reply {before} {remaining = Some input} {result = Ok (Some reply)} {after}
     {remaining' = Some left} h =
     subst (λ b. TakesReply b (content reply) (after.bytes ++ left))
     (append_assoc before.bytes h.read left ∙ ap (λ b. before.bytes ++ b) (sym h.consumed))
-    (TakesReply-append (before.bytes ++ h.read) left (content reply) after.bytes h.takes_next.takes)
+    (TakesReply-append left h.takes_next.takes)
 
 pub whole_end : {before : PendingReplies} {remaining : Option Bytes}
     {result : Result (Option ReceivedReply) ReceiveError} {after : PendingReplies}

@@ -52,20 +52,20 @@ rest_is bytes s h = ap (drop s.line) h.cut ∙ drop_at (flat_map with_crlf h.lin
     (sym h.line_is)
 
 -- where the line begins, and how much of it is searched
-pub rest_searched : (bytes rest : Bytes) (s : Search) → IsSearched bytes s
+pub rest_searched : {bytes rest : Bytes} {s : Search} → IsSearched bytes s
     → rest ≡ drop s.line bytes
     → (s.searched ≤ length rest) × LacksCrlf (take s.searched rest)
-rest_searched bytes rest s h e =
+rest_searched {bytes} {rest} {s} h e =
     let same : h.rest ≡ rest = sym (rest_is bytes s h) ∙ sym e in (
       subst (λ r. s.searched ≤ length r) same h.within,
       subst (λ r. LacksCrlf (take s.searched r)) same h.lacks,
     )
 
 -- one more line
-pub line_at_rest : (bytes rest line after : Bytes) (s : Search) → IsSearched bytes s
+pub line_at_rest : {bytes rest line after : Bytes} {s : Search} → IsSearched bytes s
     → rest ≡ drop s.line bytes → rest ≡ line ++ CR ∷ LF ∷ after → LacksCrlf line
     → IsAtLine bytes s.opened s.line line after
-line_at_rest bytes rest line after s h is cut is_line = record {
+line_at_rest {bytes} {s} h is cut is_line = record {
   lines = h.lines;
   cut = h.cut ∙ ap (λ b. flat_map with_crlf h.lines ++ b) (sym (rest_is bytes s h) ∙ sym is ∙ cut);
   each = h.each;
@@ -75,10 +75,10 @@ line_at_rest bytes rest line after s h is cut is_line = record {
 }
 
 -- the whole rest
-pub all_searched : (bytes rest : Bytes) (s : Search) → IsSearched bytes s → rest ≡ drop s.line bytes
+pub all_searched : {bytes rest : Bytes} {s : Search} → IsSearched bytes s → rest ≡ drop s.line bytes
     → LacksCrlf rest
     → IsSearched bytes (record s { searched = length rest }) × IsPartial bytes
-all_searched bytes rest s h is lacks = (
+all_searched {bytes} {rest} {s} h is lacks = (
   record {
     lines = h.lines;
     rest = h.rest;
@@ -117,9 +117,10 @@ all_searched bytes rest s h is lacks = (
     })
 
 -- where the bytes after a line begin
-pub after_is_drop : (bytes rest line after : Bytes) (at : ℕ) → rest ≡ drop at bytes
+pub after_is_drop : (bytes : Bytes) {rest : Bytes} (line : Bytes) {after : Bytes} (at : ℕ)
+    → rest ≡ drop at bytes
     → rest ≡ line ++ CR ∷ LF ∷ after → after ≡ drop (length bytes - length after) bytes
-after_is_drop bytes rest line after at is cut =
+after_is_drop bytes line {after} at is cut =
     let whole : bytes ≡ (take at bytes ++ (line ++ CR ∷ LF ∷ [])) ++ after =
     sym (take-append-drop at bytes)
     ∙ ap (λ b. take at bytes ++ b) (sym is ∙ cut ∙ sym (append_assoc line (CR ∷ LF ∷ []) after))
@@ -136,18 +137,18 @@ after_is_drop bytes rest line after at is cut =
 -- ---- what a line does
 
 -- one more line is searched
-past : (bytes : Bytes) (opened : Option Opened) (at : ℕ) (line after : Bytes) (more : Opened)
+past : {bytes : Bytes} {opened : Option Opened} {at : ℕ} {line after : Bytes} {more : Opened}
     → (h : IsAtLine bytes opened at line after) → IsOpenReply more (h.lines ++ line ∷ [])
     → IsSearched bytes
     (record { opened = Some more; line = length bytes - length after; searched = 0 })
-past bytes opened at line after more h begun =
+past {bytes} {line} {after} h begun =
     let whole : bytes ≡ flat_map with_crlf (h.lines ++ line ∷ []) ++ after =
     h.cut ∙ one_more h.lines line after in
     record {
       lines = h.lines ++ line ∷ [];
       rest = after;
       cut = whole;
-      each = all_snoc LacksCrlf h.lines line h.each h.is_line;
+      each = all_snoc LacksCrlf h.lines h.each h.is_line;
       begun = begun;
       line_is =
           omega (
@@ -160,31 +161,30 @@ past bytes opened at line after more h begun =
       lacks = lacks_nil;
     }
 
-first_cut : (bytes : Bytes) (at : ℕ) (line after : Bytes) → (h : IsAtLine bytes None at line after)
+first_cut : {bytes : Bytes} {at : ℕ} {line after : Bytes} → (h : IsAtLine bytes None at line after)
     → bytes ≡ line ++ CR ∷ LF ∷ after
-first_cut bytes at line after h =
+first_cut {line} {after} h =
     h.cut ∙ ap (λ (ls : List Bytes). flat_map with_crlf ls ++ (line ++ CR ∷ LF ∷ after)) h.begun
 
-pub first_malformed : (bytes : Bytes) (at : ℕ) (line after : Bytes)
+pub first_malformed : {bytes : Bytes} {at : ℕ} {line after : Bytes}
     → IsAtLine bytes None at line after → ¬ Opens line → IsMalformed bytes
-first_malformed bytes at line after h none =
+first_malformed {line} {after} h none =
     record {
       first = line;
       rest = after;
-      cut = first_cut bytes at line after h;
+      cut = first_cut h;
       is_line = h.is_line;
       opens_none = none;
     }
 
-pub first_alone : (bytes : Bytes) (at : ℕ) (line after digits text : Bytes) (code : ℕ)
+pub first_alone : {bytes : Bytes} {at : ℕ} {line after digits text : Bytes} {code : ℕ}
     → IsAtLine bytes None at line after → SpellsCode digits code
     → ((line ≡ digits) × (text ≡ [])) ⊎ (line ≡ digits ++ SP ∷ text)
     → FrontReply bytes code (text ∷ []) (length bytes - length after)
-first_alone bytes at line after digits text code h spells kind =
-    one_found bytes line digits text after code spells (first_cut bytes at line after h) h.is_line
-    kind
+first_alone {after = after} h spells kind =
+    one_found after spells (first_cut h) h.is_line kind
 
-pub first_opens : (bytes : Bytes) (at : ℕ) (line after digits text : Bytes) (code : ℕ)
+pub first_opens : {bytes : Bytes} {at : ℕ} {line after digits : Bytes} (text : Bytes) {code : ℕ}
     → IsAtLine bytes None at line after → SpellsCode digits code → line ≡ digits ++ DASH ∷ text
     → IsSearched bytes
     (record {
@@ -192,8 +192,8 @@ pub first_opens : (bytes : Bytes) (at : ℕ) (line after digits text : Bytes) (c
       line = length bytes - length after;
       searched = 0;
     })
-first_opens bytes at line after digits text code h spells is =
-    past bytes None at line after (record { code = code; second = length bytes - length after }) h
+first_opens {line} {after} {digits} text h spells is =
+    past h
     (record {
       digits = digits;
       code_is = spells;
@@ -204,7 +204,7 @@ first_opens bytes at line after digits text code h spells is =
       second_is =
           omega (
             arith,
-            ap length (first_cut bytes at line after h),
+            ap length (first_cut h),
             length-append line (CR ∷ LF ∷ after),
             ap length is,
             length-append (digits ++ DASH ∷ text) crlf,
@@ -231,13 +231,13 @@ module _ (bytes : Bytes) (opened : Opened) (at : ℕ) (line after : Bytes)
   pub line_goes_on : (digits : Bytes) → digits ≡ take 3 bytes → GoesOn digits line
       → IsSearched bytes
       (record { opened = Some opened; line = length bytes - length after; searched = 0 })
-  line_goes_on digits is goes = past bytes (Some opened) at line after opened h (record {
+  line_goes_on digits is goes = past h (record {
     digits = h.begun.digits;
     code_is = h.begun.code_is;
     text = h.begun.text;
     middle = h.begun.middle ++ line ∷ [];
     lines_are = ap (λ (ls : List Bytes). ls ++ line ∷ []) h.begun.lines_are;
-    goes_on = all_snoc (GoesOn h.begun.digits) h.begun.middle line h.begun.goes_on
+    goes_on = all_snoc (GoesOn h.begun.digits) h.begun.middle h.begun.goes_on
         (subst (λ d. GoesOn d line) (is ∙ digits_are) goes);
     second_is = h.begun.second_is;
   })
@@ -332,13 +332,10 @@ module _ (bytes : Bytes) (opened : Opened) (at : ℕ) (line after : Bytes)
         rest = after;
         cut = one_more h.begun.middle line after
             ∙ ap (λ l. flat_map with_crlf (h.begun.middle ++ l ∷ []) ++ after) ends';
-        each = all_snoc LacksCrlf h.begun.middle (h.begun.digits ++ SP ∷ last) each.1
-            (subst LacksCrlf ends' h.is_line);
+        each = all_snoc LacksCrlf h.begun.middle each.1 (subst LacksCrlf ends' h.is_line);
         goes_on = h.begun.goes_on;
       } in
-      let found = several_found bytes (h.begun.digits ++ DASH ∷ h.begun.text) h.begun.digits
-      h.begun.text (flat_map with_crlf h.begun.middle ++ (line ++ CR ∷ LF ∷ after))
-      (flat_map with_crlf h.begun.middle) last after opened.code h.begun.code_is open_cut each.0
+      let found = several_found h.begun.code_is open_cut each.0
       refl (ended, refl, refl, refl) in (
         found.0,
         (

@@ -26,7 +26,7 @@ module _ {S : Type 0} (law : Law S) where
   }
 
   -- after events that were all answered
-  module _ (m n k : Snapshot S) (es : List FtpEvent) (all : AllAnswered law m es n) where
+  module _ {m n : Snapshot S} {es : List FtpEvent} (all : AllAnswered law m es n) where
     text-then : (fs : List FtpEvent) → text_of law m.state (es ++ fs) ≡ text_of law m.state es
         ++ text_of law n.state fs
     text-then fs = text_of-append law m.state es fs
@@ -46,9 +46,10 @@ module _ {S : Type 0} (law : Law S) where
     text_until-then fs LineMemory = text-then fs
     text_until-then fs ReplyMemory = text-then fs
 
-    pub RunEnded-then : (fs later : List FtpEvent) (cause : Cause) → RunEnded law n fs later cause k
+    pub RunEnded-then : {k : Snapshot S} (fs later : List FtpEvent) (cause : Cause)
+        → RunEnded law n fs later cause k
         → RunEnded law m (es ++ fs) later cause k
-    RunEnded-then fs later cause v = record {
+    RunEnded-then {k} fs later cause v = record {
       ends_at = rw (last-then fs) v.ends_at;
       written = rw (text_until-then fs cause)
           (Appends-then m.output.written n.output.written k.output.written (text_of law m.state es)
@@ -60,9 +61,10 @@ module _ {S : Type 0} (law : Law S) where
       handler_failed = omega (arith, v.handler_failed, all.handler_failed);
     }
 
-    pub RunFailed-then : (whole fs done : List FtpEvent) (error : ServeError) → whole ≡ es ++ fs
+    pub RunFailed-then : {k : Snapshot S} {whole fs done : List FtpEvent} {error : ServeError}
+        → whole ≡ es ++ fs
         → RunFailed law n fs k error done → RunFailed law m whole k error (es ++ done)
-    RunFailed-then whole fs done error same v = record {
+    RunFailed-then {done} same v = record {
       later = v.later;
       split = same ∙ ap (λ z. es ++ z) v.split ∙ sym (append_assoc es done v.later);
       cause = v.cause;
@@ -85,9 +87,10 @@ module _ {S : Type 0} (law : Law S) where
   ends_at-more more error ReplyMemory s [] s' means h = absurd h
   ends_at-more more error ReplyMemory s (event ∷ later) s' means h = h
 
-  RunFailed-more : (m n : Snapshot S) (es more done : List FtpEvent) (error : ServeError)
+  RunFailed-more : {m n : Snapshot S} {es : List FtpEvent} (more : List FtpEvent)
+      {done : List FtpEvent} {error : ServeError}
       → RunFailed law m es n error done → RunFailed law m (es ++ more) n error done
-  RunFailed-more m n es more done error v = record {
+  RunFailed-more {m} {n} more {done} {error} v = record {
     later = v.later ++ more;
     split = ap (λ z. z ++ more) v.split ∙ append_assoc done v.later more;
     cause = v.cause;
@@ -103,7 +106,7 @@ module _ {S : Type 0} (law : Law S) where
   }
 
   -- at one event
-  module _ (m n : Snapshot S) (e : FtpEvent) where
+  module _ {m n : Snapshot S} {e : FtpEvent} where
     pub failed-at : (failed : KindAndSource) → law.may_fail m.state e (fault_of failed)
         → n.output ≡ m.output → n.failures ≡ m.failures + 1 →
         (done : List FtpEvent) × RunFailed law m (e ∷ []) n (error.Handler failed) done
@@ -175,19 +178,22 @@ module _ {S : Type 0} (law : Law S) where
         handler_failed = omega (arith, failures);
       }
 
-      pub answered : (result : Result (Unit {0}) ServeError)
-          → (encoded (law.says m.state e) ≡ [] → IsTrue (is_ok result)) →
-          Sends result (encoded (law.says m.state e)) m.output n.output
-          → RunOutcome law m (e ∷ []) n result
-      answered (Ok x) none v = sent-at v
-      answered (Err (error.Read x)) none v = absurd v
-      answered (Err (error.Write x)) none v = broke-at (error.Write x) (λ v. tt) v
-      answered (Err error.WriteZero) none v = broke-at error.WriteZero (λ v. tt) v
-      answered (Err (error.Handler x)) none v = absurd v
-      answered (Err error.OutOfMemory) none v =
-          no_memory-at (λ h. absurd (false≢true (none (ap encoded h)))) v
-      answered (Err error.Stopped) none v = absurd v
-      answered (Err error.TooManyReads) none v = absurd v
+  -- whatever its answer comes to
+  module _ (m n : Snapshot S) (e : FtpEvent) (state : n.state ≡ law.next m.state e)
+      (failures : n.failures ≡ m.failures) where
+    pub answered : (result : Result (Unit {0}) ServeError)
+        → (encoded (law.says m.state e) ≡ [] → IsTrue (is_ok result)) →
+        Sends result (encoded (law.says m.state e)) m.output n.output
+        → RunOutcome law m (e ∷ []) n result
+    answered (Ok x) none v = sent-at state failures v
+    answered (Err (error.Read x)) none v = absurd v
+    answered (Err (error.Write x)) none v = broke-at state failures (error.Write x) (λ v. tt) v
+    answered (Err error.WriteZero) none v = broke-at state failures error.WriteZero (λ v. tt) v
+    answered (Err (error.Handler x)) none v = absurd v
+    answered (Err error.OutOfMemory) none v =
+        no_memory-at state failures (λ h. absurd (false≢true (none (ap encoded h)))) v
+    answered (Err error.Stopped) none v = absurd v
+    answered (Err error.TooManyReads) none v = absurd v
 
   -- in a loop over events: some are answered, and these are left
   pub record Answering (m : Snapshot S) (es : List FtpEvent) (n : Snapshot S)
@@ -196,14 +202,14 @@ module _ {S : Type 0} (law : Law S) where
     pub split : es ≡ done ++ left
     pub all : AllAnswered law m done n
 
-  module _ (m n : Snapshot S) (es : List FtpEvent) where
-    pub Answering-next : (k : Snapshot S) (e : FtpEvent) (left left' : List FtpEvent)
+  module _ {m n : Snapshot S} {es : List FtpEvent} where
+    pub Answering-next : {k : Snapshot S} {e : FtpEvent} {left left' : List FtpEvent}
         → Answering m es n left → left ≡ e ∷ left' → AllAnswered law n (e ∷ []) k →
         Answering m es k left'
-    Answering-next k e left left' t p w = record {
+    Answering-next {k} {e} {left'} t p w = record {
       done = t.done ++ e ∷ [];
       split = t.split ∙ ap (λ z. t.done ++ z) p ∙ sym (append_assoc t.done (e ∷ []) left');
-      all = RunEnded-then m n k t.done t.all (e ∷ []) [] Finished w;
+      all = RunEnded-then t.all (e ∷ []) [] Finished w;
     }
 
     pub Answering-end : (left : List FtpEvent) → Answering m es n left → left ≡ []
@@ -212,12 +218,11 @@ module _ {S : Type 0} (law : Law S) where
         let q : t.done ≡ es = sym (t.split ∙ ap (λ z. t.done ++ z) p ∙ append-nil t.done) in
         subst (λ z. AllAnswered law m z n) q t.all
 
-    pub Answering-failed : (k : Snapshot S) (e : FtpEvent) (left left' : List FtpEvent)
-        (error : ServeError) → Answering m es n left → left ≡ e ∷ left' →
+    pub Answering-failed : {k : Snapshot S} {e : FtpEvent} {left left' : List FtpEvent}
+        {error : ServeError} → Answering m es n left → left ≡ e ∷ left' →
         (done : List FtpEvent) × RunFailed law n (e ∷ []) k error done
         → (done : List FtpEvent) × RunFailed law m es k error done
-    Answering-failed k e left left' error t p (done, failed) = (
+    Answering-failed {k} {left'} t p (done, failed) = (
       t.done ++ done,
-      RunFailed-then m n k t.done t.all es (e ∷ [] ++ left') done error
-          (t.split ∙ ap (λ z. t.done ++ z) p) (RunFailed-more n k (e ∷ []) left' done error failed),
+      RunFailed-then t.all (t.split ∙ ap (λ z. t.done ++ z) p) (RunFailed-more left' failed),
     )

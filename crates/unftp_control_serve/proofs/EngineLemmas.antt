@@ -42,14 +42,21 @@ engine_of pending left failed finished = record {
 
 -- A piece was pushed to `d`, which made it `p`, and the lines of the run were taken, which made it
 -- `q`.
-module _ {S : Type 0} (law : Law S) (s : S) (d p q : Pending) (left : ℕ) (failed finished : Bool)
-    (piece : Bytes) (ended : Bool)
-    (push : p ≡ pushed d piece) (all_scanned : d.unscanned ≡ 0)
-    (ends : ended ≡ ends_for p.limit law s p.bytes)
-    (pending : q.bytes ≡ unread p.limit law s p.bytes)
-    (unscanned : q.unscanned ≡ (if ended then length q.bytes else 0))
-    (same_limit : q.limit ≡ p.limit) (same_held : q.held ≡ p.held)
-    (scanned_once : q.scanned + q.unscanned ≡ p.scanned + p.unscanned) where
+pub record WasFed {S : Type 0} (law : Law S) (s : S) (d p q : Pending) (piece : Bytes)
+    (ended : Bool) : Type 0 where
+  pub push : p ≡ pushed d piece
+  pub all_scanned : d.unscanned ≡ 0
+  pub ends : ended ≡ ends_for p.limit law s p.bytes
+  pub pending : q.bytes ≡ unread p.limit law s p.bytes
+  pub unscanned : q.unscanned ≡ (if ended then length q.bytes else 0)
+  pub same_limit : q.limit ≡ p.limit
+  pub same_held : q.held ≡ p.held
+  pub scanned_once : q.scanned + q.unscanned ≡ p.scanned + p.unscanned
+
+module _ {S : Type 0} {law : Law S} {s : S} {d p q : Pending} {piece : Bytes} {ended : Bool}
+    (h : WasFed law s d p q piece ended) (left : ℕ) (failed finished : Bool) where
+  open h use {push, all_scanned, ends, pending, unscanned, same_limit, same_held, scanned_once}
+
   abbrev engine : EngineState
   engine = engine_of d left failed finished
 
@@ -80,7 +87,7 @@ module _ {S : Type 0} (law : Law S) (s : S) (d p q : Pending) (left : ℕ) (fail
       )
 
   -- its parts, one by one
-  fed-so : (incomplete : Bytes) (finished : Bool) (buffered : ℕ)
+  fed-so : {incomplete : Bytes} {finished : Bool} {buffered : ℕ}
       → incomplete ≡ pending_with engine law s piece → finished ≡ ended →
       q.scanned + length (after_end_with engine law s piece) ≡ engine.scanned + length piece
       → buffered ≡ kept_length engine.limit incomplete →
@@ -96,7 +103,7 @@ module _ {S : Type 0} (law : Law S) (s : S) (d p q : Pending) (left : ℕ) (fail
             q.held;
       }
       ≡ fed law s engine piece
-  fed-so incomplete finished buffered incomplete_is finished_is once kept =
+  fed-so incomplete_is finished_is once kept =
       let scanned_is : q.scanned ≡ engine.scanned + length piece - length
       (after_end_with engine law s piece) = omega (arith, once) in
       rw (kept, incomplete_is, unread_so, finished_is ∙ ends_so, scanned_is, limit_so, held_so) refl
@@ -104,7 +111,7 @@ module _ {S : Type 0} (law : Law S) (s : S) (d p q : Pending) (left : ℕ) (fail
   pub fed-ended : ended ≡ true → engine_of (cleared q) (saturating_u64 (length q.bytes)) false true
       ≡ fed law s engine piece
   fed-ended is =
-      fed-so [] true 0 (ap (λ end. if end then [] else incomplete_line (bytes_with engine piece))
+      fed-so (ap (λ end. if end then [] else incomplete_line (bytes_with engine piece))
       (sym is ∙ ends_so)) (sym is)
       (omega (
         arith,
@@ -118,7 +125,7 @@ module _ {S : Type 0} (law : Law S) (s : S) (d p q : Pending) (left : ℕ) (fail
       → engine_of q (saturating_u64 (length q.bytes)) false false ≡ fed law s engine piece
   fed-on is kept =
       let on : ends_with engine law s piece ≡ false = sym ends_so ∙ is in
-      fed-so q.bytes false q.buffered
+      fed-so
       (unread_so ∙ unread-on law engine.limit s (bytes_with engine piece) on
       ∙ ap (λ end. if end then [] else incomplete_line (bytes_with engine piece)) (sym on))
       (sym is)

@@ -31,11 +31,11 @@ front : (line after : Bytes) → take (length (line ++ after) - length after) (l
 front line after = ap (λ n. take n (line ++ after)) (omega (arith, length-append line after))
     ∙ take-append_seam line after
 
-pub line_after-taken : (E : Type 0) (before after : Pending) (event : Event)
+pub line_after-taken : (E : Type 0) {before after : Pending} (event : Event)
     (taken : TakesLine before (event_meant event) after) →
     line_after {E = E} before (Ok (Some event)) after
     ≡ (if refuses_length (event_meant event) then [] else taken.takes.line)
-line_after-taken E before after event taken = by_length (refuses_length (event_meant event))
+line_after-taken E {before} {after} event taken = by_length (refuses_length (event_meant event))
   where
     by_length : (too_long : Bool) →
         take (if too_long then 0 else (length before.bytes - length after.bytes)) before.bytes

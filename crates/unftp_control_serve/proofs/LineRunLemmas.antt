@@ -13,71 +13,72 @@ use Rattle.unftp_control_serve.specs.declared.error.ServeError.{ServeError}
 use Rattle.unftp_control_serve.specs.declared.error.ServeError.TheVariants.{OutOfMemory}
 use Rattle.unftp_control_serve.proofs.EndingLemmas.{Answering, Answering-next, Answering-end, Answering-failed, AllAnswered-nothing}
 
-module _ {S : Type 0} (law : Law S) (limit : Option ℕ) (p q : Pending) (s : S) where
-  -- no line: no event
-  module _ (none : HasNoLine p q) where
-    no_line-run : run_for limit law s p.bytes ≡ []
-    no_line-run = ap (run_of law s) (events-incomplete limit p.bytes none.unended)
+-- no line: no event
+module _ {S : Type 0} (law : Law S) (limit : Option ℕ) {p q : Pending} (s : S)
+    (none : HasNoLine p q) where
+  no_line-run : run_for limit law s p.bytes ≡ []
+  no_line-run = ap (run_of law s) (events-incomplete limit p.bytes none.unended)
 
-    no_line-ends : ends_for limit law s p.bytes ≡ false
-    no_line-ends = ap (ends law s) (events-incomplete limit p.bytes none.unended)
+  no_line-ends : ends_for limit law s p.bytes ≡ false
+  no_line-ends = ap (ends law s) (events-incomplete limit p.bytes none.unended)
 
-    no_line-unread : unread limit law s p.bytes ≡ q.bytes
-    no_line-unread = unread-incomplete law limit s p.bytes none.unended ∙ sym none.same
+  no_line-unread : unread limit law s p.bytes ≡ q.bytes
+  no_line-unread = unread-incomplete law limit s p.bytes none.unended ∙ sym none.same
 
-  module _ (same : p.limit ≡ limit) (event : FtpEvent) (first : TakesLine p event q) where
-    meant : event ≡ event_for limit first.takes.line
-    meant = first.takes.meaning ∙ ap (λ limit. event_for limit first.takes.line) same
+module _ {S : Type 0} (law : Law S) {limit : Option ℕ} {p q : Pending} (s : S)
+    (same : p.limit ≡ limit) {event : FtpEvent} (first : TakesLine p event q) where
+  meant : event ≡ event_for limit first.takes.line
+  meant = first.takes.meaning ∙ ap (λ limit. event_for limit first.takes.line) same
 
-    -- a line: its event, and then the run over the other lines, if the handler isn't done
-    abbrev run_after : List FtpEvent
-    run_after = if law.done (law.next s event) then [] else run_of law (law.next s event)
-        (events limit q.bytes)
+  -- a line: its event, and then the run over the other lines, if the handler isn't done
+  abbrev run_after : List FtpEvent
+  run_after = if law.done (law.next s event) then [] else run_of law (law.next s event)
+      (events limit q.bytes)
 
-    first_line-run : run_for limit law s p.bytes ≡ event ∷ run_after
-    first_line-run =
-        ap (run_for limit law s) first.takes.whole
-        ∙ ap (run_of law s)
-        (ap (map (event_for limit)) (line_first first.takes.line q.bytes first.takes.is_line).0)
-        ∙ ap (λ e. run_of law s (e ∷ events limit q.bytes)) (sym meant)
+  first_line-run : run_for limit law s p.bytes ≡ event ∷ run_after
+  first_line-run =
+      ap (run_for limit law s) first.takes.whole
+      ∙ ap (run_of law s)
+      (ap (map (event_for limit)) (line_first first.takes.line q.bytes first.takes.is_line).0)
+      ∙ ap (λ e. run_of law s (e ∷ events limit q.bytes)) (sym meant)
 
-    module _ (s' : S) (next : s' ≡ law.next s event) where
-      next_state : s' ≡ law.next s (event_for limit first.takes.line)
-      next_state = next ∙ ap (law.next s) meant
+  module _ {s' : S} (next : s' ≡ law.next s event) where
+    next_state : s' ≡ law.next s (event_for limit first.takes.line)
+    next_state = next ∙ ap (law.next s) meant
 
-      module _ (on : law.done s' ≡ false) where
-        first_line-on : run_for limit law s p.bytes ≡ event ∷ run_for limit law s' q.bytes
-        first_line-on =
-            ap (run_for limit law s) first.takes.whole
-            ∙ (on-line law limit s s' first.takes.line q.bytes first.takes.is_line next_state
-            on).2
-            ∙ ap (λ e. e ∷ run_for limit law s' q.bytes) (sym meant)
+    module _ (on : law.done s' ≡ false) where
+      first_line-on : run_for limit law s p.bytes ≡ event ∷ run_for limit law s' q.bytes
+      first_line-on =
+          ap (run_for limit law s) first.takes.whole
+          ∙ (on-line law limit s s' first.takes.line q.bytes first.takes.is_line next_state
+          on).2
+          ∙ ap (λ e. e ∷ run_for limit law s' q.bytes) (sym meant)
 
-        first_line-same_end : ends_for limit law s p.bytes ≡ ends_for limit law s' q.bytes
-        first_line-same_end = ap (ends_for limit law s) first.takes.whole
-            ∙ (on-line law limit s s' first.takes.line q.bytes first.takes.is_line next_state on).0
+      first_line-same_end : ends_for limit law s p.bytes ≡ ends_for limit law s' q.bytes
+      first_line-same_end = ap (ends_for limit law s) first.takes.whole
+          ∙ (on-line law limit s s' first.takes.line q.bytes first.takes.is_line next_state on).0
 
-        first_line-same_unread : unread limit law s p.bytes ≡ unread limit law s' q.bytes
-        first_line-same_unread = ap (unread limit law s) first.takes.whole
-            ∙ (on-line law limit s s' first.takes.line q.bytes first.takes.is_line next_state on).1
+      first_line-same_unread : unread limit law s p.bytes ≡ unread limit law s' q.bytes
+      first_line-same_unread = ap (unread limit law s) first.takes.whole
+          ∙ (on-line law limit s s' first.takes.line q.bytes first.takes.is_line next_state on).1
 
-      module _ (done : law.done s' ≡ true) where
-        first_line-last : run_for limit law s p.bytes ≡ event ∷ []
-        first_line-last =
-            ap (run_for limit law s) first.takes.whole
-            ∙ (ended-line law limit s s' first.takes.line q.bytes first.takes.is_line next_state
-            done).2
-            ∙ ap (λ e. e ∷ []) (sym meant)
+    module _ (done : law.done s' ≡ true) where
+      first_line-last : run_for limit law s p.bytes ≡ event ∷ []
+      first_line-last =
+          ap (run_for limit law s) first.takes.whole
+          ∙ (ended-line law limit s s' first.takes.line q.bytes first.takes.is_line next_state
+          done).2
+          ∙ ap (λ e. e ∷ []) (sym meant)
 
-        first_line-ends : ends_for limit law s p.bytes ≡ true
-        first_line-ends = ap (ends_for limit law s) first.takes.whole
-            ∙ (ended-line law limit s s' first.takes.line q.bytes first.takes.is_line next_state
-            done).0
+      first_line-ends : ends_for limit law s p.bytes ≡ true
+      first_line-ends = ap (ends_for limit law s) first.takes.whole
+          ∙ (ended-line law limit s s' first.takes.line q.bytes first.takes.is_line next_state
+          done).0
 
-        first_line-unread : unread limit law s p.bytes ≡ q.bytes
-        first_line-unread = ap (unread limit law s) first.takes.whole
-            ∙ (ended-line law limit s s' first.takes.line q.bytes first.takes.is_line next_state
-            done).1
+      first_line-unread : unread limit law s p.bytes ≡ q.bytes
+      first_line-unread = ap (unread limit law s) first.takes.whole
+          ∙ (ended-line law limit s s' first.takes.line q.bytes first.takes.is_line next_state
+          done).1
 
 -- in the loop over the lines of some bytes: the run over them goes on over those that are pending
 pub record Halfway {S : Type 0} (law : Law S) (limit : Option ℕ) (m n : Snapshot S)
@@ -87,7 +88,7 @@ pub record Halfway {S : Type 0} (law : Law S) (limit : Option ℕ) (m n : Snapsh
   pub same_end : ends_for limit law m.state bytes ≡ ends_for limit law n.state pending
   pub same_unread : unread limit law m.state bytes ≡ unread limit law n.state pending
 
-module _ {S : Type 0} (law : Law S) (limit : Option ℕ) (m : Snapshot S) where
+module _ {S : Type 0} {law : Law S} {limit : Option ℕ} {m : Snapshot S} where
   pub Halfway-start : (bytes : Bytes) → Halfway law limit m m bytes bytes
   Halfway-start bytes = record {
     answering = record { done = []; split = refl; all = AllAnswered-nothing law m };
@@ -95,68 +96,57 @@ module _ {S : Type 0} (law : Law S) (limit : Option ℕ) (m : Snapshot S) where
     same_unread = refl;
   }
 
-  module _ (n : Snapshot S) (bytes : Bytes) (p q : Pending)
+  module _ {n : Snapshot S} {bytes : Bytes} {p q : Pending}
       (so_far : Halfway law limit m n bytes p.bytes) where
     module _ (none : HasNoLine p q) where
       pub no_line-answered : AllAnswered law m (run_for limit law m.state bytes) n
-      no_line-answered = Answering-end law m n (run_for limit law m.state bytes)
-          (run_for limit law n.state p.bytes) so_far.answering
-          (no_line-run law limit p q n.state none)
+      no_line-answered = Answering-end law (run_for limit law n.state p.bytes) so_far.answering
+          (no_line-run law limit n.state none)
 
       pub no_line-not_ended : false ≡ ends_for limit law m.state bytes
-      no_line-not_ended = sym (so_far.same_end ∙ no_line-ends law limit p q n.state none)
+      no_line-not_ended = sym (so_far.same_end ∙ no_line-ends law limit n.state none)
 
       pub no_line-all_unread : q.bytes ≡ unread limit law m.state bytes
-      no_line-all_unread = sym (so_far.same_unread ∙ no_line-unread law limit p q n.state none)
+      no_line-all_unread = sym (so_far.same_unread ∙ no_line-unread law limit n.state none)
 
-    module _ (same : p.limit ≡ limit) (event : FtpEvent) (first : TakesLine p event q)
-        (k : Snapshot S) where
-      pub line-failed : (error : ServeError)
+    module _ (same : p.limit ≡ limit) {event : FtpEvent} (first : TakesLine p event q)
+        {k : Snapshot S} where
+      pub line-failed : {error : ServeError}
           → (done : List FtpEvent) × RunFailed law n (event ∷ []) k error done →
           (done : List FtpEvent) × RunFailed law m (run_for limit law m.state bytes) k error done
-      line-failed error failed =
-          Answering-failed law m n (run_for limit law m.state bytes) k event
-          (run_for limit law n.state p.bytes) (run_after law limit p q n.state same event first)
-          error
-          so_far.answering (first_line-run law limit p q n.state same event first) failed
+      line-failed failed =
+          Answering-failed law
+          so_far.answering (first_line-run law n.state same first) failed
 
       module _ (all : AllAnswered law n (event ∷ []) k) where
         pub Halfway-next : law.done k.state ≡ false → Halfway law limit m k bytes q.bytes
         Halfway-next on = record {
-          answering = Answering-next law m n (run_for limit law m.state bytes) k event
-              (run_for limit law n.state p.bytes) (run_for limit law k.state q.bytes)
-              so_far.answering
-              (first_line-on law limit p q n.state same event first k.state all.ends_at on) all;
-          same_end = so_far.same_end ∙ first_line-same_end law limit p q n.state same event first
-              k.state all.ends_at on;
-          same_unread = so_far.same_unread ∙ first_line-same_unread law limit p q n.state same event
-              first k.state all.ends_at on;
+          answering = Answering-next law so_far.answering
+              (first_line-on law n.state same first all.ends_at on) all;
+          same_end = so_far.same_end ∙ first_line-same_end law n.state same first all.ends_at on;
+          same_unread = so_far.same_unread ∙ first_line-same_unread law n.state same
+              first all.ends_at on;
         }
 
         module _ (done : law.done k.state ≡ true) where
           pub last_line-answered : AllAnswered law m (run_for limit law m.state bytes) k
           last_line-answered =
-              Answering-end law m k (run_for limit law m.state bytes) []
-              (Answering-next law m n (run_for limit law m.state bytes) k event
-              (run_for limit law n.state p.bytes) []
-              so_far.answering
-              (first_line-last law limit p q n.state same event first k.state all.ends_at done)
+              Answering-end law [] (Answering-next law so_far.answering
+              (first_line-last law n.state same first all.ends_at done)
               all)
               refl
 
           pub last_line-ended : true ≡ ends_for limit law m.state bytes
           last_line-ended =
-              sym (so_far.same_end ∙ first_line-ends law limit p q n.state same event first k.state
-              all.ends_at done)
+              sym (so_far.same_end ∙ first_line-ends law n.state same first all.ends_at done)
 
           pub last_line-unread : q.bytes ≡ unread limit law m.state bytes
           last_line-unread =
-              sym (so_far.same_unread ∙ first_line-unread law limit p q n.state same event first
-              k.state all.ends_at done)
+              sym (so_far.same_unread ∙ first_line-unread law n.state same first all.ends_at done)
 
 -- memory runs out for the next line
-module _ {S : Type 0} (law : Law S) (limit : Option ℕ) (m n : Snapshot S) (bytes : Bytes)
-    (p : Pending) (same : p.limit ≡ limit) (h : Halfway law limit m n bytes p.bytes)
+module _ {S : Type 0} {law : Law S} {limit : Option ℕ} {m n : Snapshot S} {bytes : Bytes}
+    {p : Pending} (same : p.limit ≡ limit) (h : Halfway law limit m n bytes p.bytes)
     (v : MayRunOut p) where
   abbrev next : FtpEvent
   next = event_of (outcome v.line)

@@ -30,12 +30,12 @@ pub record Sending (bytes rest : Bytes) (before now : OutputState) : Type 0 wher
   pub split : bytes ≡ part ++ rest
   pub wrote : Wrote part before now
 
-pub Sending-more : (bytes rest : Bytes) (before now after : OutputState) (n : ℕ)
+pub Sending-more : {bytes rest : Bytes} {before now after : OutputState} (n : ℕ)
     → Sending bytes rest before now → n ≤ length rest →
     Appends now.written after.written (take n rest) → after.failures ≡ now.failures
     → after.unflushed ≡ now.unflushed + n →
     Sending bytes (drop n rest) before after
-Sending-more bytes rest before now after n sending within written kept unflushed =
+Sending-more {rest} {before} {now} {after} n sending within written kept unflushed =
     let joined : take n rest ++ drop n rest ≡ rest = take-append-drop n rest in
     let taken : length (take n rest) ≡ n = simp length-take (omega arith) in
     record {

@@ -94,10 +94,10 @@ short_pieces : (pieces : List Bytes) (piece : Bytes)
 short_pieces [] piece each short = (short, tt)
 short_pieces (first ∷ pieces) piece each short = (each.0, short_pieces pieces piece each.1 short)
 
-WereRead-more : (i j k : InputState) (pieces : List Bytes) (piece : Bytes) → WereRead i j pieces []
+WereRead-more : {i j k : InputState} {pieces : List Bytes} (piece : Bytes) → WereRead i j pieces []
     → Consumes j.remaining k.remaining piece → k.reads ≡ j.reads ++ length piece ∷ []
     → length piece ≤ 4096 → WereRead i k (pieces ++ piece ∷ []) []
-WereRead-more i j k pieces piece so_far consumed reads short = record {
+WereRead-more {i} {j} {k} {pieces} piece so_far consumed reads short = record {
   consumed =
       rw (concat-more pieces piece)
       (Consumes-then i.remaining j.remaining k.remaining (concat pieces) piece so_far.consumed
@@ -130,11 +130,11 @@ most_held-more limit incomplete (first ∷ pieces) piece unended =
     most_held-more limit after pieces piece (Lines-lines_of (incomplete ++ first)).unended in
     rw (same, later) (omega arith)
 
-most_held-piece : (limit : Option ℕ) (pieces : List Bytes) (piece : Bytes) (held buffered : ℕ)
+most_held-piece : (limit : Option ℕ) (pieces : List Bytes) (piece : Bytes) {held buffered : ℕ}
     → held ≡ most_held limit [] pieces →
     buffered ≡ kept_length limit (incomplete_line (concat pieces))
     → max held (buffered + length piece) ≡ most_held limit [] (pieces ++ piece ∷ [])
-most_held-piece limit pieces piece held buffered most kept =
+most_held-piece limit pieces piece most kept =
     rw (most_held-more limit [] pieces piece tt, most, kept) refl
 
 most_held-within : (limit : ℕ) (incomplete : Bytes) (pieces : List Bytes)
@@ -149,7 +149,7 @@ most_held-within limit incomplete (piece ∷ pieces) each =
       most_held-within limit (incomplete_line (incomplete ++ piece)) pieces each.1,
     )
 
-module _ (limit : Option ℕ) {S : Type 0} (law : Law S) (m : Snapshot S) (i : InputState) where
+module _ {limit : Option ℕ} {S : Type 0} {law : Law S} {m : Snapshot S} {i : InputState} where
   pub Serving-start : (engine : EngineState) → engine ≡ fresh limit
       → Serving limit law m m i i engine 0
   Serving-start engine new = rw new record {
@@ -171,7 +171,7 @@ module _ (limit : Option ℕ) {S : Type 0} (law : Law S) (m : Snapshot S) (i : I
     held = refl;
   }
 
-  module _ (n : Snapshot S) (j k : InputState) (engine : EngineState) (turn : ℕ)
+  module _ {n : Snapshot S} {j : InputState} (k : InputState) {engine : EngineState} {turn : ℕ}
       (s : Serving limit law m n i j engine turn) where
     abbrev bytes_so_far : Bytes
     bytes_so_far = concat s.pieces
@@ -225,14 +225,14 @@ module _ (limit : Option ℕ) {S : Type 0} (law : Law S) (m : Snapshot S) (i : I
       module _ (consumed : Consumes j.remaining k.remaining piece)
           (reads : k.reads ≡ j.reads ++ length piece ∷ []) (short : length piece ≤ 4096) where
         were_read_so : WereRead i k (s.pieces ++ piece ∷ []) []
-        were_read_so = WereRead-more i j k s.pieces piece s.were_read consumed reads short
+        were_read_so = WereRead-more piece s.were_read consumed reads short
 
         -- and whose lines were answered
         module _ (after : Snapshot S) (kept : k.failures ≡ j.failures)
             (all : AllAnswered law n (run_with engine law n.state piece) after) where
           answered_so : AllAnswered law m
               (events limit bytes_so_far ++ run_with engine law n.state piece) after
-          answered_so = RunEnded-then law m n after (events limit bytes_so_far) s.so_far.answered
+          answered_so = RunEnded-then law s.so_far.answered
               (run_with engine law n.state piece) [] Finished all
 
           left_so : (fed law n.state engine piece).left
@@ -251,7 +251,7 @@ module _ (limit : Option ℕ) {S : Type 0} (law : Law S) (m : Snapshot S) (i : I
 
           held_so : (fed law n.state engine piece).held ≡ most_held limit []
               (s.pieces ++ piece ∷ [])
-          held_so = most_held-piece limit s.pieces piece engine.held engine.buffered s.held
+          held_so = most_held-piece limit s.pieces piece s.held
               (s.buffered ∙ ap (kept_length limit) s.incomplete)
 
           -- after which the run goes on
@@ -322,9 +322,7 @@ module _ (limit : Option ℕ) {S : Type 0} (law : Law S) (m : Snapshot S) (i : I
             last = piece;
             were_read = were_read_so;
             done = events limit bytes_so_far ++ done;
-            failed = RunFailed-then law m n after (events limit bytes_so_far) s.so_far.answered
-                (run_for limit law m.state (bytes_so_far ++ piece))
-                (run_with engine law n.state piece) done error same_run failed;
+            failed = RunFailed-then law s.so_far.answered same_run failed;
             late = (done, refl);
           }
 
@@ -359,11 +357,11 @@ module _ (limit : Option ℕ) {S : Type 0} (law : Law S) (m : Snapshot S) (i : I
           Serving-failed error.Stopped (inl room) = absurd (cc)
           Serving-failed error.TooManyReads (inl room) = absurd (cc)
 
-    pub Serving-all : (piece : Bytes) (count : ℕ) (served : Served) → Reports served engine
+    pub Serving-all : (piece : Bytes) {count : ℕ} {served : Served} → Reports served engine
         → count ≡ 0 → k.reads ≡ j.reads ++ count ∷ [] →
         Consumes j.remaining k.remaining (take count piece) → IsAtEnd k.remaining →
         k.failures ≡ j.failures → AnsweredAll limit law m n i k served
-    Serving-all piece count served reports zero reads given at_end kept =
+    Serving-all piece {served} reports zero reads given at_end kept =
         let known = Consumes-then i.remaining j.remaining k.remaining bytes_so_far in
         let nothing : Consumes j.remaining k.remaining [] = rw zero at given in
         let nothing_after : after_end limit law m.state bytes_so_far ≡ [] =
@@ -407,9 +405,9 @@ module _ (limit : Option ℕ) {S : Type 0} (law : Law S) (m : Snapshot S) (i : I
       read_failed = omega (arith, counted, s.no_read_failed);
     }
 
-  pub Serving-too_often : (n : Snapshot S) (j : InputState) (engine : EngineState) (turn : ℕ)
+  pub Serving-too_often : {n : Snapshot S} {j : InputState} {engine : EngineState} {turn : ℕ}
       → Serving limit law m n i j engine turn → 2 ^ 64 - 1 ≤ turn → ReadTooOften limit law m n i j
-  Serving-too_often n j engine turn s many =
+  Serving-too_often s many =
       record {
         pieces = s.pieces;
         were_read = s.were_read;
@@ -454,17 +452,17 @@ module _ (limit : Option ℕ) {S : Type 0} (law : Law S) (s : S) (input read res
         more_after_end = ap (after_end limit law s) same ∙ no_more (after_end limit law s read);
       }
 
-known_input : (P : Bytes → Type 0) (a b : Option Bytes) (read : Bytes) (done : Bool)
+known_input : (P : Bytes → Type 0) (a b : Option Bytes) (read : Bytes) {done : Bool}
     → Consumes a b read → (done ≡ false → IsAtEnd b) →
     ((input rest : Bytes) → b ≡ Some rest → input ≡ read ++ rest → (done ≡ false → rest ≡ [])
     → P input) → IfSome a P
-known_input P None b read done consumed at_end it = tt
-known_input P (Some input) None read done consumed at_end it = absurd consumed
-known_input P (Some input) (Some rest) read done consumed at_end it =
+known_input P None b read consumed at_end it = tt
+known_input P (Some input) None read consumed at_end it = absurd consumed
+known_input P (Some input) (Some rest) read consumed at_end it =
     it input rest refl consumed at_end
 
-module _ (limit : Option ℕ) {S : Type 0} (law : Law S) (m n : Snapshot S) (i k : InputState)
-    (served : Served) (all : AnsweredAll limit law m n i k served) where
+module _ {limit : Option ℕ} {S : Type 0} {law : Law S} {m n : Snapshot S} {i k : InputState}
+    {served : Served} (all : AnsweredAll limit law m n i k served) where
   module _ (input rest : Bytes) (is : k.remaining ≡ Some rest)
       (whole : input ≡ (concat all.pieces) ++ rest)
       (alike : AlikeRead limit law m.state input (concat all.pieces) rest whole served.done) where
@@ -511,13 +509,13 @@ module _ (limit : Option ℕ) {S : Type 0} (law : Law S) (m n : Snapshot S) (i k
   pub AnsweredAll-serves : IfSome i.remaining (Serves limit law m n k.remaining served)
   AnsweredAll-serves =
       known_input (Serves limit law m n k.remaining served) i.remaining k.remaining
-      (concat all.pieces) served.done all.were_read.consumed all.at_end
+      (concat all.pieces) all.were_read.consumed all.at_end
       (λ input rest is whole end. serves input rest is whole
       (alike_read limit law m.state input (concat all.pieces) rest whole served.done all.ended
       end))
 
 -- the bound
-pub AnsweredAll-bound : (limit : ℕ) {S : Type 0} (law : Law S) (m n : Snapshot S) (i k : InputState)
-    (served : Served) → AnsweredAll (Some limit) law m n i k served → served.held ≤ limit + 4096
-AnsweredAll-bound limit law m n i k served all =
+pub AnsweredAll-bound : {limit : ℕ} {S : Type 0} {law : Law S} {m n : Snapshot S} {i k : InputState}
+    {served : Served} → AnsweredAll (Some limit) law m n i k served → served.held ≤ limit + 4096
+AnsweredAll-bound {limit} all =
     omega (arith, all.held, most_held-within limit [] all.pieces all.were_read.short)

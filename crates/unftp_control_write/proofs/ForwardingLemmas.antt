@@ -60,13 +60,13 @@ module _ (line : Bytes) (body : Bor Bytes) (strips : Strips line (LF ∷ []) (So
       (Lacks-front text.now (CR ∷ []) (subst (Lacks LF) cut lacks)))
 
 -- what was appended is the line that is forwarded
-pub forwarded : (line text verb parameter before after : Bytes) (command : FtpCommand) → IsLine line
+pub forwarded : {line text verb parameter before after : Bytes} {command : FtpCommand} → IsLine line
     → text ≡ before_end line → outcome line ≡ Ok command
     → verb ≡ verb_of text → parameter ≡ parameter_of text
     → after ≡ before ++ cond (keeps_parameter (upper verb))
     (with_parameter (upper verb) parameter ++ crlf) (canonical_line command)
     → IsForwarded line before after
-forwarded line text verb parameter before after command is_line text_is means verb_is parameter_is
+forwarded {line} {verb} {parameter} {before} {command} is_line text_is means verb_is parameter_is
     after_is =
     let cut = cut-before_end line (IsLine-ends line is_line) in
     let same_verb : verb ≡ verb_of line = verb_is ∙ ap verb_of text_is ∙ cut.0 in

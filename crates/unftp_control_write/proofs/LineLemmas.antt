@@ -124,12 +124,12 @@ returned None same e h = λ q. h (same.1 q)
 returned (Some line) same e h = (same.0 h.0, h.1 ∙ e)
 
 -- the line that says no more than the parts of the command
-pub plain_line : (command : Command) (parts : Parts) (line : Option Line) → IsNoOther command
+pub plain_line : {command : Command} (parts : Parts) (line : Option Line) → IsNoOther command
     → HasTypedFields (command_of command) → IsParts (command_of command) parts
     → ReturnsLine (IsOptionalText (option_map bytes_of parts.value))
     (line_body parts.name.now None (option_map bytes_of parts.value)) line
     → ReturnsLine (HasLine (command_of command)) (canonical_body (command_of command)) line
-plain_line command parts line not typed is h =
+plain_line {command} parts line not typed is h =
     let plain = plain_command command not in
     let has = plain_has_line (command_of command) plain typed in
     returned line

@@ -7,7 +7,7 @@ pub returns-in_err-push-clause-err : goal.returns-in_err-push-clause-err
 returns-in_err-push-clause-err g c =
     let given = rw (sym c.split_at.ensures.front) at c.in-Ok.ensures.bytes.0 in
     let error = err_from_is_err_and c.from_residual.result c.from_residual.ensures.1 in
-    rw (error.1, error.2) (Logging-no_room _ _ _ _ _ _ _ _ c.loop-turn.invariant.logging _ given)
+    rw (error.1, error.2) (Logging-no_room c.loop-turn.invariant.logging _ _ given)
 
 pub returns-in_err-log_pending-clause-err : goal.returns-in_err-log_pending-clause-err
 returns-in_err-log_pending-clause-err g c =
@@ -15,8 +15,8 @@ returns-in_err-log_pending-clause-err g c =
     let error = err_from_is_err_and c.from_residual-in_err-log_pending.result
     c.from_residual-in_err-log_pending.ensures.1 in
     rw (error.1, error.2)
-    (Logging-failed _ _ _ _ _ _ _ _ c.loop-turn.invariant.logging _ given c.push.new.self
-    c.log_pending.new.decoder c.in_ok-push.ensures.ok _ _ c.in_err-log_pending.ensures.logs)
+    (Logging-failed c.loop-turn.invariant.logging _ _ given c.in_ok-push.ensures.ok
+    c.in_err-log_pending.ensures.logs)
 
 pub loop-turn-preserved : goal.loop-turn-preserved
 loop-turn-preserved g c =
@@ -25,8 +25,7 @@ loop-turn-preserved g c =
     omega (arith, c.split_at.ensures.front_len, c.if-n-eq0.false) in
     let ensured = c.in_ok-log_pending.ensures in
     record {
-      logging = Logging-next _ _ _ _ _ _ _ _ c.loop-turn.invariant.logging _ given c.push.new.self
-          c.log_pending.new.decoder c.in_ok-push.ensures.ok _ some ensured.logs ensured.pending
-          ensured.limit;
+      logging = Logging-next c.loop-turn.invariant.logging _ _ given c.in_ok-push.ensures.ok some
+          ensured.logs ensured.pending ensured.limit;
       room = omega (arith, c.loop-turn.invariant.room, c.read.auto.buf);
     }

@@ -11,7 +11,7 @@ returns-in-Whole c =
     record {
       found = ((finds.0, finds.2), within.0, within.1);
       whole = λ code lines used front.
-          let same = FrontReply-unique bytes c.in-Whole.code code finds.0 lines c.in-Whole.used used
+          let same = FrontReply-unique
           finds.2 front in
           (same.0, same.2);
       partial = λ partial. absurd (partial.0 (_, _, _, finds.2));

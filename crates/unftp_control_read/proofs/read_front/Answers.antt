@@ -19,8 +19,7 @@ returns-in-Malformed-clause-malformed c = search rules
 pub returns-in-Ok-clause-whole : goal.returns-in-Ok-clause-whole
 returns-in-Ok-clause-whole c = λ code lines used front.
     let found = c.in-Whole.ensures.finds in
-    let same = FrontReply-unique c.args.bytes.now c.in-Whole.code code found.0 lines c.in-Whole.used
-    used found.2 front in
+    let same = FrontReply-unique found.2 front in
     (same.0, c.in-Ok.ensures.copied found.0 found.1 ∙ same.1, same.2)
 
 pub returns-in-Ok-clause-partial : goal.returns-in-Ok-clause-partial
@@ -63,7 +62,7 @@ returns-in-Ok-clause-within c =
 pub returns-in-Ok-clause-counts : goal.returns-in-Ok-clause-counts
 returns-in-Ok-clause-counts c =
     let found = c.in-Whole.ensures.finds in
-    let scanned = scanned_length c.in-Whole.texts found.0 _ found.1
+    let scanned = scanned_length c.in-Whole.texts found.1
     (c.in-Ok.ensures.copied found.0 found.1) in
     let counted = c.in-Whole.ensures.tests in
     (omega (arith, scanned, counted, c.in-Ok.ensures.tests), omega (arith, scanned, counted))

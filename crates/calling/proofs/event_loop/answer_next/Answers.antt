@@ -9,7 +9,7 @@ pub returns-in_err-event-clause-err : goal.returns-in_err-event-clause-err
 returns-in_err-event-clause-err c =
     let error = err_from_is_err_and c.from_residual.result c.from_residual.ensures.1 in
     rw error.1
-    (LeavesUnanswered-kept _ _ _ c.in_err-event.ensures.may_run_out
+    (LeavesUnanswered-kept c.in_err-event.ensures.may_run_out
     c.in_err-event.ensures.takes_next)
 
 pub returns-clause-ok : goal.returns-clause-ok
@@ -21,7 +21,5 @@ returns-clause-ok c =
       | in_default-turn w ↦ ap (λ decoder. decoder.bytes) w.decoder-is
           ∙ sym (left_after-on c.turn_after-turn.result _ w.in_default-turn.not-Close)
     ] in
-    AnswersNext-taken _ c.next_event.new.self _
-    (rw c.in-Some.is at c.in_ok-event.ensures.takes_next) _ _ _ _ c.pending.ensures
-    c.pending-2.ensures
-    c.in_default-answer.ensures.ok _ _ c.turn_after-turn.ensures left_so
+    AnswersNext-taken (rw c.in-Some.is at c.in_ok-event.ensures.takes_next) c.pending.ensures
+    c.pending-2.ensures c.in_default-answer.ensures.ok c.turn_after-turn.ensures left_so

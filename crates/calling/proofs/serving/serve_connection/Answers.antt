@@ -1,30 +1,15 @@
 use Rattle.std.proofs.Common.{refl}
 use Rattle.unftp_control.specs.Service.{input_state_of}
 use Rattle.unftp_control.specs.Writing.{output_state_of}
-use Rattle.calling.proofs.CallerLemmas.{IsSession-of}
+use Rattle.calling.proofs.CallerLemmas.{IsSession-of, MatchResult-both}
 use Rattle.calling.proofs.serving.serve_connection.Goals as goal
 
 pub returns-clause-session : goal.returns-clause-session
 returns-clause-session g c =
-    let facts = c.serve-served.ensures in
-    IsSession-of _ _ _ _ c.serve-served.result _ _
-    (output_state_of g.W.Write.contents c.serve-served.new.writer)
-    (input_state_of g.R.Read.remaining c.serve-served.new.reader) _ (rw c.into_inner.ensures refl)
-    (simp (
-      c.new-input.ensures.reader,
-      c.new-input.ensures.reads,
-      c.new-input.ensures.failures,
-      c.new-output.ensures.writer,
-      c.new-output.ensures.failures,
-      c.new-output.ensures.unflushed,
-    )
-    at facts.ok)
-    (simp (
-      c.new-input.ensures.reader,
-      c.new-input.ensures.reads,
-      c.new-input.ensures.failures,
-      c.new-output.ensures.writer,
-      c.new-output.ensures.failures,
-      c.new-output.ensures.unflushed,
-    )
-    at facts.err)
+    let served = c.serve-served in
+    let from = c.new-input.ensures in
+    let to = c.new-output.ensures in
+    IsSession-of (output_state_of g.W.Write.contents served.new.writer)
+    (input_state_of g.R.Read.remaining served.new.reader) (rw c.into_inner.ensures refl)
+    (simp (from.reader, from.reads, from.failures, to.writer, to.failures, to.unflushed) at
+    (MatchResult-both served.result _ _ served.ensures.ok served.ensures.err))

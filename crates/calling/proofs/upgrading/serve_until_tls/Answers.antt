@@ -1,4 +1,4 @@
-use Rattle.std.proofs.Common.{Err, refl}
+use Rattle.std.proofs.Common.{refl}
 use Rattle.unftp_control.specs.Service.{input_state_of}
 use Rattle.unftp_control.specs.Writing.{output_state_of}
 use Rattle.calling.proofs.CallerLemmas.{IsSession-of}
@@ -7,26 +7,26 @@ use Rattle.calling.proofs.upgrading.serve_until_tls.Goals.{in-Ok, in-Ok-2, in-Er
 
 pub returns-clause-err : goal.returns-clause-err
 returns-clause-err g c =
-    let facts = c.serve_with_limit-served.ensures in
+    let served = c.serve_with_limit-served in
+    let from = c.new-input.ensures in
+    let to = c.new-output.ensures in
     elim c.match-served.branch [
       | in-Ok w ↦ rw w.next-is tt
       | in-Ok-2 w ↦ rw w.next-is tt
       | in-Err w ↦ rw w.next-is (
         _,
         _,
-        IsSession-of _ _ _ _ (Err w.in-Err.error) _ _
-            (output_state_of g.W.Write.contents c.serve_with_limit-served.new.writer)
-            (input_state_of g.R.Read.remaining c.serve_with_limit-served.new.reader) _
-            (rw c.into_inner-2.ensures refl) tt
+        IsSession-of (output_state_of g.W.Write.contents served.new.writer)
+            (input_state_of g.R.Read.remaining served.new.reader) (rw c.into_inner-2.ensures refl)
             (simp (
               w.in-Err.is,
               c.new.ensures,
-              c.new-input.ensures.reader,
-              c.new-input.ensures.reads,
-              c.new-input.ensures.failures,
-              c.new-output.ensures.writer,
-              c.new-output.ensures.failures,
-              c.new-output.ensures.unflushed,
-            ) at facts.err),
+              from.reader,
+              from.reads,
+              from.failures,
+              to.writer,
+              to.failures,
+              to.unflushed,
+            ) at served.ensures.err),
       )
     ]

@@ -9,8 +9,7 @@ returns-in_err-event-clause-err c =
     let error = err_from_is_err_and c.from_residual.result c.from_residual.ensures.1 in
     rw error.1 (
       refl,
-      LeavesUnanswered-kept _ _ _ c.in_err-event.ensures.may_run_out
-          c.in_err-event.ensures.takes_next,
+      LeavesUnanswered-kept c.in_err-event.ensures.may_run_out c.in_err-event.ensures.takes_next,
     )
 
 pub returns-clause-line : goal.returns-clause-line

@@ -7,10 +7,9 @@ pub returns-in-Some-clause-ok : goal.returns-in-Some-clause-ok
 returns-in-Some-clause-ok c =
     c.new_with_string.ensures
     ∙ ap (CodeAndMsg 213)
-    (same_time c.modified.result.nanosecond _ _ (rw c.in-Some.is at c.in_ok-text.ensures)
+    (same_time (rw c.in-Some.is at c.in_ok-text.ensures)
     c.modified.ensures)
 
 pub returns-in-None-clause-ok : goal.returns-in-None-clause-ok
 returns-in-None-clause-ok c =
-    absurd (has_time c.modified.result.nanosecond _ (rw c.in-None.is at c.in_ok-text.ensures)
-    c.modified.ensures)
+    absurd (has_time (rw c.in-None.is at c.in_ok-text.ensures) c.modified.ensures)

@@ -7,4 +7,4 @@ pub returns-in_ok-push-in_default : goal.returns-in_ok-push-in_default
 returns-in_ok-push-in_default c =
     let name = c.in_default in
     let pushed = c.in_ok-push-in_default.ensures.items in
-    rw (pushed, map-append) (sym (entered-name _ _ name.not-empty name.not-text name.not-text-2))
+    rw (pushed, map-append) (sym (entered-name _ name.not-empty name.not-text name.not-text-2))

@@ -3,6 +3,6 @@ use Rattle.unftp_control.proofs.laws.lines_of_events.Goals as goal
 
 pub returns : goal.returns
 returns c = record {
-  line = λ before after event taken. line_after-taken (Unit {0}) before after event taken;
+  line = λ before after event taken. line_after-taken (Unit {0}) event taken;
   too_long = λ limit line. refuses_length-exceeds limit line;
 }

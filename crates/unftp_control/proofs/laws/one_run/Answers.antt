@@ -14,7 +14,7 @@ returns g c = record {
       );
   all = λ s events on. run_of-all g.H.Handler.law s events
       (ends_nowhere-ends g.H.Handler.law s events on);
-  ended = λ s events first event. ends_after-run g.H.Handler.law s events first event;
+  ended = λ s events first event. ends_after-run g.H.Handler.law;
   found = λ s events. ends-found g.H.Handler.law s events;
   unread = λ limit s input. lines-then-after (length (run_for limit g.H.Handler.law s input)) input;
 }

@@ -2,14 +2,13 @@
 #![tactic(auto, unfolding(unftp_control_defs::proofs::Computing::at_bytes))]
 
 ghost use Rattle.std.specs.Prelude.{◌≡◌, ◌-◌, ◌^◌, [], ◌∷◌, None, Some, true, false, codes};
-ghost use Rattle.unftp_control_defs.specs.FtpCommand.{Noop, Retr};
 ghost use Rattle.unftp_control_client.specs.Dialogue.{after_command, after_reply, at_start, commands_owed, is_preliminary, next_to};
 ghost use Rattle.unftp_control_client.specs.Exchange.{IsOtherError, new_client};
-ghost use Rattle.unftp_control_client.specs.Steps.{AreExchanges, AreSteps, IsStep, Received, Sent, Took, commands_sent, replies_owed};
+ghost use Rattle.unftp_control_client.specs.Steps.{AreExchanges, AreSteps, IsStep, Received, Sent, Took, lines_sent, replies_owed};
 ghost use Rattle.unftp_control_client.specs.declared.Client.{Client as RustClient};
 ghost use Rattle.unftp_control_client.specs.declared.dialogue.To.TheVariants.{Greeting, Command, Nothing};
 ghost use Rattle.unftp_control_client.specs.declared.errors.SendError.TheVariants.{NoLine, OutOfMemory, TooManyCommands};
-ghost use Rattle.unftp_control.specs.ClientRuns.{client_with, dialogue, reply_with};
+ghost use Rattle.unftp_control.specs.ClientRuns.{client_with, dialogue, noop, reply_with, retr};
 
 /// The codes of preliminary replies.
 pub fn these_codes_are_preliminary()
@@ -59,8 +58,8 @@ pub fn these_errors_are_others()
 
 /// What a client's calls change.
 pub fn these_are_steps()
-    ensures sent { IsStep (client_with at_start []) (Sent Noop) (client_with (dialogue 1 None) []) }
-    ensures not_counted { ¬ IsStep (client_with at_start []) (Sent Noop) (client_with at_start []) }
+    ensures sent { IsStep (client_with at_start []) (Sent noop) (client_with (dialogue 1 None) []) }
+    ensures not_counted { ¬ IsStep (client_with at_start []) (Sent noop) (client_with at_start []) }
     ensures received { IsStep (client_with at_start (codes "22")) (Received (codes "0"))
         (client_with at_start (codes "220")) }
     ensures byte_lost { ¬ IsStep (client_with at_start (codes "22")) (Received (codes "0"))
@@ -72,21 +71,21 @@ pub fn these_are_steps()
     ensures reply_left { ¬ IsStep (client_with at_start (codes "220\r\n2"))
         (Took (reply_with 220 Greeting)) (client_with (dialogue 0 (Some 0)) (codes "220\r\n2")) }
     ensures none { AreSteps (new_client None) [] (new_client None) }
-    ensures two { AreSteps (new_client None) (Received (codes "2") ∷ Sent Noop ∷ [])
+    ensures two { AreSteps (new_client None) (Received (codes "2") ∷ Sent noop ∷ [])
         (client_with (dialogue 1 None) (codes "2")) }
-    ensures one_left_out { ¬ AreSteps (new_client None) (Sent Noop ∷ Sent Noop ∷ [])
+    ensures one_left_out { ¬ AreSteps (new_client None) (Sent noop ∷ Sent noop ∷ [])
         (client_with (dialogue 1 None) []) }
-    ensures commands { commands_sent (Sent Noop ∷ Received (codes "2") ∷ Sent Noop ∷ [])
-        ≡ Noop ∷ Noop ∷ [] }
+    ensures lines { lines_sent (Sent noop ∷ Received (codes "2") ∷ Sent noop ∷ [])
+        ≡ noop ∷ noop ∷ [] }
     ensures owed { replies_owed
-        (Took (reply_with 220 Greeting) ∷ Sent Noop ∷ Took (reply_with 421 Nothing) ∷ [])
+        (Took (reply_with 220 Greeting) ∷ Sent noop ∷ Took (reply_with 421 Nothing) ∷ [])
         ≡ reply_with 220 Greeting ∷ [] }
 {}
 
 /// Whole runs. RETR and NOOP are sent at once, before the greeting came.
 pub fn these_are_runs()
     ensures both { AreSteps (new_client None)
-        (Sent (Retr (codes "x")) ∷ Sent Noop ∷ Received (codes "220\r\n150\r\n")
+        (Sent retr ∷ Sent noop ∷ Received (codes "220\r\n150\r\n")
         ∷ Took (reply_with 220 Greeting) ∷ Took (reply_with 150 (Command 0))
         ∷ Received (codes "226\r\n200\r\n2")
         ∷ Took (reply_with 226 (Command 0)) ∷ Took (reply_with 200 (Command 1)) ∷ [])
@@ -96,12 +95,12 @@ pub fn these_are_runs()
         ∷ Took (reply_with 220 Greeting) ∷ Took (reply_with 421 Nothing) ∷ [])
         (client_with (dialogue 0 (Some 0)) []) }
     ensures settled_by_150 { (client : RustClient) → ¬ AreSteps (new_client None)
-        (Sent (Retr (codes "x")) ∷ Sent Noop ∷ Received (codes "220\r\n150\r\n226\r\n")
+        (Sent retr ∷ Sent noop ∷ Received (codes "220\r\n150\r\n226\r\n")
         ∷ Took (reply_with 220 Greeting) ∷ Took (reply_with 150 (Command 0))
         ∷ Took (reply_with 226 (Command 1)) ∷ []) client }
     ensures not_sent { (client : RustClient) → ¬ AreSteps (new_client None)
         (Received (codes "220\r\n200\r\n")
-        ∷ Took (reply_with 220 Greeting) ∷ Took (reply_with 200 (Command 0)) ∷ Sent Noop ∷ [])
+        ∷ Took (reply_with 220 Greeting) ∷ Took (reply_with 200 (Command 0)) ∷ Sent noop ∷ [])
         client }
 {}
 

@@ -1,7 +1,7 @@
 use Rattle.std.proofs.Common.{refl, ap}
 use Rattle.unftp_control_read.specs.ReplyDecoding.{appended}
 use Rattle.unftp_control_client.specs.declared.Client.{Client}
-use Rattle.unftp_control_client.proofs.StepLemmas.{steps-append}
+use Rattle.unftp_control_client.proofs.ClientStepLemmas.{steps-append}
 use Rattle.unftp_control_client.proofs.laws.calls_are_steps.Goals as goal
 
 pub returns : goal.returns

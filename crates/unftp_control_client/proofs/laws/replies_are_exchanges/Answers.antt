@@ -1,6 +1,6 @@
 use Rattle.std.proofs.Common.{refl}
 use Rattle.unftp_control_client.specs.Exchange.{new_client}
-use Rattle.unftp_control_client.proofs.StepLemmas.{none_owed, sent_before, steps-exchanges, steps-taken}
+use Rattle.unftp_control_client.proofs.ClientStepLemmas.{none_owed, sent_before, steps-exchanges, steps-taken}
 use Rattle.unftp_control_client.proofs.laws.replies_are_exchanges.Goals as goal
 
 pub returns : goal.returns

@@ -1,6 +1,6 @@
 use Rattle.std.proofs.Common.{refl}
 use Rattle.unftp_control_client.specs.Exchange.{new_client}
-use Rattle.unftp_control_client.proofs.StepLemmas.{last_agrees}
+use Rattle.unftp_control_client.proofs.ClientStepLemmas.{last_agrees}
 use Rattle.unftp_control_client.proofs.laws.tls_begins_after_234.Goals as goal
 
 pub returns : goal.returns

@@ -4,5 +4,4 @@ use Rattle.unftp_control_codecs.proofs.lines.encode_lines.Goals as goal
 
 pub returns-clause-read_back : goal.returns-clause-read_back
 returns-clause-read_back g c = appended_back c.args.code (map g.S.AsStr.text c.args.lines.now)
-    c.args.buf.now.items c.append_lines.new.buf.items c.args.buf.now.len
-    (c.if-not-is_reply_code.ensures.0 refl) c.args.buf.now.ok.0 (search rules)
+    c.args.buf.now.items (c.if-not-is_reply_code.ensures.0 refl) c.args.buf.now.ok.0 (search rules)

@@ -25,7 +25,7 @@ returns c = record {
         cut = refl;
         is_line = LacksCrlf-test (codes "2111 a") refl;
         opens_none =
-            opens_not (codes "211") (codes "2111 a") 211 49 (codes " a") spells_211 refl
+            opens_not (codes " a") spells_211 refl
             (λ same. omega (arith, same)) (λ same. omega (arith, same));
       };
   no_line_end = (line_part (codes "x") refl).1;
@@ -34,8 +34,7 @@ returns c = record {
         211,
         [] ∷ [],
         5,
-        FrontReply-encoded (CodeAndMsg 211 []) [] ((lit≤ tt, lit< tt), tt) 211
-            ([] ∷ []) refl,
+        FrontReply-encoded (CodeAndMsg 211 []) [] ((lit≤ tt, lit< tt), tt) refl,
       ) malformed;
   second_line =
       λ malformed. front_is_formed _ (
@@ -43,7 +42,7 @@ returns c = record {
         [] ∷ [],
         5,
         FrontReply-encoded (CodeAndMsg 211 []) (codes "x\r\n")
-            ((lit≤ tt, lit< tt), tt) 211 ([] ∷ []) refl,
+            ((lit≤ tt, lit< tt), tt) refl,
       ) malformed;
   no_last_line =
       (several_part (codes "x" ∷ []) [] (LacksCrlf-test (codes "x") refl, tt)

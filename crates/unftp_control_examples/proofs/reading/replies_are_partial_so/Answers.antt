@@ -24,8 +24,7 @@ returns c = record {
         FrontReply-encoded (MultiLine 211 (codes "a" ∷ codes "b" ∷ [])) [] (
           (lit≤ tt, lit< tt),
           (Lacks-test 10 (codes "a") refl, (Lacks-test 10 (codes "b") refl, tt)),
-        )
-            211 (codes "a" ∷ codes "b" ∷ []) refl,
+        ) refl,
       );
   no_code =
       λ partial. partial.1

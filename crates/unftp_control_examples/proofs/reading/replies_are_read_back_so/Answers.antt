@@ -30,7 +30,7 @@ returns c = record {
         cut = refl;
         is_line = LacksCrlf-test (codes "1000") refl;
         opens_none =
-            opens_not (codes "100") (codes "1000") 100 48 [] (
+            opens_not [] (
               1,
               0,
               0,

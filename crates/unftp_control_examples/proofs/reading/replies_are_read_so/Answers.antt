@@ -10,9 +10,8 @@ use Rattle.unftp_control_examples.proofs.reading.replies_are_read_so.Goals as go
 pub returns : goal.returns
 unfolding digits
 returns c = record {
-  code_only = FrontReply-encoded (CodeAndMsg 211 []) (codes "x") ((lit≤ tt, lit< tt), tt) 211
-      ([] ∷ []) refl;
-  no_text = FrontReply-encoded (MultiLine 211 []) [] ((lit≤ tt, lit< tt), tt) 211 ([] ∷ []) refl;
+  code_only = FrontReply-encoded (CodeAndMsg 211 []) (codes "x") ((lit≤ tt, lit< tt), tt) refl;
+  no_text = FrontReply-encoded (MultiLine 211 []) [] ((lit≤ tt, lit< tt), tt) refl;
   text = front_of_text [];
   standard =
       FrontReply-encoded
@@ -30,9 +29,7 @@ returns c = record {
             ),
           ),
         ),
-      ) 123
-      (codes "First line" ∷ codes "Second line" ∷ codes "  234 A line beginning with numbers" ∷
-      codes "The last line" ∷ []) refl;
+      ) refl;
   codes_first =
       record {
         digits = codes "211";

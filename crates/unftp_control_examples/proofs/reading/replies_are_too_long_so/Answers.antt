@@ -33,8 +33,7 @@ returns c = record {
         FrontReply-encoded (MultiLine 211 (codes "a" ∷ codes "b" ∷ [])) [] (
           (lit≤ tt, lit< tt),
           (Lacks-test 10 (codes "a") refl, (Lacks-test 10 (codes "b") refl, tt)),
-        )
-            211 (codes "a" ∷ codes "b" ∷ []) refl,
+        ) refl,
       );
   no_last_line = (omega arith, several_part [] [] tt tt lacks_nil);
   malformed = (omega arith, line_part (codes "21 a\r") refl);

@@ -17,6 +17,6 @@ returns c =
     (Some c.in_ok-strip_prefix.field-0) c.in_ok-strip_prefix.ensures.cases in
     let second = strip_prefix_is Decides-eqb c.in_ok-strip_prefix.field-0.now
     (SP ∷ []) c.strip_prefix-2.result c.strip_prefix-2.ensures.cases in
-    let text = after_digits c.args.digits.now c.args.line.now c.in_ok-strip_prefix.field-0.now
+    let text = after_digits c.args.digits.now c.in_ok-strip_prefix.field-0.now
     c.strip_prefix-2.result first second in
     record { found = text.0; none = text.1 }

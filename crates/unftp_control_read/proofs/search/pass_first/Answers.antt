@@ -10,9 +10,7 @@ returns-in-One-clause-steps c =
     let kind = subst (IsAfterCode line opening.digits.now) c.in-One.is c.in-Some.ensures.some.1 in (
       c.in-One.text.now ∷ [],
       refl,
-      first_alone c.args.bytes.now 0 line c.args.after.now
-          opening.digits.now c.in-One.text.now opening.code c.requires c.in-Some.ensures.some.0
-          kind,
+      first_alone c.requires c.in-Some.ensures.some.0 kind,
     )
 
 pub returns-in-Several-clause-steps : goal.returns-in-Several-clause-steps
@@ -21,5 +19,4 @@ returns-in-Several-clause-steps c =
     let opening = c.in-Some.opening in
     let kind = subst (IsAfterCode line opening.digits.now) c.in-Several.is c.in-Some.ensures.some.1
     in
-    first_opens c.args.bytes.now 0 line c.args.after.now opening.digits.now c.in-Several.field-0.now
-    opening.code c.requires c.in-Some.ensures.some.0 kind
+    first_opens c.in-Several.field-0.now c.requires c.in-Some.ensures.some.0 kind

@@ -6,7 +6,7 @@ use Rattle.unftp_control_serve.proofs.engine.answer_event.Goals as goal
 
 pub returns-in-Err-clause-outcome : goal.returns-in-Err-clause-outcome
 returns-in-Err-clause-outcome g c =
-    failed-at _ _ _ _ _ c.in-Err.ensures.may_fail refl c.in-Err.ensures.counted
+    failed-at _ _ c.in-Err.ensures.may_fail refl c.in-Err.ensures.counted
 
 pub returns-in-Ok-encode_into-clause-outcome : goal.returns-in-Ok-encode_into-clause-outcome
 returns-in-Ok-encode_into-clause-outcome g c =
@@ -19,5 +19,5 @@ returns-in-Ok-encode_into-clause-outcome g c =
     (rw said at c.send.ensures.nothing) (rw said at c.send.ensures.sends)
 
 pub returns-clause-outcome : goal.returns-clause-outcome
-returns-clause-outcome g c = no_memory-at _ _ _ _ c.in-Ok.ensures.next c.in-Ok.ensures.quiet
+returns-clause-outcome g c = no_memory-at _ c.in-Ok.ensures.next c.in-Ok.ensures.quiet
     (rw c.in-Ok.ensures.says at c.in-Err-encode_into.ensures.no_memory) refl

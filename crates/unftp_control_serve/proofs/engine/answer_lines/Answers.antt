@@ -8,7 +8,7 @@ use Rattle.unftp_control_serve.proofs.engine.answer_lines.Goals as goal
 pub loop-event-init : goal.loop-event-init
 loop-event-init g c =
     record {
-      halfway = Halfway-start _ _ _ _;
+      halfway = Halfway-start _;
       scanned = refl;
       limit = refl;
       held = refl;
@@ -20,7 +20,7 @@ loop-event-preserved g c =
     let before = c.loop-event.invariant in
     let first = rw c.in-Some.is at c.in_ok-event.ensures.takes_next in
     record {
-      halfway = Halfway-next _ _ _ _ _ _ _ before.halfway before.limit _ first _
+      halfway = Halfway-next before.halfway before.limit first
           c.in_ok-answer_event.ensures.outcome (sym c.done.ensures ∙ c.if-done.false);
       scanned = omega (arith, before.scanned, c.in_ok-event.ensures.scanned);
       limit = c.in_ok-event.ensures.limit ∙ before.limit;
@@ -35,28 +35,28 @@ returns-in_err-answer_event-clause-outcome g c =
     let error = err_from_is_err_and c.from_residual-in_err-answer_event.result
     c.from_residual-in_err-answer_event.ensures.1 in
     rw (error.1, error.2)
-    (line-failed _ _ _ _ _ _ _ before.halfway before.limit _ first _ _
+    (line-failed before.halfway before.limit first
     c.in_err-answer_event.ensures.outcome)
 
 pub returns-then-done-clause-outcome : goal.returns-then-done-clause-outcome
 returns-then-done-clause-outcome g c =
     let before = c.loop-event.invariant in
     let first = rw c.in-Some.is at c.in_ok-event.ensures.takes_next in
-    last_line-answered _ _ _ _ _ _ _ before.halfway before.limit _ first _
+    last_line-answered before.halfway before.limit first
     c.in_ok-answer_event.ensures.outcome (sym c.done.ensures ∙ c.if-done.true)
 
 pub returns-then-done-clause-ended : goal.returns-then-done-clause-ended
 returns-then-done-clause-ended g c =
     let before = c.loop-event.invariant in
     let first = rw c.in-Some.is at c.in_ok-event.ensures.takes_next in
-    last_line-ended _ _ _ _ _ _ _ before.halfway before.limit _ first _
+    last_line-ended before.halfway before.limit first
     c.in_ok-answer_event.ensures.outcome (sym c.done.ensures ∙ c.if-done.true)
 
 pub returns-then-done-clause-unread : goal.returns-then-done-clause-unread
 returns-then-done-clause-unread g c =
     let before = c.loop-event.invariant in
     let first = rw c.in-Some.is at c.in_ok-event.ensures.takes_next in
-    last_line-unread _ _ _ _ _ _ _ before.halfway before.limit _ first _
+    last_line-unread before.halfway before.limit first
     c.in_ok-answer_event.ensures.outcome (sym c.done.ensures ∙ c.if-done.true)
 
 pub returns-then-done-clause-unscanned : goal.returns-then-done-clause-unscanned
@@ -70,17 +70,17 @@ returns-then-done-clause-kept g c = λ on. absurd (false≢true (sym on))
 pub returns-in-None-clause-outcome : goal.returns-in-None-clause-outcome
 returns-in-None-clause-outcome g c =
     let none = rw c.in-None.is at c.in_ok-event.ensures.takes_next in
-    no_line-answered _ _ _ _ _ _ _ c.loop-event.invariant.halfway none
+    no_line-answered c.loop-event.invariant.halfway none
 
 pub returns-in-None-clause-ended : goal.returns-in-None-clause-ended
 returns-in-None-clause-ended g c =
     let none = rw c.in-None.is at c.in_ok-event.ensures.takes_next in
-    no_line-not_ended _ _ _ _ _ _ _ c.loop-event.invariant.halfway none
+    no_line-not_ended c.loop-event.invariant.halfway none
 
 pub returns-in-None-clause-unread : goal.returns-in-None-clause-unread
 returns-in-None-clause-unread g c =
     let none = rw c.in-None.is at c.in_ok-event.ensures.takes_next in
-    no_line-all_unread _ _ _ _ _ _ _ c.loop-event.invariant.halfway none
+    no_line-all_unread c.loop-event.invariant.halfway none
 
 pub returns-in-None-clause-unscanned : goal.returns-in-None-clause-unscanned
 returns-in-None-clause-unscanned g c =
@@ -99,5 +99,5 @@ pub returns-in_err-event-clause-outcome : goal.returns-in_err-event-clause-outco
 returns-in_err-event-clause-outcome g c =
     let error = err_from_is_err_and c.from_residual.result c.from_residual.ensures.1 in
     rw (error.1, error.2)
-    (halfway-no_memory _ _ _ _ _ _ c.loop-event.invariant.limit c.loop-event.invariant.halfway
+    (halfway-no_memory c.loop-event.invariant.limit c.loop-event.invariant.halfway
     c.in_err-event.ensures.may_run_out)

@@ -8,7 +8,7 @@ loop-rest-preserved g c =
     let kept : c.write.new.self.failures ≡ c.loop-rest.output.failures =
     grind (arith, common_steps, c.in-Ok.ensures.counts.0, c.in-Ok.n-test.1) in
     rw c.split_at.ensures.back
-    (Sending-more _ _ _ _ _ c.in-Ok.n c.loop-rest.invariant c.in-Ok.ensures.bound
+    (Sending-more c.in-Ok.n c.loop-rest.invariant c.in-Ok.ensures.bound
     c.in-Ok.ensures.bytes kept c.in-Ok.ensures.counts.1)
 
 pub loop-rest-smaller : goal.loop-rest-smaller

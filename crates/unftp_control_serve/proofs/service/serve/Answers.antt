@@ -4,5 +4,5 @@ use Rattle.unftp_control_serve.proofs.service.serve.Goals as goal
 
 pub returns-clause-serves : goal.returns-clause-serves
 returns-clause-serves g c =
-    IfOk-weaker c.serve_lines.result _ _ (λ served all. AnsweredAll-serves _ _ _ _ _ _ served all)
+    IfOk-weaker c.serve_lines.result _ _ (λ served all. AnsweredAll-serves all)
     c.serve_lines.ensures.ok

@@ -5,7 +5,7 @@ use Rattle.unftp_control_serve.proofs.service.serve_lines.Goals as goal
 
 pub loop-turn-init : goal.loop-turn-init
 loop-turn-init g c =
-    record { serving = Serving-start _ _ _ _ _ c.limited-engine.ensures; room = refl }
+    record { serving = Serving-start _ c.limited-engine.ensures; room = refl }
 
 pub returns-in_err-feed-clause-err : goal.returns-in_err-feed-clause-err
 returns-in_err-feed-clause-err g c =
@@ -20,7 +20,7 @@ returns-in_err-feed-clause-err g c =
     let given = rw (sym c.split_at.ensures.front) at c.in-Ok.ensures.bytes.0 in
     let error = err_from_is_err_and c.from_residual.result c.from_residual.ensures.1 in
     rw (error.1, error.2)
-    (Serving-failed _ _ _ _ _ _ _ _ _ c.loop-turn.invariant.serving c.split_at.result.0.now given
+    (Serving-failed _ c.loop-turn.invariant.serving c.split_at.result.0.now given
     (rw c.split_at.ensures.front_len c.in-Ok.ensures.reads) short _ _
     (c.in_err-feed.ensures.outcome c.loop-turn.invariant.serving.running))
 
@@ -43,7 +43,7 @@ loop-turn-preserved g c =
     ∙ c.if-is_over.false in
     record {
       serving = rw is
-          (Serving-next _ _ _ _ _ _ _ _ _ c.loop-turn.invariant.serving c.split_at.result.0.now
+          (Serving-next _ c.loop-turn.invariant.serving c.split_at.result.0.now
           given (rw c.split_at.ensures.front_len c.in-Ok.ensures.reads) short _
           c.in-Ok.ensures.quiet (c.in_ok-feed.ensures.outcome running) some on);
       room = omega (arith, c.loop-turn.invariant.room, c.read.auto.buf);
@@ -64,18 +64,18 @@ returns-then-is_over-clause-ok g c =
     let is = c.in_ok-feed.ensures.fed running in
     let done = ap (λ engine. engine.finished) (sym is) ∙ sym c.finished-is_over.ensures
     ∙ c.if-is_over.true in
-    Serving-done _ _ _ _ _ _ _ _ _ c.loop-turn.invariant.serving c.split_at.result.0.now given
+    Serving-done _ c.loop-turn.invariant.serving c.split_at.result.0.now given
     (rw c.split_at.ensures.front_len c.in-Ok.ensures.reads) short _ c.in-Ok.ensures.quiet
     (c.in_ok-feed.ensures.outcome running)
     _ (rw is at c.served_by-then-is_over.ensures) done
 
 pub returns-clause-err : goal.returns-clause-err
-returns-clause-err g c = Serving-too_often _ _ _ _ _ _ _ _ c.loop-turn.invariant.serving
+returns-clause-err g c = Serving-too_often c.loop-turn.invariant.serving
     (omega (arith, c.loop-turn-test.false))
 
 pub returns-in-Err-clause-err : goal.returns-in-Err-clause-err
 returns-in-Err-clause-err g c =
-    Serving-read_failed _ _ _ _ _ _ _ _ _ c.loop-turn.invariant.serving
+    Serving-read_failed _ c.loop-turn.invariant.serving
     c.in-Err.ensures.bytes c.in-Err.ensures.reads c.in-Err.ensures.counted
 
 pub returns-then-n-eq0-clause-ok : goal.returns-then-n-eq0-clause-ok
@@ -83,7 +83,7 @@ returns-then-n-eq0-clause-ok g c =
     let room : 0 < length c.read.new.buf =
     omega (arith, c.loop-turn.invariant.room, c.read.auto.buf) in
     let given = c.in-Ok.ensures.bytes in
-    Serving-all _ _ _ _ _ _ _ _ _ c.loop-turn.invariant.serving c.read.new.buf _ _
+    Serving-all _ c.loop-turn.invariant.serving c.read.new.buf
     c.served_by.ensures c.if-n-eq0.true c.in-Ok.ensures.reads
     given.0 (given.1 c.if-n-eq0.true room) c.in-Ok.ensures.quiet
 

@@ -4,12 +4,12 @@ use Rattle.unftp_control_serve.proofs.service.serve_with_limit.Goals as goal
 
 pub returns-clause-serves : goal.returns-clause-serves
 returns-clause-serves g c =
-    IfOk-weaker c.serve_lines.result _ _ (λ served all. AnsweredAll-serves _ _ _ _ _ _ served all)
+    IfOk-weaker c.serve_lines.result _ _ (λ served all. AnsweredAll-serves all)
     c.serve_lines.ensures.ok
 
 pub returns-clause-bound : goal.returns-clause-bound
 returns-clause-bound g c =
-    IfOk-weaker c.serve_lines.result _ _ (λ served all. AnsweredAll-bound _ _ _ _ _ _ served all)
+    IfOk-weaker c.serve_lines.result _ _ (λ served all. AnsweredAll-bound all)
     c.serve_lines.ensures.ok
 
 pub returns-clause-ok : goal.returns-clause-ok

@@ -3,7 +3,7 @@ use Rattle.unftp_control_write.proofs.canonical.line_of.Goals as goal
 
 pub returns-in_default-clause-line : goal.returns-in_default-clause-line
 returns-in_default-clause-line c =
-    plain_line c.args.command.now c.parts_of.result c.line-in_default.result
+    plain_line c.parts_of.result c.line-in_default.result
     (record {
       no_type = c.in_default.not-TypeCode;
       no_list = c.in_default.not-List;

@@ -3,4 +3,4 @@ use Rattle.unftp_control_defs.proofs.ReplyCasesLemmas.{front_within}
 use Rattle.unftp_control.proofs.laws.replies.one_front.Goals as goal
 
 pub returns : goal.returns
-returns c = record { only = FrontReply-unique; within = front_within }
+returns c = record { only = λ _ _ _ _ _ _ _. FrontReply-unique; within = front_within }

@@ -9,7 +9,7 @@ returns-then-byte_at-eq-LINE_FEED-clause-found c =
     let is : slice_index c.args.self.now.bytes.now c.loop-at.at ≡ 10 =
     ap (λ bytes. slice_index bytes c.loop-at.at) (sym i.bytes) ∙ sym c.byte_at.ensures.byte
     ∙ c.if-byte_at-eq-LINE_FEED.true in
-    sym (line_feed_from_Some c.args.self.now.bytes.now c.args.from c.loop-at.at c.loop-at.auto.at
+    sym (line_feed_from_Some c.args.self.now.bytes.now c.args.from c.loop-at.auto.at
     c.loop-at-test.true i.before is)
 
 pub returns-clause-found : goal.returns-clause-found

@@ -5,14 +5,13 @@ use Rattle.unftp_control_read.proofs.search.Search.find_front.Goals as goal
 
 pub next_line-requires : goal.next_line-requires
 next_line-requires c =
-    let h = rest_searched c.args.bytes.now c.loop-line.rest.now c.loop-line.self
+    let h = rest_searched
     c.loop-line.invariant.searched c.loop-line.invariant.rest in
     record { within = h.0; lacks = h.1 }
 
 pub pass_line-requires : goal.pass_line-requires
 pass_line-requires c =
-    line_at_rest c.args.bytes.now c.loop-line.rest.now c.in-Some.line.now c.in-Some.after.now
-    c.loop-line.self c.loop-line.invariant.searched c.loop-line.invariant.rest
+    line_at_rest c.loop-line.invariant.searched c.loop-line.invariant.rest
     c.in-Some.ensures.cut c.in-Some.ensures.is_line
 
 pub returns-in-Ends-clause-tests : goal.returns-in-Ends-clause-tests
@@ -51,7 +50,7 @@ loop-line-preserved c =
     ) in
     record {
       searched = c.in-GoesOn.ensures.steps;
-      rest = after_is_drop bytes c.loop-line.rest.now c.in-Some.line.now c.in-Some.after.now
+      rest = after_is_drop bytes c.in-Some.line.now
           c.loop-line.self.line i.rest c.in-Some.ensures.cut;
       ahead = omega (arith, i.ahead, c.in-Some.ensures.later, long, within, shorter);
       tests = omega (arith, i.tests, c.in-Some.ensures.tests, long, within, shorter);
@@ -61,7 +60,7 @@ pub returns : goal.returns
 returns c =
     let i = c.loop-line.invariant in
     let bytes = c.args.bytes.now in
-    let h = all_searched bytes c.loop-line.rest.now c.loop-line.self i.searched i.rest
+    let h = all_searched i.searched i.rest
     c.in_default.ensures.none in
     let within = offset_within bytes c.loop-line.self i.searched in
     let long : length c.loop-line.rest.now ≡ length bytes - c.loop-line.self.line = ap length i.rest

@@ -1,6 +1,6 @@
 use Rattle.std.proofs.Common.{rules, ◌≡◌, false, sym, ap, ◌∙◌}
 use Rattle.unftp_control_serve.specs.Engine.{has_failed, has_finished}
-use Rattle.unftp_control_serve.proofs.EngineLemmas.{fed-ended, fed-on}
+use Rattle.unftp_control_serve.proofs.EngineLemmas.{WasFed, fed-ended, fed-on}
 use Rattle.unftp_control_serve.proofs.engine.Engine.answer.Goals.{then-ended, else-ended}
 use Rattle.unftp_control_serve.proofs.engine.Engine.answer.Goals as goal
 
@@ -13,23 +13,26 @@ returns-after-ended-clause-fed g c =
     ap (λ engine. engine.finished) c.self.view_is ∙ c.requires.1 in
     let before = c.self.invariant not_failed in
     let lines = c.in-Ok.ensures in
+    let was_fed : WasFed g.H.Handler.law (g.H.Handler.state c.args.handler.now) inside.decoder
+    c.push.new.self c.answer_lines.new.decoder c.args.piece.now c.in-Ok.ended =
+    record {
+      push = c.in_default.ensures.ok;
+      all_scanned = before.0;
+      ends = lines.ended;
+      pending = lines.unread;
+      unscanned = lines.unscanned;
+      same_limit = lines.limit;
+      same_held = lines.held;
+      scanned_once = lines.scanned_once;
+    } in
     rw (sym c.self.view_is) (elim c.if-ended.branch [
       | then-ended w ↦
           rw (w.self-is, w.clear.ensures.cleared, c.left-self-inside.ensures)
-          (fed-ended g.H.Handler.law (g.H.Handler.state c.args.handler.now) inside.decoder
-          c.push.new.self c.answer_lines.new.decoder
-          inside.left (has_failed inside.phase) (has_finished inside.phase) c.args.piece.now
-          c.in-Ok.ended
-          c.in_default.ensures.ok before.0 lines.ended lines.unread lines.unscanned lines.limit
-          lines.held lines.scanned_once w.if-ended.true)
+          (fed-ended was_fed inside.left (has_failed inside.phase) (has_finished inside.phase)
+          w.if-ended.true)
       | else-ended w ↦
           w.self-is ∙ rw (not_failed, not_finished, c.left-self-inside.ensures)
-          (fed-on g.H.Handler.law (g.H.Handler.state c.args.handler.now) inside.decoder
-          c.push.new.self c.answer_lines.new.decoder
-          inside.left false false c.args.piece.now c.in-Ok.ended
-          c.in_default.ensures.ok before.0 lines.ended lines.unread lines.unscanned lines.limit
-          lines.held lines.scanned_once w.if-ended.false
-          (lines.kept w.if-ended.false))
+          (fed-on was_fed inside.left false false w.if-ended.false (lines.kept w.if-ended.false))
     ])
 
 pub returns-in-Err-answer_lines-clause-fed : goal.returns-in-Err-answer_lines-clause-fed

@@ -5,7 +5,7 @@ use Rattle.std.specs.List.{filter}
 use Rattle.unftp_control_defs.specs.Bytes.{Bytes}
 use Rattle.unftp_control_defs.specs.TakingSteps.{AreTakingSteps, TakesReply}
 use Rattle.unftp_control_client.specs.Dialogue.{agrees, after_command, after_final, after_reply, commands_owed, first_owed, is_preliminary, next_to}
-use Rattle.unftp_control_client.specs.Steps.{AreExchanges, AreSteps, ClientStep, IsStep, ReplyTo, Sent, Received, Took, commands_sent, decoder_steps, is_final, replies_owed, replies_taken, was_owed}
+use Rattle.unftp_control_client.specs.Steps.{AreExchanges, AreSteps, ClientStep, IsStep, ReplyTo, Sent, Received, Took, lines_sent, decoder_steps, is_final, replies_owed, replies_taken, was_owed}
 use Rattle.unftp_control_client.specs.declared.Client.{Client}
 use Rattle.unftp_control_client.specs.declared.dialogue.Dialogue.{Dialogue}
 use Rattle.unftp_control_client.specs.declared.dialogue.To.{To}
@@ -137,7 +137,7 @@ pub steps-exchanges : (steps : List ClientStep) (before after : Client)
     → AreSteps before steps after
     → AreExchanges (open_exchange before.dialogue.answered) (replies_owed steps)
 steps-exchanges [] before after are = tt
-steps-exchanges (Sent command ∷ steps) before after (next, step, are) =
+steps-exchanges (Sent line ∷ steps) before after (next, step, are) =
     subst (λ (d : Dialogue). AreExchanges (open_exchange d.answered) (replies_owed steps)) step.0
     (steps-exchanges steps next after are)
 steps-exchanges (Received piece ∷ steps) before after (next, step, are) =
@@ -148,9 +148,9 @@ steps-exchanges (Took taken ∷ steps) before after (next, step, are) =
     (steps-exchanges steps next after are)
 
 steps-sent : (steps : List ClientStep) (before after : Client) → AreSteps before steps after
-    → after.dialogue.sent ≡ before.dialogue.sent + length (commands_sent steps)
+    → after.dialogue.sent ≡ before.dialogue.sent + length (lines_sent steps)
 steps-sent [] before after are = omega (arith, ap (λ (d : Dialogue). d.sent) are.0)
-steps-sent (Sent command ∷ steps) before after (next, step, are) =
+steps-sent (Sent line ∷ steps) before after (next, step, are) =
     omega (arith, ap (λ (d : Dialogue). d.sent) step.0, steps-sent steps next after are)
 steps-sent (Received piece ∷ steps) before after (next, step, are) =
     omega (arith, ap (λ (d : Dialogue). d.sent) step.0, steps-sent steps next after are)
@@ -162,7 +162,7 @@ steps-complete : (steps : List ClientStep) (before after : Client) → AreSteps 
     ≡ complete before.dialogue.answered + length (filter is_final (replies_owed steps))
 steps-complete [] before after are =
     omega (arith, ap (λ (d : Dialogue). complete d.answered) are.0)
-steps-complete (Sent command ∷ steps) before after (next, step, are) =
+steps-complete (Sent line ∷ steps) before after (next, step, are) =
     omega (
       arith,
       ap (λ (d : Dialogue). complete d.answered) step.0,
@@ -181,7 +181,7 @@ steps-complete (Took taken ∷ steps) before after (next, step, are) =
 pub steps-taken : (steps : List ClientStep) (before after : Client) → AreSteps before steps after
     → AreTakingSteps TakesReply before.replies.bytes (decoder_steps steps) after.replies.bytes
 steps-taken [] before after are = are.1
-steps-taken (Sent command ∷ steps) before after (next, step, are) =
+steps-taken (Sent line ∷ steps) before after (next, step, are) =
     subst (λ bytes. AreTakingSteps TakesReply bytes (decoder_steps steps) after.replies.bytes)
     step.1 (steps-taken steps next after are)
 steps-taken (Received piece ∷ steps) before after (next, step, are) =
@@ -197,7 +197,7 @@ from_same : (steps : List ClientStep) (before same after : Client)
     → same.dialogue ≡ before.dialogue → same.replies.bytes ≡ before.replies.bytes
     → AreSteps same steps after → AreSteps before steps after
 from_same [] before same after d b are = (are.0 ∙ d, are.1 ∙ b)
-from_same (Sent command ∷ steps) before same after d b (next, step, are) =
+from_same (Sent line ∷ steps) before same after d b (next, step, are) =
     (next, (step.0 ∙ ap after_command d, step.1 ∙ b), are)
 from_same (Received piece ∷ steps) before same after d b (next, step, are) =
     (next, (step.0 ∙ d, step.1 ∙ ap (λ bytes. bytes ++ piece) b), are)
@@ -253,7 +253,7 @@ module _ (start after : Client) (before later : List ClientStep) (reply : ℕ ×
     (none_sent : start.dialogue.sent ≡ 0) (none : start.dialogue.answered ≡ None) where
   pub sent_before : (place : ℕ)
       → AreSteps start (before ++ Took (record { to = Command place; reply = reply }) ∷ later) after
-      → place < length (commands_sent before)
+      → place < length (lines_sent before)
   sent_before place are =
       let s = split before (Took (record { to = Command place; reply = reply }) ∷ later) start after
       are in
@@ -266,7 +266,7 @@ module _ (start after : Client) (before later : List ClientStep) (reply : ℕ ×
 
   pub none_owed :
       AreSteps start (before ++ Took (record { to = Nothing; reply = reply }) ∷ later) after
-      → suc (length (commands_sent before)) ≤ length (filter is_final (replies_owed before))
+      → suc (length (lines_sent before)) ≤ length (filter is_final (replies_owed before))
   none_owed are =
       let s = split before (Took (record { to = Nothing; reply = reply }) ∷ later) start after are in
       omega (
@@ -354,7 +354,7 @@ steps-agree [] before after are agreed = inl (
   sym (ap (λ (d : Dialogue). d.agreed) are.0) ∙ agreed,
   ap (λ (d : Dialogue). d.answered) are.0,
 )
-steps-agree (Sent command ∷ steps) before after (next, step, are) agreed =
+steps-agree (Sent line ∷ steps) before after (next, step, are) agreed =
     ⊎_elim
     (λ (h : AgreedBefore next steps after). inl
     (same_dialogue steps before next after (sym (ap (λ (d : Dialogue). d.agreed) step.0))
@@ -394,7 +394,7 @@ pub last_agrees : (steps : List ClientStep) (start after : Client)
     → after.dialogue.agreed ≡ true → commands_owed after.dialogue ≡ 0
     → (earlier : List ReplyTo) × (place : ℕ) × (lines : List Bytes)
     × (replies_taken steps ≡ earlier ++ record { to = Command place; reply = (234, lines) } ∷ [])
-    × (suc place ≡ length (commands_sent steps))
+    × (suc place ≡ length (lines_sent steps))
 last_agrees steps start after none_sent not_agreed are agreed none_owed =
     ⊎_elim
     (λ (h : AgreedBefore start steps after). absurd (cc))
