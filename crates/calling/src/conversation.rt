@@ -166,7 +166,7 @@ fn take_all(
 {
     let mut network = network;
     let mut taken = Vec::new(alloc);
-    loop {
+    'replies: loop {
         match client.next_reply()? {
             Some(reply) => taken.push(reply)?,
             None => {
