@@ -1,8 +1,11 @@
 //! How far the dialogue with a server has come.
-ghost use Rattle.std.specs.Prelude.{◌≡◌, ◌-◌, ◌^◌, MatchOption};
+ghost use Rattle.std.specs.Prelude.{◌≡◌, ◌↔◌, ◌-◌, ◌^◌, IsTrue, MatchOption};
 ghost use Rattle.unftp_control_client.specs.Dialogue.{after_command, after_reply, at_start, commands_owed, is_preliminary, next_to};
+ghost use Rattle.unftp_control_client.specs.Steps.{reply_to};
+ghost use Rattle.unftp_control_client.specs.declared.dialogue.ClientReply.{ClientReply as RustReply};
+ghost use Rattle.unftp_control_client.specs.declared.dialogue.To.{To as RustTo};
 
-use unftp_control_read::ReceivedReply;
+use unftp_control_read::{ReceivedReply, same_received_replies};
 
 /// What a reply is to.
 #[derive(Clone, Copy, Debug, PartialEq, Eq)]
@@ -22,6 +25,17 @@ pub struct ClientReply {
     pub to: To,
     /// What was received. Where its code is 1yz, another reply to the same command follows.
     pub reply: ReceivedReply,
+}
+
+/// `==` of what two replies are to is equality, and a clone is equal; two replies are equal exactly
+/// where their codes and lines are, and what they are to.
+pub fn same_client_replies()
+    ensures to { (a b : RustTo) → IsTrue (⟦<To as PartialEq>⟧.eq a b) ↔ (a ≡ b) }
+    ensures clone { (a b : RustTo) → ⟦<To as Clone>⟧.is_clone a b → b ≡ a }
+    ensures reply { (a b : RustReply)
+        → IsTrue (⟦<ClientReply as PartialEq>⟧.eq a b) ↔ (reply_to a ≡ reply_to b) }
+{
+    same_received_replies();
 }
 
 /// How far the dialogue with a server has come (RFC 959, section 5.4).

@@ -11,7 +11,7 @@ ghost use Rattle.unftp_control_defs.specs.Outcome.{outcome};
 ghost use Rattle.unftp_control_defs.specs.ReplyLimit.{IsTooLongReply};
 ghost use Rattle.unftp_control_defs.specs.ReplyReader.{FrontReply, IsMalformed, IsPartial};
 ghost use Rattle.unftp_control_defs.specs.TakingSteps.{TakesReply};
-ghost use Rattle.unftp_control_read.specs.ReplyDecoding.{IsReturned, TakesNextReply, content, held_after, pushed, within_limit};
+ghost use Rattle.unftp_control_read.specs.ReplyDecoding.{CountsNextReply, IsReturned, TakesNextReply, content, held_after, pushed, within_limit};
 ghost use Rattle.unftp_control_read.specs.Receiving.{Receives};
 ghost use Rattle.unftp_control_client.specs.Dialogue.{after_command, commands_owed};
 ghost use Rattle.unftp_control_client.specs.Exchange.{IsNext, IsOtherError, new_client, only_reply};
@@ -21,7 +21,7 @@ mod errors;
 pub mod laws;
 
 use crate::dialogue::Dialogue;
-pub use crate::dialogue::{ClientReply, To};
+pub use crate::dialogue::{ClientReply, To, same_client_replies};
 pub use crate::errors::SendError;
 use std::alloc::{AllocError, Global};
 use std::io::Read;
@@ -170,6 +170,8 @@ impl Client {
         ensures buffered { self.new.replies.buffered
             ≡ held_after self.old.replies (only_reply result) self.new.replies }
         ensures limit { self.new.replies.limit ≡ self.old.replies.limit }
+        // Each byte is scanned for a line feed at most twice.
+        ensures counts { CountsNextReply self.old.replies (only_reply result) self.new.replies }
     {
         match self.replies.next_reply()? {
             Some(reply) => Ok(Some(self.dialogue.add_reply(reply))),
@@ -207,6 +209,8 @@ impl Client {
         // With a limit, no more is pending then than the limit and one read, or than before.
         ensures pending { IfSome self.old.replies.limit (λ limit.
             length self.new.replies.bytes ≤ max (length self.old.replies.bytes) (limit + 4095)) }
+        ensures buffered { IfSome self.old.replies.limit (λ limit.
+            self.new.replies.buffered ≤ max self.old.replies.buffered (limit + 4095)) }
     {
         match self.replies.read_reply(reader)? {
             Some(received) => Ok(Some(self.dialogue.add_reply(received))),

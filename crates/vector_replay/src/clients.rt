@@ -88,7 +88,7 @@ fn receive(client: &mut Client, piece: &[u8], answers: &mut Answers) {
 }
 
 /// Does what a client does.
-fn act(client: &mut Client, act: &Act, out: &mut Vec<u8>, answers: &mut Answers) {
+fn make_act(client: &mut Client, act: &Act, out: &mut Vec<u8>, answers: &mut Answers) {
     match act {
         Act::Send(line) => {
             if client.send_line(line.as_slice(), out).is_err() {
@@ -112,7 +112,7 @@ pub fn answer_client(words: &mut Words<'_>, answers: &mut Answers) -> Result<(),
     let mut out = Vec::with_capacity(words.alloc, ROOM)?;
     answers.begin();
     for step in acts.as_slice() {
-        act(&mut client, step, &mut out, answers);
+        make_act(&mut client, step, &mut out, answers);
     }
     answers.put(format_args!("owed={} left={}", client.owed(), client.pending().len()));
     answers.put_unless(!client.tls_agreed(), " tls");
