@@ -54,30 +54,29 @@ module _ (call : Call) where
   left_waiting none true e = rw e (asks none refl (rw e refl))
   left_waiting none false e = rw e (asks none refl (rw e refl))
 
-  left_command : (k : ℕ) (command : FtpCommand) → valid ≡ true → feed ≡ Some k
+  left_command : {k : ℕ} {command : FtpCommand} → valid ≡ true → feed ≡ Some k
       → is_long call.connection (k + 1) ≡ false → outcome (take (k + 1) call.bytes) ≡ Ok command
       → (room : Bool) → nat_le (length (area_text command)) (length call.area) ≡ room
       → NextLeft call (gives call.connection call.area (k + 1) command)
-  left_command k command ok at short read true e = rw e (gave (command_gives command) (omega arith))
-  left_command k command ok at short read false e = rw e (no_room k command ok at short read refl)
+  left_command {command} ok at short read true e = rw e (gave (command_gives command) (omega arith))
+  left_command {k} {command} ok at short read false e = rw e
+      (no_room k command ok at short read refl)
 
-  left_answer : (k : ℕ) → valid ≡ true → feed ≡ Some k → is_long call.connection (k + 1) ≡ false
+  left_answer : {k : ℕ} → valid ≡ true → feed ≡ Some k → is_long call.connection (k + 1) ≡ false
       → (answer : Answer) → outcome (take (k + 1) call.bytes) ≡ answer
       → NextLeft call (answered call (k + 1) answer)
-  left_answer k ok at short (Ok command) read =
-      left_command k command ok at short read
-      (nat_le (length (area_text command)) (length call.area))
-      refl
-  left_answer k ok at short (Err refusal) read = gave (refusal_gives refusal) (omega arith)
+  left_answer ok at short (Ok command) read =
+      left_command ok at short read (nat_le (length (area_text command)) (length call.area)) refl
+  left_answer ok at short (Err refusal) read = gave (refusal_gives refusal) (omega arith)
 
-  left_line : (k : ℕ) → valid ≡ true → feed ≡ Some k → (long : Bool)
+  left_line : {k : ℕ} → valid ≡ true → feed ≡ Some k → (long : Bool)
       → is_long call.connection (k + 1) ≡ long → NextLeft call (ended call k)
-  left_line k ok at true e = rw e (gave refl (omega arith))
-  left_line k ok at false e = rw e (left_answer k ok at e (outcome (take (k + 1) call.bytes)) refl)
+  left_line ok at true e = rw e (gave refl (omega arith))
+  left_line {k} ok at false e = rw e (left_answer ok at e (outcome (take (k + 1) call.bytes)) refl)
 
   left_feed : valid ≡ true → (o : Option ℕ) → feed ≡ o → NextLeft call (by_line_feed call o)
   left_feed ok None e = left_waiting e (is_long call.connection (length call.bytes + 1)) refl
-  left_feed ok (Some k) e = left_line k ok e (is_long call.connection (k + 1)) refl
+  left_feed ok (Some k) e = left_line ok e (is_long call.connection (k + 1)) refl
 
   left_by : (ok : Bool) → valid ≡ ok → NextLeft call (next_of call)
   left_by false e = rw e (invalid e refl)

@@ -31,12 +31,12 @@ refused_line line kind.InvalidUtf8 h = refused InvalidUtf8 h refl
 refused_line line kind.InvalidEol h = refused InvalidEol h refl
 refused_line line kind.OutOfMemory h = out_of_memory refl
 
-pub unwritten_line : (line : Bytes) (command : FtpCommand) (why : WriteCommandError)
+pub unwritten_line : {line : Bytes} {command : FtpCommand} {why : WriteCommandError}
     → outcome line ≡ Ok command → (HasLine command → why ≡ error.OutOfMemory)
     → IsCanonical line (Err (line_status why))
-unwritten_line line command error.NoLine read has_line =
+unwritten_line {command} {why = error.NoLine} read has_line =
     no_line command read (λ h. let out = has_line h in cc) refl
-unwritten_line line command error.OutOfMemory read has_line = out_of_memory refl
+unwritten_line {why = error.OutOfMemory} read has_line = out_of_memory refl
 
 -- memory that is taken to read the line, or to write its command's
 pub refused_memory : (line : Bytes) (why : ParseErrorKind) → IfOutOfMemory why (MayTakeMemory line)
@@ -86,15 +86,16 @@ refusal_number InvalidCommand = (λ e. omega (arith, e), λ e. omega (arith, e))
 refusal_number InvalidUtf8 = (λ e. omega (arith, e), λ e. omega (arith, e))
 refusal_number InvalidEol = (λ e. omega (arith, e), λ e. omega (arith, e))
 
-pub never_no_line : (line area : Bytes) (bytes : Made) → IsCanonical line bytes → IsLine line
+pub never_no_line : {line : Bytes} (area : Bytes) {bytes : Made} → IsCanonical line bytes
+    → IsLine line
     → (written bytes area).result ≡ status_number NoLine → ⊥
-never_no_line line area bytes (canonical command read has_line e) is_line none =
+never_no_line area (canonical command read has_line e) is_line none =
     filled_has_line _ area (subst (λ b. (written b area).result ≡ status_number NoLine) e none)
-never_no_line line area bytes (no_line command read has_none e) is_line none =
+never_no_line {line} area (no_line command read has_none e) is_line none =
     has_none (HasLine-outcome line command is_line read)
-never_no_line line area bytes (refused refusal read e) is_line none =
+never_no_line area (refused refusal read e) is_line none =
     (refusal_number refusal).1 (subst (λ b. (written b area).result ≡ status_number NoLine) e none)
-never_no_line line area bytes (out_of_memory e) is_line none =
+never_no_line area (out_of_memory e) is_line none =
     omega (arith, subst (λ b. (written b area).result ≡ status_number NoLine) e none)
 
 same_Err : (a b : Status) → not_made a ≡ Err b → a ≡ b
@@ -112,13 +113,13 @@ undone line status (refused refusal read e) done =
 undone line status (out_of_memory e) done =
     omega (arith, ap status_number (sym (same_Err status OutOfMemory e)) ∙ done)
 
-pub canonical_back : (line area : Bytes) (result : Result (Vec ℕ Global) Status)
+pub canonical_back : {line : Bytes} (area : Bytes) (result : Result (Vec ℕ Global) Status)
     → IsCanonical line (made result) → IfOk result (λ buf. outcome buf.items ≡ outcome line)
     → (written (made result) area).result ≡ status_number Done
     → outcome (take (written (made result) area).text_length (written (made result) area).area)
     ≡ outcome line
-canonical_back line area (Ok buf) is back done = ap outcome (filled_done buf.items area done) ∙ back
-canonical_back line area (Err status) is back done = absurd (undone line status is done)
+canonical_back area (Ok buf) is back done = ap outcome (filled_done buf.items area done) ∙ back
+canonical_back {line} area (Err status) is back done = absurd (undone line status is done)
 
 -- a status is reported by its own number
 pub refusal_memory : (refusal : Refusal)
@@ -137,9 +138,9 @@ memory_of_status line status (refused refusal read e) out =
     (ap status_number (sym (same_Err status (refusal_status refusal) e)) ∙ out))
 memory_of_status line status (out_of_memory e) out = same_Err status OutOfMemory e
 
-pub memory_taken : (line area : Bytes) (bytes : Made) → IsCanonical line bytes
+pub memory_taken : {line : Bytes} (area : Bytes) (bytes : Made) → IsCanonical line bytes
     → (bytes ≡ Err OutOfMemory → CanonicalMayTakeMemory line)
     → (written bytes area).result ≡ status_number OutOfMemory → CanonicalMayTakeMemory line
-memory_taken line area (Ok text) is may out = absurd (filled_has_memory text area out)
-memory_taken line area (Err status) is may out =
+memory_taken area (Ok text) is may out = absurd (filled_has_memory text area out)
+memory_taken {line} area (Err status) is may out =
     may (ap not_made (memory_of_status line status is out))

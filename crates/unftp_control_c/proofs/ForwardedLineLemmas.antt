@@ -70,10 +70,10 @@ undone line status (refused refusal read e) done = let same : status ≡ refusal
 undone line status (out_of_memory is_text e) done = let same : status ≡ OutOfMemory = cc in
     omega (arith, sym (ap status_number same) ∙ done)
 
-pub forwarded_back : (line area : Bytes) (result : Result (Vec ℕ Global) Status)
+pub forwarded_back : {line : Bytes} (area : Bytes) (result : Result (Vec ℕ Global) Status)
     → IsForwardedLine line (made result) → IfOk result (λ buf. outcome buf.items ≡ outcome line)
     → (written (made result) area).result ≡ status_number Done
     → outcome (take (written (made result) area).text_length (written (made result) area).area)
     ≡ outcome line
-forwarded_back line area (Ok buf) is back done = ap outcome (filled_done buf.items area done) ∙ back
-forwarded_back line area (Err status) is back done = absurd (undone line status is done)
+forwarded_back area (Ok buf) is back done = ap outcome (filled_done buf.items area done) ∙ back
+forwarded_back {line} area (Err status) is back done = absurd (undone line status is done)

@@ -4,7 +4,7 @@ use Rattle.std.specs.Prelude.{◌==◌, nat_le}
 use Rattle.std.proofs.lemmas.Bool.{and_parts, leb-true}
 use Rattle.std.specs.Option.{MatchOption}
 use Rattle.unftp_control_defs.specs.FtpCommand.{FtpCommand, Answer, Refusal, InvalidCommand, InvalidUtf8, InvalidEol}
-use Rattle.unftp_control_defs.specs.Events.{Fault, FtpEvent, Command, Refused, event_of, refusal_fault, line_too_long}
+use Rattle.unftp_control_defs.specs.Events.{Fault, Command, Refused, event_of, refusal_fault, line_too_long}
 use Rattle.unftp_control_defs.specs.Events as fault
 use Rattle.unftp_control_defs.specs.Outcome.{outcome}
 use Rattle.unftp_control_command.specs.declared.Command.{Command as RustCommand}
@@ -218,13 +218,13 @@ module _ (call : Call) (new : Codec) (taken : ℕ) where
         by_cases (inr out) = inr (out.0, rw out.1 refl)
 
 -- the same for a codec that is where the last call stopped
-pub call_leaves : (call : Call) (old new : Codec) (taken : ℕ) (answer : Decoded)
+pub call_leaves : (call : Call) {old : Codec} (new : Codec) (taken : ℕ) (answer : Decoded)
     → old ≡ codec_of call
     → Decodes old new call.bytes (drop taken call.bytes) answer
     → (¬ IsOutOfMemory answer → new.tests + old.place ≡ old.tests + new.place + taken)
     → is_valid call.connection (length call.bytes) ≡ true
     → Leaves call (left_by call answer taken new.place new.skipping)
-call_leaves call old new taken answer goes_on decodes counted valid = leaves call new taken answer
+call_leaves call new taken answer goes_on decodes counted valid = leaves call new taken answer
     (subst (λ codec. Decodes codec new call.bytes (drop taken call.bytes) answer) goes_on decodes)
     (λ memory. omega (
       arith,

@@ -32,18 +32,19 @@ parts_lack : (text : Bytes) → AllByRecursion (Lacks LF) (slice_split (λ b. b 
 parts_lack [] = (tt, tt)
 parts_lack (b ∷ text) = next_part b text (cases_eq b LF) (parts_lack text)
 
-plain : (code : ℕ) (text : Bytes) (reply : FtpReply) → IsReplyCode code → IsReplyOf code text reply
+plain : {code : ℕ} {text : Bytes} {reply : FtpReply} → IsReplyCode code → IsReplyOf code text reply
     → IsPlain reply
-plain code text reply is_code (inl one) =
+plain {code} is_code (inl one) =
     subst IsPlain (sym one.1) (three_digits code is_code, one.0)
-plain code text reply is_code (inr several) =
+plain {code} {text} is_code (inr several) =
     subst IsPlain (sym several.1) (three_digits code is_code, parts_lack text)
 
-pub reads_back : (code : ℕ) (text area : Bytes) (bytes : Made) → EncodesReply code text bytes
+pub reads_back : {code : ℕ} {text : Bytes} (area : Bytes) {bytes : Made}
+    → EncodesReply code text bytes
     → (written bytes area).result ≡ status_number Done
     → (reply : FtpReply) × IsReplyOf code text reply
     × ReadsBack (take (written bytes area).text_length (written bytes area).area) (reply ∷ [])
-reads_back code text area bytes (encodes is_code utf8 reply is_reply e) done =
+reads_back {text} area (encodes is_code utf8 reply is_reply e) done =
     let found =
     filled_done (encoded reply) area
     (subst (λ b. (written b area).result ≡ status_number Done) e done) in (
@@ -52,26 +53,26 @@ reads_back code text area bytes (encodes is_code utf8 reply is_reply e) done =
       subst (λ b. ReadsBack (take (written b area).text_length (written b area).area)
           (reply ∷ [])) (sym e)
           (subst (λ text. ReadsBack text (reply ∷ [])) (sym found)
-          (one_back reply (plain code text reply is_code is_reply))),
+          (one_back reply (plain is_code is_reply))),
     )
-reads_back code text area bytes (unknown_code unknown e) done =
+reads_back area (unknown_code unknown e) done =
     absurd (omega (arith, subst (λ b. (written b area).result ≡ status_number Done) e done))
-reads_back code text area bytes (not_utf8 is_code ill_formed e) done =
+reads_back area (not_utf8 is_code ill_formed e) done =
     absurd (omega (arith, subst (λ b. (written b area).result ≡ status_number Done) e done))
-reads_back code text area bytes (out_of_memory is_code utf8 e) done =
+reads_back area (out_of_memory is_code utf8 e) done =
     absurd (omega (arith, subst (λ b. (written b area).result ≡ status_number Done) e done))
 
 -- the reply of one line, and that of several, whose memory may run out
-pub line_encodes : (code : ℕ) (text : Bytes) → IsReplyCode code → IsUtf8 text → Lacks LF text
+pub line_encodes : {code : ℕ} {text : Bytes} → IsReplyCode code → IsUtf8 text → Lacks LF text
     → EncodesReply code text (Ok (encoded (CodeAndMsg code text)))
-line_encodes code text is_code utf8 one = encodes is_code utf8 (CodeAndMsg code text)
+line_encodes {code} {text} is_code utf8 one = encodes is_code utf8 (CodeAndMsg code text)
     (inl (one, refl)) refl
 
-pub lines_encode : (code : ℕ) (text lines : Bytes) (result : Result (Vec ℕ Global) Status)
+pub lines_encode : {code : ℕ} {text lines : Bytes} (result : Result (Vec ℕ Global) Status)
     → lines ≡ text → IsReplyCode code → IsUtf8 text → ¬ Lacks LF text
     → IfOk result (λ buf. buf.items ≡ encoded (lines_reply code lines))
     → IfErr result (λ status. status ≡ OutOfMemory) → EncodesReply code text (made result)
-lines_encode code text lines (Ok buf) same is_code utf8 several ok err =
+lines_encode {code} {text} (Ok buf) same is_code utf8 several ok err =
     encodes is_code utf8 (lines_reply code text) (inr (several, refl)) (rw (← same, ok) refl)
-lines_encode code text lines (Err status) same is_code utf8 several ok err =
+lines_encode (Err status) same is_code utf8 several ok err =
     out_of_memory is_code utf8 (rw err refl)

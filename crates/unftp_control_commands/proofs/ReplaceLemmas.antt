@@ -76,8 +76,8 @@ replaced-ok r c to text ascii h =
 abbrev pub exchanged : ℕ → ℕ → Bytes → Bytes
 exchanged c d text = map (λ b. if b == c then d else b) text
 
-exchanged-cons : {c : ℕ} (d : ℕ) {b : ℕ} (text : Bytes) → replaced c (d ∷ []) text ≡ exchanged c d
-    text
+exchanged-cons : {c : ℕ} (d : ℕ) {b : ℕ} (text : Bytes)
+    → replaced c (d ∷ []) text ≡ exchanged c d text
     → (b ≡ c) ⊎ (b ≡ c → ⊥)
     → replaced c (d ∷ []) (b ∷ text) ≡ exchanged c d (b ∷ text)
 exchanged-cons {c} d {b} text more (inl e) = rw (eq-eqb b c e) (ap (λ bytes. d ∷ bytes) more)

@@ -50,8 +50,7 @@ module _ {S : Type 0} (law : Law S) {limit : Option ℕ} {p q : Pending} (s : S)
       first_line-on : run_for limit law s p.bytes ≡ event ∷ run_for limit law s' q.bytes
       first_line-on =
           ap (run_for limit law s) first.takes.whole
-          ∙ (on-line law limit s s' first.takes.line q.bytes first.takes.is_line next_state
-          on).2
+          ∙ (on-line law limit s s' first.takes.line q.bytes first.takes.is_line next_state on).2
           ∙ ap (λ e. e ∷ run_for limit law s' q.bytes) (sym meant)
 
       first_line-same_end : ends_for limit law s p.bytes ≡ ends_for limit law s' q.bytes

@@ -9,8 +9,7 @@ pub returns-in_err-event-clause-err : goal.returns-in_err-event-clause-err
 returns-in_err-event-clause-err c =
     let error = err_from_is_err_and c.from_residual.result c.from_residual.ensures.1 in
     rw error.1
-    (LeavesUnanswered-kept c.in_err-event.ensures.may_run_out
-    c.in_err-event.ensures.takes_next)
+    (LeavesUnanswered-kept c.in_err-event.ensures.may_run_out c.in_err-event.ensures.takes_next)
 
 pub returns-clause-ok : goal.returns-clause-ok
 returns-clause-ok c =

@@ -24,7 +24,7 @@ returns-in-Ok-written-clause-canonical c =
 pub returns-in-Err-written-clause-canonical : goal.returns-in-Err-written-clause-canonical
 returns-in-Err-written-clause-canonical c =
     subst (λ status. IsCanonical c.args.line.now (Err status)) (sym c.line_status.ensures)
-    (unwritten_line c.args.line.now (command_of c.in-Ok.command) c.in-Err-written.error
+    (unwritten_line
     c.in-Ok.ensures.answer (λ has_line. c.in-Err-written.ensures.has_line has_line))
 
 pub returns-in-Err-clause-memory : goal.returns-in-Err-clause-memory

@@ -20,6 +20,6 @@ pub returns-clause-read_back : goal.returns-clause-read_back
 returns-clause-read_back c = λ done.
     let left = c.write.ensures in
     rw (ap (λ filled. filled.text_length) left, ap (λ filled. filled.area) left)
-    (forwarded_back c.args.line.now c.args.out.now c.forwarded_line.result
+    (forwarded_back c.args.out.now c.forwarded_line.result
     c.forwarded_line.ensures.forwarded c.forwarded_line.ensures.read_back
     (sym (ap (λ filled. filled.result) left) ∙ done))

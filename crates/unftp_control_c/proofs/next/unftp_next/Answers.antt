@@ -14,5 +14,5 @@ returns c =
     let valid : is_valid call.connection (length call.bytes) ≡ true =
     sym c.is_valid.ensures ∙ c.if-not-is_valid.false in
     subst (Leaves call) (sym (c.leave-number.ensures call.bytes))
-    (call_leaves call c.resume-codec.result answered.new.self answered.result.0 answered.result.1
+    (call_leaves call answered.new.self answered.result.0 answered.result.1
     c.resume-codec.ensures answered.ensures.decodes answered.ensures.counted valid)

@@ -26,7 +26,7 @@ returns-then-is_one_line-clause-writes c =
     let text = c.in-Ok.ensures.cases in
     let one = subst (Lacks LF) text.0 (c.if-is_one_line.ensures.0 refl) in (
       Ok (encoded (CodeAndMsg c.args.code c.args.text.now)),
-      line_encodes c.args.code c.args.text.now code text.1 one,
+      line_encodes code text.1 one,
       rw (← text.0) c.write_line.ensures,
     )
 
@@ -38,8 +38,8 @@ returns-then-is_one_line-clause-read_back c = λ done.
     let left = c.write_line.ensures in
     let bytes : Made = Ok (encoded (CodeAndMsg c.args.code c.args.text.now)) in
     rw (ap (λ filled. filled.text_length) left, ap (λ filled. filled.area) left, text.0)
-    (reads_back c.args.code c.args.text.now c.args.out.now bytes
-    (line_encodes c.args.code c.args.text.now code text.1 one)
+    (reads_back c.args.out.now
+    (line_encodes code text.1 one)
     (rw (← text.0) (sym (ap (λ filled. filled.result) left) ∙ done)))
 
 pub returns-clause-writes : goal.returns-clause-writes
@@ -49,8 +49,7 @@ returns-clause-writes c =
     let several = λ (one : Lacks LF c.args.text.now). false≢true
     (c.if-is_one_line.ensures.1 (subst (Lacks LF) (sym text.0) one)) in (
       made c.encoded_lines.result,
-      lines_encode c.args.code c.args.text.now _ c.encoded_lines.result text.0 code text.1 several
-          c.encoded_lines.ensures.ok
+      lines_encode c.encoded_lines.result text.0 code text.1 several c.encoded_lines.ensures.ok
           c.encoded_lines.ensures.err,
       c.write-2.ensures,
     )
@@ -63,8 +62,8 @@ returns-clause-read_back c = λ done.
     (c.if-is_one_line.ensures.1 (subst (Lacks LF) (sym text.0) one)) in
     let left = c.write-2.ensures in
     rw (ap (λ filled. filled.text_length) left, ap (λ filled. filled.area) left)
-    (reads_back c.args.code c.args.text.now c.args.out.now (made c.encoded_lines.result)
-    (lines_encode c.args.code c.args.text.now _ c.encoded_lines.result text.0 code text.1 several
+    (reads_back c.args.out.now
+    (lines_encode c.encoded_lines.result text.0 code text.1 several
     c.encoded_lines.ensures.ok
     c.encoded_lines.ensures.err)
     (sym (ap (λ filled. filled.result) left) ∙ done))

@@ -35,8 +35,7 @@ returns-in_err-answer_event-clause-outcome g c =
     let error = err_from_is_err_and c.from_residual-in_err-answer_event.result
     c.from_residual-in_err-answer_event.ensures.1 in
     rw (error.1, error.2)
-    (line-failed before.halfway before.limit first
-    c.in_err-answer_event.ensures.outcome)
+    (line-failed before.halfway before.limit first c.in_err-answer_event.ensures.outcome)
 
 pub returns-then-done-clause-outcome : goal.returns-then-done-clause-outcome
 returns-then-done-clause-outcome g c =
