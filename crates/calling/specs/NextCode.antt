@@ -3,7 +3,7 @@ use Rattle.std.specs.Prelude.{◌≡◌, ◌↔◌, ℕ, Bool, IsTrue, [], Optio
 use Rattle.unftp_control.specs.Bytes.{Bytes}
 use Rattle.unftp_control.specs.Dialogue.{commands_owed}
 use Rattle.unftp_control.specs.Exchange.{IsNext, NextClientReply, only_reply}
-use Rattle.unftp_control.specs.ReplyDecoding.{NextReply, PendingReplies}
+use Rattle.unftp_control.specs.ReplyDecoding.{NextReply, PendingReplies, no_bytes, pushed}
 use Rattle.unftp_control.specs.Receiving.{Receives}
 use Rattle.unftp_control.specs.declared.client.Client.{Client}
 use Rattle.unftp_control.specs.declared.read.ReceiveError.{ReceiveError}
@@ -36,3 +36,11 @@ ReceivesAgreement before remaining result after remaining' =
     × MatchResult next
     (λ _. (agreed : Bool) × (result ≡ Ok agreed) × (IsTrue agreed ↔ MayBeginTls after))
     (λ error. result ≡ Err error)
+
+-- So many commands were sent, of which the first has its final reply, a 234 or another; these bytes are
+-- pending. For the examples.
+abbrev pub after_auth : ℕ → Bool → Bytes → Client
+after_auth sent agreed pending = record {
+  replies = pushed (no_bytes None) pending;
+  dialogue = record { sent = sent; answered = Some 1; agreed = agreed };
+}

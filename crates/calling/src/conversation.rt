@@ -126,8 +126,6 @@ pub fn converse<H: Handler>(
         → AllByRecursion IsFinal (said H.law (H.state handler.old) (map command_of commands.now))
         → map (λ reply. Some (reply_to reply)) taken.items ≡ numbered client.old.dialogue.sent
         (said H.law (H.state handler.old) (map command_of commands.now))) }
-    ensures sent { OnOk result (client.new.dialogue.sent
-        ≡ client.old.dialogue.sent + length commands.now) }
 {
     conversation::<H>();
     commands_of_lines();
@@ -136,7 +134,8 @@ pub fn converse<H: Handler>(
     let carried = Network::new(to_server.as_slice(), seed);
     let (served, to_client) = serve_connection(alloc, carried, Vec::new(alloc), handler);
     served?;
-    take_all(alloc, client, Network::new(to_client.as_slice(), seed))
+    let taken = take_all(alloc, client, Network::new(to_client.as_slice(), seed))?;
+    Ok(taken)
 }
 
 /// Appends the lines of the commands.
@@ -161,7 +160,7 @@ fn take_all(
     network: Network<'_>,
 ) -> Result<Vec<ClientReply>, ConverseError>
     ensures taken { IfOk result (λ taken.
-        TakesOf client.old network.rest.now [] taken.items client.new) }
+        TakesOf client.old network.entry.rest.now [] taken.items client.new) }
     ensures none { OnOk result (IsPartial client.new.replies.bytes) }
 {
     let mut network = network;

@@ -18,7 +18,7 @@ module _ (more : Bytes) where
   unfolding digits
   greeting = record {
     used = 5;
-    front = FrontReply-encoded (CodeAndMsg 220 []) more ((lit≤ tt, lit< tt), tt) 220 ([] ∷ []) refl;
+    front = FrontReply-encoded (CodeAndMsg 220 []) more ((lit≤ tt, lit< tt), tt) refl;
     after_is = refl;
   }
 
@@ -26,7 +26,7 @@ module _ (more : Bytes) where
   unfolding digits
   opening = record {
     used = 5;
-    front = FrontReply-encoded (CodeAndMsg 150 []) more ((lit≤ tt, lit< tt), tt) 150 ([] ∷ []) refl;
+    front = FrontReply-encoded (CodeAndMsg 150 []) more ((lit≤ tt, lit< tt), tt) refl;
     after_is = refl;
   }
 
@@ -34,7 +34,7 @@ module _ (more : Bytes) where
   unfolding digits
   closing = record {
     used = 5;
-    front = FrontReply-encoded (CodeAndMsg 226 []) more ((lit≤ tt, lit< tt), tt) 226 ([] ∷ []) refl;
+    front = FrontReply-encoded (CodeAndMsg 226 []) more ((lit≤ tt, lit< tt), tt) refl;
     after_is = refl;
   }
 
@@ -42,7 +42,7 @@ module _ (more : Bytes) where
   unfolding digits
   okay = record {
     used = 5;
-    front = FrontReply-encoded (CodeAndMsg 200 []) more ((lit≤ tt, lit< tt), tt) 200 ([] ∷ []) refl;
+    front = FrontReply-encoded (CodeAndMsg 200 []) more ((lit≤ tt, lit< tt), tt) refl;
     after_is = refl;
   }
 
@@ -50,7 +50,7 @@ module _ (more : Bytes) where
   unfolding digits
   farewell = record {
     used = 5;
-    front = FrontReply-encoded (CodeAndMsg 421 []) more ((lit≤ tt, lit< tt), tt) 421 ([] ∷ []) refl;
+    front = FrontReply-encoded (CodeAndMsg 421 []) more ((lit≤ tt, lit< tt), tt) refl;
     after_is = refl;
   }
 

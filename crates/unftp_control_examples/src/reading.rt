@@ -2,6 +2,7 @@
 #![tactic(auto, unfolding(unftp_control_defs::proofs::Computing::at_bytes))]
 
 ghost use Rattle.std.specs.Prelude.{◌≡◌, ℕ, List, [], ◌∷◌, ◌++◌, None, Some, codes};
+ghost use Rattle.unftp_control_defs.specs.Buffer.{held_after_piece};
 ghost use Rattle.unftp_control_defs.specs.Bytes.{Bytes};
 ghost use Rattle.unftp_control_defs.specs.FtpReply.{Nothing, CodeAndMsg};
 ghost use Rattle.unftp_control_defs.specs.ReplyLimit.{IsTooLongReply};
@@ -175,4 +176,14 @@ pub fn replies_are_taken_so()
     ensures replies { all_taken {A = ℕ × List Bytes}
         (Pushed (codes "211 a\r\n") ∷ Taken (211, codes "a" ∷ []) ∷ Pushed (codes "22") ∷ [])
         ≡ (211, codes "a" ∷ []) ∷ [] }
+{}
+
+/// How many bytes a buffer holds after a piece: those that were taken leave it only where they are more
+/// than what is pending then.
+pub fn a_buffer_holds_this_after_a_piece()
+    ensures all { held_after_piece 0 0 4 ≡ 4 }
+    ensures fewer_taken { held_after_piece 9 4 2 ≡ 11 }
+    ensures as_many_taken { held_after_piece 10 4 2 ≡ 12 }
+    ensures more_taken { held_after_piece 11 4 2 ≡ 6 }
+    ensures empty_piece { held_after_piece 3 1 0 ≡ 1 }
 {}
