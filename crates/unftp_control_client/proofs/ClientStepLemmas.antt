@@ -31,7 +31,8 @@ answered_after false (Command place) answered = Some (suc place)
 answered_after false Nothing answered = answered
 
 answered-after_final : (preliminary : Bool) (to : To) (d : Dialogue)
-    → (if preliminary then d else after_final d to).answered ≡ answered_after preliminary to d.answered
+    → (if preliminary then d else after_final d to).answered
+    ≡ answered_after preliminary to d.answered
 answered-after_final true to d = refl
 answered-after_final false Greeting d = refl
 answered-after_final false (Command place) d = refl
@@ -268,7 +269,8 @@ module _ (start after : Client) (before later : List ClientStep) (reply : ℕ ×
       AreSteps start (before ++ Took (record { to = Nothing; reply = reply }) ∷ later) after
       → suc (length (lines_sent before)) ≤ length (filter is_final (replies_owed before))
   none_owed are =
-      let s = split before (Took (record { to = Nothing; reply = reply }) ∷ later) start after are in
+      let s = split before (Took (record { to = Nothing; reply = reply }) ∷ later) start after
+      are in
       omega (
         arith,
         none_sent,

@@ -22,8 +22,8 @@ commands_owed dialogue = dialogue.sent - unwrap_or dialogue.answered 0
 abbrev pub after_command : Dialogue → Dialogue
 after_command dialogue = record dialogue { sent = suc dialogue.sent }
 
--- What the next reply is to: the greeting, until it is complete, and then the first command that has
--- no final reply. Where each of those that were sent has one, no reply is owed.
+-- What the next reply is to: the greeting, until it is complete, and then the first command that
+-- has no final reply. Where each of those that were sent has one, no reply is owed.
 abbrev pub first_owed : Option ℕ → ℕ → To
 first_owed None sent = Greeting
 first_owed (Some answered) sent = if nat_lt answered sent then Command answered else Nothing

@@ -60,8 +60,8 @@ pub fn replies_are_exchanges()
         → AreTakingSteps TakesReply [] (decoder_steps steps) client.replies.bytes }
 {}
 
-/// TLS may begin only where the last reply that was taken is a 234 to the last command that was sent
-/// (RFC 4217, section 4): `tls_agreed` asks for this, and for no pending byte.
+/// TLS may begin only where the last reply that was taken is a 234 to the last command that was
+/// sent (RFC 4217, section 4): `tls_agreed` asks for this, and for no pending byte.
 pub fn tls_begins_after_234()
     ensures { (limit : Option ℕ) (steps : List ClientStep) (client : RustClient)
         → AreSteps (new_client limit) steps client

@@ -1,5 +1,5 @@
-//! A client's end of a control connection, without input and output: it writes the lines of commands,
-//! and says to which of them each reply is.
+//! A client's end of a control connection, without input and output: it writes the lines of
+//! commands, and says to which of them each reply is.
 #![tactic(auto)]
 
 ghost use Rattle.std.specs.Prelude.{◌≡◌, ◌↔◌, ◌+◌, ◌-◌, ◌^◌, ◌≤◌, ◌++◌, ℕ, List, [], Some, None, Ok, Err, IsTrue, IfErr, IfNone, IfOk, IfSome, OnErr, OnOk, length, max, take, vec_len};
@@ -51,8 +51,8 @@ impl Client {
         }
     }
 
-    /// A client that has sent and received nothing. A reply may have at most `limit` bytes, its line
-    /// ends counted (RFC 959 names no limit).
+    /// A client that has sent and received nothing. A reply may have at most `limit` bytes, its
+    /// line ends counted (RFC 959 names no limit).
     pub fn with_limit(alloc: Global, limit: usize) -> Client
         requires { 1 ≤ limit }
         ensures { result ≡ new_client (Some limit) }
@@ -179,14 +179,14 @@ impl Client {
         }
     }
 
-    /// Takes the first reply of the pending bytes, as `next_reply` does, and reads on while they are
-    /// only a part of one, at most 4096 bytes at a time. It returns `None` only at the reader's end,
-    /// with less than a reply pending. Bytes that were read after the reply stay pending.
+    /// Takes the first reply of the pending bytes, as `next_reply` does, and reads on while they
+    /// are only a part of one, at most 4096 bytes at a time. It returns `None` only at the reader's
+    /// end, with less than a reply pending. Bytes that were read after the reply stay pending.
     ///
     /// At an error all bytes stay pending, those that were read too, and what is owed is as before.
-    /// `Read` is any error of the reader, also `Interrupted`: after it, and after `OutOfMemory`, the
-    /// call can be made again. `Malformed` and `TooLong` are returned from then on. `TooManyReads`
-    /// is never returned.
+    /// `Read` is any error of the reader, also `Interrupted`: after it, and after `OutOfMemory`,
+    /// the call can be made again. `Malformed` and `TooLong` are returned from then on.
+    /// `TooManyReads` is never returned.
     pub fn read_reply<R: Read>(
         &mut self,
         reader: &mut R,
@@ -232,8 +232,8 @@ impl Client {
         self.replies.pending()
     }
 
-    /// Whether TLS may begin: the last reply was a 234 to a command, no command is owed a reply, and
-    /// no byte was received after it (RFC 4217, section 4).
+    /// Whether TLS may begin: the last reply was a 234 to a command, no command is owed a reply,
+    /// and no byte was received after it (RFC 4217, section 4).
     ///
     /// Bytes that came after the reply in clear text must not be taken for replies under TLS: where
     /// there are any, the connection has to be closed.

@@ -44,7 +44,7 @@ pub fn a_reply_leaves_this()
     ensures another_code { after_reply (dialogue 1 (Some 0)) 235 ≡ dialogue 1 (Some 1) }
     ensures agreed_by_the_greeting { after_reply at_start 234 ≡ dialogue 0 (Some 0) }
     ensures agreed_unasked { after_reply (dialogue 1 (Some 1)) 234 ≡ dialogue 1 (Some 1) }
-    ensures no_longer_agreed { after_reply (record { sent = 2; answered = Some 1; agreed = true }) 150
+    ensures later { after_reply (record { sent = 2; answered = Some 1; agreed = true }) 150
         ≡ dialogue 2 (Some 1) }
 {}
 
@@ -64,8 +64,8 @@ pub fn these_are_steps()
         (client_with at_start (codes "220")) }
     ensures byte_lost { ¬ IsStep (client_with at_start (codes "22")) (Received (codes "0"))
         (client_with at_start (codes "22")) }
-    ensures taken { IsStep (client_with at_start (codes "220\r\n2")) (Took (reply_with 220 Greeting))
-        (client_with (dialogue 0 (Some 0)) (codes "2")) }
+    ensures taken { IsStep (client_with at_start (codes "220\r\n2"))
+        (Took (reply_with 220 Greeting)) (client_with (dialogue 0 (Some 0)) (codes "2")) }
     ensures to_a_command { ¬ IsStep (client_with at_start (codes "220\r\n2"))
         (Took (reply_with 220 (Command 0))) (client_with (dialogue 0 (Some 0)) (codes "2")) }
     ensures reply_left { ¬ IsStep (client_with at_start (codes "220\r\n2"))
