@@ -15,12 +15,12 @@ kept_bytes-all pending all =
     let none : length pending.bytes - pending.kept ≡ 0 = omega (arith, all) in
     ap (λ n. drop n pending.bytes) none
 
-pub left_after-on : (turn : Turn) (following : Bytes) → (turn ≡ Close → ⊥)
+pub left_after-on : (turn : Turn) {following : Bytes} → (turn ≡ Close → ⊥)
     → left_after turn following ≡ following
-left_after-on Read following on = refl
-left_after-on GoOn following on = refl
-left_after-on Close following on = absurd (on refl)
-left_after-on StartTls following on = refl
+left_after-on Read on = refl
+left_after-on GoOn on = refl
+left_after-on Close on = absurd (on refl)
+left_after-on StartTls on = refl
 
 all_pending : {before middle : Pending} {event : FtpEvent} {pending : Bytes}
     → TakesLine before event middle → pending ≡ kept_bytes middle → pending ≡ middle.bytes

@@ -19,7 +19,7 @@ module _ (limit : Option ℕ) where
       ∙ ap (events limit) (append_assoc before piece (all_pushed steps))
   steps-events before (Taken event ∷ steps) after (following, taken, are) =
       ap (λ events. event ∷ events) (steps-events following steps after are)
-      ∙ sym (TakesEvent-events limit before event following taken (all_pushed steps))
+      ∙ sym (TakesEvent-events taken (all_pushed steps))
 
   pub steps-incomplete : (before : Bytes) (steps : List (TakingStep FtpEvent)) (after : Bytes)
       → AreTakingSteps (TakesEvent limit) before steps after
@@ -30,7 +30,7 @@ module _ (limit : Option ℕ) where
       ∙ ap incomplete_line (append_assoc before piece (all_pushed steps))
   steps-incomplete before (Taken event ∷ steps) after (following, taken, are) =
       steps-incomplete following steps after are
-      ∙ sym (TakesEvent-incomplete limit before event following taken (all_pushed steps))
+      ∙ sym (TakesEvent-incomplete taken (all_pushed steps))
 
   -- where no line is left, they are all events
   pub steps-all : (steps : List (TakingStep FtpEvent)) (after : Bytes)

@@ -105,9 +105,9 @@ abbrev text_of : Bytes → Part → Bytes
 text_of bytes (Character n) = take n bytes
 text_of bytes (IllFormed n) = 0xEF ∷ 0xBF ∷ 0xBD ∷ []
 
-size_of-from : (o : Option ℕ) (n : ℕ) → size_of (part_from o n) ≡ n
-size_of-from None n = refl
-size_of-from (Some c) n = refl
+size_of-from : (o : Option ℕ) {n : ℕ} → size_of (part_from o n) ≡ n
+size_of-from None = refl
+size_of-from (Some c) = refl
 
 take-decoded : (bytes : Bytes) (c : ℕ) → (decoded bytes).char ≡ Some c
     → take (decoded bytes).size bytes ≡ encode_utf8 c
@@ -125,12 +125,12 @@ some_bytes [] some = absurd (some refl)
 some_bytes (b ∷ bytes) some = omega arith
 
 -- part by part
-utf8_lossy-first : (bytes : Bytes) (p : Part) → bytes ≢ [] → first_part bytes ≡ p
+utf8_lossy-first : (bytes : Bytes) {p : Part} → bytes ≢ [] → first_part bytes ≡ p
     → utf8_lossy bytes ≡ text_of bytes p ++ utf8_lossy (drop (size_of p) bytes)
-utf8_lossy-first bytes p some is =
+utf8_lossy-first bytes some is =
     let first = sym (text_of-from bytes _ refl) in
     let rest = lossy_chars-utf8_lossy (drop (decoded bytes).size bytes)
-    ∙ ap (λ k. utf8_lossy (drop k bytes)) (sym (size_of-from (decoded bytes).char _)) in
+    ∙ ap (λ k. utf8_lossy (drop k bytes)) (sym (size_of-from (decoded bytes).char)) in
     sym (lossy_chars-utf8_lossy bytes)
     ∙ ap encode_utf8_all (lossy_chars-step bytes (some_bytes bytes some))
     ∙ (λ i. first i ++ rest i)
@@ -144,9 +144,9 @@ pub LossyText-unique : (bytes text : Bytes) → LossyText bytes text → utf8_lo
 LossyText-unique _ _ ended = utf8_lossy-nil
 LossyText-unique _ _ (character bytes text n is rest) =
     let some : bytes ≢ [] = λ none. let first = ap first_part none in cc in
-    utf8_lossy-first bytes _ some is ∙ ap (λ t. take n bytes ++ t) (LossyText-unique _ _ rest)
+    utf8_lossy-first bytes some is ∙ ap (λ t. take n bytes ++ t) (LossyText-unique _ _ rest)
 LossyText-unique _ _ (ill_formed bytes text n some is rest) =
-    utf8_lossy-first bytes _ some is ∙ ap (λ t. 0xEF ∷ 0xBF ∷ 0xBD ∷ t) (LossyText-unique _ _ rest)
+    utf8_lossy-first bytes some is ∙ ap (λ t. 0xEF ∷ 0xBF ∷ 0xBD ∷ t) (LossyText-unique _ _ rest)
 
 begun : {bytes text : Bytes} (p : Part) → bytes ≢ [] → first_part bytes ≡ p
     → LossyText (drop (size_of p) bytes) text → LossyText bytes (text_of bytes p ++ text)
@@ -160,9 +160,9 @@ LossyText-up_to (suc n) (b ∷ bytes) h =
     let all = b ∷ bytes in
     let some : all ≢ [] = λ e. cc in
     let bounds = piece-bounds all (omega arith) in
-    let size = ap size_of (first_part-decoded all some) ∙ size_of-from (decoded all).char _ in
+    let size = ap size_of (first_part-decoded all some) ∙ size_of-from (decoded all).char in
     let shorter = length-drop (size_of (first_part all)) all in
-    subst (LossyText all) (sym (utf8_lossy-first all _ some refl))
+    subst (LossyText all) (sym (utf8_lossy-first all some refl))
     (begun (first_part all) some refl
     (LossyText-up_to n _ (omega (arith, h, bounds.0, bounds.2, size, shorter))))
 

@@ -30,8 +30,8 @@ pub IsFacts-noon : (instant : Timestamp) → instant.nanosecond ≡ pos 1_701_43
 unfolding digits
 IsFacts-noon instant same = (Some (codes "20231201120000"), IsModified-noon instant same, refl)
 
-pub noon-only : (instant : Timestamp) (facts : Bytes)
+pub noon-only : (instant : Timestamp) {facts : Bytes}
     → instant.nanosecond ≡ pos 1_701_432_000_000_000_000 → IsFacts (file_of instant) facts
     → codes "type=file;size=1234;modify=20231201120000;" ≡ facts
-noon-only instant facts same other =
+noon-only instant same other =
     IsFacts-unique (file_of instant) (IsFacts-noon instant same) other

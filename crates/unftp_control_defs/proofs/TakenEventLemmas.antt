@@ -6,7 +6,7 @@ use Rattle.unftp_control_defs.specs.TakingSteps.{TakesEvent}
 use Rattle.unftp_control_defs.specs.Lines.{incomplete_line}
 use Rattle.unftp_control_defs.proofs.LineLemmas.{line_first}
 
-module _ (limit : Option ℕ) (before : Bytes) (event : FtpEvent) (after : Bytes)
+module _ {limit : Option ℕ} {before : Bytes} {event : FtpEvent} {after : Bytes}
     (taken : TakesEvent limit before event after) (more : Bytes) where
   joined : before ++ more ≡ taken.line ++ (after ++ more)
   joined = ap (λ bytes. bytes ++ more) taken.whole ∙ append_assoc taken.line after more

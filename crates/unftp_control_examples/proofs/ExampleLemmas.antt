@@ -7,8 +7,8 @@ use Rattle.unftp_control_defs.specs.Lines.{IsLine, lines_of}
 use Rattle.unftp_control_defs.proofs.LineLemmas.{Lines-unique}
 
 -- the lines of a line are that line
-pub lines_of-IsLine : (line : Bytes) → IsLine line → line ∷ [] ≡ lines_of line
-lines_of-IsLine line is =
+pub lines_of-IsLine : {line : Bytes} → IsLine line → line ∷ [] ≡ lines_of line
+lines_of-IsLine {line} is =
     (Lines-unique line (line ∷ []) []
     (record {
       whole = sym (append-nil (line ++ []) ∙ append-nil line);

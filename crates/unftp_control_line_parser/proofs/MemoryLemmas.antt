@@ -147,9 +147,9 @@ kind_may_take kind (Some v) some = value_may_take kind v (λ e. some (ap (λ w. 
 -- so a line may take memory only where it is no such command
 module _ (line word parameter : Bytes) (whole : word ≡ verb_of line)
     (rest : parameter ≡ parameter_of line) where
-  pub named_memory : (rule : Rule) → row_of (upper word) verbs ≡ Some rule
+  pub named_memory : {rule : Rule} → row_of (upper word) verbs ≡ Some rule
       → AnswerMayTakeMemory (answer_by rule parameter) → MayTakeMemory line
-  named_memory rule e h =
+  named_memory {rule} e h =
       let f : row_of (upper (verb_of line)) verbs ≡ Some rule =
       subst (λ w. row_of (upper w) verbs ≡ Some rule) whole e in
       let is : outcome line ≡ answer_by rule (parameter_of line) =

@@ -66,20 +66,20 @@ named_utf8 word rule e =
 -- what a call answers, from what it answers for the parts of the line
 module _ (line word parameter : Bytes) (r : Result Command ParseErrorKind)
     (whole : word ≡ verb_of line) (rest : parameter ≡ parameter_of line) where
-  pub line_named : (rule : Rule) → row_of (upper word) verbs ≡ Some rule
+  pub line_named : {rule : Rule} → row_of (upper word) verbs ≡ Some rule
       → Returns (answer_by rule parameter) r → Returns (outcome line) r
-  line_named rule e h =
+  line_named {rule} e h =
       let f : row_of (upper (verb_of line)) verbs ≡ Some rule =
       subst (λ w. row_of (upper w) verbs ≡ Some rule) whole e in
       let is : outcome line ≡ answer_by rule (parameter_of line) =
       rw (named_utf8 (verb_of line) rule f, f) in
       subst (λ a. Returns a r) (sym is) (subst (λ p. Returns (answer_by rule p) r) rest h)
 
-  pub line_other : (name : Bytes) → row_of (upper word) verbs ≡ None → name ≡ word
+  pub line_other : {name : Bytes} → row_of (upper word) verbs ≡ None → name ≡ word
       → is_utf8 word ≡ true
       → Returns (value_answer (any_text (Other (upper name))) (value_of parameter)) r
       → Returns (outcome line) r
-  line_other name none same u h =
+  line_other {name} none same u h =
       let n : row_of (upper (verb_of line)) verbs ≡ None =
       subst (λ w. row_of (upper w) verbs ≡ None) whole none in
       let t : is_utf8 (verb_of line) ≡ true = subst (λ w. is_utf8 w ≡ true) whole u in
@@ -91,10 +91,10 @@ module _ (line word parameter : Bytes) (r : Result Command ParseErrorKind)
       (same ∙ whole)
       (subst (λ p. Returns (value_answer (any_text (Other (upper name))) (value_of p)) r) rest h))
 
-  pub site_named : (name : Bytes) → name ≡ word → is_utf8 word ≡ true
+  pub site_named : {name : Bytes} → name ≡ word → is_utf8 word ≡ true
       → Returns (value_answer (subcommand_answer (upper name)) (value_of parameter)) r
       → Returns (site_answer line) r
-  site_named name same u h =
+  site_named {name} same u h =
       let t : is_utf8 (verb_of line) ≡ true = subst (λ w. is_utf8 w ≡ true) whole u in
       let is : site_answer line ≡ value_answer (subcommand_answer (upper (verb_of line)))
       (value_of (parameter_of line)) = rw t in
@@ -118,15 +118,15 @@ some_refused command v kind.InvalidUtf8 h = absurd h
 some_refused command v kind.InvalidEol h = absurd h
 some_refused command v kind.OutOfMemory h = tt
 
-pub some_taken : (command : Bytes → FtpCommand) (v text : Bytes) → 0 < length v
+pub some_taken : (command : Bytes → FtpCommand) (v : Bytes) {text : Bytes} → 0 < length v
     → text ≡ utf8_lossy v → some_text command v ≡ Ok (command text)
-some_taken command v text some is = let longer : length v ≢ 0 = λ e. absurd (omega arith) in
+some_taken command v some is = let longer : length v ≢ 0 = λ e. absurd (omega arith) in
     rw (ne_eqb (length v) 0 longer) (ap (λ t. Ok (command t)) (sym is))
 
 -- what is refused since it is not UTF-8
-pub refused_utf8 : (bytes : Bytes) (answer : Answer) (r : Result Command ParseErrorKind)
+pub refused_utf8 : (bytes : Bytes) {answer : Answer} (r : Result Command ParseErrorKind)
     → ¬ (IsUtf8 bytes) → (is_utf8 bytes ≡ false → answer ≡ Err InvalidUtf8)
     → IsErrAnd r (λ e. e ≡ kind.InvalidUtf8) → Returns answer r
-refused_utf8 bytes answer r ill is h =
+refused_utf8 bytes {answer} r ill is h =
     refused answer kind.InvalidUtf8 r
     (is (false_from_ne_true _ (λ t. ill (IsUtf8-from_is_utf8 bytes t)))) h

@@ -52,8 +52,8 @@ at_end context bytes n b e lt h = e.goes_on
     ∙ ap (λ t. option_map (λ w. take n bytes ++ w) (later_value Plain t))
     (drop-cons bytes n 0 lt ∙ ap (λ x. x ∷ drop (suc n) bytes) h)
 
-is_cr : (b : ℕ) → stops b ≡ true → b ≢ LF → b ≡ CR
-is_cr b h ne =
+is_cr : {b : ℕ} → stops b ≡ true → b ≢ LF → b ≡ CR
+is_cr {b} h ne =
     ⊎_elim (λ t. eqb-true b CR t) (λ f. absurd (false≢true (sym (ne_eqb b LF ne) ∙ (rw f at h))))
     (cases_Bool (b == CR))
 
@@ -68,7 +68,7 @@ module _ (bytes : Bytes) (n : ℕ) (e : IsRunEnd Fresh bytes n) (lt : n + 1 < le
   turned c h =
       let k : suc (n + 1) ≡ n + 2 = omega arith in
       let m : suc n ≡ n + 1 = omega arith in
-      at_end Fresh bytes n CR e first_lt (is_cr _ (e.stop first_lt) ne)
+      at_end Fresh bytes n CR e first_lt (is_cr (e.stop first_lt) ne)
       ∙ ap (λ t. option_map (λ w. take n bytes ++ w) (later_value Plain (CR ∷ t)))
       (ap (λ j. drop j bytes) m ∙ drop-cons bytes (n + 1) 0 lt
       ∙ ap (λ x. x ∷ drop (suc (n + 1)) bytes) h ∙ ap (λ j. c ∷ drop j bytes) k)
@@ -82,7 +82,7 @@ module _ (bytes : Bytes) (n : ℕ) (e : IsRunEnd Fresh bytes n) (lt : n + 1 < le
   nul_at h =
       let more : Option Bytes = later_value Fresh (drop (n + 2) bytes) in
       let whole : take (n + 1) bytes ≡ take n bytes ++ CR ∷ [] = take_more bytes n 0 first_lt
-      ∙ ap (λ x. take n bytes ++ x ∷ []) (is_cr _ (e.stop first_lt) ne) in
+      ∙ ap (λ x. take n bytes ++ x ∷ []) (is_cr (e.stop first_lt) ne) in
       turned NUL h
       ∙ option_joined (take n bytes) (CR ∷ []) more
       ∙ ap (λ v. option_map (λ w. v ++ w) more) (sym whole)

@@ -1,5 +1,5 @@
 -- The pending bytes of a reply decoder, of which a search sees those that a reply may have.
-use Rattle.std.proofs.Common.{◌≡◌, ℕ, ◌+◌, ◌-◌, ◌*◌, ◌<◌, ◌≤◌, true, false, Option, Some, None, Result, Ok, Err, List, [], ◌++◌, ⊎_elim, length, take, drop, flat_map, refl, sym, ap, subst, ◌∙◌, Vec, Global, arith, append-nil, length-append}
+use Rattle.std.proofs.Common.{◌≡◌, ℕ, ◌+◌, ◌-◌, ◌*◌, ◌<◌, ◌≤◌, Option, Some, None, Result, Ok, Err, List, [], ◌++◌, ⊎_elim, length, take, drop, flat_map, refl, sym, ap, subst, ◌∙◌, Vec, Global, arith, append-nil, length-append}
 use Rattle.std.specs.Prelude.{IfSome}
 use Rattle.std.proofs.Math.Seq.{take-append-add}
 use Rattle.std.proofs.lemmas.Bool.{cases_lt}

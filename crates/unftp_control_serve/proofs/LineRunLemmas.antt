@@ -88,8 +88,8 @@ pub record Halfway {S : Type 0} (law : Law S) (limit : Option ℕ) (m n : Snapsh
   pub same_unread : unread limit law m.state bytes ≡ unread limit law n.state pending
 
 module _ {S : Type 0} {law : Law S} {limit : Option ℕ} {m : Snapshot S} where
-  pub Halfway-start : (bytes : Bytes) → Halfway law limit m m bytes bytes
-  Halfway-start bytes = record {
+  pub Halfway-start : {bytes : Bytes} → Halfway law limit m m bytes bytes
+  Halfway-start = record {
     answering = record { done = []; split = refl; all = AllAnswered-nothing law m };
     same_end = refl;
     same_unread = refl;

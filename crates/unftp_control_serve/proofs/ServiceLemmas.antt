@@ -150,9 +150,9 @@ most_held-within limit incomplete (piece ∷ pieces) each =
     )
 
 module _ {limit : Option ℕ} {S : Type 0} {law : Law S} {m : Snapshot S} {i : InputState} where
-  pub Serving-start : (engine : EngineState) → engine ≡ fresh limit
+  pub Serving-start : {engine : EngineState} → engine ≡ fresh limit
       → Serving limit law m m i i engine 0
-  Serving-start engine new = rw new record {
+  Serving-start new = rw new record {
     pieces = [];
     were_read = record {
       consumed = Consumes-nothing i.remaining;
@@ -289,9 +289,9 @@ module _ {limit : Option ℕ} {S : Type 0} {law : Law S} {m : Snapshot S} {i : I
               }
 
           -- with which it ended
-          pub Serving-done : (served : Served) → Reports served (fed law n.state engine piece)
+          pub Serving-done : {served : Served} → Reports served (fed law n.state engine piece)
               → ends_with engine law n.state piece ≡ true → AnsweredAll limit law m after i k served
-          Serving-done served reports done =
+          Serving-done {served} reports done =
               let is_done : served.done ≡ true = reports.done ∙ done in
               record {
                 pieces = s.pieces ++ piece ∷ [];

@@ -1,5 +1,5 @@
 //! Where the replies go.
-ghost use Rattle.std.specs.Prelude.{◌≡◌, [], ◌++◌, IsTrue, OnErr, OnOk, is_ok};
+ghost use Rattle.std.specs.Prelude.{◌≡◌, [], IsTrue, is_ok};
 ghost use Rattle.unftp_control_serve.specs.Endings.{OnMemory, OnWrite};
 ghost use Rattle.unftp_control_serve.specs.Writing.{OutputState, Sends, Writes, appended_state_of, output_state_of};
 

@@ -1,6 +1,5 @@
-use Rattle.std.proofs.Common.{◌≡◌, ℕ, ◌+◌, ◌≤◌, Some, None, ◌++◌, length, map, sym, ap, subst, ◌∙◌, arith}
+use Rattle.std.proofs.Common.{◌≡◌, ◌+◌, None, ◌++◌, map, sym, ap, subst, ◌∙◌, arith}
 use Rattle.std.specs.List.{AllByRecursion}
-use Rattle.std.proofs.lemmas.Option.{same_Some}
 use Rattle.unftp_control.specs.Canonical.{canonical_line}
 use Rattle.unftp_control.specs.CommandMeaning.{command_of}
 use Rattle.unftp_control.specs.Conversation.{IsReadable, Show, sent}

@@ -18,7 +18,7 @@ returns-clause-ok c =
       | in-Close w ↦ ap (λ decoder. decoder.bytes) (w.decoder-is ∙ w.clear.ensures.cleared)
           ∙ sym (ap (λ turn. left_after turn c.next_event.new.self.bytes) w.in-Close.is)
       | in_default-turn w ↦ ap (λ decoder. decoder.bytes) w.decoder-is
-          ∙ sym (left_after-on c.turn_after-turn.result _ w.in_default-turn.not-Close)
+          ∙ sym (left_after-on c.turn_after-turn.result w.in_default-turn.not-Close)
     ] in
     AnswersNext-taken (rw c.in-Some.is at c.in_ok-event.ensures.takes_next) c.pending.ensures
     c.pending-2.ensures c.in_default-answer.ensures.ok c.turn_after-turn.ensures left_so

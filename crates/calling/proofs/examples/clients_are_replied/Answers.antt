@@ -48,7 +48,7 @@ unfolding is_utf8 chars utf8_lossy utf8_valid_len utf8_error_len lib.Utf8.encode
 returns c = record {
   refused = refused InvalidCommand refl refl;
   command = replied;
-  no_lf = not_a_line (λ line. let all = lines_of-IsLine _ line in cc) refl;
+  no_lf = not_a_line (λ line. let all = lines_of-IsLine line in cc) refl;
   memory = out_of_memory refl refl;
   no_memory = no_memory;
   other_reply = other;

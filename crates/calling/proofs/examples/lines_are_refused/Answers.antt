@@ -20,8 +20,8 @@ returns c = record {
       ≡ Ok (User (codes "a\r")) = refl in let not = refused.2 in cc;
   bare_cr = (InvalidEol, refl, refl);
   crlf = λ not. not (Lines-lines_of (codes "NOOP\r\n")).each.0;
-  no_lf = λ line. let all = lines_of-IsLine _ line in cc;
-  two_lines = λ line. let all = lines_of-IsLine _ line in cc;
+  no_lf = λ line. let all = lines_of-IsLine line in cc;
+  two_lines = λ line. let all = lines_of-IsLine line in cc;
   memory = refl;
   no_memory = λ is_text. let not : false ≡ true = is_text in cc;
   refused_memory = λ line refused. let named = refused.1 in cc;

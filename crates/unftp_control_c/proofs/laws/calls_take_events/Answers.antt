@@ -293,9 +293,7 @@ module _ (limit : Option ℕ) (after : Caller) where
         rest = run.rest;
         rest_kept = run.rest_kept;
         in_order = rw given (ap (λ more. given_for event ∷ more) run.in_order
-            ∙ ap (map given_for)
-            (sym (TakesEvent-events limit (dropped ++ now.bytes) event
-            (after_call now left).bytes taken (input_of steps))));
+            ∙ ap (map given_for) (sym (TakesEvent-events taken (input_of steps))));
       }
 
   run_of : (steps : List CallerStep) (now : Caller) (dropped : Bytes) → IsKept limit now dropped

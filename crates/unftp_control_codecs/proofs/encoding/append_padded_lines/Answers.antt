@@ -5,8 +5,8 @@ use Rattle.unftp_control_codecs.proofs.encoding.append_padded_lines.Goals as goa
 
 pub returns-in_err-append_padded_line-clause-kept : goal.returns-in_err-append_padded_line-clause-kept
 returns-in_err-append_padded_line-clause-kept g c =
-    kept_start c.args.buf.now.items
+    kept_start
     (flat_map padded_line (map g.S.AsStr.text (take c.loop-line.line-index c.args.lines.now)))
-    c.append_padded_line.new.buf.items c.args.buf.now.len c.loop-line.buf.len
-    c.args.buf.now.ok.0 (c.loop-line.buf.ok.0 ∙ ap length c.loop-line.invariant)
+    c.append_padded_line.new.buf.items c.args.buf.now.ok.0
+    (c.loop-line.buf.ok.0 ∙ ap length c.loop-line.invariant)
     (c.in_err-append_padded_line.ensures.kept ∙ c.loop-line.invariant)

@@ -11,8 +11,8 @@ returns c = record {
     one_end = Lacks-test 10 (codes "NOOP\r") refl;
   };
   lf_only = record { body = []; whole = refl; one_end = tt };
-  empty = λ line. let all = lines_of-IsLine _ line in cc;
-  cr_only = λ line. let all = lines_of-IsLine _ line in cc;
-  two = λ line. let all = lines_of-IsLine _ line in cc;
-  more = λ line. let all = lines_of-IsLine _ line in cc;
+  empty = λ line. let all = lines_of-IsLine line in cc;
+  cr_only = λ line. let all = lines_of-IsLine line in cc;
+  two = λ line. let all = lines_of-IsLine line in cc;
+  more = λ line. let all = lines_of-IsLine line in cc;
 }

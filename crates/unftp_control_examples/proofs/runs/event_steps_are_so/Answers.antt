@@ -21,7 +21,7 @@ returns c =
         },
         refl,
       );
-      not_complete = λ steps. let event = sym none ∙ TakesEvent-events _ _ _ _ steps.1 [] in cc;
+      not_complete = λ steps. let event = sym none ∙ TakesEvent-events steps.1 [] in cc;
       piece_forgotten = λ same. cc;
       input = refl;
       events = refl;

@@ -20,10 +20,10 @@ returns c =
             refl;
         meaning = refl;
       };
-      other_event = λ taken. let event = sym one ∙ TakesEvent-events _ _ _ _ taken [] in cc;
-      byte_left_out = λ taken. let incomplete = TakesEvent-incomplete _ _ _ _ taken [] in cc;
-      no_line = λ taken. let event = sym none ∙ TakesEvent-events _ _ _ _ taken [] in cc;
-      two_lines = λ taken. let event = sym two ∙ TakesEvent-events _ _ _ _ taken [] in cc;
+      other_event = λ taken. let event = sym one ∙ TakesEvent-events taken [] in cc;
+      byte_left_out = λ taken. let incomplete = TakesEvent-incomplete taken [] in cc;
+      no_line = λ taken. let event = sym none ∙ TakesEvent-events taken [] in cc;
+      two_lines = λ taken. let event = sym two ∙ TakesEvent-events taken [] in cc;
       too_long =
           record {
             line = codes "NOOP\n";

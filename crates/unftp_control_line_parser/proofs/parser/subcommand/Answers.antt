@@ -25,7 +25,7 @@ returns-then-eq_ignore_ascii_case c =
     let md5 = is_md5 c.args.name.now _ c.eq_ignore_ascii_case.ensures.test
     ∙ c.if-eq_ignore_ascii_case.true in
     rw (c.in_ok-value.ensures.answer, md5)
-    (some_taken Md5 _ _ c.in_ok-some_text.ensures.0 c.in_ok-some_text.ensures.1)
+    (some_taken Md5 _ c.in_ok-some_text.ensures.0 c.in_ok-some_text.ensures.1)
 
 pub returns : goal.returns
 returns c =

@@ -20,7 +20,7 @@ returns-then-value-gt3-clause-answer c = search rules
 
 pub returns-in_err-from_utf8-clause-answer : goal.returns-in_err-from_utf8-clause-answer
 returns-in_err-from_utf8-clause-answer c =
-    refused_utf8 c.args.value.now _ _ c.in_err-from_utf8.ensures.cases.0
+    refused_utf8 c.args.value.now _ c.in_err-from_utf8.ensures.cases.0
     (λ ill. rw (le-ltb 3 _ c.if-value-gt3.false, ill) refl) c.from_residual.ensures.1
 
 pub returns-else-eq_ignore_ascii_case-2-clause-answer :

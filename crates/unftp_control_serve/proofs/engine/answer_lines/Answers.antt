@@ -8,7 +8,7 @@ use Rattle.unftp_control_serve.proofs.engine.answer_lines.Goals as goal
 pub loop-event-init : goal.loop-event-init
 loop-event-init g c =
     record {
-      halfway = Halfway-start _;
+      halfway = Halfway-start;
       scanned = refl;
       limit = refl;
       held = refl;

@@ -5,7 +5,7 @@ use Rattle.unftp_control_serve.proofs.service.serve_lines.Goals as goal
 
 pub loop-turn-init : goal.loop-turn-init
 loop-turn-init g c =
-    record { serving = Serving-start _ c.limited-engine.ensures; room = refl }
+    record { serving = Serving-start c.limited-engine.ensures; room = refl }
 
 pub returns-in_err-feed-clause-err : goal.returns-in_err-feed-clause-err
 returns-in_err-feed-clause-err g c =
@@ -54,8 +54,7 @@ returns-then-is_over-clause-ok g c =
     ∙ c.if-is_over.true in
     Serving-done _ c.loop-turn.invariant.serving c.split_at.result.0.now given
     (rw cut.front_len read.reads) short _ read.quiet
-    (c.in_ok-feed.ensures.outcome running)
-    _ (rw is at c.served_by-then-is_over.ensures) done
+    (c.in_ok-feed.ensures.outcome running) (rw is at c.served_by-then-is_over.ensures) done
 
 pub returns-clause-err : goal.returns-clause-err
 returns-clause-err g c = Serving-too_often c.loop-turn.invariant.serving

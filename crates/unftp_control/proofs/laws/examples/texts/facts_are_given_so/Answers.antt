@@ -9,4 +9,4 @@ returns-clause-noon c = λ instant same. IsFacts-noon instant same
 pub returns-clause-not_a_second_later : goal.returns-clause-not_a_second_later
 returns-clause-not_a_second_later c = λ instant same later. absurd (true≢false
     (ap (bytes_eq (codes "type=file;size=1234;modify=20231201120000;"))
-    (noon-only instant _ same later)))
+    (noon-only instant same later)))
