@@ -73,12 +73,12 @@ module _ {before middle : Client} {whole rest : Bytes} {taken : List ClientReply
         ∙ sym (append_assoc so_far.received piece rest');
     takes = subst (λ taken. Takes before (so_far.received ++ piece) taken after)
         (append-nil (map reply_to taken)) (Takes-then so_far.takes record {
-      steps = Received piece ∷ [];
-      are = (after, (dialogue, bytes), (refl, refl));
-      none_sent = refl;
-      received_are = append-nil piece;
-      taken_are = refl;
-    });
+          steps = Received piece ∷ [];
+          are = (after, (dialogue, bytes), (refl, refl));
+          none_sent = refl;
+          received_are = append-nil piece;
+          taken_are = refl;
+        });
   }
 
   pub TakesOf-reply : (reply : ClientReply)
@@ -93,12 +93,12 @@ module _ {before middle : Client} {whole rest : Bytes} {taken : List ClientReply
         (sym (map-append reply_to taken (reply ∷ [])))
         (subst (λ received. Takes before received (map reply_to taken ++ reply_to reply ∷ [])
         after) (append-nil so_far.received) (Takes-then so_far.takes record {
-      steps = Took (reply_to reply) ∷ [];
-      are = (after, (is_to, dialogue, takes), (refl, refl));
-      none_sent = refl;
-      received_are = refl;
-      taken_are = refl;
-    }));
+          steps = Took (reply_to reply) ∷ [];
+          are = (after, (is_to, dialogue, takes), (refl, refl));
+          none_sent = refl;
+          received_are = refl;
+          taken_are = refl;
+        }));
   }
 
   pub TakesOf-none : after.replies.bytes ≡ middle.replies.bytes

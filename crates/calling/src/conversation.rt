@@ -45,7 +45,10 @@ impl<'a> Network<'a> {
         ensures some { result.now ≡ [] → (most ≡ 0) ⊎ (self.old.rest.now ≡ []) }
     {
         // the next number of a linear congruential generator; its high bits repeat least often
-        self.seed = self.seed.wrapping_mul(1_664_525).wrapping_add(1_013_904_223);
+        self.seed = self
+            .seed
+            .wrapping_mul(1_664_525)
+            .wrapping_add(1_013_904_223);
         let length = 1 + (self.seed >> 16) as usize % PIECE;
         let (piece, rest) = self.rest.split_at(length.min(most).min(self.rest.len()));
         self.rest = rest;
