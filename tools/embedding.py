@@ -33,7 +33,7 @@ import threading
 
 from library import SHARED, STATIC, TOP, calls, global_names, header, names_of, output_of, shared_names, version
 from rows import command_of, quoted, rows, unquoted
-from started_server import GREETING, HOST, LIFE, PATIENCE, StartedServer, Wrong, receive, send_pieces, wants
+from started_server import GREETING, HOST, LIFE, PATIENCE, StartedServer, Wrong, receive, run_check, send_pieces, wants
 
 RUST = TOP / "bindings/rust/src/ffi.rs"
 LINE_FILES = ["parse.tsv", "client_lines.tsv"]
@@ -639,19 +639,5 @@ CHECKS = {
 }
 
 
-def main():
-    if len(sys.argv) < 2 or sys.argv[1] not in CHECKS:
-        print(__doc__, file=sys.stderr)
-        return 2
-    for number in [signal.SIGHUP, signal.SIGTERM]:
-        signal.signal(number, lambda number, _: sys.exit(128 + number))
-    try:
-        print(CHECKS[sys.argv[1]](*sys.argv[2:]))
-    except (Wrong, OSError, subprocess.SubprocessError, ValueError) as error:
-        print(error)
-        return 1
-    return 0
-
-
 if __name__ == "__main__":
-    sys.exit(main())
+    sys.exit(run_check(CHECKS, __doc__))

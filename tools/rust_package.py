@@ -25,7 +25,7 @@ import tempfile
 import threading
 import time
 
-from started_server import GREETING, HOST, PATIENCE, StartedServer, Wrong, receive, send_pieces, wants
+from started_server import GREETING, HOST, PATIENCE, StartedServer, Wrong, receive, run_check, send_pieces, wants
 
 TOP = pathlib.Path(__file__).resolve().parent.parent
 LINE_LIMIT = 8192
@@ -263,19 +263,5 @@ CHECKS = {
 }
 
 
-def main():
-    if len(sys.argv) < 2 or sys.argv[1] not in CHECKS or (len(sys.argv) == 2) != (sys.argv[1] == "codes"):
-        print(__doc__, file=sys.stderr)
-        return 2
-    for number in [signal.SIGHUP, signal.SIGTERM]:
-        signal.signal(number, lambda number, _: sys.exit(128 + number))
-    try:
-        print(CHECKS[sys.argv[1]](*sys.argv[2:]))
-    except (Wrong, OSError, subprocess.SubprocessError, ValueError) as error:
-        print(error)
-        return 1
-    return 0
-
-
 if __name__ == "__main__":
-    sys.exit(main())
+    sys.exit(run_check(CHECKS, __doc__))

@@ -26,13 +26,12 @@ import resource
 import signal
 import socket
 import struct
-import subprocess
 import sys
 import threading
 import time
 
 from embedding import REPLIES, Server
-from started_server import GREETING, HOST, PATIENCE, Wrong, receive, wants
+from started_server import GREETING, HOST, PATIENCE, Wrong, receive, run_check, wants
 
 NOOP, QUIT = b"NOOP\r\n", b"QUIT\r\n"
 OKAY, BYE = REPLIES["Noop"], REPLIES["Quit"]
@@ -382,19 +381,5 @@ CHECKS = {
 }
 
 
-def main():
-    if len(sys.argv) < 3 or sys.argv[1] not in CHECKS:
-        print(__doc__, file=sys.stderr)
-        return 2
-    for number in [signal.SIGHUP, signal.SIGTERM]:
-        signal.signal(number, lambda number, _: sys.exit(128 + number))
-    try:
-        print(CHECKS[sys.argv[1]](*sys.argv[2:]))
-    except (Wrong, OSError, subprocess.SubprocessError, ValueError) as error:
-        print(error)
-        return 1
-    return 0
-
-
 if __name__ == "__main__":
-    sys.exit(main())
+    sys.exit(run_check(CHECKS, __doc__))

@@ -1,9 +1,11 @@
-"""A server that a check starts, and what a client of it does."""
+"""A server that a check starts, what a client of it does, and how a check is run."""
 
+import inspect
 import os
 import signal
 import socket
 import subprocess
+import sys
 
 HOST = "127.0.0.1"
 # how many seconds a server may run, and how long it and a client may take to answer
@@ -72,3 +74,21 @@ def send_pieces(connection, sent, size=None):
         connection.sendall(sent[:end])
         sent = sent[end:]
         turn += 1
+
+
+def run_check(checks, usage):
+    """Runs the check that the command line names, prints what it found, and returns the exit status."""
+    check, arguments = checks.get("".join(sys.argv[1:2])), sys.argv[2:]
+    try:
+        inspect.signature(check).bind(*arguments)
+    except TypeError:  # there is no such check, or it takes other arguments
+        print(usage, file=sys.stderr)
+        return 2
+    for number in [signal.SIGHUP, signal.SIGTERM]:
+        signal.signal(number, lambda number, _: sys.exit(128 + number))
+    try:
+        print(check(*arguments))
+    except (Wrong, OSError, subprocess.SubprocessError, ValueError) as error:
+        print(error)
+        return 1
+    return 0

@@ -4,7 +4,7 @@ ghost use Rattle.std.specs.Prelude.{◌≡◌, [], ◌∷◌, ◌++◌, None, So
 ghost use Rattle.calling.specs.EventLoop.{replies_to, turn_after};
 ghost use Rattle.calling.specs.FactList.{facts_asked, facts_text};
 ghost use Rattle.calling.specs.Forwarding.{IsReplyInPlace};
-ghost use Rattle.calling.specs.Conversing.{IsFinal, numbered, said};
+ghost use Rattle.calling.specs.Conversing.{IsAtRest, IsFinal, numbered, said};
 ghost use Rattle.calling.specs.NextCode.{MayBeginTls, after_auth};
 ghost use Rattle.calling.specs.UntilTls.{until_tls};
 ghost use Rattle.calling.specs.WholeLine.{AsksFor, all_facts, image_modes, modes_after, no_facts, reply_to};
@@ -87,6 +87,13 @@ pub fn tls_begins()
     ensures with_more { ¬ MayBeginTls (after_auth 1 true (codes "2")) }
     ensures owed { ¬ MayBeginTls (after_auth 2 true []) }
     ensures another_code { ¬ MayBeginTls (after_auth 1 false []) }
+{}
+
+/// A client is at rest where no command is owed a reply and nothing is pending.
+pub fn clients_are_at_rest()
+    ensures rest { IsAtRest (after_auth 1 false []) }
+    ensures owed { IsAtRest (after_auth 2 false []) → ⊥ }
+    ensures pending { IsAtRest (after_auth 1 false (codes "2")) → ⊥ }
 {}
 
 /// Final replies, and replies by the places of their commands.

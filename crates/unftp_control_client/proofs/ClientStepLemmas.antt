@@ -288,13 +288,12 @@ agreed_to Greeting code e = absurd (cc)
 agreed_to (Command place) code e = (place, refl, eqb-true code 234 e)
 agreed_to Nothing code e = absurd (cc)
 
--- The last reply of these steps is a 234 to a command.
-pub record LastAgrees (steps : List ClientStep) (after : Client) : Type 0 where
+-- The last of these replies is a 234 to a command.
+pub record LastAgrees (replies : List ReplyTo) (after : Client) : Type 0 where
   pub earlier : List ReplyTo
   pub place : ℕ
   pub lines : List Bytes
-  pub taken : replies_taken steps
-      ≡ earlier ++ record { to = Command place; reply = (234, lines) } ∷ []
+  pub taken : replies ≡ earlier ++ record { to = Command place; reply = (234, lines) } ∷ []
   pub answered : after.dialogue.answered ≡ Some (suc place)
   pub sent : place < after.dialogue.sent
 
@@ -313,7 +312,7 @@ same_dialogue steps before next after agreed answered (none, is, same) =
 
 first_agrees : (steps : List ClientStep) (before next after : Client) (taken : ReplyTo)
     → IsStep before (Took taken) next → AreSteps next steps after → AgreedBefore next steps after
-    → LastAgrees (Took taken ∷ steps) after
+    → LastAgrees (replies_taken (Took taken ∷ steps)) after
 first_agrees steps before next after taken step are (none, agreed, same) =
     let d = before.dialogue in
     let is = agreed_to (next_to d) taken.reply.0
@@ -338,9 +337,9 @@ first_agrees steps before next after taken step are (none, agreed, same) =
       );
     }
 
-later_agrees : (steps : List ClientStep) (after : Client) (taken : ReplyTo)
-    → LastAgrees steps after → LastAgrees (Took taken ∷ steps) after
-later_agrees steps after taken last = record {
+later_agrees : (replies : List ReplyTo) (after : Client) (taken : ReplyTo)
+    → LastAgrees replies after → LastAgrees (taken ∷ replies) after
+later_agrees replies after taken last = record {
   earlier = taken ∷ last.earlier;
   place = last.place;
   lines = last.lines;
@@ -350,7 +349,8 @@ later_agrees steps after taken last = record {
 }
 
 steps-agree : (steps : List ClientStep) (before after : Client) → AreSteps before steps after
-    → after.dialogue.agreed ≡ true → AgreedBefore before steps after ⊎ LastAgrees steps after
+    → after.dialogue.agreed ≡ true
+    → AgreedBefore before steps after ⊎ LastAgrees (replies_taken steps) after
 steps-agree [] before after are agreed = inl (
   refl,
   sym (ap (λ (d : Dialogue). d.agreed) are.0) ∙ agreed,
@@ -361,34 +361,21 @@ steps-agree (Sent line ∷ steps) before after (next, step, are) agreed =
     (λ (h : AgreedBefore next steps after). inl
     (same_dialogue steps before next after (sym (ap (λ (d : Dialogue). d.agreed) step.0))
     (ap (λ (d : Dialogue). d.answered) step.0) h))
-    (λ (h : LastAgrees steps after). inr (record {
-      earlier = h.earlier;
-      place = h.place;
-      lines = h.lines;
-      taken = h.taken;
-      answered = h.answered;
-      sent = h.sent;
-    }))
+    (λ (h : LastAgrees (replies_taken steps) after). inr h)
     (steps-agree steps next after are agreed)
 steps-agree (Received piece ∷ steps) before after (next, step, are) agreed =
     ⊎_elim
     (λ (h : AgreedBefore next steps after). inl
     (same_dialogue steps before next after (sym (ap (λ (d : Dialogue). d.agreed) step.0))
     (ap (λ (d : Dialogue). d.answered) step.0) h))
-    (λ (h : LastAgrees steps after). inr (record {
-      earlier = h.earlier;
-      place = h.place;
-      lines = h.lines;
-      taken = h.taken;
-      answered = h.answered;
-      sent = h.sent;
-    }))
+    (λ (h : LastAgrees (replies_taken steps) after). inr h)
     (steps-agree steps next after are agreed)
 steps-agree (Took taken ∷ steps) before after (next, step, are) agreed =
     ⊎_elim
     (λ (h : AgreedBefore next steps after). inr
     (first_agrees steps before next after taken step are h))
-    (λ (h : LastAgrees steps after). inr (later_agrees steps after taken h))
+    (λ (h : LastAgrees (replies_taken steps) after).
+    inr (later_agrees (replies_taken steps) after taken h))
     (steps-agree steps next after are agreed)
 
 pub last_agrees : (steps : List ClientStep) (start after : Client)
@@ -400,7 +387,7 @@ pub last_agrees : (steps : List ClientStep) (start after : Client)
 last_agrees steps start after none_sent not_agreed are agreed none_owed =
     ⊎_elim
     (λ (h : AgreedBefore start steps after). absurd (cc))
-    (λ (h : LastAgrees steps after).
+    (λ (h : LastAgrees (replies_taken steps) after).
     let owed = ap (λ answered. after.dialogue.sent - unwrap_or answered 0) h.answered in (
       h.earlier,
       h.place,
