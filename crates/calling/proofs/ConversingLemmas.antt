@@ -255,18 +255,15 @@ code-agrees to.Greeting code agreed = absurd (cc)
 code-agrees (to.Command place) code agreed = eqb-true code 234 agreed
 code-agrees to.Nothing code agreed = absurd (cc)
 
-pub agreed-reply : (E : Type 0) (next : Option ClientReply) (before after : Client)
-    (old new : Option Bytes) → IsNext {E = E} before.dialogue (Ok next) after.dialogue
-    → IfSome next (λ taken. IfSome old (λ input. IfSome new (λ left.
-    TakesReply (before.replies.bytes ++ input) (content taken.reply) (after.replies.bytes ++ left))))
-    → MayBeginTls after → 1 ≤ commands_owed before.dialogue
-    → IfSome old (λ input. IfSome new (λ left. (lines : List Bytes)
+pub agreed-reply : (E : Type 0) (taken : ClientReply) (before after : Client)
+    (old new : Option Bytes) → IsNext {E = E} before.dialogue (Ok (Some taken)) after.dialogue
+    → IfSome old (λ input. IfSome new (λ left.
+    TakesReply (before.replies.bytes ++ input) (content taken.reply) (after.replies.bytes ++ left)))
+    → MayBeginTls after → IfSome old (λ input. IfSome new (λ left. (lines : List Bytes)
     × TakesReply (before.replies.bytes ++ input) (234, lines) left))
-agreed-reply E None before after old new is takes may owed =
-    absurd (omega (arith, owed, may.1, ap commands_owed is))
-agreed-reply E (Some taken) before after None new is takes may owed = tt
-agreed-reply E (Some taken) before after (Some input) None is takes may owed = tt
-agreed-reply E (Some taken) before after (Some input) (Some left) is takes may owed =
+agreed-reply E taken before after None new is takes may = tt
+agreed-reply E taken before after (Some input) None is takes may = tt
+agreed-reply E taken before after (Some input) (Some left) is takes may =
     let agreed : agrees (next_to before.dialogue) taken.reply.code ≡ true =
     ap (λ d. d.agreed) (sym is.1) ∙ may.0 in
     let code = code-agrees (next_to before.dialogue) taken.reply.code agreed in (

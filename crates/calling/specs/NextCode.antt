@@ -1,5 +1,5 @@
 -- What a client makes of the replies that it receives (RFC 959, section 4.2).
-use Rattle.std.specs.Prelude.{◌≡◌, ◌↔◌, ℕ, Bool, IsTrue, [], Option, Some, None, Result, Ok, Err, MatchResult}
+use Rattle.std.specs.Prelude.{◌≡◌, ◌↔◌, ℕ, Bool, IsTrue, IsSome, [], Option, Some, None, Result, Ok, Err, MatchResult}
 use Rattle.unftp_control.specs.Bytes.{Bytes}
 use Rattle.unftp_control.specs.Dialogue.{commands_owed}
 use Rattle.unftp_control.specs.Exchange.{IsNext, NextClientReply, only_reply}
@@ -26,7 +26,7 @@ abbrev pub MayBeginTls : Client → Type 0
 MayBeginTls client = IsTrue client.dialogue.agreed × (commands_owed client.dialogue ≡ 0)
     × (client.replies.bytes ≡ [])
 
--- whether it may after the next reply, or why there is none
+-- whether there is a next reply and it may after it, or what has failed
 abbrev pub ReceivesAgreement : Client → Option Bytes → Result Bool ReceiveError → Client
     → Option Bytes → Type 0
 ReceivesAgreement before remaining result after remaining' =
@@ -34,7 +34,8 @@ ReceivesAgreement before remaining result after remaining' =
     × Receives before.replies remaining (only_reply next) after.replies remaining'
     × IsNext before.dialogue next after.dialogue
     × MatchResult next
-    (λ _. (agreed : Bool) × (result ≡ Ok agreed) × (IsTrue agreed ↔ MayBeginTls after))
+    (λ reply. (agreed : Bool) × (result ≡ Ok agreed)
+    × (IsTrue agreed ↔ (IsSome reply × MayBeginTls after)))
     (λ error. result ≡ Err error)
 
 -- So many commands were sent, of which the first has its final reply, a 234 or another; these bytes are

@@ -1,8 +1,7 @@
 //! A client.
-ghost use Rattle.std.specs.Prelude.{◌≡◌, ◌≤◌, ◌++◌, List, IsTrue, IfErr, IfOk, IfSome, MatchOption};
+ghost use Rattle.std.specs.Prelude.{◌≡◌, ◌++◌, List, IsTrue, IfErr, IfOk, IfSome, MatchOption};
 ghost use Rattle.calling.specs.NextCode.{ReceivesAgreement, ReceivesCode};
 ghost use Rattle.unftp_control.specs.Bytes.{Bytes};
-ghost use Rattle.unftp_control.specs.Dialogue.{commands_owed};
 ghost use Rattle.unftp_control.specs.ReplyReader.{FrontReply, IsPartial};
 ghost use Rattle.unftp_control.specs.TakingSteps.{TakesReply};
 ghost use Rattle.unftp_control.specs.Reading.{ReturnsRefusal};
@@ -39,18 +38,20 @@ pub fn next_code<R: Read>(
 /// Bytes that came after the reply in clear text must not be taken for replies under TLS: where
 /// there are any, the connection has to be closed.
 pub fn tls_agreed<R: Read>(client: &mut Client, stream: &mut R) -> Result<bool, ReceiveError>
-    // the next reply is taken, if there is one, and TLS begins exactly where the client says so
+    // the next reply is taken, and TLS begins exactly where there is one and the client says so
     ensures receives { ReceivesAgreement client.old (R.remaining stream.old) result
         client.new (R.remaining stream.new) }
-    // where AUTH was owed its reply, this is a 234, and the stream begins with the byte after it
-    ensures reply { IfOk result (λ agreed. IsTrue agreed → 1 ≤ commands_owed client.old.dialogue
+    // where TLS begins, the reply is a 234, and the stream goes on with the byte after it
+    ensures reply { IfOk result (λ agreed. IsTrue agreed
         → IfSome (R.remaining stream.old) (λ input. IfSome (R.remaining stream.new) (λ left.
         (lines : List Bytes)
         × TakesReply (client.old.replies.bytes ++ input) (234, lines) left))) }
     ensures limit { client.new.replies.limit ≡ client.old.replies.limit }
 {
-    client.read_reply(stream)?;
-    Ok(client.tls_agreed())
+    match client.read_reply(stream)? {
+        Some(_) => Ok(client.tls_agreed()),
+        None => Ok(false),
+    }
 }
 
 /// The code of the first reply in `received` and how many bytes it takes, once it is complete.

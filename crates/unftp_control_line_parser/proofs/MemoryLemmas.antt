@@ -21,7 +21,7 @@ use Rattle.unftp_control_line_parser.specs.declared.rule.PathCommand.TheVariants
 use Rattle.unftp_control_line_parser.specs.declared.rule.TypedCommand.{TypedCommand}
 use Rattle.unftp_control_line_parser.specs.declared.rule.TypedCommand.TheVariants as typed
 use Rattle.unftp_control_line_parser.specs.declared.rule.ParameterKind.{ParameterKind}
-use Rattle.unftp_control_line_parser.specs.declared.rule.ParameterKind.TheVariants.{Empty, Raw, StatPath, Text, OptionalPath, ListPath, Typed}
+use Rattle.unftp_control_line_parser.specs.declared.rule.ParameterKind.TheVariants.{Raw, StatPath, Text, OptionalPath, ListPath, Typed}
 use Rattle.unftp_control_line_parser.specs.Memory.{takes_no_memory, AnswerMayTakeMemory, MayTakeMemory, IfOutOfMemory, OnOutOfMemory}
 use Rattle.unftp_control_line_parser.specs.Meaning.{raw_command, text_command, path_command, typed_answer, parameter_answer}
 use Rattle.unftp_control_line_parser.proofs.OutcomeLemmas.{named_utf8}
@@ -128,9 +128,6 @@ typed_may_take typed.Stru v = chosen_may_take structures (refl, (refl, (refl, tt
 -- so what takes a value makes no such command of it, whatever it is
 pub value_may_take : (kind : ParameterKind) (v : Bytes) → v ≢ []
     → AnswerMayTakeMemory (parameter_answer kind v)
-value_may_take (Empty command) [] some = absurd (some refl)
-value_may_take (Empty command) (b ∷ v) some = let longer : length (b ∷ v) ≢ 0 =
-    λ e. absurd (omega arith) in rw (ne_eqb (length (b ∷ v)) 0 longer) tt
 value_may_take (Raw command) v some = raw_may_take command v
 value_may_take StatPath v some = refl
 value_may_take (Text command) v some = some_may_take (text_command command) (text_may_take command)

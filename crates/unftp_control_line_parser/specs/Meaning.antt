@@ -17,9 +17,9 @@ use Rattle.unftp_control_line_parser.specs.declared.rule.PathCommand.TheVariants
 use Rattle.unftp_control_line_parser.specs.declared.rule.TypedCommand.{TypedCommand}
 use Rattle.unftp_control_line_parser.specs.declared.rule.TypedCommand.TheVariants as typed
 use Rattle.unftp_control_line_parser.specs.declared.rule.ParameterKind.{ParameterKind}
-use Rattle.unftp_control_line_parser.specs.declared.rule.ParameterKind.TheVariants.{Empty, Raw, StatPath, Text, OptionalPath, ListPath, Typed}
+use Rattle.unftp_control_line_parser.specs.declared.rule.ParameterKind.TheVariants.{Raw, StatPath, Text, OptionalPath, ListPath, Typed}
 use Rattle.unftp_control_line_parser.specs.declared.rule.Rule.{Rule}
-use Rattle.unftp_control_line_parser.specs.declared.rule.Rule.TheVariants.{Ignores, Takes, Splits}
+use Rattle.unftp_control_line_parser.specs.declared.rule.Rule.TheVariants.{Ignores, Alone, Takes, Splits}
 
 abbrev pub unit_command : UnitCommand → FtpCommand
 unit_command unit.Abor = spec.Abor
@@ -71,7 +71,6 @@ typed_answer typed.Rest v = offset (utf8_lossy v)
 typed_answer typed.Stru v = chosen structures v
 
 abbrev pub parameter_answer : ParameterKind → Bytes → Answer
-parameter_answer (Empty command) v = without_parameter (unit_command command) v
 parameter_answer (Raw command) v = raw (raw_command command) v
 parameter_answer StatPath v = Ok (spec.Stat (unless_empty v))
 parameter_answer (Text command) v = some_text (text_command command) v
@@ -81,5 +80,6 @@ parameter_answer (Typed command) v = typed_answer command v
 
 abbrev pub meaning : Rule → rule.Rule
 meaning (Ignores command) = rule.Ignores (unit_command command)
+meaning (Alone command) = rule.Takes (without_parameter (unit_command command))
 meaning (Takes kind) = rule.Takes (parameter_answer kind)
 meaning Splits = rule.Splits

@@ -18,7 +18,7 @@ ghost use Rattle.unftp_control_line_parser.specs.Values.{ReturnsSomeText};
 use crate::fields::{list_path, optional_raw, optional_text, raw, text, upper_cased};
 use crate::rule::{ParameterKind, Rule, UnitCommand};
 use crate::typed::typed;
-use crate::value::parameter_value;
+use crate::value::{has_no_value, parameter_value};
 use crate::verb::rule_named;
 use memchr::memchr3;
 use std::alloc::Global;
@@ -95,6 +95,7 @@ fn by_rule(alloc: Global, rule: Rule, parameter: &[u8]) -> Answer
 {
     match rule {
         Rule::Ignores(command) => Ok(command.command()),
+        Rule::Alone(command) => without_value(alloc, command, parameter),
         Rule::Takes(kind) => match parameter_value(alloc, parameter) {
             Ok(value) => with_value(alloc, kind, value),
             Err(error) => Err(error),
@@ -110,7 +111,6 @@ fn with_value(alloc: Global, kind: ParameterKind, value: CowSlice<'_, u8>) -> An
         (AnswerMayTakeMemory (parameter_answer kind (cow_slice_items value.entry))) }
 {
     match kind {
-        ParameterKind::Empty(command) => without_value(command, value.as_slice()),
         ParameterKind::Raw(command) => Ok(command.command(raw(alloc, value)?)),
         ParameterKind::StatPath => Ok(Command::Stat {
             path: optional_raw(alloc, value)?,
@@ -127,16 +127,18 @@ fn with_value(alloc: Global, kind: ParameterKind, value: CowSlice<'_, u8>) -> An
     }
 }
 
-/// The command, where there is no value.
-fn without_value(command: UnitCommand, value: &[u8]) -> Answer
-    ensures answer { Returns (without_parameter (unit_command command) value.now) result }
-    ensures memory { OnOutOfMemory result ⊥ }
+/// The command, where the parameter has no value. A line without a parameter is not read further.
+fn without_value(alloc: Global, command: UnitCommand, parameter: &[u8]) -> Answer
+    ensures answer { Returns
+        (value_answer (without_parameter (unit_command command)) (value_of parameter.now)) result }
+    ensures memory { OnOutOfMemory result (AnswerMayTakeMemory
+        (value_answer (without_parameter (unit_command command)) (value_of parameter.now))) }
 {
-    if value.is_empty() {
-        Ok(command.command())
-    } else {
-        Err(ParseErrorKind::InvalidCommand)
+    if has_no_value(parameter) {
+        return Ok(command.command());
     }
+    parameter_value(alloc, parameter)?;
+    Err(ParseErrorKind::InvalidCommand)
 }
 
 /// The value as text, which must not be empty.

@@ -12,6 +12,8 @@ use unftp_control_command::password::Password;
 pub enum Rule {
     /// It ignores them.
     Ignores(UnitCommand),
+    /// It takes no value.
+    Alone(UnitCommand),
     /// It takes their value.
     Takes(ParameterKind),
     /// SITE: it splits them again, into a subcommand and its parameter.
@@ -21,8 +23,6 @@ pub enum Rule {
 /// The parameter that a verb takes, and the command that it gives.
 #[derive(Clone, Copy)]
 pub enum ParameterKind {
-    /// None.
-    Empty(UnitCommand),
     /// Any bytes.
     Raw(RawCommand),
     /// The path of STAT: bytes, or none where they are empty.

@@ -1,5 +1,5 @@
 //! The value of a parameter.
-ghost use Rattle.std.specs.Prelude.{◌≡◌, ◌≢◌, Some, []};
+ghost use Rattle.std.specs.Prelude.{◌≡◌, ◌≢◌, ◌↔◌, IsTrue, Some, []};
 ghost use Rattle.unftp_control_defs.specs.ComputedValue.{value_of, later_value, Fresh};
 ghost use Rattle.unftp_control_line_parser.specs.Memory.{OnOutOfMemory};
 ghost use Rattle.unftp_control_line_parser.specs.Values.{begins_with_cr_nul, IsPlainEnd, IsFreshEnd, ReturnsValue, IsRun, ReturnsValueFrom, ReturnsJoined};
@@ -124,6 +124,17 @@ fn begins_with_cr_nul(parameter: &[u8]) -> bool
     }
 }
 
+/// Whether the value of the parameter is empty, so that the parameter is only an end of line, or not
+/// even that.
+pub fn has_no_value(parameter: &[u8]) -> bool
+    ensures { IsTrue result ↔ (value_of parameter.now ≡ Some []) }
+{
+    match parameter {
+        [] | [LF, ..] | [CR, LF] => true,
+        _ => false,
+    }
+}
+
 /// The value of parameter bytes: bytes of the line, or new ones where it has CR NUL.
 pub fn parameter_value<'a>(
     alloc: Global,
@@ -132,13 +143,12 @@ pub fn parameter_value<'a>(
     ensures answer { ReturnsValue (value_of parameter.now) result }
     ensures memory { OnOutOfMemory result (value_of parameter.now ≢ Some []) }
 {
-    let (none, _) = parameter.split_at(0);
-    if parameter.is_empty() || parameter[0] == LF {
-        return Ok(CowSlice::Borrowed(none));
+    if has_no_value(parameter) {
+        return Ok(CowSlice::Borrowed(b""));
     }
     let (first, rest) = parameter.split_at(1);
     if rest == b"\n".as_slice() {
-        return Ok(CowSlice::Borrowed(if parameter[0] == CR { none } else { first }));
+        return Ok(CowSlice::Borrowed(first));
     }
     if begins_with_cr_nul(parameter) {
         let (_, after) = parameter.split_at(2);

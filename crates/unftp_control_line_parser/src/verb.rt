@@ -1,69 +1,14 @@
 //! The verbs with a rule of their own.
-ghost use Rattle.std.specs.Prelude.{◌≡◌, ◌↔◌, IsTrue, IsSome, map, option_map};
-ghost use Rattle.std.specs.Int.{from_be_bytes, w32};
-ghost use Rattle.std.specs.List.Sorted.{IsStrictlyIncreasing};
-ghost use Rattle.unftp_control_defs.specs.Bytes.{Bytes};
+ghost use Rattle.std.specs.Prelude.{◌≡◌, ◌↔◌, IsTrue, IsSome, option_map};
 ghost use Rattle.unftp_control_defs.specs.Forwarded.{ignores_parameter, keeps_parameter};
 ghost use Rattle.unftp_control_defs.specs.Rules.{row_of, rule_of, verbs};
 ghost use Rattle.unftp_control_defs.specs.Verbs.{upper};
 ghost use Rattle.unftp_control_line_parser.specs.Meaning.{meaning};
 ghost use Rattle.unftp_control_line_parser.specs.Words.{to_four_bytes, from_four_bytes};
-ghost use Rattle.unftp_control_line_parser.specs.declared.verb.TheConstants.{VERBS};
 
-use crate::rule::ParameterKind::{Empty, ListPath, OptionalPath, Raw, StatPath, Text, Typed};
-use crate::rule::Rule::{Ignores, Splits, Takes};
+use crate::rule::ParameterKind::{ListPath, OptionalPath, Raw, StatPath, Text, Typed};
+use crate::rule::Rule::{Alone, Ignores, Splits, Takes};
 use crate::rule::{PathCommand, RawCommand, Rule, TextCommand, TypedCommand, UnitCommand};
-
-/// The verbs, each padded with NUL to four bytes, and their rules. The rows are in the order of the
-/// verbs' bytes, since they are found by binary search.
-static VERBS: [([u8; 4], Rule); 46] = [
-    (*b"ABOR", Takes(Empty(UnitCommand::Abor))),
-    (*b"ACCT", Takes(Raw(RawCommand::Acct))),
-    (*b"ALLO", Ignores(UnitCommand::Allo)),
-    (*b"APPE", Takes(Text(TextCommand::Appe))),
-    (*b"AUTH", Takes(Typed(TypedCommand::Auth))),
-    (*b"BYE\0", Takes(Empty(UnitCommand::Quit))),
-    (*b"CCC\0", Takes(Empty(UnitCommand::Ccc))),
-    (*b"CDUP", Takes(Empty(UnitCommand::Cdup))),
-    (*b"CWD\0", Takes(Text(TextCommand::Cwd))),
-    (*b"DELE", Takes(Text(TextCommand::Dele))),
-    (*b"EPSV", Ignores(UnitCommand::Epsv)),
-    (*b"FEAT", Takes(Empty(UnitCommand::Feat))),
-    (*b"HELP", Ignores(UnitCommand::Help)),
-    (*b"LIST", Takes(ListPath)),
-    (*b"MDTM", Takes(Text(TextCommand::Mdtm))),
-    (*b"MKD\0", Takes(Text(TextCommand::Mkd))),
-    (*b"MLSD", Takes(OptionalPath(PathCommand::Mlsd))),
-    (*b"MLST", Takes(OptionalPath(PathCommand::Mlst))),
-    (*b"MODE", Takes(Typed(TypedCommand::Mode))),
-    (*b"NLST", Takes(OptionalPath(PathCommand::Nlst))),
-    (*b"NOOP", Takes(Empty(UnitCommand::Noop))),
-    (*b"OPTS", Takes(Typed(TypedCommand::Opts))),
-    (*b"PASS", Takes(Raw(RawCommand::Pass))),
-    (*b"PASV", Takes(Empty(UnitCommand::Pasv))),
-    (*b"PBSZ", Takes(Typed(TypedCommand::Pbsz))),
-    (*b"PORT", Takes(Text(TextCommand::Port))),
-    (*b"PROT", Takes(Typed(TypedCommand::Prot))),
-    (*b"PWD\0", Takes(Empty(UnitCommand::Pwd))),
-    (*b"QUIT", Takes(Empty(UnitCommand::Quit))),
-    (*b"REST", Takes(Typed(TypedCommand::Rest))),
-    (*b"RETR", Takes(Text(TextCommand::Retr))),
-    (*b"RMD\0", Takes(Text(TextCommand::Rmd))),
-    (*b"RNFR", Takes(Text(TextCommand::Rnfr))),
-    (*b"RNTO", Takes(Text(TextCommand::Rnto))),
-    (*b"SITE", Splits),
-    (*b"SIZE", Takes(Text(TextCommand::Size))),
-    (*b"STAT", Takes(StatPath)),
-    (*b"STOR", Takes(Text(TextCommand::Stor))),
-    (*b"STOU", Takes(Empty(UnitCommand::Stou))),
-    (*b"STRU", Takes(Typed(TypedCommand::Stru))),
-    (*b"SYST", Ignores(UnitCommand::Syst)),
-    (*b"TYPE", Ignores(UnitCommand::TypeCode)),
-    (*b"USER", Takes(Raw(RawCommand::User))),
-    (*b"XCWD", Takes(Text(TextCommand::Cwd))),
-    (*b"XMKD", Takes(Text(TextCommand::Mkd))),
-    (*b"XPWD", Takes(Empty(UnitCommand::Pwd))),
-];
 
 /// The word, padded with NUL to four bytes; none where no verb has its length.
 fn to_four_bytes(word: &[u8]) -> Option<[u8; 4]>
@@ -76,15 +21,59 @@ fn to_four_bytes(word: &[u8]) -> Option<[u8; 4]>
     }
 }
 
-/// The rule of a padded word, if it is a verb.
+/// The rule of a word that is padded with NUL to four bytes, if it is a verb.
 fn rule_of(word: &[u8; 4]) -> Option<Rule>
     ensures { option_map meaning result ≡ row_of (from_four_bytes word.now) verbs }
 {
-    let key = u32::from_be_bytes(*word);
-    match VERBS.binary_search_by_key(&key, |row| u32::from_be_bytes(row.0)) {
-        Ok(at) => Some(VERBS[at].1),
-        Err(_) => None,
-    }
+    Some(match word {
+        b"ABOR" => Alone(UnitCommand::Abor),
+        b"ACCT" => Takes(Raw(RawCommand::Acct)),
+        b"ALLO" => Ignores(UnitCommand::Allo),
+        b"APPE" => Takes(Text(TextCommand::Appe)),
+        b"AUTH" => Takes(Typed(TypedCommand::Auth)),
+        b"BYE\0" => Alone(UnitCommand::Quit),
+        b"CCC\0" => Alone(UnitCommand::Ccc),
+        b"CDUP" => Alone(UnitCommand::Cdup),
+        b"CWD\0" => Takes(Text(TextCommand::Cwd)),
+        b"DELE" => Takes(Text(TextCommand::Dele)),
+        b"EPSV" => Ignores(UnitCommand::Epsv),
+        b"FEAT" => Alone(UnitCommand::Feat),
+        b"HELP" => Ignores(UnitCommand::Help),
+        b"LIST" => Takes(ListPath),
+        b"MDTM" => Takes(Text(TextCommand::Mdtm)),
+        b"MKD\0" => Takes(Text(TextCommand::Mkd)),
+        b"MLSD" => Takes(OptionalPath(PathCommand::Mlsd)),
+        b"MLST" => Takes(OptionalPath(PathCommand::Mlst)),
+        b"MODE" => Takes(Typed(TypedCommand::Mode)),
+        b"NLST" => Takes(OptionalPath(PathCommand::Nlst)),
+        b"NOOP" => Alone(UnitCommand::Noop),
+        b"OPTS" => Takes(Typed(TypedCommand::Opts)),
+        b"PASS" => Takes(Raw(RawCommand::Pass)),
+        b"PASV" => Alone(UnitCommand::Pasv),
+        b"PBSZ" => Takes(Typed(TypedCommand::Pbsz)),
+        b"PORT" => Takes(Text(TextCommand::Port)),
+        b"PROT" => Takes(Typed(TypedCommand::Prot)),
+        b"PWD\0" => Alone(UnitCommand::Pwd),
+        b"QUIT" => Alone(UnitCommand::Quit),
+        b"REST" => Takes(Typed(TypedCommand::Rest)),
+        b"RETR" => Takes(Text(TextCommand::Retr)),
+        b"RMD\0" => Takes(Text(TextCommand::Rmd)),
+        b"RNFR" => Takes(Text(TextCommand::Rnfr)),
+        b"RNTO" => Takes(Text(TextCommand::Rnto)),
+        b"SITE" => Splits,
+        b"SIZE" => Takes(Text(TextCommand::Size)),
+        b"STAT" => Takes(StatPath),
+        b"STOR" => Takes(Text(TextCommand::Stor)),
+        b"STOU" => Alone(UnitCommand::Stou),
+        b"STRU" => Takes(Typed(TypedCommand::Stru)),
+        b"SYST" => Ignores(UnitCommand::Syst),
+        b"TYPE" => Ignores(UnitCommand::TypeCode),
+        b"USER" => Takes(Raw(RawCommand::User)),
+        b"XCWD" => Takes(Text(TextCommand::Cwd)),
+        b"XMKD" => Takes(Text(TextCommand::Mkd)),
+        b"XPWD" => Alone(UnitCommand::Pwd),
+        _ => return None,
+    })
 }
 
 /// The bytes, their ASCII letters in upper case.
@@ -107,15 +96,6 @@ pub fn rule_named(word: &[u8]) -> Option<Rule>
     rule_of(&upper_cased(to_four_bytes(word)?))
 }
 
-/// The table has the definition's verbs with their rules, each once, in strict order of the verbs'
-/// bytes.
-pub fn verb_table()
-    ensures order { IsStrictlyIncreasing (map (λ row. from_be_bytes w32 row.0) VERBS) }
-    ensures rows { (word : Bytes)
-        → row_of word (map (λ row. (from_four_bytes row.0, meaning row.1)) VERBS)
-        ≡ row_of word verbs }
-{}
-
 /// Whether the word is a verb with a rule of its own, in upper case (RFC 959, section 5.3). It
 /// takes no memory.
 pub fn is_verb(word: &[u8]) -> bool
@@ -133,7 +113,7 @@ fn ignores_parameter(verb: &[u8]) -> bool
 {
     match rule_named(verb) {
         Some(Ignores(_)) => true,
-        Some(Takes(_) | Splits) | None => false,
+        Some(Alone(_) | Takes(_) | Splits) | None => false,
     }
 }
 

@@ -13,10 +13,10 @@ use Rattle.unftp_control_defs.specs.Outcome.{outcome}
 use Rattle.unftp_control_defs.proofs.LackLemmas.{Lacks-append}
 use Rattle.unftp_control_line_parser.specs.Memory.{MayTakeMemory}
 use Rattle.unftp_control_codecs.specs.Codec.{Codec, is_too_long}
-use Rattle.unftp_control_codecs.specs.LineFeed.{line_feed_from}
+use Rattle.unftp_control_codecs.specs.LineFeed.{NoLineFeed, line_feed_from}
 use Rattle.unftp_control_codecs.specs.Decoding.{Decoded, Decodes, FindsNone, SkipsAll, CutsLine, KeepsLine, IfTooLong, AnswersNone, AnswersLine, IsOutOfMemory, parser_out_of_memory, returned_event}
 use Rattle.unftp_control_codecs.proofs.MemoryLemmas.{ran_out}
-use Rattle.unftp_control_codecs.proofs.LineFeedLemmas.{NoLineFeed, line_feed_at, line_feed_nowhere, lacks_upto, none_below, none_before, lf_at, unskipped, longer}
+use Rattle.unftp_control_codecs.proofs.LineFeedLemmas.{line_feed_at, line_feed_nowhere, lacks_upto, none_below, none_between, lf_at, unskipped, longer}
 use Rattle.unftp_control_serve.specs.declared.event.Event.{Event}
 use Rattle.unftp_control_serve.specs.Decoder.{kept_length}
 use Rattle.unftp_control_serve.specs.EventMeaning.{event_meant, refuses_length}
@@ -78,7 +78,7 @@ module _ (old new : Codec) (before after : Bytes) (answer : Decoded) where
       cut k e cuts returned =
           let at = line_feed_at before old.place k e in
           let body : Lacks LF (take k before) =
-          lacks_upto k before (omega (arith, at.1)) (none_before before old.place k start at.3)
+          lacks_upto k before (omega (arith, at.1)) (none_between before 0 old.place k start at.3)
           in
           record {
             line = take (k + 1) before;
@@ -110,7 +110,7 @@ module _ (old new : Codec) (before after : Bytes) (answer : Decoded) where
       at_line k e false short (inr d) =
           let at = line_feed_at before old.place k e in
           let body : Lacks LF (take k before) =
-          lacks_upto k before (omega (arith, at.1)) (none_before before old.place k start at.3)
+          lacks_upto k before (omega (arith, at.1)) (none_between before 0 old.place k start at.3)
           in
           inr (inr record {
             no_memory = ran_out answer d.0;
@@ -132,7 +132,7 @@ module _ (old new : Codec) (before after : Bytes) (answer : Decoded) where
           → Comes old new before after answer
       by_place None e d =
           let none = lacks_upto (length before) before (omega arith)
-          (none_before before old.place (length before) start
+          (none_between before 0 old.place (length before) start
           (line_feed_nowhere before old.place e)) in
           inl record { returned = d.0; unended = rw take-length at none; leaves = d.1 }
       by_place (Some k) e d = at_line k e (is_too_long old (k + 1)) refl d

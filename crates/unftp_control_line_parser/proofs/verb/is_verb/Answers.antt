@@ -1,6 +1,6 @@
 use Rattle.std.proofs.Common.{◌≡◌, is_some, sym, ap, ◌∙◌}
 use Rattle.unftp_control_defs.specs.Rules.{row_of, verbs}
-use Rattle.unftp_control_line_parser.proofs.VerbTableLemmas.{mapped_some, from_four_bytes_back, no_verb}
+use Rattle.unftp_control_line_parser.proofs.VerbLemmas.{mapped_some, from_four_bytes_back, no_verb}
 use Rattle.unftp_control_line_parser.proofs.verb.is_verb.Goals as goal
 
 pub returns-in-Some : goal.returns-in-Some

@@ -2,7 +2,7 @@ use Rattle.std.proofs.Common.{sym, ap, option_map, ◌∙◌}
 use Rattle.unftp_control_defs.specs.Rules.{row_of, verbs}
 use Rattle.unftp_control_line_parser.specs.Meaning.{meaning}
 use Rattle.unftp_control_line_parser.specs.Words.{from_four_bytes}
-use Rattle.unftp_control_line_parser.proofs.VerbTableLemmas.{from_four_bytes_upper, no_verb_upper}
+use Rattle.unftp_control_line_parser.proofs.VerbLemmas.{from_four_bytes_upper, no_verb_upper}
 use Rattle.unftp_control_line_parser.proofs.verb.rule_named.Goals as goal
 
 pub returns : goal.returns
