@@ -9,7 +9,7 @@ const LINE_FEED: u8 = b'\n';
 
 /// How many bytes are read in a row. The compiler writes a loop over so many out, which makes it
 /// more than twice as fast.
-const GROUP: usize = 8;
+const GROUP: usize = 4;
 
 /// How many bytes were scanned, a number that only contracts see.
 #[derive(Drop)]

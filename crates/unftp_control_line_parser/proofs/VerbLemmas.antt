@@ -1,12 +1,12 @@
 -- The verbs, and the words that none of them is.
-use Rattle.std.proofs.Common.{◌≡◌, ◌≢◌, ℕ, cond, option_map, is_some, Bool, true, false, bytes_eq, codes, find, ◌==◌, List, [], ◌∷◌, length, get_or, Option, Some, None, refl, sym, ap, subst, ◌∙◌, ⊎_elim, arith, ne_eqb}
+use Rattle.std.proofs.Common.{◌≡◌, ◌≢◌, ℕ, zero, suc, ◌+◌, ◌<◌, ◌≤◌, cond, option_map, is_some, Bool, true, false, bytes_eq, codes, find, ◌==◌, List, [], ◌∷◌, length, drop, get_or, Option, Some, None, refl, sym, ap, subst, ◌∙◌, ⊎_elim, arith, ne_eqb}
 use lib.Pointwise.{bytes_decides}
-use Rattle.std.specs.List.{list_all}
+use Rattle.std.specs.List.{list_all, position_or_len}
 use Rattle.std.proofs.lemmas.Bool.{cases_Bool, and_parts, false≢true}
 use Rattle.std.proofs.lemmas.Bool.Decides.{nat_tests}
 use Rattle.unftp_control_defs.specs.Bytes.{Bytes}
 use Rattle.std.specs.Char.{to_ascii_uppercase}
-use Rattle.unftp_control_defs.specs.Verbs.{upper}
+use Rattle.unftp_control_defs.specs.Verbs.{is_separator, upper}
 use Rattle.unftp_control_defs.specs.Rules.{Rule, row_of, verbs}
 use Rattle.unftp_control_line_parser.specs.Meaning.{meaning}
 use Rattle.unftp_control_line_parser.specs.Words.{to_four_bytes, from_four_bytes}
@@ -131,3 +131,13 @@ no_verb_upper word e = no_verb (upper word) (to_four_bytes_upper word ∙ ap (op
 pub mapped_some : (rule : Option RustRule) → is_some rule ≡ is_some (option_map meaning rule)
 mapped_some None = refl
 mapped_some (Some rule) = refl
+
+-- the verb's end, where none of the first bytes ends it
+pub separator_later : (line : Bytes) (n : ℕ) → n ≤ length line
+    → ((k : ℕ) → k < n → is_separator (get_or line k 0) ≡ false)
+    → position_or_len is_separator line ≡ n + position_or_len is_separator (drop n line)
+separator_later line zero h none = omega arith
+separator_later [] (suc n) h none = absurd (omega arith)
+separator_later (b ∷ line) (suc n) h none =
+    let more = separator_later line n (omega arith) (λ k lt. none (suc k) (omega arith)) in
+    rw (none 0 (omega arith)) (omega (arith, more))

@@ -1,4 +1,4 @@
--- What the rules of the verb table mean: the rules of the definition.
+-- What the rules of the verbs mean: the rules of the definition.
 use Rattle.std.specs.Prelude.{Option, Ok}
 use Rattle.std.specs.Str.Lossy.{utf8_lossy}
 use Rattle.unftp_control_defs.specs.Bytes.{Bytes}

@@ -31,13 +31,23 @@ use unftp_control_reply::error::{ParseErrorKind, Result};
 
 type Answer = result::Result<Command, ParseErrorKind>;
 
+/// How many bytes the longest verb with a rule of its own has. `memchr3` takes longer over so few.
+const LONGEST_VERB: usize = 4;
+
 /// The length of the verb.
 fn verb_len(line: &[u8]) -> usize
     ensures place { result ≡ position_or_len is_separator line.now }
     ensures within { result ≤ length line.now }
 {
-    match memchr3(b' ', b'\r', b'\n', line) {
-        Some(end) => end,
+    let front = line.len().min(LONGEST_VERB + 1);
+    for at in 0..front {
+        if matches!(line[at], b' ' | b'\r' | b'\n') {
+            return at;
+        }
+    }
+    let (_, rest) = line.split_at(front);
+    match memchr3(b' ', b'\r', b'\n', rest) {
+        Some(end) => front + end,
         None => line.len(),
     }
 }

@@ -124,8 +124,7 @@ fn begins_with_cr_nul(parameter: &[u8]) -> bool
     }
 }
 
-/// Whether the value of the parameter is empty, so that the parameter is only an end of line, or not
-/// even that.
+/// Whether the value of the parameter is empty: there is only an end of line, or nothing at all.
 pub fn has_no_value(parameter: &[u8]) -> bool
     ensures { IsTrue result ↔ (value_of parameter.now ≡ Some []) }
 {
@@ -153,6 +152,11 @@ pub fn parameter_value<'a>(
     if begins_with_cr_nul(parameter) {
         let (_, after) = parameter.split_at(2);
         return unescaped(alloc, first, after);
+    }
+    // the usual case: there is no CR within the value
+    let (value, after) = parameter.split_at(1 + fresh_len(rest));
+    if after == b"\r\n".as_slice() {
+        return Ok(CowSlice::Borrowed(value));
     }
     match front_run(rest) {
         Run::Last(part) => {
