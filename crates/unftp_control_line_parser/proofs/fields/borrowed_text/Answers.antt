@@ -1,7 +1,6 @@
 use Rattle.std.proofs.Common.{eqb-true, sym, ◌∙◌}
 use Rattle.std.proofs.lemmas.Result.{IfOk-weaker}
 use Rattle.std.proofs.lemmas.Str.{utf8_lossy-IsUtf8}
-use Rattle.bstr.proofs.lemmas.LossyLemmas.{lossy_chars-utf8_lossy}
 use Rattle.unftp_control_line_parser.proofs.PathLemmas.{no_text}
 use Rattle.unftp_control_line_parser.proofs.fields.borrowed_text.Goals as goal
 
@@ -13,8 +12,3 @@ pub returns-in-Ok : goal.returns-in-Ok
 returns-in-Ok c =
     IfOk-weaker c.from_str.result _ _ (λ text e. e ∙ c.in-Ok.ensures.cases.0
     ∙ sym (utf8_lossy-IsUtf8 c.args.bytes.now c.in-Ok.ensures.cases.1)) c.from_str.ensures.ok
-
-pub returns-in_ok-to_str_lossy-in-Err : goal.returns-in_ok-to_str_lossy-in-Err
-returns-in_ok-to_str_lossy-in-Err c =
-    IfOk-weaker c.into_owned.result _ _ (λ text e. e ∙ c.in_ok-to_str_lossy-in-Err.ensures.text
-    ∙ lossy_chars-utf8_lossy c.args.bytes.now) c.into_owned.ensures.ok
