@@ -1,5 +1,5 @@
 -- No memory is taken for a command whose verb takes no value or ignores its parameter.
-use Rattle.std.proofs.Common.{◌≡◌, ◌≢◌, Bool, true, false, cond, List as Sequence, [], ◌∷◌, Option, Some, None, nat_lt, ◌==◌, ◌&&◌, ◌^◌, length, Result, Ok, Err, bytes_eq, codes, refl, sym, ap, subst, ne_eqb, arith}
+use Rattle.std.proofs.Common.{◌≡◌, ◌≢◌, Bool, true, false, cond, List as Sequence, [], ◌∷◌, Option, Some, None, nat_lt, ◌==◌, ◌&&◌, ◌^◌, length, Result, Ok, Err, bytes_eq, codes, refl, sym, ap, subst}
 use Rattle.std.specs.List.{AllByRecursion}
 use Rattle.std.specs.Str.{is_utf8, all_ascii_digits}
 use Rattle.std.specs.Str.Lossy.{utf8_lossy}

@@ -13,8 +13,8 @@ use Rattle.unftp_control_defs.specs.Outcome.{outcome}
 use Rattle.unftp_control_defs.proofs.LackLemmas.{Lacks-append}
 use Rattle.unftp_control_defs.proofs.LineLemmas.{events-incomplete}
 use Rattle.unftp_control_defs.proofs.TakenEventLemmas.{TakesEvent-events}
-use Rattle.unftp_control_codecs.specs.LineFeed.{is_line_feed, line_feed_from}
-use Rattle.unftp_control_codecs.proofs.LineFeedLemmas.{NoLineFeed, line_feed_at, line_feed_nowhere, lacks_upto, none_below, none_before, lf_at, unskipped, longer}
+use Rattle.unftp_control_codecs.specs.LineFeed.{NoLineFeed, is_line_feed, line_feed_from}
+use Rattle.unftp_control_codecs.proofs.LineFeedLemmas.{line_feed_at, line_feed_nowhere, lacks_upto, none_below, none_between, lf_at, unskipped, longer}
 use Rattle.unftp_control_c.specs.declared.status.Status.TheVariants.{More, OutOfMemory}
 use Rattle.unftp_control_c.specs.Next.{Call, Left, Leaves, answered, by_line_feed, ended, gives, incomplete, is_long, is_valid, kept, line_limit, name_of, next_of, resumed, area_text, value_of_command}
 use Rattle.unftp_control_c.specs.Numbers.{status_number}
@@ -161,7 +161,7 @@ module _ (limit : Option ℕ) (now : Caller) (dropped : Bytes) (kept_so : IsKept
       one_end =
           Lacks-append LF dropped (take k now.bytes) kept_so.dropped_unended
           (lacks_upto k now.bytes (omega (arith, found.1))
-          (none_before now.bytes now.connection.offset k start found.3));
+          (none_between now.bytes 0 now.connection.offset k start found.3));
     }
 
     event_is : (long : Bool) → is_long call.connection (k + 1) ≡ long
@@ -217,7 +217,7 @@ module _ (limit : Option ℕ) (now : Caller) (dropped : Bytes) (kept_so : IsKept
     unended : Lacks LF now.bytes
     unended =
         let all = lacks_upto (length now.bytes) now.bytes (omega arith)
-        (none_before now.bytes now.connection.offset (length now.bytes) start
+        (none_between now.bytes 0 now.connection.offset (length now.bytes) start
         (line_feed_nowhere now.bytes now.connection.offset none)) in
         rw take-length at all
 
