@@ -1,16 +1,15 @@
 -- What a client takes of what a server wrote.
-use Rattle.std.proofs.Common.{◌≡◌, ◌<◌, ℕ, ◌+◌, ◌≤◌, suc, true, false, List, [], ◌∷◌, ◌++◌, flat_map, map, length, get_or, drop, Option, Some, None, Ok, refl, sym, ap, subst, ◌∙◌, arith, append_assoc, length-append}
+use Rattle.std.proofs.Common.{◌≡◌, ◌<◌, ℕ, ◌+◌, ◌≤◌, suc, false, List, [], ◌∷◌, ◌++◌, map, length, get_or, drop, Option, Some, None, refl, sym, ap, subst, ◌∙◌, arith, append_assoc, length-append}
 use Rattle.std.specs.Prelude.{IfSome, option_map}
-use Rattle.std.specs.List.{AllByRecursion, filter_map}
-use Rattle.std.proofs.lemmas.Bool.{lt-ltb, eqb-true}
+use Rattle.std.specs.List.{AllByRecursion}
+use Rattle.std.proofs.lemmas.Bool.{lt-ltb}
 use Rattle.std.proofs.lemmas.Grind.{flat_map-append}
 use Rattle.std.proofs.lemmas.List.{append-nil, length-map, map-append}
 use Rattle.std.proofs.lemmas.List.Elements.{filter_map-append}
 use Rattle.unftp_control.specs.Bytes.{Bytes}
 use Rattle.unftp_control.specs.Canonical.{HasLine, canonical_line}
 use Rattle.unftp_control.specs.Conversation.{CanBeSent, Show, sent}
-use Rattle.unftp_control.specs.Dialogue.{after_command, after_reply, agrees, commands_owed, is_preliminary, next_to}
-use Rattle.unftp_control.specs.Exchange.{IsNext}
+use Rattle.unftp_control.specs.Dialogue.{after_command, after_reply, is_preliminary, next_to}
 use Rattle.unftp_control.specs.Events.{Command}
 use Rattle.unftp_control.specs.FtpCommand.{FtpCommand, HasTypedFields}
 use Rattle.unftp_control.specs.FtpReply.{FtpReply, reply_as_read}
@@ -21,11 +20,9 @@ use Rattle.unftp_control.specs.Steps.{AreSteps, ClientStep, Received, ReplyTo, S
 use Rattle.unftp_control.specs.TakingSteps.{AreTakingSteps, Pushed, Taken, TakesReply, TakingStep, all_pushed, all_taken}
 use Rattle.unftp_control.specs.declared.client.Client.{Client}
 use Rattle.unftp_control.specs.declared.client.ClientReply.{ClientReply}
-use Rattle.unftp_control.specs.declared.client.To.{To}
 use Rattle.unftp_control.specs.declared.client.To.TheVariants as to
 use Rattle.unftp_control.proofs.RunLemmas.{length-replies, run_of-length}
 use Rattle.unftp_control.proofs.ClientStepLemmas.{steps-append, steps-taken}
-use Rattle.calling.specs.NextCode.{MayBeginTls}
 use Rattle.calling.specs.Conversing.{HasSent, IsFinal, IsReadBack, Takes, TakesOf, numbered, reply_at, said, with_sent}
 
 pushed-then : {A : Type 0} (xs ys : List (TakingStep A))
@@ -246,27 +243,4 @@ said-shorter law s commands =
       length-replies law s (run_of law s (map Command commands)),
       run_of-length law s (map Command commands),
       length-map commands Command,
-    )
-
--- ---- the reply to AUTH TLS
-
-code-agrees : (is_to : To) (code : ℕ) → agrees is_to code ≡ true → code ≡ 234
-code-agrees to.Greeting code agreed = absurd (cc)
-code-agrees (to.Command place) code agreed = eqb-true code 234 agreed
-code-agrees to.Nothing code agreed = absurd (cc)
-
-pub agreed-reply : (E : Type 0) (taken : ClientReply) (before after : Client)
-    (old new : Option Bytes) → IsNext {E = E} before.dialogue (Ok (Some taken)) after.dialogue
-    → IfSome old (λ input. IfSome new (λ left.
-    TakesReply (before.replies.bytes ++ input) (content taken.reply) (after.replies.bytes ++ left)))
-    → MayBeginTls after → IfSome old (λ input. IfSome new (λ left. (lines : List Bytes)
-    × TakesReply (before.replies.bytes ++ input) (234, lines) left))
-agreed-reply E taken before after None new is takes may = tt
-agreed-reply E taken before after (Some input) None is takes may = tt
-agreed-reply E taken before after (Some input) (Some left) is takes may =
-    let agreed : agrees (next_to before.dialogue) taken.reply.code ≡ true =
-    ap (λ d. d.agreed) (sym is.1) ∙ may.0 in
-    let code = code-agrees (next_to before.dialogue) taken.reply.code agreed in (
-      (content taken.reply).1,
-      rw code at (rw may.2 at takes),
     )

@@ -1,15 +1,19 @@
 -- What a search that goes byte by byte finds.
 use Rattle.std.proofs.Common.{◌≡◌, ◌≢◌, ℕ, zero, suc, ◌+◌, ◌-◌, ◌<◌, ◌≤◌, Bool, true, false, List, [], ◌∷◌, ◌++◌, ◌⊎◌, length, take, drop, Option, Some, None, refl, sym, ap, ◌∙◌, inl, inr, arith, length-drop, ne_eqb, eqb-true}
-use Rattle.std.specs.Prelude.{slice_index, position, option_map, MatchOption, nat_lt, not, cond, ◌||◌}
+use Rattle.std.specs.Prelude.{slice_index, position, option_map, nat_lt, not, cond, ◌||◌}
 use Rattle.std.proofs.lemmas.Bool.{cases_lt, lt-ltb, ltb-true}
-use Rattle.std.proofs.lemmas.List.{take_more}
+use Rattle.std.proofs.lemmas.List.{take_more, get_or-take, length-take-le}
 use Rattle.std.proofs.lemmas.List.Quantifiers.{position-Some}
 use Rattle.std.specs.List.{position_or_len}
 use Rattle.std.proofs.lemmas.Grind.{common_steps}
 use Rattle.std.proofs.lemmas.List.Sums.{position_or_len_is, prefix_len_passes}
 use Rattle.unftp_control_defs.specs.Bytes.{Bytes, LF, Lacks}
 use Rattle.unftp_control_defs.specs.Events.{exceeds}
-use Rattle.unftp_control_codecs.specs.LineFeed.{NoLineFeed, is_line_feed, line_feed_from}
+use Rattle.unftp_control_codecs.specs.LineFeed.{is_line_feed, line_feed_from}
+
+-- there is no line feed from i up to j
+abbrev pub NoLineFeed : List ℕ → ℕ → ℕ → Type 0
+NoLineFeed bytes i j = (k : ℕ) → i ≤ k → k < j → is_line_feed (slice_index bytes k) ≡ false
 
 slice_index-drop : (bytes : List ℕ) (from k : ℕ)
     → slice_index (drop from bytes) k ≡ slice_index bytes (from + k)
@@ -73,24 +77,6 @@ none_between bytes i place k before later j low high = by_place (cases_lt j plac
     by_place (inl below) = before j low below
     by_place (inr above) = later j above high
 
--- a search that begins later, where there is none before
-pub found_later : (bytes : List ℕ) (from at k : ℕ) → from ≤ at → NoLineFeed bytes from at
-    → line_feed_from bytes at ≡ Some k → line_feed_from bytes from ≡ Some k
-found_later bytes from at k le before h =
-    let is = line_feed_at bytes at k h in
-    line_feed_from_Some bytes from (omega (arith, is.0)) is.1
-    (none_between bytes from at k before is.3) (eqb-true (slice_index bytes k) LF is.2)
-
-pub found_in_rest : (bytes : List ℕ) (from at n : ℕ) (r : Option ℕ) → from ≤ at
-    → at + n ≡ length bytes → NoLineFeed bytes from at
-    → MatchOption r (NoLineFeed bytes at (at + n)) (λ k. line_feed_from bytes at ≡ Some k)
-    → r ≡ line_feed_from bytes from
-found_in_rest bytes from at n None le whole before none = sym (line_feed_from_None bytes from
-    (omega (arith, le, whole))
-    (none_between bytes from at (length bytes) before (rw whole at none)))
-found_in_rest bytes from at n (Some k) le whole before found =
-    sym (found_later bytes from at k le before found)
-
 unmapped : (from : ℕ) (o : Option ℕ) → option_map (λ i. from + i) o ≡ None → o ≡ None
 unmapped from None h = refl
 unmapped from (Some i) h = absurd (cc)
@@ -149,3 +135,39 @@ unskipped false x h = (refl, h)
 pub longer : (limit : Option ℕ) (m n : ℕ) → exceeds limit m ≡ true → m ≤ n → exceeds limit n ≡ true
 longer None m n h le = absurd (cc)
 longer (Some limit) m n h le = lt-ltb limit n (omega (arith, ltb-true limit m h))
+
+-- ---- a search in the first n bytes
+
+module _ (bytes : List ℕ) (n : ℕ) (within : n ≤ length bytes) where
+  length-front : length (take n bytes) ≡ n
+  length-front = length-take-le n bytes within
+
+  pub none_in_front : (i j : ℕ) → j ≤ n → NoLineFeed bytes i j → NoLineFeed (take n bytes) i j
+  none_in_front i j le none k low high =
+      rw (get_or-take n bytes k 0 (omega arith)) (none k low high)
+
+  pub none_in_whole : (i j : ℕ) → j ≤ n → NoLineFeed (take n bytes) i j → NoLineFeed bytes i j
+  none_in_whole i j le none k low high =
+      rw (get_or-take n bytes k 0 (omega arith)) at (none k low high)
+
+  -- where there is none before it, what it finds is found from an earlier place
+  module _ (from at : ℕ) (le : from ≤ at) (before : NoLineFeed bytes from at) where
+    pub found_earlier : (k : ℕ) → line_feed_from (take n bytes) at ≡ Some k
+        → line_feed_from bytes from ≡ Some k
+    found_earlier k h =
+        let is = line_feed_at (take n bytes) at k h in
+        let below : k < n = omega (arith, is.1, length-front) in
+        line_feed_from_Some bytes from (omega (arith, is.0)) (omega (arith, below))
+        (none_between bytes from at k before (none_in_whole at k (omega (arith, below)) is.3))
+        (eqb-true (slice_index bytes k) LF (rw (get_or-take n bytes k 0 below) at is.2))
+
+    pub none_earlier : line_feed_from (take n bytes) at ≡ None → NoLineFeed bytes from n
+    none_earlier h = none_between bytes from at n before
+        (none_in_whole at n (omega arith) (λ k low high.
+        line_feed_nowhere (take n bytes) at h k low (omega (arith, length-front))))
+
+    pub found_at_end : from ≤ length bytes → n ≡ length bytes → (r : Option ℕ)
+        → r ≡ line_feed_from (take n bytes) at → r ≡ line_feed_from bytes from
+    found_at_end low whole None h =
+        sym (line_feed_from_None bytes from low (rw whole at (none_earlier (sym h))))
+    found_at_end low whole (Some k) h = sym (found_earlier k (sym h))

@@ -1,14 +1,13 @@
 //! The one way by which the codec scans a byte for a line feed.
-ghost use Rattle.std.specs.Prelude.{◌≡◌, ◌+◌, ◌-◌, ◌<◌, ◌≤◌, length, slice_index, Some, MatchOption};
-ghost use Rattle.unftp_control_codecs.specs.LineFeed.{NoLineFeed, line_feed_from};
+ghost use Rattle.std.specs.Prelude.{◌≡◌, ◌+◌, ◌-◌, ◌<◌, ◌≤◌, length, take, slice_index, MatchOption};
+ghost use Rattle.unftp_control_codecs.specs.LineFeed.{line_feed_from};
 
 use std::marker::Model;
 use unftp_control_defs::count::Count;
 
 const LINE_FEED: u8 = b'\n';
 
-/// How many bytes are read in a row. The compiler writes a loop over so many out, which makes it
-/// more than twice as fast.
+/// How many bytes are scanned in a row: the compiler unrolls a loop over so many.
 const GROUP: usize = 4;
 
 /// How many bytes were scanned, a number that only contracts see.
@@ -106,9 +105,7 @@ impl<'a, 'c> Scan<'a, 'c> {
     #[inline(always)]
     fn line_feed_among(&mut self, from: usize, count: usize) -> Option<usize>
         requires { from + count ≤ length self.old.bytes.now }
-        ensures found { MatchOption result
-            (NoLineFeed self.old.bytes.now from (from + count))
-            (λ k. line_feed_from self.old.bytes.now from ≡ Some k) }
+        ensures found { result ≡ line_feed_from (take (from + count) self.old.bytes.now) from }
         ensures tests { MatchOption result
             (self.new.tests.now ≡ self.old.tests.now + count)
             (λ k. self.new.tests.now ≡ self.old.tests.now + (k + 1 - from)) }

@@ -13,10 +13,10 @@ use Rattle.unftp_control_defs.specs.Outcome.{outcome}
 use Rattle.unftp_control_defs.proofs.LackLemmas.{Lacks-append}
 use Rattle.unftp_control_line_parser.specs.Memory.{MayTakeMemory}
 use Rattle.unftp_control_codecs.specs.Codec.{Codec, is_too_long}
-use Rattle.unftp_control_codecs.specs.LineFeed.{NoLineFeed, line_feed_from}
+use Rattle.unftp_control_codecs.specs.LineFeed.{line_feed_from}
 use Rattle.unftp_control_codecs.specs.Decoding.{Decoded, Decodes, FindsNone, SkipsAll, CutsLine, KeepsLine, IfTooLong, AnswersNone, AnswersLine, IsOutOfMemory, parser_out_of_memory, returned_event}
 use Rattle.unftp_control_codecs.proofs.MemoryLemmas.{ran_out}
-use Rattle.unftp_control_codecs.proofs.LineFeedLemmas.{line_feed_at, line_feed_nowhere, lacks_upto, none_below, none_between, lf_at, unskipped, longer}
+use Rattle.unftp_control_codecs.proofs.LineFeedLemmas.{NoLineFeed, line_feed_at, line_feed_nowhere, lacks_upto, none_below, none_between, lf_at, unskipped, longer}
 use Rattle.unftp_control_serve.specs.declared.event.Event.{Event}
 use Rattle.unftp_control_serve.specs.Decoder.{kept_length}
 use Rattle.unftp_control_serve.specs.EventMeaning.{event_meant, refuses_length}

@@ -13,8 +13,8 @@ use Rattle.unftp_control_defs.specs.Outcome.{outcome}
 use Rattle.unftp_control_defs.proofs.LackLemmas.{Lacks-append}
 use Rattle.unftp_control_defs.proofs.LineLemmas.{events-incomplete}
 use Rattle.unftp_control_defs.proofs.TakenEventLemmas.{TakesEvent-events}
-use Rattle.unftp_control_codecs.specs.LineFeed.{NoLineFeed, is_line_feed, line_feed_from}
-use Rattle.unftp_control_codecs.proofs.LineFeedLemmas.{line_feed_at, line_feed_nowhere, lacks_upto, none_below, none_between, lf_at, unskipped, longer}
+use Rattle.unftp_control_codecs.specs.LineFeed.{is_line_feed, line_feed_from}
+use Rattle.unftp_control_codecs.proofs.LineFeedLemmas.{NoLineFeed, line_feed_at, line_feed_nowhere, lacks_upto, none_below, none_between, lf_at, unskipped, longer}
 use Rattle.unftp_control_c.specs.declared.status.Status.TheVariants.{More, OutOfMemory}
 use Rattle.unftp_control_c.specs.Next.{Call, Left, Leaves, answered, by_line_feed, ended, gives, incomplete, is_long, is_valid, kept, line_limit, name_of, next_of, resumed, area_text, value_of_command}
 use Rattle.unftp_control_c.specs.Numbers.{status_number}

@@ -1,5 +1,5 @@
 use Rattle.std.proofs.Common.{◌≡◌, ◌≤◌, ◌+◌, ◌-◌, length}
-use Rattle.unftp_control_codecs.specs.LineFeed.{NoLineFeed}
+use Rattle.unftp_control_codecs.proofs.LineFeedLemmas.{NoLineFeed}
 use Rattle.unftp_control_codecs.proofs.scan.Scan.find_line_feed.Given as goal
 
 abbrev pub invariant-loop-self : goal.invariant-loop-self

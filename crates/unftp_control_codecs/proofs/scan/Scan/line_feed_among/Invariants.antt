@@ -1,5 +1,5 @@
 use Rattle.std.proofs.Common.{◌≡◌, ◌+◌}
-use Rattle.unftp_control_codecs.specs.LineFeed.{NoLineFeed}
+use Rattle.unftp_control_codecs.proofs.LineFeedLemmas.{NoLineFeed}
 use Rattle.unftp_control_codecs.proofs.scan.Scan.line_feed_among.Given as goal
 
 abbrev pub invariant-loop-index : goal.invariant-loop-index
