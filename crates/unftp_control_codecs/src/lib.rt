@@ -254,7 +254,10 @@ impl FtpCodec {
         ensures no_memory { reply_of reply ≡ Nothing → IsOk result }
         ensures codec { self.new ≡ self.old }
     {
-        encode_reply(&reply, buf)
+        let appended = append_reply(&reply, buf);
+        // the result is large, and would be copied where the reply were dropped after it
+        drop(reply);
+        Ok(appended?)
     }
 }
 
@@ -268,12 +271,7 @@ pub fn encode_reply(reply: &Reply, buf: &mut Vec<u8>) -> Result<(), ControlChanE
     ensures memory { IfErr result (λ error. fault_of error ≡ out_of_memory) }
     ensures no_memory { reply_of reply.now ≡ Nothing → IsOk result }
 {
-    let length = buf.len();
-    if let Err(refused) = append_reply(reply, buf) {
-        buf.truncate(length);
-        return Err(refused.into());
-    }
-    Ok(())
+    Ok(append_reply(reply, buf)?)
 }
 
 /// The codec's answer for a line that the parser answered so.

@@ -60,7 +60,7 @@ module _ (digits : Bytes) (code : ℕ) (spells : SpellsCode digits code) where
               let clash : false ≡ true = sym f ∙ d in cc
 
 -- 100 to 999 are written as three digits
-decimal_spells : (code : ℕ) → HasThreeDigits code → SpellsCode (decimal code) code
+pub decimal_spells : (code : ℕ) → HasThreeDigits code → SpellsCode (decimal code) code
 decimal_spells code h =
     let tens : 10 ≤ code = omega arith in
     let fits : code < 2 ^ 64 = omega arith in
