@@ -191,9 +191,13 @@ fn other(alloc: Global, name: &str, parameter: &[u8]) -> Answer
     ensures { Returns
         (value_answer (any_text (Other (upper name.now))) (value_of parameter.now)) result }
 {
-    let value = parameter_value(alloc, parameter)?;
+    let arguments = if has_no_value(parameter) {
+        String::new(alloc)
+    } else {
+        text(alloc, parameter_value(alloc, parameter)?)?
+    };
     Ok(Command::Other {
-        arguments: text(alloc, value)?,
         command_name: upper_cased(alloc, name)?,
+        arguments,
     })
 }
