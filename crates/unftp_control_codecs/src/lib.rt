@@ -24,7 +24,7 @@ use unftp_control_defs::buffer::remove_front;
 use unftp_control_defs::count::Count;
 use unftp_control_line_parser::parse;
 use unftp_control_reply::Reply;
-use unftp_control_reply::error::{ControlChanError, ControlChanErrorKind, ParseError};
+use unftp_control_reply::error::{ControlChanError, ControlChanErrorKind, ParseErrorKind};
 
 /// Decodes the commands of a control connection, and encodes its replies.
 ///
@@ -171,18 +171,24 @@ impl FtpCodec {
         let Some(end) = scan.find_line_feed(self.place) else {
             return (self.drop_or_keep(bytes.len()), Ok(None));
         };
-        let answer = if self.is_too_long(end) {
-            Err(ControlChanErrorKind::LineTooLong.into())
-        } else {
-            let (line, _) = bytes.split_at(end + 1);
-            decoded(parse(alloc, line))
-        };
-        if is_out_of_memory(&answer) {
-            return (0, answer);
+        if self.is_too_long(end) {
+            self.reset();
+            return (end + 1, Err(ControlChanErrorKind::LineTooLong.into()));
         }
-        self.place = 0;
-        self.skipping = false;
-        (end + 1, answer)
+        let (line, _) = bytes.split_at(end + 1);
+        match parse(alloc, line) {
+            Ok(command) => {
+                self.reset();
+                (end + 1, Ok(Some(command)))
+            }
+            Err(error) if matches!(error.kind(), ParseErrorKind::OutOfMemory) => {
+                (0, Err(error.into()))
+            }
+            Err(error) => {
+                self.reset();
+                (end + 1, Err(error.into()))
+            }
+        }
     }
 
     /// Whether the first line is too long, where so many bytes come before its line feed.
@@ -272,26 +278,4 @@ pub fn encode_reply(reply: &Reply, buf: &mut Vec<u8>) -> Result<(), ControlChanE
     ensures no_memory { reply_of reply.now ≡ Nothing → IsOk result }
 {
     Ok(append_reply(reply, buf)?)
-}
-
-/// The codec's answer for a line that the parser answered so.
-fn decoded(answer: Result<Command, ParseError>) -> Result<Option<Command>, ControlChanError>
-    ensures { MatchResult answer
-        (λ command. result ≡ Ok (Some command))
-        (λ error. result ≡ Err (record { kind = converted error; source = Parse error })) }
-{
-    match answer {
-        Ok(command) => Ok(Some(command)),
-        Err(error) => Err(error.into()),
-    }
-}
-
-/// Whether the answer is that memory ran out.
-fn is_out_of_memory(answer: &Result<Option<Command>, ControlChanError>) -> bool
-    ensures { IsTrue result ↔ IsOutOfMemory answer.now }
-{
-    match answer {
-        Ok(_) => false,
-        Err(error) => matches!(error.kind(), ControlChanErrorKind::OutOfMemory),
-    }
 }
