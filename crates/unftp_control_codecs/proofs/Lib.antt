@@ -2,3 +2,4 @@ pub mod LineFeedLemmas
 pub mod CallLemmas
 pub mod MemoryLemmas
 pub mod EncodingLemmas
+pub mod FirstLineLemmas

@@ -8,6 +8,7 @@ ghost use Rattle.unftp_control_reply.specs.ErrorMeaning.{converted, fault_of};
 ghost use Rattle.unftp_control_reply.specs.declared.error.Source.TheVariants.{Parse};
 ghost use Rattle.unftp_control_reply.specs.ReplyMeaning.{reply_of};
 ghost use Rattle.unftp_control_codecs.specs.Codec.{is_too_long, new_codec};
+ghost use Rattle.unftp_control_codecs.specs.FirstLine.{first_line, goes_on};
 ghost use Rattle.unftp_control_codecs.specs.Decoding.{Decodes, IsOutOfMemory};
 
 mod encoding;
@@ -55,6 +56,26 @@ impl Model for FtpCodec {
     } };
 
     ghost invariant = { λ codec. IsTrue codec.skipping → codec.place ≡ 0 };
+}
+
+/// What a codec finds at the start of its bytes.
+#[derive(Clone, Copy)]
+pub enum FirstLine {
+    /// No line is complete.
+    Incomplete {
+        /// How many bytes are dropped: all, where the line is longer than the limit already.
+        dropped: usize,
+    },
+    /// A line is complete, and longer than the limit.
+    TooLong {
+        /// How many bytes it has, its line feed counted.
+        length: usize,
+    },
+    /// A line is complete.
+    Complete {
+        /// How many bytes it has, its line feed counted.
+        length: usize,
+    },
 }
 
 impl FtpCodec {
@@ -167,28 +188,51 @@ impl FtpCodec {
             → self.new.tests + self.old.place ≡ self.old.tests + self.new.place + result.0 }
         ensures never_fewer { self.old.tests ≤ self.new.tests }
     {
-        let mut scan = Scan::over(bytes, &mut self.tests);
-        let Some(end) = scan.find_line_feed(self.place) else {
-            return (self.drop_or_keep(bytes.len()), Ok(None));
+        let length = match self.find_line(bytes) {
+            FirstLine::Incomplete { dropped } => return (dropped, Ok(None)),
+            FirstLine::TooLong { length } => {
+                return (length, Err(ControlChanErrorKind::LineTooLong.into()));
+            }
+            FirstLine::Complete { length } => length,
         };
-        if self.is_too_long(end) {
-            self.reset();
-            return (end + 1, Err(ControlChanErrorKind::LineTooLong.into()));
-        }
-        let (line, _) = bytes.split_at(end + 1);
+        let (line, _) = bytes.split_at(length);
         match parse(alloc, line) {
             Ok(command) => {
                 self.reset();
-                (end + 1, Ok(Some(command)))
+                (length, Ok(Some(command)))
             }
             Err(error) if matches!(error.kind(), ParseErrorKind::OutOfMemory) => {
                 (0, Err(error.into()))
             }
             Err(error) => {
                 self.reset();
-                (end + 1, Err(error.into()))
+                (length, Err(error.into()))
             }
         }
+    }
+
+    /// Finds the first line of `bytes` and leaves it to the caller to parse it: `decode_slice` is this
+    /// and `parse`. A line that is complete and not too long is found again by the next call, until
+    /// `reset` is called. No memory is taken.
+    ///
+    /// The scan offset has to be within `bytes`, as for `decode_slice`.
+    pub fn find_line(&mut self, bytes: &[u8]) -> FirstLine
+        requires { self.old.place ≤ length bytes.now }
+        ensures found { result ≡ first_line self.old bytes.now }
+        ensures codec { self.new ≡ goes_on self.old bytes.now }
+    {
+        let mut scan = Scan::over(bytes, &mut self.tests);
+        let Some(end) = scan.find_line_feed(self.place) else {
+            return FirstLine::Incomplete {
+                dropped: self.drop_or_keep(bytes.len()),
+            };
+        };
+        let length = end + 1;
+        if self.is_too_long(end) {
+            self.reset();
+            return FirstLine::TooLong { length };
+        }
+        FirstLine::Complete { length }
     }
 
     /// Whether the first line is too long, where so many bytes come before its line feed.
