@@ -2,7 +2,6 @@
 pub mod Numbers
 pub mod Areas
 pub mod Next
-pub mod Answered
 pub mod Taking
 pub mod Rows
 pub mod Replies

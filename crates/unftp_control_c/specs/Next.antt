@@ -141,6 +141,11 @@ LineMayTakeMemory call = (k : ℕ) × (is_valid call.connection (length call.byt
     × (line_feed_from call.bytes call.connection.offset ≡ Some k)
     × (is_long call.connection (k + 1) ≡ false) × MayTakeMemory (take (k + 1) call.bytes)
 
+-- what is left after a complete line that is not too long
+abbrev pub LeavesLine : Call → Bytes → Left → Type 0
+LeavesLine call line left = (left ≡ answered call (length line) (outcome line))
+    ⊎ (MayTakeMemory line × (left ≡ kept call OutOfMemory))
+
 abbrev pub Leaves : Call → Left → Type 0
 Leaves call left = (left ≡ next_of call)
     ⊎ (LineMayTakeMemory call × (left ≡ kept call OutOfMemory))

@@ -1,5 +1,5 @@
 -- The numbers that a caller in C gets; include/unftp_control.h has them by name.
-use Rattle.std.specs.Prelude.{ℕ, Bool, true, false, Some, None}
+use Rattle.std.specs.Prelude.{ℕ, Some, None}
 use Rattle.unftp_control_defs.specs.FtpCommand.{Refusal}
 use Rattle.unftp_control_defs.specs.FtpCommand as refusal
 use Rattle.unftp_control_defs.specs.Events.{Fault, FaultKind, FaultSource}
@@ -27,13 +27,6 @@ status_number NoLine = 108
 status_number Malformed = 109
 status_number UnknownCode = 110
 status_number InvalidArgument = 111
-
--- the pending bytes stay where it is reported
-abbrev pub keeps_bytes : Status → Bool
-keeps_bytes OutOfMemory = true
-keeps_bytes NoRoom = true
-keeps_bytes InvalidArgument = true
-keeps_bytes _ = false
 
 abbrev pub refusal_status : Refusal → Status
 refusal_status refusal.InvalidCommand = InvalidCommand

@@ -1,17 +1,16 @@
 //! The next event of the pending bytes.
-ghost use Rattle.std.specs.Prelude.{◌≡◌, ◌==◌};
+ghost use Rattle.std.specs.Prelude.{◌≡◌, ◌==◌, false};
 ghost use Rattle.unftp_control_defs.specs.Bytes.{Bytes};
 ghost use Rattle.unftp_control_command.specs.CommandMeaning.{command_of};
-ghost use Rattle.unftp_control_c.specs.Answered.{left_by, reported};
-ghost use Rattle.unftp_control_c.specs.Next.{Leaves, gives, is_valid, line_limit, no_lengths};
+ghost use Rattle.unftp_control_c.specs.Next.{Leaves, LeavesLine, gives, is_valid, line_limit, no_lengths, used_up};
 
 use crate::areas::overwrite_both;
-use crate::status::{Status, fault_status};
+use crate::status::{Status, kind_status};
 use itoa::Buffer;
 use std::alloc::Global;
-use unftp_control_codecs::FtpCodec;
+use unftp_control_codecs::{FirstLine, FtpCodec};
 use unftp_control_command::Command;
-use unftp_control_reply::error::ControlChanError;
+use unftp_control_line_parser::parse;
 use unftp_control_write::parts::parts_of;
 
 /// What a caller keeps of a connection: `struct unftp_connection` of include/unftp_control.h.
@@ -65,10 +64,19 @@ pub extern "C" fn unftp_next(
         return Status::InvalidArgument.number();
     }
     let mut codec = resume(connection);
-    let (taken, answer) = codec.decode_slice(alloc, bytes);
-    let number = leave(&answer, taken, &codec, connection, area, line);
-    drop(answer);
-    number
+    match codec.find_line(bytes) {
+        FirstLine::Incomplete { dropped } => {
+            report(Status::More, dropped, &codec, connection, line)
+        }
+        FirstLine::TooLong { length } => {
+            report(Status::LineTooLong, length, &codec, connection, line)
+        }
+        FirstLine::Complete { length } => {
+            let (front, _) = bytes.split_at(length);
+            codec.reset();
+            take_line(alloc, front, &codec, connection, area, line)
+        }
+    }
 }
 
 /// Whether the offset is within so many bytes, and is 0 while bytes are skipped.
@@ -97,38 +105,41 @@ fn resume(connection: &Connection) -> FtpCodec
     FtpCodec::resume(limit, connection.offset, connection.skipping == 1)
 }
 
-/// Leaves what the codec has answered, which is at its place after the bytes that it has taken.
-fn leave(
-    answer: &Result<Option<Command>, ControlChanError>,
-    taken: usize,
+/// Takes a complete line, after which the codec is at the start of the next.
+fn take_line(
+    alloc: Global,
+    bytes: &[u8],
     codec: &FtpCodec,
     connection: &mut Connection,
     area: &mut [u8],
     line: &mut Line,
 ) -> u32
-    requires { line.old ≡ no_lengths }
-    ensures { (bytes : Bytes) → record {
-      result = result;
-      connection = connection.new;
-      area = area.new;
-      line = line.new;
-    } ≡ left_by (record { connection = connection.old; bytes = bytes; area = area.old })
-        answer.now taken codec.now.place codec.now.skipping }
+    requires lengths { line.old ≡ no_lengths }
+    requires codec { (codec.now.place ≡ 0) × (codec.now.skipping ≡ false) }
+    ensures { (pending : Bytes) → LeavesLine
+        (record { connection = connection.old; bytes = pending; area = area.old }) bytes.now
+        (record {
+          result = result;
+          connection = connection.new;
+          area = area.new;
+          line = line.new;
+        }) }
 {
-    match answer {
-        Ok(command) => match command {
-            Some(command) => give(command, taken, connection, area, line),
-            None => report(Status::More, taken, codec, connection, line),
+    let answer = parse(alloc, bytes);
+    match &answer {
+        Ok(command) => give(command, bytes.len(), connection, area, line),
+        Err(error) => match kind_status(error.kind()) {
+            Status::OutOfMemory => Status::OutOfMemory.number(),
+            refused => report(refused, bytes.len(), codec, connection, line),
         },
-        Err(error) => report(fault_status(error), taken, codec, connection, line),
     }
 }
 
-/// Reports that no command was taken, and why. Where the bytes are used up, the connection goes on
-/// where the codec is.
+/// Reports why no command is given, after so many bytes are used up. The connection goes on where
+/// the codec is.
 fn report(
     status: Status,
-    taken: usize,
+    used: usize,
     codec: &FtpCodec,
     connection: &mut Connection,
     line: &mut Line,
@@ -139,14 +150,12 @@ fn report(
       connection = connection.new;
       area = area;
       line = line.new;
-    } ≡ reported (record { connection = connection.old; bytes = bytes; area = area }) status
-        taken codec.now.place codec.now.skipping }
+    } ≡ used_up (record { connection = connection.old; bytes = bytes; area = area }) status
+        used codec.now.place codec.now.skipping }
 {
-    if !status.keeps_bytes() {
-        line.used = taken;
-        connection.offset = codec.place();
-        connection.skipping = u32::from(codec.skipping());
-    }
+    line.used = used;
+    connection.offset = codec.place();
+    connection.skipping = u32::from(codec.skipping());
     status.number()
 }
 

@@ -1,9 +1,8 @@
 //! What a call reports to its caller.
 ghost use Rattle.std.specs.Prelude.{◌≡◌};
-ghost use Rattle.unftp_control_reply.specs.ErrorMeaning.{fault_of, source_meant};
-ghost use Rattle.unftp_control_c.specs.Numbers.{status_number, keeps_bytes, fault_status, forward_status, kind_status, line_status, source_status};
+ghost use Rattle.unftp_control_c.specs.Numbers.{status_number, forward_status, kind_status, line_status};
 
-use unftp_control_reply::error::{ControlChanError, ControlChanErrorKind, ParseErrorKind, Source};
+use unftp_control_reply::error::ParseErrorKind;
 use unftp_control_write::{ForwardError, WriteCommandError};
 
 /// What a call reports where it gives no command.
@@ -44,16 +43,6 @@ impl Status {
     {
         self as u32
     }
-
-    /// Whether no pending bytes are used up where this is reported.
-    pub fn keeps_bytes(self) -> bool
-        ensures { result ≡ keeps_bytes self }
-    {
-        matches!(
-            self,
-            Status::OutOfMemory | Status::NoRoom | Status::InvalidArgument
-        )
-    }
 }
 
 /// Why the parser refuses a line.
@@ -65,27 +54,6 @@ pub fn kind_status(kind: &ParseErrorKind) -> Status
         ParseErrorKind::InvalidUtf8 => Status::InvalidUtf8,
         ParseErrorKind::InvalidEol => Status::InvalidEol,
         ParseErrorKind::OutOfMemory => Status::OutOfMemory,
-    }
-}
-
-/// Why the codec refuses a line.
-pub fn fault_status(error: &ControlChanError) -> Status
-    ensures { result ≡ fault_status (fault_of error.now) }
-{
-    match error.kind() {
-        ControlChanErrorKind::OutOfMemory => Status::OutOfMemory,
-        ControlChanErrorKind::LineTooLong => Status::LineTooLong,
-        _ => source_status(error.source()),
-    }
-}
-
-/// Why the parser refuses it, where the parser does.
-fn source_status(source: &Source) -> Status
-    ensures { result ≡ source_status (source_meant source.now) }
-{
-    match source {
-        Source::Parse(refused) => kind_status(refused.kind()),
-        _ => Status::InvalidCommand,
     }
 }
 
