@@ -153,11 +153,11 @@ impl EventDecoder {
         ensures may_run_out { OnErr result (MayRunOut self.old) }
         ensures never_fewer { self.old.scanned ≤ self.new.scanned }
     {
-        let event = self.take_next();
-        if matches!(event, Ok(None)) {
+        let event = self.take_next()?;
+        if event.is_none() {
             self.settle();
         }
-        event
+        Ok(event)
     }
 
     /// Takes the first line, whose bytes stay in the buffer.
