@@ -111,9 +111,14 @@ module _ (call : Call) (valid : is_valid call.connection (length call.bytes) ≡
     where
       line : IsComplete (codec_of call) call.bytes n
       line = is_complete (codec_of call) call.bytes n e
+
       whole : length (take n call.bytes) ≡ n
-      whole = length-take-le n call.bytes (omega (arith, line.ends,
-          (line_feed_at call.bytes call.connection.offset line.end line.found).1))
+      whole = length-take-le n call.bytes (omega (
+        arith,
+        line.ends,
+        (line_feed_at call.bytes call.connection.offset line.end line.found).1,
+      ))
+
       next : next_of call ≡ answered call n (outcome (take n call.bytes))
       next = next_valid ∙ rw (line.found, sym line.ends, line.short) refl
 
