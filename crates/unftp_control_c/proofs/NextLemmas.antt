@@ -12,7 +12,6 @@ use Rattle.unftp_control_codecs.specs.declared.FirstLine.TheVariants.{Incomplete
 use Rattle.unftp_control_codecs.specs.Codec.{Codec}
 use Rattle.unftp_control_codecs.specs.FirstLine.{first_line, first_line_by, goes_on, goes_on_by}
 use Rattle.unftp_control_codecs.specs.LineFeed.{line_feed_from}
-use Rattle.unftp_control_codecs.proofs.FirstLineLemmas.{IsComplete, is_complete}
 use Rattle.unftp_control_codecs.proofs.LineFeedLemmas.{line_feed_at}
 use Rattle.std.proofs.lemmas.List.{length-take-le}
 use Rattle.unftp_control_c.specs.declared.status.Status.TheVariants.{More, LineTooLong, OutOfMemory}
@@ -107,24 +106,28 @@ module _ (call : Call) (valid : is_valid call.connection (length call.bytes) ≡
   -- a line that is complete and not too long
   pub complete_left : (n : ℕ) → Complete n ≡ first_line (codec_of call) call.bytes → (left : Left)
       → LeavesLine call (take n call.bytes) left → Leaves call left
-  complete_left n e left leaves = by_memory leaves
+  complete_left n e left leaves = by_feed feed refl e
     where
-      line : IsComplete (codec_of call) call.bytes n
-      line = is_complete (codec_of call) call.bytes n e
+      by_memory : (k : ℕ) → feed ≡ Some k → is_long call.connection (k + 1) ≡ false → n ≡ k + 1
+          → LeavesLine call (take n call.bytes) left → Leaves call left
+      by_memory k at short same (inl so) =
+          let within = (line_feed_at call.bytes call.connection.offset k at).1 in
+          let whole : length (take n call.bytes) ≡ n =
+          length-take-le n call.bytes (omega (arith, same, within)) in
+          let next : next_of call ≡ answered call (k + 1) (outcome (take (k + 1) call.bytes)) =
+          next_valid ∙ rw (at, short) refl in
+          inl (so ∙ rw (whole, same) (sym next))
+      by_memory k at short same (inr out) =
+          inr ((k, valid, at, short, rw (sym same) out.0), out.1)
 
-      whole : length (take n call.bytes) ≡ n
-      whole = length-take-le n call.bytes (omega (
-        arith,
-        line.ends,
-        (line_feed_at call.bytes call.connection.offset line.end line.found).1,
-      ))
+      by_long : (k : ℕ) → feed ≡ Some k → (long : Bool) → is_long call.connection (k + 1) ≡ long
+          → Complete n ≡ first_line_by (codec_of call) (length call.bytes) (Some k)
+          → Leaves call left
+      by_long k at true long e = absurd (let found = rw long at e in cc)
+      by_long k at false short e =
+          by_memory k at short (let found = rw short at e in cc) leaves
 
-      next : next_of call ≡ answered call n (outcome (take n call.bytes))
-      next = next_valid ∙ rw (line.found, sym line.ends, line.short) refl
-
-      by_memory : LeavesLine call (take n call.bytes) left → Leaves call left
-      by_memory (inl so) = inl (so ∙ rw whole (sym next))
-      by_memory (inr out) = inr (
-        (line.end, valid, line.found, rw (sym line.ends) line.short, rw (sym line.ends) out.0),
-        out.1,
-      )
+      by_feed : (o : Option ℕ) → feed ≡ o
+          → Complete n ≡ first_line_by (codec_of call) (length call.bytes) o → Leaves call left
+      by_feed None at e = absurd (cc)
+      by_feed (Some k) at e = by_long k at (is_long call.connection (k + 1)) refl e

@@ -2,4 +2,3 @@ pub mod LineFeedLemmas
 pub mod CallLemmas
 pub mod MemoryLemmas
 pub mod EncodingLemmas
-pub mod FirstLineLemmas

@@ -59,7 +59,7 @@ impl Model for FtpCodec {
 }
 
 /// What a codec finds at the start of its bytes.
-#[derive(Clone, Copy)]
+#[derive(Debug, Clone, Copy)]
 pub enum FirstLine {
     /// No line is complete.
     Incomplete {
@@ -216,7 +216,7 @@ impl FtpCodec {
     /// and not too long is found again by the next call, until `reset` is called. No memory is taken.
     ///
     /// The scan offset has to be within `bytes`, as for `decode_slice`.
-    // `decode_slice` doesn't call it, since that makes one byte in a piece take a quarter longer
+    // `decode_slice` doesn't call it: a byte that comes alone would take a third longer
     pub fn find_line(&mut self, bytes: &[u8]) -> FirstLine
         requires { self.old.place ≤ length bytes.now }
         ensures found { result ≡ first_line self.old bytes.now }
