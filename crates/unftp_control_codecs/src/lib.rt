@@ -216,7 +216,7 @@ impl FtpCodec {
     /// and not too long is found again by the next call, until `reset` is called. No memory is taken.
     ///
     /// The scan offset has to be within `bytes`, as for `decode_slice`.
-    // `decode_slice` doesn't call it: a byte that comes alone would take a third longer
+    // `decode_slice` doesn't call it: a piece of one byte would take a third longer
     pub fn find_line(&mut self, bytes: &[u8]) -> FirstLine
         requires { self.old.place ≤ length bytes.now }
         ensures found { result ≡ first_line self.old bytes.now }
