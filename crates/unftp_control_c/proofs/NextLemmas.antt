@@ -14,6 +14,7 @@ use Rattle.unftp_control_codecs.specs.FirstLine.{first_line, first_line_by, goes
 use Rattle.unftp_control_codecs.specs.LineFeed.{line_feed_from}
 use Rattle.unftp_control_codecs.proofs.LineFeedLemmas.{line_feed_at}
 use Rattle.std.proofs.lemmas.List.{length-take-le}
+use Rattle.unftp_control_c.specs.declared.next.Connection.{Connection}
 use Rattle.unftp_control_c.specs.declared.status.Status.TheVariants.{More, LineTooLong, OutOfMemory}
 use Rattle.unftp_control_c.specs.Numbers.{fault_status, kind_status, refusal_status}
 use Rattle.unftp_control_c.specs.Next.{Call, Left, Leaves, LeavesLine, answered, by_line_feed, is_long, is_valid, line_limit, next_of, used_up}
@@ -23,6 +24,9 @@ pub status_of_refusal : (refusal : Refusal) → fault_status (refusal_fault refu
 status_of_refusal InvalidCommand = refl
 status_of_refusal InvalidUtf8 = refl
 status_of_refusal InvalidEol = refl
+
+abbrev pub call_with : Connection → Bytes → Bytes → Call
+call_with connection bytes area = record { connection = connection; bytes = bytes; area = area }
 
 -- the codec that goes on where the caller's last call stopped
 abbrev pub codec_of : Call → Codec

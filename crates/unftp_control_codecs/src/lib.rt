@@ -213,7 +213,8 @@ impl FtpCodec {
     }
 
     /// Finds the first line of `bytes` and leaves it to the caller to parse it. A line that is complete
-    /// and not too long is found again by the next call, until `reset` is called. No memory is taken.
+    /// and not too long is found again by the next call, until `reset` is called; after any other the
+    /// codec goes on as after `decode_slice`. No memory is taken.
     ///
     /// The scan offset has to be within `bytes`, as for `decode_slice`.
     // `decode_slice` doesn't call it: a piece of one byte would take a third longer

@@ -2,17 +2,12 @@ use Rattle.std.proofs.Common.{◌≡◌, ap, inl, subst, sym, ◌∙◌}
 use Rattle.unftp_control_defs.specs.Outcome.{outcome}
 use Rattle.unftp_control_line_parser.specs.ParseAnswer.{Returns}
 use Rattle.unftp_control_c.specs.Numbers.{kind_status}
-use Rattle.unftp_control_c.specs.Next.{Call}
-use Rattle.unftp_control_c.proofs.NextLemmas.{refused_left}
+use Rattle.unftp_control_c.proofs.NextLemmas.{call_with, refused_left}
 use Rattle.unftp_control_c.proofs.next.take_line.Goals as goal
 
 pub returns : goal.returns
 returns c = λ pending.
-    let call : Call = record {
-      connection = c.args.connection.now;
-      bytes = pending;
-      area = c.args.area.now;
-    } in
+    let call = call_with c.args.connection.now pending c.args.area.now in
     let bytes = c.args.bytes.now in
     let status : c.kind_status.result ≡ kind_status c.in-Err.error =
     c.kind_status.ensures ∙ ap kind_status c.kind.ensures in
