@@ -384,14 +384,14 @@ def wants_numbers(what, found, expected):
 
 
 def check_codes():
-    """The codes of ReplyCode are those that docs/REPLIES.md lists; those of three digits, and the others that it names, are the header's."""
+    """The codes of ReplyCode are those that docs/REFERENCE.md lists; those of three digits, and the others that it names, are the header's."""
     codes = numbers_in("crates/unftp_control_reply/src/code.rt", r"^    (\w+) = (\d+),$")
-    wants_numbers("the table of REPLIES.md", numbers_in("docs/REPLIES.md", r"\b(\d+) `(\w+)`"), codes)
-    others = numbers_in("docs/REPLIES.md", r"^\| (\d{3}) \| `(\w+)` \|")
+    wants_numbers("the table of REFERENCE.md", numbers_in("docs/REFERENCE.md", r"\b(\d+) `(\w+)`"), codes)
+    others = numbers_in("docs/REFERENCE.md", r"^\| (\d{3}) \| `(\w+)` \|")
     named = {name: number for name, number in codes.items() if number >= 100} | others
     wants_numbers("enum unftp_code", numbers_in("include/unftp_control.h", r"^    UNFTP_CODE_(\w+) = (\d+)"), named)
     if not others or len({*codes.values(), *others.values()}) != len(codes) + len(others):
-        raise Wrong("REPLIES.md names no other code, or one twice")
+        raise Wrong("REFERENCE.md names no other code, or one twice")
     return f"{len(named)} codes of replies"
 
 

@@ -12,6 +12,8 @@ OUT = TOP / "crates/unftp_control_c/out"
 COMPILED = "libunftp_control_c.a"
 STATIC = "libunftp_control.a"
 SHARED = "libunftp_control.so"
+# a cell without text in a page of the manual
+EMPTY = r"\&"
 
 
 def header():
@@ -28,6 +30,12 @@ def version():
 def calls():
     """The functions that the header declares, but does not define."""
     return re.findall(r"^(?:enum unftp_result|uint32_t) (unftp_\w+)\([^{;]*\;", header(), re.M)
+
+
+def listed(pattern):
+    """Constants of the header with their numbers and what their comments say, as the items of a list in the manual."""
+    rows = re.findall(rf"^    ({pattern}) = (\d+),? *(?:/\* (.*?) \*/)?$", HEADER.read_text(encoding="utf-8"), re.M)
+    return "\n".join(f".It Dv {name} Ta {number} Ta {words or EMPTY}" for name, number, words in rows)
 
 
 def series():
@@ -110,7 +118,8 @@ def texts(prefix, libdir):
     found = {f"include/{HEADER.name}": HEADER.read_bytes(), f"{libdir}/pkgconfig/unftp_control.pc": filled("unftp_control.pc", **words)}
     for name in ["unftp_control-config.cmake", "unftp_control-config-version.cmake"]:
         found[f"{libdir}/cmake/unftp_control/{name}"] = filled(name, **words)
-    found["share/man/man3/unftp_control.3"] = filled("unftp_control.3")
+    lists = {"COMMANDS": listed(r"UNFTP_(?!CODE_)(?!DONE)\w+"), "CODES": listed(r"UNFTP_CODE_\w+")}
+    found["share/man/man3/unftp_control.3"] = filled("unftp_control.3", **lists)
     return found
 
 
