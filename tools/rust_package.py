@@ -2,7 +2,11 @@
 """Makes the checks of tools/rust_package that are no test of the package itself, most of them on its server.
 
 usage: tools/rust_package.py codes              the package's codes of replies are the header's
+       tools/rust_package.py words              the names that its Debug texts show are those that a log shows
        tools/rust_package.py memory PRELOAD REPLAY     the answer at each failed allocation: PRELOAD is tools/fail_allocation.c
+       tools/rust_package.py version REPLAY     each call over a library of another version, 9.9.9
+       tools/rust_package.py arguments SERVER..      addresses, and what is no argument, of each of these servers
+       tools/rust_package.py descriptors SERVER..    a client for which no descriptor is left, of each
        tools/rust_package.py session SERVER     lines in pieces, bad ones among them
        tools/rust_package.py urgent SERVER      an ABOR whose end is urgent data
        tools/rust_package.py late SERVER        the last reply, whatever is sent after QUIT
@@ -25,7 +29,8 @@ import tempfile
 import threading
 import time
 
-from started_server import GREETING, HOST, PATIENCE, StartedServer, Wrong, receive, run_check, send_pieces, wants
+from started_server import (GREETING, HOST, PATIENCE, StartedServer, Wrong, has_ipv6, processor_time, receive, run_check, send_pieces, wants,
+                            without_descriptors)
 
 TOP = pathlib.Path(__file__).resolve().parent.parent
 LINE_LIMIT = 8192
@@ -54,6 +59,29 @@ def check_codes():
     return f"{len(found[0])} codes"
 
 
+def words_between(path, begin, end, pattern):
+    """What the pattern finds in a file from one text up to another."""
+    text = (TOP / path).read_text(encoding="utf-8")
+    if begin not in text:
+        raise Wrong(f"{path} has no {begin!r}")
+    return re.findall(pattern, text.split(begin, 1)[1].split(end, 1)[0])
+
+
+def check_words():
+    """The tables of shown.rs are those of LogLine.antt."""
+    log, shown = "crates/unftp_control_log/specs/LogLine.antt", "bindings/rust/src/shown.rs"
+    verbs = words_between(log, "\nfurther_verbs =", "[]", r'codes "(\w+)"')
+    subcommands = words_between(log, "\nsite_words =", "[]", r'codes "(\w+)", (true|false)')
+    for name, wanted in [
+        ("VERBS", verbs),
+        ("PLAIN_SUBCOMMANDS", [name for name, plain in subcommands if plain == "true"]),
+        ("OTHER_SUBCOMMANDS", [name for name, plain in subcommands if plain == "false"]),
+    ]:
+        wants(name, sorted(words_between(shown, f"const {name}:", ";\n", r'"(\w+)"')), sorted(wanted))
+        wants(f"whether there are {name}", len(wanted) > 0, True)
+    return f"{len(verbs)} verbs and {len(subcommands)} subcommands of SITE"
+
+
 CASE, ANSWER = 'parse\t"RETR a\\r\\0b\\r\\n"\n', 'ok Retr path="a\\rb"\n'
 
 
@@ -74,6 +102,71 @@ def check_memory(preload, program):
         number += 1
     wants("whether an allocation of the library failed", errors > 1, True)
     return f"{errors} times out of memory, and {ended} times in Rust itself"
+
+
+CALLS = ['parse\t"NOOP\\r\\n"', 'encode\tmsg\t200\t"OK"', 'read\t"220 a\\r\\n"', 'canonical\t"NOOP\\r\\n"', 'forward\t"NOOP\\r\\n"']
+
+
+def check_version(program):
+    """Each call ends before it is made."""
+    for case in CALLS:
+        run = subprocess.run([program], input=case + "\n", capture_output=True, text=True, timeout=PATIENCE)
+        said = "linked with a library of version 9.9.9, and needs 0.1.0 or later, and before 0.2.0" in run.stderr
+        wants(f"{case} ends with", (run.returncode, run.stdout, said), (101, "", True))
+    return f"{len(CALLS)} calls"
+
+
+def wants_usage(program, *words):
+    """These words are no arguments: a line says what are, and the status is 2."""
+    run = subprocess.run([program, *words], capture_output=True, text=True, timeout=PATIENCE)
+    wants(f"with {words}", (run.returncode, run.stdout, run.stderr.count("\n")), (2, "", 1))
+    wants(f"the usage with {words}", run.stderr.startswith(f"usage: {pathlib.Path(program).name} "), True)
+
+
+def check_arguments(*programs):
+    """All that are servers take a port. That of server.rs may have an address before it."""
+    for program in programs:
+        for word in ["70000", "-1", "port", "", "65536", "0x50"]:
+            wants_usage(program, word)
+    for words in [["0", "x"], ["0", "1", "-1"], ["0", "1", "1", "1"], ["0", "4294967296"], ["[::1]"], ["::1"], ["127.0.0.256:0"]]:
+        wants_usage(programs[0], *words)
+    addresses = ["127.0.0.2"] + (["::1"] if has_ipv6() else [])
+    for address in addresses:
+        with StartedServer([programs[0], f"[{address}]:0" if ":" in address else f"{address}:0"]) as server:
+            with socket.create_connection((address, server.port), PATIENCE) as connection:
+                wants(f"the greeting at {address}", receive(connection, len(GREETING)), GREETING)
+    taken = subprocess.run([programs[0], "192.0.2.1:0"], capture_output=True, text=True, timeout=PATIENCE)
+    wants("an address of another machine", (taken.returncode, taken.stderr[:20]), (1, "server: 192.0.2.1:0:"))
+    return f"it listens on {' and '.join(addresses)}"
+
+
+def check_waiting(program):
+    """While no descriptor is left for a client, it waits, and the server takes hardly a processor. Then it is served."""
+    named = ["sh", "-c", 'echo $$ >&2; exec "$@"', "sh", program, "0"]  # the process that sh was is the server
+    with tempfile.TemporaryFile() as said, StartedServer(named, said) as server, server.greeted() as beside:
+        said.seek(0)
+        pid = int(said.readline())
+        with without_descriptors(pid):
+            taken = processor_time(pid)
+            waiting = server.connect()
+            waiting.settimeout(1)
+            try:
+                raise Wrong(f"a client has {waiting.recv(1)!r} where no descriptor is left")
+            except TimeoutError:
+                pass
+            beside.sendall(b"NOOP\r\n")
+            wants("the reply beside it", receive(beside, len(OK)), OK)
+            taken = processor_time(pid) - taken
+        with waiting:
+            waiting.settimeout(PATIENCE)
+            wants("the greeting", receive(waiting, len(GREETING)), GREETING)
+    wants("whether a second without descriptors took less than a quarter of a processor", taken < 0.25, True)
+
+
+def check_descriptors(*programs):
+    for program in programs:
+        check_waiting(program)
+    return f"a client of each of {len(programs)} servers waits"
 
 
 SESSION = [
@@ -252,7 +345,11 @@ def check_speed(program, count="100000", connections="4"):
 
 CHECKS = {
     "codes": check_codes,
+    "words": check_words,
     "memory": check_memory,
+    "version": check_version,
+    "arguments": check_arguments,
+    "descriptors": check_descriptors,
     "session": check_session,
     "urgent": check_urgent,
     "late": check_late,

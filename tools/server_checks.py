@@ -31,7 +31,7 @@ import threading
 import time
 
 from embedding import REPLIES, Server
-from started_server import GREETING, HOST, PATIENCE, Wrong, receive, run_check, wants
+from started_server import GREETING, HOST, PATIENCE, Wrong, processor_time, receive, run_check, wants
 
 NOOP, QUIT = b"NOOP\r\n", b"QUIT\r\n"
 OKAY, BYE = REPLIES["Noop"], REPLIES["Quit"]
@@ -114,12 +114,6 @@ def check_abort(program):
         said = [code_of(ftp.login, "anna", "secret"), code_of(ftp.abort), code_of(ftp.abort), code_of(ftp.quit)]
     wants("the replies", said, ["230", "502", "502", "221"])
     return "an ABOR with urgent data gets its reply"
-
-
-def processor_time(pid):
-    """How many seconds of a processor a process has taken."""
-    fields = pathlib.Path(f"/proc/{pid}/stat").read_text(encoding="ascii").rpartition(")")[2].split()
-    return (int(fields[11]) + int(fields[12])) / os.sysconf("SC_CLK_TCK")
 
 
 def check_descriptors(program):

@@ -1,11 +1,15 @@
 """A server that a check starts, what a client of it does, and how a check is run."""
 
+import contextlib
 import inspect
 import os
+import pathlib
+import resource
 import signal
 import socket
 import subprocess
 import sys
+import time
 
 HOST = "127.0.0.1"
 # how many seconds a server may run, and how long it and a client may take to answer
@@ -74,6 +78,41 @@ def send_pieces(connection, sent, size=None):
         connection.sendall(sent[:end])
         sent = sent[end:]
         turn += 1
+
+
+def has_ipv6():
+    """Whether the machine has the loopback address of IPv6."""
+    try:
+        with socket.create_server(("::1", 0), family=socket.AF_INET6):
+            return True
+    except OSError:
+        return False
+
+
+def processor_time(pid):
+    """How many seconds of a processor a process has taken."""
+    fields = pathlib.Path(f"/proc/{pid}/stat").read_text(encoding="ascii").rpartition(")")[2].split()
+    return (int(fields[11]) + int(fields[12])) / os.sysconf("SC_CLK_TCK")
+
+
+def open_descriptors(pid):
+    """How many descriptors a process has open, once the number stays the same for a while."""
+    found = []
+    while len(found) < 5 or len(set(found[-5:])) > 1:
+        time.sleep(0.05)
+        found.append(len(os.listdir(f"/proc/{pid}/fd")))
+    return found[-1]
+
+
+@contextlib.contextmanager
+def without_descriptors(pid, further=0):
+    """Lets a process open no further descriptor (EMFILE), or only so many, while this lasts."""
+    before = resource.prlimit(pid, resource.RLIMIT_NOFILE)
+    resource.prlimit(pid, resource.RLIMIT_NOFILE, (open_descriptors(pid) + further, before[1]))
+    try:
+        yield
+    finally:
+        resource.prlimit(pid, resource.RLIMIT_NOFILE, before)
 
 
 def run_check(checks, usage):

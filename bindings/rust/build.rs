@@ -1,7 +1,10 @@
-//! Finds the C library and links it: `libunftp_control.a`, and nothing else.
+//! Finds the C library and links it: `libunftp_control.a`, and nothing else. It builds no library.
 use std::env;
 use std::path::{Path, PathBuf};
 use std::process::Command;
+
+#[path = "src/version.rs"]
+mod version;
 
 const LIBRARY: &str = "libunftp_control.a";
 const VARIABLE: &str = "UNFTP_CONTROL_LIB";
@@ -15,8 +18,10 @@ fn main() {
     }
     let Some(folder) = named_folder().or_else(installed_folder).or_else(built_folder) else {
         panic!(
-            "{LIBRARY} is not found: install it so that `pkg-config unftp_control` finds it, or \
-             set {VARIABLE} to its folder."
+            "{LIBRARY}, {}, is not found: install it so that `pkg-config unftp_control` finds it, \
+             or set {VARIABLE} to its folder{}.",
+            version::needed(),
+            hint()
         );
     };
     println!("cargo:rerun-if-changed={}", folder.join(LIBRARY).display());
@@ -33,28 +38,55 @@ fn named_folder() -> Option<PathBuf> {
     Some(folder)
 }
 
-/// The folder that pkg-config knows.
+/// The folder that pkg-config knows, where the version fits.
 fn installed_folder() -> Option<PathBuf> {
-    let program = env::var_os("PKG_CONFIG").unwrap_or_else(|| "pkg-config".into());
-    let output =
-        Command::new(program).args(["--variable=libdir", "unftp_control"]).output().ok()?;
-    let folder = PathBuf::from(String::from_utf8(output.stdout).ok()?.trim());
-    (output.status.success() && folder.join(LIBRARY).is_file()).then_some(folder)
-}
-
-/// The folder in the repository that this package is in: the library is built there already, or is
-/// now, which takes minutes, where the toolchain is installed.
-fn built_folder() -> Option<PathBuf> {
-    let top = Path::new(&env::var_os("CARGO_MANIFEST_DIR")?).join("../..");
-    let folder = top.join("crates/unftp_control_c/out");
-    let tool = top.join("tools/c_library");
-    if !folder.join(LIBRARY).is_file() && tool.is_file() && has_toolchain() {
-        Command::new(tool).status().ok()?;
+    let installed = pkg_config("--modversion")?;
+    if !number(&installed).is_some_and(version::fits) {
+        println!(
+            "cargo:warning=pkg-config knows unftp_control {installed}, and not {}",
+            version::needed()
+        );
+        return None;
     }
+    let folder = PathBuf::from(pkg_config("--variable=libdir")?);
     folder.join(LIBRARY).is_file().then_some(folder)
 }
 
-fn has_toolchain() -> bool {
-    let path = env::var_os("PATH").unwrap_or_default();
-    env::split_paths(&path).any(|folder| folder.join("rt").is_file())
+/// What pkg-config says of the library.
+fn pkg_config(question: &str) -> Option<String> {
+    let program = env::var_os("PKG_CONFIG").unwrap_or_else(|| "pkg-config".into());
+    let output = Command::new(program).args([question, "unftp_control"]).output().ok()?;
+    let answer = String::from_utf8(output.stdout).ok()?;
+    output.status.success().then(|| answer.trim().to_string())
+}
+
+/// A version of three numbers below 1,000 as one number.
+fn number(version: &str) -> Option<u32> {
+    let parts: Vec<u32> =
+        version.split('.').map(|part| part.parse().ok()).collect::<Option<_>>()?;
+    match parts[..] {
+        [major, minor @ 0..=999, patch @ 0..=999] => {
+            major.checked_mul(1_000_000)?.checked_add(minor * 1_000 + patch)
+        }
+        _ => None,
+    }
+}
+
+/// Where `tools/c_library` puts it, in the repository that this package is in.
+fn built_folder() -> Option<PathBuf> {
+    let folder = top()?.join("crates/unftp_control_c/out");
+    folder.join(LIBRARY).is_file().then_some(folder)
+}
+
+fn top() -> Option<PathBuf> {
+    Some(Path::new(&env::var_os("CARGO_MANIFEST_DIR")?).join("../.."))
+}
+
+/// What else there is to do: only in that repository.
+fn hint() -> &'static str {
+    if top().is_some_and(|top| top.join("tools/c_library").is_file()) {
+        ", or run tools/c_library, which proves and builds it in minutes"
+    } else {
+        ""
+    }
 }

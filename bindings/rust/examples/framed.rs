@@ -1,6 +1,9 @@
-//! A server that knows NOOP and QUIT, under `Framed`: `framed [PORT]`.
+//! A server that knows NOOP and QUIT, under `Framed`: `framed [PORT]`. It bounds neither the time
+//! of a client nor their number; `server.rs` does.
 use futures_util::{SinkExt, StreamExt};
+use std::time::Duration;
 use tokio::net::{TcpListener, TcpStream};
+use tokio::time::sleep;
 use tokio_util::codec::Framed;
 use unftp_control::{CodecError, Command, Event, FtpCodec, Reply, ReplyCode};
 
@@ -21,11 +24,17 @@ async fn serve(stream: TcpStream) -> Result<(), CodecError> {
 
 #[tokio::main]
 async fn main() -> std::io::Result<()> {
-    let port = std::env::args().nth(1).map_or(2121, |port| port.parse().expect("a port"));
+    let Ok(port) = std::env::args().nth(1).map_or(Ok(2121), |port| port.parse::<u16>()) else {
+        eprintln!("usage: framed [PORT]");
+        std::process::exit(2);
+    };
     let listener = TcpListener::bind(("127.0.0.1", port)).await?;
     println!("{}", listener.local_addr()?.port());
     loop {
-        let (stream, _) = listener.accept().await?;
-        tokio::spawn(serve(stream));
+        match listener.accept().await {
+            Ok((stream, _)) => drop(tokio::spawn(serve(stream))),
+            // no file descriptor is left, or the like: the client stays in the queue
+            Err(_) => sleep(Duration::from_millis(100)).await,
+        }
     }
 }

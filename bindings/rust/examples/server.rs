@@ -1,8 +1,10 @@
-//! A small FTP control server on tokio: `server [PORT [IDLE_SECONDS [CONNECTIONS]]]`. It listens on
-//! 127.0.0.1 and prints its port as one line; where PORT is 0, the system picks one. Anybody may
-//! log in. TLS and data connections are left out.
+//! A small FTP control server on tokio: `server [PORT [IDLE_SECONDS [CONNECTIONS]]]`. PORT is a port
+//! of 127.0.0.1, or an address with a port, as `0.0.0.0:2121` or `[::1]:2121`. It prints its port as
+//! one line; where that is 0, the system picks one. Anybody may log in. TLS and data connections are
+//! left out.
 use bytes::BytesMut;
-use std::{env, io, io::ErrorKind, sync::Arc, time::Duration};
+use std::net::{Ipv4Addr, SocketAddr};
+use std::{env, io, io::ErrorKind, process::ExitCode, sync::Arc, time::Duration};
 use tokio::io::{copy, sink, AsyncWriteExt};
 use tokio::net::{TcpListener, TcpStream};
 use tokio::signal::unix::{signal, SignalKind};
@@ -91,16 +93,29 @@ async fn serve(mut tcp: TcpStream, places: Arc<Semaphore>, idle: Duration, mut s
     let _ = timeout(LINGER, closed).await;
 }
 
-#[tokio::main]
-async fn main() -> io::Result<()> {
-    let [port, idle, most] = [(1, 2121), (2, 300), (3, 100)].map(|(place, otherwise)| {
-        env::args().nth(place).map_or(otherwise, |text| text.parse::<u64>().expect("a number"))
-    });
-    let (idle, places) = (Duration::from_secs(idle), Arc::new(Semaphore::new(most as usize)));
+/// Where to listen, the idle limit and the number of connections: `None` where the words are wrong.
+fn options(words: &[String]) -> Option<(SocketAddr, Duration, usize)> {
+    let number = |place: usize, otherwise: u32| {
+        words.get(place).map_or(Some(otherwise), |word| word.parse().ok())
+    };
+    let address = match words.first() {
+        None => (Ipv4Addr::LOCALHOST, 2121).into(),
+        Some(word) => match word.parse::<u16>() {
+            Ok(port) => (Ipv4Addr::LOCALHOST, port).into(),
+            Err(_) => word.parse().ok()?,
+        },
+    };
+    let (idle, most) = (Duration::from_secs(number(1, 300)?.into()), number(2, 100)? as usize);
+    (words.len() <= 3).then_some((address, idle, most))
+}
+
+/// Serves clients until a signal ends that.
+async fn listen(address: SocketAddr, idle: Duration, most: usize) -> io::Result<()> {
+    let places = Arc::new(Semaphore::new(most));
     let (stopping, stop) = watch::channel(());
     let mut interrupted = signal(SignalKind::interrupt())?;
     let mut terminated = signal(SignalKind::terminate())?;
-    let listener = TcpListener::bind(("127.0.0.1", port as u16)).await?;
+    let listener = TcpListener::bind(address).await?;
     println!("{}", listener.local_addr()?.port());
     let mut sessions = JoinSet::new();
     loop {
@@ -117,4 +132,17 @@ async fn main() -> io::Result<()> {
     drop((listener, stopping));
     while sessions.join_next().await.is_some() {}
     Ok(())
+}
+
+#[tokio::main]
+async fn main() -> ExitCode {
+    let Some((address, idle, most)) = options(&env::args().skip(1).collect::<Vec<_>>()) else {
+        eprintln!("usage: server [PORT|ADDRESS:PORT [IDLE_SECONDS [CONNECTIONS]]]");
+        return ExitCode::from(2);
+    };
+    if let Err(error) = listen(address, idle, most).await {
+        eprintln!("server: {address}: {error}");
+        return ExitCode::FAILURE;
+    }
+    ExitCode::SUCCESS
 }

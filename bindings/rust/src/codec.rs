@@ -174,7 +174,8 @@ fn incomplete<T>(src: &BytesMut) -> Result<T, CodecError> {
     Err(CodecError::Incomplete { left: src.len() })
 }
 
-/// Why a stream or a sink of a codec ends.
+/// Why a stream or a sink of a codec ends. Its text is that of the error that it holds, whose source
+/// is its own.
 #[derive(Debug)]
 #[non_exhaustive]
 pub enum CodecError {
@@ -206,8 +207,8 @@ impl Display for CodecError {
 impl error::Error for CodecError {
     fn source(&self) -> Option<&(dyn error::Error + 'static)> {
         match self {
-            CodecError::Io(error) => Some(error),
-            CodecError::Control(error) => Some(error),
+            CodecError::Io(error) => error::Error::source(error),
+            CodecError::Control(error) => error::Error::source(error),
             CodecError::Incomplete { .. } => None,
         }
     }

@@ -1,7 +1,9 @@
 use crate::bytes::{Password, RawBytes};
 use crate::ffi;
 use crate::parameters::{AuthParam, ModeParam, Opt, ProtParam, StruParam};
+use crate::shown;
 use std::borrow::Cow;
+use std::fmt::{self, Debug, Formatter};
 use std::str;
 
 /// A command that a client sends on the control connection. Its texts and bytes are borrowed from
@@ -11,8 +13,18 @@ use std::str;
 /// A text is UTF-8, with U+FFFD for each ill-formed part of what was sent; [`RawBytes`] are as they
 /// were sent. In both, a carriage return that was sent as CR NUL is one CR (RFC 854).
 ///
-/// `Debug` shows an account, and of a password only asterisks.
-#[derive(Clone, Debug, PartialEq, Eq)]
+/// `Debug` shows an account, and of a password only asterisks. So it does of the arguments of
+/// `Other`, and of its name where that is not one of a few known ones: a mistyped PASS is such a
+/// verb. Of `Site` it shows name and arguments of CHMOD, IDLE, MD5, UMASK and UTIME, and the name of
+/// EXEC, GPASS, GROUP, HELP and PSWD.
+///
+/// ```
+/// use unftp_control::Command;
+///
+/// let other = Command::Other { command_name: "PSAS".into(), arguments: "secret".into() };
+/// assert_eq!(format!("{other:?}"), "Other { command_name: ***, arguments: *** }");
+/// ```
+#[derive(Clone, PartialEq, Eq)]
 #[non_exhaustive]
 pub enum Command<'a> {
     /// USER: who logs in (RFC 959, section 4.1.1).
@@ -202,6 +214,23 @@ pub enum Command<'a> {
     },
 }
 
+/// Gives a macro each variant with its fields, after its other arguments.
+macro_rules! for_each_variant {
+    ($call:ident!($($argument:expr),*)) => {
+        $call! {
+            $($argument,)*
+            User { username } Pass { password } Acct { account } Syst {} Stat { path } Type {}
+            Stru { structure } Mode { mode } Help {} Noop {} Pasv {} Epsv {} Port { addr }
+            Retr { path } Stor { path } Appe { path } List { options, path } Nlst { path }
+            Mlst { path } Mlsd { path } Feat {} Pwd {} Cwd { path } Cdup {} Opts { option }
+            Dele { path } Rmd { path } Quit {} Mkd { path } Allo {} Abor {} Stou {} Rnfr { file }
+            Rnto { file } Auth { protocol } Ccc {} Pbsz {} Prot { param } Size { file }
+            Rest { offset } Mdtm { file } Md5 { file } Site { command, arguments }
+            Other { command_name, arguments }
+        }
+    };
+}
+
 /// Makes the command of the same variant and fields that owns them.
 macro_rules! owned {
     ($command:expr, $($variant:ident { $($field:ident),* })*) => {
@@ -213,19 +242,39 @@ macro_rules! owned {
     };
 }
 
+/// Writes the variant and its fields, as a derived `Debug` does.
+macro_rules! debug {
+    ($command:expr, $f:expr, $($variant:ident { $($field:ident),* })*) => {
+        match $command {
+            $(Command::$variant { $($field),* } => {
+                $f.debug_struct(stringify!($variant))$(.field(stringify!($field), $field))*.finish()
+            })*
+        }
+    };
+}
+
 impl Command<'_> {
     /// The same command, whose texts and bytes are copied where they are borrowed.
     pub fn into_owned(self) -> Command<'static> {
-        owned! {
-            self,
-            User { username } Pass { password } Acct { account } Syst {} Stat { path } Type {}
-            Stru { structure } Mode { mode } Help {} Noop {} Pasv {} Epsv {} Port { addr }
-            Retr { path } Stor { path } Appe { path } List { options, path } Nlst { path }
-            Mlst { path } Mlsd { path } Feat {} Pwd {} Cwd { path } Cdup {} Opts { option }
-            Dele { path } Rmd { path } Quit {} Mkd { path } Allo {} Abor {} Stou {} Rnfr { file }
-            Rnto { file } Auth { protocol } Ccc {} Pbsz {} Prot { param } Size { file }
-            Rest { offset } Mdtm { file } Md5 { file } Site { command, arguments }
-            Other { command_name, arguments }
+        for_each_variant!(owned!(self))
+    }
+}
+
+impl Debug for Command<'_> {
+    fn fmt(&self, f: &mut Formatter<'_>) -> fmt::Result {
+        match self {
+            Command::Site { command, arguments } => {
+                let (name, value) = shown::subcommand(command, arguments);
+                f.debug_struct("Site").field("command", &name).field("arguments", &value).finish()
+            }
+            Command::Other { command_name, .. } => {
+                let (name, value) = shown::verb(command_name);
+                f.debug_struct("Other")
+                    .field("command_name", &name)
+                    .field("arguments", &value)
+                    .finish()
+            }
+            command => for_each_variant!(debug!(command, f)),
         }
     }
 }

@@ -8,6 +8,11 @@
 //!   mutably, and so apart from everything else; an area of no bytes overlaps nothing.
 //!
 //! `enum unftp_result` has no negative number, and C gives such an enum the form of a `u32`.
+//!
+//! Numbers and structs are those of the header of one version, so the first call asks which one the
+//! library is of, and panics where that doesn't fit.
+use crate::version::{fits, needed, text};
+use std::sync::OnceLock;
 
 pub(crate) const DONE: u32 = 0;
 pub(crate) const USER: u32 = 1;
@@ -130,8 +135,23 @@ extern "C" {
     fn unftp_version() -> u32;
 }
 
+/// Panics where the library that is linked is of another series.
+fn check_version() {
+    static CHECKED: OnceLock<()> = OnceLock::new();
+    CHECKED.get_or_init(|| {
+        let found = version();
+        assert!(
+            fits(found),
+            "the crate unftp_control is linked with a library of version {}, and needs {}",
+            text(found),
+            needed()
+        );
+    });
+}
+
 /// Calls `unftp_next`: what it returns, and the line.
 pub(crate) fn next(connection: &mut Connection, bytes: &[u8], area: &mut [u8]) -> (u32, Line) {
+    check_version();
     let mut line = Line::default();
     // SAFETY: no pointer is null, since each is of a reference, and each length is that of the
     // slice beside it. Nothing overlaps: the connection and the area are mutably borrowed, and
@@ -151,6 +171,7 @@ pub(crate) fn next(connection: &mut Connection, bytes: &[u8], area: &mut [u8]) -
 
 /// Calls `unftp_reply`: what it returns, and the length.
 pub(crate) fn reply(code: u32, text: &str, out: &mut [u8]) -> (u32, usize) {
+    check_version();
     let mut len = 0;
     // SAFETY: no pointer is null, since each is of a reference, and each length is that of the
     // slice beside it. Nothing overlaps: `out` is mutably borrowed, and `len` is a variable here.
@@ -162,6 +183,7 @@ pub(crate) fn reply(code: u32, text: &str, out: &mut [u8]) -> (u32, usize) {
 
 /// Calls `unftp_front_reply`: what it returns, and the reply.
 pub(crate) fn front_reply(bytes: &[u8]) -> (u32, FoundReply) {
+    check_version();
     let mut reply = FoundReply::default();
     // SAFETY: no pointer is null, since each is of a reference, and the length is that of the
     // slice. Nothing overlaps: `reply` is a variable of this function, and has the header's form.
@@ -171,6 +193,7 @@ pub(crate) fn front_reply(bytes: &[u8]) -> (u32, FoundReply) {
 
 /// Calls `unftp_canonical`: what it returns, and the length.
 pub(crate) fn canonical(line: &[u8], out: &mut [u8]) -> (u32, usize) {
+    check_version();
     let mut len = 0;
     // SAFETY: no pointer is null, since each is of a reference, and each length is that of the
     // slice beside it. Nothing overlaps: `out` is mutably borrowed, and `len` is a variable here.
@@ -182,6 +205,7 @@ pub(crate) fn canonical(line: &[u8], out: &mut [u8]) -> (u32, usize) {
 
 /// Calls `unftp_forward`: what it returns, and the length.
 pub(crate) fn forward(line: &[u8], out: &mut [u8]) -> (u32, usize) {
+    check_version();
     let mut len = 0;
     // SAFETY: no pointer is null, since each is of a reference, and each length is that of the
     // slice beside it. Nothing overlaps: `out` is mutably borrowed, and `len` is a variable here.
@@ -192,6 +216,6 @@ pub(crate) fn forward(line: &[u8], out: &mut [u8]) -> (u32, usize) {
 
 /// Calls `unftp_version`.
 pub(crate) fn version() -> u32 {
-    // SAFETY: it takes nothing, and returns a number.
+    // SAFETY: in every version it takes nothing, and returns a number.
     unsafe { unftp_version() }
 }

@@ -50,8 +50,9 @@
 //! # Linking
 //!
 //! The build script looks for the library in the folder that `UNFTP_CONTROL_LIB` names, then by
-//! `pkg-config unftp_control`, and then in the repository that the crate is in, where it is built
-//! if the Rattle toolchain is installed. The crate without features has no dependencies.
+//! `pkg-config unftp_control`, where the version is 0.1.x, and then in the repository that the crate
+//! is in, where `tools/c_library` builds it. The first call asks the library for its version, and
+//! panics where that is not 0.1.x. The crate without features has no dependencies.
 //!
 //! # Memory
 //!
@@ -77,6 +78,8 @@ mod pending;
 mod received;
 mod reply;
 mod reply_decoder;
+mod shown;
+mod version;
 
 pub use crate::bytes::{Password, RawBytes};
 pub use canonical::{canonical, forward};

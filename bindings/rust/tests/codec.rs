@@ -176,7 +176,7 @@ async fn no_more_than_the_limit_is_kept() {
 }
 
 #[tokio::test]
-async fn an_error_of_the_reader_is_the_errors_source() {
+async fn an_error_of_the_reader_ends_the_stream() {
     let mut reader = Pieces::new(vec![b"NOOP\r\nQU"]);
     reader.error = Some(io::ErrorKind::ConnectionReset);
     let mut framed = FramedRead::new(reader, FtpCodec::new());
@@ -185,8 +185,40 @@ async fn an_error_of_the_reader_is_the_errors_source() {
     assert!(
         matches!(&error, CodecError::Io(error) if error.kind() == io::ErrorKind::ConnectionReset)
     );
-    assert!(std::error::Error::source(&error).is_some());
     assert_eq!(framed.read_buffer(), &b"QU"[..]);
+}
+
+/// The texts of an error and of its sources.
+fn chain(error: &dyn std::error::Error) -> Vec<String> {
+    let errors = std::iter::successors(Some(error), |error| error.source());
+    errors.map(ToString::to_string).collect()
+}
+
+#[derive(Debug)]
+struct Outer(Error);
+
+impl std::fmt::Display for Outer {
+    fn fmt(&self, f: &mut std::fmt::Formatter<'_>) -> std::fmt::Result {
+        f.write_str("outer")
+    }
+}
+
+impl std::error::Error for Outer {
+    fn source(&self) -> Option<&(dyn std::error::Error + 'static)> {
+        Some(&self.0)
+    }
+}
+
+#[test]
+fn no_error_is_named_twice() {
+    let reset = io::Error::from(io::ErrorKind::ConnectionReset);
+    let text = reset.to_string();
+    assert_eq!(chain(&CodecError::from(reset)), [text]);
+    let outer = io::Error::other(Outer(Error::ReplyTooLong));
+    assert_eq!(chain(&CodecError::from(outer)), ["outer", "reply too long"]);
+    let refused = CodecError::from(Error::Refused(Refusal::InvalidCommand));
+    assert_eq!(chain(&refused), ["invalid command"]);
+    assert_eq!(chain(&CodecError::Incomplete { left: 3 }).len(), 1);
 }
 
 #[test]

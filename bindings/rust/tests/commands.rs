@@ -158,20 +158,6 @@ fn each_refusal_has_its_reason() {
     }
 }
 
-#[test]
-fn debug_shows_the_variant_and_its_fields() {
-    for (line, debug) in [
-        (&b"USER a\xff\"b\r\n"[..], r#"User { username: "a\xff\"b" }"#),
-        (b"ACCT a\r\n", r#"Acct { account: "a" }"#),
-        (b"STAT /\r\n", r#"Stat { path: Some("/") }"#),
-        (b"RETR a\r\n", r#"Retr { path: "a" }"#),
-        (b"NOOP\r\n", "Noop"),
-        (b"PASS secret\r\n", "Pass { password: Password { bytes: ******* } }"),
-    ] {
-        assert_eq!(format!("{:?}", command_of(line)), debug);
-    }
-}
-
 /// What each form of a value that has a Debug text is, under each of the formatter's flags.
 macro_rules! debug_texts {
     ($value:expr) => {
@@ -185,6 +171,64 @@ macro_rules! debug_texts {
             format!("{:.0?}", $value),
         ]
     };
+}
+
+#[test]
+fn debug_shows_the_variant_and_its_fields() {
+    for (line, debug) in [
+        (&b"USER a\xff\"b\r\n"[..], r#"User { username: "a\xff\"b" }"#),
+        (b"ACCT a\r\n", r#"Acct { account: "a" }"#),
+        (b"STAT /\r\n", r#"Stat { path: Some("/") }"#),
+        (b"RETR a\r\n", r#"Retr { path: "a" }"#),
+        (b"NOOP\r\n", "Noop"),
+        (b"PASS secret\r\n", "Pass { password: Password { bytes: ******* } }"),
+        (b"LIST -la x\r\n", r#"List { options: None, path: Some("x") }"#),
+        (b"OPTS UTF8 ON\r\n", "Opts { option: Utf8 { on: true } }"),
+        (b"REST 5\r\n", "Rest { offset: 5 }"),
+        (b"SITE MD5 a\r\n", r#"Md5 { file: "a" }"#),
+    ] {
+        assert_eq!(format!("{:?}", command_of(line)), debug);
+    }
+    let path = format!("{:#?}", command_of(b"STAT /\r\n"));
+    assert_eq!(path, "Stat {\n    path: Some(\n        \"/\",\n    ),\n}");
+}
+
+#[test]
+fn debug_hides_what_may_be_a_password() {
+    for (line, debug) in [
+        (&b" PASS x\r\n"[..], "Other { command_name: ***, arguments: *** }"),
+        (b"PSAS x\r\n", "Other { command_name: ***, arguments: *** }"),
+        (b"PASS\tx\r\n", "Other { command_name: ***, arguments: *** }"),
+        (b"PASSx\r\n", "Other { command_name: ***, arguments: *** }"),
+        (b"\r\n", "Other { command_name: ***, arguments: *** }"),
+        (b"adat eA==\r\n", r#"Other { command_name: "ADAT", arguments: *** }"#),
+        (b"REIN\r\n", r#"Other { command_name: "REIN", arguments: *** }"#),
+        (b"XRMD\r\n", r#"Other { command_name: "XRMD", arguments: *** }"#),
+        (b"site chmod 644 a\r\n", r#"Site { command: "CHMOD", arguments: "644 a" }"#),
+        (b"SITE UMASK\r\n", r#"Site { command: "UMASK", arguments: "" }"#),
+        (b"SITE PSWD old new\r\n", r#"Site { command: "PSWD", arguments: *** }"#),
+        (b"SITE HELP\r\n", r#"Site { command: "HELP", arguments: *** }"#),
+        (b"SITE PASS x\r\n", "Site { command: ***, arguments: *** }"),
+        (b"SITE chmod\t644 a\r\n", "Site { command: ***, arguments: *** }"),
+        (b"SITE\r\n", "Site { command: ***, arguments: *** }"),
+    ] {
+        let event = event_of(line);
+        assert_eq!(format!("{event:?}"), format!("Command({debug})"), "{}", line.escape_ascii());
+    }
+}
+
+#[test]
+fn no_text_depends_on_what_is_hidden() {
+    for (one, other) in [
+        (&b"PSAS secret\r\n"[..], &b"PAS\r\n"[..]),
+        (b" PASS secret\r\n", b"\r\n"),
+        (b"PASS\tsecret\r\n", b"SEND a\r\n"),
+        (b"ADAT secret\r\n", b"ADAT\r\n"),
+        (b"SITE PSWD old new\r\n", b"SITE PSWD\r\n"),
+        (b"SITE secret\r\n", b"SITE\r\n"),
+    ] {
+        assert_eq!(debug_texts!(event_of(one)), debug_texts!(event_of(other)));
+    }
 }
 
 #[test]

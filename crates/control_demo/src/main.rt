@@ -1,5 +1,8 @@
 //! Serves one control connection over standard input and output: each line is answered when it is
 //! complete, up to QUIT.
+//!
+//! Both have to block: a read or a write that would have to wait fails, and a failed one ends the
+//! program with status 1 and a line on standard error that names the error.
 #![tactic(auto)]
 
 ghost use Rattle.std.specs.Prelude.{◌≡◌, ◌-◌, Bool, ℕ, None, false, length, IfErr, IfOk, IfSome, OnOk};
@@ -54,7 +57,12 @@ fn main(rt: HostRuntime) -> ExitCode {
     match run(rt.alloc(), &mut reader, &mut writer) {
         Ok(_) => ExitCode::SUCCESS,
         Err(error) => {
-            let _ = eprintln!(rt; "control_demo: {error}");
+            let _ = match &error {
+                ServeError::Read(cause) | ServeError::Write(cause) => {
+                    eprintln!(rt; "control_demo: {error}: {cause}")
+                }
+                _ => eprintln!(rt; "control_demo: {error}"),
+            };
             ExitCode::FAILURE
         }
     }

@@ -1,5 +1,8 @@
 //! Logs one control connection from standard input to standard output: what its client sent, in
 //! printable text, an entry for each line, and no password or account.
+//!
+//! Both have to block: a read or a write that would have to wait fails, and a failed one ends the
+//! program with status 1 and a line on standard error that names the error.
 #![tactic(auto)]
 
 ghost use Rattle.std.specs.Prelude.{◌≡◌, ◌++◌, ◌∷◌, [], Some, IfErr, IfSome, OnOk};
@@ -117,7 +120,12 @@ fn main(rt: HostRuntime) -> ExitCode {
     match run(rt.alloc(), &mut reader, &mut writer) {
         Ok(()) => ExitCode::SUCCESS,
         Err(error) => {
-            let _ = eprintln!(rt; "control_log: {error}");
+            let _ = match &error {
+                ServeError::Read(cause) | ServeError::Write(cause) => {
+                    eprintln!(rt; "control_log: {error}: {cause}")
+                }
+                _ => eprintln!(rt; "control_log: {error}"),
+            };
             ExitCode::FAILURE
         }
     }

@@ -1,5 +1,8 @@
 //! Serves one control connection over standard input and output to who has logged in, with a tree of
 //! files in memory: each line is answered when it is complete, up to QUIT.
+//!
+//! Both have to block: a read or a write that would have to wait fails, and a failed one ends the
+//! program with status 1 and a line on standard error that names the error.
 #![tactic(auto)]
 
 ghost use Rattle.std.specs.Prelude.{◌≡◌, ◌≤◌, ◌+◌, ◌-◌, ℕ, IfErr, IfOk, IfSome, OnOk, Some, length};
@@ -99,7 +102,8 @@ pub fn run<R: Read, W: Write, A: Accounts + Drop>(
 }
 
 fn main(rt: HostRuntime) -> ExitCode {
-    if print!(rt; "220 Ready\r\n").is_err() {
+    if let Err(cause) = print!(rt; "220 Ready\r\n") {
+        let _ = eprintln!(rt; "login_demo: writing failed: {cause}");
         return ExitCode::FAILURE;
     }
     let mut reader = Input::new(rt.stdin());
@@ -108,7 +112,12 @@ fn main(rt: HostRuntime) -> ExitCode {
     match run(rt.alloc(), &mut reader, &mut writer, accounts) {
         Ok(_) => ExitCode::SUCCESS,
         Err(error) => {
-            let _ = eprintln!(rt; "login_demo: {error}");
+            let _ = match &error {
+                ServeError::Read(cause) | ServeError::Write(cause) => {
+                    eprintln!(rt; "login_demo: {error}: {cause}")
+                }
+                _ => eprintln!(rt; "login_demo: {error}"),
+            };
             ExitCode::FAILURE
         }
     }
