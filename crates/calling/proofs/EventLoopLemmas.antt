@@ -44,7 +44,8 @@ AnswersNext-taken {middle = middle} {event = event} {sent = sent} taken is is' a
     }
 
 -- out of memory for the command of a line
-pub LeavesUnanswered-kept : {before after : Pending} {sent : Bytes} → MayRunOut before
+pub LeavesUnanswered-kept : {before after : Pending} {sent : Bytes}
+    → MayRunOut before.limit before.bytes
     → StaysPending before after → LeavesUnanswered before sent after sent
 LeavesUnanswered-kept {before} may stays = record {
   event = event_for before.limit may.line;

@@ -3,3 +3,4 @@ mod ExampleLemmas
 mod CallerLemmas
 mod EventLoopLemmas
 mod ConversingLemmas
+mod TlsLemmas

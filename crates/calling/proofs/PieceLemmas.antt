@@ -6,12 +6,12 @@ use Rattle.std.proofs.lemmas.Bool.{false≢true}
 use Rattle.std.proofs.lemmas.List.{append-nil, map-append, take_more}
 use Rattle.std.proofs.lemmas.List.Folds.{concat-append}
 use Rattle.unftp_control.specs.Bytes.{Bytes}
-use Rattle.unftp_control.specs.Events.{events}
+use Rattle.unftp_control.specs.Events.{FtpEvent, events}
 use Rattle.unftp_control.specs.Run.{Law, last_state, run_for, ends_for, unread}
 use Rattle.unftp_control.specs.Lines.{incomplete_line}
 use Rattle.unftp_control.specs.Decoder.{saturating_u64}
 use Rattle.unftp_control.specs.Endings.{AllAnswered, Finished, PieceOutcome, Snapshot}
-use Rattle.unftp_control.specs.Engine.{EngineState, IsRunning, bytes_with, fed, run_with, more_left}
+use Rattle.unftp_control.specs.Engine.{EngineState, IsRunning, bytes_with, fed, more_left}
 use Rattle.unftp_control.specs.declared.serve.ServeError.{ServeError}
 use Rattle.unftp_control.proofs.EndingLemmas.{RunEnded-then, RunFailed-then}
 use Rattle.unftp_control.proofs.LineLemmas.{incomplete_line-append}
@@ -59,15 +59,17 @@ module _ {S : Type 0} {law : Law S} {m n : Snapshot S} {sent : Bytes} {engine : 
         ∙ ap (λ incomplete. F engine.limit n.state (incomplete ++ piece))
         (sym (so_far.incomplete on))
 
-    run_so : run_for None law m.state (sent ++ piece) ≡ events None sent
-        ++ run_with engine law n.state piece
+    -- the run of the engine
+    abbrev run_with : List FtpEvent
+    run_with = run_for engine.limit law n.state (bytes_with engine piece)
+
+    run_so : run_for None law m.state (sent ++ piece) ≡ events None sent ++ run_with
     run_so = (run-append law None m.state sent piece goes_on).0
         ∙ ap (λ run. events None sent ++ run)
         (moved (λ limit state bytes. run_for limit law state bytes))
 
     AnsweredSoFar-on : {k : Snapshot S} {engine' : EngineState}
-        → AllAnswered law n (run_with engine law n.state piece) k
-        → engine' ≡ fed law n.state engine piece
+        → AllAnswered law n run_with k → engine' ≡ fed law n.state engine piece
         → AnsweredSoFar law m k (sent ++ piece) engine'
     AnsweredSoFar-on answered is = rw is record {
       no_failure = refl;
@@ -83,13 +85,13 @@ module _ {S : Type 0} {law : Law S} {m n : Snapshot S} {sent : Bytes} {engine : 
           (sym (unread-append law None m.state sent piece goes_on
           ∙ moved (λ limit state bytes. unread limit law state bytes)));
       answered =
-          rw run_so
-          (RunEnded-then law all_events (run_with engine law n.state piece) [] Finished answered);
+          rw run_so (RunEnded-then law all_events run_with [] Finished answered);
     }
 
     FailsAtPiece-on : {k : Snapshot S} {error : ServeError} {pieces : List Bytes} (T : Type 0)
         → ComesAfter sent piece pieces
-        → PieceOutcome {S = S} {T = T} law n (run_with engine law n.state piece) piece k (Err error)
+        → PieceOutcome {S = S} {T = T} engine.limit law n (bytes_with engine piece) piece k
+        (Err error)
         → FailsAtPiece law m pieces k error
     FailsAtPiece-on T place (inl (out_of_memory, some, kept)) = record {
       first = place.first;
@@ -105,7 +107,9 @@ module _ {S : Type 0} {law : Law S} {m n : Snapshot S} {sent : Bytes} {engine : 
       whole = place.whole;
       failed = inr (
         events None sent ++ done,
-        rw place.same (RunFailed-then law all_events run_so failed),
+        rw place.same
+            (RunFailed-then law all_events None sent piece refl goes_on
+            (rw (so_far.any_length, so_far.incomplete on) at failed)),
       );
     }
 
@@ -132,7 +136,8 @@ module _ {S : Type 0} {law : Law S} {m n : Snapshot S} {sent : Bytes} {engine : 
 
   pub AnsweredSoFar-more : {k : Snapshot S} {engine' : EngineState}
       → (IsRunning engine → engine' ≡ fed law n.state engine piece)
-      → (IsRunning engine → AllAnswered law n (run_with engine law n.state piece) k)
+      → (IsRunning engine
+      → AllAnswered law n (run_for engine.limit law n.state (bytes_with engine piece)) k)
       → (engine.finished ≡ true → (k ≡ n) × (engine' ≡ more_left engine piece))
       → AnsweredSoFar law m k (sent ++ piece) engine'
   AnsweredSoFar-more {k} {engine'} is answered over = by_end engine.finished refl
@@ -147,7 +152,7 @@ module _ {S : Type 0} {law : Law S} {m n : Snapshot S} {sent : Bytes} {engine : 
   pub FailsAtPiece-so : {k : Snapshot S} {pieces : List Bytes} {error : ServeError} {T : Type 0}
       {result : Result T ServeError} → ComesAfter sent piece pieces → result ≡ Err error
       → (IsRunning engine
-      → PieceOutcome law n (run_with engine law n.state piece) piece k result)
+      → PieceOutcome engine.limit law n (bytes_with engine piece) piece k result)
       → (engine.finished ≡ true → IsTrue (is_ok result))
       → FailsAtPiece law m pieces k error
   FailsAtPiece-so {k} {pieces} {error} {T} place failed outcome over = by_end engine.finished refl

@@ -22,8 +22,7 @@ pub record FailsAtPiece {S : Type 0} (law : Law S) (before : Snapshot S) (pieces
   pub later : List Bytes
   pub whole : pieces ≡ first ++ last ∷ later
   pub failed : HasNoRoom law before (concat first) last after error
-      ⊎ ((done : List FtpEvent) × RunFailed law before
-      (run_for None law before.state (concat first ++ last)) after error done)
+      ⊎ ((done : List FtpEvent) × RunFailed None law before (concat first ++ last) after error done)
 
 -- The lines of all pieces put together were answered, up to the end of the session; or it failed at
 -- one of the pieces.

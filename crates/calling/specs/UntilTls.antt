@@ -1,10 +1,14 @@
 -- A session in clear text, which ends where TLS begins (RFC 4217, section 4).
-use Rattle.std.specs.Prelude.{◌≡◌, ◌≢◌, ◌⊎◌, Bool, true, false, if◌then◌else◌, [], Option, None, Some, IfSome, codes}
+use Rattle.std.specs.Prelude.{◌≡◌, ◌<◌, ◌==◌, ◌&&◌, ◌⊎◌, ℕ, Bool, true, false, if◌then◌else◌, length, Option, Some, IsSomeAnd, codes}
 use Rattle.unftp_control.specs.Bytes.{Bytes}
 use Rattle.unftp_control.specs.Events.{FtpEvent, Command, out_of_memory}
 use Rattle.unftp_control.specs.FtpCommand.{Auth}
 use Rattle.unftp_control.specs.FtpReply.{CodeAndMsg}
 use Rattle.unftp_control.specs.Run.{Law, after_end, ends_for}
+use Rattle.unftp_control.specs.Endings.{Snapshot}
+use Rattle.unftp_control.specs.Service.{AnsweredAll, InputState}
+use Rattle.unftp_control.specs.Writing.{OutputState}
+use Rattle.unftp_control.specs.declared.serve.Served.{Served}
 use Rattle.unftp_control.specs.declared.commands.AuthParam.TheVariants.{Tls}
 
 abbrev pub is_auth_tls : FtpEvent → Bool
@@ -21,11 +25,28 @@ until_tls = record {
   done = λ is_done. is_done;
 }
 
--- The stream from which TLS is read, by what it has yet to give: of an input in lines of at most
--- 512 bytes AUTH TLS came, and these come after its line. There is none only where AUTH TLS
--- didn't come, or bytes came after it.
-abbrev pub GivesStream : Bytes → Option (Option Bytes) → Type 0
-GivesStream input (Some remaining) = (ends_for (Some 512) until_tls false input ≡ true)
-    × IfSome remaining (λ rest. after_end (Some 512) until_tls false input ≡ rest)
-GivesStream input None = (ends_for (Some 512) until_tls false input ≡ false)
-    ⊎ (after_end (Some 512) until_tls false input ≢ [])
+-- Its state, how often it failed, and an output.
+abbrev pub at_state : Bool → ℕ → OutputState → Snapshot Bool
+at_state is_done failures output =
+    record { state = is_done; failures = failures; output = output }
+
+-- Whether TLS begins: of lines of at most 512 bytes AUTH TLS came, and no byte after it was read
+-- with it, nor later. All that `serve_with_limit` says is so: of what was read, that nothing came
+-- after the piece in which AUTH TLS came, or that it didn't come and the reader is at its end.
+pub record BeginsTls (before after : OutputState) (input input' : InputState) (begins : Bool)
+    : Type 0 where
+  pub is_done : Bool
+  pub failures : ℕ
+  pub served : Served
+  pub answered : AnsweredAll (Some 512) until_tls (at_state false 0 before)
+      (at_state is_done failures after) input input' served
+  pub begins_so : begins ≡ (served.done && (served.left == 0))
+
+-- What a reader of known bytes has yet to give: where TLS begins, all that comes after the line
+-- of AUTH TLS. Where it doesn't, there was no such line, or bytes after it were read.
+abbrev pub LeavesStream : Bytes → Bool → Option Bytes → Type 0
+LeavesStream bytes true remaining = (ends_for (Some 512) until_tls false bytes ≡ true)
+    × (remaining ≡ Some (after_end (Some 512) until_tls false bytes))
+LeavesStream bytes false remaining = (ends_for (Some 512) until_tls false bytes ≡ false)
+    ⊎ IsSomeAnd remaining (λ rest.
+    length rest < length (after_end (Some 512) until_tls false bytes))

@@ -1,18 +1,20 @@
 //! Examples of the definitions of this crate, worked out by hand: values for which each holds and
 //! values for which it doesn't.
-ghost use Rattle.std.specs.Prelude.{◌≡◌, [], ◌∷◌, ◌++◌, None, Some, codes, false, true};
+ghost use Rattle.std.specs.Prelude.{◌≡◌, Bool, [], ◌∷◌, ◌++◌, None, Option, Some, codes, false, true};
 ghost use Rattle.calling.specs.EventLoop.{replies_to, turn_after};
 ghost use Rattle.calling.specs.FactList.{facts_asked, facts_text};
 ghost use Rattle.calling.specs.Forwarding.{IsReplyInPlace};
 ghost use Rattle.calling.specs.Conversing.{IsAtRest, IsFinal, numbered, said};
 ghost use Rattle.calling.specs.NextCode.{MayBeginTls, after_auth};
-ghost use Rattle.calling.specs.UntilTls.{until_tls};
+ghost use Rattle.calling.specs.UntilTls.{BeginsTls, LeavesStream, until_tls};
 ghost use Rattle.calling.specs.WholeLine.{AsksFor, all_facts, image_modes, modes_after, no_facts, reply_to};
 ghost use Rattle.unftp_control.specs.Bytes.{Bytes};
 ghost use Rattle.unftp_control.specs.Events.{Command, Refused, refusal_fault};
 ghost use Rattle.unftp_control.specs.FtpCommand.{Auth, Epsv, InvalidCommand, Pasv, Quit, Retr, TypeCode};
 ghost use Rattle.unftp_control.specs.Forwarding.{IsForwardError, IsForwarded};
 ghost use Rattle.unftp_control.specs.FtpReply.{CodeAndMsg, Nothing};
+ghost use Rattle.unftp_control.specs.Service.{InputState};
+ghost use Rattle.unftp_control.specs.Writing.{OutputState};
 ghost use Rattle.unftp_control.specs.declared.client.To.TheVariants.{Command as Place};
 ghost use Rattle.unftp_control.specs.declared.commands.AuthParam.TheVariants.{Ssl, Tls};
 
@@ -108,6 +110,35 @@ pub fn replies_are_numbered()
     ensures not_sent { numbered 3 (Nothing ∷ []) ≡ None ∷ [] }
     ensures said { said until_tls false (Quit ∷ Auth Tls ∷ Quit ∷ [])
         ≡ until_tls.says false (Command Quit) ∷ until_tls.says false (Command (Auth Tls)) ∷ [] }
+{}
+
+/// What a reader of known bytes has yet to give, where TLS begins and where it doesn't.
+pub fn streams_are_left_so()
+    ensures begins { (remaining : Option Bytes)
+        → LeavesStream (codes "AUTH TLS\r\nXY") true remaining → remaining ≡ Some (codes "XY") }
+    ensures not_asked { (remaining : Option Bytes)
+        → LeavesStream (codes "NOOP\r\n") true remaining → ⊥ }
+    ensures never_asked { (remaining : Option Bytes)
+        → LeavesStream (codes "NOOP\r\n") false remaining }
+    ensures some_read { LeavesStream (codes "AUTH TLS\r\nXY") false (Some (codes "Y")) }
+    ensures none_read { LeavesStream (codes "AUTH TLS\r\nXY") false (Some (codes "XY")) → ⊥ }
+{}
+
+/// TLS begins where AUTH TLS ends the last piece that was read, and only there; no piece was read
+/// after it.
+pub fn tls_begins_so()
+    ensures at_the_end { (before after : OutputState) (input input_after : InputState) (begins : Bool)
+        (v : BeginsTls before after input input_after begins)
+        → v.answered.pieces ≡ codes "AUTH TLS\r\n" ∷ [] → begins ≡ true }
+    ensures before_others { (before after : OutputState) (input input_after : InputState)
+        (begins : Bool) (v : BeginsTls before after input input_after begins)
+        → v.answered.pieces ≡ codes "AUTH TLS\r\nX" ∷ [] → begins ≡ false }
+    ensures not_asked { (before after : OutputState) (input input_after : InputState)
+        (begins : Bool) (v : BeginsTls before after input input_after begins)
+        → v.answered.pieces ≡ codes "NOOP\r\n" ∷ [] → begins ≡ false }
+    ensures read_on { (before after : OutputState) (input input_after : InputState)
+        (begins : Bool) (v : BeginsTls before after input input_after begins)
+        → v.answered.pieces ≡ codes "AUTH TLS\r\n" ∷ codes "X" ∷ [] → ⊥ }
 {}
 
 /// The case of letters is ignored, and what follows counts.

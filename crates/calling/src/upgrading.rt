@@ -1,10 +1,11 @@
 //! A connection whose commands come under TLS, after AUTH in clear text (RFC 4217, section 4).
-ghost use Rattle.std.specs.Prelude.{◌≡◌, ℕ, Bool, Err, Some, false, IfErr, IfOk, IfSome, OnOk, option_map};
+ghost use Rattle.std.specs.Prelude.{◌≡◌, ℕ, Bool, Some, false, IfErr, IfOk, IfSome, OnOk};
 ghost use Rattle.std.specs.Io.KnownBytes.{Appends};
-ghost use Rattle.calling.specs.Sessions.{IsSession, at_start};
-ghost use Rattle.calling.specs.UntilTls.{GivesStream, is_auth_tls, until_tls};
+ghost use Rattle.calling.specs.UntilTls.{BeginsTls, LeavesStream, at_state, is_auth_tls, until_tls};
 ghost use Rattle.unftp_control.specs.EventMeaning.{event_meant};
 ghost use Rattle.unftp_control.specs.Run.{text_for};
+ghost use Rattle.unftp_control.specs.Service.{ServeEnded, input_state_of};
+ghost use Rattle.unftp_control.specs.Writing.{output_state_of};
 
 use std::alloc::Global;
 use std::io::{Read, Write};
@@ -64,40 +65,38 @@ fn is_auth_tls(event: &Event) -> bool
 /// The most bytes of a line, its line feed counted.
 const LINE_LIMIT: usize = 512;
 
-/// Serves a connection in clear text up to AUTH TLS, and returns the stream from which TLS has to
-/// be read, if the client came so far. The session under TLS is a new engine's.
+/// Serves a connection in clear text up to AUTH TLS, and returns whether TLS begins: whether the
+/// client came so far, and nothing of what it sent after AUTH was read. The reader then has yet to
+/// give the first byte of TLS. The session under TLS is a new engine's.
 ///
-/// Bytes that came after AUTH in clear text must not be taken for commands under TLS: where there
-/// are any, the answer is `None`, and the connection has to be closed.
-pub fn serve_until_tls<R: Read + Drop, W: Write>(
+/// Bytes that came after AUTH in clear text must not be taken for commands under TLS: where some were
+/// read with it, the answer is `false`, and the connection has to be closed.
+pub fn serve_until_tls<R: Read, W: Write>(
     alloc: Global,
-    stream_in: R,
-    stream_out: W,
-) -> (Result<Option<R>, ServeError>, W)
-    ensures written { OnOk result.0 (IfSome (R.remaining stream_in) (λ input.
-        Appends (W.contents stream_out) (W.contents result.1)
-        (text_for (Some 512) until_tls false input))) }
-    // the stream begins with the byte after the line feed of AUTH TLS; there is none only where the
-    // client never asked for TLS, or bytes came after that line
-    ensures tls { IfOk result.0 (λ next. IfSome (R.remaining stream_in) (λ input.
-        GivesStream input (option_map R.remaining next))) }
+    input: &mut Input<R>,
+    output: &mut Output<W>,
+) -> Result<bool, ServeError>
+    ensures written { OnOk result (IfSome (R.remaining input.old.reader) (λ bytes.
+        Appends (W.contents output.old.writer) (W.contents output.new.writer)
+        (text_for (Some 512) until_tls false bytes))) }
+    // nothing is read after the piece with AUTH TLS; TLS begins where no byte came after it there
+    ensures tls { IfOk result (λ begins. BeginsTls
+        (output_state_of W.contents output.old) (output_state_of W.contents output.new)
+        (input_state_of R.remaining input.old) (input_state_of R.remaining input.new) begins) }
+    // of a reader whose bytes contracts know, the stream goes on with the byte after AUTH's line feed
+    ensures stream { IfOk result (λ begins. IfSome (R.remaining input.old.reader) (λ bytes.
+        LeavesStream bytes begins (R.remaining input.new.reader))) }
     // and at an error all that `serve_with_limit` says
-    ensures err { IfErr result.0 (λ error. (is_done : Bool) × (failures : ℕ)
-        × IsSession (Some 512) until_tls
-        (at_start false 0 (W.contents stream_out)) (R.remaining stream_in) (Err error)
-        is_done failures (W.contents result.1)) }
+    ensures err { IfErr result (λ error. (is_done : Bool) × (failures : ℕ)
+        × ServeEnded (Some 512) until_tls
+        (at_state false 0 (output_state_of W.contents output.old))
+        (at_state is_done failures (output_state_of W.contents output.new))
+        (input_state_of R.remaining input.old) (input_state_of R.remaining input.new) error) }
 {
-    let mut input = Input::new(stream_in);
-    let mut output = Output::new(stream_out);
     let mut until_tls = UntilTls {
         is_done: false,
         failures: Count::new(),
     };
-    let served = serve_with_limit(alloc, LINE_LIMIT, &mut input, &mut output, &mut until_tls);
-    let next = match served {
-        Ok(served) if served.done && served.left == 0 => Ok(Some(input.into_inner())),
-        Ok(_) => Ok(None),
-        Err(error) => Err(error),
-    };
-    (next, output.into_inner())
+    let served = serve_with_limit(alloc, LINE_LIMIT, input, output, &mut until_tls)?;
+    Ok(served.done && served.left == 0)
 }

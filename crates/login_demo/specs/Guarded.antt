@@ -23,3 +23,7 @@ snapshot session failures output = record {
   failures = failures;
   output = output;
 }
+
+-- before the first event
+abbrev pub first_snapshot : Accounts → OutputState → Snapshot (Limited (Gated Session))
+first_snapshot accepts output = snapshot (guarded_session accepts) 0 output

@@ -5,18 +5,16 @@
 //! program with status 1 and a line on standard error that names the error.
 #![tactic(auto)]
 
-ghost use Rattle.std.specs.Prelude.{◌≡◌, ◌≤◌, ◌+◌, ◌-◌, ℕ, IfErr, IfOk, IfSome, OnOk, Some, length};
+ghost use Rattle.std.specs.Prelude.{◌≤◌, ◌+◌, ℕ, IfErr, IfOk, IfSome, OnOk, Some};
 ghost use Rattle.std.specs.Io.KnownBytes.{Appends};
 ghost use Rattle.unftp_control_defs.specs.Bytes.{Bytes};
-ghost use Rattle.unftp_control_defs.specs.Run.{ends_for, text_for, unread};
 ghost use Rattle.unftp_control_login.specs.Promises.{MembersAlone};
 ghost use Rattle.unftp_control_login.specs.Gate.{Gated};
 ghost use Rattle.unftp_control_login.specs.LoginLimit.{Limited};
-ghost use Rattle.unftp_control_serve.specs.Decoder.{saturating_u64};
-ghost use Rattle.unftp_control_serve.specs.Service.{ServeEnded, input_state_of};
+ghost use Rattle.unftp_control_serve.specs.Service.{ServeEnded, Serves, input_state_of};
 ghost use Rattle.unftp_control_serve.specs.Writing.{output_state_of};
 ghost use Rattle.login_demo.specs.declared.session.Session.{Session};
-ghost use Rattle.login_demo.specs.Guarded.{guarded_law, guarded_session, snapshot};
+ghost use Rattle.login_demo.specs.Guarded.{first_snapshot, guarded_law, snapshot};
 
 mod accounts;
 mod examples;
@@ -63,18 +61,13 @@ pub fn run<R: Read, W: Write, A: Accounts + Drop>(
     writer: &mut Output<W>,
     accounts: A,
 ) -> Result<Served, ServeError>
-    // At Ok exactly the replies to the lines are written.
-    ensures written { OnOk result (IfSome (R.remaining reader.old.reader) (λ input.
-        Appends (W.contents writer.old.writer) (W.contents writer.new.writer)
-        (text_for (Some LIMIT) guarded_law (guarded_session (A.accepts accounts)) input))) }
-    // Whether QUIT came or too many logins failed, and how many bytes after the last line were read.
-    ensures done { IfOk result (λ served. IfSome (R.remaining reader.old.reader) (λ input.
-        served.done
-        ≡ ends_for (Some LIMIT) guarded_law (guarded_session (A.accepts accounts)) input)) }
-    ensures left { IfOk result (λ served. IfSome (R.remaining reader.old.reader) (λ input.
-        IfSome (R.remaining reader.new.reader) (λ rest. served.left ≡ saturating_u64 (length
-        (unread (Some LIMIT) guarded_law (guarded_session (A.accepts accounts)) input)
-        - length rest)))) }
+    // At Ok exactly the replies to the lines are written, and `Serves` says what is returned, for some
+    // last state of the session and count of its failures.
+    ensures serves { (session : Limited (Gated Session)) × (failures : ℕ) × IfOk result (λ served.
+        IfSome (R.remaining reader.old.reader) (Serves (Some LIMIT) guarded_law
+        (first_snapshot (A.accepts accounts) (output_state_of W.contents writer.old))
+        (snapshot session failures (output_state_of W.contents writer.new))
+        (R.remaining reader.new.reader) served)) }
     // Whatever the input: where a client reads in the output a reply that reports no failure, at the
     // place of a command that needs a login, the accounts have accepted a name and its password
     // before it.
@@ -84,12 +77,12 @@ pub fn run<R: Read, W: Write, A: Accounts + Drop>(
         × MembersAlone (Some LIMIT) (A.accepts accounts) input output)) }
     // At Ok the buffer has held at most the limit and one piece.
     ensures bound { IfOk result (λ served. served.held ≤ LIMIT + 4096) }
-    // What is so at each error, for some last state of the session and count of its failures.
-    ensures err { IfErr result (λ error. (session : Limited (Gated Session)) × (failures : ℕ)
-        × ServeEnded (Some LIMIT) guarded_law
-        (snapshot (guarded_session (A.accepts accounts)) 0 (output_state_of W.contents writer.old))
+    // What is so at each error.
+    ensures err { (session : Limited (Gated Session)) × (failures : ℕ) × IfErr result
+        (ServeEnded (Some LIMIT) guarded_law
+        (first_snapshot (A.accepts accounts) (output_state_of W.contents writer.old))
         (snapshot session failures (output_state_of W.contents writer.new))
-        (input_state_of R.remaining reader.old) (input_state_of R.remaining reader.new) error) }
+        (input_state_of R.remaining reader.old) (input_state_of R.remaining reader.new)) }
 {
     let gate = Gate::new(accounts, Files::new());
     serve_with_limit(

@@ -10,8 +10,7 @@ mod EventStepLemmas
 mod ReplyStepLemmas
 mod SnapshotLemmas
 mod RunEndExampleLemmas
-mod PendingLineLemmas
-mod EventMemoryLemmas
+mod FirstLineLemmas
 mod NeededLemmas
 mod NoonLemmas
 mod ConversationLemmas

@@ -1,11 +1,26 @@
 -- The examples' snapshots.
-use Rattle.std.proofs.Common.{◌≡◌, ℕ, ◌≤◌, [], ◌∷◌, Some, length, codes, arith}
+use Rattle.std.proofs.Common.{◌≡◌, ℕ, ◌<◌, ◌≤◌, Bool, true, false, List, [], ◌∷◌, ◌++◌, map, None, Option, Some, length, codes, refl, sym, ap, ◌∙◌, arith, drop, get_or, length-append}
+use Rattle.std.proofs.Math.Seq.{drop-append_seam}
 use Rattle.std.specs.Fmt.{digits}
 use Rattle.std.specs.Io.KnownBytes.{Appends}
-use Rattle.unftp_control_serve.specs.Endings.{Snapshot, Write, AllAnswered, RunEnded}
+use Rattle.std.specs.List.{AllByRecursion}
+use Rattle.std.specs.Prelude.{if◌then◌else◌}
+use Rattle.std.specs.Str.{is_utf8, chars}
+use Rattle.std.specs.Str.Lossy.{utf8_lossy, utf8_valid_len, utf8_error_len}
+use Rattle.std.proofs.lemmas.Bool.{false≢true}
+use Rattle.unftp_control_serve.specs.Endings.{Snapshot, LineMemory, Write, AllAnswered, RunEnded, RunFailed}
+use Rattle.unftp_control_serve.specs.Service.{AnsweredAll, InputState, NoRoomForPiece, Serves}
 use Rattle.unftp_control_serve.specs.Writing.{Begins}
-use Rattle.unftp_control_defs.specs.Bytes.{Bytes}
-use Rattle.unftp_control.specs.Snapshots.{counter, noop, snapshot}
+use Rattle.unftp_control_serve.specs.declared.error.ServeError.TheVariants as error
+use Rattle.unftp_control_serve.specs.declared.service.Served.{Served}
+use Rattle.unftp_control_defs.specs.Bytes.{Bytes, LF}
+use Rattle.unftp_control_defs.specs.Events.{Command}
+use Rattle.unftp_control_defs.specs.FtpCommand.{User}
+use Rattle.unftp_control_defs.specs.FtpReply.{CodeAndMsg}
+use Rattle.unftp_control_defs.specs.ReplyReader.{ReadsBack}
+use Rattle.unftp_control_defs.proofs.LackLemmas.{Lacks-test}
+use Rattle.unftp_control.specs.Snapshots.{counter, counter_to_five, noop, snapshot}
+use Rattle.unftp_control.proofs.FirstLineLemmas.{user-may}
 
 abbrev pub start : Snapshot ℕ
 start = snapshot 3 (codes "x") 1
@@ -31,3 +46,82 @@ pub write_failed-written : (after : Snapshot ℕ)
     Appends (Some (codes "x")) after.output.written (codes "200 OK\r\n20")
 unfolding digits
 write_failed-written after v = v.written
+
+-- out of memory for the second of two lines
+pub line_memory : RunFailed None counter start (codes "NOOP\r\nUSER a\r\n")
+    (snapshot 4 (codes "x200 OK\r\n") 0) error.OutOfMemory (noop ∷ [])
+unfolding digits is_utf8 chars utf8_lossy utf8_valid_len utf8_error_len lib.Utf8.encode
+line_memory = record {
+  later = Command (User (codes "a")) ∷ [];
+  split = refl;
+  cause = LineMemory;
+  means = tt;
+  ended = record {
+    ends_at = refl;
+    written = refl;
+    flushed = omega arith;
+    write_failed = refl;
+    handler_failed = refl;
+  };
+  next_line = λ at_line. user-may;
+}
+
+-- a read that gave nothing is the last one
+two_nothings : (pieces : List Bytes) (done : Bool)
+    → AllByRecursion (λ piece. (0 < length piece) × (length piece ≤ 4096)) pieces
+    → ¬ (4 ∷ 0 ∷ 0 ∷ [] ≡ map length pieces ++ (if done then [] else 0 ∷ []))
+two_nothings [] true sizes is = absurd (cc)
+two_nothings [] false sizes is = absurd (cc)
+two_nothings (piece ∷ []) true sizes is = absurd (cc)
+two_nothings (piece ∷ []) false sizes is = absurd (cc)
+two_nothings (piece ∷ next ∷ pieces) done sizes is =
+    let none : 0 ≡ length next = cc in
+    absurd (omega (arith, none, sizes.1.0.0))
+
+pub nothing_read_once : (before after : Snapshot ℕ) (input input_after : InputState)
+    (served : Served) → AnsweredAll None counter before after input input_after served
+    → input.reads ≡ [] → input_after.reads ≡ 4 ∷ 0 ∷ 0 ∷ [] → ⊥
+nothing_read_once before after input input_after served all none two =
+    two_nothings all.pieces served.done all.were_read.sizes
+    (sym two ∙ all.were_read.reads
+    ∙ ap (λ reads. reads ++ (map length all.pieces ++ (if served.done then [] else 0 ∷ []))) none)
+
+last_size : (pieces : List Bytes) (last : Bytes)
+    → AllByRecursion (λ piece. (0 < length piece) × (length piece ≤ 4096)) (pieces ++ last ∷ [])
+    → 0 < length last
+last_size [] last sizes = sizes.0.0
+last_size (piece ∷ pieces) last sizes = last_size pieces last sizes.1
+
+pub room_for_nothing : (before after : Snapshot ℕ) (input input_after : InputState)
+    (v : NoRoomForPiece None counter before after input input_after) → v.last ≡ [] → ⊥
+room_for_nothing before after input input_after v none =
+    absurd (omega (arith, last_size v.pieces v.last v.were_read.sizes, ap length none))
+
+pub served-read_back : (after : Snapshot ℕ) (remaining : Option Bytes) (served : Served)
+    → Serves None counter start after remaining served (codes "NOOP\r\nNO")
+    → ReadsBack (codes "200 OK\r\n") (CodeAndMsg 200 (codes "OK") ∷ [])
+unfolding digits
+served-read_back after remaining served v =
+    v.read_back (((omega arith, omega arith), Lacks-test LF (codes "OK") refl), tt)
+
+pub served-rest : (after : Snapshot ℕ) (remaining : Option Bytes) (served : Served)
+    → Serves None counter start after remaining served (codes "NOOP\r\nNO")
+    → remaining ≡ Some []
+served-rest after remaining served v = v.to_be_read ∙ ap (λ rest. Some rest) (v.at_end v.done)
+
+-- no bytes before it make it the end of the input
+another_end : (read : Bytes) → ¬ (codes "NOOP\r\nNOOP\r\nNO" ≡ read ++ codes "XX")
+another_end read is =
+    let before : 12 ≡ length read =
+    omega (arith, ap length is, length-append read (codes "XX")) in
+    let end : codes "NO" ≡ codes "XX" = ap (drop 12) is
+    ∙ ap (λ n. drop n (read ++ codes "XX")) before ∙ drop-append_seam read (codes "XX") in
+    let byte : 78 ≡ 88 = ap (λ bytes. get_or bytes 0 0) end in
+    absurd (omega (arith, byte))
+
+pub served-other_rest : (before after : Snapshot ℕ) (served : Served)
+    → Serves None counter_to_five before after (Some (codes "XX")) served
+    (codes "NOOP\r\nNOOP\r\nNO") → ⊥
+served-other_rest before after served v =
+    let rest : codes "XX" ≡ v.rest = cc in
+    another_end v.read (v.whole ∙ ap (λ rest. v.read ++ rest) (sym rest))

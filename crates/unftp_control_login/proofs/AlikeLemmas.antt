@@ -1,83 +1,137 @@
 -- What is written and returned says of a password only whether it is accepted.
-use Rattle.std.proofs.Common.{◌≡◌, ℕ, ◌-◌, Bool, true, false, cond, not, ◌&&◌, ◌||◌, ◌==◌, ◌⊎◌, inl, inr, IsTrue, List, [], ◌∷◌, ◌++◌, Option, Some, None, refl, sym, ap, subst, ◌∙◌, append_assoc}
-use Rattle.std.specs.Prelude.{if◌then◌else◌, nat_le, length, map, option_map, IsSome, IsSomeAnd, Ok, Err}
-use Rattle.std.specs.List.{AllByRecursion}
+use Rattle.std.proofs.Common.{◌≡◌, ℕ, zero, suc, drop, arith, ◌-◌, Bool, true, false, cond, not, ◌&&◌, ◌||◌, ◌==◌, ◌⊎◌, inl, inr, IsTrue, List, [], ◌∷◌, ◌++◌, Option, Some, None, refl, sym, ap, subst, ◌∙◌, append_assoc}
+use Rattle.std.specs.Prelude.{if◌then◌else◌, nat_le, length, option_map, IsSome, IsSomeAnd, Ok, Err}
+use Rattle.std.specs.List.{AllByRecursion, concat}
 use Rattle.std.specs.Str.{is_utf8}
 use Rattle.std.specs.Io.KnownBytes.{Appends}
+use Rattle.std.proofs.lemmas.Bool.{false≢true}
 use Rattle.std.proofs.lemmas.List.{append-nil}
 use Rattle.unftp_control_defs.specs.Bytes.{Bytes}
 use Rattle.unftp_control_defs.specs.Canonical.{canonical_line}
-use Rattle.unftp_control_defs.specs.FtpCommand.{FtpCommand, Answer, User, Pass, Quit, InvalidUtf8}
-use Rattle.unftp_control_defs.specs.Events.{Fault, FtpEvent, Command, Refused, event_for, event_of, events, exceeds, line_too_long, out_of_memory}
+use Rattle.unftp_control_defs.specs.FtpCommand.{Answer, User, Pass, InvalidUtf8}
+use Rattle.unftp_control_defs.specs.Events.{Fault, FtpEvent, Command, Refused, event_of, events, exceeds, line_too_long, out_of_memory}
 use Rattle.unftp_control_defs.specs.FtpReply.{FtpReply, encoded, is_positive}
 use Rattle.unftp_control_defs.specs.Lines.{IsLine, incomplete_line, lines_of}
 use Rattle.unftp_control_defs.specs.Outcome.{answer_by, outcome}
 use Rattle.unftp_control_defs.specs.Rules.{rule_of}
-use Rattle.unftp_control_defs.specs.Run.{text_for, Law, last_state, run_of, text_of}
+use Rattle.unftp_control_defs.specs.Run.{after_lines, text_for, Law, last_state, run_of, text_of}
 use Rattle.unftp_control_defs.specs.Verbs.{parameter_of, upper, verb_of}
 use Rattle.unftp_control_defs.proofs.LineEventLemmas.{events-after, events-canonical_line}
-use Rattle.unftp_control_defs.proofs.LineLemmas.{Lines-lines_of}
-use Rattle.unftp_control_line_parser.specs.Memory.{AnswerMayTakeMemory, takes_no_memory}
-use Rattle.unftp_control_serve.specs.Endings.{Snapshot, Cause, Finished, Write, Handler, LineMemory, ReplyMemory, EndsAt, EventMayTakeMemory, RunFailed, part_written, text_until}
+use Rattle.unftp_control_defs.proofs.LineLemmas.{Lines-lines_of, line_first, lines_of-concat}
+use Rattle.unftp_control_line_parser.specs.Memory.{AnswerMayTakeMemory, MayTakeMemory}
+use Rattle.unftp_control_serve.specs.Decoder.{MayRunOut}
+use Rattle.unftp_control_serve.specs.Endings.{Snapshot, Cause, Finished, Write, Handler, LineMemory, ReplyMemory, EndsAt, RunFailed, part_written, text_until}
 use Rattle.unftp_control_serve.specs.Writing.{Begins, Flushed}
 use Rattle.unftp_control_serve.specs.declared.error.ServeError.{ServeError}
 use Rattle.unftp_control_login.specs.declared.stage.Stage.{Stage}
 use Rattle.unftp_control_login.specs.declared.stage.Stage.TheVariants.{NoName, Named, LoggedIn}
 use Rattle.unftp_control_login.specs.Login.{Accounts}
+use Rattle.unftp_control_login.specs.HandlerCalls.{Call, passes, makes}
 use Rattle.unftp_control_login.specs.Gate.{Gated, admitted, closed, gated_law, inner_after, not_accepted, password_reply, stage_after, stage_after_password}
 use Rattle.unftp_control_login.specs.LoginLimit.{Limited, is_pass, limited_law, limited_to, too_many}
-use Rattle.unftp_control_login.specs.Promises.{AllLookAlike, AnsweredAlike, AtEachPlace, PasswordFits, FailsAlike, IsRefusedLogin, LooksAlike, login_lines, pass_line}
+use Rattle.unftp_control_login.specs.Promises.{AllLookAlike, AnsweredAlike, AtEachPlace, CallsAlike, DifferInPasswords, GivesPassword, PasswordFits, FailsAlike, IsRefusedLogin, LooksAlike, at_each, gate_calls, limit_calls, login_lines, pass_line}
 use Rattle.unftp_control_login.proofs.StageLemmas.{Reason, stage_after-reason}
 
 -- Lines of passwords may take memory.
-abbrev FromLine : Option ℕ → FtpEvent → Type 0
-FromLine limit event = (line : Bytes) × IsLine line × (event ≡ event_for limit line)
+pass-answer : (answer : Answer) → IsTrue (is_pass (event_of answer)) → AnswerMayTakeMemory answer
+pass-answer (Ok (Pass password)) h = refl
+pass-answer (Ok command) h = absurd (false≢true h)
+pass-answer (Err refusal) h = tt
 
-from_lines : (limit : Option ℕ) (lines : List Bytes) → AllByRecursion IsLine lines
-    → AllByRecursion (FromLine limit) (map (event_for limit) lines)
-from_lines limit [] each = tt
-from_lines limit (line ∷ lines) each = ((line, each.0, refl), from_lines limit lines each.1)
+pass-verb : (line : Bytes) (test : Bool) → is_utf8 (verb_of line) ≡ test
+    → IsTrue (is_pass (event_of
+    (cond test (answer_by (rule_of (upper (verb_of line))) (parameter_of line))
+    (Err InvalidUtf8))))
+    → is_utf8 (verb_of line) ≡ true
+pass-verb line true e h = e
+pass-verb line false e h = absurd (false≢true h)
 
-abbrev command_in : FtpEvent → FtpCommand
-command_in (Command command) = command
-command_in event = Quit
+pass-memory : (limit : Option ℕ) (line : Bytes) (long : Bool) → exceeds limit (length line) ≡ long
+    → IsTrue (is_pass (cond long (Refused line_too_long) (event_of (outcome line))))
+    → (exceeds limit (length line) ≡ false) × MayTakeMemory line
+pass-memory limit line true e h = absurd (false≢true h)
+pass-memory limit line false e h =
+    (e, (pass-verb line (is_utf8 (verb_of line)) refl h, pass-answer (outcome line) h))
 
-module _ (limit : Option ℕ) (line password : Bytes) (is_line : IsLine line) where
-  pass-answer : (answer : Answer) → Command (Pass password) ≡ event_of answer
-      → AnswerMayTakeMemory answer
-  pass-answer (Ok command) same =
-      let takes : takes_no_memory (command_in (Command (Pass password))) ≡ false = refl in
-      subst (λ event. takes_no_memory (command_in event) ≡ false) same takes
-  pass-answer (Err refusal) same = tt
+-- Where memory may run out for a line of an input, it may for that at the same place of another one
+-- that differs in passwords.
+abbrev SameOrPasswords : Option ℕ → Bytes → Bytes → Type 0
+SameOrPasswords limit line another =
+    (line ≡ another) ⊎ (GivesPassword limit line × GivesPassword limit another)
 
-  pass-verb : (test : Bool) → is_utf8 (verb_of line) ≡ test
-      → Command (Pass password)
-      ≡ event_of (cond test (answer_by (rule_of (upper (verb_of line))) (parameter_of line))
-      (Err InvalidUtf8))
-      → is_utf8 (verb_of line) ≡ true
-  pass-verb true e same = e
-  pass-verb false e same = absurd (cc)
+record NextAlike (limit : Option ℕ) (line : Bytes) (others : List Bytes) : Type 0 where
+  other : Bytes
+  later : List Bytes
+  is : others ≡ other ∷ later
+  alike : SameOrPasswords limit line other
 
-  pass-memory : (long : Bool) → Command (Pass password) ≡ cond long (Refused line_too_long)
-      (event_of (outcome line))
-      → EventMayTakeMemory (Command (Pass password))
-  pass-memory true same = absurd (cc)
-  pass-memory false same = (
-    line,
-    is_line,
-    same,
-    (pass-verb (is_utf8 (verb_of line)) refl same, pass-answer (outcome line) same),
-  )
+abbrev first_of : List Bytes → Bytes
+first_of [] = []
+first_of (line ∷ lines) = line
 
-all-later : (P : FtpEvent → Type 0) (events later : List FtpEvent)
-    → AllByRecursion P (events ++ later) → AllByRecursion P later
-all-later P [] later each = each
-all-later P (event ∷ events) later each = all-later P events later each.1
+next-alike : (limit : Option ℕ) (n : ℕ) (before lines others : List Bytes) {line : Bytes}
+    {later : List Bytes}
+    → AtEachPlace (λ _ line another. SameOrPasswords limit line another) before lines others
+    → drop n lines ≡ line ∷ later → NextAlike limit line (drop n others)
+next-alike limit zero before [] others same is = absurd (cc)
+next-alike limit zero before (line ∷ lines) [] same is = absurd same
+next-alike limit zero before (line ∷ lines) (other ∷ others) same is = record {
+  other = other;
+  later = others;
+  is = refl;
+  alike = subst (λ line. SameOrPasswords limit line other) (ap first_of is) same.0;
+}
+next-alike limit (suc n) before [] others same is = absurd (cc)
+next-alike limit (suc n) before (line ∷ lines) [] same is = absurd same
+next-alike limit (suc n) before (line ∷ lines) (other ∷ others) same is =
+    next-alike limit n (before ++ line ∷ []) lines others same.1 is
 
-all-or-none : (P : FtpEvent → Type 0) (done : Bool) (later : List FtpEvent) → AllByRecursion P later
-    → AllByRecursion P (cond done [] later)
-all-or-none P true later each = tt
-all-or-none P false later each = each
+all-drop : (n : ℕ) (lines : List Bytes) → AllByRecursion IsLine lines
+    → AllByRecursion IsLine (drop n lines)
+all-drop zero lines each = each
+all-drop (suc n) [] each = tt
+all-drop (suc n) (line ∷ lines) each = all-drop n lines each.1
+
+module _ (limit : Option ℕ) (n : ℕ) (input other : Bytes)
+    (v : MayRunOut limit (after_lines n input)) where
+  next-line : drop n (lines_of input) ≡ v.line ∷ lines_of v.after
+  next-line =
+      sym (lines_of-concat (drop n (lines_of input)) (incomplete_line input)
+      (all-drop n (lines_of input) (Lines-lines_of input).each) (Lines-lines_of input).unended).0
+      ∙ ap lines_of v.whole ∙ (line_first v.line v.after v.is_line).0
+
+  may-take : (line : Bytes) → SameOrPasswords limit v.line line
+      → (exceeds limit (length line) ≡ false) × MayTakeMemory line
+  may-take line (inl same) =
+      subst (λ line. (exceeds limit (length line) ≡ false) × MayTakeMemory line) same
+      (v.short, v.takes_memory)
+  may-take line (inr both) = pass-memory limit line (exceeds limit (length line)) refl both.1
+
+  memory-alike : DifferInPasswords limit input other → MayRunOut limit (after_lines n other)
+  memory-alike same =
+      let next : NextAlike limit v.line (drop n (lines_of other)) =
+      next-alike limit n [] (lines_of input) (lines_of other) same next-line in
+      let may = may-take next.other next.alike in
+      let each = subst (AllByRecursion IsLine) next.is
+      (all-drop n (lines_of other) (Lines-lines_of other).each) in
+      record {
+        line = next.other;
+        after = concat next.later ++ incomplete_line other;
+        is_line = each.0;
+        whole = ap (λ lines. concat lines ++ incomplete_line other) next.is
+            ∙ append_assoc next.other (concat next.later) (incomplete_line other);
+        short = may.0;
+        takes_memory = may.1;
+      }
+
+-- as many
+same-length : {A B : Type 0} (Holds : List A → A → B → Type 0) (before xs : List A) (ys : List B)
+    → AtEachPlace Holds before xs ys → length xs ≡ length ys
+same-length Holds before [] [] same = refl
+same-length Holds before [] (y ∷ ys) same = absurd same
+same-length Holds before (x ∷ xs) [] same = absurd same
+same-length Holds before (x ∷ xs) (y ∷ ys) same =
+    omega (arith, same-length Holds (before ++ x ∷ []) xs ys same.1)
 
 -- A run over events, and one over others that look like them.
 module _ {S : Type 0} (law : Law S) where
@@ -132,15 +186,6 @@ module _ {S : Type 0} (law : Law S) where
       (cond (h.done i) [] (run_of law (law.next s first) (second ∷ events))))
       ∙ ap (λ later. encoded (law.says s other) ++ later)
       (second-same (law.done (law.next s other)) events h.says_next h.next)
-
-  all-run : (P : FtpEvent → Type 0) (s : S) (events : List FtpEvent) → AllByRecursion P events
-      → AllByRecursion P (run_of law s events)
-  all-run P s [] each = tt
-  all-run P s (event ∷ events) each = (
-    each.0,
-    all-or-none P (law.done (law.next s event)) (run_of law (law.next s event) events)
-        (all-run P (law.next s event) events each.1),
-  )
 
 -- What holds of the state after some events, and of events that look alike the same step.
 pub record Alike {S : Type 0} (law : Law S) (accepts : Accounts) : Type 1 where
@@ -221,6 +266,21 @@ module _ {S : Type 0} {law : Law S} {accepts : Accounts} (alike : Alike law acce
       (replies-same events others (holds event h) same.1)
       ∙ (λ i. encoded (first.says i) ++ text_of law (first.next i) others)
 
+  -- What is the same of events that look alike is so at each event of such runs.
+  at_each-alike : {R : Type 0} (f : S → FtpEvent → R)
+      → ((past : List FtpEvent) (s : S) (event other : FtpEvent) → Holds past s
+      → LooksAlike accepts past event other → f s event ≡ f s other)
+      → (events others : List FtpEvent) {past : List FtpEvent} {s : S} → Holds past s
+      → AllAlike past events others → at_each f law s events ≡ at_each f law s others
+  at_each-alike f one [] [] h same = refl
+  at_each-alike f one [] (other ∷ others) h same = absurd same
+  at_each-alike f one (event ∷ events) [] h same = absurd same
+  at_each-alike f one (event ∷ events) (other ∷ others) {past} {s} h same =
+      let first : SameStep law s event other = step h same.0 in
+      ap (λ first. first ∷ at_each f law (law.next s event) events) (one past s event other h same.0)
+      ∙ ap (λ later. f s other ∷ later) (at_each-alike f one events others (holds event h) same.1)
+      ∙ ap (λ t. f s other ∷ at_each f law t others) first.next
+
   -- A run that failed after some of its events.
   record Split (past done later run : List FtpEvent) : Type 0 where
     done_too : List FtpEvent
@@ -250,80 +310,67 @@ module _ {S : Type 0} {law : Law S} {accepts : Accounts} (alike : Alike law acce
             (append_assoc past (event ∷ []) done) rest.later_alike;
       }
 
-  module _ (limit : Option ℕ) where
-    memory-alike : (past : List FtpEvent) (event other : FtpEvent)
-        → LooksAlike accepts past event other
-        → FromLine limit other → EventMayTakeMemory event → EventMayTakeMemory other
-    memory-alike past (Command (Pass password)) (Command (Pass other)) same (line, is_line, from)
-        may =
-        pass-memory limit line other is_line (exceeds limit (length line)) from
-    memory-alike past event other same from may = subst EventMayTakeMemory same may
+  -- what may come at the end of a run, and what looks like it
+  record EndsAlike (past : List FtpEvent) (t : S) (later others : List FtpEvent) : Type 0 where
+    now : Holds past t
+    same : AllAlike past later others
 
-    -- what may come at the end of a run, and what looks like it
-    record EndsAlike (past : List FtpEvent) (t : S) (later others : List FtpEvent) : Type 0 where
-      now : Holds past t
-      same : AllAlike past later others
-      lines : AllByRecursion (FromLine limit) others
+  ends_at-alike : {past : List FtpEvent} {t : S} (cause : Cause) (later others : List FtpEvent)
+      (t' : S) → EndsAlike past t later others
+      → EndsAt law cause t later t' → EndsAt law cause t others t'
+  ends_at-alike Finished [] [] t' both ends = ends
+  ends_at-alike Finished [] (other ∷ others) t' both ends = absurd both.same
+  ends_at-alike cause (event ∷ events) [] t' both ends = absurd both.same
+  ends_at-alike {past} {t} (Write part) (event ∷ events) (other ∷ others) t' both ends =
+      let first : SameStep law t event other = step both.now both.same.0 in
+      (ends.0 ∙ first.next, subst (λ reply. Begins (encoded reply) part) first.says ends.1)
+  ends_at-alike (Handler fault) (event ∷ events) (other ∷ others) t' both ends =
+      (step both.now both.same.0).may_fail fault ends
+  ends_at-alike LineMemory (event ∷ events) (other ∷ others) t' both ends = ends
+  ends_at-alike {past} {t} ReplyMemory (event ∷ events) (other ∷ others) t' both ends =
+      let first : SameStep law t event other = step both.now both.same.0 in
+      (ends.0 ∙ first.next, λ none. ends.1 (first.says ∙ none))
+  ends_at-alike cause events others t' both ends = absurd ends
 
-    ends_at-alike : {past : List FtpEvent} {t : S} (cause : Cause) (later others : List FtpEvent)
-        (t' : S) → EndsAlike past t later others
-        → EndsAt law cause t later t' → EndsAt law cause t others t'
-    ends_at-alike Finished [] [] t' both ends = ends
-    ends_at-alike Finished [] (other ∷ others) t' both ends = absurd both.same
-    ends_at-alike cause (event ∷ events) [] t' both ends = absurd both.same
-    ends_at-alike {past} {t} (Write part) (event ∷ events) (other ∷ others) t' both ends =
-        let first : SameStep law t event other = step both.now both.same.0 in
-        (ends.0 ∙ first.next, subst (λ reply. Begins (encoded reply) part) first.says ends.1)
-    ends_at-alike (Handler fault) (event ∷ events) (other ∷ others) t' both ends =
-        (step both.now both.same.0).may_fail fault ends
-    ends_at-alike {past} LineMemory (event ∷ events) (other ∷ others) t' both ends =
-        (ends.0, memory-alike past event other both.same.0 both.lines.0 ends.1)
-    ends_at-alike {past} {t} ReplyMemory (event ∷ events) (other ∷ others) t' both ends =
-        let first : SameStep law t event other = step both.now both.same.0 in
-        (ends.0 ∙ first.next, λ none. ends.1 (first.says ∙ none))
-    ends_at-alike cause events others t' both ends = absurd ends
-
-    fails-alike : {before after : Snapshot S} {error : ServeError} {done : List FtpEvent}
-        (events others : List FtpEvent) → Holds [] before.state → AllAlike [] events others
-        → AllByRecursion (FromLine limit) others
-        → RunFailed law before (run_of law before.state events) after error done
-        → (done_too : List FtpEvent) × RunFailed law before (run_of law before.state others)
-        after error done_too
-    fails-alike {before} {after} {error} {done} events others h same lines failed =
-        let s = before.state in
-        let runs = run-alike events others h same in
-        let cut = split done (run_of law s others)
-        (subst (λ run. AllAlike [] run (run_of law s others)) failed.split runs) in
-        let from = subst (AllByRecursion (FromLine limit)) cut.whole
-        (all-run law (FromLine limit) s others lines) in
-        let text = replies-same done cut.done_too h cut.done_alike in (
-          cut.done_too,
-          record {
-            later = cut.later_too;
-            split = cut.whole;
-            cause = failed.cause;
-            means = failed.means;
-            ended = record {
-              ends_at = subst (λ t. EndsAt law failed.cause t cut.later_too after.state)
-                  (last-same done cut.done_too h cut.done_alike)
-                  (ends_at-alike failed.cause failed.later cut.later_too after.state
-                  (record {
-                    now = holds-after done h;
-                    same = cut.later_alike;
-                    lines = all-later (FromLine limit) cut.done_too cut.later_too from;
-                  })
-                  failed.ended.ends_at);
-              written =
-                  subst (λ text. Appends before.output.written after.output.written
-                  (text_until text failed.cause)) text failed.ended.written;
-              flushed =
-                  subst (λ text. Flushed text (part_written failed.cause)
-                  before.output.unflushed after.output.unflushed) text failed.ended.flushed;
-              write_failed = failed.ended.write_failed;
-              handler_failed = failed.ended.handler_failed;
-            };
-          },
-        )
+  fails-alike : (limit : Option ℕ) (input other : Bytes) {before after : Snapshot S}
+      {error : ServeError} {done : List FtpEvent} → Holds [] before.state
+      → AllAlike [] (events limit input) (events limit other)
+      → DifferInPasswords limit input other
+      → RunFailed limit law before input after error done
+      → (done_too : List FtpEvent) × RunFailed limit law before other after error done_too
+  fails-alike limit input other {before} {after} {error} {done} h same differ failed =
+      let s = before.state in
+      let runs = run-alike (events limit input) (events limit other) h same in
+      let cut = split done (run_of law s (events limit other))
+      (subst (λ run. AllAlike [] run (run_of law s (events limit other))) failed.split runs) in
+      let text = replies-same done cut.done_too h cut.done_alike in (
+        cut.done_too,
+        record {
+          later = cut.later_too;
+          split = cut.whole;
+          cause = failed.cause;
+          means = failed.means;
+          ended = record {
+            ends_at = subst (λ t. EndsAt law failed.cause t cut.later_too after.state)
+                (last-same done cut.done_too h cut.done_alike)
+                (ends_at-alike failed.cause failed.later cut.later_too after.state
+                (record { now = holds-after done h; same = cut.later_alike })
+                failed.ended.ends_at);
+            written =
+                subst (λ text. Appends before.output.written after.output.written
+                (text_until text failed.cause)) text failed.ended.written;
+            flushed =
+                subst (λ text. Flushed text (part_written failed.cause)
+                before.output.unflushed after.output.unflushed) text failed.ended.flushed;
+            write_failed = failed.ended.write_failed;
+            handler_failed = failed.ended.handler_failed;
+          };
+          next_line =
+              λ at_line. subst (λ n. MayRunOut limit (after_lines n other))
+              (same-length (LooksAlike accepts) [] done cut.done_too cut.done_alike)
+              (memory-alike limit (length done) input other (failed.next_line at_line) differ);
+        },
+      )
 
 -- Steps of the gate.
 record Outcome : Type 0 where
@@ -416,6 +463,16 @@ gate-steps law {s = s} {name} {password} {other} {another} first second h =
       next = ap (after_outcome law (record s { quit = s.quit || false })) same;
     }
 
+calls-step : {S : Type 0} {accepts : Accounts} {past : List FtpEvent} {s : Gated S}
+    (event other : FtpEvent)
+    → Follows accepts past s → LooksAlike accepts past event other
+    → gate_calls s event ≡ gate_calls s other
+calls-step (Command (Pass password)) (Command (Pass other)) h same =
+    ap (λ (outcome : Outcome). passes (option_map (λ name. Command (User name)) outcome.name)
+    ++ makes (Some outcome.reply))
+    (outcome-alike password other h same)
+calls-step {s = s} event other h same = ap (gate_calls s) same
+
 -- Steps of a limit.
 is_pass-alike : (accepts : Accounts) (past : List FtpEvent) (event other : FtpEvent)
     → LooksAlike accepts past event other → is_pass event ≡ is_pass other
@@ -440,6 +497,14 @@ limit-step {law = law} {s} {event} {other} pass same = record {
     fails fault (inl may) = inl (same.may_fail fault may)
     fails fault (inr last) =
         inr (subst IsTrue (λ i. pass i && not (is_positive (same.says i))) last.0, last.1, last.2)
+
+limit_calls-step : {S : Type 0} (law : Law S) (s : Limited (Gated S)) (event other : FtpEvent)
+    → is_pass event ≡ is_pass other → gate_calls s.inner event ≡ gate_calls s.inner other
+    → (gated_law law).says s.inner event ≡ (gated_law law).says s.inner other
+    → limit_calls law s event ≡ limit_calls law s other
+limit_calls-step law s event other pass calls says =
+    λ i. calls i
+    ++ makes (cond ((pass i && not (is_positive (says i))) && nat_le s.left 1) (Some too_many) None)
 
 limit-steps : {S : Type 0} {law : Law S} {s : Limited S} {name password other another : Bytes}
     → SameSteps law s.inner (Command (User name)) (Command (Pass password)) (Command (User other))
@@ -518,7 +583,12 @@ module _ {S : Type 0} (limit : Option ℕ) (accepts : Accounts) (law : Law S) (s
   abbrev pub ErrorsHidden : Type 0
   ErrorsHidden = (input other : Bytes)
       → AllLookAlike accepts (events limit input) (events limit other)
-      → FailsAlike limit law s input other
+      → DifferInPasswords limit input other → FailsAlike limit law s input other
+
+  abbrev pub CallsHidden : (S → FtpEvent → List Call) → Type 0
+  CallsHidden calls = (input other : Bytes)
+      → AllLookAlike accepts (events limit input) (events limit other)
+      → CallsAlike calls limit law s input other
 
   abbrev pub PasswordsAlike : Type 0
   PasswordsAlike = (before after password other : Bytes) → incomplete_line before ≡ []
@@ -541,10 +611,17 @@ module _ {S : Type 0} {law : Law S} {accepts : Accounts} (alike : Alike law acce
       same
 
   errors-hidden : ErrorsHidden limit accepts law s
-  errors-hidden input other same before after error done is failed =
-      fails-alike alike limit (events limit input) (events limit other)
-      (subst (alike.Holds []) (sym is) first) same
-      (from_lines limit (lines_of other) (Lines-lines_of other).each) failed
+  errors-hidden input other same differ before after error done is failed =
+      fails-alike alike limit input other (subst (alike.Holds []) (sym is) first) same differ failed
+
+  calls-hidden : (calls : S → FtpEvent → List Call)
+      → ((past : List FtpEvent) (s : S) (event other : FtpEvent) → alike.Holds past s
+      → LooksAlike accepts past event other → calls s event ≡ calls s other)
+      → CallsHidden limit accepts law s calls
+  calls-hidden calls one input other same =
+      at_each-alike alike calls one (run_of law s (events limit input))
+      (run_of law s (events limit other)) first
+      (run-alike alike (events limit input) (events limit other) first same)
 
   text-passwords : PasswordsAlike limit accepts law s
   text-passwords before after password other ended one two same =
@@ -586,6 +663,10 @@ module _ {S : Type 0} (law : Law S) (limit : Option ℕ) (accepts : Accounts) (i
   pub gate-errors-hidden : ErrorsHidden limit accepts (gated_law law) (closed accepts inner)
   gate-errors-hidden = errors-hidden gate_alike limit (closed accepts inner) begins
 
+  pub gate-calls-hidden : CallsHidden limit accepts (gated_law law) (closed accepts inner) gate_calls
+  gate-calls-hidden = calls-hidden gate_alike limit (closed accepts inner) begins gate_calls
+      (λ past s event other. calls-step event other)
+
   pub gate-text-passwords : PasswordsAlike limit accepts (gated_law law) (closed accepts inner)
   gate-text-passwords = text-passwords gate_alike limit (closed accepts inner) begins
 
@@ -616,6 +697,12 @@ module _ {S : Type 0} (law : Law S) (limit : Option ℕ) (accepts : Accounts) (l
 
   pub limit-errors-hidden : ErrorsHidden limit accepts limited start
   limit-errors-hidden = errors-hidden limit_alike limit start limit_begins
+
+  pub limit-calls-hidden : CallsHidden limit accepts limited start (limit_calls law)
+  limit-calls-hidden = calls-hidden limit_alike limit start limit_begins (limit_calls law)
+      (λ past s event other h same. limit_calls-step law s event other
+      (is_pass-alike accepts _ _ _ same)
+      (calls-step event other h same) (gate-step law event other h same).says)
 
   pub limit-text-passwords : PasswordsAlike limit accepts limited start
   limit-text-passwords = text-passwords limit_alike limit start limit_begins

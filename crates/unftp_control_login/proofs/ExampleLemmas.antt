@@ -1,8 +1,9 @@
 -- What the examples need beside computation.
-use Rattle.std.proofs.Common.{◌≡◌, ◌<◌, ℕ, true, false, List, [], ◌∷◌, ◌++◌, length, take, flat_map, None, refl, sym, ap, subst, ◌∙◌, arith, codes, length-append}
+use Rattle.std.proofs.Common.{◌≡◌, inl, inr, ◌<◌, ℕ, true, false, List, [], ◌∷◌, ◌++◌, length, take, flat_map, None, refl, sym, ap, subst, ◌∙◌, arith, codes, length-append}
 use Rattle.std.specs.Prelude.{bytes_eq}
 use Rattle.std.specs.Fmt.{digits}
 use Rattle.std.specs.List.{AllByRecursion}
+use Rattle.std.specs.Str.{is_utf8, chars}
 use Rattle.std.proofs.lemmas.Bool.{false≢true}
 use Rattle.unftp_control_defs.specs.Bytes.{Bytes, LF, crlf}
 use Rattle.unftp_control_defs.specs.FtpCommand.{Noop, Pwd}
@@ -18,7 +19,7 @@ use Rattle.unftp_control_serve.specs.Endings.{Snapshot, Cause, LineMemory, Reply
 use Rattle.unftp_control_serve.specs.declared.error.ServeError.TheVariants as error
 use Rattle.unftp_control_login.specs.Login.{Accounts, GaveName, IsLoggedIn}
 use Rattle.unftp_control_login.specs.Gate.{is_logged_in}
-use Rattle.unftp_control_login.specs.Promises.{AfterLogin, AllLookAlike, AtEachPlace, FailsAlike, LooksAlike, MembersAlone, SendsPlainReplies, ServesMembersAlone}
+use Rattle.unftp_control_login.specs.Promises.{AfterLogin, AllLookAlike, AtEachPlace, DifferInPasswords, FailsAlike, LooksAlike, MembersAlone, SendsPlainReplies, ServesMembersAlone}
 use Rattle.unftp_control_login.specs.Examples.{anna, anna_and_ben, ben, counting, here, only_anna, pass, secret, silent, user, wrong}
 use Rattle.unftp_control_defs.proofs.LineEventLemmas.{events-canonical_line}
 use Rattle.unftp_control_login.proofs.StageLemmas.{stage_after_all, GaveName-stage, IsLoggedIn-stage}
@@ -76,6 +77,10 @@ pub each : AllLookAlike anna_and_ben (user anna ∷ pass wrong ∷ Command Noop 
     (user anna ∷ pass (codes "other") ∷ Command Noop ∷ [])
 each = (refl, (another_user, (refl, tt)))
 
+pub same_lines : DifferInPasswords None (codes "NOOP\r\nPASS a\r\n") (codes "NOOP\r\nPASS b\r\n")
+unfolding is_utf8 chars lib.Utf8.encode
+same_lines = (inl refl, (inr (refl, refl), tt))
+
 pub fails : FailsAlike None counting 0 (codes "NOOP\r\n") (codes "NOOP\r\n")
 fails before after error done same failed = (done, failed)
 
@@ -91,10 +96,10 @@ at_state n =
       output = record { written = None; failures = 0; unflushed = 0 };
     }
 
-no_memory : RunFailed counting (at_state 0) (Command Noop ∷ []) (at_state 1) error.OutOfMemory []
+no_memory : RunFailed None counting (at_state 0) (codes "NOOP\r\n") (at_state 1) error.OutOfMemory []
 no_memory = record {
   later = Command Noop ∷ [];
-  split = refl;
+  split = ap (run_of counting 0) noop;
   cause = ReplyMemory;
   means = tt;
   ended = record {
@@ -104,6 +109,7 @@ no_memory = record {
     write_failed = refl;
     handler_failed = refl;
   };
+  next_line = λ at_line. absurd (cc);
 }
 
 none_fails : (cause : Cause) (done later : List FtpEvent) (s : ℕ) → [] ≡ done ++ later
@@ -117,9 +123,7 @@ none_fails cause [] [] s e means ends = means
 
 pub never_fails : ¬ FailsAlike None counting 0 (codes "NOOP\r\n") []
 never_fails same =
-    let other = same (at_state 0) (at_state 1) error.OutOfMemory [] refl
-    (subst (λ events. RunFailed counting (at_state 0) (run_of counting 0 events)
-    (at_state 1) error.OutOfMemory []) (sym noop) no_memory) in
+    let other = same (at_state 0) (at_state 1) error.OutOfMemory [] refl no_memory in
     none_fails other.1.cause other.0 other.1.later 1 other.1.split other.1.means
     other.1.ended.ends_at
 

@@ -1,5 +1,8 @@
+mod CallLemmas
+mod CalledLemmas
 pub mod StageLemmas
 pub mod MemberLemmas
 pub mod AlikeLemmas
 pub mod LimitLemmas
 mod ExampleLemmas
+mod CallExampleLemmas

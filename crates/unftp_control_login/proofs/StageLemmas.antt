@@ -10,7 +10,8 @@ use Rattle.unftp_control_defs.specs.Run.{Law, last_state}
 use Rattle.unftp_control_login.specs.declared.stage.Stage.{Stage}
 use Rattle.unftp_control_login.specs.declared.stage.Stage.TheVariants.{NoName, Named, LoggedIn}
 use Rattle.unftp_control_login.specs.Login.{Accounts, GaveName, IsLoggedIn, KeepsLogin, KeepsName, is_login, needs_login}
-use Rattle.unftp_control_login.specs.Gate.{Gated, gated_law, is_barred, is_logged_in, login_needed, own_reply, passed_on, stage_after}
+use Rattle.unftp_control_login.specs.HandlerCalls.{Call}
+use Rattle.unftp_control_login.specs.Gate.{Gated, gated_law, is_barred, is_logged_in, login_needed, own_reply, passed_on, questions, stage_after}
 
 abbrev pub stage_after_all : Accounts → Stage → List FtpEvent → Stage
 stage_after_all accepts stage [] = stage
@@ -213,3 +214,11 @@ pub needs-other : (event : FtpEvent) → IsTrue (needs_login event) → is_login
 needs-other (Command (User name)) needs = absurd (false≢true needs)
 needs-other (Command (Pass password)) needs = absurd (false≢true needs)
 needs-other event needs = refl
+
+-- what is neither USER nor PASS asks the accounts nothing
+pub asked-nothing : (asked : List Call) (stage : Stage) (event : FtpEvent)
+    → is_login event ≡ false → asked ≡ asked ++ questions stage event
+asked-nothing asked stage (Command (Pass password)) other = absurd (false≢true (sym other))
+asked-nothing asked (Named name) event other = sym (append-nil asked)
+asked-nothing asked NoName event other = sym (append-nil asked)
+asked-nothing asked LoggedIn event other = sym (append-nil asked)

@@ -6,6 +6,7 @@ use Rattle.unftp_control_defs.specs.Events.{FtpEvent, Command, out_of_memory}
 use Rattle.unftp_control_defs.specs.FtpReply.{FtpReply, Nothing, CodeAndMsg}
 use Rattle.unftp_control_defs.specs.Run.{Law}
 use Rattle.unftp_control_login.specs.Login.{Accounts}
+use Rattle.unftp_control_login.specs.HandlerCalls.{Call, CallState}
 
 abbrev pub anna : Bytes
 anna = codes "anna"
@@ -39,6 +40,10 @@ login = user anna ∷ pass secret ∷ []
 
 abbrev pub here : FtpReply
 here = CodeAndMsg 257 (codes "here")
+
+-- calls that were made, how often memory was refused, and how often the handler failed
+abbrev pub so_far : List Call → ℕ → ℕ → CallState
+so_far calls refused failed = record { calls = calls; refused = refused; failed = failed }
 
 -- counts the events that it receives, and is done after nine
 abbrev pub counting : Law ℕ

@@ -1,5 +1,5 @@
 -- A login gate before a handler: what it answers itself, and what it passes on to the handler.
-use Rattle.std.specs.Prelude.{◌≡◌, Bool, true, false, if◌then◌else◌, ◌&&◌, ◌||◌, not, Option, Some, None, IsSome, IsSomeAnd, unwrap_or, option_map, ◌⊎◌, codes}
+use Rattle.std.specs.Prelude.{◌≡◌, List, [], ◌∷◌, Bool, true, false, if◌then◌else◌, ◌&&◌, ◌||◌, not, Option, Some, None, IsSome, IsSomeAnd, unwrap_or, option_map, ◌⊎◌, codes}
 use Rattle.unftp_control_defs.specs.Bytes.{Bytes}
 use Rattle.unftp_control_defs.specs.FtpCommand.{User, Pass}
 use Rattle.unftp_control_defs.specs.Events.{FtpEvent, Command, is_quit, out_of_memory}
@@ -8,6 +8,7 @@ use Rattle.unftp_control_defs.specs.Run.{Law}
 use Rattle.unftp_control_login.specs.declared.stage.Stage.{Stage}
 use Rattle.unftp_control_login.specs.declared.stage.Stage.TheVariants.{NoName, Named, LoggedIn}
 use Rattle.unftp_control_login.specs.Login.{Accounts, needs_login, flushes_login}
+use Rattle.unftp_control_login.specs.HandlerCalls.{Call, Asks}
 
 -- its replies (RFC 959, section 5.4)
 abbrev pub password_needed : FtpReply
@@ -67,6 +68,11 @@ passed_on accepts stage (Command (User name)) = None
 passed_on accepts stage (Command (Pass password)) =
     option_map (λ name. Command (User name)) (admitted accepts stage password)
 passed_on accepts stage event = if is_barred stage event then None else Some event
+
+-- What the accounts are asked: whether a password that comes after a name is that of the name.
+abbrev pub questions : Stage → FtpEvent → List Call
+questions (Named name) (Command (Pass password)) = Asks name password ∷ []
+questions stage event = []
 
 abbrev pub inner_after : {S : Type 0} → Law S → S → Option FtpEvent → S
 inner_after law inner None = inner

@@ -1,6 +1,10 @@
 pub mod Login
+pub mod HandlerCalls
+pub mod CallMeaning
+pub mod CallsOf
 pub mod Gate
 pub mod GateState
 pub mod LoginLimit
+pub mod LimitState
 pub mod Promises
 pub mod Examples

@@ -1,5 +1,5 @@
 -- A limit on the failed logins of a session, before any handler.
-use Rattle.std.specs.Prelude.{◌≡◌, ◌≤◌, ℕ, ◌+◌, ◌-◌, ◌==◌, nat_le, Bool, true, false, ◌&&◌, ◌||◌, not, if◌then◌else◌, IsTrue, List, [], ◌∷◌, ◌++◌, ◌⊎◌, codes}
+use Rattle.std.specs.Prelude.{◌≡◌, ◌≤◌, ℕ, ◌+◌, ◌-◌, ◌==◌, nat_le, Bool, true, false, ◌&&◌, ◌||◌, not, if◌then◌else◌, IsTrue, List, [], ◌∷◌, ◌++◌, Option, Some, None, ◌⊎◌, codes}
 use Rattle.unftp_control_defs.specs.FtpCommand.{Pass}
 use Rattle.unftp_control_defs.specs.Events.{FtpEvent, Command, out_of_memory}
 use Rattle.unftp_control_defs.specs.FtpReply.{FtpReply, CodeAndMsg, is_positive}
@@ -41,6 +41,11 @@ pub record Limited (S : Type 0) : Type 0 where
 abbrev pub limited_reply : ℕ → FtpEvent → FtpReply → FtpReply
 limited_reply left event reply =
     if is_failed_login event reply && nat_le left 1 then too_many else reply
+
+-- the limit's own reply
+abbrev pub last_reply : ℕ → FtpEvent → FtpReply → Option FtpReply
+last_reply left event reply =
+    if is_failed_login event reply && nat_le left 1 then Some too_many else None
 
 abbrev pub left_after : ℕ → FtpEvent → FtpReply → ℕ
 left_after left event reply = if is_failed_login event reply then left - 1 else left

@@ -1,16 +1,19 @@
 -- What a login gate promises of all inputs.
-use Rattle.std.specs.Prelude.{◌≡◌, ℕ, ◌<◌, ⊤, false, IsTrue, length, take, List, [], ◌∷◌, ◌++◌, Option}
+use Rattle.std.specs.Prelude.{◌≡◌, ℕ, ◌<◌, ⊤, ◌⊎◌, false, IsTrue, length, take, List, [], ◌∷◌, ◌++◌, Option}
 use Rattle.unftp_control_defs.specs.Bytes.{Bytes, LF, Lacks}
 use Rattle.unftp_control_defs.specs.Canonical.{canonical_line}
 use Rattle.unftp_control_defs.specs.FtpCommand.{User, Pass}
-use Rattle.unftp_control_defs.specs.Events.{FtpEvent, Command, exceeds, events}
+use Rattle.unftp_control_defs.specs.Events.{FtpEvent, Command, event_for, exceeds, events}
 use Rattle.unftp_control_defs.specs.FtpReply.{FtpReply, Nothing, CodeAndMsg, MultiLine, IsPlain}
+use Rattle.unftp_control_defs.specs.Lines.{lines_of}
 use Rattle.unftp_control_defs.specs.ReplyReader.{AllReplies}
 use Rattle.unftp_control_defs.specs.Run.{Law, last_state, run_for}
 use Rattle.unftp_control_serve.specs.Endings.{Snapshot, RunFailed}
 use Rattle.unftp_control_serve.specs.declared.error.ServeError.{ServeError}
 use Rattle.unftp_control_login.specs.Login.{Accounts, GaveName, IsLoggedIn, needs_login}
-use Rattle.unftp_control_login.specs.Gate.{closed, gated_law, login_needed}
+use Rattle.unftp_control_login.specs.HandlerCalls.{Call, passes, makes}
+use Rattle.unftp_control_login.specs.Gate.{Gated, closed, gated_law, login_needed, own_reply, passed_on}
+use Rattle.unftp_control_login.specs.LoginLimit.{Limited, is_pass, last_reply}
 
 -- The event after these is answered 530, and the handler doesn't receive it.
 abbrev pub IsTurnedAway : {S : Type 0} → Law S → Accounts → S → List FtpEvent → FtpEvent → Type 0
@@ -91,14 +94,44 @@ LooksAlike accepts before event other = event ≡ other
 abbrev pub AllLookAlike : Accounts → List FtpEvent → List FtpEvent → Type 0
 AllLookAlike accepts events others = AtEachPlace (LooksAlike accepts) [] events others
 
+-- The lines of the inputs are the same, but those that give a password.
+abbrev pub GivesPassword : Option ℕ → Bytes → Type 0
+GivesPassword limit line = IsTrue (is_pass (event_for limit line))
+
+abbrev pub DifferInPasswords : Option ℕ → Bytes → Bytes → Type 0
+DifferInPasswords limit input other = AtEachPlace
+    (λ _ line another. (line ≡ another) ⊎ (GivesPassword limit line × GivesPassword limit another))
+    [] (lines_of input) (lines_of other)
+
 -- However a session over the first input fails, one over the other may fail too: with the same
 -- error, and with the same bytes written.
 abbrev pub FailsAlike : {S : Type 0} → Option ℕ → Law S → S → Bytes → Bytes → Type 0
 FailsAlike {S = S} limit law s input other =
     (before after : Snapshot S) (error : ServeError) (done : List FtpEvent) → before.state ≡ s
-    → RunFailed law before (run_for limit law before.state input) after error done
-    → (others : List FtpEvent)
-    × RunFailed law before (run_for limit law before.state other) after error others
+    → RunFailed limit law before input after error done
+    → (others : List FtpEvent) × RunFailed limit law before other after error others
+
+-- Of each event of a run and the state before it.
+abbrev pub at_each : {S R : Type 0} → (S → FtpEvent → R) → Law S → S → List FtpEvent → List R
+at_each f law s [] = []
+at_each f law s (event ∷ events) = f s event ∷ at_each f law (law.next s event) events
+
+-- What a gate calls at an event, beside the accounts.
+abbrev pub gate_calls : {S : Type 0} → Gated S → FtpEvent → List Call
+gate_calls s event =
+    passes (passed_on s.accepts s.stage event) ++ makes (own_reply s.accepts s.stage event)
+
+-- What a gate and the limit before it call.
+abbrev pub limit_calls : {S : Type 0} → Law S → Limited (Gated S) → FtpEvent → List Call
+limit_calls law s event = gate_calls s.inner event
+    ++ makes (last_reply s.left event ((gated_law law).says s.inner event))
+
+-- In the runs over both inputs the same is called, event for event.
+abbrev pub CallsAlike : {S : Type 0} → (S → FtpEvent → List Call) → Option ℕ → Law S → S → Bytes
+    → Bytes → Type 0
+CallsAlike calls limit law s input other =
+    at_each calls law s (run_for limit law s input)
+    ≡ at_each calls law s (run_for limit law s other)
 
 -- the line is within the limit
 abbrev pub Fits : Option ℕ → Bytes → Type 0

@@ -1,8 +1,8 @@
 //! Sessions worked out by hand: what the definitions of a login say of them.
-ghost use Rattle.std.specs.Prelude.{◌≡◌, ◌++◌, not, true, false, [], ◌∷◌, None, Some, codes};
+ghost use Rattle.std.specs.Prelude.{◌≡◌, ℕ, ◌++◌, not, true, false, [], ◌∷◌, None, Some, codes};
 ghost use Rattle.std.specs.List.{list_all};
 ghost use Rattle.unftp_control_defs.specs.FtpCommand.{User, Pass, Acct, Syst, Stat, TypeCode, Stru, Mode, Help, Noop, Pasv, Epsv, Port, Retr, Stor, Appe, List, Nlst, Mlst, Mlsd, Feat, Pwd, Cwd, Cdup, Opts, Dele, Rmd, Quit, Mkd, Allo, Abor, Stou, Rnfr, Rnto, Auth, Ccc, Pbsz, Prot, Size, Rest, Mdtm, Md5, Site, Other};
-ghost use Rattle.unftp_control_defs.specs.Events.{Command, Refused, line_too_long};
+ghost use Rattle.unftp_control_defs.specs.Events.{Command, Refused, line_too_long, out_of_memory};
 ghost use Rattle.unftp_control_defs.specs.FtpReply.{Nothing, CodeAndMsg, MultiLine};
 ghost use Rattle.unftp_control_defs.specs.Run.{last_state, replies};
 ghost use Rattle.unftp_control_defs.specs.declared.parameters.AuthParam.TheVariants.{Tls};
@@ -11,10 +11,12 @@ ghost use Rattle.unftp_control_defs.specs.declared.parameters.Opt.TheVariants.{U
 ghost use Rattle.unftp_control_defs.specs.declared.parameters.ProtParam.TheVariants.{Private};
 ghost use Rattle.unftp_control_defs.specs.declared.parameters.StruParam.TheVariants.{File};
 ghost use Rattle.unftp_control_login.specs.Login.{GaveName, HasLoggedIn, IsLoggedIn, flushes_login, is_login, needs_login};
-ghost use Rattle.unftp_control_login.specs.Gate.{closed, gated_law, logged_in, login_needed, name_needed, not_accepted, password_needed};
+ghost use Rattle.unftp_control_login.specs.declared.stage.Stage.TheVariants.{LoggedIn, Named, NoName};
+ghost use Rattle.unftp_control_login.specs.HandlerCalls.{AllCalled, Asks, HandlerFailed, Makes, Passes, ReplyRefused};
+ghost use Rattle.unftp_control_login.specs.Gate.{closed, gated_law, logged_in, login_needed, name_needed, not_accepted, password_needed, questions};
 ghost use Rattle.unftp_control_login.specs.LoginLimit.{EndsWith, failed_in_run, limited_law, limited_to, too_many};
-ghost use Rattle.unftp_control_login.specs.Promises.{AllLookAlike, PasswordFits, FailsAlike, IsRefusedLogin, IsSentPlain, IsTurnedAway, LearnsName, LooksAlike, MembersAlone, NoFailure, ReachesHandler, SendsPlainReplies, ServesMembersAlone, login_lines};
-ghost use Rattle.unftp_control_login.specs.Examples.{anna, anna_and_ben, ben, counting, here, login, only_anna, pass, secret, silent, user, wrong};
+ghost use Rattle.unftp_control_login.specs.Promises.{AllLookAlike, CallsAlike, DifferInPasswords, PasswordFits, FailsAlike, IsRefusedLogin, IsSentPlain, IsTurnedAway, LearnsName, LooksAlike, MembersAlone, NoFailure, ReachesHandler, SendsPlainReplies, ServesMembersAlone, at_each, gate_calls, limit_calls, login_lines};
+ghost use Rattle.unftp_control_login.specs.Examples.{anna, anna_and_ben, ben, counting, here, login, only_anna, pass, secret, silent, so_far, user, wrong};
 
 /// Which events need a login, and which undo one.
 pub fn logins_are_needed()
@@ -65,6 +67,52 @@ pub fn a_gate_answers()
     ensures quit { (gated_law counting).done
         (last_state (gated_law counting) (closed only_anna 0) (Command Quit ∷ [])) ≡ true }
     ensures handler_done { (gated_law counting).done (closed only_anna 9) ≡ true }
+{}
+
+/// What the accounts are asked: only about a password, of the name before it, and once.
+pub fn accounts_are_asked()
+    ensures asked { questions (Named anna) (pass secret) ≡ Asks anna secret ∷ [] }
+    ensures another_user { questions (Named anna) (pass secret) ≡ Asks ben secret ∷ [] → ⊥ }
+    ensures twice { questions (Named anna) (pass wrong)
+        ≡ Asks anna wrong ∷ Asks anna (wrong ++ codes "!") ∷ [] → ⊥ }
+    ensures no_name { (questions NoName (pass secret) ≡ []) × (questions LoggedIn (pass secret) ≡ []) }
+    ensures other_events { (questions (Named anna) (user ben) ≡ [])
+        × (questions (Named anna) (Command Noop) ≡ []) }
+{}
+
+/// What a gate and a limit call: the handler receives an event once, and memory is asked for one
+/// reply.
+pub fn calls_are_made()
+    ensures refused_login { gate_calls (last_state (gated_law counting) (closed only_anna 0)
+        (user anna ∷ [])) (pass wrong) ≡ Makes not_accepted ∷ [] }
+    ensures login { gate_calls (last_state (gated_law counting) (closed only_anna 0)
+        (user anna ∷ [])) (pass secret) ≡ Passes (user anna) ∷ Makes logged_in ∷ [] }
+    ensures stranger { gate_calls {S = ℕ} (closed only_anna 0) (Command Pwd) ≡ Makes login_needed ∷ [] }
+    ensures anyone { gate_calls {S = ℕ} (closed only_anna 0) (Command Noop) ≡ Passes (Command Noop) ∷ [] }
+    ensures last { limit_calls counting (limited_to 1 (closed only_anna 0)) (pass wrong)
+        ≡ Makes name_needed ∷ Makes too_many ∷ [] }
+    ensures not_last { limit_calls counting (limited_to 2 (closed only_anna 0)) (pass wrong)
+        ≡ Makes name_needed ∷ [] }
+    ensures run { at_each gate_calls (gated_law counting) (closed only_anna 0) (user anna ∷ pass wrong ∷ [])
+        ≡ (Makes password_needed ∷ []) ∷ (Makes not_accepted ∷ []) ∷ [] }
+{}
+
+/// Why an event fails: the handler failed, and nothing was called after it; or memory was refused.
+pub fn calls_fail()
+    ensures called { AllCalled counting 0 (Some (Command Noop)) (Some here) (so_far [] 0 0)
+        (so_far (Passes (Command Noop) ∷ Makes here ∷ []) 0 0) }
+    ensures twice { AllCalled counting 0 (Some (Command Noop)) None (so_far [] 0 0)
+        (so_far (Passes (Command Noop) ∷ Passes (Command Noop) ∷ []) 0 0) → ⊥ }
+    ensures failed { HandlerFailed counting 0 (Some (Command Noop)) (Some here) (so_far [] 0 0)
+        (so_far (Passes (Command Noop) ∷ []) 0 1) out_of_memory }
+    ensures went_on { HandlerFailed counting 0 (Some (Command Noop)) (Some here) (so_far [] 0 0)
+        (so_far (Passes (Command Noop) ∷ Makes here ∷ []) 0 1) out_of_memory → ⊥ }
+    ensures refused { ReplyRefused counting 0 None (Some here) (so_far [] 0 0)
+        (so_far (Makes here ∷ []) 1 0) out_of_memory }
+    ensures not_refused { ReplyRefused counting 0 None (Some here) (so_far [] 0 0)
+        (so_far (Makes here ∷ []) 0 0) out_of_memory → ⊥ }
+    ensures not_asked { ReplyRefused counting 0 None None (so_far [] 0 0)
+        (so_far [] 1 0) out_of_memory → ⊥ }
 {}
 
 /// Who is turned away, and who reaches the handler.
@@ -119,8 +167,15 @@ pub fn passwords_look_alike()
     ensures each { AllLookAlike anna_and_ben (user anna ∷ pass wrong ∷ Command Noop ∷ [])
         (user anna ∷ pass (codes "other") ∷ Command Noop ∷ []) }
     ensures one_more { AllLookAlike only_anna (Command Noop ∷ []) [] → ⊥ }
+    ensures same_lines { DifferInPasswords None (codes "NOOP\r\nPASS a\r\n")
+        (codes "NOOP\r\nPASS b\r\n") }
+    ensures other_lines { DifferInPasswords None (codes "TYPE a\r\n") (codes "TYPE i\r\n") → ⊥ }
     ensures fails { FailsAlike None counting 0 (codes "NOOP\r\n") (codes "NOOP\r\n") }
     ensures never_fails { FailsAlike None counting 0 (codes "NOOP\r\n") [] → ⊥ }
+    ensures calls { CallsAlike gate_calls None (gated_law counting) (closed only_anna 0)
+        (codes "NOOP\r\n") (codes "NOOP\r\n") }
+    ensures other_calls { CallsAlike gate_calls None (gated_law counting) (closed only_anna 0)
+        (codes "NOOP\r\n") [] → ⊥ }
 {}
 
 /// What a limit of two failed logins answers: the second is the last.

@@ -1,23 +1,25 @@
 //! A login gate before a handler.
-ghost use Rattle.std.specs.Prelude.{◌≡◌, ◌+◌, ◌||◌, ◌⊎◌, if◌then◌else◌, false, is_ok, IfOk, IfErr, IsTrue, OnOk, OnErr};
-ghost use Rattle.unftp_control_defs.specs.Events.{is_quit, out_of_memory};
+ghost use Rattle.std.specs.Prelude.{◌≡◌, ◌+◌, ◌++◌, ◌||◌, if◌then◌else◌, false, is_ok, [], IfOk, IfErr, IsTrue, OnOk, OnErr};
+ghost use Rattle.unftp_control_defs.specs.Events.{is_quit};
 ghost use Rattle.unftp_control_defs.specs.Events as event;
 ghost use Rattle.unftp_control_defs.specs.FtpCommand.{Pass, User};
-ghost use Rattle.unftp_control_defs.specs.FtpReply.{CodeAndMsg};
 ghost use Rattle.unftp_control_reply.specs.ErrorMeaning.{fault_of};
 ghost use Rattle.unftp_control_serve.specs.EventMeaning.{event_meant};
-ghost use Rattle.unftp_control_reply.specs.ReplyMeaning.{number_of, reply_of};
+ghost use Rattle.unftp_control_reply.specs.ReplyMeaning.{reply_of};
 ghost use Rattle.unftp_control_login.specs.Login.{flushes_login, is_login, needs_login};
-ghost use Rattle.unftp_control_login.specs.Gate.{Gated, gated_law, is_logged_in, logged_in, password_reply};
-ghost use Rattle.unftp_control_login.specs.GateState.{gated};
+ghost use Rattle.unftp_control_login.specs.HandlerCalls.{CallsMade};
+ghost use Rattle.unftp_control_login.specs.CallsOf.{calls_of};
+ghost use Rattle.unftp_control_login.specs.Gate.{Gated, gated_law, is_logged_in, logged_in, password_reply, questions};
+ghost use Rattle.unftp_control_login.specs.GateState.{GateCalled, gated};
 
 use crate::accounts::Accounts;
+use crate::asked::AskedAccounts;
+use crate::inner::Inner;
 use crate::stage::Stage;
 use bytes::Bytes;
 use std::alloc::Global;
 use std::mem;
 use unftp_control_command::Command;
-use unftp_control_defs::count::Count;
 use unftp_control_reply::error::ControlChanError;
 use unftp_control_reply::{Reply, ReplyCode};
 use unftp_control_serve::{Event, Handler};
@@ -37,62 +39,40 @@ use unftp_control_serve::{Event, Handler};
 /// - It is done after QUIT, and where the handler is.
 #[derive(Drop)]
 pub struct Gate<A: Accounts, H: Handler> {
-    accounts: A,
+    accounts: AskedAccounts<A>,
     stage: Stage,
     quit: bool,
-    inner: H,
-    failures: Count,
+    inner: Inner<H>,
 }
 
 impl<A: Accounts, H: Handler> Gate<A, H> {
     /// A gate before the first event, over this handler.
     pub fn new(accounts: A, inner: H) -> Gate<A, H>
-        ensures accounts { result.accounts ≡ accounts }
+        ensures accounts { result.accounts.accounts ≡ accounts }
+        ensures questions { result.accounts.questions ≡ [] }
         ensures stage { result.stage ≡ Stage.NoName }
         ensures quit { result.quit ≡ false }
-        ensures inner { result.inner ≡ inner }
-        ensures failures { result.failures ≡ 0 }
+        ensures inner { result.inner.handler ≡ inner }
+        ensures failures { result.inner.refused ≡ 0 }
     {
         Gate {
-            accounts,
+            accounts: AskedAccounts::new(accounts),
             stage: Stage::NoName,
             quit: false,
-            inner,
-            failures: Count::new(),
+            inner: Inner::new(inner),
         }
-    }
-
-    /// A reply of its own.
-    fn own_reply(
-        &mut self,
-        alloc: Global,
-        code: ReplyCode,
-        text: &str,
-    ) -> Result<Reply, ControlChanError>
-        ensures ok { IfOk result (λ reply.
-            (reply_of reply ≡ CodeAndMsg (number_of code) text.now) × (self.new ≡ self.old)) }
-        ensures err { IfErr result (λ error. (fault_of error ≡ out_of_memory)
-            × (self.new ≡ record self.old { failures = self.old.failures + 1 })) }
-    {
-        let reply = Reply::new(alloc, code, text);
-        if reply.is_err() {
-            self.failures.raise();
-        }
-        reply
     }
 
     /// Takes a password for the name that was given.
     fn take_password(&mut self, alloc: Global, password: &[u8]) -> Result<Reply, ControlChanError>
         ensures says { IfOk result (λ reply. reply_of reply
-            ≡ password_reply (A.accepts self.old.accounts) self.old.stage password.now) }
+            ≡ password_reply (A.accepts self.old.accounts.accounts) self.old.stage password.now) }
         ensures next { OnOk result (gated A.accepts H.state self.new ≡ (gated_law H.law).next
             (gated A.accepts H.state self.old) (event.Command (Pass password.now))) }
-        ensures quiet { OnOk result (self.new.failures + H.failures self.new.inner
-            ≡ self.old.failures + H.failures self.old.inner) }
-        ensures may_fail { IfErr result (λ error. (gated_law H.law).may_fail
-            (gated A.accepts H.state self.old) (event.Command (Pass password.now)) (fault_of error)) }
-        ensures counted { OnErr result (self.new.failures + H.failures self.new.inner
-            ≡ self.old.failures + H.failures self.old.inner + 1) }
+        ensures asked { self.new.accounts.questions ≡ self.old.accounts.questions
+            ++ questions self.old.stage (event.Command (Pass password.now)) }
+        ensures calls { GateCalled H.failures H.law (gated A.accepts H.state self.old)
+            self.old.inner (event.Command (Pass password.now)) self.new.inner result }
         ensures nobody { OnErr result (IsTrue (is_logged_in self.new.stage)
             → IsTrue (is_logged_in self.old.stage)) }
     {
@@ -100,11 +80,15 @@ impl<A: Accounts, H: Handler> Gate<A, H> {
             Stage::Named(name) => name,
             other => {
                 self.stage = other;
-                return self.own_reply(alloc, ReplyCode::BadCommandSequence, "Send USER first");
+                return self
+                    .inner
+                    .own_reply(alloc, ReplyCode::BadCommandSequence, "Send USER first");
             }
         };
-        if !self.accounts.accepts(username.as_slice(), password) {
-            return self.own_reply(alloc, ReplyCode::NotLoggedIn, "Login incorrect");
+        if !self.accounts.ask(username.as_slice(), password) {
+            return self
+                .inner
+                .own_reply(alloc, ReplyCode::NotLoggedIn, "Login incorrect");
         }
         self.admit(alloc, username)
     }
@@ -112,25 +96,25 @@ impl<A: Accounts, H: Handler> Gate<A, H> {
     /// Lets the handler know who has logged in. Nobody has where it fails.
     fn admit(&mut self, alloc: Global, username: Bytes) -> Result<Reply, ControlChanError>
         ensures says { IfOk result (λ reply. reply_of reply ≡ logged_in) }
-        ensures next { OnOk result (H.state self.new.inner
-            ≡ H.law.next (H.state self.old.inner) (event.Command (User username))) }
-        ensures quiet { OnOk result (self.new.failures + H.failures self.new.inner
-            ≡ self.old.failures + H.failures self.old.inner) }
-        ensures may_fail { IfErr result (λ error. (fault_of error ≡ out_of_memory)
-            ⊎ H.law.may_fail (H.state self.old.inner) (event.Command (User username))
-            (fault_of error)) }
-        ensures counted { OnErr result (self.new.failures + H.failures self.new.inner
-            ≡ self.old.failures + H.failures self.old.inner + 1) }
+        ensures next { OnOk result (H.state self.new.inner.handler
+            ≡ H.law.next (H.state self.old.inner.handler) (event.Command (User username))) }
+        ensures calls { CallsMade H.law (H.state self.old.inner.handler)
+            (Some (event.Command (User username))) (Some logged_in)
+            (calls_of H.failures self.old.inner) (calls_of H.failures self.new.inner) result }
         ensures stage { self.new.stage
             ≡ (if is_ok result then Stage.LoggedIn else self.old.stage) }
         ensures kept { (self.new.accounts ≡ self.old.accounts)
             × (self.new.quit ≡ self.old.quit) }
     {
         let user = Event::Command(Command::User { username });
-        drop(self.inner.handle(alloc, user)?);
-        let reply = self.own_reply(alloc, ReplyCode::UserLoggedIn, "User logged in, proceed")?;
-        self.stage = Stage::LoggedIn;
-        Ok(reply)
+        drop(self.inner.pass_on(alloc, user)?);
+        let reply = self
+            .inner
+            .own_reply(alloc, ReplyCode::UserLoggedIn, "User logged in, proceed");
+        if reply.is_ok() {
+            self.stage = Stage::LoggedIn;
+        }
+        reply
     }
 
     /// Takes an event that is neither USER nor PASS.
@@ -140,18 +124,18 @@ impl<A: Accounts, H: Handler> Gate<A, H> {
             ≡ (gated_law H.law).says (gated A.accepts H.state self.old) (event_meant event)) }
         ensures next { OnOk result (gated A.accepts H.state self.new
             ≡ (gated_law H.law).next (gated A.accepts H.state self.old) (event_meant event)) }
-        ensures quiet { OnOk result (self.new.failures + H.failures self.new.inner
-            ≡ self.old.failures + H.failures self.old.inner) }
-        ensures may_fail { IfErr result (λ error. (gated_law H.law).may_fail
-            (gated A.accepts H.state self.old) (event_meant event) (fault_of error)) }
-        ensures counted { OnErr result (self.new.failures + H.failures self.new.inner
-            ≡ self.old.failures + H.failures self.old.inner + 1) }
+        ensures asked { self.new.accounts.questions ≡ self.old.accounts.questions
+            ++ questions self.old.stage (event_meant event) }
+        ensures calls { GateCalled H.failures H.law (gated A.accepts H.state self.old)
+            self.old.inner (event_meant event) self.new.inner result }
         ensures nobody { OnErr result (IsTrue (is_logged_in self.new.stage)
             → IsTrue (is_logged_in self.old.stage)) }
     {
         if needs_login(&event) && !self.stage.is_logged_in() {
             drop(event);
-            return self.own_reply(alloc, ReplyCode::NotLoggedIn, "Log in with USER and PASS");
+            return self
+                .inner
+                .own_reply(alloc, ReplyCode::NotLoggedIn, "Log in with USER and PASS");
         }
         self.pass_on(alloc, event)
     }
@@ -160,19 +144,16 @@ impl<A: Accounts, H: Handler> Gate<A, H> {
     /// handler fails.
     fn pass_on(&mut self, alloc: Global, event: Event) -> Result<Reply, ControlChanError>
         ensures says { IfOk result (λ reply. reply_of reply
-            ≡ H.law.says (H.state self.old.inner) (event_meant event)) }
-        ensures next { OnOk result (H.state self.new.inner
-            ≡ H.law.next (H.state self.old.inner) (event_meant event)) }
-        ensures quiet { OnOk result (H.failures self.new.inner ≡ H.failures self.old.inner) }
-        ensures may_fail { IfErr result (λ error. H.law.may_fail (H.state self.old.inner)
-            (event_meant event) (fault_of error)) }
-        ensures counted { OnErr result (H.failures self.new.inner
-            ≡ H.failures self.old.inner + 1) }
+            ≡ H.law.says (H.state self.old.inner.handler) (event_meant event)) }
+        ensures next { OnOk result (H.state self.new.inner.handler
+            ≡ H.law.next (H.state self.old.inner.handler) (event_meant event)) }
+        ensures calls { CallsMade H.law (H.state self.old.inner.handler)
+            (Some (event_meant event)) None
+            (calls_of H.failures self.old.inner) (calls_of H.failures self.new.inner) result }
         ensures stage { self.new.stage
             ≡ (if flushes_login (event_meant event) then Stage.NoName else self.old.stage) }
         ensures quit { self.new.quit ≡ (self.old.quit || is_quit (event_meant event)) }
-        ensures kept { (self.new.accounts ≡ self.old.accounts)
-            × (self.new.failures ≡ self.old.failures) }
+        ensures kept { self.new.accounts ≡ self.old.accounts }
     {
         if flushes_login(&event) {
             self.stage = Stage::NoName;
@@ -180,7 +161,7 @@ impl<A: Accounts, H: Handler> Gate<A, H> {
         if event.is_quit() {
             self.quit = true;
         }
-        self.inner.handle(alloc, event)
+        self.inner.pass_on(alloc, event)
     }
 }
 
@@ -191,28 +172,35 @@ impl<A: Accounts, H: Handler> Handler for Gate<A, H> {
 
     ghost law = { gated_law H.law };
 
-    ghost failures = { λ gate. gate.failures + H.failures gate.inner };
+    ghost failures = { λ gate. gate.inner.refused + H.failures gate.inner.handler };
 
     /// The reply to an event. Out of memory is returned for a reply of its own, and every other
     /// error is that of its handler. Nobody is logged in by an event that fails.
+    ///
+    /// At `Ok` and at an error alike, the accounts were asked once whether a password is that of the
+    /// name before it, and nothing at any other event.
     fn handle(&mut self, alloc: Global, event: Event) -> Result<Reply, ControlChanError>
         ensures says { IfOk result (λ reply. reply_of reply
             ≡ (gated_law H.law).says (gated A.accepts H.state self.old) (event_meant event)) }
         ensures next { OnOk result (gated A.accepts H.state self.new
             ≡ (gated_law H.law).next (gated A.accepts H.state self.old) (event_meant event)) }
-        ensures quiet { OnOk result (self.new.failures + H.failures self.new.inner
-            ≡ self.old.failures + H.failures self.old.inner) }
+        ensures quiet { OnOk result (self.new.inner.refused + H.failures self.new.inner.handler
+            ≡ self.old.inner.refused + H.failures self.old.inner.handler) }
         ensures may_fail { IfErr result (λ error. (gated_law H.law).may_fail
             (gated A.accepts H.state self.old) (event_meant event) (fault_of error)) }
-        ensures counted { OnErr result (self.new.failures + H.failures self.new.inner
-            ≡ self.old.failures + H.failures self.old.inner + 1) }
+        ensures counted { OnErr result (self.new.inner.refused + H.failures self.new.inner.handler
+            ≡ self.old.inner.refused + H.failures self.old.inner.handler + 1) }
+        ensures asked { self.new.accounts.questions ≡ self.old.accounts.questions
+            ++ questions self.old.stage (event_meant event) }
+        ensures calls { GateCalled H.failures H.law (gated A.accepts H.state self.old)
+            self.old.inner (event_meant event) self.new.inner result }
         ensures nobody { OnErr result (IsTrue (is_logged_in self.new.stage)
             → IsTrue (is_logged_in self.old.stage)) }
     {
         match event {
             Event::Command(Command::User { username }) => {
                 self.stage = Stage::Named(username);
-                self.own_reply(
+                self.inner.own_reply(
                     alloc,
                     ReplyCode::NeedPassword,
                     "User name okay, need password",

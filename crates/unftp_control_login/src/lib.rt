@@ -3,8 +3,11 @@
 #![tactic(auto)]
 
 mod accounts;
+mod asked;
+mod calls;
 pub mod examples;
 mod gate;
+mod inner;
 pub mod laws;
 mod limit;
 mod stage;

@@ -1,14 +1,14 @@
 //! A limit on the failed logins of a session.
-ghost use Rattle.std.specs.Prelude.{◌≡◌, ◌+◌, ◌≤◌, IfOk, IfErr};
-ghost use Rattle.unftp_control_defs.specs.Events.{out_of_memory};
+ghost use Rattle.std.specs.Prelude.{◌≡◌, ◌+◌, ◌≤◌, IfOk, IfErr, OnOk, OnErr};
 ghost use Rattle.unftp_control_reply.specs.ErrorMeaning.{fault_of};
 ghost use Rattle.unftp_control_reply.specs.ReplyMeaning.{reply_of};
 ghost use Rattle.unftp_control_serve.specs.EventMeaning.{event_meant};
-ghost use Rattle.unftp_control_login.specs.LoginLimit.{Limited, is_pass, limited_law, too_many};
+ghost use Rattle.unftp_control_login.specs.LoginLimit.{Limited, is_pass, limited_law};
+ghost use Rattle.unftp_control_login.specs.LimitState.{LimitCalled, limited};
 
+use crate::inner::Inner;
 use std::alloc::Global;
 use unftp_control_command::Command;
-use unftp_control_defs::count::Count;
 use unftp_control_reply::error::ControlChanError;
 use unftp_control_reply::{Reply, ReplyCode};
 use unftp_control_serve::{Event, Handler};
@@ -19,8 +19,7 @@ use unftp_control_serve::{Event, Handler};
 #[derive(Drop)]
 pub struct LoginLimit<H: Handler> {
     left: u32,
-    inner: H,
-    failures: Count,
+    inner: Inner<H>,
 }
 
 impl<H: Handler> LoginLimit<H> {
@@ -29,47 +28,43 @@ impl<H: Handler> LoginLimit<H> {
     pub fn new(limit: u32, inner: H) -> LoginLimit<H>
         requires { 1 ≤ limit }
         ensures left { result.left ≡ limit }
-        ensures inner { result.inner ≡ inner }
-        ensures failures { result.failures ≡ 0 }
+        ensures inner { result.inner.handler ≡ inner }
+        ensures failures { result.inner.refused ≡ 0 }
     {
         LoginLimit {
             left: limit,
-            inner,
-            failures: Count::new(),
+            inner: Inner::new(inner),
         }
-    }
-
-    /// The reply to the last one that may fail.
-    fn last_reply(&mut self, alloc: Global) -> Result<Reply, ControlChanError>
-        ensures ok { IfOk result (λ reply.
-            (reply_of reply ≡ too_many) × (self.new ≡ self.old)) }
-        ensures err { IfErr result (λ error. (fault_of error ≡ out_of_memory)
-            × (self.new ≡ record self.old { failures = self.old.failures + 1 })) }
-    {
-        let reply = Reply::new(
-            alloc,
-            ReplyCode::ServiceNotAvailable,
-            "Too many failed logins, closing control connection",
-        );
-        if reply.is_err() {
-            self.failures.raise();
-        }
-        reply
     }
 }
 
 impl<H: Handler> Handler for LoginLimit<H> {
     ghost State = { Limited H.State };
 
-    ghost state = { λ limit. record { left = limit.left; inner = H.state limit.inner } };
+    ghost state = { limited H.state };
 
     ghost law = { limited_law H.law };
 
-    ghost failures = { λ limit. limit.failures + H.failures limit.inner };
+    ghost failures = { λ limit. limit.inner.refused + H.failures limit.inner.handler };
 
-    fn handle(&mut self, alloc: Global, event: Event) -> Result<Reply, ControlChanError> {
+    /// The reply to an event. Out of memory is returned for the reply to the last one that may fail,
+    /// and every other error is that of its handler, which receives each event once.
+    fn handle(&mut self, alloc: Global, event: Event) -> Result<Reply, ControlChanError>
+        ensures says { IfOk result (λ reply. reply_of reply
+            ≡ (limited_law H.law).says (limited H.state self.old) (event_meant event)) }
+        ensures next { OnOk result (limited H.state self.new
+            ≡ (limited_law H.law).next (limited H.state self.old) (event_meant event)) }
+        ensures quiet { OnOk result (self.new.inner.refused + H.failures self.new.inner.handler
+            ≡ self.old.inner.refused + H.failures self.old.inner.handler) }
+        ensures may_fail { IfErr result (λ error. (limited_law H.law).may_fail
+            (limited H.state self.old) (event_meant event) (fault_of error)) }
+        ensures counted { OnErr result (self.new.inner.refused + H.failures self.new.inner.handler
+            ≡ self.old.inner.refused + H.failures self.old.inner.handler + 1) }
+        ensures calls { LimitCalled H.failures H.law (limited H.state self.old) self.old.inner
+            (event_meant event) self.new.inner result }
+    {
         let is_pass = is_pass(&event);
-        let reply = self.inner.handle(alloc, event)?;
+        let reply = self.inner.pass_on(alloc, event)?;
         if !is_pass || reply.is_positive() {
             return Ok(reply);
         }
@@ -78,7 +73,11 @@ impl<H: Handler> Handler for LoginLimit<H> {
             return Ok(reply);
         }
         drop(reply);
-        self.last_reply(alloc)
+        self.inner.own_reply(
+            alloc,
+            ReplyCode::ServiceNotAvailable,
+            "Too many failed logins, closing control connection",
+        )
     }
 
     fn done(&self) -> bool {

@@ -347,14 +347,12 @@ module _ (old new : Codec) (dropped before : Bytes) (taken : ℕ) (answer : Deco
         unscanned = rw (no_memory.kept, no_memory.place) refl;
       }
 
-  runs_out : {E : Type 0} (line : Bytes) (buffered held : ℕ) (result : Result (Option Event) E)
-      → ReturnsEvent answer result →
-      OnErr result (MayRunOut (pending_of old dropped line before buffered held))
-  runs_out {E} line buffered held result tells = by_result result tells came
+  runs_out : {E : Type 0} (result : Result (Option Event) E) → ReturnsEvent answer result
+      → OnErr result (MayRunOut old.limit (dropped ++ before))
+  runs_out {E} result tells = by_result result tells came
     where
       by_result : (result : Result (Option Event) E) → ReturnsEvent answer result
-          → Comes old new before after answer →
-          OnErr result (MayRunOut (pending_of old dropped line before buffered held))
+          → Comes old new before after answer → OnErr result (MayRunOut old.limit (dropped ++ before))
       by_result (Ok event) tells comes = tt
       by_result (Err error) tells (inl none) = absurd (none_no_memory answer none.returned tells)
       by_result (Err error) tells (inr (inl first)) =
@@ -485,11 +483,7 @@ module _ (old new : Codec) (dropped dropped' buf pending front : Bytes) (start l
       well.dropped_well well.limited limit within_the_rest of_the_rest result tells)
 
   pub runs_out-after : {E : Type 0} (result : Result (Option Event) E) → ReturnsEvent answer result
-      →
-      OnErr result
-      (MayRunOut
-      (pending_of old dropped (take line (drop (start - line) buf)) rest (length buf) held))
+      → OnErr result (MayRunOut old.limit (dropped ++ rest))
   runs_out-after result tells =
       runs_out old new dropped rest taken answer well.place_within well.dropped_well well.limited
-      limit within_the_rest of_the_rest (take line (drop (start - line) buf)) (length buf) held
-      result tells
+      limit within_the_rest of_the_rest result tells

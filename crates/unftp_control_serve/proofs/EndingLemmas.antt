@@ -1,18 +1,22 @@
 -- What comes of events that are put together.
-use Rattle.std.proofs.Common.{◌≡◌, ◌+◌, List, [], ◌∷◌, ◌++◌, Result, Ok, Err, refl, sym, ◌∙◌, ap, subst, arith, append_assoc}
+use Rattle.std.proofs.Common.{◌≡◌, ℕ, ◌+◌, false, List, [], ◌∷◌, ◌++◌, Option, Result, Ok, Err, length, refl, sym, ◌∙◌, ap, subst, arith, append_assoc}
 use Rattle.std.specs.Prelude.{IsTrue, is_ok}
 use Rattle.std.proofs.lemmas.Bool.{false≢true}
 use Rattle.std.proofs.lemmas.List.{append-nil}
-use Rattle.unftp_control_defs.specs.Events.{FtpEvent}
+use Rattle.unftp_control_defs.specs.Bytes.{Bytes}
+use Rattle.unftp_control_defs.specs.Events.{FtpEvent, events}
 use Rattle.unftp_control_defs.specs.FtpReply.{Nothing, encoded}
-use Rattle.unftp_control_defs.specs.Run.{Law, last_state, text_of}
-use Rattle.unftp_control_defs.proofs.RunLemmas.{last_state-append, text_of-append}
+use Rattle.unftp_control_defs.specs.Lines.{incomplete_line}
+use Rattle.unftp_control_defs.specs.Run.{Law, after_lines, ends_for, last_state, run_for, text_of}
+use Rattle.unftp_control_defs.proofs.RunLemmas.{last_state-append, run-append, text_of-append}
 use Rattle.unftp_control_reply.specs.ErrorParts.{KindAndSource}
 use Rattle.unftp_control_reply.specs.ErrorMeaning.{fault_of}
 use Rattle.unftp_control_serve.specs.Writing.{Sends, Sent, CutShort}
-use Rattle.unftp_control_serve.specs.Endings.{Snapshot, Cause, Finished, Write, Handler, LineMemory, ReplyMemory, IsCauseOf, EndsAt, AllAnswered, RunEnded, RunFailed, RunOutcome, part_written, text_until}
+use Rattle.unftp_control_serve.specs.Decoder.{MayRunOut}
+use Rattle.unftp_control_serve.specs.Endings.{Snapshot, Cause, Finished, Write, Handler, LineMemory, ReplyMemory, IsCauseOf, EndsAt, AllAnswered, EventFailed, EventOutcome, RunEnded, RunFailed, part_written, text_until}
 use Rattle.unftp_control_serve.specs.declared.error.ServeError.{ServeError}
 use Rattle.unftp_control_serve.specs.declared.error.ServeError.TheVariants as error
+use Rattle.unftp_control_serve.proofs.AfterLinesLemmas.{after_lines-append}
 use Rattle.unftp_control_serve.proofs.SendLemmas.{Appends-nothing, Appends-then, Flushed-then}
 
 module _ {S : Type 0} (law : Law S) where
@@ -61,113 +65,89 @@ module _ {S : Type 0} (law : Law S) where
       handler_failed = omega (arith, v.handler_failed, all.handler_failed);
     }
 
-    pub RunFailed-then : {k : Snapshot S} {whole fs done : List FtpEvent} {error : ServeError}
-        → whole ≡ es ++ fs
-        → RunFailed law n fs k error done → RunFailed law m whole k error (es ++ done)
-    RunFailed-then {done} same v = record {
+    -- over an input that goes on after the bytes of these events
+    pub RunFailed-then : {k : Snapshot S} (limit : Option ℕ) (bytes more : Bytes)
+        {done : List FtpEvent} {error : ServeError} → es ≡ events limit bytes
+        → ends_for limit law m.state bytes ≡ false
+        → RunFailed limit law n (incomplete_line bytes ++ more) k error done
+        → RunFailed limit law m (bytes ++ more) k error (es ++ done)
+    RunFailed-then limit bytes more {done} is on v = record {
       later = v.later;
-      split = same ∙ ap (λ z. es ++ z) v.split ∙ sym (append_assoc es done v.later);
+      split =
+          (run-append law limit m.state bytes more on).0
+          ∙ ap (λ events. events ++ run_for limit law (last_state law m.state events)
+          (incomplete_line bytes ++ more)) (sym is)
+          ∙ ap (λ s. es ++ run_for limit law s (incomplete_line bytes ++ more)) (sym all.ends_at)
+          ∙ ap (λ z. es ++ z) v.split ∙ sym (append_assoc es done v.later);
       cause = v.cause;
       means = v.means;
       ended = RunEnded-then done v.later v.cause v.ended;
+      next_line =
+          λ at_line. subst (MayRunOut limit)
+          (sym (ap (λ events. after_lines (length (events ++ done)) (bytes ++ more)) is
+          ∙ after_lines-append limit bytes more done)) (v.next_line at_line);
     }
 
   -- with more events after it
-  ends_at-more : (more : List FtpEvent) (error : ServeError) (cause : Cause) (s : S)
-      (later : List FtpEvent) (s' : S) → IsCauseOf cause error → EndsAt law cause s later s' →
-      EndsAt law cause s (later ++ more) s'
-  ends_at-more more error Finished s [] s' means h = absurd means
-  ends_at-more more error Finished s (event ∷ later) s' means h = absurd h
-  ends_at-more more error (Write part) s [] s' means h = absurd h
-  ends_at-more more error (Write part) s (event ∷ later) s' means h = h
-  ends_at-more more error (Handler fault) s [] s' means h = absurd h
-  ends_at-more more error (Handler fault) s (event ∷ later) s' means h = h
-  ends_at-more more error LineMemory s [] s' means h = absurd h
-  ends_at-more more error LineMemory s (event ∷ later) s' means h = h
-  ends_at-more more error ReplyMemory s [] s' means h = absurd h
-  ends_at-more more error ReplyMemory s (event ∷ later) s' means h = h
-
-  RunFailed-more : {m n : Snapshot S} {es : List FtpEvent} (more : List FtpEvent)
-      {done : List FtpEvent} {error : ServeError}
-      → RunFailed law m es n error done → RunFailed law m (es ++ more) n error done
-  RunFailed-more {m} {n} more {done} {error} v = record {
-    later = v.later ++ more;
-    split = ap (λ z. z ++ more) v.split ∙ append_assoc done v.later more;
-    cause = v.cause;
-    means = v.means;
-    ended = record {
-      ends_at = ends_at-more more error v.cause (last_state law m.state done) v.later n.state
-          v.means v.ended.ends_at;
-      written = v.ended.written;
-      flushed = v.ended.flushed;
-      write_failed = v.ended.write_failed;
-      handler_failed = v.ended.handler_failed;
-    };
-  }
+  ends_at-more : (e : FtpEvent) (more : List FtpEvent) (cause : Cause) (s s' : S)
+      → EndsAt law cause s (e ∷ []) s' → EndsAt law cause s (e ∷ more) s'
+  ends_at-more e more Finished s s' h = absurd h
+  ends_at-more e more (Write part) s s' h = h
+  ends_at-more e more (Handler fault) s s' h = h
+  ends_at-more e more LineMemory s s' h = h
+  ends_at-more e more ReplyMemory s s' h = h
 
   -- at one event
   module _ {m n : Snapshot S} {e : FtpEvent} where
     pub failed-at : (failed : KindAndSource) → law.may_fail m.state e (fault_of failed)
-        → n.output ≡ m.output → n.failures ≡ m.failures + 1 →
-        (done : List FtpEvent) × RunFailed law m (e ∷ []) n (error.Handler failed) done
-    failed-at failed may same failures = (
-      [],
-      record {
-        later = e ∷ [];
-        split = refl;
-        cause = Handler (fault_of failed);
-        means = refl;
-        ended = record {
-          ends_at = may;
-          written = rw same (Appends-nothing m.output.written);
-          flushed = rw same (omega arith);
-          write_failed = rw same (omega arith);
-          handler_failed = failures;
-        };
-      },
-    )
+        → n.output ≡ m.output → n.failures ≡ m.failures + 1
+        → EventFailed law m e n (error.Handler failed)
+    failed-at failed may same failures = record {
+      cause = Handler (fault_of failed);
+      means = refl;
+      has_line = λ at_line. absurd (cc);
+      ended = record {
+        ends_at = may;
+        written = rw same (Appends-nothing m.output.written);
+        flushed = rw same (omega arith);
+        write_failed = rw same (omega arith);
+        handler_failed = failures;
+      };
+    }
 
     module _ (state : n.state ≡ law.next m.state e) (failures : n.failures ≡ m.failures) where
       broke-at : (error : ServeError)
           → ((v : CutShort (encoded (law.says m.state e)) m.output n.output)
           → IsCauseOf (Write v.part) error) →
           CutShort (encoded (law.says m.state e)) m.output n.output
-          → (done : List FtpEvent) × RunFailed law m (e ∷ []) n error done
-      broke-at error means v = (
-        [],
-        record {
-          later = e ∷ [];
-          split = refl;
-          cause = Write v.part;
-          means = means v;
-          ended = record {
-            ends_at = (state, v.begins);
-            written = v.written;
-            flushed = v.unflushed;
-            write_failed = v.failure;
-            handler_failed = omega (arith, failures);
-          };
-        },
-      )
+          → EventFailed law m e n error
+      broke-at error means v = record {
+        cause = Write v.part;
+        means = means v;
+        has_line = λ at_line. absurd (cc);
+        ended = record {
+          ends_at = (state, v.begins);
+          written = v.written;
+          flushed = v.unflushed;
+          write_failed = v.failure;
+          handler_failed = omega (arith, failures);
+        };
+      }
 
       pub no_memory-at : ¬ (law.says m.state e ≡ Nothing) → n.output ≡ m.output
-          → (done : List FtpEvent) × RunFailed law m (e ∷ []) n error.OutOfMemory done
-      no_memory-at some same = (
-        [],
-        record {
-          later = e ∷ [];
-          split = refl;
-          cause = ReplyMemory;
-          means = tt;
-          ended = record {
-            ends_at = (state, some);
-            written = rw same (Appends-nothing m.output.written);
-            flushed = rw same (omega arith);
-            write_failed = rw same (omega arith);
-            handler_failed = omega (arith, failures);
-          };
-        },
-      )
+          → EventFailed law m e n error.OutOfMemory
+      no_memory-at some same = record {
+        cause = ReplyMemory;
+        means = tt;
+        has_line = λ at_line. absurd (cc);
+        ended = record {
+          ends_at = (state, some);
+          written = rw same (Appends-nothing m.output.written);
+          flushed = rw same (omega arith);
+          write_failed = rw same (omega arith);
+          handler_failed = omega (arith, failures);
+        };
+      }
 
       sent-at : Sent (encoded (law.says m.state e)) m.output n.output → AllAnswered law m (e ∷ []) n
       sent-at v = record {
@@ -184,7 +164,7 @@ module _ {S : Type 0} (law : Law S) where
     pub answered : (result : Result (Unit {0}) ServeError)
         → (encoded (law.says m.state e) ≡ [] → IsTrue (is_ok result)) →
         Sends result (encoded (law.says m.state e)) m.output n.output
-        → RunOutcome law m (e ∷ []) n result
+        → EventOutcome law m e n result
     answered (Ok x) none v = sent-at state failures v
     answered (Err (error.Read x)) none v = absurd v
     answered (Err (error.Write x)) none v = broke-at state failures (error.Write x) (λ v. tt) v
@@ -195,34 +175,39 @@ module _ {S : Type 0} (law : Law S) where
     answered (Err error.Stopped) none v = absurd v
     answered (Err error.TooManyReads) none v = absurd v
 
-  -- in a loop over events: some are answered, and these are left
+  -- in a loop over events: these are answered, and those are left
   pub record Answering (m : Snapshot S) (es : List FtpEvent) (n : Snapshot S)
-      (left : List FtpEvent) : Type 0 where
-    pub done : List FtpEvent
+      (done left : List FtpEvent) : Type 0 where
     pub split : es ≡ done ++ left
     pub all : AllAnswered law m done n
 
-  module _ {m n : Snapshot S} {es : List FtpEvent} where
+  module _ {m n : Snapshot S} {es done : List FtpEvent} where
     pub Answering-next : {k : Snapshot S} {e : FtpEvent} {left left' : List FtpEvent}
-        → Answering m es n left → left ≡ e ∷ left' → AllAnswered law n (e ∷ []) k →
-        Answering m es k left'
-    Answering-next {k} {e} {left'} t p w = record {
-      done = t.done ++ e ∷ [];
-      split = t.split ∙ ap (λ z. t.done ++ z) p ∙ sym (append_assoc t.done (e ∷ []) left');
+        → Answering m es n done left → left ≡ e ∷ left' → AllAnswered law n (e ∷ []) k →
+        Answering m es k (done ++ e ∷ []) left'
+    Answering-next {k} {e} {left' = left'} t p w = record {
+      split = t.split ∙ ap (λ z. done ++ z) p ∙ sym (append_assoc done (e ∷ []) left');
       all = RunEnded-then t.all (e ∷ []) [] Finished w;
     }
 
-    pub Answering-end : (left : List FtpEvent) → Answering m es n left → left ≡ []
+    pub Answering-end : (left : List FtpEvent) → Answering m es n done left → left ≡ []
         → AllAnswered law m es n
     Answering-end left t p =
-        let q : t.done ≡ es = sym (t.split ∙ ap (λ z. t.done ++ z) p ∙ append-nil t.done) in
+        let q : done ≡ es = sym (t.split ∙ ap (λ z. done ++ z) p ∙ append-nil done) in
         subst (λ z. AllAnswered law m z n) q t.all
 
-    pub Answering-failed : {k : Snapshot S} {e : FtpEvent} {left left' : List FtpEvent}
-        {error : ServeError} → Answering m es n left → left ≡ e ∷ left' →
-        (done : List FtpEvent) × RunFailed law n (e ∷ []) k error done
-        → (done : List FtpEvent) × RunFailed law m es k error done
-    Answering-failed {k} {left'} t p (done, failed) = (
-      t.done ++ done,
-      RunFailed-then t.all (t.split ∙ ap (λ z. t.done ++ z) p) (RunFailed-more left' failed),
-    )
+    -- at the next event it failed
+    pub Answering-failed : {k : Snapshot S} {e : FtpEvent} {left : List FtpEvent}
+        (later : List FtpEvent) {error : ServeError} → Answering m es n done left
+        → (failed : EventFailed law n e k error)
+        → RunEnded law m done (e ∷ later) failed.cause k
+    Answering-failed {k} {e} later t failed =
+        let more : RunEnded law n [] (e ∷ later) failed.cause k = record {
+          ends_at = ends_at-more e later failed.cause n.state k.state failed.ended.ends_at;
+          written = failed.ended.written;
+          flushed = failed.ended.flushed;
+          write_failed = failed.ended.write_failed;
+          handler_failed = failed.ended.handler_failed;
+        } in
+        subst (λ done. RunEnded law m done (e ∷ later) failed.cause k) (append-nil done)
+        (RunEnded-then t.all [] (e ∷ later) failed.cause more)

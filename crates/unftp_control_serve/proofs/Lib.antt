@@ -1,6 +1,7 @@
 pub mod DecoderLemmas
 pub mod EventLineLemmas
 pub mod SendLemmas
+mod AfterLinesLemmas
 pub mod EndingLemmas
 mod EngineLemmas
 mod LineRunLemmas

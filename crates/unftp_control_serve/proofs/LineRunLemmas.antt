@@ -1,16 +1,16 @@
 -- The run over the pending bytes, line by line.
-use Rattle.std.proofs.Common.{◌≡◌, ℕ, true, false, List, Option, [], ◌∷◌, ◌++◌, length, map, refl, sym, ap, ◌∙◌}
+use Rattle.std.proofs.Common.{◌≡◌, ℕ, true, false, List, Option, [], ◌∷◌, ◌++◌, length, map, refl, sym, ap, subst, suc, arith, ◌∙◌, length-append}
 use Rattle.std.specs.Prelude.{if◌then◌else◌}
 use Rattle.unftp_control_defs.specs.Bytes.{Bytes}
-use Rattle.unftp_control_defs.specs.Events.{FtpEvent, Refused, event_of, exceeds, line_too_long, event_for, events}
-use Rattle.unftp_control_defs.specs.Outcome.{outcome}
+use Rattle.unftp_control_defs.specs.Events.{FtpEvent, event_for, events}
 use Rattle.unftp_control_defs.specs.Run.{run_for, ends_for, unread, Law, run_of, ends}
 use Rattle.unftp_control_defs.proofs.LineLemmas.{line_first, events-incomplete}
 use Rattle.unftp_control_defs.proofs.RunLemmas.{on-line, ended-line, unread-incomplete}
-use Rattle.unftp_control_serve.specs.Endings.{Snapshot, LineMemory, AllAnswered, RunFailed}
+use Rattle.unftp_control_serve.specs.Endings.{Snapshot, LineMemory, AllAnswered, EventFailed, RunFailed}
 use Rattle.unftp_control_serve.specs.Decoder.{Pending, HasNoLine, MayRunOut, TakesLine}
 use Rattle.unftp_control_serve.specs.declared.error.ServeError.{ServeError}
 use Rattle.unftp_control_serve.specs.declared.error.ServeError.TheVariants.{OutOfMemory}
+use Rattle.unftp_control_serve.proofs.AfterLinesLemmas.{IsAfterLines, IsAfterLines-none, IsAfterLines-next, IsAfterLines-is}
 use Rattle.unftp_control_serve.proofs.EndingLemmas.{Answering, Answering-next, Answering-end, Answering-failed, AllAnswered-nothing}
 
 -- no line: no event
@@ -82,15 +82,19 @@ module _ {S : Type 0} (law : Law S) {limit : Option ℕ} {p q : Pending} (s : S)
 -- in the loop over the lines of some bytes: the run over them goes on over those that are pending
 pub record Halfway {S : Type 0} (law : Law S) (limit : Option ℕ) (m n : Snapshot S)
     (bytes pending : Bytes) : Type 0 where
-  pub answering : Answering law m (run_for limit law m.state bytes) n
+  pub done : List FtpEvent
+  pub answering : Answering law m (run_for limit law m.state bytes) n done
       (run_for limit law n.state pending)
+  pub after : IsAfterLines (length done) bytes pending
   pub same_end : ends_for limit law m.state bytes ≡ ends_for limit law n.state pending
   pub same_unread : unread limit law m.state bytes ≡ unread limit law n.state pending
 
 module _ {S : Type 0} {law : Law S} {limit : Option ℕ} {m : Snapshot S} where
   pub Halfway-start : {bytes : Bytes} → Halfway law limit m m bytes bytes
-  Halfway-start = record {
-    answering = record { done = []; split = refl; all = AllAnswered-nothing law m };
+  Halfway-start {bytes} = record {
+    done = [];
+    answering = record { split = refl; all = AllAnswered-nothing law m };
+    after = IsAfterLines-none bytes;
     same_end = refl;
     same_unread = refl;
   }
@@ -110,22 +114,38 @@ module _ {S : Type 0} {law : Law S} {limit : Option ℕ} {m : Snapshot S} where
 
     module _ (same : p.limit ≡ limit) {event : FtpEvent} (first : TakesLine p event q)
         {k : Snapshot S} where
-      pub line-failed : {error : ServeError}
-          → (done : List FtpEvent) × RunFailed law n (event ∷ []) k error done →
-          (done : List FtpEvent) × RunFailed law m (run_for limit law m.state bytes) k error done
-      line-failed failed =
-          Answering-failed law
-          so_far.answering (first_line-run law n.state same first) failed
+      pub line-failed : {error : ServeError} → EventFailed law n event k error
+          → (done : List FtpEvent) × RunFailed limit law m bytes k error done
+      line-failed failed = (
+        so_far.done,
+        record {
+          later = event ∷ run_after law n.state same first;
+          split = so_far.answering.split
+              ∙ ap (λ later. so_far.done ++ later) (first_line-run law n.state same first);
+          cause = failed.cause;
+          means = failed.means;
+          ended = Answering-failed law (run_after law n.state same first) so_far.answering failed;
+          next_line = λ at_line. absurd (failed.has_line at_line);
+        },
+      )
 
       module _ (all : AllAnswered law n (event ∷ []) k) where
         pub Halfway-next : law.done k.state ≡ false → Halfway law limit m k bytes q.bytes
-        Halfway-next on = record {
-          answering = Answering-next law so_far.answering
-              (first_line-on law n.state same first all.ends_at on) all;
-          same_end = so_far.same_end ∙ first_line-same_end law n.state same first all.ends_at on;
-          same_unread = so_far.same_unread ∙ first_line-same_unread law n.state same
-              first all.ends_at on;
-        }
+        Halfway-next on =
+            let one_more : suc (length so_far.done) ≡ length (so_far.done ++ event ∷ []) =
+            omega (arith, length-append so_far.done (event ∷ [])) in
+            record {
+              done = so_far.done ++ event ∷ [];
+              answering = Answering-next law so_far.answering
+                  (first_line-on law n.state same first all.ends_at on) all;
+              after =
+                  subst (λ n. IsAfterLines n bytes q.bytes) one_more
+                  (IsAfterLines-next first.takes.line q.bytes first.takes.is_line
+                  (subst (IsAfterLines (length so_far.done) bytes) first.takes.whole so_far.after));
+              same_end = so_far.same_end ∙ first_line-same_end law n.state same first all.ends_at on;
+              same_unread = so_far.same_unread ∙ first_line-same_unread law n.state same
+                  first all.ends_at on;
+            }
 
         module _ (done : law.done k.state ≡ true) where
           pub last_line-answered : AllAnswered law m (run_for limit law m.state bytes) k
@@ -144,37 +164,35 @@ module _ {S : Type 0} {law : Law S} {limit : Option ℕ} {m : Snapshot S} where
               sym (so_far.same_unread ∙ first_line-unread law n.state same first all.ends_at done)
 
 -- memory runs out for the next line
-module _ {S : Type 0} {law : Law S} {limit : Option ℕ} {m n : Snapshot S} {bytes : Bytes}
-    {p : Pending} (same : p.limit ≡ limit) (h : Halfway law limit m n bytes p.bytes)
-    (v : MayRunOut p) where
+module _ {S : Type 0} {law : Law S} {limit : Option ℕ} {m n : Snapshot S} {bytes pending : Bytes}
+    (h : Halfway law limit m n bytes pending) (v : MayRunOut limit pending) where
+  -- whose event this is
   abbrev next : FtpEvent
-  next = event_of (outcome v.line)
+  next = event_for limit v.line
 
-  same_event : event_for limit v.line ≡ next
-  same_event = ap (λ too_long. if too_long then Refused line_too_long else next)
-      (ap (λ limit. exceeds limit (length v.line)) (sym same) ∙ v.short)
+  abbrev later : List FtpEvent
+  later = run_of law n.state (next ∷ events limit v.after)
 
-  later-run : run_for limit law n.state p.bytes ≡ run_of law n.state (next ∷ events limit v.after)
+  later-run : run_for limit law n.state pending ≡ later
   later-run =
       ap (run_for limit law n.state) v.whole
-      ∙ ap (run_of law n.state) (ap (map (event_for limit)) (line_first v.line v.after v.is_line).0
-      ∙ ap (λ e. e ∷ events limit v.after) same_event)
+      ∙ ap (run_of law n.state) (ap (map (event_for limit)) (line_first v.line v.after v.is_line).0)
 
-  pub halfway-no_memory : (done : List FtpEvent) × RunFailed law m (run_for limit law m.state bytes)
-      n OutOfMemory done
+  pub halfway-no_memory : (done : List FtpEvent) × RunFailed limit law m bytes n OutOfMemory done
   halfway-no_memory = (
-    h.answering.done,
+    h.done,
     record {
-      later = run_of law n.state (next ∷ events limit v.after);
-      split = h.answering.split ∙ ap (λ later. h.answering.done ++ later) later-run;
+      later = later;
+      split = h.answering.split ∙ ap (λ later. h.done ++ later) later-run;
       cause = LineMemory;
       means = tt;
       ended = record {
-        ends_at = (h.answering.all.ends_at, (v.line, v.is_line, refl, v.takes_memory));
+        ends_at = h.answering.all.ends_at;
         written = h.answering.all.written;
         flushed = h.answering.all.flushed;
         write_failed = h.answering.all.write_failed;
         handler_failed = h.answering.all.handler_failed;
       };
+      next_line = λ _. subst (MayRunOut limit) (IsAfterLines-is h.after) v;
     },
   )

@@ -16,7 +16,7 @@ use Rattle.unftp_control_defs.proofs.LineLemmas.{Lines-lines_of, incomplete_line
 use Rattle.unftp_control_defs.proofs.RunLemmas.{run_of-all, run-append, unread-append, run-ended, unread-ended, after_end-within}
 use Rattle.unftp_control_serve.specs.Endings.{Snapshot, Cause, Finished, Write, Handler, LineMemory, ReplyMemory, IsCauseOf, AllAnswered, RunFailed, NoRoom}
 use Rattle.unftp_control_serve.specs.Decoder.{kept_length, saturating_u64}
-use Rattle.unftp_control_serve.specs.Engine.{EngineState, IsRunning, bytes_with, run_with, ends_with, unread_with, after_end_with, pending_with, fed, fresh}
+use Rattle.unftp_control_serve.specs.Engine.{EngineState, IsRunning, bytes_with, ends_with, unread_with, after_end_with, pending_with, fed, fresh}
 use Rattle.unftp_control_serve.specs.Service.{InputState, Answered, AnsweredAll, EndedLate, NoRoomForPiece, ReadFailed, ReadTooOften, Reports, ServeEnded, Serves, WereRead, most_held}
 use Rattle.unftp_control_serve.specs.declared.service.Served.{Served}
 use Rattle.unftp_control_serve.specs.declared.error.ServeError.{ServeError}
@@ -88,16 +88,18 @@ concat-more : (pieces : List Bytes) (piece : Bytes) → concat (pieces ++ piece 
 concat-more pieces piece = concat-append pieces (piece ∷ []) ∙ ap (λ end. concat pieces ++ end)
     (append-nil piece)
 
-short_pieces : (pieces : List Bytes) (piece : Bytes)
-    → AllByRecursion (λ piece. length piece ≤ 4096) pieces → length piece ≤ 4096 →
-    AllByRecursion (λ piece. length piece ≤ 4096) (pieces ++ piece ∷ [])
-short_pieces [] piece each short = (short, tt)
-short_pieces (first ∷ pieces) piece each short = (each.0, short_pieces pieces piece each.1 short)
+abbrev HasSize : Bytes → Type 0
+HasSize piece = (0 < length piece) × (length piece ≤ 4096)
+
+sized_pieces : (pieces : List Bytes) (piece : Bytes) → AllByRecursion HasSize pieces
+    → HasSize piece → AllByRecursion HasSize (pieces ++ piece ∷ [])
+sized_pieces [] piece each size = (size, tt)
+sized_pieces (first ∷ pieces) piece each size = (each.0, sized_pieces pieces piece each.1 size)
 
 WereRead-more : {i j k : InputState} {pieces : List Bytes} (piece : Bytes) → WereRead i j pieces []
     → Consumes j.remaining k.remaining piece → k.reads ≡ j.reads ++ length piece ∷ []
-    → length piece ≤ 4096 → WereRead i k (pieces ++ piece ∷ []) []
-WereRead-more {i} {j} {k} {pieces} piece so_far consumed reads short = record {
+    → HasSize piece → WereRead i k (pieces ++ piece ∷ []) []
+WereRead-more {i} {j} {k} {pieces} piece so_far consumed reads size = record {
   consumed =
       rw (concat-more pieces piece)
       (Consumes-then i.remaining j.remaining k.remaining (concat pieces) piece so_far.consumed
@@ -106,7 +108,7 @@ WereRead-more {i} {j} {k} {pieces} piece so_far consumed reads short = record {
       (reads ∙ ap (λ reads. reads ++ length piece ∷ [])
       (so_far.reads ∙ ap (λ reads. i.reads ++ reads) (append-nil (map length pieces)))
       ∙ append_assoc i.reads (map length pieces) (length piece ∷ []));
-  short = short_pieces pieces piece so_far.short short;
+  sizes = sized_pieces pieces piece so_far.sizes size;
 }
 
 -- of an input that comes in one piece more
@@ -138,13 +140,12 @@ most_held-piece limit pieces piece most kept =
     rw (most_held-more limit [] pieces piece tt, most, kept) refl
 
 most_held-within : (limit : ℕ) (incomplete : Bytes) (pieces : List Bytes)
-    → AllByRecursion (λ piece. length piece ≤ 4096) pieces →
-    most_held (Some limit) incomplete pieces ≤ limit + 4096
+    → AllByRecursion HasSize pieces → most_held (Some limit) incomplete pieces ≤ limit + 4096
 most_held-within limit incomplete [] each = omega arith
 most_held-within limit incomplete (piece ∷ pieces) each =
     omega (
       arith,
-      each.0,
+      each.0.1,
       kept_within limit incomplete,
       most_held-within limit (incomplete_line (incomplete ++ piece)) pieces each.1,
     )
@@ -157,7 +158,7 @@ module _ {limit : Option ℕ} {S : Type 0} {law : Law S} {m : Snapshot S} {i : I
     were_read = record {
       consumed = Consumes-nothing i.remaining;
       reads = sym (append-nil i.reads);
-      short = tt;
+      sizes = tt;
     };
     so_far = record { answered = AllAnswered-nothing law m; goes_on = refl };
     running = (refl, refl);
@@ -194,8 +195,12 @@ module _ {limit : Option ℕ} {S : Type 0} {law : Law S} {m : Snapshot S} {i : I
         ∙ ap (λ incomplete. F engine.limit n.state (incomplete ++ piece)) (sym s.incomplete)
 
     module _ (piece : Bytes) where
+      -- the run of the engine over them
+      abbrev run_with : List FtpEvent
+      run_with = run_for engine.limit law n.state (bytes_with engine piece)
+
       same_run : run_for limit law m.state (bytes_so_far ++ piece) ≡ events limit bytes_so_far
-          ++ run_with engine law n.state piece
+          ++ run_with
       same_run =
           (run-append law limit m.state bytes_so_far piece s.so_far.goes_on).0
           ∙ ap (λ run. events limit bytes_so_far ++ run)
@@ -223,17 +228,15 @@ module _ {limit : Option ℕ} {S : Type 0} {law : Law S} {m : Snapshot S} {i : I
 
       -- a piece that was read
       module _ (consumed : Consumes j.remaining k.remaining piece)
-          (reads : k.reads ≡ j.reads ++ length piece ∷ []) (short : length piece ≤ 4096) where
+          (reads : k.reads ≡ j.reads ++ length piece ∷ []) (size : HasSize piece)
+          (quiet : k.failures ≡ j.failures) where
         were_read_so : WereRead i k (s.pieces ++ piece ∷ []) []
-        were_read_so = WereRead-more piece s.were_read consumed reads short
+        were_read_so = WereRead-more piece s.were_read consumed reads size
 
         -- and whose lines were answered
-        module _ (after : Snapshot S) (kept : k.failures ≡ j.failures)
-            (all : AllAnswered law n (run_with engine law n.state piece) after) where
-          answered_so : AllAnswered law m
-              (events limit bytes_so_far ++ run_with engine law n.state piece) after
-          answered_so = RunEnded-then law s.so_far.answered
-              (run_with engine law n.state piece) [] Finished all
+        module _ (after : Snapshot S) (all : AllAnswered law n run_with after) where
+          answered_so : AllAnswered law m (events limit bytes_so_far ++ run_with) after
+          answered_so = RunEnded-then law s.so_far.answered run_with [] Finished all
 
           left_so : (fed law n.state engine piece).left
               ≡ saturating_u64 (length (unread limit law m.state (bytes_so_far ++ piece)))
@@ -255,9 +258,9 @@ module _ {limit : Option ℕ} {S : Type 0} {law : Law S} {m : Snapshot S} {i : I
               (s.buffered ∙ ap (kept_length limit) s.incomplete)
 
           -- after which the run goes on
-          pub Serving-next : 0 < length piece → ends_with engine law n.state piece ≡ false
+          pub Serving-next : ends_with engine law n.state piece ≡ false
               → Serving limit law m after i k (fed law n.state engine piece) (turn + 1)
-          Serving-next some on =
+          Serving-next on =
               let goes_on : ends_for limit law m.state (bytes_so_far ++ piece) ≡ false = same_ends
               ∙ on in
               let all_events =
@@ -279,9 +282,9 @@ module _ {limit : Option ℕ} {S : Type 0} {law : Law S} {m : Snapshot S} {i : I
                     (λ ended. if ended then [] else incomplete_line (bytes_with engine piece)) on
                     ∙ same_incomplete piece);
                 left = rw whole left_so;
-                many = rw whole (omega (arith, s.many, some, length-append bytes_so_far piece));
+                many = rw whole (omega (arith, s.many, size.0, length-append bytes_so_far piece));
                 scanned = rw whole (omega (arith, scanned_so, ap length nothing));
-                no_read_failed = kept ∙ s.no_read_failed;
+                no_read_failed = quiet ∙ s.no_read_failed;
                 limited = s.limited;
                 buffered = ap (λ limit. kept_length limit (pending_with engine law n.state piece))
                     s.limited;
@@ -309,37 +312,39 @@ module _ {limit : Option ℕ} {S : Type 0} {law : Law S} {m : Snapshot S} {i : I
                 left = rw whole (reports.left ∙ left_so);
                 scanned = rw whole (omega (arith, reports.scanned, scanned_so));
                 held = reports.held ∙ held_so;
-                no_read_failed = kept ∙ s.no_read_failed;
+                no_read_failed = quiet ∙ s.no_read_failed;
               }
 
         -- or at which it failed
         module _ (after : Snapshot S) where
           late : (error : ServeError)
-              → (done : List FtpEvent) × RunFailed law n (run_with engine law n.state piece) after
-              error done → EndedLate limit law m after i k error
+              → (done : List FtpEvent) × RunFailed engine.limit law n (bytes_with engine piece)
+              after error done → EndedLate limit law m after i k error
           late error (done, failed) = record {
             pieces = s.pieces;
             last = piece;
             were_read = were_read_so;
             done = events limit bytes_so_far ++ done;
-            failed = RunFailed-then law s.so_far.answered same_run failed;
+            failed = RunFailed-then law s.so_far.answered limit bytes_so_far piece refl
+                s.so_far.goes_on (rw (s.limited, s.incomplete) at failed);
             late = (done, refl);
+            no_read_failed = quiet ∙ s.no_read_failed;
           }
 
-          no_room : ¬ (piece ≡ []) → after ≡ n → NoRoomForPiece limit law m after i k
-          no_room some same = record {
+          no_room : after ≡ n → NoRoomForPiece limit law m after i k
+          no_room same = record {
             pieces = s.pieces;
             last = piece;
             were_read = were_read_so;
-            some = some;
             answered = record { answered = rw same s.so_far.answered; goes_on = s.so_far.goes_on };
+            no_read_failed = quiet ∙ s.no_read_failed;
           }
 
           pub Serving-failed : (error : ServeError) → NoRoom error piece n after
-              ⊎ ((done : List FtpEvent) × RunFailed law n (run_with engine law n.state piece) after
-              error done)
+              ⊎ ((done : List FtpEvent) × RunFailed engine.limit law n (bytes_with engine piece)
+              after error done)
               → ServeEnded limit law m after i k error
-          Serving-failed error.OutOfMemory (inl room) = inl (no_room room.1 room.2)
+          Serving-failed error.OutOfMemory (inl room) = inl (no_room room.2)
           Serving-failed error.OutOfMemory (inr failed) = inr (late error.OutOfMemory failed)
           Serving-failed (error.Write x) (inr failed) = late (error.Write x) failed
           Serving-failed error.WriteZero (inr failed) = late error.WriteZero failed
@@ -377,7 +382,7 @@ module _ {limit : Option ℕ} {S : Type 0} {law : Law S} {m : Snapshot S} {i : I
                 (s.were_read.reads
                 ∙ ap (λ reads. i.reads ++ reads) (append-nil (map length s.pieces)))
                 ∙ append_assoc i.reads (map length s.pieces) (0 ∷ []);
-            short = s.were_read.short;
+            sizes = s.were_read.sizes;
           };
           ended = on ∙ sym s.so_far.goes_on;
           in_last = λ h. absurd (false≢true (sym on ∙ h));
@@ -399,10 +404,10 @@ module _ {limit : Option ℕ} {S : Type 0} {law : Law S} {m : Snapshot S} {i : I
         consumed = Consumes-kept i.remaining j.remaining k.remaining bytes_so_far
             s.were_read.consumed kept;
         reads = reads ∙ s.were_read.reads;
-        short = s.were_read.short;
+        sizes = s.were_read.sizes;
       };
       answered = record { answered = s.so_far.answered; goes_on = s.so_far.goes_on };
-      read_failed = omega (arith, counted, s.no_read_failed);
+      read_failed = counted ∙ ap (λ n. n + 1) s.no_read_failed;
     }
 
   pub Serving-too_often : {n : Snapshot S} {j : InputState} {engine : EngineState} {turn : ℕ}
@@ -413,6 +418,7 @@ module _ {limit : Option ℕ} {S : Type 0} {law : Law S} {m : Snapshot S} {i : I
         were_read = s.were_read;
         answered = s.so_far;
         many = omega (arith, many, s.many);
+        no_read_failed = s.no_read_failed;
       }
 
 -- What is so of a known input, of which these bytes were read and `rest` was not, because the run
@@ -465,6 +471,7 @@ module _ {limit : Option ℕ} {S : Type 0} {law : Law S} {m n : Snapshot S} {i k
     {served : Served} (all : AnsweredAll limit law m n i k served) where
   module _ (input rest : Bytes) (is : k.remaining ≡ Some rest)
       (whole : input ≡ (concat all.pieces) ++ rest)
+      (end : served.done ≡ false → rest ≡ [])
       (alike : AlikeRead limit law m.state input (concat all.pieces) rest whole served.done) where
     -- where the run ended and nothing is left, what was not read is all that follows its end
     not_read : served.done ≡ true → served.left ≡ 0 → after_end limit law m.state input ≡ rest
@@ -493,8 +500,11 @@ module _ {limit : Option ℕ} {S : Type 0} {law : Law S} {m n : Snapshot S} {i k
         ap length alike.more_after_end,
         length-append (after_end limit law m.state (concat all.pieces)) rest,
       );
+      read = concat all.pieces;
       rest = rest;
+      whole = whole;
       to_be_read = is;
+      at_end = end;
       left = all.left
           ∙ ap saturating_u64
           (omega (
@@ -510,7 +520,7 @@ module _ {limit : Option ℕ} {S : Type 0} {law : Law S} {m n : Snapshot S} {i k
   AnsweredAll-serves =
       known_input (Serves limit law m n k.remaining served) i.remaining k.remaining
       (concat all.pieces) all.were_read.consumed all.at_end
-      (λ input rest is whole end. serves input rest is whole
+      (λ input rest is whole end. serves input rest is whole end
       (alike_read limit law m.state input (concat all.pieces) rest whole served.done all.ended
       end))
 
@@ -518,4 +528,4 @@ module _ {limit : Option ℕ} {S : Type 0} {law : Law S} {m n : Snapshot S} {i k
 pub AnsweredAll-bound : {limit : ℕ} {S : Type 0} {law : Law S} {m n : Snapshot S} {i k : InputState}
     {served : Served} → AnsweredAll (Some limit) law m n i k served → served.held ≤ limit + 4096
 AnsweredAll-bound {limit} all =
-    omega (arith, all.held, most_held-within limit [] all.pieces all.were_read.short)
+    omega (arith, all.held, most_held-within limit [] all.pieces all.were_read.sizes)

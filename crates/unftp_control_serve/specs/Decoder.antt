@@ -147,13 +147,13 @@ pub record TakesLine (before : Pending) (event : FtpEvent) (after : Pending) : T
   pub all_kept : after.kept ≡ length after.bytes
   pub none_scanned : after.unscanned ≡ length after.bytes
 
--- There is a first line, it is not too long, and it may take memory.
-pub record MayRunOut (pending : Pending) : Type 0 where
+-- The bytes begin with a line that is within the limit and may take memory.
+pub record MayRunOut (limit : Option ℕ) (bytes : Bytes) : Type 0 where
   pub line : Bytes
   pub after : Bytes
   pub is_line : IsLine line
-  pub whole : pending.bytes ≡ line ++ after
-  pub short : exceeds pending.limit (length line) ≡ false
+  pub whole : bytes ≡ line ++ after
+  pub short : exceeds limit (length line) ≡ false
   pub takes_memory : MayTakeMemory line
 
 -- The same bytes are pending, and as many of them are kept and not scanned yet.

@@ -1,15 +1,13 @@
 -- How a run ended: which of its events were answered, why no more were, and what was written and
 -- flushed.
-use Rattle.std.specs.Prelude.{◌≡◌, ⊤, ℕ, ◌+◌, ◌⊎◌, List, [], ◌∷◌, ◌++◌, Option, Result, Err, MatchResult}
+use Rattle.std.specs.Prelude.{◌≡◌, ⊤, ℕ, ◌+◌, ◌⊎◌, List, [], ◌∷◌, ◌++◌, length, Option, Result, Err, MatchResult}
 use Rattle.std.specs.Io.KnownBytes.{Appends}
 use Rattle.unftp_control_defs.specs.Bytes.{Bytes}
-use Rattle.unftp_control_defs.specs.Events.{Fault, FtpEvent, event_of}
+use Rattle.unftp_control_defs.specs.Events.{Fault, FtpEvent}
 use Rattle.unftp_control_defs.specs.FtpReply.{Nothing, encoded}
-use Rattle.unftp_control_defs.specs.Lines.{IsLine}
-use Rattle.unftp_control_defs.specs.Outcome.{outcome}
-use Rattle.unftp_control_defs.specs.Run.{Law, last_state, text_of}
+use Rattle.unftp_control_defs.specs.Run.{Law, after_lines, last_state, run_for, text_of}
 use Rattle.unftp_control_reply.specs.ErrorMeaning.{fault_of}
-use Rattle.unftp_control_line_parser.specs.Memory.{MayTakeMemory}
+use Rattle.unftp_control_serve.specs.Decoder.{MayRunOut}
 use Rattle.unftp_control_serve.specs.Writing.{OutputState, output_state_of, Begins, Flushed}
 use Rattle.unftp_control_serve.specs.declared.output.Output.{Output}
 use Rattle.unftp_control_serve.specs.declared.error.ServeError.{ServeError}
@@ -52,11 +50,6 @@ IsCauseOf LineMemory error.OutOfMemory = ⊤
 IsCauseOf ReplyMemory error.OutOfMemory = ⊤
 IsCauseOf _ _ = ⊥
 
--- the event is that of a line that may take memory
-abbrev pub EventMayTakeMemory : FtpEvent → Type 0
-EventMayTakeMemory event = (line : Bytes) × IsLine line × (event ≡ event_of (outcome line))
-    × MayTakeMemory line
-
 -- The handler was in state `s` after the events that were answered. What is so of its last state
 -- and of the first of the events that were not.
 abbrev pub EndsAt : {S : Type 0} → Law S → Cause → S → List FtpEvent → S → Type 0
@@ -64,7 +57,7 @@ EndsAt law Finished s [] s' = s' ≡ s
 EndsAt law (Write part) s (event ∷ _) s' =
     (s' ≡ law.next s event) × Begins (encoded (law.says s event)) part
 EndsAt law (Handler fault) s (event ∷ _) s' = law.may_fail s event fault
-EndsAt law LineMemory s (event ∷ _) s' = (s' ≡ s) × EventMayTakeMemory event
+EndsAt law LineMemory s (event ∷ _) s' = s' ≡ s
 EndsAt law ReplyMemory s (event ∷ _) s' =
     (s' ≡ law.next s event) × ¬ (law.says s event ≡ Nothing)
 EndsAt _ _ _ _ _ = ⊥
@@ -103,33 +96,50 @@ pub record RunEnded {S : Type 0} (law : Law S) (before : Snapshot S) (done later
 abbrev pub AllAnswered : {S : Type 0} → Law S → Snapshot S → List FtpEvent → Snapshot S → Type 0
 AllAnswered law before events after = RunEnded law before events [] Finished after
 
--- It ended with this error, after the whole replies to the events `done`.
-pub record RunFailed {S : Type 0} (law : Law S) (before : Snapshot S) (events : List FtpEvent)
-    (after : Snapshot S) (error : ServeError) (done : List FtpEvent) : Type 0 where
+-- At one event it ended with this error; memory for its line was there.
+pub record EventFailed {S : Type 0} (law : Law S) (before : Snapshot S) (event : FtpEvent)
+    (after : Snapshot S) (error : ServeError) : Type 0 where
+  pub cause : Cause
+  pub means : IsCauseOf cause error
+  pub has_line : ¬ (cause ≡ LineMemory)
+  pub ended : RunEnded law before [] (event ∷ []) cause after
+
+abbrev pub EventOutcome : {S T : Type 0} → Law S → Snapshot S → FtpEvent → Snapshot S
+    → Result T ServeError → Type 0
+EventOutcome law before event after result = MatchResult result
+    (λ _. AllAnswered law before (event ∷ []) after)
+    (λ failure. EventFailed law before event after failure)
+
+-- The run over an input ended with this error, after the whole replies to its events `done`. Where
+-- memory ran out for the command of a line, it is the line after those of these events.
+pub record RunFailed (limit : Option ℕ) {S : Type 0} (law : Law S) (before : Snapshot S)
+    (input : Bytes) (after : Snapshot S) (error : ServeError) (done : List FtpEvent)
+    : Type 0 where
   pub later : List FtpEvent
-  pub split : events ≡ done ++ later
+  pub split : run_for limit law before.state input ≡ done ++ later
   pub cause : Cause
   pub means : IsCauseOf cause error
   pub ended : RunEnded law before done later cause after
+  pub next_line : cause ≡ LineMemory → MayRunOut limit (after_lines (length done) input)
 
-abbrev pub RunOutcome : {S T : Type 0} → Law S → Snapshot S → List FtpEvent → Snapshot S
+abbrev pub RunOutcome : {S T : Type 0} → Option ℕ → Law S → Snapshot S → Bytes → Snapshot S
     → Result T ServeError → Type 0
-RunOutcome law before events after result = MatchResult result
-    (λ _. AllAnswered law before events after)
-    (λ failure. (done : List FtpEvent) × RunFailed law before events after failure done)
+RunOutcome limit law before input after result = MatchResult result
+    (λ _. AllAnswered law before (run_for limit law before.state input) after)
+    (λ failure. (done : List FtpEvent) × RunFailed limit law before input after failure done)
 
 -- There was no memory for a piece, and so nothing was done with it.
 abbrev pub NoRoom : {S : Type 0} → ServeError → Bytes → Snapshot S → Snapshot S → Type 0
 NoRoom failure piece before after =
     (failure ≡ error.OutOfMemory) × ¬ (piece ≡ []) × (after ≡ before)
 
--- the same of the events that a piece completes
-abbrev pub PieceOutcome : {S T : Type 0} → Law S → Snapshot S → List FtpEvent → Bytes → Snapshot S
-    → Result T ServeError → Type 0
-PieceOutcome law before events piece after result = MatchResult result
-    (λ _. AllAnswered law before events after)
+-- the same of an input that ends with this piece
+abbrev pub PieceOutcome : {S T : Type 0} → Option ℕ → Law S → Snapshot S → Bytes → Bytes
+    → Snapshot S → Result T ServeError → Type 0
+PieceOutcome limit law before input piece after result = MatchResult result
+    (λ _. AllAnswered law before (run_for limit law before.state input) after)
     (λ failure. NoRoom failure piece before after
-    ⊎ ((done : List FtpEvent) × RunFailed law before events after failure done))
+    ⊎ ((done : List FtpEvent) × RunFailed limit law before input after failure done))
 
 -- P, where the answer is that the writer failed or took nothing
 abbrev pub OnWrite : {T : Type 0} → Result T ServeError → Type 0 → Type 0

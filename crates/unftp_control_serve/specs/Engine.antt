@@ -1,9 +1,8 @@
 -- What contracts see of an engine.
-use Rattle.std.specs.Prelude.{◌≡◌, ℕ, ◌≤◌, ◌+◌, ◌-◌, max, Bool, true, false, if◌then◌else◌, List, [], ◌++◌, length, Option}
+use Rattle.std.specs.Prelude.{◌≡◌, ℕ, ◌≤◌, ◌+◌, ◌-◌, max, Bool, true, false, if◌then◌else◌, [], ◌++◌, length, Option}
 use Rattle.unftp_control_defs.specs.Bytes.{Bytes}
 use Rattle.unftp_control_defs.specs.Lines.{incomplete_line}
-use Rattle.unftp_control_defs.specs.Events.{FtpEvent}
-use Rattle.unftp_control_defs.specs.Run.{Law, run_for, ends_for, unread, after_end}
+use Rattle.unftp_control_defs.specs.Run.{Law, ends_for, unread, after_end}
 use Rattle.unftp_control_serve.specs.Decoder.{kept_length, saturating_u64}
 use Rattle.unftp_control_serve.specs.declared.engine.Phase.{Phase}
 use Rattle.unftp_control_serve.specs.declared.engine.Phase.TheVariants as phase
@@ -54,10 +53,7 @@ IsRunning engine = (engine.failed ≡ false) × (engine.finished ≡ false)
 abbrev pub bytes_with : EngineState → Bytes → Bytes
 bytes_with engine piece = engine.incomplete ++ piece
 
--- the run of a handler over these, and whether it ends
-abbrev pub run_with : {S : Type 0} → EngineState → Law S → S → Bytes → List FtpEvent
-run_with engine law s piece = run_for engine.limit law s (bytes_with engine piece)
-
+-- whether the run of a handler over these ends
 abbrev pub ends_with : {S : Type 0} → EngineState → Law S → S → Bytes → Bool
 ends_with engine law s piece = ends_for engine.limit law s (bytes_with engine piece)
 

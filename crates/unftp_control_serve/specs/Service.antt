@@ -31,11 +31,12 @@ input_state_of remaining input = record {
   failures = input.failures;
 }
 
--- Each of these pieces was read, with at most 4,096 bytes, and then as many bytes as `more` says.
+-- Each of these pieces was read, of at least one byte and at most 4,096, and then as many bytes as
+-- `more` says.
 pub record WereRead (input input' : InputState) (pieces : List Bytes) (more : List ℕ) : Type 0 where
   pub consumed : Consumes input.remaining input'.remaining (concat pieces)
   pub reads : input'.reads ≡ input.reads ++ (map length pieces ++ more)
-  pub short : AllByRecursion (λ piece. length piece ≤ 4096) pieces
+  pub sizes : AllByRecursion (λ piece. (0 < length piece) × (length piece ≤ 4096)) pieces
 
 -- what is returned of an engine
 pub record Reports (served : Served) (engine : EngineState) : Type 0 where
@@ -91,24 +92,24 @@ module _ (limit : Option ℕ) {S : Type 0} (law : Law S) (before after : Snapsho
     pub last : Bytes
     pub were_read : WereRead input input' (pieces ++ last ∷ []) []
     pub done : List FtpEvent
-    pub failed : RunFailed law before
-        (run_for limit law before.state (concat pieces ++ last)) after error done
+    pub failed : RunFailed limit law before (concat pieces ++ last) after error done
     pub late : Begins done (events limit (concat pieces))
+    pub no_read_failed : input'.failures ≡ input.failures
 
   -- There was no memory for the last piece, and all lines of those before it were answered.
   pub record NoRoomForPiece : Type 0 where
     pub pieces : List Bytes
     pub last : Bytes
     pub were_read : WereRead input input' (pieces ++ last ∷ []) []
-    pub some : ¬ (last ≡ [])
     pub answered : Answered pieces
+    pub no_read_failed : input'.failures ≡ input.failures
 
-  -- A read failed, and all lines of what was read were answered.
+  -- The last read failed, and all lines of what was read were answered.
   pub record ReadFailed : Type 0 where
     pub pieces : List Bytes
     pub were_read : WereRead input input' pieces []
     pub answered : Answered pieces
-    pub read_failed : input.failures < input'.failures
+    pub read_failed : input'.failures ≡ input.failures + 1
 
   -- There were too many reads, and all lines of what was read were answered.
   pub record ReadTooOften : Type 0 where
@@ -116,6 +117,7 @@ module _ (limit : Option ℕ) {S : Type 0} (law : Law S) (before after : Snapsho
     pub were_read : WereRead input input' pieces []
     pub answered : Answered pieces
     pub many : 2 ^ 64 - 1 ≤ length (concat pieces)
+    pub no_read_failed : input'.failures ≡ input.failures
 
   -- which of them an error means
   abbrev pub ServeEnded : ServeError → Type 0
@@ -138,10 +140,13 @@ pub record Serves (limit : Option ℕ) {S : Type 0} (law : Law S) (before after 
   pub done : served.done ≡ ends_for limit law before.state input
   -- and each byte was scanned for a line feed exactly once, but those after that line.
   pub tested : served.tests + length (after_end limit law before.state input) ≡ length input
-  -- The reader has yet to give these bytes; `left` is how many of those after the last line of the
-  -- run were read.
+  -- These bytes were read, and the reader has yet to give the others: none, where the handler
+  -- didn't end the session. `left` is how many were read of those after the last line of the run.
+  pub read : Bytes
   pub rest : Bytes
+  pub whole : input ≡ read ++ rest
   pub to_be_read : remaining ≡ Some rest
+  pub at_end : served.done ≡ false → rest ≡ []
   pub left : served.left
       ≡ saturating_u64 (length (unread limit law before.state input) - length rest)
   -- Where the handler ended the session and no byte is left, they are all that come after its end.

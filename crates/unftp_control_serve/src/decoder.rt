@@ -150,7 +150,7 @@ impl EventDecoder {
         ensures no_memory { OnErr result
             (self.new.scanned ≤ self.old.scanned + self.old.unscanned) }
         // out of memory is returned only for a complete line that may take some
-        ensures may_run_out { OnErr result (MayRunOut self.old) }
+        ensures may_run_out { OnErr result (MayRunOut self.old.limit self.old.bytes) }
         ensures never_fewer { self.old.scanned ≤ self.new.scanned }
     {
         let event = self.take_next()?;
@@ -172,7 +172,7 @@ impl EventDecoder {
         ensures no_memory { OnErr result
             (self.new.scanned ≤ self.old.scanned + self.old.unscanned) }
         // out of memory is returned only for a complete line that may take some
-        ensures may_run_out { OnErr result (MayRunOut self.old) }
+        ensures may_run_out { OnErr result (MayRunOut self.old.limit self.old.bytes) }
         ensures never_fewer { self.old.scanned ≤ self.new.scanned }
     {
         let alloc = *self.buffer.bytes.allocator();

@@ -1,12 +1,12 @@
 //! The engine: lines in, replies out.
-ghost use Rattle.std.specs.Prelude.{◌≡◌, ◌≤◌, ◌+◌, ◌∷◌, [], max, None, Some, IfSome, IfOk, OnOk, OnErr, IsErrOf, IsTrue, MatchResult, is_ok, if◌then◌else◌, true, false, length};
+ghost use Rattle.std.specs.Prelude.{◌≡◌, ◌≤◌, ◌+◌, [], max, None, Some, IfSome, IfOk, OnOk, OnErr, IsErrOf, IsTrue, MatchResult, is_ok, if◌then◌else◌, true, false, length};
 ghost use Rattle.unftp_control_defs.specs.FtpReply.{Nothing, encoded};
-ghost use Rattle.unftp_control_defs.specs.Run.{run_for, ends_for, unread};
+ghost use Rattle.unftp_control_defs.specs.Run.{ends_for, unread};
 ghost use Rattle.unftp_control_reply.specs.ReplyMeaning.{reply_of};
-ghost use Rattle.unftp_control_serve.specs.Endings.{OnWrite, PieceOutcome, RunOutcome, snapshot_with};
+ghost use Rattle.unftp_control_serve.specs.Endings.{EventOutcome, OnWrite, PieceOutcome, RunOutcome, snapshot_with};
 ghost use Rattle.unftp_control_serve.specs.Decoder.{kept_length};
 ghost use Rattle.unftp_control_serve.specs.EventMeaning.{event_meant};
-ghost use Rattle.unftp_control_serve.specs.Engine.{FailedAfter, IsRunning, fed, fresh, more_left, run_with};
+ghost use Rattle.unftp_control_serve.specs.Engine.{FailedAfter, IsRunning, bytes_with, fed, fresh, more_left};
 
 use crate::decoder::EventDecoder;
 use crate::error::ServeError;
@@ -36,9 +36,9 @@ fn answer_event<H: Handler, K: Sink>(
     handler: &mut H,
     output: &mut K,
 ) -> Result<(), ServeError>
-    ensures outcome { RunOutcome H.law
+    ensures outcome { EventOutcome H.law
         (snapshot_with H.state H.failures K.state handler.old output.old)
-        (event_meant event ∷ [])
+        (event_meant event)
         (snapshot_with H.state H.failures K.state handler.new output.new)
         result }
     ensures cuts { OnWrite result K.cuts }
@@ -61,11 +61,9 @@ fn answer_lines<H: Handler, K: Sink>(
     handler: &mut H,
     output: &mut K,
 ) -> Result<bool, ServeError>
-    ensures outcome { RunOutcome H.law
-        (snapshot_with H.state H.failures K.state handler.old output.old)
-        (run_for decoder.old.limit H.law (H.state handler.old) decoder.old.bytes)
-        (snapshot_with H.state H.failures K.state handler.new output.new)
-        result }
+    ensures outcome { RunOutcome decoder.old.limit H.law
+        (snapshot_with H.state H.failures K.state handler.old output.old) decoder.old.bytes
+        (snapshot_with H.state H.failures K.state handler.new output.new) result }
     ensures cuts { OnWrite result K.cuts }
     ensures ended { IfOk result (λ ended. ended
         ≡ ends_for decoder.old.limit H.law (H.state handler.old) decoder.old.bytes) }
@@ -221,9 +219,9 @@ impl Engine {
         output: &mut K,
     ) -> Result<(), ServeError>
         // What was answered, written and flushed at each answer of an engine that runs.
-        ensures outcome { IsRunning self.old → PieceOutcome H.law
+        ensures outcome { IsRunning self.old → PieceOutcome self.old.limit H.law
             (snapshot_with H.state H.failures K.state handler.old output.old)
-            (run_with self.old H.law (H.state handler.old) piece.now) piece.now
+            (bytes_with self.old piece.now) piece.now
             (snapshot_with H.state H.failures K.state handler.new output.new) result }
         ensures cuts { OnWrite result K.cuts }
         // What such an engine is then; a limit bounds what the buffer has held.
@@ -258,9 +256,9 @@ impl Engine {
         output: &mut K,
     ) -> Result<(), ServeError>
         requires { IsRunning self.old }
-        ensures outcome { PieceOutcome H.law
+        ensures outcome { PieceOutcome self.old.limit H.law
             (snapshot_with H.state H.failures K.state handler.old output.old)
-            (run_with self.old H.law (H.state handler.old) piece.now) piece.now
+            (bytes_with self.old piece.now) piece.now
             (snapshot_with H.state H.failures K.state handler.new output.new) result }
         ensures cuts { OnWrite result K.cuts }
         ensures fed { MatchResult result

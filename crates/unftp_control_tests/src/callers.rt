@@ -19,7 +19,7 @@ use unftp_control::codecs::FtpCodec;
 use unftp_control::command::Command;
 use unftp_control::commands::AuthParam;
 use unftp_control::read::{ReceiveError, ReplyDecoder};
-use unftp_control::serve::{EventDecoder, Output, ServeError, Served};
+use unftp_control::serve::{EventDecoder, Input, Output, ServeError, Served};
 
 /// Logs a line after those that are logged.
 fn log_one(rt: &impl Abort, alloc: Global, line: &[u8], log: &mut Vec<u8>) {
@@ -172,10 +172,11 @@ fn a_connection_is_served(rt: HostRuntime) {
 }
 
 /// The client is told to begin TLS after this input, and it is begun only where it can be.
-fn assert_upgraded(rt: &impl Abort, alloc: Global, input: &[u8], is_begun: bool) {
-    let (next, output) = serve_until_tls(alloc, input, Vec::new(alloc));
-    assert!(rt; next.expect(rt, "an answer").is_some() == is_begun);
-    assert_held(rt, output, b"234 Upgrading to TLS\r\n");
+fn assert_upgraded(rt: &impl Abort, alloc: Global, bytes: &[u8], is_begun: bool) {
+    let mut output = Output::new(Vec::new(alloc));
+    let begins = serve_until_tls(alloc, &mut Input::new(bytes), &mut output);
+    assert!(rt; begins.expect(rt, "an answer") == is_begun);
+    assert_held(rt, output.into_inner(), b"234 Upgrading to TLS\r\n");
 }
 
 #[test]
@@ -303,8 +304,9 @@ fn the_error_of_a_read_is_returned(rt: HostRuntime) {
     assert_number(&rt, receive_error(is_agreed), 110);
     let (served, _) = serve_connection(alloc, NoReads(104), Vec::new(alloc), &mut Basic::new());
     assert_number(&rt, read_error(served), 104);
-    let (next, _) = serve_until_tls(alloc, NoReads(110), Vec::new(alloc));
-    assert_number(&rt, read_error(next), 110);
+    let mut output = Output::new(Vec::new(alloc));
+    let begins = serve_until_tls(alloc, &mut Input::new(NoReads(110)), &mut output);
+    assert_number(&rt, read_error(begins), 110);
 }
 
 /// Each way to serve returns the error of the write; or of the flush, where writes succeed.
@@ -316,12 +318,12 @@ fn assert_failure_returned(rt: &impl Abort, alloc: Global, is_written: bool) {
     };
     let (served, _) = serve_connection(alloc, input, output, &mut Basic::new());
     assert_number(rt, write_error(served), 32);
-    let output = NoWrites {
+    let mut output = Output::new(NoWrites {
         error: 28,
         is_written,
-    };
-    let (next, _) = serve_until_tls(alloc, input, output);
-    assert_number(rt, write_error(next), 28);
+    });
+    let begins = serve_until_tls(alloc, &mut Input::new(input), &mut output);
+    assert_number(rt, write_error(begins), 28);
     let mut output = Output::new(NoWrites {
         error: 5,
         is_written,

@@ -1,10 +1,9 @@
 use Rattle.std.specs.Prelude.{Some}
 use Rattle.std.proofs.Common.{rules}
-use Rattle.std.proofs.lemmas.Result.{MatchResult-weaker}
 use Rattle.std.specs.Io.KnownBytes.{Appends}
 use Rattle.unftp_control_defs.specs.Bytes.{Bytes}
 use Rattle.unftp_control_login.proofs.MemberLemmas.{limit-members-alone, some_output}
-use Rattle.unftp_control_serve.proofs.ServesLemmas.{Serves-written, Serves-done, Serves-left}
+use Rattle.unftp_control_serve.proofs.ServesLemmas.{Serves-written}
 use Rattle.login_demo.specs.Session.{files_law, new_session}
 use Rattle.login_demo.proofs.PlainLemmas.{SendsPlainReplies-files}
 use Rattle.login_demo.proofs.run.Goals as goal
@@ -18,35 +17,38 @@ returns g c =
     let serves = simp (
       limit.left,
       limit.inner,
+      limit.failures,
       gate.accounts,
       gate.stage,
       gate.quit,
       gate.inner,
+      gate.failures,
       files.session,
+      files.failures,
     ) at served.ensures.serves in
-    let written = Serves-written _ _ _ _ _ _ served.result serves in
     record {
-      written = written;
-      done = Serves-done _ _ _ _ _ _ served.result serves;
-      left = Serves-left _ _ _ _ _ _ served.result serves;
+      serves = (_, _, serves);
       members = some_output served.result (g.R.Read.remaining c.args.reader.now.reader)
           (λ (output : Bytes). Appends (g.W.Write.contents c.args.writer.now.writer)
           (g.W.Write.contents served.new.writer.writer) output)
           _ _ (limit-members-alone files_law SendsPlainReplies-files (Some 4096)
-          (g.A.Accounts.accepts c.args.accounts) 3 new_session) written;
+          (g.A.Accounts.accepts c.args.accounts) 3 new_session)
+          (Serves-written _ _ _ _ _ _ served.result serves);
       bound = search rules;
-      err = MatchResult-weaker served.result
-          (simp (
-            limit.left,
-            limit.inner,
-            limit.failures,
-            gate.accounts,
-            gate.stage,
-            gate.quit,
-            gate.inner,
-            gate.failures,
-            files.session,
-            files.failures,
-          ) at served.ensures.err)
-          (λ served h. h) (λ error ended. (_, _, ended));
+      err = (
+        _,
+        _,
+        simp (
+          limit.left,
+          limit.inner,
+          limit.failures,
+          gate.accounts,
+          gate.stage,
+          gate.quit,
+          gate.inner,
+          gate.failures,
+          files.session,
+          files.failures,
+        ) at served.ensures.err,
+      );
     }

@@ -5,11 +5,12 @@ ghost use Rattle.std.specs.Io.KnownBytes.{Appends};
 ghost use Rattle.unftp_control_defs.specs.Bytes.{Bytes};
 ghost use Rattle.unftp_control_defs.specs.Events.{Fault, Command, Refused, line_too_long, out_of_memory};
 ghost use Rattle.unftp_control_defs.specs.FtpCommand.{User};
+ghost use Rattle.unftp_control_defs.specs.Run.{run_for};
 ghost use Rattle.unftp_control_reply.specs.ErrorMeaning.{fault_of};
 ghost use Rattle.unftp_control_reply.specs.ErrorParts.{KindAndSource};
-ghost use Rattle.unftp_control_serve.specs.Endings.{Snapshot, Finished, Write, Handler, LineMemory, ReplyMemory, IsCauseOf, EventMayTakeMemory, AllAnswered, RunEnded, NoRoom, OnWrite, OnMemory};
+ghost use Rattle.unftp_control_serve.specs.Endings.{Snapshot, Finished, Write, Handler, LineMemory, ReplyMemory, IsCauseOf, AllAnswered, EventFailed, RunEnded, RunFailed, NoRoom, OnWrite, OnMemory};
 ghost use Rattle.unftp_control_serve.specs.Decoder.{kept_length, saturating_u64};
-ghost use Rattle.unftp_control_serve.specs.Engine.{EngineState, FailedAfter, fed, has_failed, has_finished, more_left, run_with};
+ghost use Rattle.unftp_control_serve.specs.Engine.{EngineState, FailedAfter, bytes_with, fed, has_failed, has_finished, more_left};
 ghost use Rattle.unftp_control.specs.Snapshots.{counter, counter_to_five, noop, silent, snapshot, waiting};
 ghost use Rattle.unftp_control_serve.specs.declared.engine.Phase.TheVariants as phase;
 ghost use Rattle.unftp_control_serve.specs.Writing.{Begins, Flushed, OutputState, Sends, appended_state_of};
@@ -72,16 +73,13 @@ pub fn the_handler_failed_at_an_event()
 {}
 
 /// Memory ran out: for the command of a line, which the handler didn't take, or for the reply to it,
-/// which it did. It never does for a command without a field, nor for no reply.
+/// which it did. It never does for no reply.
 pub fn memory_ran_out()
     ensures line { (after : Snapshot ℕ)
         → RunEnded counter (snapshot 3 (codes "x") 1) [] (Command (User (codes "a")) ∷ [])
         LineMemory after
         → (after.state ≡ 3) × Appends (Some (codes "x")) after.output.written []
         × (after.output.unflushed ≤ 1) }
-    ensures a_field { EventMayTakeMemory (Command (User (codes "a"))) }
-    ensures no_field { EventMayTakeMemory noop → ⊥ }
-    ensures too_long { EventMayTakeMemory (Refused line_too_long) → ⊥ }
     ensures reply { (after : Snapshot ℕ)
         → RunEnded counter (snapshot 3 (codes "x") 1) [] (noop ∷ []) ReplyMemory after
         → (after.state ≡ 4) × Appends (Some (codes "x")) after.output.written [] }
@@ -90,6 +88,27 @@ pub fn memory_ran_out()
     ensures quiet { (after : Snapshot ℕ)
         → RunEnded counter (snapshot 3 (codes "x") 1) [] (noop ∷ []) ReplyMemory after
         → (after.output.failures ≡ 0) × (after.failures ≡ 0) }
+{}
+
+/// Memory ran out for the command of a line: it is the next line of the input, which may take some.
+pub fn memory_ran_out_for_a_line()
+    ensures a_field { RunFailed None counter (snapshot 3 (codes "x") 1) (codes "NOOP\r\nUSER a\r\n")
+        (snapshot 4 (codes "x200 OK\r\n") 0) ServeError.OutOfMemory (noop ∷ []) }
+    ensures no_field { (before after : Snapshot ℕ)
+        (v : RunFailed None counter before (codes "NOOP\r\nUSER a\r\n") after
+        ServeError.OutOfMemory []) → v.cause ≡ LineMemory → ⊥ }
+    ensures ill_formed { (before after : Snapshot ℕ)
+        (v : RunFailed None counter before (255 ∷ codes "\r\nSITE a\r\n") after
+        ServeError.OutOfMemory []) → v.cause ≡ LineMemory → ⊥ }
+    ensures too_long { (before after : Snapshot ℕ)
+        (v : RunFailed (Some 7) counter before (codes "USER a\r\n") after
+        ServeError.OutOfMemory []) → v.cause ≡ LineMemory → ⊥ }
+{}
+
+/// At one event it is never the memory for its line.
+pub fn an_event_has_its_line()
+    ensures { (before after : Snapshot ℕ) (error : ServeError)
+        (v : EventFailed counter before noop after error) → v.cause ≡ LineMemory → ⊥ }
 {}
 
 /// What may be unflushed, and what a text begins with.
@@ -125,7 +144,7 @@ pub fn an_engine_is_fed()
     } }
     ensures at_the_limit { (fed counter 3 (waiting (Some 5)) (codes "OP")).buffered ≡ 4 }
     ensures over_the_limit { (fed counter 3 (waiting (Some 4)) (codes "OP")).buffered ≡ 0 }
-    ensures too_long { run_with (waiting (Some 5)) counter 3 (codes "OP\r\nP")
+    ensures too_long { run_for (Some 5) counter 3 (bytes_with (waiting (Some 5)) (codes "OP\r\nP"))
         ≡ Refused line_too_long ∷ [] }
     ensures more_left { (more_left (waiting None) (codes "OP")).left ≡ 4 }
     ensures phases { (has_failed phase.Failed ≡ true) × (has_failed phase.Finished ≡ false)

@@ -1,7 +1,7 @@
 //! Lines worked out by hand: which of them may need an allocation.
 ghost use Rattle.std.specs.Prelude.{◌++◌, ◌∷◌, None, Some, codes};
 ghost use Rattle.unftp_control_line_parser.specs.Memory.{MayTakeMemory};
-ghost use Rattle.unftp_control_serve.specs.Decoder.{MayRunOut, no_bytes, pushed};
+ghost use Rattle.unftp_control_serve.specs.Decoder.{MayRunOut};
 
 /// A line whose command has a field, or that is refused.
 pub fn lines_that_may_take_memory()
@@ -24,15 +24,16 @@ pub fn lines_that_take_no_memory()
     ensures bad_verb { MayTakeMemory (255 ∷ codes "\r\n") → ⊥ }
 {}
 
-/// The first of the pending lines may need an allocation.
-pub fn a_pending_line_may_take_memory()
-    ensures field { MayRunOut (pushed (no_bytes None) (codes "USER a\r\nNO")) }
-    ensures within_the_limit { MayRunOut (pushed (no_bytes (Some 8)) (codes "USER a\r\n")) }
+/// The first line of some bytes may need an allocation.
+pub fn a_first_line_may_take_memory()
+    ensures field { MayRunOut None (codes "USER a\r\nNO") }
+    ensures within_the_limit { MayRunOut (Some 8) (codes "USER a\r\n") }
 {}
 
-/// No line is pending, or the first needs no allocation.
-pub fn a_pending_line_takes_no_memory()
-    ensures no_line { MayRunOut (pushed (no_bytes None) (codes "USER a")) → ⊥ }
-    ensures no_value { MayRunOut (pushed (no_bytes None) (codes "NOOP\r\nUSER a\r\n")) → ⊥ }
-    ensures too_long { MayRunOut (pushed (no_bytes (Some 7)) (codes "USER a\r\n")) → ⊥ }
+/// There is no line, or the first needs no allocation.
+pub fn a_first_line_takes_no_memory()
+    ensures no_line { MayRunOut None (codes "USER a") → ⊥ }
+    ensures no_value { MayRunOut None (codes "NOOP\r\nUSER a\r\n") → ⊥ }
+    ensures ill_formed { MayRunOut None (255 ∷ codes "\r\nSITE a\r\n") → ⊥ }
+    ensures too_long { MayRunOut (Some 7) (codes "USER a\r\n") → ⊥ }
 {}

@@ -4,6 +4,8 @@ ghost use Rattle.std.specs.List.{concat};
 ghost use Rattle.std.specs.Io.KnownBytes.{Appends, IsAtEnd};
 ghost use Rattle.unftp_control_defs.specs.Bytes.{Bytes};
 ghost use Rattle.unftp_control_defs.specs.Events.{events};
+ghost use Rattle.unftp_control_defs.specs.FtpReply.{CodeAndMsg};
+ghost use Rattle.unftp_control_defs.specs.ReplyReader.{ReadsBack};
 ghost use Rattle.unftp_control_reply.specs.ErrorParts.{KindAndSource};
 ghost use Rattle.unftp_control_serve.specs.Endings.{Snapshot, AllAnswered};
 ghost use Rattle.unftp_control.specs.RunEnd.{EndsAfter, EndsNowhere};
@@ -19,9 +21,6 @@ pub fn errors_of_serve()
     ensures read { (before after : Snapshot ℕ) (input input_after : InputState) (error : _)
         → ServeEnded None counter before after input input_after (ServeError.Read error)
         → ReadFailed None counter before after input input_after }
-    ensures read_failed { (before after : Snapshot ℕ) (input input_after : InputState)
-        → ReadFailed None counter before after input input_after
-        → input.failures < input_after.failures }
     ensures write { (before after : Snapshot ℕ) (input input_after : InputState) (error : _)
         → ServeEnded None counter before after input input_after (ServeError.Write error)
         → EndedLate None counter before after input input_after (ServeError.Write error) }
@@ -53,6 +52,25 @@ pub fn errors_of_serve()
         → AllAnswered counter before (events None (concat v.pieces)) after × (v.last ≡ [] → ⊥) }
 {}
 
+/// How often reading failed: once where that is the error, and else never.
+pub fn failed_reads_are_counted()
+    ensures read { (before after : Snapshot ℕ) (input input_after : InputState)
+        → ReadFailed None counter before after input input_after
+        → input_after.failures ≡ input.failures + 1 }
+    ensures late { (before after : Snapshot ℕ) (input input_after : InputState) (error : ServeError)
+        → EndedLate None counter before after input input_after error
+        → input_after.failures ≡ input.failures }
+    ensures no_room { (before after : Snapshot ℕ) (input input_after : InputState)
+        → NoRoomForPiece None counter before after input input_after
+        → input_after.failures ≡ input.failures }
+    ensures too_often { (before after : Snapshot ℕ) (input input_after : InputState)
+        → ReadTooOften None counter before after input input_after
+        → input_after.failures ≡ input.failures }
+    ensures ok { (before after : Snapshot ℕ) (input input_after : InputState) (served : Served)
+        → AnsweredAll None counter before after input input_after served
+        → input_after.failures ≡ input.failures }
+{}
+
 /// An input without its last line feed that was served whole.
 pub fn an_input_is_served()
     ensures whole { (after : Snapshot ℕ) (served : Served)
@@ -60,6 +78,14 @@ pub fn an_input_is_served()
         (codes "NOOP\r\nNO")
         → Appends (Some (codes "x")) after.output.written (codes "200 OK\r\n")
         × (after.state ≡ 4) × (served.done ≡ false) × (served.left ≡ 2) × (served.tests ≡ 8) }
+    ensures read_back { (after : Snapshot ℕ) (remaining : Option Bytes) (served : Served)
+        → Serves None counter (snapshot 3 (codes "x") 1) after remaining served
+        (codes "NOOP\r\nNO")
+        → ReadsBack (codes "200 OK\r\n") (CodeAndMsg 200 (codes "OK") ∷ []) }
+    ensures rest { (after : Snapshot ℕ) (remaining : Option Bytes) (served : Served)
+        → Serves None counter (snapshot 3 (codes "x") 1) after remaining served
+        (codes "NOOP\r\nNO")
+        → remaining ≡ Some [] }
     ensures any_reader { (before after : Snapshot ℕ) (input : InputState) (served : Served)
         → served.done ≡ false
         → AnsweredAll None counter before after
@@ -70,6 +96,10 @@ pub fn an_input_is_served()
         (served : Served) → served.done ≡ false
         → AnsweredAll None counter before after input input_after served
         → (reads : List ℕ) × (input_after.reads ≡ reads ++ 0 ∷ []) }
+    // a read that gave nothing is the last one
+    ensures read_no_more { (before after : Snapshot ℕ) (input input_after : InputState)
+        (served : Served) → AnsweredAll None counter before after input input_after served
+        → input.reads ≡ [] → input_after.reads ≡ 4 ∷ 0 ∷ 0 ∷ [] → ⊥ }
 {}
 
 /// Where a run ends: at the fifth event, and nowhere where there are fewer.
@@ -89,6 +119,9 @@ pub fn a_session_is_ended()
         (codes "NOOP\r\nNOOP\r\nNO")
         → Appends (Some (codes "x")) after.output.written (codes "200 OK\r\n")
         × (after.state ≡ 5) × (served.done ≡ true) × (served.left ≡ 6) × (served.tests ≡ 6) }
+    ensures other_rest { (before after : Snapshot ℕ) (served : Served)
+        → Serves None counter_to_five before after (Some (codes "XX")) served
+        (codes "NOOP\r\nNOOP\r\nNO") → ⊥ }
     ensures not_read { (after : Snapshot ℕ) (served : Served) (remaining : Option Bytes)
         → Serves None counter_to_five (snapshot 4 (codes "x") 1) after remaining served
         (codes "NOOP\r\nNO")
@@ -103,7 +136,7 @@ pub fn a_session_is_ended()
         → v.first ≡ codes "NOOP" ∷ codes "\r\n" ∷ [] → ⊥ }
 {}
 
-/// Each read is listed with how many bytes it gave, at most 4,096.
+/// Each read is listed with how many bytes it gave, at least one and at most 4,096.
 pub fn pieces_are_read_so()
     ensures reads { (remaining : Option Bytes) (input : InputState)
         → WereRead (record { remaining = remaining; reads = 5 ∷ []; failures = 0 }) input
@@ -113,8 +146,9 @@ pub fn pieces_are_read_so()
         → WereRead (record { remaining = Some (codes "NOOP\r\nP"); reads = []; failures = 0 }) input
         (codes "NOOP" ∷ codes "\r\n" ∷ []) []
         → IsSomeAnd input.remaining (λ rest. rest ≡ codes "P") }
-    ensures short { (input input_after : InputState) (piece : Bytes)
-        → WereRead input input_after (piece ∷ []) [] → length piece ≤ 4096 }
+    ensures sizes { (input input_after : InputState) (piece : Bytes)
+        → WereRead input input_after (piece ∷ []) []
+        → (0 < length piece) × (length piece ≤ 4096) }
 {}
 
 /// What is held of pieces: of a line that is too long nothing is kept after its piece.

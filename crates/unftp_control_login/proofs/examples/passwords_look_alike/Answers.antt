@@ -1,4 +1,5 @@
-use Rattle.unftp_control_login.proofs.ExampleLemmas.{alike, another_user, his_own, apart, no_name, each, fails, never_fails}
+use Rattle.unftp_control_login.proofs.ExampleLemmas.{alike, another_user, his_own, apart, no_name, each, same_lines, fails, never_fails}
+use Rattle.unftp_control_login.proofs.CallExampleLemmas.{other-calls}
 use Rattle.unftp_control_login.proofs.examples.passwords_look_alike.Goals as goal
 
 pub returns-clause-alike : goal.returns-clause-alike
@@ -19,8 +20,14 @@ returns-clause-no_name c = no_name
 pub returns-clause-each : goal.returns-clause-each
 returns-clause-each c = each
 
+pub returns-clause-same_lines : goal.returns-clause-same_lines
+returns-clause-same_lines c = same_lines
+
 pub returns-clause-fails : goal.returns-clause-fails
 returns-clause-fails c = fails
 
 pub returns-clause-never_fails : goal.returns-clause-never_fails
 returns-clause-never_fails c = never_fails
+
+pub returns-clause-other_calls : goal.returns-clause-other_calls
+returns-clause-other_calls c = other-calls

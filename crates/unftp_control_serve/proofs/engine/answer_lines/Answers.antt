@@ -98,5 +98,5 @@ pub returns-in_err-event-clause-outcome : goal.returns-in_err-event-clause-outco
 returns-in_err-event-clause-outcome g c =
     let error = err_from_is_err_and c.from_residual.result c.from_residual.ensures.1 in
     rw (error.1, error.2)
-    (halfway-no_memory c.loop-event.invariant.limit c.loop-event.invariant.halfway
-    c.in_err-event.ensures.may_run_out)
+    (halfway-no_memory c.loop-event.invariant.halfway
+    (rw c.loop-event.invariant.limit at c.in_err-event.ensures.may_run_out))

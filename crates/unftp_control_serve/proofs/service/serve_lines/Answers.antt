@@ -11,23 +11,25 @@ pub returns-in_err-feed-clause-err : goal.returns-in_err-feed-clause-err
 returns-in_err-feed-clause-err g c =
     let cut = c.split_at.ensures in
     let read = c.in-Ok.ensures in
+    let some : 0 < length c.split_at.result.0.now =
+    omega (arith, cut.front_len, c.if-n-eq0.false) in
     let short : length c.split_at.result.0.now ≤ 4096 =
     omega (arith, c.loop-turn.invariant.room, c.read.auto.buf, cut.front_len, read.bound.0) in
     let given = rw (sym cut.front) at read.bytes.0 in
     let error = err_from_is_err_and c.from_residual.result c.from_residual.ensures.1 in
     rw (error.1, error.2)
     (Serving-failed _ c.loop-turn.invariant.serving c.split_at.result.0.now given
-    (rw cut.front_len read.reads) short _ _
+    (rw cut.front_len read.reads) (some, short) read.quiet _ _
     (c.in_err-feed.ensures.outcome c.loop-turn.invariant.serving.running))
 
 pub loop-turn-preserved : goal.loop-turn-preserved
 loop-turn-preserved g c =
     let cut = c.split_at.ensures in
     let read = c.in-Ok.ensures in
-    let short : length c.split_at.result.0.now ≤ 4096 =
-    omega (arith, c.loop-turn.invariant.room, c.read.auto.buf, cut.front_len, read.bound.0) in
     let some : 0 < length c.split_at.result.0.now =
     omega (arith, cut.front_len, c.if-n-eq0.false) in
+    let short : length c.split_at.result.0.now ≤ 4096 =
+    omega (arith, c.loop-turn.invariant.room, c.read.auto.buf, cut.front_len, read.bound.0) in
     let given = rw (sym cut.front) at read.bytes.0 in
     let running = c.loop-turn.invariant.serving.running in
     let is = c.in_ok-feed.ensures.fed running in
@@ -36,8 +38,8 @@ loop-turn-preserved g c =
     record {
       serving = rw is
           (Serving-next _ c.loop-turn.invariant.serving c.split_at.result.0.now
-          given (rw cut.front_len read.reads) short _
-          read.quiet (c.in_ok-feed.ensures.outcome running) some on);
+          given (rw cut.front_len read.reads) (some, short) read.quiet _
+          (c.in_ok-feed.ensures.outcome running) on);
       room = omega (arith, c.loop-turn.invariant.room, c.read.auto.buf);
     }
 
@@ -45,6 +47,8 @@ pub returns-then-is_over-clause-ok : goal.returns-then-is_over-clause-ok
 returns-then-is_over-clause-ok g c =
     let cut = c.split_at.ensures in
     let read = c.in-Ok.ensures in
+    let some : 0 < length c.split_at.result.0.now =
+    omega (arith, cut.front_len, c.if-n-eq0.false) in
     let short : length c.split_at.result.0.now ≤ 4096 =
     omega (arith, c.loop-turn.invariant.room, c.read.auto.buf, cut.front_len, read.bound.0) in
     let given = rw (sym cut.front) at read.bytes.0 in
@@ -53,7 +57,7 @@ returns-then-is_over-clause-ok g c =
     let done = ap (λ engine. engine.finished) (sym is) ∙ sym c.finished-is_over.ensures
     ∙ c.if-is_over.true in
     Serving-done _ c.loop-turn.invariant.serving c.split_at.result.0.now given
-    (rw cut.front_len read.reads) short _ read.quiet
+    (rw cut.front_len read.reads) (some, short) read.quiet _
     (c.in_ok-feed.ensures.outcome running) (rw is at c.served_by-then-is_over.ensures) done
 
 pub returns-clause-err : goal.returns-clause-err

@@ -2,7 +2,7 @@ use Rattle.std.proofs.Common.{[], codes, refl, rules}
 use Rattle.std.specs.Str.{is_utf8, chars}
 use Rattle.std.specs.Str.Lossy.{utf8_lossy, utf8_valid_len, utf8_error_len}
 use Rattle.unftp_control_defs.specs.Lines.{IsLine}
-use Rattle.unftp_control.proofs.laws.examples.memory.a_pending_line_may_take_memory.Goals as goal
+use Rattle.unftp_control.proofs.laws.examples.memory.a_first_line_may_take_memory.Goals as goal
 
 user : IsLine (codes "USER a\r\n")
 user = record { body = codes "USER a\r"; whole = refl; one_end = search rules }
