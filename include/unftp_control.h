@@ -15,9 +15,11 @@
  * - Memory is allocated by malloc, and freed before the call returns. So no call may be made from a
  *   signal handler, nor in the forked child of a process with threads. Passwords are not wiped.
  * - Where a call has no room or no memory, the caller may call again with the same bytes.
+ * - A call takes at most 8,192 bytes of stack, with what malloc of the GNU C library takes, and the
+ *   dynamic linker where it is the first.
  *
- * What the library's functions return and write is proved; the bounds on lengths, and that this
- * header matches the library, are tested.
+ * What the library's functions return and write is proved, and so are the bounds on lengths; how
+ * much stack a call takes, and that this header matches the library, are tested.
  */
 #ifndef UNFTP_CONTROL_H
 #define UNFTP_CONTROL_H
@@ -246,14 +248,15 @@ enum unftp_result unftp_next(struct unftp_connection *connection,
 /*
  * Writes the bytes of a reply to the start of out, and *len is how many they are (RFC 959, section
  * 4.2). The code is any number from 100 to 599. The text is of one line, or of several that are
- * divided by line feeds. It returns UNFTP_DONE; UNFTP_UNKNOWN_CODE for another number;
+ * divided by line feeds; a CR directly before a line feed belongs to the line's end, so "a\r\nb" and
+ * "a\nb" are the lines a and b. It returns UNFTP_DONE; UNFTP_UNKNOWN_CODE for another number;
  * UNFTP_INVALID_UTF8; UNFTP_NO_ROOM, where *len is the room that is needed; or UNFTP_OUT_OF_MEMORY,
- * but never for a text of one line. out is as it was but at UNFTP_DONE. A text of n bytes with k
- * line feeds needs at most n + 2 k + 10.
+ * but never for a text of one line. out is as it was but at UNFTP_DONE. A text of n bytes needs at
+ * most n + 6 where it is of one line, and at most n + 2 k + 10 where it has k line feeds.
  *
  * A client that reads by RFC 959 finds in these bytes exactly this reply, whatever the text holds:
- * a CR of it is written as it is, and a line before the last that begins with a digit follows a
- * space.
+ * any other CR of it is written as it is, and a line before the last that begins with a digit
+ * follows a space.
  */
 enum unftp_result unftp_reply(uint32_t code, const char *text, size_t text_len,
                               char *out, size_t out_room, size_t *len) UNFTP_NONNULL;

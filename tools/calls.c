@@ -229,6 +229,50 @@ static void check_found(struct bytes reply)
           "but not before its end");
 }
 
+/* The reply of this text, as bytes. */
+static struct bytes reply_of(struct bytes text, size_t room)
+{
+    struct bytes out = area_of(room);
+    size_t len;
+
+    wants(unftp_reply(299, text.at, text.len, out.at, room, &len) == UNFTP_DONE && len == room,
+          "a reply has just enough room");
+    return out;
+}
+
+/* Whether a line feed is here that no CR comes before. */
+static bool is_bare(struct bytes text, size_t at)
+{
+    return text.at[at] == '\n' && (at == 0 || text.at[at - 1] != '\r');
+}
+
+/* The text with a CR before each bare line feed. */
+static struct bytes with_crs(struct bytes text)
+{
+    size_t len = text.len, end = 0;
+    struct bytes made;
+
+    for (size_t at = 0; at < text.len; at++)
+        len += is_bare(text, at);
+    made = area_of(len);
+    for (size_t at = 0; at < text.len; at++) {
+        if (is_bare(text, at))
+            made.at[end++] = '\r';
+        made.at[end++] = text.at[at];
+    }
+    return made;
+}
+
+/* Where CR LFs divide the lines, the reply is the same. */
+static void check_line_ends(struct bytes text, struct bytes wanted)
+{
+    struct bytes other = with_crs(text), out = reply_of(other, wanted.len);
+
+    wants(memcmp(out.at, wanted.at, wanted.len) == 0, "a line may end with CR LF");
+    free_area(out);
+    free_area(other);
+}
+
 /* Makes a reply of this text with just enough room. */
 static void check_reply(struct bytes text)
 {
@@ -247,13 +291,36 @@ static void check_reply(struct bytes text)
     wants(unftp_reply(299, text.at, text.len, less.at, room - 1, &again) == UNFTP_NO_ROOM
               && again == room && is_filling(less),
           "a reply needs this room");
-    out = area_of(room);
-    wants(unftp_reply(299, text.at, text.len, out.at, room, &again) == UNFTP_DONE && again == room,
-          "a reply has just enough room");
+    out = reply_of(text, room);
     check_found(out);
+    check_line_ends(text, out);
     replies++;
     free_area(less);
     free_area(out);
+}
+
+/* A CR directly before a line feed belongs to the line's end, and any other is written. */
+static void check_texts(void)
+{
+    static const char *const texts[][2] = {
+        {"a\r\nb", "299-a\r\n299 b\r\n"},
+        {"a\r\n", "299-a\r\n299 \r\n"},
+        {"\r\n\n", "299-\r\n\r\n299 \r\n"},
+        {"1\r\n2\r\n3", "299- 1\r\n 2\r\n299 3\r\n"},
+        {"a\r\r\n\rb\r", "299-a\r\r\n299 \rb\r\r\n"},
+        {"a\r", "299 a\r\r\n"},
+        {"a\rb", "299 a\rb\r\n"},
+        {"\n\r", "299-\r\n299 \r\r\n"},
+    };
+    char out[64];
+    size_t len;
+
+    for (size_t at = 0; at < sizeof texts / sizeof texts[0]; at++) {
+        const char *text = texts[at][0], *wanted = texts[at][1];
+        wants(unftp_reply(299, text, strlen(text), out, sizeof out, &len) == UNFTP_DONE
+                  && len == strlen(wanted) && memcmp(out, wanted, len) == 0,
+              text);
+    }
 }
 
 /* What no call leaves, and no code. */
@@ -301,6 +368,7 @@ int main(void)
 
     current = &input;
     check_arguments();
+    check_texts();
     while (read_input(&input)) {
         inputs++;
         check_lines(input);

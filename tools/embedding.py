@@ -16,6 +16,9 @@ usage: tools/embedding.py sessions|session SERVER..        the replies of the se
        tools/embedding.py results PROGRAM                    the version of the library, and a text for each result: PROGRAM is
                                                              tools/results.c
        tools/embedding.py calls CALLS..                      what the header says of rooms and lengths: CALLS is tools/calls.c
+       tools/embedding.py stack STACK                        what it says of the stack: STACK is tools/stack.c
+       tools/embedding.py allocations ALLOCATIONS            unftp_next asks for memory as often as parse does, so it parses a line once:
+                                                             ALLOCATIONS is tools/allocations.c
 
 SERVER.., REPLAY.. and CALLS.. may be the program and what runs it. The last line says what was compared; the status is 0 where all is right.
 """
@@ -32,7 +35,7 @@ import tempfile
 import threading
 
 from library import SHARED, STATIC, TOP, calls, global_names, header, names_of, output_of, shared_names, version
-from rows import command_of, quoted, rows, unquoted
+from rows import columns, command_of, quoted, rows, unquoted
 from started_server import GREETING, HOST, LIFE, PATIENCE, StartedServer, Wrong, receive, run_check, send_pieces, wants
 
 RUST = TOP / "bindings/rust/src/ffi.rs"
@@ -339,17 +342,40 @@ def check_forward(*program):
 INPUT_FILES = [*LINE_FILES, "decode.tsv", "client_streams.tsv", "encode.tsv"]
 
 
-def check_calls(*program):
-    """What the header says of rooms and lengths, over all that the vector files have between quotes."""
-    words = [word for name in INPUT_FILES for case, _ in rows(name) for word in re.findall(r'"(?:[^"\\]|\\.)*"', case)]
-    inputs = sorted({unquoted(word) for word in words} | {line for line, _ in long_lines()})
+def said_of(program, inputs):
+    """What the program prints, to these inputs."""
     given = b"".join(struct.pack("<I", len(each)) + each for each in inputs)
     run = subprocess.run(program, input=given, capture_output=True, timeout=LIFE)
     said = run.stdout.decode(errors="replace").strip()
     if run.returncode != 0 or run.stderr:
         raise Wrong(f"status {run.returncode}: {said} {run.stderr!r}")
+    return said
+
+
+def said_of_inputs(*program):
+    """What the program prints, to all that the vector files have between quotes."""
+    words = [word for name in INPUT_FILES for case, _ in rows(name) for word in re.findall(r'"(?:[^"\\]|\\.)*"', case)]
+    inputs = sorted({unquoted(word) for word in words} | {line for line, _ in long_lines()})
+    said = said_of(program, inputs)
     wants("the number of inputs", said.split(" ")[0], str(len(inputs)))
     return said
+
+
+def check_calls(*program):
+    """What the header says of rooms and lengths."""
+    return said_of_inputs(*program)
+
+
+def check_stack(program):
+    """No call takes more stack than the header and its page say."""
+    inputs, *lines = said_of_inputs(program).splitlines()
+    took = {name: int(size) for name, size in (line.split("\t") for line in lines)}
+    wants("the calls", sorted(took), sorted(calls()))
+    for name in ["include/unftp_control.h", "packaging/unftp_control.3", "docs/EMBEDDING.md"]:
+        [most] = re.findall(r"at most ([\d,]+) bytes of stack", (TOP / name).read_text(encoding="utf-8"))
+        if max(took.values()) > int(most.replace(",", "")):
+            raise Wrong(f"{name} has {most} bytes of stack: {took}")
+    return f"{inputs}, at most {max(took.values())} bytes of stack"
 
 
 def check_valgrind(*logs):
@@ -620,6 +646,15 @@ def check_results(program):
     return f"{len(known)} results with a text"
 
 
+def check_allocations(program):
+    """The lines among the rows by hand whose one line feed is their last byte: how often parse asks for memory is in their rows."""
+    parsed = [(unquoted(line), number) for _, number, call, line, *_ in columns("worked.tsv") if call == "parse"]
+    lines, numbers = zip(*[(line, number) for line, number in parsed if line.find(b"\n") == len(line) - 1 >= 0])
+    for line, number, found in zip(lines, numbers, said_of([program], lines).splitlines(), strict=True):
+        wants(f"how often memory is asked for at {line!r}", found, number)
+    return f"{len(lines)} lines, of which {len(lines) - numbers.count('0')} take memory"
+
+
 CHECKS = {
     "sessions": check_sessions,
     "session": check_session,
@@ -636,6 +671,8 @@ CHECKS = {
     "symbols": check_symbols,
     "results": check_results,
     "calls": check_calls,
+    "stack": check_stack,
+    "allocations": check_allocations,
 }
 
 

@@ -1,7 +1,8 @@
 #!/usr/bin/env python3
 """Checks that the server of examples/c goes on where it has to, and ends what it has to end.
 
-usage: tools/server_checks.py abort SERVER              urgent data: the ABOR of Python's ftplib
+usage: tools/server_checks.py addresses SERVER          an IPv4 and an IPv6 address that it listens on, and what is neither
+       tools/server_checks.py abort SERVER              urgent data: the ABOR of Python's ftplib
        tools/server_checks.py descriptors SERVER         no descriptor is left for a client (EMFILE)
        tools/server_checks.py files PRELOAD SERVER       the system has none left (ENFILE): PRELOAD is tools/fail_calls.c
        tools/server_checks.py fork PRELOAD SERVER        no process can be made
@@ -26,6 +27,7 @@ import resource
 import signal
 import socket
 import struct
+import subprocess
 import sys
 import threading
 import time
@@ -105,6 +107,36 @@ def code_of(call, *arguments):
         return call(*arguments)[:3]
     except ftplib.Error as error:
         return str(error)[:3]
+
+
+def has_ipv6():
+    """Whether the machine has the loopback address of IPv6."""
+    try:
+        with socket.create_server(("::1", 0), family=socket.AF_INET6):
+            return True
+    except OSError:
+        return False
+
+
+def check_addresses(program):
+    """It listens on an address of either family, and not on another of that family. What is no address is an error in its usage."""
+    listens = [HOST, "127.0.0.2"] + (["::1"] if has_ipv6() else [])
+    for address in listens:
+        with Server([program, "-a", address]) as server:
+            with socket.create_connection((address, server.port), PATIENCE) as connection:
+                wants(f"the greeting at {address}", receive(connection, len(GREETING)), GREETING)
+                asked(connection)
+            for other in listens:
+                if other != address:
+                    try:
+                        socket.create_connection((other, server.port), PATIENCE).close()
+                        raise Wrong(f"-a {address} listens on {other} too")
+                    except ConnectionRefusedError:
+                        pass
+    for word in ["", "localhost", "127.0.0.256", "::1::", "127.0.0.1 "]:
+        run = subprocess.run([program, "-a", word, "0"], capture_output=True, timeout=PATIENCE, check=False)
+        wants(f"-a {word!r}", (run.returncode, run.stdout, run.stderr[:6]), (2, b"", b"usage:"))
+    return f"it listens on {', '.join(listens)}, and on no other address"
 
 
 def check_abort(program):
@@ -358,6 +390,7 @@ def check_twice(program):
 
 
 CHECKS = {
+    "addresses": check_addresses,
     "abort": check_abort,
     "descriptors": check_descriptors,
     "files": check_files,

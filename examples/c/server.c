@@ -3,7 +3,7 @@
  *
  *     server [-a ADDRESS] [-c CONNECTIONS] [-d SECONDS] [-i SECONDS] PORT
  *
- * -a  the IPv4 address that it listens on: 127.0.0.1
+ * -a  the IPv4 or IPv6 address that it listens on: 127.0.0.1
  * -c  how many connections it serves at a time: 100; it answers 421 to all others
  * -d  how long a client may go on sending once its session has ended: 2
  * -i  how long a client may take until its next command: 300 (RFC 1123, section 4.1.3.2)
@@ -59,8 +59,15 @@ enum {
     FAILURE_PAUSE = 100
 };
 
+/* An address of either family. */
+union address {
+    struct sockaddr any;
+    struct sockaddr_in ipv4;
+    struct sockaddr_in6 ipv6;
+};
+
 struct options {
-    struct in_addr address;
+    union address address;
     long port;
     long connections;
     long dropping;
@@ -601,14 +608,20 @@ static void accept_client(struct server *server)
         refuse(socket, "421 Too many connections\r\n");
 }
 
+static in_port_t *port_of(union address *address)
+{
+    return address->any.sa_family == AF_INET6 ? &address->ipv6.sin6_port : &address->ipv4.sin_port;
+}
+
 /* Listens on the port of the address. */
 static void start_listening(struct server *server)
 {
-    struct sockaddr_in address = {.sin_family = AF_INET};
+    union address *address = &server->options.address;
+    socklen_t len =
+        address->any.sa_family == AF_INET6 ? sizeof address->ipv6 : sizeof address->ipv4;
 
-    address.sin_port = htons((uint16_t)server->options.port);
-    address.sin_addr = server->options.address;
-    server->listener = socket(AF_INET, SOCK_STREAM, 0);
+    *port_of(address) = htons((uint16_t)server->options.port);
+    server->listener = socket(address->any.sa_family, SOCK_STREAM, 0);
     if (server->listener >= FD_SETSIZE) /* pselect takes no greater one */
         errno = EMFILE;
     if (server->listener < 0 || server->listener >= FD_SETSIZE)
@@ -616,7 +629,7 @@ static void start_listening(struct server *server)
     set_option(server->listener, SOL_SOCKET, SO_REUSEADDR);
     if (!set_nonblocking(server->listener))
         fail("server: fcntl");
-    if (bind(server->listener, (const struct sockaddr *)&address, sizeof address) < 0)
+    if (bind(server->listener, &address->any, len) < 0)
         fail("server: bind");
     if (listen(server->listener, SOMAXCONN) < 0)
         fail("server: listen");
@@ -624,12 +637,12 @@ static void start_listening(struct server *server)
 
 static void print_port(int listener)
 {
-    struct sockaddr_in address;
+    union address address;
     socklen_t len = sizeof address;
 
-    if (getsockname(listener, (struct sockaddr *)&address, &len) < 0)
+    if (getsockname(listener, &address.any, &len) < 0)
         fail("server: getsockname");
-    if (printf("%u\n", (unsigned)ntohs(address.sin_port)) < 0 || fflush(stdout) != 0)
+    if (printf("%u\n", (unsigned)ntohs(*port_of(&address))) < 0 || fflush(stdout) != 0)
         fail("server: standard output");
 }
 
@@ -656,10 +669,22 @@ static bool parse_number(const char *text, long least, long most, long *number)
     return errno == 0 && end != text && *end == '\0' && *number >= least && *number <= most;
 }
 
+/* Whether the text is an address of either family, which it then gives. */
+static bool parse_address(const char *text, union address *address)
+{
+    memset(address, 0, sizeof *address);
+    if (inet_pton(AF_INET, text, &address->ipv4.sin_addr) == 1) {
+        address->any.sa_family = AF_INET;
+        return true;
+    }
+    address->any.sa_family = AF_INET6;
+    return inet_pton(AF_INET6, text, &address->ipv6.sin6_addr) == 1;
+}
+
 static bool parse_option(int option, struct options *options)
 {
     switch (option) {
-    case 'a': return inet_pton(AF_INET, optarg, &options->address) == 1;
+    case 'a': return parse_address(optarg, &options->address);
     case 'c': return parse_number(optarg, 1, NUMBER_MOST, &options->connections);
     case 'd': return parse_number(optarg, 1, NUMBER_MOST, &options->dropping);
     case 'i': return parse_number(optarg, 1, NUMBER_MOST, &options->idle);
@@ -682,7 +707,8 @@ int main(int count, char **arguments)
 {
     struct server server = {.options = {.connections = 100, .dropping = 2, .idle = 300}};
 
-    server.options.address.s_addr = htonl(INADDR_LOOPBACK);
+    server.options.address.ipv4.sin_family = AF_INET;
+    server.options.address.ipv4.sin_addr.s_addr = htonl(INADDR_LOOPBACK);
     if (!parse_options(count, arguments, &server.options)) {
         fputs("usage: server [-a ADDRESS] [-c CONNECTIONS] [-d SECONDS] [-i SECONDS] PORT\n",
               stderr);

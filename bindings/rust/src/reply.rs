@@ -3,12 +3,14 @@ use crate::code::ReplyCode;
 use crate::error::Error;
 use crate::ffi;
 use std::borrow::Cow;
+use std::iter;
 
 /// A reply of a server (RFC 959, section 4.2): a code, and a text of one line or of several.
 ///
 /// Whatever the text holds, a client that reads by RFC 959 finds exactly this reply in its bytes. A
-/// line feed divides two lines, also one of a file name, and so never begins another reply; a
-/// carriage return is sent as it is.
+/// line feed divides two lines, also one of a file name, and so never begins another reply. A
+/// carriage return before it belongs to the line's end; any other is sent as it is. Two replies are
+/// equal where their codes and their lines are.
 ///
 /// ```
 /// use unftp_control::{Reply, ReplyCode};
@@ -16,29 +18,34 @@ use std::borrow::Cow;
 /// let okay = Reply::new(ReplyCode::COMMAND_OKAY, "OK");
 /// assert_eq!(okay.to_bytes()?, b"200 OK\r\n");
 ///
+/// let help = Reply::new(ReplyCode::HELP_MESSAGE, "Commands:\r\n NOOP\nEnd");
+/// assert_eq!(help.to_bytes()?, b"214-Commands:\r\n NOOP\r\n214 End\r\n");
+///
 /// let features = Reply::with_lines(ReplyCode::SYSTEM_STATUS, ["Features:", " UTF8", "End"]);
 /// assert_eq!(features.to_bytes()?, b"211-Features:\r\n UTF8\r\n211 End\r\n");
 /// # Ok::<(), unftp_control::Error>(())
 /// ```
-#[derive(Clone, Debug, PartialEq, Eq)]
+#[derive(Clone, Debug)]
 pub struct Reply {
     code: ReplyCode,
     text: Cow<'static, str>,
 }
 
 impl Reply {
-    /// A reply whose text is one line, or several that are divided by line feeds. A text of the
-    /// program's own is not copied.
+    /// A reply whose text is one line, or several that are divided by line feeds or CR LFs. A text of
+    /// the program's own is not copied.
     pub fn new(code: ReplyCode, text: impl Into<Cow<'static, str>>) -> Reply {
         Reply { code, text: text.into() }
     }
 
-    /// A reply of these lines; of none, it is that of one empty line.
+    /// A reply of these lines; of none, it is that of one empty line. A carriage return at the end of
+    /// a line is part of it, and is sent.
     pub fn with_lines<L: AsRef<str>>(code: ReplyCode, lines: impl IntoIterator<Item = L>) -> Reply {
         let mut text = String::new();
         for (at, line) in lines.into_iter().enumerate() {
             if at > 0 {
-                text.push('\n');
+                // before a line feed only, a carriage return at the line's end would be dropped
+                text.push_str("\r\n");
             }
             text.push_str(line.as_ref());
         }
@@ -52,7 +59,16 @@ impl Reply {
 
     /// Its lines, of which there is at least one.
     pub fn lines(&self) -> impl Iterator<Item = &str> + '_ {
-        self.text.split('\n')
+        let mut rest = Some(&*self.text);
+        iter::from_fn(move || {
+            let text = rest?;
+            let Some((line, after)) = text.split_once('\n') else {
+                rest = None;
+                return Some(text);
+            };
+            rest = Some(after);
+            Some(line.strip_suffix('\r').unwrap_or(line))
+        })
     }
 
     /// The bytes that are sent. Where a line before the last begins with a digit, a space is put
@@ -100,6 +116,14 @@ impl Reply {
         ffi::reply(u32::from(self.code.get()), &self.text, out)
     }
 }
+
+impl PartialEq for Reply {
+    fn eq(&self, other: &Reply) -> bool {
+        self.code == other.code && self.lines().eq(other.lines())
+    }
+}
+
+impl Eq for Reply {}
 
 /// The bytes of a reply of these lines: those of [`Reply::with_lines`].
 ///

@@ -157,6 +157,30 @@ fn a_reply_of_lines_is_that_of_their_text() {
 }
 
 #[test]
+fn a_carriage_return_before_a_line_feed_is_of_the_lines_end() -> Result<(), Error> {
+    let code = ReplyCode::HELP_MESSAGE;
+    for (text, lines, bytes) in [
+        ("a\r\nb", &["a", "b"][..], "214-a\r\n214 b\r\n"),
+        ("a\r\n", &["a", ""], "214-a\r\n214 \r\n"),
+        ("\r\n\n", &["", "", ""], "214-\r\n\r\n214 \r\n"),
+        // any other carriage return stays
+        ("a\r\r\n\rb\r", &["a\r", "\rb\r"], "214-a\r\r\n214 \rb\r\r\n"),
+        ("a\r", &["a\r"], "214 a\r\r\n"),
+        ("\n\r", &["", "\r"], "214-\r\n214 \r\r\n"),
+    ] {
+        let reply = Reply::new(code, text);
+        assert_eq!(reply.lines().collect::<Vec<_>>(), lines, "{text:?}");
+        assert_eq!(reply.to_bytes()?, bytes.as_bytes(), "{text:?}");
+        assert_eq!(Reply::with_lines(code, lines), reply, "{text:?}");
+        assert_eq!(Reply::with_lines(code, lines).to_bytes()?, bytes.as_bytes(), "{text:?}");
+    }
+    assert_ne!(Reply::new(code, "a\r\nb"), Reply::new(code, "a\rb"));
+    assert_ne!(Reply::new(code, "a\n"), Reply::new(code, "a"));
+    assert_ne!(Reply::new(code, "a"), Reply::new(ReplyCode::COMMAND_OKAY, "a"));
+    Ok(())
+}
+
+#[test]
 fn a_file_name_makes_no_other_reply() -> Result<(), Error> {
     let reply = Reply::new(ReplyCode::DIR_CREATED, format!("\"{}\"", "a\r\n226 Done\r\nb"));
     let bytes = reply.to_bytes()?;
@@ -170,13 +194,14 @@ fn a_file_name_makes_no_other_reply() -> Result<(), Error> {
 
 #[test]
 fn a_reply_takes_no_more_than_its_bound() -> Result<(), Error> {
-    // a digit that begins a line before the last has a space put before it
-    for line in ["", "a", "1", "a\r"] {
+    // a digit that begins a line before the last has a space put before it, and a carriage return
+    // before a line feed is not written
+    for (line, less) in [("", 1), ("a", 1), ("1", 0), ("a\r", 2), ("1\r", 1)] {
         for line_feeds in 1..20 {
             let text = vec![line; line_feeds + 1].join("\n");
             let bound = text.len() + 2 * line_feeds + 10;
             let len = Reply::new(ReplyCode::SYSTEM_STATUS, text).to_bytes()?.len();
-            assert_eq!(len, if line == "1" { bound } else { bound - line_feeds });
+            assert_eq!(len, bound - less * line_feeds);
         }
     }
     Ok(())

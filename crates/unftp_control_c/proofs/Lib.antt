@@ -2,5 +2,8 @@ pub mod AreaLemmas
 pub mod CallLemmas
 pub mod CanonicalLineLemmas
 pub mod ForwardedLineLemmas
+pub mod LineLemmas
 pub mod NextLemmas
 pub mod ReplyLemmas
+pub mod ReplyRoomLemmas
+pub mod RoomLemmas

@@ -1,10 +1,11 @@
 -- A client finds the reply in the bytes that are written.
-use Rattle.std.proofs.Common.{◌≡◌, ◌≢◌, ℕ, ◌⊎◌, inl, inr, [], ◌∷◌, ◌==◌, List, Result, Ok, Err, Vec, Global, refl, sym, subst, take, arith, eq-eqb, ne_eqb}
-use Rattle.std.specs.Prelude.{IfOk, IfErr}
+use Rattle.std.proofs.Common.{◌≡◌, ◌≢◌, ℕ, zero, suc, ◌-◌, length, ◌⊎◌, inl, inr, [], ◌∷◌, ◌==◌, List, Result, Ok, Err, Vec, Global, refl, sym, subst, take, arith, eq-eqb, ne_eqb}
+use Rattle.std.specs.Prelude.{IfOk, IfErr, slice_index}
 use Rattle.std.specs.Str.{IsUtf8}
+use Rattle.std.specs.Str.Lines.{strip_carriage_return}
 use Rattle.std.specs.List.{AllByRecursion, slice_split, onto_first}
-use Rattle.std.proofs.lemmas.Bool.{cases_eq}
-use Rattle.unftp_control_defs.specs.Bytes.{Bytes, LF, Lacks}
+use Rattle.std.proofs.lemmas.Bool.{cases_eq, cond_both}
+use Rattle.unftp_control_defs.specs.Bytes.{Bytes, LF, CR, Lacks}
 use Rattle.unftp_control_defs.specs.FtpReply.{FtpReply, CodeAndMsg, encoded, IsPlain}
 use Rattle.unftp_control_defs.specs.ReplyReader.{ReadsBack}
 use Rattle.unftp_control_codecs.specs.ReplyCodes.{IsReplyCode}
@@ -13,7 +14,7 @@ use Rattle.unftp_control_c.specs.declared.status.Status.{Status}
 use Rattle.unftp_control_c.specs.declared.status.Status.TheVariants.{Done, OutOfMemory}
 use Rattle.unftp_control_c.specs.Numbers.{status_number}
 use Rattle.unftp_control_c.specs.Areas.{Made, made, written}
-use Rattle.unftp_control_c.specs.Replies.{IsReplyOf, EncodesReply, lines_reply, encodes, unknown_code, not_utf8, out_of_memory}
+use Rattle.unftp_control_c.specs.Replies.{IsReplyOf, EncodesReply, lines_of_parts, lines_reply, encodes, unknown_code, not_utf8, out_of_memory}
 use Rattle.unftp_control_c.proofs.AreaLemmas.{filled_done}
 
 first_lacks : (b : ℕ) (parts : List Bytes) → b ≢ LF → AllByRecursion (Lacks LF) parts
@@ -32,12 +33,30 @@ parts_lack : (text : Bytes) → AllByRecursion (Lacks LF) (slice_split (λ b. b 
 parts_lack [] = (tt, tt)
 parts_lack (b ∷ text) = next_part b text (cases_eq b LF) (parts_lack text)
 
+lacks_take : (n : ℕ) (text : Bytes) → Lacks LF text → Lacks LF (take n text)
+lacks_take zero text h = tt
+lacks_take (suc n) [] h = tt
+lacks_take (suc n) (b ∷ text) h = (h.0, lacks_take n text h.1)
+
+lacks_stripped : (line : Bytes) → Lacks LF line → Lacks LF (strip_carriage_return line)
+lacks_stripped line h = cond_both (slice_index line (length line - 1) == CR)
+    (take (length line - 1) line) line (Lacks LF)
+    (λ _. lacks_take (length line - 1) line h) (λ _. h)
+
+lines_lack : (parts : List Bytes) → AllByRecursion (Lacks LF) parts
+    → AllByRecursion (Lacks LF) (lines_of_parts parts)
+lines_lack [] all = tt
+lines_lack (part ∷ []) all = all
+lines_lack (part ∷ next ∷ parts) all =
+    (lacks_stripped part all.0, lines_lack (next ∷ parts) all.1)
+
 plain : {code : ℕ} {text : Bytes} {reply : FtpReply} → IsReplyCode code → IsReplyOf code text reply
     → IsPlain reply
 plain {code} is_code (inl one) =
     subst IsPlain (sym one.1) (three_digits code is_code, one.0)
 plain {code} {text} is_code (inr several) =
-    subst IsPlain (sym several.1) (three_digits code is_code, parts_lack text)
+    subst IsPlain (sym several.1)
+    (three_digits code is_code, lines_lack (slice_split (λ b. b == LF) text) (parts_lack text))
 
 pub reads_back : {code : ℕ} {text : Bytes} (area : Bytes) {bytes : Made}
     → EncodesReply code text bytes

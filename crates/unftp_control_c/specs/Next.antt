@@ -1,11 +1,12 @@
 -- What a call of `unftp_next` is given, and what it leaves.
-use Rattle.std.specs.Prelude.{◌≡◌, ℕ, ◌+◌, ◌==◌, ◌&&◌, ◌||◌, ◌⊎◌, Bool, true, false, if◌then◌else◌, [], ◌++◌, length, take, nat_le, Option, None, Some, Ok, Err, unwrap_or}
+use Rattle.std.specs.Prelude.{◌≡◌, ℕ, ◌+◌, ◌-◌, ◌==◌, ◌&&◌, ◌||◌, ◌⊎◌, Bool, true, false, if◌then◌else◌, [], ◌++◌, length, take, nat_le, Option, None, Some, Ok, Err, unwrap_or}
 use Rattle.unftp_control_defs.specs.Bytes.{Bytes}
 use Rattle.unftp_control_defs.specs.FtpCommand.{FtpCommand, Answer}
 use Rattle.unftp_control_defs.specs.Events.{exceeds}
 use Rattle.unftp_control_defs.specs.NameAndValue.{name_and_value, command_number}
 use Rattle.unftp_control_defs.specs.Outcome.{outcome}
 use Rattle.unftp_control_line_parser.specs.Memory.{MayTakeMemory}
+use Rattle.unftp_control_codecs.specs.Codec.{Codec}
 use Rattle.unftp_control_codecs.specs.LineFeed.{line_feed_from}
 use Rattle.unftp_control_c.specs.declared.next.Connection.{Connection}
 use Rattle.unftp_control_c.specs.declared.next.Line.{Line}
@@ -37,6 +38,23 @@ line_limit limit = if limit == 0 then None else Some limit
 abbrev pub is_valid : Connection → ℕ → Bool
 is_valid connection n = nat_le connection.offset n
     && (connection.skipping == 0 || (connection.skipping == 1 && connection.offset == 0))
+
+-- the codec that goes on where the last call stopped: it has scanned nothing itself
+abbrev pub codec_of : Connection → Codec
+codec_of connection = record {
+  place = connection.offset;
+  tests = 0;
+  limit = line_limit connection.limit;
+  skipping = connection.skipping == 1;
+}
+
+-- how many bytes a call scans for a line feed: those from the offset up to it, or to the end
+abbrev pub scanned_to : Option ℕ → Call → ℕ
+scanned_to None call = length call.bytes - call.connection.offset
+scanned_to (Some k) call = k + 1 - call.connection.offset
+
+abbrev pub scans : Call → ℕ
+scans call = scanned_to (line_feed_from call.bytes call.connection.offset) call
 
 -- the first line, of so many bytes at least, is too long
 abbrev pub is_long : Connection → ℕ → Bool

@@ -1,16 +1,26 @@
 -- The reply that a caller has written, by its code and its text.
-use Rattle.std.specs.Prelude.{◌≡◌, ℕ, ◌==◌, ◌⊎◌, Ok, Err}
+use Rattle.std.specs.Prelude.{◌≡◌, ℕ, ◌==◌, ◌⊎◌, List, [], ◌∷◌, Ok, Err}
 use Rattle.std.specs.List.{slice_split}
 use Rattle.std.specs.Str.{IsUtf8}
+use Rattle.std.specs.Str.Lines.{strip_carriage_return}
 use Rattle.unftp_control_defs.specs.Bytes.{Bytes, LF, Lacks}
 use Rattle.unftp_control_defs.specs.FtpReply.{FtpReply, CodeAndMsg, MultiLine, encoded}
 use Rattle.unftp_control_codecs.specs.ReplyCodes.{IsReplyCode}
 use Rattle.unftp_control_c.specs.declared.status.Status.TheVariants.{UnknownCode, InvalidUtf8, OutOfMemory}
 use Rattle.unftp_control_c.specs.Areas.{Made}
 
--- the lines that LFs divide
+-- the lines in the parts that LFs divide: a CR before an LF belongs to the line's end
+abbrev pub lines_of_parts : List Bytes → List Bytes
+lines_of_parts [] = []
+lines_of_parts (part ∷ []) = part ∷ []
+lines_of_parts (part ∷ next ∷ parts) = strip_carriage_return part ∷ lines_of_parts (next ∷ parts)
+
+-- the lines of a text, which CR LFs and LFs divide
+abbrev pub text_lines : Bytes → List Bytes
+text_lines text = lines_of_parts (slice_split (λ b. b == LF) text)
+
 abbrev pub lines_reply : ℕ → Bytes → FtpReply
-lines_reply code text = MultiLine code (slice_split (λ b. b == LF) text)
+lines_reply code text = MultiLine code (text_lines text)
 
 -- one line, or several
 abbrev pub IsReplyOf : ℕ → Bytes → FtpReply → Type 0

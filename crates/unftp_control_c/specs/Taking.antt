@@ -1,5 +1,5 @@
 -- What a caller of `unftp_next` does with a connection, call after call, and what it is given.
-use Rattle.std.specs.Prelude.{◌≡◌, ℕ, ◌==◌, ◌||◌, ◌⊎◌, Bool, if◌then◌else◌, List, [], ◌∷◌, ◌++◌, take, drop}
+use Rattle.std.specs.Prelude.{◌≡◌, ℕ, ◌+◌, ◌-◌, ◌==◌, ◌||◌, ◌⊎◌, Bool, if◌then◌else◌, List, [], ◌∷◌, ◌++◌, length, take, drop}
 use Rattle.unftp_control_defs.specs.Bytes.{Bytes}
 use Rattle.unftp_control_defs.specs.Events.{FtpEvent, Command, Refused, FaultKind}
 use Rattle.unftp_control_defs.specs.Events as fault
@@ -7,7 +7,7 @@ use Rattle.unftp_control_defs.specs.NameAndValue.{command_number}
 use Rattle.unftp_control_c.specs.declared.next.Connection.{Connection}
 use Rattle.unftp_control_c.specs.declared.status.Status.TheVariants.{More, OutOfMemory, NoRoom}
 use Rattle.unftp_control_c.specs.Numbers.{status_number, fault_status}
-use Rattle.unftp_control_c.specs.Next.{Call, Left, Leaves, name_of, value_of_command}
+use Rattle.unftp_control_c.specs.Next.{Call, Left, Leaves, name_of, scans, value_of_command}
 
 -- what a caller has of a connection from call to call
 pub record Caller : Type 0 where
@@ -48,6 +48,22 @@ AreCallerSteps before (Received piece ∷ steps) after =
 AreCallerSteps before (Called area left ∷ steps) after = Leaves (call_of before area) left
     × AreCallerSteps (after_call before left) steps after
 
+-- a call with this result has no room or no memory: it uses nothing up, and may be made again
+abbrev pub is_made_again : ℕ → Bool
+is_made_again result = result == status_number NoRoom || result == status_number OutOfMemory
+
+-- how many bytes the calls of these steps scan for a line feed, without those that are made again
+abbrev pub scanned_by : Caller → List CallerStep → ℕ
+scanned_by caller [] = 0
+scanned_by caller (Received piece ∷ steps) = scanned_by (after_piece caller piece) steps
+scanned_by caller (Called area left ∷ steps) =
+    (if is_made_again left.result then 0 else scans (call_of caller area))
+    + scanned_by (after_call caller left) steps
+
+-- how many of the pending bytes were not scanned yet
+abbrev pub unscanned : Caller → ℕ
+unscanned caller = length caller.bytes - caller.connection.offset
+
 -- all bytes that were received
 abbrev pub input_of : List CallerStep → Bytes
 input_of [] = []
@@ -70,10 +86,9 @@ given_for (Command command) = record {
 given_for (Refused fault) =
     record { number = status_number (fault_status fault); name = []; value = [] }
 
--- a call with this result gives no line: it asks for more, or has no room or no memory
+-- a call with this result gives no line: it asks for more, or is made again
 abbrev pub gives_none : ℕ → Bool
-gives_none result = result == status_number More || result == status_number NoRoom
-    || result == status_number OutOfMemory
+gives_none result = result == status_number More || is_made_again result
 
 -- what a call gives: its result, and what it wrote to the area
 abbrev pub given_by : Left → List Given

@@ -6,10 +6,10 @@ ghost use Rattle.unftp_control_defs.specs.FtpReply.{CodeAndMsg, MultiLine};
 ghost use Rattle.unftp_control_c.specs.Areas.{filled, written};
 ghost use Rattle.unftp_control_c.specs.CanonicalLines.{CanonicalMayTakeMemory, IsCanonical};
 ghost use Rattle.unftp_control_c.specs.ForwardedLines.{IsForwardedLine};
-ghost use Rattle.unftp_control_c.specs.Next.{LineMayTakeMemory, next_of};
+ghost use Rattle.unftp_control_c.specs.Next.{Leaves, LineMayTakeMemory, next_of, scans};
 ghost use Rattle.unftp_control_c.specs.Rows.{a_call, leaving};
-ghost use Rattle.unftp_control_c.specs.Replies.{EncodesReply, IsReplyOf};
-ghost use Rattle.unftp_control_c.specs.declared.status.Status.TheVariants.{InvalidEol, NoLine, OutOfMemory, UnknownCode};
+ghost use Rattle.unftp_control_c.specs.Replies.{EncodesReply, IsReplyOf, text_lines};
+ghost use Rattle.unftp_control_c.specs.declared.status.Status.TheVariants.{InvalidCommand, InvalidEol, InvalidUtf8, NoLine, OutOfMemory, UnknownCode};
 
 pub mod calls;
 
@@ -46,6 +46,29 @@ pub fn bytes_are_kept()
         ≡ leaving 111 0 0 2 0 [] 0 0 }
 {}
 
+/// What a call leaves: what `next_of` says, or where memory may run out, nothing but that it has.
+pub fn calls_leave()
+    ensures line { Leaves (a_call (codes "NOOP\nQ") 0 0 0 (codes "...."))
+        (leaving 10 5 0 0 0 (codes "NOOP") 4 0) }
+    ensures line_not_used_up { ¬ Leaves (a_call (codes "NOOP\nQ") 0 0 0 (codes "...."))
+        (leaving 10 0 0 0 0 (codes "NOOP") 4 0) }
+    ensures memory { Leaves (a_call (codes "RETR a\n") 3 0 0 [])
+        (leaving 106 0 3 0 0 [] 0 0) }
+    ensures offset_lost { ¬ Leaves (a_call (codes "RETR a\n") 3 0 0 [])
+        (leaving 106 0 0 0 0 [] 0 0) }
+    ensures no_memory { ¬ Leaves (a_call (codes "NOOP\n") 0 0 0 [])
+        (leaving 106 0 0 0 0 [] 0 0) }
+{}
+
+/// How many bytes are scanned: from the offset up to a line feed, or to the end.
+pub fn bytes_are_scanned()
+    ensures line { scans (a_call (codes "NOOP\nQ\n") 0 0 0 []) ≡ 5 }
+    ensures line_begun { scans (a_call (codes "NOOP\nQ\n") 2 0 0 []) ≡ 3 }
+    ensures line_feed { scans (a_call (codes "NOOP\nQ\n") 4 0 0 []) ≡ 1 }
+    ensures no_line { scans (a_call (codes "NOOP") 3 0 0 []) ≡ 1 }
+    ensures nothing_new { scans (a_call (codes "NOOP") 4 0 0 []) ≡ 0 }
+{}
+
 /// Lines for which memory may run out, and none.
 pub fn some_lines_may_take_memory()
     ensures path { LineMayTakeMemory (a_call (codes "RETR a\n") 0 0 0 []) }
@@ -75,10 +98,27 @@ pub fn replies_have_codes_and_lines()
     ensures sixth_kind { EncodesReply 600 [] (Err UnknownCode) }
     ensures not_encoded { ¬ EncodesReply 600 [] (Ok (codes "600\r\n")) }
     ensures code_without_a_name { EncodesReply 299 [] (Ok (codes "299\r\n")) }
+    ensures not_utf8 { EncodesReply 200 (255 ∷ []) (Err InvalidUtf8) }
+    ensures utf8 { ¬ EncodesReply 200 [] (Err InvalidUtf8) }
+    ensures memory { EncodesReply 200 [] (Err OutOfMemory) }
+    ensures no_memory { ¬ EncodesReply 600 [] (Err OutOfMemory) }
     ensures one_line { IsReplyOf 200 (codes "a") (CodeAndMsg 200 (codes "a")) }
     ensures empty { IsReplyOf 200 [] (CodeAndMsg 200 []) }
     ensures two_lines { IsReplyOf 200 (codes "a\n") (MultiLine 200 (codes "a" ∷ [] ∷ [])) }
     ensures not_one_line { ¬ IsReplyOf 200 (codes "\n") (CodeAndMsg 200 (codes "\n")) }
+    ensures cr_of_no_line { ¬ IsReplyOf 200 (codes "a\r\nb")
+        (MultiLine 200 (codes "a\r" ∷ codes "b" ∷ [])) }
+{}
+
+/// The lines of texts: a CR directly before an LF belongs to the line's end, and no other does.
+pub fn texts_have_lines()
+    ensures empty { text_lines [] ≡ [] ∷ [] }
+    ensures cr_lf { text_lines (codes "a\r\nb") ≡ codes "a" ∷ codes "b" ∷ [] }
+    ensures cr_lf_at_the_end { text_lines (codes "a\r\n") ≡ codes "a" ∷ [] ∷ [] }
+    ensures empty_lines { text_lines (codes "\r\n\n") ≡ [] ∷ [] ∷ [] ∷ [] }
+    ensures another_cr { text_lines (codes "a\r\r\n\rb") ≡ codes "a\r" ∷ codes "\rb" ∷ [] }
+    ensures cr_at_the_end { text_lines (codes "a\nb\r") ≡ codes "a" ∷ codes "b\r" ∷ [] }
+    ensures cr_alone { text_lines (codes "a\rb") ≡ codes "a\rb" ∷ [] }
 {}
 
 /// Lines and their canonical lines.
@@ -86,6 +126,7 @@ pub fn lines_have_canonical_lines()
     ensures command { IsCanonical (codes "noop \n") (Ok (codes "NOOP\r\n")) }
     ensures other_line { ¬ IsCanonical (codes "noop\n") (Ok (codes "noop\n")) }
     ensures no_line_feed { IsCanonical (codes "NOOP") (Ok (codes "NOOP\r\n")) }
+    ensures refusal { IsCanonical (codes "NOOP x\r\n") (Err InvalidCommand) }
     ensures no_refusal { ¬ IsCanonical (codes "NOOP\r\n") (Err InvalidEol) }
     // of bytes that are no line: the name has a line feed
     ensures no_line { IsCanonical (codes "USER a\n\n") (Err NoLine) }
@@ -98,6 +139,7 @@ pub fn lines_are_forwarded()
     ensures other_parameter { ¬ IsForwardedLine (codes "type a\n") (Ok (codes "TYPE I\r\n")) }
     ensures no_line_feed { IsForwardedLine (codes "TYPE A") (Err NoLine) }
     ensures line_feed { ¬ IsForwardedLine (codes "TYPE A\n") (Err NoLine) }
+    ensures refusal { IsForwardedLine (codes "NOOP x\r\n") (Err InvalidCommand) }
     ensures no_refusal { ¬ IsForwardedLine (codes "NOOP\r\n") (Err InvalidEol) }
     ensures memory { IsForwardedLine (codes "NOOP\r\n") (Err OutOfMemory) }
     ensures no_memory { ¬ IsForwardedLine (255 ∷ codes "\r\n") (Err OutOfMemory) }

@@ -1,8 +1,8 @@
 //! The next event of the pending bytes.
-ghost use Rattle.std.specs.Prelude.{◌≡◌, ◌==◌, false};
+ghost use Rattle.std.specs.Prelude.{◌≡◌, true, false, length};
 ghost use Rattle.unftp_control_defs.specs.Bytes.{Bytes};
 ghost use Rattle.unftp_control_command.specs.CommandMeaning.{command_of};
-ghost use Rattle.unftp_control_c.specs.Next.{Leaves, LeavesLine, gives, is_valid, line_limit, no_lengths, used_up};
+ghost use Rattle.unftp_control_c.specs.Next.{Leaves, LeavesLine, codec_of, gives, is_valid, no_lengths, scans, used_up};
 
 use crate::areas::overwrite_both;
 use crate::status::{Status, kind_status};
@@ -64,19 +64,7 @@ pub extern "C" fn unftp_next(
         return Status::InvalidArgument.number();
     }
     let mut codec = resume(connection);
-    match codec.find_line(bytes) {
-        FirstLine::Incomplete { dropped } => {
-            report(Status::More, dropped, &codec, connection, line)
-        }
-        FirstLine::TooLong { length } => {
-            report(Status::LineTooLong, length, &codec, connection, line)
-        }
-        FirstLine::Complete { length } => {
-            let (front, _) = bytes.split_at(length);
-            codec.reset();
-            take_line(alloc, front, &codec, connection, area, line)
-        }
-    }
+    take_first(alloc, bytes, &mut codec, connection, area, line)
 }
 
 /// Whether the offset is within so many bytes, and is 0 while bytes are skipped.
@@ -90,12 +78,7 @@ fn is_valid(connection: &Connection, len: usize) -> bool
 /// A codec that goes on where the last call stopped.
 fn resume(connection: &Connection) -> FtpCodec
     requires { connection.now.skipping ≡ 1 → connection.now.offset ≡ 0 }
-    ensures { result ≡ record {
-      place = connection.now.offset;
-      tests = 0;
-      limit = line_limit connection.now.limit;
-      skipping = connection.now.skipping == 1;
-    } }
+    ensures { result ≡ codec_of connection.now }
 {
     let limit = if connection.limit == 0 {
         None
@@ -103,6 +86,45 @@ fn resume(connection: &Connection) -> FtpCodec
         Some(connection.limit)
     };
     FtpCodec::resume(limit, connection.offset, connection.skipping == 1)
+}
+
+/// Takes the first line, where one is complete, by a codec that has scanned nothing so far.
+fn take_first(
+    alloc: Global,
+    bytes: &[u8],
+    codec: &mut FtpCodec,
+    connection: &mut Connection,
+    area: &mut [u8],
+    line: &mut Line,
+) -> u32
+    requires lengths { line.old ≡ no_lengths }
+    requires valid { is_valid connection.old (length bytes.now) ≡ true }
+    requires codec { codec.old ≡ codec_of connection.old }
+    ensures leaves { Leaves
+        (record { connection = connection.old; bytes = bytes.now; area = area.old })
+        (record {
+          result = result;
+          connection = connection.new;
+          area = area.new;
+          line = line.new;
+        }) }
+    // Each byte of the line is scanned once, but those that an earlier call has scanned.
+    ensures scans { codec.new.tests
+        ≡ scans (record { connection = connection.old; bytes = bytes.now; area = area.old }) }
+{
+    match codec.find_line(bytes) {
+        FirstLine::Incomplete { dropped } => {
+            report(Status::More, dropped, codec, connection, line)
+        }
+        FirstLine::TooLong { length } => {
+            report(Status::LineTooLong, length, codec, connection, line)
+        }
+        FirstLine::Complete { length } => {
+            let (front, _) = bytes.split_at(length);
+            codec.reset();
+            take_line(alloc, front, codec, connection, area, line)
+        }
+    }
 }
 
 /// Takes a complete line, after which the codec is at the start of the next.

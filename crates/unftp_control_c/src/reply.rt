@@ -1,13 +1,13 @@
 //! Replies: one that is written, and the first of those that were received.
 ghost use Rattle.std.specs.Prelude.{◌≡◌, ◌↔◌, ◌≤◌, ◌==◌, ℕ, [], ◌∷◌, ◌++◌, if◌then◌else◌, length, map, take, List, Err, IsTrue, IfOk, IfErr};
-ghost use Rattle.std.specs.List.{slice_split};
+ghost use Rattle.std.specs.Str.Lines.{strip_carriage_return};
 ghost use Rattle.unftp_control_defs.specs.Bytes.{Bytes, LF, Lacks, crlf};
 ghost use Rattle.unftp_control_defs.specs.FtpReply.{FtpReply, CodeAndMsg, encoded, spaced_line};
 ghost use Rattle.unftp_control_defs.specs.ReplyReader.{FrontReply, IsMalformed, IsPartial, ReadsBack};
 ghost use Rattle.unftp_control_codecs.specs.ReplyCodes.{IsReplyCode};
 ghost use Rattle.unftp_control_c.specs.Areas.{Made, filled, written};
 ghost use Rattle.unftp_control_c.specs.Numbers.{status_number};
-ghost use Rattle.unftp_control_c.specs.Replies.{EncodesReply, IsReplyOf, lines_reply};
+ghost use Rattle.unftp_control_c.specs.Replies.{EncodesReply, IsReplyOf, lines_reply, text_lines};
 ghost use Rattle.unftp_control_c.specs.declared.status.Status.TheVariants.{Done, More, Malformed, OutOfMemory};
 
 use crate::areas::{overwrite_both, write};
@@ -94,17 +94,25 @@ fn encoded_lines(alloc: Global, code: u32, text: &str) -> Result<Vec<u8>, Status
     }
 }
 
-/// The lines of the text, which line feeds divide.
+/// The lines of the text, which CR LFs and line feeds divide.
 fn lines_of(alloc: Global, text: &str) -> Result<Vec<&str>, AllocError>
-    ensures { IfOk result (λ lines.
-        map (λ line. line.now) lines.items ≡ slice_split (λ b. b == LF) text.now) }
+    ensures { IfOk result (λ lines. map (λ line. line.now) lines.items ≡ text_lines text.now) }
 {
     let mut lines = Vec::new(alloc);
-    // not by `collect`: where an allocation fails, it tries a smaller one
-    for line in text.split('\n') {
-        lines.push(line)?;
+    let mut rest = text;
+    while let Some((line, after)) = rest.split_once('\n') {
+        lines.push(without_carriage_return(line))?;
+        rest = after;
     }
+    lines.push(rest)?;
     Ok(lines)
+}
+
+/// A line before a line feed, without the carriage return that belongs to the line's end.
+fn without_carriage_return(line: &str) -> &str
+    ensures { result.now ≡ strip_carriage_return line.now }
+{
+    line.strip_suffix('\r').unwrap_or(line)
 }
 
 /// Whether the text has no line feed.

@@ -1,2 +1,3 @@
 pub mod ShownTextLemmas
 pub mod PrintableLemmas
+pub mod HiddenLemmas

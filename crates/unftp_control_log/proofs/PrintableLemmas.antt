@@ -1,19 +1,18 @@
 -- Each byte of a log line is printable.
-use Rattle.std.proofs.Common.{◌≡◌, ◌<◌, ◌+◌, ◌/◌, ◌%◌, ℕ, nat_lt, nat_le, ◌==◌, ◌&&◌, Bool, true, false, cond, [], ◌∷◌, ◌++◌, Option, Some, None, option_map, codes, arith, refl, sym, subst, inl, inr, ◌⊎◌, List, find, bytes_eq, mod-lt, ltb-true, ltb-false, leb-true}
+use Rattle.std.proofs.Common.{◌≡◌, ◌<◌, ◌+◌, ◌/◌, ◌%◌, ℕ, nat_lt, nat_le, ◌==◌, ◌&&◌, ◌||◌, Bool, true, false, cond, [], ◌∷◌, ◌++◌, Option, Some, None, option_map, codes, arith, refl, sym, subst, inl, inr, ◌⊎◌, List, find, bytes_eq, is_some, mod-lt, ltb-true, ltb-false, leb-true}
 use Rattle.std.specs.Char.{digit_char}
 use Rattle.std.specs.Char.Escape.{escape_ascii, hex_digit_at, short_escape}
-use Rattle.std.specs.List.{AllByRecursion, list_all}
+use Rattle.std.specs.List.{AllByRecursion, list_all, list_any}
 use Rattle.std.proofs.lemmas.Bool.{and_parts}
 use Rattle.unftp_control_defs.specs.Bytes.{Bytes}
 use Rattle.unftp_control_defs.specs.Events as fault
 use Rattle.unftp_control_defs.specs.Events.{FaultKind, FaultSource, FtpEvent, Command, Refused, Parse, NoSource, Utf8, Io}
-use Rattle.unftp_control_defs.specs.FtpCommand.{FtpCommand, InvalidCommand, InvalidUtf8, InvalidEol}
-use Rattle.unftp_control_defs.specs.NameAndValue.{name_and_value}
-use Rattle.unftp_control_defs.specs.Rules.{row_of, unless_empty, verbs}
+use Rattle.unftp_control_defs.specs.FtpCommand.{FtpCommand, Site, Other, InvalidCommand, InvalidUtf8, InvalidEol}
+use Rattle.unftp_control_defs.specs.Rules.{row_of, verbs}
 use Rattle.unftp_control_defs.specs.Texts.{reading_text}
 use Rattle.unftp_control_defs.specs.Verbs.{upper, verb_of}
 use lib.Pointwise.{bytes_decides}
-use Rattle.unftp_control_log.specs.LogLine.{IsPrintable, asterisks, is_of_site, is_secret, is_unknown, kind_reason, known_verb, log_line, reason, shown, shown_name, shown_value}
+use Rattle.unftp_control_log.specs.LogLine.{IsPrintable, RefusedLine, Subcommand, Verb, Visible, further_verbs, is_listed, kind_reason, listed_verb, log_line, reason, shown, site_words, visible_command, visible_other, visible_site, visible_text}
 use Rattle.unftp_control_write.specs.Parts.{spaced_part}
 
 abbrev pub ArePrintable : Bytes → Type 0
@@ -114,25 +113,6 @@ shown_part_prints : (value : Option Bytes) → IfPrintable (option_map shown val
 shown_part_prints None = tt
 shown_part_prints (Some text) = shown_prints text
 
--- a command
-name_prints : (of_site : Bool) (name : Bytes) → ArePrintable (shown_name of_site name)
-name_prints true name = joined (codes "SITE") _ (written (codes "SITE") refl)
-    (spaced_prints _ (shown_part_prints (unless_empty name)))
-name_prints false name = shown_prints name
-
-value_prints : (command : FtpCommand) (value : Option Bytes)
-    → IfPrintable (shown_value command value)
-value_prints command value = by_tests (is_secret command) (is_unknown command) value
-  where
-    by_tests : (secret unknown : Bool) (value : Option Bytes) →
-        IfPrintable
-        (cond secret (Some asterisks)
-        (option_map (λ text. cond unknown asterisks (shown text)) value))
-    by_tests true unknown value = written asterisks refl
-    by_tests false unknown None = tt
-    by_tests false true (Some text) = written asterisks refl
-    by_tests false false (Some text) = shown_prints text
-
 -- a known verb
 rows_print : {A : Type 0} (rows : List (Bytes × A)) → list_all (λ row. all_printable row.0) rows
     ≡ true → AllByRecursion (λ row. ArePrintable row.0) rows
@@ -154,8 +134,38 @@ row_prints name (row ∷ rows) each = by_test (bytes_eq name row.0) refl (row_pr
     by_test true is others = subst ArePrintable (sym ((bytes_decides name row.0).0 is)) each.0
     by_test false is others = others
 
-verb_prints : (line : Bytes) → IfPrintable (known_verb line)
-verb_prints line = row_prints (upper (verb_of line)) verbs (rows_print verbs refl)
+some_prints : {A : Type 0} (name : Bytes) (row : Option A) → is_some row ≡ true
+    → IfPrintable (option_map (λ _. name) row) → ArePrintable name
+some_prints name None is h = absurd (cc)
+some_prints name (Some row) is h = h
+
+further_prints : (verb : Bytes) (words : List Bytes) → list_all all_printable words ≡ true
+    → list_any (bytes_eq verb) words ≡ true → ArePrintable verb
+further_prints verb [] all is = absurd (cc)
+further_prints verb (word ∷ words) all is = let parts = and_parts _ _ all in
+    by_test (bytes_eq verb word) refl (written word parts.0) (further_prints verb words parts.1) is
+  where
+    by_test : (test : Bool) → bytes_eq verb word ≡ test → ArePrintable word
+        → (list_any (bytes_eq verb) words ≡ true → ArePrintable verb)
+        → (test || list_any (bytes_eq verb) words) ≡ true → ArePrintable verb
+    by_test true same here later is =
+        subst ArePrintable (sym ((bytes_decides verb word).0 same)) here
+    by_test false same here later is = later is
+
+verb_prints : (line : Bytes) → IfPrintable (listed_verb line)
+verb_prints line = by_tests (is_some (row_of verb verbs)) refl
+    (list_any (bytes_eq verb) further_verbs) refl
+  where
+    verb : Bytes
+    verb = upper (verb_of line)
+
+    by_tests : (ruled : Bool) → is_some (row_of (upper (verb_of line)) verbs) ≡ ruled
+        → (further : Bool) → list_any (bytes_eq (upper (verb_of line))) further_verbs ≡ further
+        → IfPrintable (cond (ruled || further) (Some (upper (verb_of line))) None)
+    by_tests true is further same = some_prints _ _ is
+        (row_prints (upper (verb_of line)) verbs (rows_print verbs refl))
+    by_tests false is true same = further_prints (upper (verb_of line)) further_verbs refl same
+    by_tests false is false same = tt
 
 -- a reason
 kind_prints : (kind : FaultKind) → ArePrintable (kind_reason kind)
@@ -171,16 +181,42 @@ reason_prints NoSource kind = kind_prints kind
 reason_prints Utf8 kind = kind_prints kind
 reason_prints Io kind = kind_prints kind
 
+-- what is shown prints: a text as its escapes, and all else as it is
+abbrev IsWritten : Visible → Type 0
+IsWritten (RefusedLine verb why) = IfPrintable verb × ArePrintable why
+IsWritten _ = Unit {0}
+
+text_prints : (visible : Visible) → IsWritten visible → ArePrintable (visible_text visible)
+text_prints (Verb verb value) h =
+    joined (shown verb) _ (shown_prints verb) (spaced_prints _ (shown_part_prints value))
+text_prints (Subcommand name arguments) h = joined (codes "SITE " ++ shown name) _
+    (joined (codes "SITE ") _ (written (codes "SITE ") refl) (shown_prints name))
+    (spaced_prints _ (shown_part_prints arguments))
+text_prints (RefusedLine verb why) h =
+    let word = joined (codes "refused") (spaced_part verb) (written (codes "refused") refl)
+    (spaced_prints verb h.0) in
+    let colon = joined (codes "refused" ++ spaced_part verb) (codes ": ") word
+    (written (codes ": ") refl) in
+    joined (codes "refused" ++ spaced_part verb ++ codes ": ") why colon h.1
+
+other_written : (listed : Bool) (verb : Bytes) → IsWritten (visible_other listed verb)
+other_written true verb = tt
+other_written false verb = tt
+
+site_written : (shows : Option Bool) (name : Bytes) (arguments : Option Bytes)
+    → IsWritten (visible_site shows name arguments)
+site_written (Some true) name arguments = tt
+site_written (Some false) name arguments = tt
+site_written None name arguments = tt
+
+command_written : (command : FtpCommand) → IsWritten (visible_command command)
+command_written (Other verb arguments) = other_written (is_listed verb) verb
+command_written (Site name arguments) = site_written (row_of name site_words) name _
+command_written command = tt
+
 pub log_line_prints : (event : FtpEvent) (line : Bytes) → ArePrintable (log_line event line)
 log_line_prints (Command command) line =
-    joined (shown_name (is_of_site command) (name_and_value command).0) _
-    (name_prints (is_of_site command) (name_and_value command).0)
-    (spaced_prints _ (value_prints command (name_and_value command).1))
-log_line_prints (Refused fault) line =
-    let word = written (codes "refused") refl in
-    let verb = joined (codes "refused") (spaced_part (known_verb line)) word
-    (spaced_prints (known_verb line) (verb_prints line)) in
-    let colon = joined (codes "refused" ++ spaced_part (known_verb line)) (codes ": ") verb
-    (written (codes ": ") refl) in
-    joined (codes "refused" ++ spaced_part (known_verb line) ++ codes ": ")
-    (reason fault.source fault.kind) colon (reason_prints fault.source fault.kind)
+    text_prints (visible_command command) (command_written command)
+log_line_prints (Refused fault) line = text_prints
+    (RefusedLine (listed_verb line) (reason fault.source fault.kind))
+    (verb_prints line, reason_prints fault.source fault.kind)

@@ -1,1 +1,3 @@
 pub mod LogLine
+pub mod Known
+pub mod Meaning

@@ -1,10 +1,10 @@
 -- What a log shows of an event and its line: printable text in one line, and nothing of a password
--- or an account.
-use Rattle.std.specs.Prelude.{ℕ, ◌≤◌, Bool, true, false, if◌then◌else◌, ◌++◌, Option, Some, option_map, codes}
+-- or an account, also where it is typed as a line of its own.
+use Rattle.std.specs.Prelude.{ℕ, ◌≤◌, Bool, true, false, ◌||◌, is_some, if◌then◌else◌, List, [], ◌∷◌, ◌++◌, length, Option, Some, None, option_map, bytes_eq, codes}
 use Rattle.std.specs.Char.Escape.{escape_ascii}
-use Rattle.std.specs.List.{flat_map}
+use Rattle.std.specs.List.{flat_map, list_any}
 use Rattle.unftp_control_defs.specs.Bytes.{Bytes}
-use Rattle.unftp_control_defs.specs.Events.{Fault, FaultKind, FaultSource, FtpEvent, Command, Refused, Parse, UnknownCommand}
+use Rattle.unftp_control_defs.specs.Events.{FaultKind, FaultSource, FtpEvent, Command, Refused, Parse, UnknownCommand, event_for, exceeds}
 use Rattle.unftp_control_defs.specs.FtpCommand.{FtpCommand, Pass, Acct, Md5, Site, Other}
 use Rattle.unftp_control_defs.specs.NameAndValue.{name_and_value}
 use Rattle.unftp_control_defs.specs.Rules.{row_of, unless_empty, verbs}
@@ -22,46 +22,65 @@ IsPrintable b = (32 ≤ b) × (b ≤ 126)
 abbrev pub shown : Bytes → Bytes
 shown text = flat_map escape_ascii text
 
--- what stands for a secret
+-- what stands for what is hidden
 abbrev pub asterisks : Bytes
 asterisks = codes "***"
 
--- a password or an account (RFC 959, section 4.1.1)
-abbrev pub is_secret : FtpCommand → Bool
-is_secret (Pass _) = true
-is_secret (Acct _) = true
-is_secret _ = false
+-- The verbs with no rule of their own here that are words of FTP: those of the registry of its
+-- commands (RFC 5797, section 3; ALGS of RFC 6384, HOST of RFC 7151) and of RFC 1123, section
+-- 4.1.3.1 (XCUP, XRMD).
+abbrev pub further_verbs : List Bytes
+further_verbs =
+    codes "ADAT" ∷ codes "ALGS" ∷ codes "CONF" ∷ codes "ENC" ∷ codes "EPRT" ∷ codes "HOST"
+    ∷ codes "LANG" ∷ codes "LPRT" ∷ codes "LPSV" ∷ codes "MIC" ∷ codes "REIN" ∷ codes "SMNT"
+    ∷ codes "XCUP" ∷ codes "XRMD" ∷ []
 
--- a verb with no rule of its own: it may be a mistyped PASS
-abbrev pub is_unknown : FtpCommand → Bool
-is_unknown (Other _ _) = true
-is_unknown _ = false
+-- A verb in upper case that a log shows. Any other may be a mistyped PASS, or a password.
+abbrev pub is_listed : Bytes → Bool
+is_listed verb = is_some (row_of verb verbs) || list_any (bytes_eq verb) further_verbs
 
--- a subcommand of SITE (RFC 959, section 4.1.3)
-abbrev pub is_of_site : FtpCommand → Bool
-is_of_site (Md5 _) = true
-is_of_site (Site _ _) = true
-is_of_site _ = false
+-- The subcommands of SITE (RFC 959, section 4.1.3) that a log shows, in upper case, and whether it
+-- shows their arguments: those that are modes, seconds, times and paths. Servers take passwords
+-- with GPASS and PSWD, and any text with the others.
+abbrev pub site_words : List (Bytes × Bool)
+site_words =
+    (codes "CHMOD", true) ∷ (codes "IDLE", true) ∷ (codes "MD5", true) ∷ (codes "UMASK", true)
+    ∷ (codes "UTIME", true)
+    ∷ (codes "EXEC", false) ∷ (codes "GPASS", false) ∷ (codes "GROUP", false)
+    ∷ (codes "HELP", false) ∷ (codes "PSWD", false) ∷ []
 
--- the verb; or SITE, and the subcommand unless it is empty
-abbrev pub shown_name : Bool → Bytes → Bytes
-shown_name true name = codes "SITE" ++ spaced_part (option_map shown (unless_empty name))
-shown_name false name = shown name
+-- What a log shows of an event.
+pub data Visible : Type 0 where
+  -- a verb, and a value, if any
+  Verb : Bytes → Option Bytes → Visible
+  -- a subcommand of SITE, and its arguments, if any
+  Subcommand : Bytes → Option Bytes → Visible
+  -- a refused line: its verb, if it is listed, and why
+  RefusedLine : Option Bytes → Bytes → Visible
 
--- Of a password or an account nothing is shown, not even whether it is empty; of the arguments of
--- an unknown verb, only that there are some.
-abbrev pub shown_value : FtpCommand → Option Bytes → Option Bytes
-shown_value command value = if is_secret command then Some asterisks
-    else option_map (λ text. if is_unknown command then asterisks else shown text) value
+abbrev pub visible_other : Bool → Bytes → Visible
+visible_other true verb = Verb verb (Some asterisks)
+visible_other false verb = Verb asterisks None
 
--- a command: its verb, and its value after a space
-abbrev pub command_text : FtpCommand → Bytes
-command_text command = shown_name (is_of_site command) (name_and_value command).0
-    ++ spaced_part (shown_value command (name_and_value command).1)
+abbrev pub visible_site : Option Bool → Bytes → Option Bytes → Visible
+visible_site (Some true) name arguments = Subcommand name arguments
+visible_site (Some false) name arguments = Subcommand name (Some asterisks)
+visible_site None name arguments = Subcommand asterisks None
 
--- the verb of a line in upper case, where it is one with a rule of its own (RFC 959, section 5.3)
-abbrev pub known_verb : Bytes → Option Bytes
-known_verb line = option_map (λ _. upper (verb_of line)) (row_of (upper (verb_of line)) verbs)
+-- Of a password and an account (RFC 959, section 4.1.1) nothing, not even whether it is empty; nor
+-- of the arguments of a verb with no rule of its own.
+abbrev pub visible_command : FtpCommand → Visible
+visible_command (Pass _) = Verb (codes "PASS") (Some asterisks)
+visible_command (Acct _) = Verb (codes "ACCT") (Some asterisks)
+visible_command (Other verb _) = visible_other (is_listed verb) verb
+visible_command (Site name arguments) =
+    visible_site (row_of name site_words) name (unless_empty arguments)
+visible_command (Md5 path) = Subcommand (codes "MD5") (Some path)
+visible_command command = Verb (name_and_value command).0 (name_and_value command).1
+
+-- the verb of a line in upper case (RFC 959, section 5.3), where it is listed
+abbrev pub listed_verb : Bytes → Option Bytes
+listed_verb line = if is_listed (upper (verb_of line)) then Some (upper (verb_of line)) else None
 
 -- a command that was not known, whatever it was
 abbrev pub kind_reason : FaultKind → Bytes
@@ -73,12 +92,25 @@ abbrev pub reason : FaultSource → FaultKind → Bytes
 reason (Parse why) kind = reading_text why
 reason _ kind = kind_reason kind
 
--- a refused line: its verb, if it is a known one, and why
-abbrev pub refusal_text : Fault → Bytes → Bytes
-refusal_text fault line =
-    codes "refused" ++ spaced_part (known_verb line) ++ codes ": " ++ reason fault.source fault.kind
-
 -- of a command nothing more is shown of its line
+abbrev pub visible : FtpEvent → Bytes → Visible
+visible (Command command) line = visible_command command
+visible (Refused fault) line = RefusedLine (listed_verb line) (reason fault.source fault.kind)
+
+abbrev pub visible_text : Visible → Bytes
+visible_text (Verb verb value) = shown verb ++ spaced_part (option_map shown value)
+visible_text (Subcommand name arguments) =
+    codes "SITE " ++ shown name ++ spaced_part (option_map shown arguments)
+visible_text (RefusedLine verb reason) =
+    codes "refused" ++ spaced_part verb ++ codes ": " ++ reason
+
 abbrev pub log_line : FtpEvent → Bytes → Bytes
-log_line (Command command) line = command_text command
-log_line (Refused fault) line = refusal_text fault line
+log_line event line = visible_text (visible event line)
+
+-- what is there of a line when it is logged: nothing of one that is longer than the limit
+abbrev pub unless_too_long : Option ℕ → Bytes → Bytes
+unless_too_long limit line = if exceeds limit (length line) then [] else line
+
+-- the log line of a line under a limit
+abbrev pub logged : Option ℕ → Bytes → Bytes
+logged limit line = log_line (event_for limit line) (unless_too_long limit line)

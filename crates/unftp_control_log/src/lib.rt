@@ -1,20 +1,39 @@
 //! A line for a log: what a client sent, in printable text, without passwords and accounts.
 #![tactic(auto)]
 
-ghost use Rattle.std.specs.Prelude.{◌≡◌, ◌++◌, OnErr, OnOk};
-ghost use Rattle.unftp_control_log.specs.LogLine.{log_line};
+ghost use Rattle.std.specs.Prelude.{◌≡◌, ◌++◌, IfOk, OnErr, OnOk};
+ghost use Rattle.unftp_control_log.specs.LogLine.{log_line, visible};
+ghost use Rattle.unftp_control_log.specs.Meaning.{meant};
 ghost use Rattle.unftp_control_serve.specs.EventMeaning.{event_meant};
 
 mod command;
-mod escape;
 pub mod examples;
 pub mod laws;
 mod refusal;
+mod text;
+mod visible;
+mod words;
 
-use crate::command::append_command;
-use crate::refusal::append_refusal;
-use std::alloc::AllocError;
+use crate::command::visible_command;
+use crate::refusal::visible_refusal;
+use crate::text::append_visible;
+use crate::visible::Visible;
+use std::alloc::{AllocError, Global};
 use unftp_control_serve::Event;
+
+/// What a log shows of the event. Memory is taken for a refused line only.
+fn visible_event<'a>(
+    alloc: Global,
+    event: &'a Event,
+    line: &[u8],
+) -> Result<Visible<'a>, AllocError>
+    ensures { IfOk result (λ shown. meant shown ≡ visible (event_meant event.now) line.now) }
+{
+    match event {
+        Event::Command(command) => Ok(visible_command(command)),
+        Event::Refused(error) => visible_refusal(alloc, error, line),
+    }
+}
 
 /// Appends what a log shows of an event, in printable ASCII without a line end, and changes no
 /// earlier byte of `buf`. `line` is what `EventDecoder::line` returned with the event: empty where
@@ -22,23 +41,19 @@ use unftp_control_serve::Event;
 ///
 /// A command is its verb in upper case and its value after a space, in the escapes of Rust's
 /// `escape_ascii`; SITE is followed by its subcommand. The value of PASS and ACCT is `***`, also an
-/// empty one, and so are the arguments of an unknown verb, which may be a mistyped PASS (RFC 959,
-/// section 4.1.1); that verb is shown, and so are the arguments of SITE. A refused line is `refused`,
-/// its verb where it is a known one, and the words of the error; of its parameter nothing is shown.
+/// empty one (RFC 959, section 4.1.1). A verb with no rule of its own may be a mistyped PASS, or a
+/// password: it is `***` unless it is a word of the registry of FTP's commands (RFC 5797, section
+/// 3), whose arguments are `***`. So it is with the subcommands of SITE but CHMOD, IDLE, MD5,
+/// UMASK and UTIME. A refused line is `refused`, its verb where it is such a word or has a rule,
+/// and the words of the error; of its parameter nothing is shown.
 ///
-/// It fails only when out of memory, and `buf` is then as it was.
+/// It fails only when out of memory, and `buf` is then as it was. Nothing that is hidden is written
+/// to `buf`, not even to be removed again.
 pub fn write_log_line(event: &Event, line: &[u8], buf: &mut Vec<u8>) -> Result<(), AllocError>
     ensures ok { OnOk result
         (buf.new.items ≡ buf.old.items ++ log_line (event_meant event.now) line.now) }
     ensures err { OnErr result (buf.new.items ≡ buf.old.items) }
 {
-    let length = buf.len();
-    let written = match event {
-        Event::Command(command) => append_command(command, buf),
-        Event::Refused(error) => append_refusal(error, line, buf),
-    };
-    if written.is_err() {
-        buf.truncate(length);
-    }
-    written
+    let visible = visible_event(*buf.allocator(), event, line)?;
+    append_visible(&visible, buf)
 }

@@ -5,7 +5,7 @@ ghost use Rattle.std.specs.Prelude.{◌≡◌, ◌∷◌, [], None, false, true,
 ghost use Rattle.unftp_control_defs.specs.Events.{Command, Refused, IoError, ParseError, InternalServerError, AuthenticationError, InternalMsgError, Utf8Error, UnknownCommand, InvalidCommand, ControlChannelTimeout, IllegalState, OutOfMemory, LineTooLong, NoSource, Parse, Utf8, Io, line_too_long, refusal_fault};
 ghost use Rattle.unftp_control_defs.specs.FtpCommand.{InvalidCommand as RefusedCommand, InvalidEol as RefusedEol, InvalidUtf8 as RefusedUtf8, Retr, Stat};
 ghost use Rattle.unftp_control_c.specs.Rows.{leaving, number_for};
-ghost use Rattle.unftp_control_c.specs.Taking.{AreCallerSteps, Called, IsNumberOf, Received, all_given, given_by, given_for, gives_none, input_of, new_caller};
+ghost use Rattle.unftp_control_c.specs.Taking.{AreCallerSteps, Called, IsNumberOf, Received, all_given, given_by, given_for, gives_none, input_of, is_made_again, new_caller, scanned_by, unscanned};
 
 /// Which steps of a caller lead from a new connection to these pending bytes.
 pub fn callers_make_steps()
@@ -21,6 +21,23 @@ pub fn callers_make_steps()
     ensures no_such_call { ¬ AreCallerSteps (new_caller 0)
         (Called (codes "....") (leaving 10 0 0 0 0 (codes "NOOP") 4 0) ∷ []) (new_caller 0) }
     ensures input { input_of (Received (codes "NO") ∷ Received (codes "OP") ∷ []) ≡ codes "NOOP" }
+{}
+
+/// How many bytes such steps scan: those of a call that is made again are not counted.
+pub fn callers_scan_bytes()
+    ensures pieces { scanned_by (new_caller 9)
+        (Received (codes "NO") ∷ Called [] (leaving 101 0 2 0 9 [] 0 0)
+        ∷ Received (codes "OP\nQ")
+        ∷ Called (codes "....") (leaving 10 5 0 0 9 (codes "NOOP") 4 0) ∷ []) ≡ 5 }
+    ensures made_again { scanned_by (new_caller 9)
+        (Received (codes "NOOP\n") ∷ Called [] (leaving 107 0 0 0 9 [] 4 0) ∷ []) ≡ 0 }
+    ensures no_room { is_made_again 107 ≡ true }
+    ensures no_memory { is_made_again 106 ≡ true }
+    ensures more { is_made_again 101 ≡ false }
+    ensures pending { unscanned (record {
+      connection = record { limit = 9; offset = 2; skipping = 0 };
+      bytes = codes "NOOP";
+    }) ≡ 2 }
 {}
 
 /// What an event is given as, and what a call gives.

@@ -65,6 +65,7 @@ returns c = record {
   other_parameter = other_parameter;
   no_line_feed = not_a_line (λ line. let all = (line_first (codes "TYPE A") [] line).0 in cc) refl;
   line_feed = line_feed;
+  refusal = refused InvalidCommand refl refl;
   no_refusal = no_refusal;
   memory = out_of_memory refl refl;
   no_memory = no_memory;

@@ -1,0 +1,217 @@
+-- A log line depends on nothing but what may be known of its line.
+use Rattle.std.proofs.Common.{◌≡◌, ℕ, ◌&&◌, ◌||◌, not, Bool, true, false, cond, Option, Some, None, is_some, Ok, Err, bytes_eq, codes, length, [], refl, ap, sym, subst, ◌∙◌}
+use Rattle.std.specs.Option.{unwrap_or}
+use Rattle.std.specs.Str.{is_utf8}
+use Rattle.std.specs.Str.Lossy.{utf8_lossy}
+use Rattle.unftp_control_defs.specs.Bytes.{Bytes}
+use Rattle.unftp_control_defs.specs.ComputedValue.{value_of}
+use Rattle.unftp_control_defs.specs.Events.{FtpEvent, Command, Refused, event_for, event_of, exceeds, line_too_long}
+use Rattle.unftp_control_defs.specs.FtpCommand.{Answer, FtpCommand, Acct, InvalidUtf8, Md5, Other, Pass, Site}
+use Rattle.unftp_control_defs.specs.Outcome.{answer_by, outcome, site_answer, value_answer}
+use Rattle.unftp_control_defs.specs.Rules.{Rule, Takes, any_text, row_of, rule_of, some_text, subcommand_answer, unless_empty, verbs}
+use Rattle.unftp_control_defs.specs.Verbs.{parameter_of, verb_of}
+use lib.Pointwise.{bytes_decides}
+use Rattle.unftp_control_log.specs.Known.{known, known_of, listed_subcommand, shows_parameter, subcommand_of, word_of}
+use Rattle.unftp_control_log.specs.LogLine.{RefusedLine, Subcommand, Verb, Visible, asterisks, is_listed, listed_verb, logged, reason, site_words, unless_too_long, visible, visible_command, visible_other, visible_site, visible_text}
+
+-- what is shown of a command whose parameter is hidden
+abbrev hidden_site : Option Bytes → Visible
+hidden_site None = Subcommand asterisks None
+hidden_site (Some name) = Subcommand name (Some asterisks)
+
+abbrev hidden_verb : Option Bytes → Visible
+hidden_verb None = Verb asterisks None
+hidden_verb (Some verb) = Verb verb (Some asterisks)
+
+abbrev names_site : Option Bytes → Bool
+names_site None = false
+names_site (Some verb) = bytes_eq verb (codes "SITE")
+
+abbrev hidden : Option Bytes → Option Bytes → Visible
+hidden verb subcommand = cond (names_site verb) (hidden_site subcommand) (hidden_verb verb)
+
+-- an answer that depends on the UTF-8 of a word, and on a value
+after_utf8 : (utf8 : Bool) (answer : Answer) (command : FtpCommand)
+    → cond utf8 answer (Err InvalidUtf8) ≡ Ok command → answer ≡ Ok command
+after_utf8 true answer command is = is
+after_utf8 false answer command is = absurd (cc)
+
+module _ (line : Bytes) (command : FtpCommand) (is : outcome line ≡ Ok command) where
+  abbrev verb : Bytes
+  verb = word_of line
+
+  abbrev name : Bytes
+  name = subcommand_of line
+
+  answered : answer_by (rule_of verb) (parameter_of line) ≡ Ok command
+  answered = after_utf8 (is_utf8 (verb_of line)) _ command is
+
+  -- PASS, and so ACCT
+  taken : (make : Bytes → FtpCommand) (value : Option Bytes) (shown : Visible)
+      → ((v : Bytes) → visible_command (make v) ≡ shown)
+      → value_answer (λ v. Ok (make v)) value ≡ Ok command → visible_command command ≡ shown
+  taken make None shown each is = absurd (cc)
+  taken make (Some v) shown each is =
+      let same : make v ≡ command = cc in subst (λ c. visible_command c ≡ shown) same (each v)
+
+  abbrev Hides : Type 0
+  Hides = visible_command command ≡ hidden (listed_verb line) (listed_subcommand line)
+
+  -- a verb that is shown, but for its parameter
+  plain_verb : (word : Bytes) → verb ≡ word → is_listed word ≡ true
+      → bytes_eq word (codes "SITE") ≡ false
+      → hidden (listed_verb line) (listed_subcommand line) ≡ Verb word (Some asterisks)
+  plain_verb word same listed other =
+      let shown : listed_verb line ≡ Some word =
+      ap (λ w. cond (is_listed w) (Some w) None) same ∙ ap (λ b. cond b (Some word) None) listed in
+      ap (λ v. hidden v (listed_subcommand line)) shown
+      ∙ ap (λ b. cond b (hidden_site (listed_subcommand line)) (Verb word (Some asterisks))) other
+
+  password : verb ≡ codes "PASS" → Hides
+  password same = taken Pass (value_of (parameter_of line)) _ (λ v. refl)
+      (ap (λ w. answer_by (rule_of w) (parameter_of line)) (sym same) ∙ answered)
+      ∙ sym (plain_verb (codes "PASS") same refl refl)
+
+  account : verb ≡ codes "ACCT" → Hides
+  account same = taken Acct (value_of (parameter_of line)) _ (λ v. refl)
+      (ap (λ w. answer_by (rule_of w) (parameter_of line)) (sym same) ∙ answered)
+      ∙ sym (plain_verb (codes "ACCT") same refl refl)
+
+  -- a verb with no rule of its own
+  other : bytes_eq verb (codes "SITE") ≡ false → row_of verb verbs ≡ None → Hides
+  other no_site none = taken (λ v. Other verb (utf8_lossy v)) (value_of (parameter_of line)) _
+      (λ v. refl)
+      (ap (λ row. answer_by (unwrap_or row (Takes (any_text (Other verb)))) (parameter_of line))
+      (sym none) ∙ answered)
+      ∙ by_test (is_listed verb) refl
+    where
+      by_test : (listed : Bool) → is_listed verb ≡ listed
+          → visible_other listed verb
+          ≡ hidden (cond listed (Some verb) None) (listed_subcommand line)
+      by_test true is = sym (ap (λ b. cond b (hidden_site (listed_subcommand line))
+          (Verb verb (Some asterisks))) no_site)
+      by_test false is = refl
+
+  -- SITE
+  site_value : unwrap_or (row_of name site_words) false ≡ false
+      → (value : Option Bytes) → value_answer (subcommand_answer name) value ≡ Ok command
+      → visible_command command ≡ hidden_site (cond (is_some (row_of name site_words)) (Some name) None)
+  site_value hides None is = absurd (cc)
+  site_value hides (Some v) is = by_test (bytes_eq name (codes "MD5")) refl is
+    where
+      by_row : (row : Option Bool) → unwrap_or row false ≡ false
+          → visible_site row name (unless_empty (utf8_lossy v))
+          ≡ hidden_site (cond (is_some row) (Some name) None)
+      by_row None h = refl
+      by_row (Some true) h = absurd (cc)
+      by_row (Some false) h = refl
+
+      by_test : (md5 : Bool) → bytes_eq name (codes "MD5") ≡ md5
+          → cond md5 (some_text Md5) (any_text (Site name)) v ≡ Ok command
+          → visible_command command
+          ≡ hidden_site (cond (is_some (row_of name site_words)) (Some name) None)
+      by_test true same is =
+          let shown : unwrap_or (row_of name site_words) false ≡ true =
+          ap (λ w. unwrap_or (row_of w site_words) false)
+          ((bytes_decides name (codes "MD5")).0 same) in absurd (cc)
+      by_test false same is =
+          let made : Site name (utf8_lossy v) ≡ command = cc in
+          subst (λ c. visible_command c
+          ≡ hidden_site (cond (is_some (row_of name site_words)) (Some name) None)) made
+          (by_row (row_of name site_words) hides)
+
+  site : bytes_eq verb (codes "SITE") ≡ true → unwrap_or (row_of name site_words) false ≡ false
+      → Hides
+  site is_site hides =
+      let same = (bytes_decides verb (codes "SITE")).0 is_site in
+      let splits : site_answer (parameter_of line) ≡ Ok command =
+      ap (λ w. answer_by (rule_of w) (parameter_of line)) (sym same) ∙ answered in
+      let shown : listed_verb line ≡ Some (codes "SITE") =
+      ap (λ w. cond (is_listed w) (Some w) None) same in
+      let subcommand : listed_subcommand line
+      ≡ cond (is_some (row_of name site_words)) (Some name) None =
+      ap (λ b. cond (b && is_some (row_of name site_words)) (Some name) None) is_site in
+      site_value hides (value_of (parameter_of (parameter_of line)))
+      (after_utf8 (is_utf8 (verb_of (parameter_of line))) _ command splits)
+      ∙ ap hidden_site (sym subcommand)
+      ∙ sym (ap (λ v. hidden v (listed_subcommand line)) shown)
+
+  none_of : (row : Option Rule) → is_some row ≡ false → row ≡ None
+  none_of None is = refl
+  none_of (Some rule) is = absurd (cc)
+
+  command_hidden : shows_parameter line ≡ false → Hides
+  command_hidden hides = by_tests (bytes_eq verb (codes "SITE")) refl
+      (bytes_eq verb (codes "PASS")) refl (bytes_eq verb (codes "ACCT")) refl
+      (is_some (row_of verb verbs)) refl hides
+    where
+      by_tests : (of_site : Bool) → bytes_eq verb (codes "SITE") ≡ of_site
+          → (pass : Bool) → bytes_eq verb (codes "PASS") ≡ pass
+          → (acct : Bool) → bytes_eq verb (codes "ACCT") ≡ acct
+          → (ruled : Bool) → is_some (row_of verb verbs) ≡ ruled
+          → cond of_site (unwrap_or (row_of name site_words) false) (ruled && not (pass || acct))
+          ≡ false
+          → Hides
+      by_tests true of_site pass is_pass acct is_acct ruled is_ruled h = site of_site h
+      by_tests false of_site true is_pass acct is_acct ruled is_ruled h =
+          password ((bytes_decides verb (codes "PASS")).0 is_pass)
+      by_tests false of_site false is_pass true is_acct ruled is_ruled h =
+          account ((bytes_decides verb (codes "ACCT")).0 is_acct)
+      by_tests false of_site false is_pass false is_acct true is_ruled h = absurd (cc)
+      by_tests false of_site false is_pass false is_acct false is_ruled h =
+          other of_site (none_of _ is_ruled)
+
+-- an event that is a command is that of its line
+abbrev IsOf : FtpEvent → Bytes → Type 0
+IsOf event line = (command : FtpCommand) → event ≡ Command command → outcome line ≡ Ok command
+
+visible_alike : (event event' : FtpEvent) (line line' : Bytes) → IsOf event line → IsOf event' line'
+    → known_of event line ≡ known_of event' line' → visible event line ≡ visible event' line'
+visible_alike (Refused fault) (Refused fault') line line' of of' same =
+    let faults : Some fault ≡ Some fault' = ap (λ known. known.fault) same in
+    let one : fault ≡ fault' = cc in
+    let verbs : listed_verb line ≡ listed_verb line' = ap (λ known. known.verb) same in
+    ap (λ verb. RefusedLine verb (reason fault.source fault.kind)) verbs
+    ∙ ap (λ fault. RefusedLine (listed_verb line') (reason fault.source fault.kind)) one
+visible_alike (Refused fault) (Command command) line line' of of' same =
+    let faults : Some fault ≡ None = ap (λ known. known.fault) same in absurd (cc)
+visible_alike (Command command) (Refused fault) line line' of of' same =
+    let faults : None ≡ Some fault = ap (λ known. known.fault) same in absurd (cc)
+visible_alike (Command command) (Command command') line line' of of' same =
+    by_tests (shows_parameter line) refl (shows_parameter line') refl
+    (ap (λ known. known.event) same)
+  where
+    by_tests : (shows : Bool) → shows_parameter line ≡ shows
+        → (shows' : Bool) → shows_parameter line' ≡ shows'
+        → cond shows (Some (Command command)) None ≡ cond shows' (Some (Command command')) None
+        → visible_command command ≡ visible_command command'
+    by_tests true is true is' events =
+        let one : command ≡ command' = cc in ap visible_command one
+    by_tests true is false is' events = absurd (cc)
+    by_tests false is true is' events = absurd (cc)
+    by_tests false is false is' events =
+        let verbs : listed_verb line ≡ listed_verb line' = ap (λ known. known.verb) same in
+        let names : listed_subcommand line ≡ listed_subcommand line' =
+        ap (λ known. known.subcommand) same in
+        command_hidden line command (of command refl) is
+        ∙ ap (λ verb. hidden verb (listed_subcommand line)) verbs
+        ∙ ap (hidden (listed_verb line')) names
+        ∙ sym (command_hidden line' command' (of' command' refl) is')
+
+event_IsOf : (limit : Option ℕ) (line : Bytes) → IsOf (event_for limit line) (unless_too_long limit line)
+event_IsOf limit line = by_test (exceeds limit (length line)) (outcome line) refl
+  where
+    by_test : (long : Bool) (answer : Answer) → outcome line ≡ answer
+        → (command : FtpCommand)
+        → cond long (Refused line_too_long) (event_of answer) ≡ Command command
+        → outcome (cond long [] line) ≡ Ok command
+    by_test true answer is command event = absurd (cc)
+    by_test false (Ok made) is command event = let same : made ≡ command = cc in cc
+    by_test false (Err refusal) is command event = absurd (cc)
+
+-- two lines of which the same may be known have one log line
+pub logged_alike : (limit : Option ℕ) (line other : Bytes) → known limit line ≡ known limit other
+    → logged limit line ≡ logged limit other
+logged_alike limit line other same = ap visible_text
+    (visible_alike (event_for limit line) (event_for limit other) (unless_too_long limit line)
+    (unless_too_long limit other) (event_IsOf limit line) (event_IsOf limit other) same)

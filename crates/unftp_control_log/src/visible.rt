@@ -1,0 +1,22 @@
+//! What a log shows of an event, before it is written.
+use unftp_control_write::parts::Value;
+
+/// What a log shows of an event: it holds nothing of what is hidden.
+#[derive(Drop)]
+pub(crate) enum Visible<'a> {
+    /// A verb and its value.
+    Verb {
+        verb: &'a [u8],
+        value: Option<Value<'a>>,
+    },
+    /// A subcommand of SITE and its arguments.
+    Subcommand {
+        name: &'a [u8],
+        arguments: Option<Value<'a>>,
+    },
+    /// A refused line: its verb, where it is listed, and why.
+    Refused {
+        verb: Option<Vec<u8>>,
+        reason: String,
+    },
+}

@@ -1,0 +1,150 @@
+/*
+ * Makes the calls of unftp_control.h over the inputs on standard input, each with its length before
+ * it, as four bytes with the least first, in a thread whose stack is filled with a byte before each
+ * call: how far from its start another byte is found after the call is how much stack it took.
+ * Prints that of each call at most, in bytes.
+ */
+#define _POSIX_C_SOURCE 200809L
+
+#include <unftp_control.h>
+
+#include <pthread.h>
+#include <stdbool.h>
+#include <stdint.h>
+#include <stdio.h>
+#include <stdlib.h>
+#include <string.h>
+
+enum {
+    STACK = 1024 * 1024,
+
+    /* how much a call may take */
+    LOOKED_AT = 64 * 1024,
+
+    /* what this program takes to fill the stack, at most: a call that takes less is not measured */
+    OWN = 1024,
+
+    FILLING = 0x5a,
+
+    /* the names of the calls */
+    NEXT = 0,
+    REPLY,
+    FRONT_REPLY,
+    CANONICAL,
+    FORWARD,
+    VERSION,
+    CALLS
+};
+
+struct bytes {
+    char *at;
+    size_t len;
+};
+
+static const char *const names[CALLS] = {"unftp_next",      "unftp_reply",   "unftp_front_reply",
+                                         "unftp_canonical", "unftp_forward", "unftp_version"};
+static size_t most[CALLS];
+static unsigned long inputs;
+static unsigned char *stack;
+
+/* what a call writes */
+static struct unftp_line line;
+static struct unftp_found_reply reply;
+static struct bytes area;
+static size_t len;
+
+static void fail(const char *what)
+{
+    fprintf(stderr, "stack: %s\n", what);
+    exit(EXIT_FAILURE);
+}
+
+static void call(int name, struct bytes input, size_t room)
+{
+    struct unftp_connection connection = {0, 0, 0};
+
+    switch (name) {
+    case NEXT: unftp_next(&connection, input.at, input.len, area.at, room, &line); break;
+    case REPLY: unftp_reply(299, input.at, input.len, area.at, room, &len); break;
+    case FRONT_REPLY: unftp_front_reply(input.at, input.len, &reply); break;
+    case CANONICAL: unftp_canonical(input.at, input.len, area.at, room, &len); break;
+    case FORWARD: unftp_forward(input.at, input.len, area.at, room, &len); break;
+    default: unftp_version(); break;
+    }
+}
+
+/* Makes the call, and looks how far the stack below this function was written. */
+static void measure(int name, struct bytes input, size_t room)
+{
+    volatile char here = 0;
+    size_t start = (size_t)((uintptr_t)&here - (uintptr_t)stack), low = start - LOOKED_AT;
+
+    if (start < LOOKED_AT || start >= STACK)
+        fail("this is not its stack");
+    memset(stack + low, FILLING, LOOKED_AT - OWN);
+    call(name, input, room);
+    if (stack[low] != FILLING)
+        fail("a call takes more stack than is looked at");
+    while (low < start - OWN && stack[low] == FILLING)
+        low++;
+    if (start - low > most[name])
+        most[name] = start - low;
+}
+
+/* So many bytes, and an address where there are none. */
+static struct bytes area_of(size_t size)
+{
+    struct bytes made = {malloc(size + 1), size};
+
+    if (made.at == NULL)
+        fail("out of memory");
+    return made;
+}
+
+static bool read_input(struct bytes *input)
+{
+    unsigned char size[4];
+
+    if (fread(size, 1, sizeof size, stdin) != sizeof size)
+        return false;
+    *input = area_of((size_t)size[0] | (size_t)size[1] << 8 | (size_t)size[2] << 16
+                     | (size_t)size[3] << 24);
+    return fread(input->at, 1, input->len, stdin) == input->len;
+}
+
+/* Makes each call on each input, with no room and with enough. */
+static void *make_calls(void *unused)
+{
+    struct bytes input;
+
+    while (read_input(&input)) {
+        inputs++;
+        area = area_of(4 * input.len + 64);
+        for (int name = 0; name < CALLS; name++) {
+            measure(name, input, 0);
+            measure(name, input, area.len);
+        }
+        free(area.at);
+        free(input.at);
+    }
+    return unused;
+}
+
+int main(void)
+{
+    pthread_attr_t attributes;
+    pthread_t thread;
+    void *block;
+
+    if (posix_memalign(&block, 65536, STACK) != 0)
+        fail("out of memory");
+    stack = block;
+    if (pthread_attr_init(&attributes) != 0 || pthread_attr_setstack(&attributes, block, STACK) != 0
+        || pthread_create(&thread, &attributes, make_calls, NULL) != 0
+        || pthread_join(thread, NULL) != 0)
+        fail("no thread");
+    printf("%lu inputs\n", inputs);
+    for (int name = 0; name < CALLS; name++)
+        printf("%s\t%lu\n", names[name], (unsigned long)most[name]);
+    return EXIT_SUCCESS;
+}
