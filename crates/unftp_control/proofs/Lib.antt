@@ -1,4 +1,5 @@
 mod ClientRunLemmas
+mod AgreementExampleLemmas
 mod FoldLemmas
 mod EpsvLemmas
 mod PieceLemmas

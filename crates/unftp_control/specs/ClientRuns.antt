@@ -1,5 +1,5 @@
 -- Replies and states of a client for the examples.
-use Rattle.std.specs.Prelude.{ℕ, false, [], ◌∷◌, Option, None, codes}
+use Rattle.std.specs.Prelude.{ℕ, Bool, false, [], ◌∷◌, Option, Some, None, codes}
 use Rattle.unftp_control_defs.specs.Bytes.{Bytes}
 use Rattle.unftp_control_read.specs.ReplyDecoding.{appended, no_bytes}
 use Rattle.unftp_control_client.specs.Steps.{ReplyTo}
@@ -18,9 +18,19 @@ retr = codes "RETR x\r\n"
 abbrev pub reply_with : ℕ → To → ReplyTo
 reply_with code to = record { to = to; reply = (code, [] ∷ []) }
 
--- So many commands were sent, and so many of them have their final reply.
+abbrev pub auth_tls : Bytes
+auth_tls = codes "AUTH TLS\r\n"
+
+-- So many commands were sent, none for TLS, and so many of them have their final reply.
 abbrev pub dialogue : ℕ → Option ℕ → Dialogue
-dialogue sent answered = record { sent = sent; answered = answered; agreed = false }
+dialogue sent answered =
+    record { sent = sent; answered = answered; asked = None; agreed = false }
+
+-- the same where the command of this place asked for TLS last, and whether the last reply was a 234
+-- to it
+abbrev pub asking : ℕ → Option ℕ → ℕ → Bool → Dialogue
+asking sent answered place agreed =
+    record { sent = sent; answered = answered; asked = Some place; agreed = agreed }
 
 -- a client with these bytes pending
 abbrev pub client_with : Dialogue → Bytes → Client

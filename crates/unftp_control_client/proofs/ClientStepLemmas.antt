@@ -1,10 +1,10 @@
 -- The runs of a client.
-use Rattle.std.proofs.Common.{◌≡◌, ◌<◌, ◌≤◌, ◌+◌, ℕ, suc, Bool, true, false, if◌then◌else◌, nat_lt, ◌-◌, ◌⊎◌, List, [], ◌∷◌, ◌++◌, length, Option, Some, None, unwrap_or, refl, sym, ap, subst, ◌∙◌, inl, inr, ⊎_elim, arith, eqb-true}
+use Rattle.std.proofs.Common.{◌≡◌, ◌<◌, ◌≤◌, ◌+◌, ℕ, suc, Bool, true, false, if◌then◌else◌, nat_lt, List, [], ◌∷◌, ◌++◌, length, Option, Some, None, refl, sym, ap, subst, ◌∙◌, arith}
 use Rattle.std.proofs.lemmas.Bool.{ltb-true, ltb-false}
 use Rattle.std.specs.List.{filter}
 use Rattle.unftp_control_defs.specs.Bytes.{Bytes}
 use Rattle.unftp_control_defs.specs.TakingSteps.{AreTakingSteps, TakesReply}
-use Rattle.unftp_control_client.specs.Dialogue.{agrees, after_command, after_final, after_reply, commands_owed, first_owed, is_preliminary, next_to}
+use Rattle.unftp_control_client.specs.Dialogue.{after_line, after_final, after_reply, first_owed, is_preliminary, next_to}
 use Rattle.unftp_control_client.specs.Steps.{AreExchanges, AreSteps, ClientStep, IsStep, ReplyTo, Sent, Received, Took, lines_sent, decoder_steps, is_final, replies_owed, replies_taken, was_owed}
 use Rattle.unftp_control_client.specs.declared.Client.{Client}
 use Rattle.unftp_control_client.specs.declared.dialogue.Dialogue.{Dialogue}
@@ -24,13 +24,13 @@ complete None = 0
 complete (Some answered) = suc answered
 
 -- how many commands have their final reply after a reply to this, which may be a preliminary one
-abbrev answered_after : Bool → To → Option ℕ → Option ℕ
+abbrev pub answered_after : Bool → To → Option ℕ → Option ℕ
 answered_after true to answered = answered
 answered_after false Greeting answered = Some 0
 answered_after false (Command place) answered = Some (suc place)
 answered_after false Nothing answered = answered
 
-answered-after_final : (preliminary : Bool) (to : To) (d : Dialogue)
+pub answered-after_final : (preliminary : Bool) (to : To) (d : Dialogue)
     → (if preliminary then d else after_final d to).answered
     ≡ answered_after preliminary to d.answered
 answered-after_final true to d = refl
@@ -38,7 +38,7 @@ answered-after_final false Greeting d = refl
 answered-after_final false (Command place) d = refl
 answered-after_final false Nothing d = refl
 
-sent-after_final : (preliminary : Bool) (to : To) (d : Dialogue)
+pub sent-after_final : (preliminary : Bool) (to : To) (d : Dialogue)
     → (if preliminary then d else after_final d to).sent ≡ d.sent
 sent-after_final true to d = refl
 sent-after_final false Greeting d = refl
@@ -199,7 +199,7 @@ from_same : (steps : List ClientStep) (before same after : Client)
     → AreSteps same steps after → AreSteps before steps after
 from_same [] before same after d b are = (are.0 ∙ d, are.1 ∙ b)
 from_same (Sent line ∷ steps) before same after d b (next, step, are) =
-    (next, (step.0 ∙ ap after_command d, step.1 ∙ b), are)
+    (next, (step.0 ∙ ap (after_line line) d, step.1 ∙ b), are)
 from_same (Received piece ∷ steps) before same after d b (next, step, are) =
     (next, (step.0 ∙ d, step.1 ∙ ap (λ bytes. bytes ++ piece) b), are)
 from_same (Took taken ∷ steps) before same after d b (next, step, are) = (
@@ -279,120 +279,3 @@ module _ (start after : Client) (before later : List ClientStep) (reply : ℕ ×
         steps-complete before start s.0 s.1,
         unasked_of s.0.dialogue.answered s.0.dialogue.sent s.2.1.0,
       )
-
--- ---- an agreement to begin TLS
-
-agreed_to : (to : To) (code : ℕ) → agrees to code ≡ true
-    → (place : ℕ) × (to ≡ Command place) × (code ≡ 234)
-agreed_to Greeting code e = absurd (cc)
-agreed_to (Command place) code e = (place, refl, eqb-true code 234 e)
-agreed_to Nothing code e = absurd (cc)
-
--- The last of these replies is a 234 to a command.
-pub record LastAgrees (replies : List ReplyTo) (after : Client) : Type 0 where
-  pub earlier : List ReplyTo
-  pub place : ℕ
-  pub lines : List Bytes
-  pub taken : replies ≡ earlier ++ record { to = Command place; reply = (234, lines) } ∷ []
-  pub answered : after.dialogue.answered ≡ Some (suc place)
-  pub sent : place < after.dialogue.sent
-
--- or there is none, and the client had agreed before
-abbrev AgreedBefore : Client → List ClientStep → Client → Type 0
-AgreedBefore before steps after = (replies_taken steps ≡ [])
-    × (before.dialogue.agreed ≡ true)
-    × (after.dialogue.answered ≡ before.dialogue.answered)
-
-same_dialogue : (steps : List ClientStep) (before next after : Client)
-    → before.dialogue.agreed ≡ next.dialogue.agreed
-    → next.dialogue.answered ≡ before.dialogue.answered
-    → AgreedBefore next steps after → AgreedBefore before steps after
-same_dialogue steps before next after agreed answered (none, is, same) =
-    (none, agreed ∙ is, same ∙ answered)
-
-first_agrees : (steps : List ClientStep) (before next after : Client) (taken : ReplyTo)
-    → IsStep before (Took taken) next → AreSteps next steps after → AgreedBefore next steps after
-    → LastAgrees (replies_taken (Took taken ∷ steps)) after
-first_agrees steps before next after taken step are (none, agreed, same) =
-    let d = before.dialogue in
-    let is = agreed_to (next_to d) taken.reply.0
-    (sym (ap (λ (d : Dialogue). d.agreed) step.1) ∙ agreed) in
-    let to = is.1 in
-    let code = is.2 in
-    record {
-      earlier = [];
-      place = is.0;
-      lines = taken.reply.1;
-      taken =
-          λ i. record { to = (step.0 ∙ to) i; reply = (code i, taken.reply.1) } ∷ none i;
-      answered = same ∙ ap (λ (d : Dialogue). d.answered) step.1
-          ∙ answered-after_final (is_preliminary taken.reply.0) (next_to d) d
-          ∙ ap (λ code. answered_after (is_preliminary code) (next_to d) d.answered) code
-          ∙ ap (λ to. answered_after false to d.answered) to;
-      sent = omega (
-        arith,
-        asked_of d.answered d.sent is.0 (sym to),
-        now_sent before next taken step,
-        steps-sent steps next after are,
-      );
-    }
-
-later_agrees : (replies : List ReplyTo) (after : Client) (taken : ReplyTo)
-    → LastAgrees replies after → LastAgrees (taken ∷ replies) after
-later_agrees replies after taken last = record {
-  earlier = taken ∷ last.earlier;
-  place = last.place;
-  lines = last.lines;
-  taken = ap (λ replies. taken ∷ replies) last.taken;
-  answered = last.answered;
-  sent = last.sent;
-}
-
-steps-agree : (steps : List ClientStep) (before after : Client) → AreSteps before steps after
-    → after.dialogue.agreed ≡ true
-    → AgreedBefore before steps after ⊎ LastAgrees (replies_taken steps) after
-steps-agree [] before after are agreed = inl (
-  refl,
-  sym (ap (λ (d : Dialogue). d.agreed) are.0) ∙ agreed,
-  ap (λ (d : Dialogue). d.answered) are.0,
-)
-steps-agree (Sent line ∷ steps) before after (next, step, are) agreed =
-    ⊎_elim
-    (λ (h : AgreedBefore next steps after). inl
-    (same_dialogue steps before next after (sym (ap (λ (d : Dialogue). d.agreed) step.0))
-    (ap (λ (d : Dialogue). d.answered) step.0) h))
-    (λ (h : LastAgrees (replies_taken steps) after). inr h)
-    (steps-agree steps next after are agreed)
-steps-agree (Received piece ∷ steps) before after (next, step, are) agreed =
-    ⊎_elim
-    (λ (h : AgreedBefore next steps after). inl
-    (same_dialogue steps before next after (sym (ap (λ (d : Dialogue). d.agreed) step.0))
-    (ap (λ (d : Dialogue). d.answered) step.0) h))
-    (λ (h : LastAgrees (replies_taken steps) after). inr h)
-    (steps-agree steps next after are agreed)
-steps-agree (Took taken ∷ steps) before after (next, step, are) agreed =
-    ⊎_elim
-    (λ (h : AgreedBefore next steps after). inr
-    (first_agrees steps before next after taken step are h))
-    (λ (h : LastAgrees (replies_taken steps) after).
-    inr (later_agrees (replies_taken steps) after taken h))
-    (steps-agree steps next after are agreed)
-
-pub last_agrees : (steps : List ClientStep) (start after : Client)
-    → start.dialogue.sent ≡ 0 → start.dialogue.agreed ≡ false → AreSteps start steps after
-    → after.dialogue.agreed ≡ true → commands_owed after.dialogue ≡ 0
-    → (earlier : List ReplyTo) × (place : ℕ) × (lines : List Bytes)
-    × (replies_taken steps ≡ earlier ++ record { to = Command place; reply = (234, lines) } ∷ [])
-    × (suc place ≡ length (lines_sent steps))
-last_agrees steps start after none_sent not_agreed are agreed none_owed =
-    ⊎_elim
-    (λ (h : AgreedBefore start steps after). absurd (cc))
-    (λ (h : LastAgrees (replies_taken steps) after).
-    let owed = ap (λ answered. after.dialogue.sent - unwrap_or answered 0) h.answered in (
-      h.earlier,
-      h.place,
-      h.lines,
-      h.taken,
-      omega (arith, none_sent, none_owed, owed, h.sent, steps-sent steps start after are),
-    ))
-    (steps-agree steps start after are agreed)

@@ -1,1 +1,2 @@
 pub mod ClientStepLemmas
+pub mod AgreementLemmas

@@ -1,9 +1,9 @@
 -- What the calls of a client return, and what they leave.
-use Rattle.std.specs.Prelude.{◌≡◌, ℕ, ◌-◌, ◌^◌, Option, Some, None, Result, Ok, Err, ⊤}
+use Rattle.std.specs.Prelude.{◌≡◌, ℕ, IsTrue, [], ◌-◌, ◌^◌, Option, Some, None, Result, Ok, Err}
 use Rattle.unftp_control_read.specs.ReplyDecoding.{NextReply, no_bytes}
 use Rattle.unftp_control_write.specs.declared.WriteCommandError.{WriteCommandError}
 use Rattle.unftp_control_write.specs.declared.WriteCommandError.TheVariants as refusal
-use Rattle.unftp_control_client.specs.Dialogue.{after_reply, at_start, next_to}
+use Rattle.unftp_control_client.specs.Dialogue.{after_reply, at_start, commands_owed, next_to}
 use Rattle.unftp_control_client.specs.declared.Client.{Client}
 use Rattle.unftp_control_client.specs.declared.dialogue.ClientReply.{ClientReply}
 use Rattle.unftp_control_client.specs.declared.dialogue.Dialogue.{Dialogue}
@@ -19,12 +19,13 @@ abbrev pub send_error_of : WriteCommandError → SendError
 send_error_of refusal.NoLine = NoLine
 send_error_of refusal.OutOfMemory = OutOfMemory
 
--- an error of one line: there are too many where the count of those sent is full
-abbrev pub IsOtherError : ℕ → SendError → Type 0
-IsOtherError sent NoLine = ⊥
-IsOtherError sent NotALine = ⊥
-IsOtherError sent OutOfMemory = ⊤
-IsOtherError sent TooManyCommands = sent ≡ 2 ^ 64 - 1
+-- an error of one line: room was lacking for it, or there are too many where the count of those sent
+-- is full
+abbrev pub IsOtherError : ℕ → Type 0 → SendError → Type 0
+IsOtherError sent lacks_room NoLine = ⊥
+IsOtherError sent lacks_room NotALine = ⊥
+IsOtherError sent lacks_room OutOfMemory = lacks_room
+IsOtherError sent lacks_room TooManyCommands = sent ≡ 2 ^ 64 - 1
 
 -- a reply, if any, or an error
 abbrev pub NextClientReply : Type 0 → Type 0
@@ -43,3 +44,9 @@ IsNext before (Ok (Some taken)) after =
     (taken.to ≡ next_to before) × (after ≡ after_reply before taken.reply.code)
 IsNext before (Ok None) after = after ≡ before
 IsNext before (Err error) after = after ≡ before
+
+-- TLS may begin: the last reply was a 234 to the last command that asks for it, no command is owed a
+-- reply, so that it was the last, and nothing is pending (RFC 4217, section 4).
+abbrev pub MayBeginTls : Client → Type 0
+MayBeginTls client = IsTrue client.dialogue.agreed × (commands_owed client.dialogue ≡ 0)
+    × (client.replies.bytes ≡ [])

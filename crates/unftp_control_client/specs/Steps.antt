@@ -1,10 +1,10 @@
 -- Whole runs of a client: its calls one after the other, and the replies that it takes.
-use Rattle.std.specs.Prelude.{◌≡◌, ℕ, suc, Bool, true, false, not, if◌then◌else◌, List, [], ◌∷◌, ◌++◌, Option, Some, None, ⊤}
+use Rattle.std.specs.Prelude.{◌≡◌, ℕ, suc, Bool, true, false, not, if◌then◌else◌, IsTrue, List, [], ◌∷◌, ◌++◌, length, Option, Some, None, ⊤}
 use Rattle.std.specs.List.{filter, filter_map}
 use Rattle.unftp_control_defs.specs.Bytes.{Bytes}
 use Rattle.unftp_control_defs.specs.TakingSteps.{TakesReply, TakingStep, Pushed, Taken}
 use Rattle.unftp_control_read.specs.ReplyDecoding.{content}
-use Rattle.unftp_control_client.specs.Dialogue.{after_command, after_reply, is_preliminary, next_to}
+use Rattle.unftp_control_client.specs.Dialogue.{after_line, after_reply, asks_for_tls, is_preliminary, next_to}
 use Rattle.unftp_control_client.specs.declared.Client.{Client}
 use Rattle.unftp_control_client.specs.declared.dialogue.ClientReply.{ClientReply}
 use Rattle.unftp_control_client.specs.declared.dialogue.To.{To}
@@ -27,7 +27,7 @@ pub data ClientStep : Type 0 where
 
 -- what each changes
 abbrev pub IsStep : Client → ClientStep → Client → Type 0
-IsStep before (Sent line) after = (after.dialogue ≡ after_command before.dialogue)
+IsStep before (Sent line) after = (after.dialogue ≡ after_line line before.dialogue)
     × (after.replies.bytes ≡ before.replies.bytes)
 IsStep before (Received piece) after = (after.dialogue ≡ before.dialogue)
     × (after.replies.bytes ≡ before.replies.bytes ++ piece)
@@ -94,3 +94,14 @@ abbrev pub AreExchanges : To → List ReplyTo → Type 0
 AreExchanges to [] = ⊤
 AreExchanges to (taken ∷ replies) =
     (taken.to ≡ to) × AreExchanges (if is_final taken then after_to to else to) replies
+
+-- The last line that was sent asks for TLS, and the last reply that was taken is a 234 to it.
+pub record EndsInAgreement (steps : List ClientStep) : Type 0 where
+  pub lines : List Bytes
+  pub line : Bytes
+  pub sent : lines_sent steps ≡ lines ++ line ∷ []
+  pub asks : IsTrue (asks_for_tls line)
+  pub replies : List ReplyTo
+  pub texts : List Bytes
+  pub taken : replies_taken steps
+      ≡ replies ++ record { to = Command (length lines); reply = (234, texts) } ∷ []

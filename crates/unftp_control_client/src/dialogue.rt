@@ -1,6 +1,7 @@
 //! How far the dialogue with a server has come.
 ghost use Rattle.std.specs.Prelude.{◌≡◌, ◌↔◌, ◌-◌, ◌^◌, IsTrue, MatchOption};
-ghost use Rattle.unftp_control_client.specs.Dialogue.{after_command, after_reply, at_start, commands_owed, is_preliminary, next_to};
+ghost use Rattle.std.specs.Str.{str_eq_ignore_ascii_case};
+ghost use Rattle.unftp_control_client.specs.Dialogue.{after_line, after_reply, asks_for_tls, at_start, commands_owed, is_preliminary, next_to};
 ghost use Rattle.unftp_control_client.specs.Steps.{reply_to};
 ghost use Rattle.unftp_control_client.specs.declared.dialogue.ClientReply.{ClientReply as RustReply};
 ghost use Rattle.unftp_control_client.specs.declared.dialogue.To.{To as RustTo};
@@ -45,7 +46,9 @@ pub(crate) struct Dialogue {
     sent: u64,
     /// How many of them have their final reply, once the greeting is complete.
     answered: Option<u64>,
-    /// Whether the last reply was a 234 to a command.
+    /// The place of the last command that asks for TLS.
+    asked: Option<u64>,
+    /// Whether the last reply was a 234 to that command.
     agreed: bool,
 }
 
@@ -56,6 +59,24 @@ fn is_preliminary(code: u16) -> bool
     (100..200).contains(&code)
 }
 
+/// Whether the line asks for TLS: it is AUTH TLS or AUTH SSL, which servers take for the same, in
+/// letters of any case (RFC 4217, section 4).
+fn asks_for_tls(line: &[u8]) -> bool
+    ensures { result ≡ asks_for_tls line.now }
+{
+    is_spelled(line, b"AUTH TLS\r\n")
+        || is_spelled(line, b"AUTH TLS\n")
+        || is_spelled(line, b"AUTH SSL\r\n")
+        || is_spelled(line, b"AUTH SSL\n")
+}
+
+/// Whether the line is this text, in letters of any case.
+fn is_spelled(line: &[u8], text: &[u8]) -> bool
+    ensures { result ≡ str_eq_ignore_ascii_case line.now text.now }
+{
+    line.eq_ignore_ascii_case(text)
+}
+
 impl Dialogue {
     /// Nothing was sent or received.
     pub(crate) fn new() -> Dialogue
@@ -64,6 +85,7 @@ impl Dialogue {
         Dialogue {
             sent: 0,
             answered: None,
+            asked: None,
             agreed: false,
         }
     }
@@ -75,21 +97,25 @@ impl Dialogue {
         self.sent.saturating_sub(self.answered.unwrap_or(0))
     }
 
-    /// Whether the last reply was a 234 to a command.
+    /// Whether the last reply was a 234 to the last command that asks for TLS.
     pub(crate) fn agreed(&self) -> bool
         ensures { result ≡ self.now.agreed }
     {
         self.agreed
     }
 
-    /// Notes that a command is sent, and returns its place, unless 64 bits don't count it.
-    pub(crate) fn add_command(&mut self) -> Option<u64>
+    /// Notes that the line of a command is sent, and returns the command's place, unless 64 bits
+    /// don't count it.
+    pub(crate) fn add_line(&mut self, line: &[u8]) -> Option<u64>
         ensures { MatchOption result
             ((self.new ≡ self.old) × (self.old.sent ≡ 2 ^ 64 - 1))
-            (λ place. (self.new ≡ after_command self.old) × (place ≡ self.old.sent)) }
+            (λ place. (self.new ≡ after_line line.now self.old) × (place ≡ self.old.sent)) }
     {
         let place = self.sent;
         self.sent = place.checked_add(1)?;
+        if asks_for_tls(line) {
+            self.asked = Some(place);
+        }
         Some(place)
     }
 
@@ -118,7 +144,7 @@ impl Dialogue {
         if place >= self.sent {
             return To::Nothing;
         }
-        self.agreed = code == 234;
+        self.agreed = code == 234 && self.asked == Some(place);
         if is_final {
             self.answered = Some(place + 1);
         }

@@ -5,9 +5,9 @@ ghost use Rattle.unftp_control_defs.specs.Bytes.{Bytes};
 ghost use Rattle.unftp_control_defs.specs.TakingSteps.{AreTakingSteps, TakesReply};
 ghost use Rattle.unftp_control_read.specs.ReplyDecoding.{TakesFirst, content, pushed};
 ghost use Rattle.unftp_control_read.specs.Receiving.{Receives};
-ghost use Rattle.unftp_control_client.specs.Dialogue.{after_command, commands_owed};
+ghost use Rattle.unftp_control_client.specs.Dialogue.{after_line, commands_owed};
 ghost use Rattle.unftp_control_client.specs.Exchange.{IsNext, new_client};
-ghost use Rattle.unftp_control_client.specs.Steps.{AreExchanges, AreSteps, ClientStep, Received, Sent, Took, ReplyTo, lines_sent, decoder_steps, is_final, replies_owed, replies_taken, reply_to};
+ghost use Rattle.unftp_control_client.specs.Steps.{AreExchanges, AreSteps, ClientStep, EndsInAgreement, Received, Sent, Took, lines_sent, decoder_steps, is_final, replies_owed, reply_to};
 ghost use Rattle.unftp_control_client.specs.declared.Client.{Client as RustClient};
 ghost use Rattle.unftp_control_client.specs.declared.dialogue.ClientReply.{ClientReply as RustReply};
 ghost use Rattle.unftp_control_client.specs.declared.dialogue.To.TheVariants.{Greeting, Command, Nothing};
@@ -16,7 +16,7 @@ ghost use Rattle.unftp_control_client.specs.declared.dialogue.To.TheVariants.{Gr
 /// so the law `replies_are_exchanges` is one of all runs.
 pub fn calls_are_steps()
     ensures send { (before after : RustClient) (line : Bytes)
-        → after ≡ record before { dialogue = after_command before.dialogue }
+        → after ≡ record before { dialogue = after_line line before.dialogue }
         → AreSteps before (Sent line ∷ []) after }
     ensures receive { (before after : RustClient) (piece : Bytes)
         → after ≡ record before { replies = pushed before.replies piece }
@@ -60,14 +60,11 @@ pub fn replies_are_exchanges()
         → AreTakingSteps TakesReply [] (decoder_steps steps) client.replies.bytes }
 {}
 
-/// TLS may begin only where the last reply that was taken is a 234 to the last command that was
-/// sent (RFC 4217, section 4): `tls_agreed` asks for this, and for no pending byte.
+/// TLS may begin only where the last reply that was taken is a 234 to the last line that was sent,
+/// which asks for TLS (RFC 4217, section 4): `tls_agreed` asks for this, and for no pending byte.
 pub fn tls_begins_after_234()
     ensures { (limit : Option ℕ) (steps : List ClientStep) (client : RustClient)
         → AreSteps (new_client limit) steps client
         → IsTrue client.dialogue.agreed → commands_owed client.dialogue ≡ 0
-        → (earlier : List ReplyTo) × (place : ℕ) × (lines : List Bytes)
-        × (replies_taken steps
-        ≡ earlier ++ record { to = Command place; reply = (234, lines) } ∷ [])
-        × (suc place ≡ length (lines_sent steps)) }
+        → EndsInAgreement steps }
 {}

@@ -2,7 +2,7 @@
 //! commands, and says to which of them each reply is.
 #![tactic(auto)]
 
-ghost use Rattle.std.specs.Prelude.{◌≡◌, ◌↔◌, ◌+◌, ◌-◌, ◌^◌, ◌≤◌, ◌++◌, ℕ, List, [], Some, None, Ok, Err, IsTrue, IfErr, IfNone, IfOk, IfSome, OnErr, OnOk, length, max, take, vec_len};
+ghost use Rattle.std.specs.Prelude.{◌≡◌, ◌↔◌, ◌+◌, ◌-◌, ◌^◌, ◌≤◌, ◌++◌, ℕ, List, [], Some, None, Ok, Err, IsTrue, IfErr, IfNone, IfOk, IfSome, OnErr, OnOk, drop, length, max, take, vec_len};
 ghost use Rattle.unftp_control_command.specs.CommandMeaning.{command_of};
 ghost use Rattle.unftp_control_defs.specs.Bytes.{Bytes};
 ghost use Rattle.unftp_control_defs.specs.Canonical.{HasLine, canonical_line};
@@ -13,8 +13,9 @@ ghost use Rattle.unftp_control_defs.specs.ReplyReader.{FrontReply, IsMalformed, 
 ghost use Rattle.unftp_control_defs.specs.TakingSteps.{TakesReply};
 ghost use Rattle.unftp_control_read.specs.ReplyDecoding.{CountsNextReply, IsReturned, TakesNextReply, content, held_after, pushed, within_limit};
 ghost use Rattle.unftp_control_read.specs.Receiving.{Receives};
-ghost use Rattle.unftp_control_client.specs.Dialogue.{after_command, commands_owed};
-ghost use Rattle.unftp_control_client.specs.Exchange.{IsNext, IsOtherError, new_client, only_reply};
+ghost use Rattle.unftp_control_client.specs.Dialogue.{after_line, commands_owed};
+ghost use Rattle.unftp_control_client.specs.Exchange.{IsNext, IsOtherError, MayBeginTls, new_client, only_reply};
+ghost use Rattle.unftp_control_write.specs.Room.{LacksRoom};
 
 mod dialogue;
 mod errors;
@@ -68,12 +69,13 @@ impl Client {
     /// reply: the caller sends the bytes, each once.
     ///
     /// It is refused with `NoLine` where no line is read as this command, with `OutOfMemory` where
-    /// `out` has to grow and can't, and with `TooManyCommands` where 2^64 - 1 commands were sent.
+    /// `out` has no room for the line and can't grow, and with `TooManyCommands` where 2^64 - 1 commands were sent.
     /// At an error nothing changes: `out` is as it was, and so is what is owed.
     pub fn send(&mut self, command: &Command, out: &mut Vec<u8>) -> Result<u64, SendError>
         ensures place { IfOk result (λ place. place ≡ self.old.dialogue.sent) }
-        ensures ok { OnOk result
-            (self.new ≡ record self.old { dialogue = after_command self.old.dialogue }) }
+        ensures ok { OnOk result (self.new ≡ record self.old {
+          dialogue = after_line (canonical_line (command_of command.now)) self.old.dialogue;
+        }) }
         ensures out { OnOk result
             (out.new.items ≡ out.old.items ++ canonical_line (command_of command.now)) }
         ensures line { OnOk result (IsLine (canonical_line (command_of command.now))) }
@@ -82,12 +84,13 @@ impl Client {
         ensures err { OnErr result (self.new ≡ self.old) }
         ensures out_err { OnErr result (out.new.items ≡ out.old.items) }
         ensures no_line { ¬ HasLine (command_of command.now) → result ≡ Err SendError.NoLine }
-        ensures has_line { HasLine (command_of command.now)
-            → IfErr result (λ error. IsOtherError self.old.dialogue.sent error) }
+        ensures has_line { HasLine (command_of command.now) → IfErr result (λ error.
+            IsOtherError self.old.dialogue.sent
+            (LacksRoom out.old (canonical_line (command_of command.now))) error) }
     {
         let length = out.len();
         write_command(command, out)?;
-        self.add_command(out, length)
+        self.add_line(out, length)
     }
 
     /// Appends a line to `out` as it is, for what no `Command` says, as `TYPE A` or `OPTS MLST size`,
@@ -99,36 +102,38 @@ impl Client {
     pub fn send_line(&mut self, line: &[u8], out: &mut Vec<u8>) -> Result<u64, SendError>
         ensures place { IfOk result (λ place. place ≡ self.old.dialogue.sent) }
         ensures ok { OnOk result
-            (self.new ≡ record self.old { dialogue = after_command self.old.dialogue }) }
+            (self.new ≡ record self.old { dialogue = after_line line.now self.old.dialogue }) }
         ensures out { OnOk result (out.new.items ≡ out.old.items ++ line.now) }
         ensures err { OnErr result (self.new ≡ self.old) }
         ensures out_err { OnErr result (out.new.items ≡ out.old.items) }
         ensures not_a_line { ¬ IsLine line.now → result ≡ Err SendError.NotALine }
-        ensures is_line { IsLine line.now
-            → IfErr result (λ error. IsOtherError self.old.dialogue.sent error) }
+        ensures is_line { IsLine line.now → IfErr result (λ error.
+            IsOtherError self.old.dialogue.sent (LacksRoom out.old line.now) error) }
     {
         if !is_line(line) {
             return Err(SendError::NotALine);
         }
         let length = out.len();
         out.extend_from_slice(line)?;
-        self.add_command(out, length)
+        self.add_line(out, length)
     }
 
     /// Counts the command whose line comes after this many bytes, and returns its place; or removes the
     /// line where 64 bits don't count it.
-    fn add_command(&mut self, out: &mut Vec<u8>, length: usize) -> Result<u64, SendError>
+    fn add_line(&mut self, out: &mut Vec<u8>, length: usize) -> Result<u64, SendError>
         requires { length ≤ vec_len out.old }
         ensures place { IfOk result (λ place. place ≡ self.old.dialogue.sent) }
-        ensures ok { OnOk result
-            (self.new ≡ record self.old { dialogue = after_command self.old.dialogue }) }
+        ensures ok { OnOk result (self.new ≡ record self.old {
+          dialogue = after_line (drop length out.old.items) self.old.dialogue;
+        }) }
         ensures out { OnOk result (out.new.items ≡ out.old.items) }
         ensures err { OnErr result (self.new ≡ self.old) }
         ensures out_err { OnErr result (out.new.items ≡ take length out.old.items) }
         ensures why { IfErr result (λ error. (error ≡ SendError.TooManyCommands)
             × (self.old.dialogue.sent ≡ 2 ^ 64 - 1)) }
     {
-        let Some(place) = self.dialogue.add_command() else {
+        let (_, line) = out.split_at(length);
+        let Some(place) = self.dialogue.add_line(line) else {
             out.truncate(length);
             return Err(SendError::TooManyCommands);
         };
@@ -136,11 +141,12 @@ impl Client {
     }
 
     /// Appends a piece of what the server sent to the pending bytes. When out of memory, nothing
-    /// changes.
+    /// changes; it never is for an empty piece.
     pub fn receive(&mut self, piece: &[u8]) -> Result<(), AllocError>
         ensures ok { OnOk result (self.new
             ≡ record self.old { replies = pushed self.old.replies piece.now }) }
         ensures err { OnErr result (self.new ≡ self.old) }
+        ensures some { OnErr result (¬ (piece.now ≡ [])) }
     {
         self.replies.push(piece)
     }
@@ -232,15 +238,15 @@ impl Client {
         self.replies.pending()
     }
 
-    /// Whether TLS may begin: the last reply was a 234 to a command, no command is owed a reply,
-    /// and no byte was received after it (RFC 4217, section 4).
+    /// Whether TLS may begin: the last reply was a 234 to the last command that was sent, which asks
+    /// for TLS, and no byte was received after it (RFC 4217, section 4). A line asks for TLS where it
+    /// is AUTH TLS or AUTH SSL, in letters of any case: 234 to AUTH with another mechanism, or to
+    /// another command, begins none.
     ///
     /// Bytes that came after the reply in clear text must not be taken for replies under TLS: where
     /// there are any, the connection has to be closed.
     pub fn tls_agreed(&self) -> bool
-        ensures { IsTrue result ↔ (IsTrue self.now.dialogue.agreed
-            × (commands_owed self.now.dialogue ≡ 0)
-            × (self.now.replies.bytes ≡ [])) }
+        ensures { IsTrue result ↔ MayBeginTls self.now }
     {
         self.dialogue.agreed() && self.owed() == 0 && self.pending().is_empty()
     }

@@ -25,7 +25,7 @@ high_uppercased : (c : ℕ) → 128 ≤ raise c → raise c ≡ c
 high_uppercased c h = grind (arith, nat_tests)
 
 -- the bytes of a character past ASCII
-abbrev High : Bytes → Type 0
+abbrev pub High : Bytes → Type 0
 High bytes = AllByRecursion (λ b. 128 ≤ b) bytes
 
 High-cond : (test : Bool) (short long : Bytes) → (test ≡ true → High short) → High long
@@ -33,7 +33,7 @@ High-cond : (test : Bool) (short long : Bytes) → (test ≡ true → High short
 High-cond true short long h k = h refl
 High-cond false short long h k = k
 
-High-encode : (c : ℕ) → 128 ≤ c → High (encode c)
+pub High-encode : (c : ℕ) → 128 ≤ c → High (encode c)
 unfolding encode
 High-encode c h =
     High-cond (nat_lt c 128) _ _ (λ low. absurd (false≢true (sym (le-ltb c 128 h) ∙ low)))

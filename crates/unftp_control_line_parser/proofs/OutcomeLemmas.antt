@@ -91,18 +91,18 @@ module _ (line word parameter : Bytes) (r : Result Command ParseErrorKind)
       (same ∙ whole)
       (subst (λ p. Returns (value_answer (any_text (Other (upper name))) (value_of p)) r) rest h))
 
+-- SITE, from what a call finds in its parameter
+module _ (parameter word inner : Bytes) (whole : word ≡ verb_of parameter)
+    (rest : inner ≡ parameter_of parameter) where
   pub site_named : {name : Bytes} → name ≡ word → is_utf8 word ≡ true
-      → Returns (value_answer (subcommand_answer (upper name)) (value_of parameter)) r
-      → Returns (site_answer line) r
-  site_named {name} same u h =
-      let t : is_utf8 (verb_of line) ≡ true = subst (λ w. is_utf8 w ≡ true) whole u in
-      let is : site_answer line ≡ value_answer (subcommand_answer (upper (verb_of line)))
-      (value_of (parameter_of line)) = rw t in
-      subst (λ a. Returns a r) (sym is)
-      (subst (λ w. Returns
-      (value_answer (subcommand_answer (upper w)) (value_of (parameter_of line))) r)
-      (same ∙ whole)
-      (subst (λ p. Returns (value_answer (subcommand_answer (upper name)) (value_of p)) r) rest h))
+      → site_answer parameter ≡ value_answer (subcommand_answer (upper name)) (value_of inner)
+  site_named {name} same u =
+      let t : is_utf8 (verb_of parameter) ≡ true = subst (λ w. is_utf8 w ≡ true) whole u in
+      let is : site_answer parameter ≡ value_answer (subcommand_answer (upper (verb_of parameter)))
+      (value_of (parameter_of parameter)) = rw t refl in
+      is
+      ∙ (λ i. value_answer (subcommand_answer (upper (sym (same ∙ whole) i)))
+      (value_of (sym rest i)))
 
 -- an error that is passed on
 pub refused : (answer : Answer) (error : ParseErrorKind) (r : Result Command ParseErrorKind)

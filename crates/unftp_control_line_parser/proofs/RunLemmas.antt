@@ -1,16 +1,17 @@
 -- Runs of bytes that are written as they are.
 use Rattle.std.proofs.Common.{◌≡◌, ◌≢◌, ℕ, suc, zero, ◌+◌, ◌<◌, ◌≤◌, true, false, ◌==◌, [], ◌∷◌, ◌++◌, length, take, drop, get_or, Option, Some, None, option_map, refl, sym, ap, ◌∙◌, ⊎_elim, append_assoc, append-nil, arith, drop-cons, ne_eqb, eqb-true}
 use Rattle.std.proofs.lemmas.Bool.{cases_Bool, false_from_ne_true, false≢true}
-use Rattle.std.proofs.lemmas.List.{take_more}
+use Rattle.std.proofs.lemmas.List.{take_more, take-append-drop}
 use Rattle.unftp_control_defs.specs.Bytes.{Bytes, NUL, LF, CR}
 use Rattle.unftp_control_defs.specs.ComputedValue.{Context, Fresh, Plain, later_value}
-use Rattle.unftp_control_line_parser.specs.Values.{stops, IsRunEnd}
+use Rattle.unftp_control_line_parser.specs.Values.{stops, unescaped, IsContinued, IsRunEnd}
+use Rattle.unftp_control_line_parser.proofs.SentLemmas.{returned_apart}
 
-option_nil : (o : Option Bytes) → o ≡ option_map (λ w. [] ++ w) o
+pub option_nil : (o : Option Bytes) → o ≡ option_map (λ w. [] ++ w) o
 option_nil None = refl
 option_nil (Some v) = refl
 
-option_joined : (v w : Bytes) (o : Option Bytes)
+pub option_joined : (v w : Bytes) (o : Option Bytes)
     → option_map (λ x. v ++ x) (option_map (λ x. w ++ x) o) ≡ option_map (λ x. (v ++ w) ++ x) o
 option_joined v w None = refl
 option_joined v w (Some x) = ap Some (sym (append_assoc v w x))
@@ -86,3 +87,21 @@ module _ (bytes : Bytes) (n : ℕ) (e : IsRunEnd Fresh bytes n) (lt : n + 1 < le
       turned NUL h
       ∙ option_joined (take n bytes) (CR ∷ []) more
       ∙ ap (λ v. option_map (λ w. v ++ w) more) (sym whole)
+
+  pub IsContinued-at : get_or bytes (n + 1) 0 ≡ NUL
+      → IsContinued bytes (take (n + 1) bytes) (drop (n + 2) bytes)
+  IsContinued-at h = record {
+    goes_on = nul_at h;
+    whole = sym (take-append-drop (n + 1) bytes) ∙ ap (λ t. take (n + 1) bytes ++ t)
+        (drop-cons bytes (n + 1) 0 lt ∙ (λ i. h i ∷ drop (k i) bytes));
+    apart = λ more. ap (λ t. unescaped (t ++ NUL ∷ more)) whole
+        ∙ returned_apart (take n bytes) more e.no_return
+        ∙ ap (λ t. t ++ unescaped more) (sym whole);
+  }
+    where
+      k : suc (n + 1) ≡ n + 2
+      k = omega arith
+
+      whole : take (n + 1) bytes ≡ take n bytes ++ CR ∷ []
+      whole = take_more bytes n 0 first_lt
+          ∙ ap (λ x. take n bytes ++ x ∷ []) (is_cr (e.stop first_lt) ne)

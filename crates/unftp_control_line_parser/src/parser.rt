@@ -1,7 +1,6 @@
 //! A line's verb and parameter, and the command that they are.
 ghost use Rattle.std.specs.Prelude.{◌≡◌, ◌≤◌, length, IfOk};
 ghost use Rattle.std.specs.List.{position_or_len};
-ghost use Rattle.std.specs.Cow.{cow_slice_items};
 ghost use Rattle.unftp_control_command.specs.CommandMeaning.{command_of};
 ghost use Rattle.unftp_control_defs.specs.Canonical.{HasLine};
 ghost use Rattle.unftp_control_defs.specs.Lines.{IsLine};
@@ -13,17 +12,15 @@ ghost use Rattle.unftp_control_defs.specs.ComputedValue.{value_of};
 ghost use Rattle.unftp_control_line_parser.specs.Meaning.{meaning, parameter_answer, unit_command};
 ghost use Rattle.unftp_control_line_parser.specs.Memory.{AnswerMayTakeMemory, MayTakeMemory, OnOutOfMemory};
 ghost use Rattle.unftp_control_line_parser.specs.ParseAnswer.{Returns};
-ghost use Rattle.unftp_control_line_parser.specs.Values.{ReturnsSomeText};
+ghost use Rattle.unftp_control_line_parser.specs.Values.{ReturnsSomeText, value_bytes};
 
 use crate::fields::{list_path, optional_raw, optional_text, raw, text, upper_cased};
 use crate::rule::{ParameterKind, Rule, UnitCommand};
-use crate::typed::typed;
-use crate::value::{has_no_value, parameter_value};
+use crate::typed::{typed, typed_escaped};
+use crate::value::{Value, has_no_value, parameter_value};
 use crate::verb::rule_named;
 use memchr::memchr3;
 use std::alloc::Global;
-use std::borrow::CowSlice;
-use std::convert::AsSlice;
 use std::result;
 use std::str::from_utf8;
 use unftp_control_command::Command;
@@ -105,20 +102,20 @@ fn by_rule(alloc: Global, rule: Rule, parameter: &[u8]) -> Answer
 {
     match rule {
         Rule::Ignores(command) => Ok(command.command()),
-        Rule::Alone(command) => without_value(alloc, command, parameter),
-        Rule::Takes(kind) => match parameter_value(alloc, parameter) {
-            Ok(value) => with_value(alloc, kind, value),
-            Err(error) => Err(error),
+        Rule::Alone(command) => without_value(command, parameter),
+        Rule::Takes(kind) => match parameter_value(parameter) {
+            Some(value) => with_value(alloc, kind, value),
+            None => Err(ParseErrorKind::InvalidEol),
         },
         Rule::Splits => site(alloc, parameter),
     }
 }
 
 /// The command with this value.
-fn with_value(alloc: Global, kind: ParameterKind, value: CowSlice<'_, u8>) -> Answer
-    ensures answer { Returns (parameter_answer kind (cow_slice_items value.entry)) result }
+fn with_value(alloc: Global, kind: ParameterKind, value: Value<'_>) -> Answer
+    ensures answer { Returns (parameter_answer kind (value_bytes value.entry)) result }
     ensures memory { OnOutOfMemory result
-        (AnswerMayTakeMemory (parameter_answer kind (cow_slice_items value.entry))) }
+        (AnswerMayTakeMemory (parameter_answer kind (value_bytes value.entry))) }
 {
     match kind {
         ParameterKind::Raw(command) => Ok(command.command(raw(alloc, value)?)),
@@ -133,29 +130,33 @@ fn with_value(alloc: Global, kind: ParameterKind, value: CowSlice<'_, u8>) -> An
             options: None,
             path: list_path(alloc, value)?,
         }),
-        ParameterKind::Typed(command) => typed(command, value.as_slice()),
+        ParameterKind::Typed(command) => match value {
+            Value::Plain(bytes) => typed(command, bytes),
+            Value::Escaped(sent) => typed_escaped(command, sent),
+        },
     }
 }
 
 /// The command, where the parameter has no value. A line without a parameter is not read further.
-fn without_value(alloc: Global, command: UnitCommand, parameter: &[u8]) -> Answer
+fn without_value(command: UnitCommand, parameter: &[u8]) -> Answer
     ensures answer { Returns
         (value_answer (without_parameter (unit_command command)) (value_of parameter.now)) result }
-    ensures memory { OnOutOfMemory result (AnswerMayTakeMemory
-        (value_answer (without_parameter (unit_command command)) (value_of parameter.now))) }
+    ensures memory { OnOutOfMemory result ⊥ }
 {
     if has_no_value(parameter) {
         return Ok(command.command());
     }
-    parameter_value(alloc, parameter)?;
-    Err(ParseErrorKind::InvalidCommand)
+    match parameter_value(parameter) {
+        Some(_) => Err(ParseErrorKind::InvalidCommand),
+        None => Err(ParseErrorKind::InvalidEol),
+    }
 }
 
 /// The value as text, which must not be empty.
-fn some_text(alloc: Global, value: CowSlice<'_, u8>) -> result::Result<String, ParseErrorKind>
-    ensures { ReturnsSomeText (cow_slice_items value.entry) result }
+fn some_text(alloc: Global, value: Value<'_>) -> result::Result<String, ParseErrorKind>
+    ensures { ReturnsSomeText (value_bytes value.entry) result }
 {
-    if value.as_slice().is_empty() {
+    if value.is_empty() {
         return Err(ParseErrorKind::InvalidCommand);
     }
     Ok(text(alloc, value)?)
@@ -163,18 +164,23 @@ fn some_text(alloc: Global, value: CowSlice<'_, u8>) -> result::Result<String, P
 
 /// A SITE subcommand and its parameter (RFC 959, section 4.1.3).
 fn site(alloc: Global, parameter: &[u8]) -> Answer
-    ensures { Returns (site_answer parameter.now) result }
+    ensures answer { Returns (site_answer parameter.now) result }
+    ensures memory { OnOutOfMemory result (AnswerMayTakeMemory (site_answer parameter.now)) }
 {
     let (name, inner) = split(parameter);
-    subcommand(alloc, from_utf8(name)?, inner)
+    let name = from_utf8(name)?;
+    match parameter_value(inner) {
+        Some(value) => subcommand(alloc, name, value),
+        None => Err(ParseErrorKind::InvalidEol),
+    }
 }
 
-/// A SITE subcommand whose name is UTF-8, and its parameter.
-fn subcommand(alloc: Global, name: &str, parameter: &[u8]) -> Answer
-    ensures { Returns
-        (value_answer (subcommand_answer (upper name.now)) (value_of parameter.now)) result }
+/// A SITE subcommand whose name is UTF-8, with this value.
+fn subcommand(alloc: Global, name: &str, value: Value<'_>) -> Answer
+    ensures answer { Returns (subcommand_answer (upper name.now) (value_bytes value.entry)) result }
+    ensures memory { OnOutOfMemory result (AnswerMayTakeMemory
+        (subcommand_answer (upper name.now) (value_bytes value.entry))) }
 {
-    let value = parameter_value(alloc, parameter)?;
     if name.eq_ignore_ascii_case("MD5") {
         return Ok(Command::Md5 {
             file: some_text(alloc, value)?,
@@ -188,16 +194,16 @@ fn subcommand(alloc: Global, name: &str, parameter: &[u8]) -> Answer
 
 /// A verb without a rule of its own, and its parameter.
 fn other(alloc: Global, name: &str, parameter: &[u8]) -> Answer
-    ensures { Returns
+    ensures answer { Returns
         (value_answer (any_text (Other (upper name.now))) (value_of parameter.now)) result }
+    ensures memory { OnOutOfMemory result (AnswerMayTakeMemory
+        (value_answer (any_text (Other (upper name.now))) (value_of parameter.now))) }
 {
-    let arguments = if has_no_value(parameter) {
-        String::new(alloc)
-    } else {
-        text(alloc, parameter_value(alloc, parameter)?)?
+    let Some(value) = parameter_value(parameter) else {
+        return Err(ParseErrorKind::InvalidEol);
     };
     Ok(Command::Other {
+        arguments: text(alloc, value)?,
         command_name: upper_cased(alloc, name)?,
-        arguments,
     })
 }

@@ -4,8 +4,10 @@ ghost use Rattle.std.specs.Str.Lossy.{utf8_lossy};
 ghost use Rattle.unftp_control_line_parser.specs.Meaning.{typed_answer};
 ghost use Rattle.unftp_control_line_parser.specs.Memory.{OnOutOfMemory};
 ghost use Rattle.unftp_control_line_parser.specs.ParseAnswer.{Returns};
+ghost use Rattle.unftp_control_line_parser.specs.Values.{unescaped};
 
 use crate::rule::TypedCommand;
+use crate::value::unescaped_len;
 use std::str::from_utf8;
 use unftp_control_command::{AuthParam, Command, ModeParam, Opt, ProtParam, StruParam};
 use unftp_control_reply::error::ParseErrorKind;
@@ -25,6 +27,18 @@ pub fn typed(command: TypedCommand, value: &[u8]) -> Answer
         TypedCommand::Prot => prot(value),
         TypedCommand::Rest => rest(value),
         TypedCommand::Stru => stru(value),
+    }
+}
+
+/// What the command's own type makes of a value that is sent so.
+pub fn typed_escaped(command: TypedCommand, sent: &[u8]) -> Answer
+    ensures answer { Returns (typed_answer command (unescaped sent.now)) result }
+    ensures memory { OnOutOfMemory result ⊥ }
+{
+    match command {
+        TypedCommand::Auth => auth_escaped(sent),
+        // with a CR it is refused, with and without the NULs
+        _ => typed(command, sent),
     }
 }
 
@@ -106,6 +120,18 @@ fn auth(value: &[u8]) -> Answer
         return Err(ParseErrorKind::InvalidCommand);
     };
     Ok(Command::Auth { protocol })
+}
+
+/// AUTH and a mechanism that is sent so. No mechanism has a CR.
+fn auth_escaped(sent: &[u8]) -> Answer
+    ensures answer { Returns (auth (unescaped sent.now)) result }
+    ensures memory { OnOutOfMemory result ⊥ }
+{
+    if sent.len() > 3 && unescaped_len(sent) <= 3 {
+        from_utf8(sent)?;
+        return Err(ParseErrorKind::InvalidCommand);
+    }
+    auth(sent)
 }
 
 /// PBSZ and the size 0 (RFC 4217, section 9).

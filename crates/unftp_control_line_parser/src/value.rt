@@ -1,13 +1,37 @@
 //! The value of a parameter.
-ghost use Rattle.std.specs.Prelude.{◌≡◌, ◌≢◌, ◌↔◌, IsTrue, Some, []};
+ghost use Rattle.std.specs.Prelude.{◌≡◌, ◌≤◌, ◌==◌, ◌↔◌, ◌++◌, IsTrue, IfOk, MatchOption, option_map, length, take, drop, []};
 ghost use Rattle.unftp_control_defs.specs.ComputedValue.{value_of, later_value, Fresh};
-ghost use Rattle.unftp_control_line_parser.specs.Memory.{OnOutOfMemory};
-ghost use Rattle.unftp_control_line_parser.specs.Values.{begins_with_cr_nul, IsPlainEnd, IsFreshEnd, ReturnsValue, IsRun, ReturnsValueFrom, ReturnsJoined};
+ghost use Rattle.unftp_control_line_parser.specs.Values.{after_nul, begins_with_cr_nul, IsPlainEnd, IsFreshEnd, IsLaterLen, IsRun, IsWhole, sent_bytes, unescaped, value_bytes};
 
-use memchr::memchr2;
+use memchr::{memchr, memchr2};
 use std::alloc::{AllocError, Global};
-use std::borrow::CowSlice;
-use unftp_control_reply::error::ParseErrorKind;
+
+/// A value, as it is sent.
+#[derive(Clone, Copy)]
+pub enum Value<'a> {
+    /// The bytes of the value.
+    Plain(&'a [u8]),
+    /// The bytes of the value, with a NUL after some of its carriage returns (RFC 854).
+    Escaped(&'a [u8]),
+}
+
+impl<'a> Value<'a> {
+    /// The bytes that are sent for it.
+    pub fn sent(self) -> &'a [u8]
+        ensures { result.now ≡ sent_bytes self.entry }
+    {
+        match self {
+            Value::Plain(bytes) | Value::Escaped(bytes) => bytes,
+        }
+    }
+
+    /// Whether it has no bytes.
+    pub fn is_empty(self) -> bool
+        ensures { result ≡ (length (value_bytes self.entry) == 0) }
+    {
+        self.sent().is_empty()
+    }
+}
 
 const NUL: u8 = 0;
 
@@ -73,45 +97,30 @@ fn front_run<'a>(bytes: &'a [u8]) -> Run<'a>
     Run::Continued(taken, rest)
 }
 
-/// The value that begins with these bytes and goes on, directly after a CR NUL, with the rest.
-fn joined(front: Vec<u8>, after: &[u8]) -> Result<Vec<u8>, ParseErrorKind>
-    ensures { ReturnsJoined front.items (later_value Fresh after.now) result }
+/// Where a value ends, directly after the first unit or a CR NUL: how many bytes are sent for the
+/// rest of it.
+fn later_len(bytes: &[u8]) -> Option<usize>
+    ensures { MatchOption result (later_value Fresh bytes.now ≡ None)
+        (λ len. IsLaterLen bytes.now len) }
 {
-    let mut joined = front;
-    let mut rest = after;
+    let mut len = 0usize;
+    let mut rest = bytes;
     'parts: loop {
         if begins_with_cr_nul(rest) {
             let (_, further) = rest.split_at(2);
-            joined.push(CR).map_err(AllocError::from)?;
+            len += 2;
             rest = further;
         } else {
             match front_run(rest) {
-                Run::Last(part) => {
-                    joined.extend_from_slice(part)?;
-                    return Ok(joined);
-                }
+                Run::Last(part) => return Some(len + part.len()),
                 Run::Continued(part, further) => {
-                    joined.extend_from_slice(part)?;
+                    len += part.len() + 1;
                     rest = further;
                 }
-                Run::InvalidEnd => return Err(ParseErrorKind::InvalidEol),
+                Run::InvalidEnd => return None,
             }
         }
     }
-}
-
-/// The value that begins with a copy of these bytes and goes on, directly after a CR NUL, with the
-/// rest.
-fn unescaped<'a>(
-    alloc: Global,
-    front: &[u8],
-    after: &[u8],
-) -> Result<CowSlice<'a, u8>, ParseErrorKind>
-    ensures { ReturnsValueFrom front.now (later_value Fresh after.now) result }
-{
-    let mut value = Vec::with_capacity(alloc, front.len().saturating_add(after.len()))?;
-    value.extend_from_slice(front)?;
-    Ok(CowSlice::Owned(joined(value, after)?))
 }
 
 /// Whether the parameter begins with CR NUL.
@@ -134,39 +143,86 @@ pub fn has_no_value(parameter: &[u8]) -> bool
     }
 }
 
-/// The value of parameter bytes: bytes of the line, or new ones where it has CR NUL.
-pub fn parameter_value<'a>(
-    alloc: Global,
-    parameter: &'a [u8],
-) -> Result<CowSlice<'a, u8>, ParseErrorKind>
-    ensures answer { ReturnsValue (value_of parameter.now) result }
-    ensures memory { OnOutOfMemory result (value_of parameter.now ≢ Some []) }
+/// The value of parameter bytes; none after an invalid line ending. It takes no memory.
+pub fn parameter_value<'a>(parameter: &'a [u8]) -> Option<Value<'a>>
+    ensures { option_map value_bytes result ≡ value_of parameter.now }
 {
     if has_no_value(parameter) {
-        return Ok(CowSlice::Borrowed(b""));
+        return Some(Value::Plain(b""));
     }
     let (first, rest) = parameter.split_at(1);
     if rest == b"\n".as_slice() {
-        return Ok(CowSlice::Borrowed(first));
+        return Some(Value::Plain(first));
     }
     if begins_with_cr_nul(parameter) {
-        let (_, after) = parameter.split_at(2);
-        return unescaped(alloc, first, after);
+        return escaped_value(parameter, 2);
     }
     // the usual case: there is no CR within the value
     let (value, after) = parameter.split_at(1 + fresh_len(rest));
     if after == b"\r\n".as_slice() {
-        return Ok(CowSlice::Borrowed(value));
+        return Some(Value::Plain(value));
     }
     match front_run(rest) {
         Run::Last(part) => {
             let (value, _) = parameter.split_at(1 + part.len());
-            Ok(CowSlice::Borrowed(value))
+            Some(Value::Plain(value))
         }
-        Run::Continued(part, further) => {
-            let (front, _) = parameter.split_at(1 + part.len());
-            unescaped(alloc, front, further)
-        }
-        Run::InvalidEnd => Err(ParseErrorKind::InvalidEol),
+        Run::Continued(part, _) => escaped_value(parameter, 2 + part.len()),
+        Run::InvalidEnd => None,
     }
+}
+
+/// The value of a parameter, after whose first bytes, which end with CR NUL, it goes on.
+fn escaped_value<'a>(parameter: &'a [u8], front: usize) -> Option<Value<'a>>
+    requires within { front ≤ length parameter.now }
+    requires whole { IsWhole (take front parameter.now) }
+    ensures { option_map value_bytes result
+        ≡ option_map (λ w. unescaped (take front parameter.now) ++ w)
+        (later_value Fresh (drop front parameter.now)) }
+{
+    let (_, later) = parameter.split_at(front);
+    let (sent, _) = parameter.split_at(front + later_len(later)?);
+    Some(Value::Escaped(sent))
+}
+
+/// The bytes without a NUL at the start.
+fn after_nul(bytes: &[u8]) -> &[u8]
+    ensures { result.now ≡ after_nul bytes.now }
+{
+    match bytes {
+        [first, rest @ ..] if *first == NUL => rest,
+        _ => bytes,
+    }
+}
+
+/// The value for which these bytes are sent, in new memory.
+pub fn unescape(alloc: Global, sent: &[u8]) -> Result<Vec<u8>, AllocError>
+    ensures { IfOk result (λ value. value.items ≡ unescaped sent.now) }
+{
+    let mut value = Vec::with_capacity(alloc, sent.len())?;
+    let mut rest = sent;
+    'parts: loop {
+        let Some(end) = memchr(CR, rest) else {
+            value.extend_from_slice(rest)?;
+            return Ok(value);
+        };
+        let (part, further) = rest.split_at(end + 1);
+        value.extend_from_slice(part)?;
+        rest = after_nul(further);
+    }
+}
+
+/// How many bytes the value has for which these are sent.
+pub fn unescaped_len(sent: &[u8]) -> usize
+    ensures { result ≡ length (unescaped sent.now) }
+{
+    let mut len = 0usize;
+    let mut rest = sent;
+    'units: while !rest.is_empty() {
+        let unit = if begins_with_cr_nul(rest) { 2 } else { 1 };
+        let (_, further) = rest.split_at(unit);
+        rest = further;
+        len += 1;
+    }
+    len
 }

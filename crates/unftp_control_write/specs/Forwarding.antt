@@ -1,9 +1,7 @@
 -- What `forward` appends for a line, and why it appends nothing.
-use Rattle.std.specs.Prelude.{◌≡◌, true, ◌++◌, Some, Ok, Err}
-use Rattle.std.specs.Str.{is_utf8}
+use Rattle.std.specs.Prelude.{◌≡◌, ◌++◌, Some, Ok, Err, IsOk}
 use Rattle.unftp_control_defs.specs.Bytes.{Bytes}
 use Rattle.unftp_control_defs.specs.Lines.{IsLine}
-use Rattle.unftp_control_defs.specs.Verbs.{verb_of}
 use Rattle.unftp_control_defs.specs.FtpCommand.{FtpCommand, Refusal}
 use Rattle.unftp_control_defs.specs.Outcome.{outcome}
 use Rattle.unftp_control_defs.specs.Forwarded.{forwarded_line}
@@ -22,13 +20,13 @@ pub record IsForwarded (line before after : Bytes) : Type 0 where
   pub is_line : IsLine (forwarded_line line command)
   pub read_back : outcome (forwarded_line line command) ≡ Ok command
 
--- The bytes are not one line; or the line is refused for that reason; or memory ran out, which it
--- never does where the verb is not UTF-8.
+-- The bytes are not one line; or the line is refused for that reason; or memory ran out for its
+-- command, or for the line that is forwarded.
 abbrev pub IsForwardError : Bytes → ForwardError → Type 0
 IsForwardError line NotALine = ¬ IsLine line
 IsForwardError line (Refused kind) =
     (refusal : Refusal) × (refusal_of kind ≡ Some refusal) × (outcome line ≡ Err refusal)
-IsForwardError line OutOfMemory = is_utf8 (verb_of line) ≡ true
+IsForwardError line OutOfMemory = IsOk (outcome line)
 
 -- what `forward` returns where the parser returns this error
 abbrev pub forward_error : ParseErrorKind → ForwardError

@@ -7,6 +7,7 @@ ghost use Rattle.unftp_control_command.specs.CommandMeaning.{command_of};
 ghost use Rattle.unftp_control_defs.specs.Canonical.{HasLine, canonical_line};
 ghost use Rattle.unftp_control_defs.specs.Lines.{IsLine};
 ghost use Rattle.unftp_control_defs.specs.Outcome.{outcome};
+ghost use Rattle.unftp_control_write.specs.Room.{LacksRoom};
 
 mod canonical;
 mod forwarding;
@@ -36,7 +37,8 @@ pub enum WriteCommandError {
 ///
 /// It is refused with `NoLine` where no line is read as this command, as one with an empty path or
 /// with a line feed in a text, and for that no memory is asked for; and with `OutOfMemory` where
-/// the buffer has to grow, which it does once at most, and can't. `buf` is then as it was.
+/// the buffer has no room for the line and can't grow, which it does once at most. `buf` is then as
+/// it was.
 pub fn write_command(command: &Command, buf: &mut Vec<u8>) -> Result<(), WriteCommandError>
     ensures ok { OnOk result
         (buf.new.items ≡ buf.old.items ++ canonical_line (command_of command.now)) }
@@ -45,7 +47,9 @@ pub fn write_command(command: &Command, buf: &mut Vec<u8>) -> Result<(), WriteCo
         (outcome (canonical_line (command_of command.now)) ≡ Ok (command_of command.now)) }
     ensures err { OnErr result (buf.new.items ≡ buf.old.items) }
     ensures has_line { HasLine (command_of command.now)
-        → IfErr result (λ error. error ≡ WriteCommandError.OutOfMemory) }
+        → IfErr result (λ error. (error ≡ WriteCommandError.OutOfMemory)
+        × LacksRoom buf.old (canonical_line (command_of command.now))) }
+    ensures memory { result ≡ Err WriteCommandError.OutOfMemory → HasLine (command_of command.now) }
     ensures no_line { ¬ HasLine (command_of command.now) → result ≡ Err WriteCommandError.NoLine }
 {
     let Some(line) = line_of(command) else {

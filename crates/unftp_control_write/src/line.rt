@@ -1,18 +1,16 @@
 //! The parts of a line.
-ghost use Rattle.std.specs.Prelude.{◌≡◌, [], ◌∷◌, ◌++◌, option_map, take, vec_len, OnOk};
-ghost use Rattle.unftp_control_defs.specs.Bytes.{crlf};
+ghost use Rattle.std.specs.Prelude.{◌≡◌, ◌≤◌, [], ◌∷◌, ◌++◌, ◌==◌, count_by, length, option_map, take, vec_capacity, vec_len, OnErr, OnOk};
+ghost use Rattle.unftp_control_defs.specs.Bytes.{CR, crlf};
 ghost use Rattle.unftp_control_defs.specs.Values.{escaped};
 ghost use Rattle.unftp_control_write.specs.Parts.{spaced_part, body_of, bytes_of};
+ghost use Rattle.unftp_control_write.specs.Room.{LacksRoom};
 
 use crate::parts::Value;
 use itoa::Buffer;
 use std::alloc::AllocError;
 
-/// More bytes than a line has beside its words and its text: two spaces, and CR LF.
-const ROOM_BESIDE_TEXT: usize = 4;
-
-/// The digits of the greatest number of 64 bits.
-const MOST_DIGITS: usize = 20;
+/// How many bytes end a line: CR LF.
+const LINE_END: usize = 2;
 
 /// A line without its CR LF: a verb, a word after a space, and a value after another.
 #[derive(Drop)]
@@ -27,10 +25,11 @@ pub(crate) struct Line<'a> {
 
 impl<'a> Line<'a> {
     /// Appends the line and its CR LF, or perhaps a part of them when out of memory. The buffer
-    /// grows once at most.
+    /// grows once at most, and only where it lacks room for them.
     pub(crate) fn append(&self, buf: &mut Vec<u8>) -> Result<(), AllocError>
         ensures ok { OnOk result (buf.new.items ≡ buf.old.items ++ (body_of self.now ++ crlf)) }
         ensures kept { take (vec_len buf.old) buf.new.items ≡ buf.old.items }
+        ensures memory { OnErr result (LacksRoom buf.old (body_of self.now ++ crlf)) }
     {
         buf.reserve(self.room())?;
         buf.extend_from_slice(self.verb.as_bytes())?;
@@ -44,6 +43,9 @@ impl<'a> Line<'a> {
         ensures ok { OnOk result (buf.new.items
             ≡ buf.old.items ++ spaced_part (option_map (λ word. word.now) self.now.word)) }
         ensures kept { take (vec_len buf.old) buf.new.items ≡ buf.old.items }
+        ensures memory { OnErr result
+            (LacksRoom buf.old (spaced_part (option_map (λ word. word.now) self.now.word))) }
+        ensures capacity { vec_capacity buf.old ≤ vec_capacity buf.new }
     {
         let Some(word) = self.word else {
             return Ok(());
@@ -57,6 +59,9 @@ impl<'a> Line<'a> {
         ensures ok { OnOk result (buf.new.items ≡ buf.old.items
             ++ spaced_part (option_map escaped (option_map bytes_of self.now.value))) }
         ensures kept { take (vec_len buf.old) buf.new.items ≡ buf.old.items }
+        ensures memory { OnErr result (LacksRoom buf.old
+            (spaced_part (option_map escaped (option_map bytes_of self.now.value)))) }
+        ensures capacity { vec_capacity buf.old ≤ vec_capacity buf.new }
     {
         let Some(value) = &self.value else {
             return Ok(());
@@ -66,34 +71,59 @@ impl<'a> Line<'a> {
         append_escaped(value.bytes(&mut digits), buf)
     }
 
-    /// At least as many bytes as the line has, where so many can be counted.
-    fn room(&self) -> usize {
-        let word = match self.word {
-            Some(word) => word.len(),
-            None => 0,
-        };
-        let value = match &self.value {
-            Some(Value::Bytes(text)) => escaped_len(text),
-            Some(Value::Number(_)) => MOST_DIGITS,
-            None => 0,
-        };
-        ROOM_BESIDE_TEXT
+    /// How many bytes the line has with its CR LF, where so many can be counted.
+    fn room(&self) -> usize
+        ensures { result ≤ length (body_of self.now ++ crlf) }
+    {
+        LINE_END
             .saturating_add(self.verb.len())
-            .saturating_add(word)
-            .saturating_add(value)
+            .saturating_add(self.word_room())
+            .saturating_add(self.value_room())
+    }
+
+    /// How many bytes the word has with its space, if there is one.
+    fn word_room(&self) -> usize
+        ensures { result ≤ length (spaced_part (option_map (λ word. word.now) self.now.word)) }
+    {
+        match self.word {
+            Some(word) => word.len().saturating_add(1),
+            None => 0,
+        }
+    }
+
+    /// How many bytes the value has with its space, if there is one.
+    fn value_room(&self) -> usize
+        ensures { result
+            ≤ length (spaced_part (option_map escaped (option_map bytes_of self.now.value))) }
+    {
+        let Some(value) = &self.value else {
+            return 0;
+        };
+        let mut digits = Buffer::new();
+        escaped_len(value.bytes(&mut digits)).saturating_add(1)
     }
 }
 
 /// How many bytes the text has with each CR as CR NUL, where so many can be counted.
-fn escaped_len(text: &[u8]) -> usize {
-    let carriage_returns = text.iter().filter(|byte| **byte == b'\r').count();
-    text.len().saturating_add(carriage_returns)
+fn escaped_len(text: &[u8]) -> usize
+    ensures { result ≤ length (escaped text.now) }
+{
+    text.len().saturating_add(carriage_returns(text))
+}
+
+/// How many CRs the text has.
+fn carriage_returns(text: &[u8]) -> usize
+    ensures { result ≡ count_by (λ b. b == CR) text.now }
+{
+    text.iter().filter(|byte| **byte == b'\r').count()
 }
 
 /// Appends the text with each CR as CR NUL.
 fn append_escaped(text: &[u8], buf: &mut Vec<u8>) -> Result<(), AllocError>
     ensures ok { OnOk result (buf.new.items ≡ buf.old.items ++ escaped text.now) }
     ensures kept { take (vec_len buf.old) buf.new.items ≡ buf.old.items }
+    ensures memory { OnErr result (LacksRoom buf.old (escaped text.now)) }
+    ensures capacity { vec_capacity buf.old ≤ vec_capacity buf.new }
 {
     for byte in text {
         append_escaped_byte(*byte, buf)?;
@@ -105,6 +135,8 @@ fn append_escaped(text: &[u8], buf: &mut Vec<u8>) -> Result<(), AllocError>
 fn append_escaped_byte(byte: u8, buf: &mut Vec<u8>) -> Result<(), AllocError>
     ensures ok { OnOk result (buf.new.items ≡ buf.old.items ++ escaped (byte ∷ [])) }
     ensures kept { take (vec_len buf.old) buf.new.items ≡ buf.old.items }
+    ensures memory { OnErr result (LacksRoom buf.old (escaped (byte ∷ []))) }
+    ensures capacity { vec_capacity buf.old ≤ vec_capacity buf.new }
 {
     buf.push(byte)?;
     if byte == b'\r' {

@@ -2,6 +2,8 @@
 use crate::answers::{Answers, once_more};
 use crate::words::{CaseError, Words, read_bytes};
 use unftp_control_client::{Client, ClientReply, To};
+use unftp_control_command::Command;
+use unftp_control_line_parser::{ParseErrorKind, parse};
 use unftp_control_read::NextReplyError;
 
 /// What a client does.
@@ -9,14 +11,27 @@ use unftp_control_read::NextReplyError;
 enum Act {
     /// It sends a line.
     Send(Vec<u8>),
+    /// It sends a command.
+    Command(Command),
     /// It receives a piece.
     Receive(Vec<u8>),
+}
+
+/// The command of the line that is the next word.
+fn read_command(words: &mut Words<'_>) -> Result<Command, CaseError> {
+    let line = words.bytes()?;
+    match parse(words.alloc, line.as_slice()) {
+        Ok(command) => Ok(command),
+        Err(error) if *error.kind() == ParseErrorKind::OutOfMemory => Err(CaseError::OutOfMemory),
+        Err(_) => Err(CaseError::NoCase),
+    }
 }
 
 /// What the client does at the word.
 fn read_act(word: &str, words: &mut Words<'_>) -> Result<Act, CaseError> {
     match word {
         "send" => Ok(Act::Send(words.bytes()?)),
+        "command" => Ok(Act::Command(read_command(words)?)),
         word => Ok(Act::Receive(read_bytes(words.alloc, word)?)),
     }
 }
@@ -89,14 +104,12 @@ fn receive(client: &mut Client, piece: &[u8], answers: &mut Answers) {
 
 /// Does what a client does.
 fn make_act(client: &mut Client, act: &Act, out: &mut Vec<u8>, answers: &mut Answers) {
-    match act {
-        Act::Send(line) => {
-            if client.send_line(line.as_slice(), out).is_err() {
-                answers.put("not sent | ");
-            }
-        }
-        Act::Receive(piece) => receive(client, piece.as_slice(), answers),
-    }
+    let sent = match act {
+        Act::Send(line) => client.send_line(line.as_slice(), out),
+        Act::Command(command) => client.send(command, out),
+        Act::Receive(piece) => return receive(client, piece.as_slice(), answers),
+    };
+    answers.put_unless(sent.is_ok(), "not sent | ");
 }
 
 /// How many bytes of lines are sent without memory for them.

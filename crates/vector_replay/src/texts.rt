@@ -4,13 +4,14 @@ use crate::forms::Forms;
 use crate::words::{CaseError, Words};
 use std::fmt::{Debug, Display};
 use std::io::ErrorKind;
+use unftp_control_client::SendError;
 use unftp_control_codecs::EncodeLinesError;
 use unftp_control_read::{NextReplyError, ReadReplyError, ReceiveError};
 use unftp_control_reply::error::{
     ControlChanError, ControlChanErrorKind, ParseError, ParseErrorKind,
 };
 use unftp_control_serve::ServeError;
-use unftp_control_write::WriteCommandError;
+use unftp_control_write::{ForwardError, WriteCommandError};
 
 /// The parser's kind of this name.
 fn parse_kind(name: &str) -> Result<ParseErrorKind, CaseError> {
@@ -83,6 +84,27 @@ fn write_error(name: &str) -> Result<WriteCommandError, CaseError> {
     })
 }
 
+/// The error of forwarding a line of this name. The parser's kind that it holds is the next word.
+fn forward_error(name: &str, words: &mut Words<'_>) -> Result<ForwardError, CaseError> {
+    Ok(match name {
+        "NotALine" => ForwardError::NotALine,
+        "Refused" => ForwardError::Refused(parse_error(words.word()?)?),
+        "OutOfMemory" => ForwardError::OutOfMemory,
+        _ => return Err(CaseError::NoCase),
+    })
+}
+
+/// The error of sending a command of this name.
+fn send_error(name: &str) -> Result<SendError, CaseError> {
+    Ok(match name {
+        "NoLine" => SendError::NoLine,
+        "NotALine" => SendError::NotALine,
+        "OutOfMemory" => SendError::OutOfMemory,
+        "TooManyCommands" => SendError::TooManyCommands,
+        _ => return Err(CaseError::NoCase),
+    })
+}
+
 /// The error of reading a reply of this name.
 fn read_error(name: &str) -> Result<ReadReplyError, CaseError> {
     Ok(match name {
@@ -140,7 +162,7 @@ fn print<E: Debug + Display + Drop>(
     Ok(())
 }
 
-/// Prints the error of a client's call that has this type and name.
+/// Prints the error of a client's or a proxy's call that has this type and name.
 fn print_client_error(
     error: &str,
     name: &str,
@@ -149,6 +171,8 @@ fn print_client_error(
 ) -> Result<(), CaseError> {
     match error {
         "WriteCommandError" => print(write_error(name), words, answers),
+        "ForwardError" => print(forward_error(name, words), words, answers),
+        "SendError" => print(send_error(name), words, answers),
         "ReadReplyError" => print(read_error(name), words, answers),
         "NextReplyError" => print(next_error(name), words, answers),
         "ReceiveError" => print(receive_error(name), words, answers),

@@ -1,12 +1,7 @@
-use Rattle.std.proofs.Common.{eqb-true, sym, ◌∙◌}
+use Rattle.std.proofs.Common.{sym, ◌∙◌}
 use Rattle.std.proofs.lemmas.Result.{IfOk-weaker}
 use Rattle.std.proofs.lemmas.Str.{utf8_lossy-IsUtf8}
-use Rattle.unftp_control_line_parser.proofs.PathLemmas.{no_text}
 use Rattle.unftp_control_line_parser.proofs.fields.borrowed_text.Goals as goal
-
-pub returns-then-is_empty : goal.returns-then-is_empty
-returns-then-is_empty c = c.new.ensures.bytes
-    ∙ sym (no_text c.args.bytes.now (eqb-true _ 0 (sym c.is_empty.ensures ∙ c.if-is_empty.true)))
 
 pub returns-in-Ok : goal.returns-in-Ok
 returns-in-Ok c =

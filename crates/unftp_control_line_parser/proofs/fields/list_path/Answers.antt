@@ -1,12 +1,18 @@
-use Rattle.std.proofs.Common.{◌≡◌, length, sym, subst, eqb-true, ◌∙◌, rules}
-use Rattle.unftp_control_line_parser.proofs.PathLemmas.{no_path}
+use Rattle.std.proofs.Common.{◌∙◌, ap, subst, length, ◌<◌}
+use Rattle.std.proofs.lemmas.Result.{IfOk-weaker}
+use Rattle.std.specs.Str.Lossy.{utf8_lossy}
+use Rattle.unftp_control_defs.specs.Rules.{unless_empty}
+use Rattle.std.specs.Prelude.{option_map}
+use Rattle.unftp_control_line_parser.specs.Values.{value_bytes}
+use Rattle.unftp_control_line_parser.proofs.MemoryLemmas.{OnErr-weaker, path_text, some_path}
 use Rattle.unftp_control_line_parser.proofs.fields.list_path.Goals as goal
 
-pub returns-then-is_empty : goal.returns-then-is_empty
-returns-then-is_empty c =
-    no_path _
-    (subst (λ v. length v ≡ 0) c.as_slice.ensures.value
-    (eqb-true (length c.as_slice.result.now) 0 (sym c.is_empty.ensures ∙ c.if-is_empty.true)))
-
 pub returns : goal.returns
-returns c = search rules
+returns c = record {
+  ok = IfOk-weaker c.optional_text.result _ _
+      (λ path e. e ∙ ap (λ v. option_map utf8_lossy (unless_empty v)) c.path_in.ensures
+      ∙ path_text (value_bytes c.args.value)) c.optional_text.ensures.ok;
+  memory = OnErr-weaker c.optional_text.result _ _
+      (λ some. some_path (value_bytes c.args.value)
+      (subst (λ v. 0 < length v) c.path_in.ensures some)) c.optional_text.ensures.memory;
+}

@@ -1,5 +1,5 @@
 use Rattle.std.proofs.Common.{[], codes, inl, inr, refl, lit<, lit≤}
-use Rattle.unftp_control.proofs.NeededLemmas.{part, empty_part}
+use Rattle.unftp_control.proofs.NeededLemmas.{part, empty_part, most_read}
 use Rattle.unftp_control.proofs.laws.examples.receiving.these_reads_are_needed.Goals as goal
 
 pub returns : goal.returns
@@ -27,4 +27,5 @@ returns c = record {
     short = lit≤ tt;
     part = (part, lit< tt);
   };
+  most = most_read;
 }
