@@ -104,12 +104,14 @@ def read_libraries(folder):
 
 
 def place_libraries(libraries, folder):
-    """Puts the two libraries into a folder, with the links to the shared one."""
+    """Puts the two libraries into a folder, with the links to the shared one; but into out/ without them, since rt refuses to write to a
+    folder with a link."""
     for name, (content, mode) in libraries.items():
         place(folder / name, content, mode)
     file, loaded, linked = shared_names()
-    link(folder / loaded, file)
-    link(folder / linked, loaded)
+    if folder.resolve() != OUT:
+        link(folder / loaded, file)
+        link(folder / linked, loaded)
 
 
 def texts(prefix, libdir):

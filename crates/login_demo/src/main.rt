@@ -61,8 +61,8 @@ pub fn run<R: Read, W: Write, A: Accounts + Drop>(
     writer: &mut Output<W>,
     accounts: A,
 ) -> Result<Served, ServeError>
-    // At Ok exactly the replies to the lines are written, and `Serves` says what is returned, for some
-    // last state of the session and count of its failures.
+    // At Ok exactly the replies to the lines are written, and `Serves` says what is returned, for
+    // some last state of the session and count of its failures.
     ensures serves { (session : Limited (Gated Session)) × (failures : ℕ) × IfOk result (λ served.
         IfSome (R.remaining reader.old.reader) (Serves (Some LIMIT) guarded_law
         (first_snapshot (A.accepts accounts) (output_state_of W.contents writer.old))

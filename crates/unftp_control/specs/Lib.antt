@@ -46,6 +46,7 @@ pub use Rattle.unftp_control_serve.specs.Endings
 pub use Rattle.unftp_control_serve.specs.Engine
 pub use Rattle.unftp_control_serve.specs.Service
 pub use Rattle.unftp_control_login.specs.Login
+pub use Rattle.unftp_control_login.specs.HandlerCalls
 pub use Rattle.unftp_control_login.specs.Gate
 pub use Rattle.unftp_control_login.specs.LoginLimit
 pub use Rattle.unftp_control_login.specs.Promises

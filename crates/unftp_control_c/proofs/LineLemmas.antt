@@ -9,7 +9,7 @@ use Rattle.std.proofs.lemmas.List.{get_or_at, length_push, take_more}
 use Rattle.std.proofs.lemmas.List.Elements.{All-from_get_or}
 use Rattle.std.proofs.lemmas.List.Splits.{slice_split_none, slice_split_at, length-slice_split}
 use Rattle.unftp_control_defs.specs.Bytes.{Bytes, LF, CR}
-use Rattle.unftp_control_c.specs.Replies.{lines_of_parts, text_lines}
+use Rattle.unftp_control_c.specs.Replies.{parts_as_lines, text_lines}
 
 -- no byte of it is an LF
 abbrev pub HasNone : Bytes → Type 0
@@ -20,7 +20,7 @@ none_is line none = All-from_get_or (λ b. (b == LF) ≡ false) line 0
     (λ at within. ne_eqb (get_or line at 0) LF (none at within))
 
 lines_step : (part : Bytes) (parts : List Bytes) → 0 < length parts
-    → lines_of_parts (part ∷ parts) ≡ strip_carriage_return part ∷ lines_of_parts parts
+    → parts_as_lines (part ∷ parts) ≡ strip_carriage_return part ∷ parts_as_lines parts
 lines_step part [] some = absurd (omega (arith, some))
 lines_step part (next ∷ parts) some = refl
 

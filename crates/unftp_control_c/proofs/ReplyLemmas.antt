@@ -14,7 +14,7 @@ use Rattle.unftp_control_c.specs.declared.status.Status.{Status}
 use Rattle.unftp_control_c.specs.declared.status.Status.TheVariants.{Done, OutOfMemory}
 use Rattle.unftp_control_c.specs.Numbers.{status_number}
 use Rattle.unftp_control_c.specs.Areas.{Made, made, written}
-use Rattle.unftp_control_c.specs.Replies.{IsReplyOf, EncodesReply, lines_of_parts, lines_reply, encodes, unknown_code, not_utf8, out_of_memory}
+use Rattle.unftp_control_c.specs.Replies.{IsReplyOf, EncodesReply, parts_as_lines, lines_reply, encodes, unknown_code, not_utf8, out_of_memory}
 use Rattle.unftp_control_c.proofs.AreaLemmas.{filled_done}
 
 first_lacks : (b : ℕ) (parts : List Bytes) → b ≢ LF → AllByRecursion (Lacks LF) parts
@@ -44,7 +44,7 @@ lacks_stripped line h = cond_both (slice_index line (length line - 1) == CR)
     (λ _. lacks_take (length line - 1) line h) (λ _. h)
 
 lines_lack : (parts : List Bytes) → AllByRecursion (Lacks LF) parts
-    → AllByRecursion (Lacks LF) (lines_of_parts parts)
+    → AllByRecursion (Lacks LF) (parts_as_lines parts)
 lines_lack [] all = tt
 lines_lack (part ∷ []) all = all
 lines_lack (part ∷ next ∷ parts) all =

@@ -15,7 +15,7 @@ use Rattle.unftp_control_codecs.specs.ReplyCodes.{IsReplyCode}
 use Rattle.unftp_control_c.specs.declared.status.Status.TheVariants.{Done, NoRoom}
 use Rattle.unftp_control_c.specs.Areas.{Filled, Made, filled, written, overwritten}
 use Rattle.unftp_control_c.specs.Numbers.{status_number}
-use Rattle.unftp_control_c.specs.Replies.{EncodesReply, encodes, unknown_code, not_utf8, out_of_memory, lines_of_parts, text_lines, lines_reply}
+use Rattle.unftp_control_c.specs.Replies.{EncodesReply, encodes, unknown_code, not_utf8, out_of_memory, parts_as_lines, text_lines, lines_reply}
 
 -- how many bytes the lines have
 abbrev total : List Bytes → ℕ
@@ -47,8 +47,8 @@ stripped_length line = cond_both (slice_index line (length line - 1) == CR)
     (take (length line - 1) line) line (λ found. length found ≤ length line)
     (λ _. omega (arith, length-take (length line - 1) line)) (λ _. omega arith)
 
-lines_total : (parts : List Bytes) → (total (lines_of_parts parts) ≤ total parts)
-    × (length (lines_of_parts parts) ≡ length parts)
+lines_total : (parts : List Bytes) → (total (parts_as_lines parts) ≤ total parts)
+    × (length (parts_as_lines parts) ≡ length parts)
 lines_total [] = (omega arith, refl)
 lines_total (part ∷ []) = (omega arith, refl)
 lines_total (part ∷ next ∷ parts) =

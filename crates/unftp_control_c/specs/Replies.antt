@@ -10,14 +10,14 @@ use Rattle.unftp_control_c.specs.declared.status.Status.TheVariants.{UnknownCode
 use Rattle.unftp_control_c.specs.Areas.{Made}
 
 -- the lines in the parts that LFs divide: a CR before an LF belongs to the line's end
-abbrev pub lines_of_parts : List Bytes → List Bytes
-lines_of_parts [] = []
-lines_of_parts (part ∷ []) = part ∷ []
-lines_of_parts (part ∷ next ∷ parts) = strip_carriage_return part ∷ lines_of_parts (next ∷ parts)
+abbrev pub parts_as_lines : List Bytes → List Bytes
+parts_as_lines [] = []
+parts_as_lines (part ∷ []) = part ∷ []
+parts_as_lines (part ∷ next ∷ parts) = strip_carriage_return part ∷ parts_as_lines (next ∷ parts)
 
 -- the lines of a text, which CR LFs and LFs divide
 abbrev pub text_lines : Bytes → List Bytes
-text_lines text = lines_of_parts (slice_split (λ b. b == LF) text)
+text_lines text = parts_as_lines (slice_split (λ b. b == LF) text)
 
 abbrev pub lines_reply : ℕ → Bytes → FtpReply
 lines_reply code text = MultiLine code (text_lines text)

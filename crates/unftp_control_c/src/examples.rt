@@ -1,14 +1,16 @@
 //! Examples of the definitions, worked out by hand: what calls leave, at the boundary.
 #![tactic(auto, unfolding(unftp_control_defs::proofs::Computing::at_bytes))]
 
-ghost use Rattle.std.specs.Prelude.{◌≡◌, [], ◌∷◌, Ok, Err, codes};
-ghost use Rattle.unftp_control_defs.specs.FtpReply.{CodeAndMsg, MultiLine};
+ghost use Rattle.std.specs.Prelude.{◌≡◌, [], ◌∷◌, Some, None, Ok, Err, codes, length};
+ghost use Rattle.std.specs.List.{count_by};
+ghost use Rattle.unftp_control_defs.specs.FtpReply.{CodeAndMsg, MultiLine, encoded};
+ghost use Rattle.unftp_control_codecs.specs.LineFeed.{is_line_feed, line_feed_from};
 ghost use Rattle.unftp_control_c.specs.Areas.{filled, written};
 ghost use Rattle.unftp_control_c.specs.CanonicalLines.{CanonicalMayTakeMemory, IsCanonical};
 ghost use Rattle.unftp_control_c.specs.ForwardedLines.{IsForwardedLine};
 ghost use Rattle.unftp_control_c.specs.Next.{Leaves, LineMayTakeMemory, next_of, scans};
 ghost use Rattle.unftp_control_c.specs.Rows.{a_call, leaving};
-ghost use Rattle.unftp_control_c.specs.Replies.{EncodesReply, IsReplyOf, text_lines};
+ghost use Rattle.unftp_control_c.specs.Replies.{EncodesReply, IsReplyOf, lines_reply, text_lines};
 ghost use Rattle.unftp_control_c.specs.declared.status.Status.TheVariants.{InvalidCommand, InvalidEol, InvalidUtf8, NoLine, OutOfMemory, UnknownCode};
 
 pub mod calls;
@@ -52,9 +54,9 @@ pub fn calls_leave()
         (leaving 10 5 0 0 0 (codes "NOOP") 4 0) }
     ensures line_not_used_up { ¬ Leaves (a_call (codes "NOOP\nQ") 0 0 0 (codes "...."))
         (leaving 10 0 0 0 0 (codes "NOOP") 4 0) }
-    ensures memory { Leaves (a_call (codes "RETR a\n") 3 0 0 [])
+    ensures memory { Leaves (a_call (codes "USER a\n") 3 0 0 [])
         (leaving 106 0 3 0 0 [] 0 0) }
-    ensures offset_lost { ¬ Leaves (a_call (codes "RETR a\n") 3 0 0 [])
+    ensures offset_lost { ¬ Leaves (a_call (codes "USER a\n") 3 0 0 [])
         (leaving 106 0 0 0 0 [] 0 0) }
     ensures no_memory { ¬ Leaves (a_call (codes "NOOP\n") 0 0 0 [])
         (leaving 106 0 0 0 0 [] 0 0) }
@@ -67,6 +69,9 @@ pub fn bytes_are_scanned()
     ensures line_feed { scans (a_call (codes "NOOP\nQ\n") 4 0 0 []) ≡ 1 }
     ensures no_line { scans (a_call (codes "NOOP") 3 0 0 []) ≡ 1 }
     ensures nothing_new { scans (a_call (codes "NOOP") 4 0 0 []) ≡ 0 }
+    ensures line_feed_at_the_offset { line_feed_from (codes "a\nb\n") 1 ≡ Some 1 }
+    ensures line_feed_after_it { line_feed_from (codes "a\nb\n") 2 ≡ Some 3 }
+    ensures line_feed_before_it { line_feed_from (codes "a\nb") 2 ≡ None }
 {}
 
 /// Lines for which memory may run out, and none.
@@ -119,6 +124,10 @@ pub fn texts_have_lines()
     ensures another_cr { text_lines (codes "a\r\r\n\rb") ≡ codes "a\r" ∷ codes "\rb" ∷ [] }
     ensures cr_at_the_end { text_lines (codes "a\nb\r") ≡ codes "a" ∷ codes "b\r" ∷ [] }
     ensures cr_alone { text_lines (codes "a\rb") ≡ codes "a\rb" ∷ [] }
+    ensures line_feeds { count_by is_line_feed (codes "a\r\n\nb\r") ≡ 2 }
+    // n + 6, and n + 2 k + 10: each of the lines before the last begins with a digit
+    ensures room_of_a_line { length (encoded (CodeAndMsg 211 (codes "a"))) ≡ 7 }
+    ensures room { length (encoded (lines_reply 211 (codes "1\n1\n1"))) ≡ 19 }
 {}
 
 /// Lines and their canonical lines.

@@ -69,7 +69,7 @@ pub fn bytes_are_scanned_once()
     ensures once { (limit : ℕ) (steps : List CallerStep) (after : Caller)
         → AreCallerSteps (new_caller limit) steps after
         → scanned_by (new_caller limit) steps + unscanned after ≡ length (input_of steps) }
-    // No call scans a byte before the offset, or one twice.
+    // No call scans more than these, also one that is made again.
     ensures each { (caller : Caller) (area : Bytes)
         → scans (call_of caller area) ≤ unscanned caller }
 {}

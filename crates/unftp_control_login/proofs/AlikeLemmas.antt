@@ -29,7 +29,7 @@ use Rattle.unftp_control_login.specs.Login.{Accounts}
 use Rattle.unftp_control_login.specs.HandlerCalls.{Call, passes, makes}
 use Rattle.unftp_control_login.specs.Gate.{Gated, admitted, closed, gated_law, inner_after, not_accepted, password_reply, stage_after, stage_after_password}
 use Rattle.unftp_control_login.specs.LoginLimit.{Limited, is_pass, limited_law, limited_to, too_many}
-use Rattle.unftp_control_login.specs.Promises.{AllLookAlike, AnsweredAlike, AtEachPlace, CallsAlike, DifferInPasswords, GivesPassword, PasswordFits, FailsAlike, IsRefusedLogin, LooksAlike, at_each, gate_calls, limit_calls, login_lines, pass_line}
+use Rattle.unftp_control_login.specs.Promises.{AllLookAlike, AnsweredAlike, AtEachPlace, DifferInPasswords, GivesPassword, PasswordFits, FailsAlike, IsRefusedLogin, LooksAlike, at_each, calls_for, gate_calls, limit_calls, login_lines, pass_line}
 use Rattle.unftp_control_login.proofs.StageLemmas.{Reason, stage_after-reason}
 
 -- Lines of passwords may take memory.
@@ -277,7 +277,8 @@ module _ {S : Type 0} {law : Law S} {accepts : Accounts} (alike : Alike law acce
   at_each-alike f one (event ∷ events) [] h same = absurd same
   at_each-alike f one (event ∷ events) (other ∷ others) {past} {s} h same =
       let first : SameStep law s event other = step h same.0 in
-      ap (λ first. first ∷ at_each f law (law.next s event) events) (one past s event other h same.0)
+      ap (λ first. first ∷ at_each f law (law.next s event) events)
+      (one past s event other h same.0)
       ∙ ap (λ later. f s other ∷ later) (at_each-alike f one events others (holds event h) same.1)
       ∙ ap (λ t. f s other ∷ at_each f law t others) first.next
 
@@ -373,19 +374,19 @@ module _ {S : Type 0} {law : Law S} {accepts : Accounts} (alike : Alike law acce
       )
 
 -- Steps of the gate.
-record Outcome : Type 0 where
-  reply : FtpReply
-  stage : Stage
-  name : Option Bytes
+pub record Outcome : Type 0 where
+  pub reply : FtpReply
+  pub stage : Stage
+  pub name : Option Bytes
 
-abbrev outcome_of : Accounts → Stage → Bytes → Outcome
+abbrev pub outcome_of : Accounts → Stage → Bytes → Outcome
 outcome_of accepts stage password = record {
   reply = password_reply accepts stage password;
   stage = stage_after_password accepts stage password;
   name = admitted accepts stage password;
 }
 
-abbrev after_outcome : {S : Type 0} → Law S → Gated S → Outcome → Gated S
+abbrev pub after_outcome : {S : Type 0} → Law S → Gated S → Outcome → Gated S
 after_outcome law s outcome = record {
   accepts = s.accepts;
   stage = outcome.stage;
@@ -404,7 +405,7 @@ pub record Follows {S : Type 0} (accepts : Accounts) (past : List FtpEvent)
   pub accounts : s.accepts ≡ accepts
   pub reason : Reason accepts s.stage past
 
-follows : {S : Type 0} (law : Law S) {accepts : Accounts} {past : List FtpEvent} {s : Gated S}
+pub follows : {S : Type 0} (law : Law S) {accepts : Accounts} {past : List FtpEvent} {s : Gated S}
     (event : FtpEvent)
     → Follows accepts past s → Follows accepts (past ++ event ∷ []) ((gated_law law).next s event)
 follows law {accepts} {past} {s} event h = record {
@@ -588,7 +589,7 @@ module _ {S : Type 0} (limit : Option ℕ) (accepts : Accounts) (law : Law S) (s
   abbrev pub CallsHidden : (S → FtpEvent → List Call) → Type 0
   CallsHidden calls = (input other : Bytes)
       → AllLookAlike accepts (events limit input) (events limit other)
-      → CallsAlike calls limit law s input other
+      → calls_for limit calls law s input ≡ calls_for limit calls law s other
 
   abbrev pub PasswordsAlike : Type 0
   PasswordsAlike = (before after password other : Bytes) → incomplete_line before ≡ []
@@ -663,7 +664,8 @@ module _ {S : Type 0} (law : Law S) (limit : Option ℕ) (accepts : Accounts) (i
   pub gate-errors-hidden : ErrorsHidden limit accepts (gated_law law) (closed accepts inner)
   gate-errors-hidden = errors-hidden gate_alike limit (closed accepts inner) begins
 
-  pub gate-calls-hidden : CallsHidden limit accepts (gated_law law) (closed accepts inner) gate_calls
+  pub gate-calls-hidden : CallsHidden limit accepts (gated_law law) (closed accepts inner)
+      gate_calls
   gate-calls-hidden = calls-hidden gate_alike limit (closed accepts inner) begins gate_calls
       (λ past s event other. calls-step event other)
 

@@ -19,7 +19,8 @@ abbrev pub sealed : Val
 sealed = vstruct (vcons vunit vnil)
 
 pub calls_made : {M : Type 1} {𝓤 : Ura M} {𝓛 : Logic 𝓤} {K : Type 0} {Γ : List (Item 𝓤)}
-    {G : Goal 𝓤 𝓛.H} → K → (n : List Call) → Step K 𝓛 (‵ (the_row.own_val n (sealed ∷ [])) ∷ Γ) G Γ G
+    {G : Goal 𝓤 𝓛.H} → K → (n : List Call)
+    → Step K 𝓛 (‵ (the_row.own_val n (sealed ∷ [])) ∷ Γ) G Γ G
 calls_made t n = step (λ s.
     let made : Fields.Inside = record { seal = tt; calls = n } in
     nothing t $ nothing t $

@@ -43,7 +43,7 @@ name-changed h =
     absurd (false≢true first)
 
 -- the name that these two give
-given-name : (accepts : Accounts) (one name : Bytes) → GaveName name (user one ∷ []) → one ≡ name
+pub given-name : (accepts : Accounts) (one name : Bytes) → GaveName name (user one ∷ []) → one ≡ name
 given-name accepts one name given = ap name_of (GaveName-stage accepts name (user one ∷ []) given)
 
 gave : (one : Bytes) → GaveName one (user one ∷ [])

@@ -3,6 +3,7 @@ mod CalledLemmas
 pub mod StageLemmas
 pub mod MemberLemmas
 pub mod AlikeLemmas
+mod AccountLemmas
 pub mod LimitLemmas
 mod ExampleLemmas
 mod CallExampleLemmas

@@ -18,7 +18,7 @@ gated accepts state gate = record {
   inner = state gate.inner.handler;
 }
 
--- At an event the handler received what is passed on, and memory was asked for the gate's own reply.
+-- At an event the handler received what is passed on, and memory was asked for the gate's reply.
 abbrev pub GateCalled : {H S T : Type 0} → (H → ℕ) → Law S → Gated S → Inner H → FtpEvent
     → Inner H → Result T ControlChanError → Type 0
 GateCalled failures law s before event after = CallsMade law s.inner

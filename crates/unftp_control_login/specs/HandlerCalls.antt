@@ -35,8 +35,8 @@ pub record Called (before after : CallState) (calls : List Call) (refused failed
   pub refused_more : after.refused ≡ before.refused + refused
   pub failed_more : after.failed ≡ before.failed + failed
 
--- At an event the handler receives `passed`, if it is one, and then memory is asked for `own`, if it
--- is a reply.
+-- At an event the handler receives `passed`, if it is one, and then memory is asked for `own`, if
+-- it is a reply.
 module _ {S : Type 0} (law : Law S) (s : S) (passed : Option FtpEvent) (own : Option FtpReply)
     (before after : CallState) where
   -- Each of them once, and neither failed.

@@ -126,12 +126,17 @@ abbrev pub limit_calls : {S : Type 0} → Law S → Limited (Gated S) → FtpEve
 limit_calls law s event = gate_calls s.inner event
     ++ makes (last_reply s.left event ((gated_law law).says s.inner event))
 
--- In the runs over both inputs the same is called, event for event.
-abbrev pub CallsAlike : {S : Type 0} → (S → FtpEvent → List Call) → Option ℕ → Law S → S → Bytes
-    → Bytes → Type 0
-CallsAlike calls limit law s input other =
-    at_each calls law s (run_for limit law s input)
-    ≡ at_each calls law s (run_for limit law s other)
+-- what is called in the run over an input, event for event
+abbrev pub calls_for : {S : Type 0} → Option ℕ → (S → FtpEvent → List Call) → Law S → S → Bytes
+    → List (List Call)
+calls_for limit calls law s input = at_each calls law s (run_for limit law s input)
+
+-- Both answer alike to all that these events may ask: whether a password is that of the name that
+-- was given before it.
+abbrev pub AnswerAlike : Accounts → Accounts → List FtpEvent → Type 0
+AnswerAlike accepts other events = (before after : List FtpEvent) (name password : Bytes)
+    → events ≡ before ++ Command (Pass password) ∷ after → GaveName name before
+    → accepts name password ≡ other name password
 
 -- the line is within the limit
 abbrev pub Fits : Option ℕ → Bytes → Type 0

@@ -5,8 +5,8 @@ ghost use Rattle.unftp_control_login.specs.HandlerCalls.{Asks};
 use crate::accounts::Accounts;
 use crate::calls::{Calls, Note};
 
-/// Accounts with a list of what they were asked. They are private, and each question is recorded. The
-/// list takes no byte, and only contracts see it.
+/// Accounts with a list of what they were asked. They are private, and each question is recorded.
+/// The list takes no byte, and only contracts see it.
 #[derive(Drop)]
 pub(crate) struct AskedAccounts<A: Accounts> {
     accounts: A,

@@ -21,8 +21,8 @@ pub(crate) enum Note<'a> {
     Makes { code: ReplyCode, text: &'a str },
 }
 
-/// A list of calls that contracts know and no code can read: it takes no byte. Outside this module it
-/// begins empty, and is only extended.
+/// A list of calls that contracts know and no code can read: it takes no byte. Outside this module
+/// it begins empty, and is only extended.
 #[derive(Drop)]
 pub(crate) struct Calls {
     seal: (),

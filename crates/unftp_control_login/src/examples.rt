@@ -15,7 +15,7 @@ ghost use Rattle.unftp_control_login.specs.declared.stage.Stage.TheVariants.{Log
 ghost use Rattle.unftp_control_login.specs.HandlerCalls.{AllCalled, Asks, HandlerFailed, Makes, Passes, ReplyRefused};
 ghost use Rattle.unftp_control_login.specs.Gate.{closed, gated_law, logged_in, login_needed, name_needed, not_accepted, password_needed, questions};
 ghost use Rattle.unftp_control_login.specs.LoginLimit.{EndsWith, failed_in_run, limited_law, limited_to, too_many};
-ghost use Rattle.unftp_control_login.specs.Promises.{AllLookAlike, CallsAlike, DifferInPasswords, PasswordFits, FailsAlike, IsRefusedLogin, IsSentPlain, IsTurnedAway, LearnsName, LooksAlike, MembersAlone, NoFailure, ReachesHandler, SendsPlainReplies, ServesMembersAlone, at_each, gate_calls, limit_calls, login_lines};
+ghost use Rattle.unftp_control_login.specs.Promises.{AllLookAlike, AnswerAlike, DifferInPasswords, PasswordFits, FailsAlike, IsRefusedLogin, IsSentPlain, IsTurnedAway, LearnsName, LooksAlike, MembersAlone, NoFailure, ReachesHandler, SendsPlainReplies, ServesMembersAlone, at_each, calls_for, gate_calls, limit_calls, login_lines};
 ghost use Rattle.unftp_control_login.specs.Examples.{anna, anna_and_ben, ben, counting, here, login, only_anna, pass, secret, silent, so_far, user, wrong};
 
 /// Which events need a login, and which undo one.
@@ -75,7 +75,8 @@ pub fn accounts_are_asked()
     ensures another_user { questions (Named anna) (pass secret) ≡ Asks ben secret ∷ [] → ⊥ }
     ensures twice { questions (Named anna) (pass wrong)
         ≡ Asks anna wrong ∷ Asks anna (wrong ++ codes "!") ∷ [] → ⊥ }
-    ensures no_name { (questions NoName (pass secret) ≡ []) × (questions LoggedIn (pass secret) ≡ []) }
+    ensures no_name { (questions NoName (pass secret) ≡ [])
+        × (questions LoggedIn (pass secret) ≡ []) }
     ensures other_events { (questions (Named anna) (user ben) ≡ [])
         × (questions (Named anna) (Command Noop) ≡ []) }
 {}
@@ -87,14 +88,26 @@ pub fn calls_are_made()
         (user anna ∷ [])) (pass wrong) ≡ Makes not_accepted ∷ [] }
     ensures login { gate_calls (last_state (gated_law counting) (closed only_anna 0)
         (user anna ∷ [])) (pass secret) ≡ Passes (user anna) ∷ Makes logged_in ∷ [] }
-    ensures stranger { gate_calls {S = ℕ} (closed only_anna 0) (Command Pwd) ≡ Makes login_needed ∷ [] }
-    ensures anyone { gate_calls {S = ℕ} (closed only_anna 0) (Command Noop) ≡ Passes (Command Noop) ∷ [] }
+    ensures stranger { gate_calls {S = ℕ} (closed only_anna 0) (Command Pwd)
+        ≡ Makes login_needed ∷ [] }
+    ensures anyone { gate_calls {S = ℕ} (closed only_anna 0) (Command Noop)
+        ≡ Passes (Command Noop) ∷ [] }
     ensures last { limit_calls counting (limited_to 1 (closed only_anna 0)) (pass wrong)
         ≡ Makes name_needed ∷ Makes too_many ∷ [] }
     ensures not_last { limit_calls counting (limited_to 2 (closed only_anna 0)) (pass wrong)
         ≡ Makes name_needed ∷ [] }
-    ensures run { at_each gate_calls (gated_law counting) (closed only_anna 0) (user anna ∷ pass wrong ∷ [])
+    ensures run { at_each gate_calls (gated_law counting) (closed only_anna 0)
+        (user anna ∷ pass wrong ∷ [])
         ≡ (Makes password_needed ∷ []) ∷ (Makes not_accepted ∷ []) ∷ [] }
+    ensures input { calls_for None gate_calls (gated_law counting) (closed only_anna 0)
+        (codes "NOOP\r\n") ≡ (Passes (Command Noop) ∷ []) ∷ [] }
+{}
+
+/// Which accounts a session can't tell apart: those that differ only in another user's password.
+pub fn accounts_answer_alike()
+    ensures alike { AnswerAlike only_anna anna_and_ben (user anna ∷ pass wrong ∷ []) }
+    ensures asked { AnswerAlike only_anna anna_and_ben (user ben ∷ pass wrong ∷ []) → ⊥ }
+    ensures nothing_asked { AnswerAlike only_anna anna_and_ben (pass wrong ∷ user ben ∷ []) }
 {}
 
 /// Why an event fails: the handler failed, and nothing was called after it; or memory was refused.
@@ -172,10 +185,6 @@ pub fn passwords_look_alike()
     ensures other_lines { DifferInPasswords None (codes "TYPE a\r\n") (codes "TYPE i\r\n") → ⊥ }
     ensures fails { FailsAlike None counting 0 (codes "NOOP\r\n") (codes "NOOP\r\n") }
     ensures never_fails { FailsAlike None counting 0 (codes "NOOP\r\n") [] → ⊥ }
-    ensures calls { CallsAlike gate_calls None (gated_law counting) (closed only_anna 0)
-        (codes "NOOP\r\n") (codes "NOOP\r\n") }
-    ensures other_calls { CallsAlike gate_calls None (gated_law counting) (closed only_anna 0)
-        (codes "NOOP\r\n") [] → ⊥ }
 {}
 
 /// What a limit of two failed logins answers: the second is the last.

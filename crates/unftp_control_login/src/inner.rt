@@ -1,5 +1,5 @@
-//! The one way by which the handler after another one receives an event, and by which that other one
-//! asks memory for a reply.
+//! The one way by which the handler after another one receives an event, and by which that other
+//! one asks memory for a reply.
 ghost use Rattle.std.specs.Prelude.{◌≡◌, [], ◌∷◌, IfOk, IfErr, OnOk, OnErr};
 ghost use Rattle.unftp_control_defs.specs.Events.{out_of_memory};
 ghost use Rattle.unftp_control_defs.specs.FtpReply.{CodeAndMsg};
@@ -69,9 +69,11 @@ impl<H: Handler> Inner<H> {
         ensures may_fail { IfErr result (λ error. fault_of error ≡ out_of_memory) }
         ensures handler { self.new.handler ≡ self.old.handler }
         ensures ok { OnOk result (Called (calls_of H.failures self.old)
-            (calls_of H.failures self.new) (Makes (CodeAndMsg (number_of code) text.now) ∷ []) 0 0) }
+            (calls_of H.failures self.new)
+            (Makes (CodeAndMsg (number_of code) text.now) ∷ []) 0 0) }
         ensures err { OnErr result (Called (calls_of H.failures self.old)
-            (calls_of H.failures self.new) (Makes (CodeAndMsg (number_of code) text.now) ∷ []) 1 0) }
+            (calls_of H.failures self.new)
+            (Makes (CodeAndMsg (number_of code) text.now) ∷ []) 1 0) }
     {
         self.calls.push(&Note::Makes { code, text });
         let reply = Reply::new(alloc, code, text);

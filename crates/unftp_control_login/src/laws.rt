@@ -9,7 +9,7 @@ ghost use Rattle.unftp_control_defs.specs.Lines.{incomplete_line};
 ghost use Rattle.unftp_control_login.specs.Login.{Accounts, GaveName, IsLoggedIn, is_login, needs_login};
 ghost use Rattle.unftp_control_login.specs.Gate.{Gated, closed, gated_law};
 ghost use Rattle.unftp_control_login.specs.LoginLimit.{EndsWith, Limited, failed_in_run, is_failed_login, limited_law, limited_to, too_many};
-ghost use Rattle.unftp_control_login.specs.Promises.{AllLookAlike, AnsweredAlike, CallsAlike, DifferInPasswords, PasswordFits, FailsAlike, IsRefusedLogin, IsTurnedAway, LearnsName, MembersAlone, ReachesHandler, SendsPlainReplies, ServesMembersAlone, gate_calls, limit_calls, login_lines, pass_line};
+ghost use Rattle.unftp_control_login.specs.Promises.{AllLookAlike, AnswerAlike, AnsweredAlike, DifferInPasswords, PasswordFits, FailsAlike, IsRefusedLogin, IsTurnedAway, LearnsName, MembersAlone, ReachesHandler, SendsPlainReplies, ServesMembersAlone, calls_for, gate_calls, limit_calls, login_lines, pass_line};
 
 use unftp_control_serve::Handler;
 
@@ -78,7 +78,7 @@ pub fn passwords_stay_hidden<H: Handler>()
 
 /// Nor does an error reveal more, where the inputs differ only in lines that give passwords: however
 /// a session over one of them fails, one over the other may fail with the same error, and with the
-/// same bytes written. And in both the gate and the limit call the same at each event: the handler
+/// same bytes written. And at each event the gate and the limit make the same calls: the handler
 /// receives the same, and memory is asked for the same replies. They fail where one of these calls
 /// fails, and only there (`calls` of their `handle`).
 pub fn errors_hide_passwords<H: Handler>()
@@ -94,12 +94,38 @@ pub fn errors_hide_passwords<H: Handler>()
         (limited_to left (closed accepts inner)) input other }
     ensures calls { (limit : Option ℕ) (accepts : Accounts) (inner : H.State) (input other : Bytes)
         → AllLookAlike accepts (events limit input) (events limit other)
-        → CallsAlike gate_calls limit (gated_law H.law) (closed accepts inner) input other }
+        → calls_for limit gate_calls (gated_law H.law) (closed accepts inner) input
+        ≡ calls_for limit gate_calls (gated_law H.law) (closed accepts inner) other }
     ensures calls_in_limit { (limit : Option ℕ) (accepts : Accounts) (left : ℕ) (inner : H.State)
         (input other : Bytes)
         → AllLookAlike accepts (events limit input) (events limit other)
-        → CallsAlike (limit_calls H.law) limit (limited_law (gated_law H.law))
-        (limited_to left (closed accepts inner)) input other }
+        → calls_for limit (limit_calls H.law) (limited_law (gated_law H.law))
+        (limited_to left (closed accepts inner)) input
+        ≡ calls_for limit (limit_calls H.law) (limited_law (gated_law H.law))
+        (limited_to left (closed accepts inner)) other }
+{}
+
+/// What is written and called depends on the accounts only by their answers to what the session may
+/// ask, whether a password is that of the name that was given before it: two accounts that answer
+/// these alike give one output. So no output reveals what they would answer of another name or of
+/// another password.
+pub fn accounts_stay_hidden<H: Handler>()
+    ensures gate { (limit : Option ℕ) (accepts other : Accounts) (inner : H.State) (input : Bytes)
+        → AnswerAlike accepts other (events limit input)
+        → (text_for limit (gated_law H.law) (closed accepts inner) input
+        ≡ text_for limit (gated_law H.law) (closed other inner) input)
+        × (calls_for limit gate_calls (gated_law H.law) (closed accepts inner) input
+        ≡ calls_for limit gate_calls (gated_law H.law) (closed other inner) input) }
+    ensures limit { (limit : Option ℕ) (accepts other : Accounts) (left : ℕ) (inner : H.State)
+        (input : Bytes) → AnswerAlike accepts other (events limit input)
+        → (text_for limit (limited_law (gated_law H.law))
+        (limited_to left (closed accepts inner)) input
+        ≡ text_for limit (limited_law (gated_law H.law))
+        (limited_to left (closed other inner)) input)
+        × (calls_for limit (limit_calls H.law) (limited_law (gated_law H.law))
+        (limited_to left (closed accepts inner)) input
+        ≡ calls_for limit (limit_calls H.law) (limited_law (gated_law H.law))
+        (limited_to left (closed other inner)) input) }
 {}
 
 /// In bytes: two passwords that the accounts answer alike for the name that was given, in lines of

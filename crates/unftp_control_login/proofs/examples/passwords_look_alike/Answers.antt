@@ -1,5 +1,4 @@
 use Rattle.unftp_control_login.proofs.ExampleLemmas.{alike, another_user, his_own, apart, no_name, each, same_lines, fails, never_fails}
-use Rattle.unftp_control_login.proofs.CallExampleLemmas.{other-calls}
 use Rattle.unftp_control_login.proofs.examples.passwords_look_alike.Goals as goal
 
 pub returns-clause-alike : goal.returns-clause-alike
@@ -28,6 +27,3 @@ returns-clause-fails c = fails
 
 pub returns-clause-never_fails : goal.returns-clause-never_fails
 returns-clause-never_fails c = never_fails
-
-pub returns-clause-other_calls : goal.returns-clause-other_calls
-returns-clause-other_calls c = other-calls
