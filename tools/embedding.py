@@ -342,6 +342,10 @@ def check_forward(*program):
 INPUT_FILES = [*LINE_FILES, "decode.tsv", "client_streams.tsv", "encode.tsv"]
 
 
+# the lengths of long texts; under valgrind, of which only the first
+LONG_TEXTS = [100_000, 1_000_000, 10_000_000]
+
+
 def said_of(program, inputs):
     """What the program prints, to these inputs."""
     given = b"".join(struct.pack("<I", len(each)) + each for each in inputs)
@@ -353,9 +357,11 @@ def said_of(program, inputs):
 
 
 def said_of_inputs(*program):
-    """What the program prints, to all that the vector files have between quotes."""
+    """What the program prints, to all that the vector files have between quotes, and to long lines."""
     words = [word for name in INPUT_FILES for case, _ in rows(name) for word in re.findall(r'"(?:[^"\\]|\\.)*"', case)]
-    inputs = sorted({unquoted(word) for word in words} | {line for line, _ in long_lines()})
+    lengths = LONG_TEXTS[:1] if len(program) > 1 else LONG_TEXTS
+    long = {b"RETR " + b"a" * length + b"\r\n" for length in lengths} | {line for line, _ in long_lines()}
+    inputs = sorted({unquoted(word) for word in words} | long)
     said = said_of(program, inputs)
     wants("the number of inputs", said.split(" ")[0], str(len(inputs)))
     return said
@@ -371,7 +377,7 @@ def check_stack(program):
     inputs, *lines = said_of_inputs(program).splitlines()
     took = {name: int(size) for name, size in (line.split("\t") for line in lines)}
     wants("the calls", sorted(took), sorted(calls()))
-    for name in ["include/unftp_control.h", "packaging/unftp_control.3", "docs/EMBEDDING.md"]:
+    for name in ["include/unftp_control.h", "packaging/unftp_control.3", "docs/GUIDE.md"]:
         [most] = re.findall(r"at most ([\d,]+) bytes of stack", (TOP / name).read_text(encoding="utf-8"))
         if max(took.values()) > int(most.replace(",", "")):
             raise Wrong(f"{name} has {most} bytes of stack: {took}")

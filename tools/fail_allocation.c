@@ -6,9 +6,9 @@
  *   FAIL_MARKED=N  fails the Nth after each mark
  *
  * A mark is where the program writes the line "begin" to standard error, in one write; it ends where the program writes "end". What is
- * allocated between the two is counted from 1 again, and where ALLOCATIONS_FD names a file descriptor, the lines "marked=N" and "most=N",
- * the most bytes that one of these allocations asked for, are written to it at the end of each mark. When the program ends by itself, it
- * writes the line "allocations=N" there.
+ * allocated between the two is counted from 1 again, and where ALLOCATIONS_FD names a file descriptor, the lines "marked=N", "most=N",
+ * the most bytes that one of these allocations asked for, and "all=N", the bytes that they asked for together, are written to it at the
+ * end of each mark. When the program ends by itself, it writes the line "allocations=N" there.
  */
 #include <stddef.h>
 #include <stdio.h>
@@ -20,7 +20,7 @@
 extern void *__libc_malloc(size_t size);
 extern void *__libc_realloc(void *memory, size_t size);
 
-static long allocations, marked, most;
+static long allocations, marked, most, all;
 static int is_marked;
 
 static long number_in(const char *name)
@@ -33,8 +33,11 @@ static int has_to_fail(size_t size)
 {
     long from = number_in("FAIL_FROM");
     allocations++;
-    if (is_marked && (long)size > most)
-        most = (long)size;
+    if (is_marked) {
+        all += (long)size;
+        if ((long)size > most)
+            most = (long)size;
+    }
     if (is_marked && ++marked == number_in("FAIL_MARKED"))
         return 1;
     return allocations == number_in("FAIL_AT") || (from > 0 && allocations >= from);
@@ -69,11 +72,12 @@ ssize_t write(int descriptor, const void *bytes, size_t size)
 {
     if (descriptor == STDERR_FILENO && is_line(bytes, size, "begin\n")) {
         is_marked = 1;
-        marked = most = 0;
+        marked = most = all = 0;
     } else if (descriptor == STDERR_FILENO && is_line(bytes, size, "end\n")) {
         is_marked = 0;
         report("marked", marked);
         report("most", most);
+        report("all", all);
     }
     return syscall(SYS_write, descriptor, bytes, size);
 }

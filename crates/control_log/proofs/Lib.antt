@@ -1,1 +1,2 @@
 mod LogLemmas
+mod ExampleLemmas

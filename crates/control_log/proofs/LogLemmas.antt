@@ -1,22 +1,25 @@
 -- Logs that are put together: line by line, and piece by piece.
-use Rattle.std.proofs.Common.{◌≡◌, ℕ, ◌≤◌, ◌+◌, ◌<◌, List, [], ◌∷◌, ◌++◌, length, Option, Some, None, Ok, refl, sym, ap, subst, ◌∙◌, arith, append_assoc, append-nil, length-append}
+use Rattle.std.proofs.Common.{◌≡◌, ℕ, ◌≤◌, ◌+◌, ◌-◌, ◌^◌, List, [], ◌∷◌, ◌++◌, length, map, take, Option, Some, None, Ok, inr, refl, sym, ap, subst, ◌∙◌, arith, append_assoc, append-nil, length-append}
 use Rattle.std.specs.Prelude.{if◌then◌else◌}
-use Rattle.std.specs.Io.KnownBytes.{Consumes}
-use Rattle.std.specs.declared.io.Error.{Error}
+use Rattle.std.specs.Io.KnownBytes.{Appends, Consumes, IsAtEnd, Keeps}
+use Rattle.std.specs.List.{concat}
+use Rattle.std.specs.Option.{IfSome}
 use Rattle.unftp_control_defs.specs.Bytes.{Bytes, LF}
 use Rattle.unftp_control_defs.specs.Events.{event_for}
 use Rattle.unftp_control_defs.specs.Lines.{lines_of, incomplete_line}
 use Rattle.unftp_control_defs.proofs.LineLemmas.{incomplete_line-append, incomplete_line-incomplete, line_first, lines_of-append, lines_of-incomplete}
-use Rattle.unftp_control_log.specs.LogLine.{log_line}
-use Rattle.unftp_control_serve.specs.Decoder.{HasNoLine, Pending, TakesLine, line_after, pushed}
+use Rattle.unftp_control_log.specs.LogLine.{log_line, unless_too_long}
+use Rattle.unftp_control_serve.specs.Decoder.{HasNoLine, MayRunOut, Pending, TakesLine, line_after, pushed}
 use Rattle.unftp_control_serve.specs.EventMeaning.{event_meant, refuses_length}
+use Rattle.unftp_control_serve.specs.Service.{InputState, WereRead}
 use Rattle.unftp_control_serve.specs.Writing.{OutputState, SendFailed, Sent}
 use Rattle.unftp_control_serve.specs.declared.error.ServeError.{ServeError}
 use Rattle.unftp_control_serve.specs.declared.error.ServeError.TheVariants as error
 use Rattle.unftp_control_serve.specs.declared.event.Event.{Event}
 use Rattle.unftp_control_serve.proofs.EventLineLemmas.{line_after-taken, refuses_length-exceeds}
 use Rattle.unftp_control_serve.proofs.SendLemmas.{Appends-nothing, Appends-then, Flushed-then}
-use Rattle.control_log.specs.Log.{EndsBy, FailsAt, LogEnded, StopsAt, unless_too_long, log_entries, log_entry, log_of}
+use Rattle.unftp_control_serve.proofs.ServiceLemmas.{Consumes-kept, Consumes-nothing, Consumes-then, HasSize, WereRead-more, concat-more}
+use Rattle.control_log.specs.Log.{EndedLate, LogEnded, LogsAll, NoRoomForPiece, ReadFailed, ReadTooOften, StopsAt, log_entries, log_entry, log_of}
 
 log_entries-append : (limit : Option ℕ) (lines more : List Bytes)
     → log_entries limit (lines ++ more) ≡ log_entries limit lines ++ log_entries limit more
@@ -31,7 +34,7 @@ log_of-append : (limit : Option ℕ) (bytes more : Bytes)
 log_of-append limit bytes more = ap (log_entries limit) (lines_of-append bytes more)
     ∙ log_entries-append limit (lines_of bytes) (lines_of (incomplete_line bytes ++ more))
 
-Sent-nothing : (output : OutputState) → Sent [] output output
+pub Sent-nothing : (output : OutputState) → Sent [] output output
 Sent-nothing output =
     record { written = Appends-nothing output.written; no_failure = refl; flushed = omega arith }
 
@@ -44,12 +47,6 @@ Sent-then {text} {more} {before} {between} {after} first second = record {
   flushed = Flushed-then text more [] before.unflushed between.unflushed after.unflushed
       first.flushed second.flushed;
 }
-
--- without memory nothing is written
-pub FailsAt-memory : (limit : Option ℕ) (lines : List Bytes) (output : OutputState)
-    → FailsAt limit lines output output error.OutOfMemory
-FailsAt-memory limit [] output = (refl, refl)
-FailsAt-memory limit (line ∷ lines) output = refl
 
 -- the entry of an event that was taken is that of its line
 module _ {limit : Option ℕ} {p q : Pending} (same : p.limit ≡ limit) (event : Event)
@@ -85,14 +82,16 @@ Halfway-start limit bytes output =
 module _ {limit : Option ℕ} {bytes : Bytes} {before now : OutputState} where
   -- memory runs out for the next line
   pub Halfway-memory : {pending : Bytes} → Halfway limit bytes pending before now
-      → StopsAt limit (lines_of bytes) before now error.OutOfMemory
-  Halfway-memory {pending} so_far = record {
+      → MayRunOut limit pending → StopsAt limit (lines_of bytes) before now error.OutOfMemory
+  Halfway-memory {pending} so_far next = record {
     logged = so_far.logged;
-    later = lines_of pending;
-    split = so_far.split;
+    line = next.line;
+    later = lines_of next.after;
+    split = so_far.split ∙ ap (λ lines. so_far.logged ++ lines)
+        (ap lines_of next.whole ∙ (line_first next.line next.after next.is_line).0);
     between = now;
     sent = so_far.sent;
-    fails = FailsAt-memory limit (lines_of pending) now;
+    fails = refl;
   }
 
   module _ {p q : Pending} (so_far : Halfway limit bytes p.bytes before now) where
@@ -138,7 +137,8 @@ module _ {limit : Option ℕ} {bytes : Bytes} {before now : OutputState} where
           → StopsAt limit (lines_of bytes) before after error
       Halfway-failed {error} {after} failed = record {
         logged = so_far.logged;
-        later = first.takes.line ∷ lines_of q.bytes;
+        line = first.takes.line;
+        later = lines_of q.bytes;
         split = so_far.split ∙ ap (λ lines. so_far.logged ++ lines) next_lines;
         between = now;
         sent = so_far.sent;
@@ -146,125 +146,196 @@ module _ {limit : Option ℕ} {bytes : Bytes} {before now : OutputState} where
             (entry_is same event first is) failed;
       }
 
--- Reads that are put together.
-Consumes-then : (a b c : Option Bytes) (first second : Bytes) → Consumes a b first
-    → Consumes b c second → Consumes a c (first ++ second)
-Consumes-then None b c first second p q = tt
-Consumes-then (Some a) None c first second p q = absurd p
-Consumes-then (Some a) (Some b) None first second p q = absurd q
-Consumes-then (Some a) (Some b) (Some c) first second p q = p ∙ ap (λ bytes. first ++ bytes) q
-    ∙ sym (append_assoc first second c)
-
--- an error of the log is none of a read
-no_read : (limit : Option ℕ) (lines : List Bytes) (between after : OutputState) (failed : Error)
-    → FailsAt limit lines between after (error.Read failed) → ⊥
-no_read limit [] between after failed fails = cc
-no_read limit (line ∷ lines) between after failed fails = fails
-
-not_too_many : (limit : Option ℕ) (lines : List Bytes) (between after : OutputState)
-    → FailsAt limit lines between after error.TooManyReads → ⊥
-not_too_many limit [] between after fails = cc
-not_too_many limit (line ∷ lines) between after fails = fails
-
-ends_by : {limit : Option ℕ} {before after : OutputState} (read : Bytes) (error : ServeError)
-    → StopsAt limit (lines_of read) before after error → EndsBy limit read before after error
-ends_by {limit} {after = after} read (error.Read failed) stops =
-    absurd (no_read limit stops.later stops.between after failed stops.fails)
-ends_by {limit} {after = after} read error.TooManyReads stops =
-    absurd (not_too_many limit stops.later stops.between after stops.fails)
-ends_by read error stops = stops
-
 -- in the loop over the pieces: all lines that were read are logged
-pub record Logging (limit : Option ℕ) (remaining remaining' : Option Bytes)
-    (before now : OutputState) (decoder : Pending) (turn : ℕ) : Type 0 where
-  pub read : Bytes
-  pub consumed : Consumes remaining remaining' read
-  pub pending : decoder.bytes ≡ incomplete_line read
+pub record Logging (limit : Option ℕ) (before now : OutputState) (i j : InputState)
+    (decoder : Pending) (turn : ℕ) : Type 0 where
+  pub pieces : List Bytes
+  pub were_read : WereRead i j pieces []
+  pub pending : decoder.bytes ≡ incomplete_line (concat pieces)
   pub limited : decoder.limit ≡ limit
-  pub sent : Sent (log_of limit read) before now
-  pub turns : turn ≤ length read
+  pub sent : Sent (log_of limit (concat pieces)) before now
+  pub turns : turn ≤ length (concat pieces)
+  pub no_read_failed : j.failures ≡ i.failures
 
-module _ {limit : Option ℕ} {remaining between : Option Bytes} {before now : OutputState}
-    {decoder : Pending} {turn : ℕ}
-    (so_far : Logging limit remaining between before now decoder turn) where
-  -- a piece was read
-  module _ (remaining' : Option Bytes) (piece : Bytes)
-      (given : Consumes between remaining' piece) where
-    both : Consumes remaining remaining' (so_far.read ++ piece)
-    both = Consumes-then remaining between remaining' so_far.read piece so_far.consumed given
+pub Logging-start : {limit : Option ℕ} {before : OutputState} {i : InputState} {decoder : Pending}
+    → decoder.bytes ≡ [] → decoder.limit ≡ limit → Logging limit before before i i decoder 0
+Logging-start {before = before} {i} none limited = record {
+  pieces = [];
+  were_read = record {
+    consumed = Consumes-nothing i.remaining;
+    reads = sym (append-nil i.reads);
+    sizes = tt;
+  };
+  pending = none;
+  limited = limited;
+  sent = Sent-nothing before;
+  turns = omega arith;
+  no_read_failed = refl;
+}
 
-    -- there is no memory for it
-    pub Logging-no_room : LogEnded limit remaining remaining' before now error.OutOfMemory
-    Logging-no_room = record {
-      read = so_far.read ++ piece;
-      consumed = both;
-      ends = record {
-        logged = lines_of so_far.read;
-        later = lines_of (incomplete_line so_far.read ++ piece);
-        split = lines_of-append so_far.read piece;
-        between = now;
-        sent = so_far.sent;
-        fails = FailsAt-memory limit (lines_of (incomplete_line so_far.read ++ piece)) now;
+-- a line at which it failed is no error of a read
+ends_by : {limit : Option ℕ} {before after : OutputState} {i k : InputState} (error : ServeError)
+    → EndedLate limit before after i k error → LogEnded limit before after i k error
+ends_by (error.Read failed) late = absurd late.stops.fails
+ends_by (error.Write failed) late = late
+ends_by error.WriteZero late = late
+ends_by (error.Handler failed) late = late.stops.fails
+ends_by error.OutOfMemory late = inr late
+ends_by error.TooManyReads late = absurd late.stops.fails
+ends_by error.Stopped late = late.stops.fails
+
+module _ {limit : Option ℕ} {before now : OutputState} {i j : InputState}
+    {decoder : Pending} {turn : ℕ} (so_far : Logging limit before now i j decoder turn) where
+  abbrev read_so_far : Bytes
+  read_so_far = concat so_far.pieces
+
+  module _ (k : InputState) where
+    -- a read failed
+    pub Logging-read_failed : Keeps j.remaining k.remaining → k.reads ≡ j.reads
+        → k.failures ≡ j.failures + 1 → ReadFailed limit before now i k
+    Logging-read_failed kept reads counted = record {
+      pieces = so_far.pieces;
+      were_read = record {
+        consumed = Consumes-kept i.remaining j.remaining k.remaining read_so_far
+            so_far.were_read.consumed kept;
+        reads = reads ∙ so_far.were_read.reads;
+        sizes = so_far.were_read.sizes;
       };
+      sent = so_far.sent;
+      read_failed = counted ∙ ap (λ n. n + 1) so_far.no_read_failed;
     }
 
-    module _ {full : Pending} (is : full ≡ pushed decoder piece) where
-      bytes_are : full.bytes ≡ incomplete_line so_far.read ++ piece
-      bytes_are = ap (λ pending. pending.bytes) is ∙ ap (λ bytes. bytes ++ piece) so_far.pending
+    -- a read gave nothing
+    pub Logging-all : {count : ℕ} (piece : Bytes) → count ≡ 0 → k.reads ≡ j.reads ++ count ∷ []
+        → Consumes j.remaining k.remaining (take count piece) → IsAtEnd k.remaining
+        → k.failures ≡ j.failures → LogsAll limit before now i k
+    Logging-all piece zero reads given at_end quiet =
+        let nothing : Consumes j.remaining k.remaining [] = rw zero at given in
+        record {
+          pieces = so_far.pieces;
+          were_read = record {
+            consumed = rw (sym (append-nil read_so_far))
+                (Consumes-then i.remaining j.remaining k.remaining read_so_far []
+                so_far.were_read.consumed nothing);
+            reads = (rw zero at reads)
+                ∙ ap (λ reads. reads ++ 0 ∷ [])
+                (so_far.were_read.reads
+                ∙ ap (λ reads. i.reads ++ reads) (append-nil (map length so_far.pieces)))
+                ∙ append_assoc i.reads (map length so_far.pieces) (0 ∷ []);
+            sizes = so_far.were_read.sizes;
+          };
+          at_end = at_end;
+          sent = so_far.sent;
+          no_read_failed = quiet ∙ so_far.no_read_failed;
+        }
 
-      limit_is : full.limit ≡ limit
-      limit_is = ap (λ pending. pending.limit) is ∙ so_far.limited
+    -- a piece was read
+    module _ (piece : Bytes) (given : Consumes j.remaining k.remaining piece)
+        (reads : k.reads ≡ j.reads ++ length piece ∷ []) (size : HasSize piece)
+        (quiet : k.failures ≡ j.failures) where
+      were_read_so : WereRead i k (so_far.pieces ++ piece ∷ []) []
+      were_read_so = WereRead-more piece so_far.were_read given reads size
 
-      -- its lines are logged
-      pub Logging-next : {emptied : Pending} {after : OutputState} → 0 < length piece
-          → Sent (log_of full.limit full.bytes) now after
-          → emptied.bytes ≡ incomplete_line full.bytes → emptied.limit ≡ full.limit →
-          Logging limit remaining remaining' before after emptied (turn + 1)
-      Logging-next {after = after} some sent left kept_limit = record {
-        read = so_far.read ++ piece;
-        consumed = both;
-        pending = left ∙ ap incomplete_line bytes_are
-            ∙ sym (incomplete_line-append so_far.read piece);
-        limited = kept_limit ∙ limit_is;
-        sent =
+      -- there is no memory for it
+      pub Logging-no_room : NoRoomForPiece limit before now i k
+      Logging-no_room = record {
+        pieces = so_far.pieces;
+        last = piece;
+        were_read = were_read_so;
+        sent = so_far.sent;
+        no_read_failed = quiet ∙ so_far.no_read_failed;
+      }
+
+      module _ {full : Pending} (is : full ≡ pushed decoder piece) where
+        bytes_are : full.bytes ≡ incomplete_line read_so_far ++ piece
+        bytes_are = ap (λ pending. pending.bytes) is ∙ ap (λ bytes. bytes ++ piece) so_far.pending
+
+        limit_is : full.limit ≡ limit
+        limit_is = ap (λ pending. pending.limit) is ∙ so_far.limited
+
+        sent_so : {after : OutputState} → Sent (log_of full.limit full.bytes) now after
+            → Sent (log_of limit (read_so_far ++ piece)) before after
+        sent_so {after} sent =
             let text : log_of full.limit full.bytes
-            ≡ log_of limit (incomplete_line so_far.read ++ piece) =
+            ≡ log_of limit (incomplete_line read_so_far ++ piece) =
             ap (λ limit. log_of limit full.bytes) limit_is ∙ ap (log_of limit) bytes_are in
-            subst (λ text. Sent text before after) (sym (log_of-append limit so_far.read piece))
-            (Sent-then so_far.sent
-            (subst (λ text. Sent text now after) text sent));
-        turns = omega (arith, so_far.turns, length-append so_far.read piece, some);
-      }
+            subst (λ text. Sent text before after) (sym (log_of-append limit read_so_far piece))
+            (Sent-then so_far.sent (subst (λ text. Sent text now after) text sent))
 
-      -- it fails at one of them
-      stopped : {error : ServeError} {after : OutputState}
-          → StopsAt full.limit (lines_of full.bytes) now after error
-          → StopsAt limit (lines_of (so_far.read ++ piece)) before after error
-      stopped {error} {after} failed = record {
-        logged = lines_of so_far.read ++ failed.logged;
-        later = failed.later;
-        split =
-            lines_of-append so_far.read piece ∙ ap (λ bytes. lines_of so_far.read ++ lines_of bytes)
-            (sym bytes_are)
-            ∙ ap (λ lines. lines_of so_far.read ++ lines) failed.split
-            ∙ sym (append_assoc (lines_of so_far.read) failed.logged failed.later);
-        between = failed.between;
-        sent =
-            let text = ap (λ limit. log_entries limit failed.logged) limit_is in
-            subst (λ text. Sent text before failed.between)
-            (sym (log_entries-append limit (lines_of so_far.read) failed.logged))
-            (Sent-then so_far.sent
-            (subst (λ text. Sent text now failed.between) text failed.sent));
-        fails = subst (λ limit. FailsAt limit failed.later failed.between after error) limit_is
-            failed.fails;
-      }
+        -- its lines are logged
+        pub Logging-next : {emptied : Pending} {after : OutputState}
+            → Sent (log_of full.limit full.bytes) now after
+            → emptied.bytes ≡ incomplete_line full.bytes → emptied.limit ≡ full.limit
+            → Logging limit before after i k emptied (turn + 1)
+        Logging-next sent left kept_limit =
+            let whole = concat-more so_far.pieces piece in
+            record {
+              pieces = so_far.pieces ++ piece ∷ [];
+              were_read = were_read_so;
+              pending = left ∙ ap incomplete_line bytes_are
+                  ∙ sym (incomplete_line-append read_so_far piece)
+                  ∙ sym (ap incomplete_line whole);
+              limited = kept_limit ∙ limit_is;
+              sent = rw whole (sent_so sent);
+              turns = rw whole
+                  (omega (arith, so_far.turns, length-append read_so_far piece, size.0));
+              no_read_failed = quiet ∙ so_far.no_read_failed;
+            }
 
-      pub Logging-failed : {error : ServeError} {after : OutputState}
-          → StopsAt full.limit (lines_of full.bytes) now after error
-          → LogEnded limit remaining remaining' before after error
-      Logging-failed {error} failed =
-          record {
-            read = so_far.read ++ piece;
-            consumed = both;
-            ends = ends_by (so_far.read ++ piece) error (stopped failed);
-          }
+        -- it fails at one of them
+        pub Logging-failed : {error : ServeError} {after : OutputState}
+            → StopsAt full.limit (lines_of full.bytes) now after error
+            → LogEnded limit before after i k error
+        Logging-failed {error} {after} failed = ends_by error record {
+          pieces = so_far.pieces;
+          last = piece;
+          were_read = were_read_so;
+          stops = record {
+            logged = lines_of read_so_far ++ failed.logged;
+            line = failed.line;
+            later = failed.later;
+            split =
+                lines_of-append read_so_far piece
+                ∙ ap (λ bytes. lines_of read_so_far ++ lines_of bytes) (sym bytes_are)
+                ∙ ap (λ lines. lines_of read_so_far ++ lines) failed.split
+                ∙ sym (append_assoc (lines_of read_so_far) failed.logged
+                (failed.line ∷ failed.later));
+            between = failed.between;
+            sent =
+                let text = ap (λ limit. log_entries limit failed.logged) limit_is in
+                subst (λ text. Sent text before failed.between)
+                (sym (log_entries-append limit (lines_of read_so_far) failed.logged))
+                (Sent-then so_far.sent
+                (subst (λ text. Sent text now failed.between) text failed.sent));
+            fails = subst (λ limit. SendFailed error (log_entry limit failed.line)
+                failed.between after) limit_is failed.fails;
+          };
+          late = (failed.logged, refl);
+          no_read_failed = quiet ∙ so_far.no_read_failed;
+        }
+
+  pub Logging-too_often : 2 ^ 64 - 1 ≤ turn → ReadTooOften limit before now i j
+  Logging-too_often many = record {
+    pieces = so_far.pieces;
+    were_read = so_far.were_read;
+    sent = so_far.sent;
+    many = omega (arith, many, so_far.turns);
+    no_read_failed = so_far.no_read_failed;
+  }
+
+-- of an input that is known
+known_input : (a b : Option Bytes) (read : Bytes) (P : Bytes → Type 0) → Consumes a b read
+    → IsAtEnd b → P read → IfSome a P
+known_input None b read P p q h = tt
+known_input (Some a) None read P p q h = absurd p
+known_input (Some a) (Some b) read P p q h =
+    subst P (sym (p ∙ ap (λ b. read ++ b) q ∙ append-nil read)) h
+
+pub LogsAll-written : {limit : Option ℕ} {before after : OutputState} {i k : InputState}
+    → LogsAll limit before after i k →
+    IfSome i.remaining (λ input. Appends before.written after.written (log_of limit input))
+LogsAll-written {limit} {before} {after} {i} {k} all =
+    let read = concat all.pieces in
+    known_input i.remaining k.remaining read
+    (λ input. Appends before.written after.written (log_of limit input))
+    all.were_read.consumed all.at_end all.sent.written

@@ -11,14 +11,17 @@ ghost use Rattle.unftp_control_defs.specs.Bytes.{LF};
 ghost use Rattle.unftp_control_defs.specs.Lines.{incomplete_line};
 ghost use Rattle.unftp_control_log.specs.LogLine.{log_line};
 ghost use Rattle.unftp_control_serve.specs.EventMeaning.{event_meant};
+ghost use Rattle.unftp_control_serve.specs.Service.{input_state_of};
 ghost use Rattle.unftp_control_serve.specs.Writing.{Sends, output_state_of};
 ghost use Rattle.control_log.specs.Log.{LogEnded, Logs, LogsAll, log_of};
+
+mod examples;
 
 use std::alloc::{AllocError, Global};
 use std::io::{Read, Write};
 use std::process::ExitCode;
 use unftp_control_log::write_log_line;
-use unftp_control_serve::{Event, EventDecoder, Output, ServeError, Sink};
+use unftp_control_serve::{Event, EventDecoder, Input, Output, ServeError, Sink};
 
 /// How many bytes a line may have, its line feed counted.
 const LIMIT: usize = 8192;
@@ -81,20 +84,20 @@ fn log_pending<W: Write>(
 /// `TooManyReads` comes after 2^64 - 1 reads. It returns no other error.
 pub fn run<R: Read, W: Write>(
     alloc: Global,
-    reader: &mut R,
+    reader: &mut Input<R>,
     writer: &mut Output<W>,
 ) -> Result<(), ServeError>
     // At Ok exactly the log lines of the input's lines are written, each with a line feed.
-    ensures written { OnOk result (IfSome (R.remaining reader.old) (λ input.
+    ensures written { OnOk result (IfSome (R.remaining reader.old.reader) (λ input.
         Appends (W.contents writer.old.writer) (W.contents writer.new.writer)
         (log_of (Some LIMIT) input))) }
     // At Ok, of any reader, with what was flushed; and what is so at each error.
     ensures ok { OnOk result (LogsAll (Some LIMIT)
-        (R.remaining reader.old) (R.remaining reader.new)
-        (output_state_of W.contents writer.old) (output_state_of W.contents writer.new)) }
+        (output_state_of W.contents writer.old) (output_state_of W.contents writer.new)
+        (input_state_of R.remaining reader.old) (input_state_of R.remaining reader.new)) }
     ensures err { IfErr result (LogEnded (Some LIMIT)
-        (R.remaining reader.old) (R.remaining reader.new)
-        (output_state_of W.contents writer.old) (output_state_of W.contents writer.new)) }
+        (output_state_of W.contents writer.old) (output_state_of W.contents writer.new)
+        (input_state_of R.remaining reader.old) (input_state_of R.remaining reader.new)) }
 {
     let mut decoder = EventDecoder::with_limit(alloc, LIMIT);
     let mut entry = Vec::new(alloc);
@@ -115,7 +118,7 @@ pub fn run<R: Read, W: Write>(
 }
 
 fn main(rt: HostRuntime) -> ExitCode {
-    let mut reader = rt.stdin();
+    let mut reader = Input::new(rt.stdin());
     let mut writer = Output::new(rt.stdout());
     match run(rt.alloc(), &mut reader, &mut writer) {
         Ok(()) => ExitCode::SUCCESS,

@@ -60,3 +60,4 @@ pub use Rattle.unftp_control_client.specs.Dialogue
 pub use Rattle.unftp_control_client.specs.Exchange
 pub use Rattle.unftp_control_client.specs.Steps
 pub use Rattle.unftp_control_log.specs.LogLine
+pub use Rattle.unftp_control_log.specs.Known

@@ -1,19 +1,15 @@
 -- What is reported of a canonical line.
-use Rattle.std.proofs.Common.{◌≡◌, ◌≢◌, Bool, true, false, Result, Ok, Err, refl, sym, ap, subst, ◌∙◌, inl, inr, Vec, ℕ, Global, take, arith}
+use Rattle.std.proofs.Common.{◌≡◌, ◌≢◌, Result, Ok, Err, refl, sym, ap, subst, ◌∙◌, inl, inr, Vec, ℕ, Global, take, arith}
 use Rattle.std.specs.Prelude.{IfOk}
 use Rattle.unftp_control_defs.specs.Bytes.{Bytes}
-use Rattle.unftp_control_defs.specs.FtpCommand.{FtpCommand, Syst, TypeCode, Help, Epsv, Allo, Noop, Pasv, Feat, Pwd, Cdup, Quit, Abor, Stou, Ccc, Refusal, InvalidCommand, InvalidUtf8, InvalidEol}
+use Rattle.unftp_control_defs.specs.FtpCommand.{FtpCommand, Refusal, InvalidCommand, InvalidUtf8, InvalidEol}
 use Rattle.unftp_control_defs.specs.Lines.{IsLine}
-use Rattle.unftp_control_defs.specs.Outcome.{answer_by, outcome}
-use Rattle.unftp_control_defs.specs.Rules.{rule_of}
-use Rattle.unftp_control_defs.specs.Verbs.{parameter_of, upper, verb_of}
-use Rattle.std.specs.Str.{is_utf8}
+use Rattle.unftp_control_defs.specs.Outcome.{outcome}
 use Rattle.unftp_control_defs.specs.Canonical.{HasLine}
-use Rattle.unftp_control_defs.proofs.AnswerLemmas.{passed}
 use Rattle.unftp_control_defs.proofs.CommandLineLemmas.{HasLine-outcome}
 use Rattle.unftp_control_reply.specs.declared.error.parse_error.ParseErrorKind.{ParseErrorKind}
 use Rattle.unftp_control_reply.specs.declared.error.parse_error.ParseErrorKind.TheVariants as kind
-use Rattle.unftp_control_line_parser.specs.Memory.{AnswerMayTakeMemory, IfOutOfMemory, MayTakeMemory, takes_no_memory}
+use Rattle.unftp_control_line_parser.specs.Memory.{IfOutOfMemory, MayTakeMemory}
 use Rattle.unftp_control_line_parser.specs.ParseAnswer.{Refuses}
 use Rattle.unftp_control_write.specs.declared.WriteCommandError.{WriteCommandError}
 use Rattle.unftp_control_write.specs.declared.WriteCommandError.TheVariants as error
@@ -46,35 +42,12 @@ refused_memory line kind.InvalidUtf8 h e = absurd (cc)
 refused_memory line kind.InvalidEol h e = absurd (cc)
 refused_memory line kind.OutOfMemory h e = inl h
 
-no_field_has_line : (command : FtpCommand) → takes_no_memory command ≡ true → HasLine command
-no_field_has_line Syst e = tt
-no_field_has_line TypeCode e = tt
-no_field_has_line Help e = tt
-no_field_has_line Epsv e = tt
-no_field_has_line Allo e = tt
-no_field_has_line Noop e = tt
-no_field_has_line Pasv e = tt
-no_field_has_line Feat e = tt
-no_field_has_line Pwd e = tt
-no_field_has_line Cdup e = tt
-no_field_has_line Quit e = tt
-no_field_has_line Abor e = tt
-no_field_has_line Stou e = tt
-no_field_has_line Ccc e = tt
-no_field_has_line _ e = absurd (cc)
-
-pub command_memory : (line : Bytes) (command : FtpCommand) → outcome line ≡ Ok command
-    → CanonicalMayTakeMemory line
-command_memory line command read = by_field (takes_no_memory command) refl
-  where
-    by_field : (none : Bool) → takes_no_memory command ≡ none → CanonicalMayTakeMemory line
-    by_field true e = inr (command, read, no_field_has_line command e)
-    by_field false e = inl (
-      (passed (is_utf8 (verb_of line))
-          (answer_by (rule_of (upper (verb_of line))) (parameter_of line)) InvalidUtf8 command
-          read).0,
-      subst AnswerMayTakeMemory (sym read) e,
-    )
+pub unwritten_memory : (line : Bytes) {command : FtpCommand} (why : WriteCommandError)
+    → outcome line ≡ Ok command → (why ≡ error.OutOfMemory → HasLine command)
+    → line_status why ≡ OutOfMemory → CanonicalMayTakeMemory line
+unwritten_memory line error.NoLine read has_line e = absurd (cc)
+unwritten_memory line {command} error.OutOfMemory read has_line e =
+    inr (command, read, has_line refl)
 
 abbrev not_made : Status → Made
 not_made status = Err status

@@ -1,13 +1,11 @@
 -- What is reported of a line that is forwarded.
-use Rattle.std.proofs.Common.{◌≡◌, true, Result, Ok, Err, refl, sym, ap, subst, ◌∙◌, Vec, ℕ, Global, take, arith}
-use Rattle.std.specs.Prelude.{IfOk}
-use Rattle.std.specs.Str.{is_utf8}
+use Rattle.std.proofs.Common.{◌≡◌, Result, Ok, Err, refl, sym, ap, subst, ◌∙◌, Vec, ℕ, Global, take, arith}
+use Rattle.std.specs.Prelude.{IfOk, IsOk}
 use Rattle.std.proofs.lemmas.Option.{none-some}
 use Rattle.unftp_control_defs.specs.Bytes.{Bytes}
 use Rattle.unftp_control_defs.specs.Lines.{IsLine}
 use Rattle.unftp_control_defs.specs.FtpCommand.{InvalidCommand, InvalidUtf8, InvalidEol}
 use Rattle.unftp_control_defs.specs.Outcome.{outcome}
-use Rattle.unftp_control_defs.specs.Verbs.{verb_of}
 use Rattle.unftp_control_reply.specs.declared.error.parse_error.ParseErrorKind.TheVariants as kind
 use Rattle.unftp_control_write.specs.Forwarding.{IsForwardError}
 use Rattle.unftp_control_write.specs.declared.forwarding.ForwardError.{ForwardError}
@@ -45,16 +43,16 @@ module _ (line area : Bytes) (bytes : Made) where
   one_line (not_a_line not e) is_line none = not is_line
   one_line (refused refusal read e) is_line none =
       (refusal_number refusal).1 (subst (Reports NoLine) e none)
-  one_line (out_of_memory is_text e) is_line none = omega (arith, subst (Reports NoLine) e none)
+  one_line (out_of_memory has_command e) is_line none = omega (arith, subst (Reports NoLine) e none)
 
   pub memory_taken : IsForwardedLine line bytes → Reports OutOfMemory bytes
-      → is_utf8 (verb_of line) ≡ true
+      → IsOk (outcome line)
   memory_taken (forwarded command read e) out =
       absurd (filled_has_memory _ area (subst (Reports OutOfMemory) e out))
   memory_taken (not_a_line not e) out = absurd (omega (arith, subst (Reports OutOfMemory) e out))
   memory_taken (refused refusal read e) out =
       absurd (refusal_memory refusal (subst (Reports OutOfMemory) e out))
-  memory_taken (out_of_memory is_text e) out = is_text
+  memory_taken (out_of_memory has_command e) out = has_command
 
   pub none_written : bytes ≡ Err NoLine → Reports NoLine bytes
   none_written e = ap (λ b. (written b area).result) e
@@ -67,7 +65,7 @@ undone line status (not_a_line not e) done = let same : status ≡ NoLine = cc i
     omega (arith, sym (ap status_number same) ∙ done)
 undone line status (refused refusal read e) done = let same : status ≡ refusal_status refusal = cc
     in (refusal_number refusal).0 (sym (ap status_number same) ∙ done)
-undone line status (out_of_memory is_text e) done = let same : status ≡ OutOfMemory = cc in
+undone line status (out_of_memory has_command e) done = let same : status ≡ OutOfMemory = cc in
     omega (arith, sym (ap status_number same) ∙ done)
 
 pub forwarded_back : {line : Bytes} (area : Bytes) (result : Result (Vec ℕ Global) Status)

@@ -78,6 +78,7 @@ pub fn bytes_are_scanned()
 pub fn some_lines_may_take_memory()
     ensures path { LineMayTakeMemory (a_call (codes "RETR a\n") 0 0 0 []) }
     ensures no_value { ¬ LineMayTakeMemory (a_call (codes "NOOP\n") 0 0 0 []) }
+    ensures refused { ¬ LineMayTakeMemory (a_call (codes "RETR\n") 0 0 0 []) }
     ensures no_line { ¬ LineMayTakeMemory (a_call (codes "RETR a") 0 0 0 []) }
     ensures too_long { ¬ LineMayTakeMemory (a_call (codes "RETR a\n") 0 0 6 []) }
     ensures no_such_call { ¬ LineMayTakeMemory (a_call (codes "RETR a\n") 0 2 0 []) }
@@ -151,7 +152,9 @@ pub fn lines_are_forwarded()
     ensures refusal { IsForwardedLine (codes "NOOP x\r\n") (Err InvalidCommand) }
     ensures no_refusal { ¬ IsForwardedLine (codes "NOOP\r\n") (Err InvalidEol) }
     ensures memory { IsForwardedLine (codes "NOOP\r\n") (Err OutOfMemory) }
-    ensures no_memory { ¬ IsForwardedLine (255 ∷ codes "\r\n") (Err OutOfMemory) }
+    // a line that is refused takes none
+    ensures refused_verb { ¬ IsForwardedLine (255 ∷ codes "\r\n") (Err OutOfMemory) }
+    ensures refused_value { ¬ IsForwardedLine (codes "NOOP a\r\n") (Err OutOfMemory) }
 {}
 
 /// Lines for whose canonical lines memory may run out, and none.

@@ -1,9 +1,7 @@
 //! The line that is forwarded for a line.
-ghost use Rattle.std.specs.Prelude.{◌≡◌, ◌≢◌, true, take, Err, IfOk};
-ghost use Rattle.std.specs.Str.{is_utf8};
+ghost use Rattle.std.specs.Prelude.{◌≡◌, ◌≢◌, take, Err, IfOk, IsOk};
 ghost use Rattle.unftp_control_defs.specs.Lines.{IsLine};
 ghost use Rattle.unftp_control_defs.specs.Outcome.{outcome};
-ghost use Rattle.unftp_control_defs.specs.Verbs.{verb_of};
 ghost use Rattle.unftp_control_c.specs.Areas.{Made, made, written};
 ghost use Rattle.unftp_control_c.specs.ForwardedLines.{IsForwardedLine};
 ghost use Rattle.unftp_control_c.specs.Numbers.{status_number};
@@ -17,7 +15,7 @@ use unftp_control_write::forward;
 /// The line that is forwarded for a line: `unftp_forward` of include/unftp_control.h.
 #[unsafe(no_mangle)]
 pub extern "C" fn unftp_forward(alloc: Global, line: &[u8], out: &mut [u8], len: &mut usize) -> u32
-    ensures memory { result ≡ status_number OutOfMemory → is_utf8 (verb_of line.now) ≡ true }
+    ensures memory { result ≡ status_number OutOfMemory → IsOk (outcome line.now) }
     ensures writes { (bytes : Made) × IsForwardedLine line.now bytes
         × (record { result = result; area = out.new; text_length = len.new }
         ≡ written bytes out.old) }

@@ -9,9 +9,12 @@ use std::alloc::AllocError;
 use std::convert::AsStr;
 use unftp_control_reply::Reply;
 
-/// More bytes than a line of a reply has beside its text: the code and a sign, or a space put
-/// before it, and CR LF.
+/// More bytes than a line of a reply has beside its text: the code and a sign, and CR LF.
 const ROOM_BESIDE_TEXT: usize = 16;
+
+/// As many bytes as a line between the first and the last may have beside its text: a space put
+/// before it, and CR LF.
+const ROOM_BESIDE_LINE: usize = 3;
 
 /// Appends the bytes of the reply. The buffer grows once at most; when out of memory, it is as it was.
 pub fn append_reply(reply: &Reply, buf: &mut Vec<u8>) -> Result<(), AllocError>
@@ -50,11 +53,12 @@ fn room_for(text: &str) -> usize {
     text.len().saturating_add(ROOM_BESIDE_TEXT)
 }
 
-/// At least as many bytes as all lines of a reply have.
+/// At least as many bytes as all lines of a reply have, the first and the last with the code.
 fn room_for_all<S: AsStr>(lines: &[S]) -> usize {
-    let mut room = ROOM_BESIDE_TEXT;
+    let mut room = 2 * ROOM_BESIDE_TEXT;
     for line in lines {
-        room = room.saturating_add(room_for(line.as_str()));
+        let length = line.as_str().len().saturating_add(ROOM_BESIDE_LINE);
+        room = room.saturating_add(length);
     }
     room
 }

@@ -34,24 +34,16 @@ use Rattle.unftp_control_login.proofs.StageLemmas.{Reason, stage_after-reason}
 
 -- Lines of passwords may take memory.
 pass-answer : (answer : Answer) → IsTrue (is_pass (event_of answer)) → AnswerMayTakeMemory answer
-pass-answer (Ok (Pass password)) h = refl
+pass-answer (Ok (Pass password)) h = omega arith
 pass-answer (Ok command) h = absurd (false≢true h)
-pass-answer (Err refusal) h = tt
-
-pass-verb : (line : Bytes) (test : Bool) → is_utf8 (verb_of line) ≡ test
-    → IsTrue (is_pass (event_of
-    (cond test (answer_by (rule_of (upper (verb_of line))) (parameter_of line))
-    (Err InvalidUtf8))))
-    → is_utf8 (verb_of line) ≡ true
-pass-verb line true e h = e
-pass-verb line false e h = absurd (false≢true h)
+pass-answer (Err refusal) h = absurd (false≢true h)
 
 pass-memory : (limit : Option ℕ) (line : Bytes) (long : Bool) → exceeds limit (length line) ≡ long
     → IsTrue (is_pass (cond long (Refused line_too_long) (event_of (outcome line))))
     → (exceeds limit (length line) ≡ false) × MayTakeMemory line
 pass-memory limit line true e h = absurd (false≢true h)
 pass-memory limit line false e h =
-    (e, (pass-verb line (is_utf8 (verb_of line)) refl h, pass-answer (outcome line) h))
+    (e, pass-answer (outcome line) h)
 
 -- Where memory may run out for a line of an input, it may for that at the same place of another one
 -- that differs in passwords.

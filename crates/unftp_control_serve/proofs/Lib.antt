@@ -5,5 +5,5 @@ mod AfterLinesLemmas
 pub mod EndingLemmas
 mod EngineLemmas
 mod LineRunLemmas
-mod ServiceLemmas
+pub mod ServiceLemmas
 pub mod ServesLemmas

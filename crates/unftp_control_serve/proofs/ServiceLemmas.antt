@@ -46,11 +46,11 @@ no_cause-reads (Handler fault) h = h
 no_cause-reads LineMemory h = h
 no_cause-reads ReplyMemory h = h
 
-Consumes-nothing : (known : Option Bytes) → Consumes known known []
+pub Consumes-nothing : (known : Option Bytes) → Consumes known known []
 Consumes-nothing None = tt
 Consumes-nothing (Some bytes) = refl
 
-Consumes-then : (a b c : Option Bytes) (read more : Bytes) → Consumes a b read → Consumes b c more
+pub Consumes-then : (a b c : Option Bytes) (read more : Bytes) → Consumes a b read → Consumes b c more
     → Consumes a c (read ++ more)
 Consumes-then None b c read more p q = tt
 Consumes-then (Some a) None c read more p q = absurd p
@@ -58,7 +58,7 @@ Consumes-then (Some a) (Some b) None read more p q = q
 Consumes-then (Some a) (Some b) (Some c) read more p q = p ∙ ap (λ z. read ++ z) q
     ∙ sym (append_assoc read more c)
 
-Consumes-kept : (a b c : Option Bytes) (read : Bytes) → Consumes a b read → Keeps b c →
+pub Consumes-kept : (a b c : Option Bytes) (read : Bytes) → Consumes a b read → Keeps b c →
     Consumes a c read
 Consumes-kept None b c read p q = tt
 Consumes-kept (Some a) None c read p q = absurd p
@@ -83,12 +83,12 @@ pub record Serving (limit : Option ℕ) {S : Type 0} (law : Law S) (m n : Snapsh
   pub held : engine.held ≡ most_held limit [] pieces
 
 -- one read more
-concat-more : (pieces : List Bytes) (piece : Bytes) → concat (pieces ++ piece ∷ []) ≡ concat pieces
+pub concat-more : (pieces : List Bytes) (piece : Bytes) → concat (pieces ++ piece ∷ []) ≡ concat pieces
     ++ piece
 concat-more pieces piece = concat-append pieces (piece ∷ []) ∙ ap (λ end. concat pieces ++ end)
     (append-nil piece)
 
-abbrev HasSize : Bytes → Type 0
+abbrev pub HasSize : Bytes → Type 0
 HasSize piece = (0 < length piece) × (length piece ≤ 4096)
 
 sized_pieces : (pieces : List Bytes) (piece : Bytes) → AllByRecursion HasSize pieces
@@ -96,7 +96,7 @@ sized_pieces : (pieces : List Bytes) (piece : Bytes) → AllByRecursion HasSize 
 sized_pieces [] piece each size = (size, tt)
 sized_pieces (first ∷ pieces) piece each size = (each.0, sized_pieces pieces piece each.1 size)
 
-WereRead-more : {i j k : InputState} {pieces : List Bytes} (piece : Bytes) → WereRead i j pieces []
+pub WereRead-more : {i j k : InputState} {pieces : List Bytes} (piece : Bytes) → WereRead i j pieces []
     → Consumes j.remaining k.remaining piece → k.reads ≡ j.reads ++ length piece ∷ []
     → HasSize piece → WereRead i k (pieces ++ piece ∷ []) []
 WereRead-more {i} {j} {k} {pieces} piece so_far consumed reads size = record {

@@ -42,8 +42,8 @@ impl<R: Read> Input<R> {
         reader
     }
 
-    /// Reads once. Each error counts, `Interrupted` too.
-    pub(crate) fn read(&mut self, buf: &mut [u8]) -> io::Result<usize>
+    /// Reads once, as `Read::read` does. Each error counts, `Interrupted` too.
+    pub fn read(&mut self, buf: &mut [u8]) -> io::Result<usize>
         ensures bound { ReadsAtMost result buf.new }
         ensures bytes { ReadConsumes (R.remaining self.old.reader)
             (R.remaining self.new.reader) result buf.new }

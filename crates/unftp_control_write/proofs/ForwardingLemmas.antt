@@ -1,19 +1,23 @@
 -- What is left of a line without its end, and what is forwarded for it.
-use Rattle.std.proofs.Common.{◌≡◌, ◌-◌, ◌+◌, true, false, cond, [], ◌∷◌, ◌++◌, length, take, drop, Option, Some, None, Ok, sym, ap, subst, ◌∙◌, eq-eqb, eqb-true, Bor, append_assoc, unwrap_or}
-use Rattle.std.specs.Prelude.{MatchOption, nat_eq}
+use Rattle.std.proofs.Common.{◌≡◌, ◌-◌, ◌+◌, true, false, cond, [], ◌∷◌, ◌++◌, length, take, drop, Option, Some, None, Ok, Err, refl, sym, ap, subst, ◌∙◌, eq-eqb, eqb-true, Bor, append_assoc, unwrap_or}
+use Rattle.std.specs.Prelude.{IsOk, MatchOption, nat_eq}
 use Rattle.std.specs.Cmp.Lexicographic.{pointwise}
 use Rattle.std.proofs.lemmas.List.{append_cancel_right}
 use Rattle.std.proofs.lemmas.Slice.Eq.{strip_suffix_is}
 use Rattle.unftp_control_defs.specs.Bytes.{Bytes, LF, CR, crlf, Lacks}
 use Rattle.unftp_control_defs.specs.Lines.{IsLine}
 use Rattle.unftp_control_defs.specs.Verbs.{verb_of, parameter_of, upper}
-use Rattle.unftp_control_defs.specs.FtpCommand.{FtpCommand}
+use Rattle.unftp_control_defs.specs.FtpCommand.{FtpCommand, Answer, InvalidCommand, InvalidUtf8, InvalidEol}
 use Rattle.unftp_control_defs.specs.Outcome.{outcome}
 use Rattle.unftp_control_defs.specs.Canonical.{canonical_line}
 use Rattle.unftp_control_defs.specs.Forwarded.{before_end, keeps_parameter, with_parameter}
 use Rattle.unftp_control_defs.proofs.LineEndLemmas.{IsLine-ends}
 use Rattle.unftp_control_defs.proofs.ForwardedLineLemmas.{before_end-crlf, before_end-lf, cut-before_end, IsLine-forwarded_line, outcome-forwarded_line}
-use Rattle.unftp_control_write.specs.Forwarding.{IsForwarded}
+use Rattle.unftp_control_reply.specs.declared.error.parse_error.ParseErrorKind.{ParseErrorKind}
+use Rattle.unftp_control_reply.specs.declared.error.parse_error.ParseErrorKind.TheVariants as kind
+use Rattle.unftp_control_line_parser.specs.Memory.{AnswerMayTakeMemory, IfOutOfMemory, MayTakeMemory}
+use Rattle.unftp_control_line_parser.specs.ParseAnswer.{Refuses}
+use Rattle.unftp_control_write.specs.Forwarding.{IsForwarded, IsForwardError, forward_error}
 
 -- what `strip_suffix` returns
 abbrev pub Strips : Bytes → Bytes → Option (Bor Bytes) → Type 0
@@ -82,3 +86,15 @@ forwarded {line} {verb} {parameter} {before} {command} is_line text_is means ver
       is_line = IsLine-forwarded_line line command is_line means;
       read_back = outcome-forwarded_line line command is_line means;
     }
+
+-- why a line is not forwarded where the parser refuses it
+has_command : (answer : Answer) → AnswerMayTakeMemory answer → IsOk answer
+has_command (Ok command) may = refl
+has_command (Err refusal) may = absurd may
+
+pub not_forwarded : (line : Bytes) (error : ParseErrorKind) → Refuses (outcome line) error
+    → IfOutOfMemory error (MayTakeMemory line) → IsForwardError line (forward_error error)
+not_forwarded line kind.InvalidCommand refuses may = (InvalidCommand, refl, refuses)
+not_forwarded line kind.InvalidUtf8 refuses may = (InvalidUtf8, refl, refuses)
+not_forwarded line kind.InvalidEol refuses may = (InvalidEol, refl, refuses)
+not_forwarded line kind.OutOfMemory refuses may = has_command (outcome line) may

@@ -98,16 +98,21 @@ fn make_steps(decoder: &mut EventDecoder, has_lines: bool, steps: &[Step], answe
     }
 }
 
+/// A decoder with the limit that the next word is, or without one.
+pub fn read_decoder(words: &mut Words<'_>) -> Result<EventDecoder, CaseError> {
+    Ok(match words.limit()? {
+        Some(limit) => EventDecoder::with_limit(words.alloc, limit),
+        None => EventDecoder::new(words.alloc),
+    })
+}
+
 /// `events LIMIT STEP..`, or `event_lines LIMIT STEP..`, which writes each event's line too.
 pub fn answer_events(
     has_lines: bool,
     words: &mut Words<'_>,
     answers: &mut Answers,
 ) -> Result<(), CaseError> {
-    let mut decoder = match words.limit()? {
-        Some(limit) => EventDecoder::with_limit(words.alloc, limit),
-        None => EventDecoder::new(words.alloc),
-    };
+    let mut decoder = read_decoder(words)?;
     let steps = read_steps(words)?;
     answers.begin();
     make_steps(&mut decoder, has_lines, steps.as_slice(), answers);

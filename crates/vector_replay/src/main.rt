@@ -13,6 +13,7 @@ mod events;
 mod forms;
 mod handlers;
 mod lines;
+mod logs;
 mod reading;
 mod replies;
 mod sessions;
@@ -48,6 +49,7 @@ fn answer_call(call: &str, words: &mut Words<'_>, answers: &mut Answers) -> Resu
         "decode_slice" => decoding::answer_decode_slice(words, answers),
         "events" => events::answer_events(false, words, answers),
         "event_lines" => events::answer_events(true, words, answers),
+        "log" => logs::answer_log(words, answers),
         "serve" => sessions::answer_session(Call::Serve, words, answers),
         "feed" => sessions::answer_session(Call::Feed, words, answers),
         call => answer_reply_call(call, words, answers),

@@ -6,7 +6,8 @@ use Rattle.control_log.proofs.log_pending.Goals as goal
 pub returns-in_err-event-clause-logs : goal.returns-in_err-event-clause-logs
 returns-in_err-event-clause-logs g c =
     let error = err_from_is_err_and c.from_residual.result c.from_residual.ensures.1 in
-    rw (error.1, error.2) (Halfway-memory c.loop-event.invariant.halfway)
+    let next = rw c.loop-event.invariant.limit at c.in_err-event.ensures.may_run_out in
+    rw (error.1, error.2) (Halfway-memory c.loop-event.invariant.halfway next)
 
 pub returns-in-None-clause-logs : goal.returns-in-None-clause-logs
 returns-in-None-clause-logs g c =

@@ -1,31 +1,76 @@
-use Rattle.std.proofs.Common.{◌<◌, sym, arith, length}
+use Rattle.std.proofs.Common.{◌<◌, ◌≤◌, sym, arith, inl, length}
 use Rattle.std.proofs.lemmas.Result.{err_from_is_err_and}
-use Rattle.control_log.proofs.LogLemmas.{Logging-failed, Logging-next, Logging-no_room}
+use Rattle.control_log.proofs.LogLemmas.{Logging-all, Logging-failed, Logging-next, Logging-no_room, Logging-read_failed, Logging-too_often, LogsAll-written}
 use Rattle.control_log.proofs.run.Goals as goal
+
+pub returns-then-n-eq0-clause-ok : goal.returns-then-n-eq0-clause-ok
+returns-then-n-eq0-clause-ok g c =
+    let room : 0 < length c.read.new.buf =
+    omega (arith, c.loop-turn.invariant.room, c.read.auto.buf) in
+    let read = c.in-Ok.ensures in
+    Logging-all c.loop-turn.invariant.logging _ c.read.new.buf c.if-n-eq0.true read.reads
+    read.bytes.0 (read.bytes.1 c.if-n-eq0.true room) read.quiet
+
+pub returns-then-n-eq0-clause-written : goal.returns-then-n-eq0-clause-written
+returns-then-n-eq0-clause-written g c =
+    let room : 0 < length c.read.new.buf =
+    omega (arith, c.loop-turn.invariant.room, c.read.auto.buf) in
+    let read = c.in-Ok.ensures in
+    LogsAll-written
+    (Logging-all c.loop-turn.invariant.logging _ c.read.new.buf c.if-n-eq0.true read.reads
+    read.bytes.0 (read.bytes.1 c.if-n-eq0.true room) read.quiet)
+
+pub returns-in-Err-clause-err : goal.returns-in-Err-clause-err
+returns-in-Err-clause-err g c = Logging-read_failed c.loop-turn.invariant.logging _
+    c.in-Err.ensures.bytes c.in-Err.ensures.reads c.in-Err.ensures.counted
+
+pub returns-clause-err : goal.returns-clause-err
+returns-clause-err g c =
+    Logging-too_often c.loop-turn.invariant.logging (omega (arith, c.loop-turn-test.false))
 
 pub returns-in_err-push-clause-err : goal.returns-in_err-push-clause-err
 returns-in_err-push-clause-err g c =
-    let given = rw (sym c.split_at.ensures.front) at c.in-Ok.ensures.bytes.0 in
+    let cut = c.split_at.ensures in
+    let read = c.in-Ok.ensures in
+    let some : 0 < length c.split_at.result.0.now =
+    omega (arith, cut.front_len, c.if-n-eq0.false) in
+    let short : length c.split_at.result.0.now ≤ 4096 =
+    omega (arith, c.loop-turn.invariant.room, c.read.auto.buf, cut.front_len, read.bound.0) in
+    let given = rw (sym cut.front) at read.bytes.0 in
     let error = err_from_is_err_and c.from_residual.result c.from_residual.ensures.1 in
-    rw (error.1, error.2) (Logging-no_room c.loop-turn.invariant.logging _ _ given)
+    rw (error.1, error.2)
+    (inl (Logging-no_room c.loop-turn.invariant.logging _ c.split_at.result.0.now given
+    (rw cut.front_len read.reads) (some, short) read.quiet))
 
 pub returns-in_err-log_pending-clause-err : goal.returns-in_err-log_pending-clause-err
 returns-in_err-log_pending-clause-err g c =
-    let given = rw (sym c.split_at.ensures.front) at c.in-Ok.ensures.bytes.0 in
+    let cut = c.split_at.ensures in
+    let read = c.in-Ok.ensures in
+    let some : 0 < length c.split_at.result.0.now =
+    omega (arith, cut.front_len, c.if-n-eq0.false) in
+    let short : length c.split_at.result.0.now ≤ 4096 =
+    omega (arith, c.loop-turn.invariant.room, c.read.auto.buf, cut.front_len, read.bound.0) in
+    let given = rw (sym cut.front) at read.bytes.0 in
     let error = err_from_is_err_and c.from_residual-in_err-log_pending.result
     c.from_residual-in_err-log_pending.ensures.1 in
     rw (error.1, error.2)
-    (Logging-failed c.loop-turn.invariant.logging _ _ given c.in_ok-push.ensures.ok
+    (Logging-failed c.loop-turn.invariant.logging _ c.split_at.result.0.now given
+    (rw cut.front_len read.reads) (some, short) read.quiet c.in_ok-push.ensures.ok
     c.in_err-log_pending.ensures.logs)
 
 pub loop-turn-preserved : goal.loop-turn-preserved
 loop-turn-preserved g c =
-    let given = rw (sym c.split_at.ensures.front) at c.in-Ok.ensures.bytes.0 in
+    let cut = c.split_at.ensures in
+    let read = c.in-Ok.ensures in
     let some : 0 < length c.split_at.result.0.now =
-    omega (arith, c.split_at.ensures.front_len, c.if-n-eq0.false) in
+    omega (arith, cut.front_len, c.if-n-eq0.false) in
+    let short : length c.split_at.result.0.now ≤ 4096 =
+    omega (arith, c.loop-turn.invariant.room, c.read.auto.buf, cut.front_len, read.bound.0) in
+    let given = rw (sym cut.front) at read.bytes.0 in
     let ensured = c.in_ok-log_pending.ensures in
     record {
-      logging = Logging-next c.loop-turn.invariant.logging _ _ given c.in_ok-push.ensures.ok some
+      logging = Logging-next c.loop-turn.invariant.logging _ c.split_at.result.0.now given
+          (rw cut.front_len read.reads) (some, short) read.quiet c.in_ok-push.ensures.ok
           ensured.logs ensured.pending ensured.limit;
       room = omega (arith, c.loop-turn.invariant.room, c.read.auto.buf);
     }

@@ -4,7 +4,7 @@ use Rattle.unftp_control_defs.specs.Canonical.{canonical_line}
 use Rattle.unftp_control_defs.proofs.CommandLineLemmas.{HasLine-outcome}
 use Rattle.unftp_control_c.specs.Numbers.{kind_status}
 use Rattle.unftp_control_c.specs.CanonicalLines.{IsCanonical, canonical}
-use Rattle.unftp_control_c.proofs.CanonicalLineLemmas.{refused_line, unwritten_line, refused_memory, command_memory}
+use Rattle.unftp_control_c.proofs.CanonicalLineLemmas.{refused_line, unwritten_line, refused_memory, unwritten_memory}
 use Rattle.unftp_control_c.proofs.canonical.canonical_line.Goals as goal
 
 pub returns-in-Err-clause-canonical : goal.returns-in-Err-clause-canonical
@@ -32,10 +32,7 @@ returns-in-Err-clause-memory c = λ out.
     let status = c.kind_status.ensures ∙ ap kind_status c.kind.ensures in
     refused_memory c.args.line.now c.in-Err.refused c.in-Err.ensures.memory (sym status ∙ cc)
 
-pub returns-in-Ok-written-clause-memory : goal.returns-in-Ok-written-clause-memory
-returns-in-Ok-written-clause-memory c =
-    λ out. command_memory c.args.line.now (command_of c.in-Ok.command) c.in-Ok.ensures.answer
-
 pub returns-in-Err-written-clause-memory : goal.returns-in-Err-written-clause-memory
-returns-in-Err-written-clause-memory c =
-    λ out. command_memory c.args.line.now (command_of c.in-Ok.command) c.in-Ok.ensures.answer
+returns-in-Err-written-clause-memory c = λ out.
+    unwritten_memory c.args.line.now c.in-Err-written.error c.in-Ok.ensures.answer
+    (λ e. c.in-Err-written.ensures.memory (ap (λ why. Err why) e)) (sym c.line_status.ensures ∙ cc)

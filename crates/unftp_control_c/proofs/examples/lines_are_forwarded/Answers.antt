@@ -32,7 +32,7 @@ other_parameter (forwarded command read e) =
     )
 other_parameter (not_a_line not e) = cc
 other_parameter (refused refusal read e) = cc
-other_parameter (out_of_memory is_text e) = cc
+other_parameter (out_of_memory has_command e) = cc
 
 line_feed : IsForwardedLine (codes "TYPE A\n") (Err status.NoLine) → ⊥
 line_feed (forwarded command read e) = cc
@@ -40,14 +40,14 @@ line_feed (not_a_line not e) = not (Lines-lines_of (codes "TYPE A\n")).each.0
 line_feed (refused InvalidCommand read e) = cc
 line_feed (refused InvalidUtf8 read e) = cc
 line_feed (refused InvalidEol read e) = cc
-line_feed (out_of_memory is_text e) = cc
+line_feed (out_of_memory has_command e) = cc
 
 no_refusal : IsForwardedLine (codes "NOOP\r\n") (Err status.InvalidEol) → ⊥
 unfolding is_utf8 chars utf8_lossy utf8_valid_len utf8_error_len lib.Utf8.encode
 no_refusal (forwarded command read e) = cc
 no_refusal (not_a_line not e) = cc
 no_refusal (refused refusal read e) = let is : outcome (codes "NOOP\r\n") ≡ Ok Noop = refl in cc
-no_refusal (out_of_memory is_text e) = cc
+no_refusal (out_of_memory has_command e) = cc
 
 no_memory : IsForwardedLine (255 ∷ codes "\r\n") (Err status.OutOfMemory) → ⊥
 unfolding is_utf8 chars utf8_lossy utf8_valid_len utf8_error_len lib.Utf8.encode
@@ -56,7 +56,16 @@ no_memory (not_a_line not e) = cc
 no_memory (refused InvalidCommand read e) = cc
 no_memory (refused InvalidUtf8 read e) = cc
 no_memory (refused InvalidEol read e) = cc
-no_memory (out_of_memory is_text e) = let not : false ≡ true = is_text in cc
+no_memory (out_of_memory has_command e) = let not : false ≡ true = has_command in cc
+
+no_value : IsForwardedLine (codes "NOOP a\r\n") (Err status.OutOfMemory) → ⊥
+unfolding is_utf8 chars utf8_lossy utf8_valid_len utf8_error_len lib.Utf8.encode
+no_value (forwarded command read e) = cc
+no_value (not_a_line not e) = cc
+no_value (refused InvalidCommand read e) = cc
+no_value (refused InvalidUtf8 read e) = cc
+no_value (refused InvalidEol read e) = cc
+no_value (out_of_memory has_command e) = let not : false ≡ true = has_command in cc
 
 pub returns : goal.returns
 unfolding is_utf8 chars utf8_lossy utf8_valid_len utf8_error_len lib.Utf8.encode
@@ -68,5 +77,6 @@ returns c = record {
   refusal = refused InvalidCommand refl refl;
   no_refusal = no_refusal;
   memory = out_of_memory refl refl;
-  no_memory = no_memory;
+  refused_verb = no_memory;
+  refused_value = no_value;
 }

@@ -1,4 +1,4 @@
-use Rattle.std.proofs.Common.{[], codes, refl, rules}
+use Rattle.std.proofs.Common.{[], codes, refl, rules, arith}
 use Rattle.std.specs.Str.{is_utf8, chars}
 use Rattle.std.specs.Str.Lossy.{utf8_lossy, utf8_valid_len, utf8_error_len}
 use Rattle.unftp_control_defs.specs.Lines.{IsLine}
@@ -16,7 +16,7 @@ returns c = record {
     is_line = user;
     whole = refl;
     short = refl;
-    takes_memory = (refl, refl);
+    takes_memory = omega arith;
   };
   within_the_limit =
       record {
@@ -25,6 +25,6 @@ returns c = record {
         is_line = user;
         whole = refl;
         short = refl;
-        takes_memory = (refl, refl);
+        takes_memory = omega arith;
       };
 }

@@ -1,11 +1,19 @@
-use Rattle.std.proofs.Common.{rules}
+use Rattle.std.proofs.Common.{arith}
 use Rattle.std.specs.Str.{is_utf8, chars}
-use Rattle.std.proofs.lemmas.Bool.{false≢true}
+use Rattle.std.specs.Str.Lossy.{utf8_lossy, utf8_valid_len, utf8_error_len}
 use Rattle.unftp_control.proofs.laws.examples.memory.lines_that_take_no_memory.Goals as goal
 
-pub returns-clause-bad_verb : goal.returns-clause-bad_verb
-unfolding is_utf8 chars
-returns-clause-bad_verb c = λ takes. false≢true takes.0
-
-pub returns-clause-no_value : goal.returns-clause-no_value
-returns-clause-no_value c = search rules
+pub returns : goal.returns
+unfolding is_utf8 chars utf8_lossy utf8_valid_len utf8_error_len lib.Utf8.encode
+returns c = record {
+  no_value = λ takes. omega (arith, takes);
+  lower_case = λ takes. omega (arith, takes);
+  ignored_value = λ takes. omega (arith, takes);
+  ignored_end = λ takes. omega (arith, takes);
+  empty_field = λ takes. omega (arith, takes);
+  no_path = λ takes. omega (arith, takes);
+  choice = λ takes. omega (arith, takes);
+  number = λ takes. omega (arith, takes);
+  no_subcommand = λ takes. omega (arith, takes);
+  nothing = λ takes. omega (arith, takes);
+}

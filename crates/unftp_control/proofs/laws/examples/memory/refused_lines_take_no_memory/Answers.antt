@@ -1,0 +1,14 @@
+use Rattle.std.specs.Str.{is_utf8, chars}
+use Rattle.std.specs.Str.Lossy.{utf8_lossy, utf8_valid_len, utf8_error_len}
+use Rattle.unftp_control.proofs.laws.examples.memory.refused_lines_take_no_memory.Goals as goal
+
+pub returns : goal.returns
+unfolding is_utf8 chars utf8_lossy utf8_valid_len utf8_error_len lib.Utf8.encode
+returns c = record {
+  value = λ takes. takes;
+  no_value = λ takes. takes;
+  end = λ takes. takes;
+  end_after_cr_nul = λ takes. takes;
+  verb = λ takes. takes;
+  subcommand = λ takes. takes;
+}
