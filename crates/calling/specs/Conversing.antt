@@ -1,74 +1,189 @@
--- What a client and a server in one process understand of each other (RFC 959, sections 4.2 and
--- 5.4).
-use Rattle.std.specs.Prelude.{◌≡◌, ℕ, ◌+◌, suc, false, List, [], ◌∷◌, ◌++◌, length, map, option_map, Option, Some, Ok, IfSome}
-use Rattle.std.specs.List.{AllByRecursion}
+-- A client and a server in one process, which do in turn what they are told, and what they understand
+-- of each other (RFC 959, sections 4.2 and 5.4).
+use Rattle.std.specs.Prelude.{◌≡◌, ◌≤◌, ◌<◌, ℕ, suc, List, [], ◌∷◌, ◌++◌, drop, take, length, map, option_to_list, Result, Ok, Option, None, Some, MatchResult, vec_capacity, vec_len}
+use Rattle.std.specs.List.{AllByRecursion, filter_map}
+use Rattle.unftp_control.specs.Acts.{Act, AtClient, AtServer, IsConversation, Server, at_server, came_to_client, came_to_server, client_steps, lines_of_client, sent_by_client, taken_by_client, written_by}
 use Rattle.unftp_control.specs.Bytes.{Bytes}
-use Rattle.unftp_control.specs.Canonical.{canonical_line}
-use Rattle.unftp_control.specs.Conversation.{sent}
-use Rattle.unftp_control.specs.Dialogue.{is_preliminary}
+use Rattle.unftp_control.specs.Canonical.{HasLine, canonical_line}
+use Rattle.unftp_control.specs.Endings.{AllAnswered, Snapshot}
+use Rattle.unftp_control.specs.Engine.{fresh}
 use Rattle.unftp_control.specs.Events.{Command}
+use Rattle.unftp_control.specs.Exchange.{IsNext, IsOtherError, new_client, only_reply}
 use Rattle.unftp_control.specs.FtpCommand.{FtpCommand}
-use Rattle.unftp_control.specs.FtpReply.{FtpReply, reply_as_read}
+use Rattle.unftp_control.specs.FtpReply.{FtpReply, encoded}
 use Rattle.unftp_control.specs.Lines.{IsLine}
 use Rattle.unftp_control.specs.Outcome.{outcome}
-use Rattle.unftp_control.specs.Run.{Law, replies, run_of}
-use Rattle.unftp_control.specs.Steps.{AreSteps, ClientStep, ReplyTo, lines_sent, decoder_steps, replies_taken, reply_to}
-use Rattle.unftp_control.specs.TakingSteps.{all_pushed}
-use Rattle.unftp_control.specs.declared.client.Client.{Client}
+use Rattle.unftp_control.specs.ReplyDecoding.{HasError, TakesNextReply}
+use Rattle.unftp_control.specs.ReplyReader.{IsPartial}
+use Rattle.unftp_control.specs.Run.{Law, replies, run_for, run_of}
+use Rattle.unftp_control.specs.Steps.{Received, Sent, Took, decoder_steps, reply_to}
+use Rattle.unftp_control.specs.TakingSteps.{AreTakingSteps, TakesReply}
+use Rattle.unftp_control.specs.Writing.{Begins}
 use Rattle.unftp_control.specs.declared.client.ClientReply.{ClientReply}
-use Rattle.unftp_control.specs.declared.client.To.TheVariants as to
-
--- The greeting came, no command is owed a reply, and nothing is pending.
-pub record IsAtRest (client : Client) : Type 0 where
-  pub none_owed : client.dialogue.answered ≡ Some client.dialogue.sent
-  pub none_pending : client.replies.bytes ≡ []
+use Rattle.unftp_control.specs.declared.read.NextReplyError.{NextReplyError}
+use Rattle.unftp_control.specs.declared.client.SendError.{SendError}
+use Rattle.unftp_control.specs.declared.client.SendError.TheVariants.{NoLine}
+use Rattle.calling.specs.Pieces.{FailsAtPiece}
+use Rattle.calling.specs.Sessions.{at_start}
+use Rattle.calling.specs.declared.conversation.Conversation.{Conversation}
+use Rattle.calling.specs.declared.conversation.ConverseError.{ConverseError}
+use Rattle.calling.specs.declared.conversation.ConverseError.TheVariants as error
+use Rattle.calling.specs.declared.conversation.Turn.{Turn}
+use Rattle.calling.specs.declared.conversation.Turn.TheVariants.{Send, ToServer, ToClient, Take}
 
 -- what a handler says to these commands, up to the one that ends its session
 abbrev pub said : {S : Type 0} → Law S → S → List FtpCommand → List FtpReply
 said law s commands = replies law s (run_of law s (map Command commands))
 
--- no other reply to the same command follows
-abbrev pub IsFinal : FtpReply → Type 0
-IsFinal reply = IfSome (reply_as_read reply) (λ read. is_preliminary read.0 ≡ false)
+-- a server with this handler and greeting, whose lines may have any length
+abbrev pub server_of : {S : Type 0} → Law S → S → FtpReply → Server S
+server_of law state greeting =
+    record { law = law; state = state; limit = None; greeting = greeting }
 
--- what is read of a reply, as one to the command of this place
-abbrev pub reply_at : ℕ → FtpReply → Option ReplyTo
-reply_at place reply =
-    option_map (λ read. record { to = to.Command place; reply = read }) (reply_as_read reply)
-
--- of replies to the commands from this place on
-abbrev pub numbered : ℕ → List FtpReply → List (Option ReplyTo)
-numbered place [] = []
-numbered place (reply ∷ replies) = reply_at place reply ∷ numbered (suc place) replies
+-- its handler, and the greeting that it has written
+abbrev pub first_snapshot : {S : Type 0} → Server S → ℕ → Snapshot S
+first_snapshot server failures =
+    at_start server.state failures (Some (encoded server.greeting))
 
 -- the canonical line of the command is one line, and is read as the command
 abbrev pub IsReadBack : FtpCommand → Type 0
 IsReadBack command =
     IsLine (canonical_line command) × (outcome (canonical_line command) ≡ Ok command)
 
--- so many commands were sent
-abbrev pub with_sent : Client → ℕ → Client
-with_sent client sent = record client { dialogue = record client.dialogue { sent = sent } }
+-- Nothing was sent, received or taken.
+pub record IsNew (c : Conversation) : Type 0 where
+  pub client : c.client ≡ new_client None
+  pub server : c.server ≡ fresh None
+  pub to_server : c.to_server.items ≡ []
+  pub at_server : c.at_server ≡ 0
+  pub at_client : c.at_client ≡ 0
+  pub taken : c.taken.items ≡ []
 
--- The client sent nothing, received these bytes, and took these replies.
-pub record Takes (before : Client) (received : Bytes) (taken : List ReplyTo) (after : Client)
-    : Type 0 where
-  pub steps : List ClientStep
-  pub are : AreSteps before steps after
-  pub none_sent : lines_sent steps ≡ []
-  pub received_are : all_pushed (decoder_steps steps) ≡ received
-  pub taken_are : replies_taken steps ≡ taken
+-- ---- what is done at each turn
 
--- It received the first of the bytes, after which these are still to come.
-pub record TakesOf (before : Client) (whole rest : Bytes) (taken : List ClientReply)
-    (after : Client) : Type 0 where
-  pub received : Bytes
-  pub split : whole ≡ received ++ rest
-  pub takes : Takes before received (map reply_to taken) after
+-- the next piece of what is on its way
+abbrev pub piece_of : ℕ → Bytes → ℕ → Bytes
+piece_of at bytes most = take most (drop at bytes)
 
--- These commands were sent after the bytes: each has a line that is read back, and is owed a reply.
-pub record HasSent (before after : Client) (out out' : Bytes) (commands : List FtpCommand)
-    : Type 0 where
-  pub bytes : out' ≡ out ++ sent commands
-  pub read_back : AllByRecursion IsReadBack commands
-  pub client : after ≡ with_sent before (before.dialogue.sent + length commands)
+abbrev pub next_line : List FtpCommand → List Act
+next_line [] = []
+next_line (command ∷ commands) = AtClient (Sent (canonical_line command)) ∷ []
+
+-- The next reply is taken, if a whole one is there.
+abbrev pub IsTaken : List Act → List Act → Type 0
+IsTaken before [] = (pending : Bytes) × IsPartial pending
+    × AreTakingSteps TakesReply [] (decoder_steps (client_steps before)) pending
+IsTaken before (AtClient (Took taken) ∷ []) = Unit {0}
+IsTaken before _ = ⊥
+
+-- After what was done before, this is done at the turn.
+abbrev pub IsDone : {S : Type 0} → Server S → List FtpCommand → List Act → Turn → List Act
+    → Type 0
+IsDone server commands before Send done =
+    done ≡ next_line (drop (length (lines_of_client before)) commands)
+IsDone server commands before (ToServer most) done = done ≡ AtServer (piece_of
+    (length (came_to_server before)) (sent_by_client before) most) ∷ []
+IsDone server commands before (ToClient most) done = done ≡ AtClient (Received (piece_of
+    (length (came_to_client before)) (written_by server (came_to_server before)) most)) ∷ []
+IsDone server commands before Take done = IsTaken before done
+
+-- and these acts at turns one after the other
+abbrev pub AreDone : {S : Type 0} → Server S → List FtpCommand → List Act → List Turn → List Act
+    → Type 0
+AreDone server commands before [] acts = acts ≡ before
+AreDone server commands before (turn ∷ turns) acts = (done : List Act)
+    × IsDone server commands before turn done
+    × AreDone server commands (before ++ done) turns acts
+
+-- a reply is taken, or there is none
+pub record TakesOne (before after : Conversation) : Type 0 where
+  pub next : Option ClientReply
+  pub bytes : TakesNextReply before.client.replies (only_reply {E = NextReplyError} (Ok next))
+      after.client.replies
+  pub limit : after.client.replies.limit ≡ before.client.replies.limit
+  pub dialogue : IsNext {E = NextReplyError} before.client.dialogue (Ok next) after.client.dialogue
+  pub taken : after.taken.items ≡ before.taken.items ++ option_to_list next
+  pub rest : after ≡ record before { client = after.client; taken = after.taken }
+
+-- Why it is not taken: the pending bytes are no reply, or there is no memory for it, or for one more.
+abbrev pub IsNotTaken : Conversation → Conversation → ConverseError → Type 0
+IsNotTaken before after (error.Reply why) =
+    HasError before.client.replies.limit before.client.replies.bytes why
+IsNotTaken before after error.OutOfMemory = vec_capacity after.taken < suc (vec_len after.taken)
+IsNotTaken before after _ = ⊥
+
+pub record TakesNone (before after : Conversation) (why : ConverseError) : Type 0 where
+  pub bytes : after.client.replies.bytes ≡ before.client.replies.bytes
+  pub dialogue : after.client.dialogue ≡ before.client.dialogue
+  pub taken : after.taken.items ≡ before.taken.items
+  pub rest : after ≡ record before { client = after.client; taken = after.taken }
+  pub because : IsNotTaken before after why
+
+-- ---- what is so then
+
+-- These acts were done: the lines are those of the first commands, each was sent once and is owed
+-- one reply, and no piece came before it was sent.
+pub record HasTalked {S : Type 0} (server : Server S) (commands : List FtpCommand)
+    (acts : List Act) (c : Conversation) : Type 0 where
+  pub talk : IsConversation server None acts c.client
+  pub sent : List FtpCommand
+  pub first : Begins commands sent
+  pub lines : lines_of_client acts ≡ map canonical_line sent
+  pub read_back : AllByRecursion IsReadBack sent
+  pub to_server : c.to_server.items ≡ sent_by_client acts
+  pub at_server : came_to_server acts ≡ take c.at_server c.to_server.items
+  pub to_client : Begins c.to_client.items (written_by server (came_to_server acts))
+  pub at_client : came_to_client acts ≡ take c.at_client (written_by server (came_to_server acts))
+  pub taken : map reply_to c.taken.items ≡ taken_by_client acts
+
+-- Why the next of these commands is not sent.
+abbrev pub IsNotSent : List FtpCommand → ℕ → SendError → Type 0
+IsNotSent [] sent why = ⊥
+IsNotSent (command ∷ commands) sent why = (¬ HasLine command → why ≡ NoLine)
+    × (HasLine command → IsOtherError sent (Unit {0}) why)
+
+-- Why the turn fails: the command is not sent; the server stops at the piece; there is no memory for
+-- the piece; or the pending bytes are no reply, or there is no memory for it.
+abbrev pub Fails : {S : Type 0} → Server S → List FtpCommand → List Act → Conversation
+    → Snapshot S → Snapshot S → Turn → ConverseError → Type 0
+Fails server commands acts c start after Send (error.Send why) = IsNotSent
+    (drop (length (lines_of_client acts)) commands) c.client.dialogue.sent why
+Fails server commands acts c start after (ToServer most) (error.Serve why) =
+    FailsAtPiece server.law start (filter_map at_server acts
+    ++ piece_of c.at_server c.to_server.items most ∷ []) after why
+Fails server commands acts c start after (ToClient most) error.OutOfMemory =
+    ¬ (piece_of c.at_client c.to_client.items most ≡ [])
+Fails server commands acts c start after Take (error.Reply why) =
+    HasError None c.client.replies.bytes why
+Fails server commands acts c start after Take error.OutOfMemory =
+    vec_capacity c.taken < suc (vec_len c.taken)
+Fails _ _ _ _ _ _ _ _ = ⊥
+
+-- The acts are those of the turns before one, which fails.
+pub record StopsAt {S : Type 0} (server : Server S) (commands : List FtpCommand)
+    (turns : List Turn) (acts : List Act) (c : Conversation) (start after : Snapshot S)
+    (error : ConverseError) : Type 0 where
+  pub first : List Turn
+  pub turn : Turn
+  pub later : List Turn
+  pub whole : turns ≡ first ++ turn ∷ later
+  pub done : AreDone server commands [] first acts
+  pub fails : Fails server commands acts c start after turn error
+
+-- What a conversation has come to, at Ok or at its error.
+pub record HasConversed {S : Type 0} (server : Server S) (commands : List FtpCommand)
+    (turns : List Turn) (c : Conversation) (start after : Snapshot S)
+    (result : Result (Unit {0}) ConverseError) : Type 0 where
+  pub acts : List Act
+  pub talked : HasTalked server commands acts c
+  pub ended : MatchResult result
+      (λ _. AreDone server commands [] turns acts × AllAnswered server.law start
+      (run_for None server.law server.state (came_to_server acts)) after)
+      (λ error. StopsAt server commands turns acts c start after error)
+
+-- All commands were sent, all bytes came, and no whole reply is pending.
+pub record IsOver (commands : List FtpCommand) (c : Conversation) : Type 0 where
+  pub all_sent : length commands ≤ c.client.dialogue.sent
+  pub at_server : length c.to_server.items ≤ c.at_server
+  pub at_client : length c.to_client.items ≤ c.at_client
+  pub none_pending : IsPartial c.client.replies.bytes

@@ -1,17 +1,15 @@
 -- What a client is replied by a proxy that doesn't forward its line.
-use Rattle.std.specs.Prelude.{◌≡◌, true, Err, codes}
-use Rattle.std.specs.Str.{is_utf8}
+use Rattle.std.specs.Prelude.{◌≡◌, Err, IsOk, codes}
 use Rattle.unftp_control.specs.Bytes.{Bytes}
 use Rattle.unftp_control.specs.FtpCommand.{Refusal}
 use Rattle.unftp_control.specs.Lines.{IsLine}
 use Rattle.unftp_control.specs.Outcome.{outcome}
-use Rattle.unftp_control.specs.Verbs.{verb_of}
 
--- The bytes are not one line, or the line is no command; or memory ran out, which it never does
--- where the verb is not UTF-8.
+-- The bytes are not one line, or the line is no command; or memory ran out, which it only does for
+-- a line that is one.
 pub data IsReplyInPlace (line reply : Bytes) : Type 0 where
   not_a_line : ¬ IsLine line → reply ≡ codes "500 Not one line\r\n" → IsReplyInPlace line reply
   refused : (refusal : Refusal) → outcome line ≡ Err refusal
       → reply ≡ codes "500 Not understood\r\n" → IsReplyInPlace line reply
-  out_of_memory : is_utf8 (verb_of line) ≡ true
+  out_of_memory : IsOk (outcome line)
       → reply ≡ codes "421 Out of memory\r\n" → IsReplyInPlace line reply

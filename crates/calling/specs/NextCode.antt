@@ -1,9 +1,8 @@
 -- What a client makes of the replies that it receives (RFC 959, section 4.2).
-use Rattle.std.specs.Prelude.{◌≡◌, ◌↔◌, ℕ, Bool, IsTrue, IsSome, [], Option, Some, None, Result, Ok, Err, MatchResult}
+use Rattle.std.specs.Prelude.{◌≡◌, ◌↔◌, ℕ, Bool, IsTrue, IsSome, Option, Some, None, Result, Ok, Err, MatchResult}
 use Rattle.unftp_control.specs.Bytes.{Bytes}
-use Rattle.unftp_control.specs.Dialogue.{commands_owed}
-use Rattle.unftp_control.specs.Exchange.{IsNext, NextClientReply, only_reply}
-use Rattle.unftp_control.specs.ReplyDecoding.{NextReply, PendingReplies, no_bytes, pushed}
+use Rattle.unftp_control.specs.Exchange.{IsNext, MayBeginTls, NextClientReply, only_reply}
+use Rattle.unftp_control.specs.ReplyDecoding.{NextReply, PendingReplies}
 use Rattle.unftp_control.specs.Receiving.{Receives}
 use Rattle.unftp_control.specs.declared.client.Client.{Client}
 use Rattle.unftp_control.specs.declared.read.ReceiveError.{ReceiveError}
@@ -20,12 +19,6 @@ abbrev pub ReceivesCode : PendingReplies → Option Bytes → Result (Option ℕ
 ReceivesCode before remaining result after remaining' = (received : NextReply ReceiveError)
     × Receives before remaining received after remaining' × (result ≡ only_code received)
 
--- TLS may begin: the last reply was a 234 to a command, no command is owed a reply, and nothing is
--- pending (RFC 2228, section 3; RFC 4217, section 4).
-abbrev pub MayBeginTls : Client → Type 0
-MayBeginTls client = IsTrue client.dialogue.agreed × (commands_owed client.dialogue ≡ 0)
-    × (client.replies.bytes ≡ [])
-
 -- whether there is a next reply and it may after it, or what has failed
 abbrev pub ReceivesAgreement : Client → Option Bytes → Result Bool ReceiveError → Client
     → Option Bytes → Type 0
@@ -37,11 +30,3 @@ ReceivesAgreement before remaining result after remaining' =
     (λ reply. (agreed : Bool) × (result ≡ Ok agreed)
     × (IsTrue agreed ↔ (IsSome reply × MayBeginTls after)))
     (λ error. result ≡ Err error)
-
--- So many commands were sent, of which the first has its final reply, a 234 or another; these bytes are
--- pending. For the examples.
-abbrev pub after_auth : ℕ → Bool → Bytes → Client
-after_auth sent agreed pending = record {
-  replies = pushed (no_bytes None) pending;
-  dialogue = record { sent = sent; answered = Some 1; agreed = agreed };
-}

@@ -30,9 +30,9 @@ abbrev pub at_state : Bool → ℕ → OutputState → Snapshot Bool
 at_state is_done failures output =
     record { state = is_done; failures = failures; output = output }
 
--- Whether TLS begins: of lines of at most 512 bytes AUTH TLS came, and no byte after it was read
--- with it, nor later. All that `serve_with_limit` says is so: of what was read, that nothing came
--- after the piece in which AUTH TLS came, or that it didn't come and the reader is at its end.
+-- TLS begins exactly where AUTH TLS ended the session and no byte after its line was read.
+-- `serve_with_limit` says the rest: which pieces were read, and that none was read after the one in
+-- which AUTH TLS came, among lines of at most 512 bytes.
 pub record BeginsTls (before after : OutputState) (input input' : InputState) (begins : Bool)
     : Type 0 where
   pub is_done : Bool

@@ -1,69 +1,41 @@
-//! A client and a server in one process, and a network between them.
-ghost use Rattle.std.specs.Prelude.{◌≡◌, ◌≤◌, ◌+◌, ◌⊎◌, [], ◌++◌, IfOk, OnOk, Some, length, map};
+//! A client and a server in one process, which do in turn what they are told.
+ghost use Rattle.std.specs.Prelude.{◌≡◌, ◌≤◌, ◌+◌, ◌++◌, ◌∷◌, None, Err, Ok, Some, IfErr, MatchResult, OnErr, OnOk, IsTrue, [], is_ok, length, map, true};
 ghost use Rattle.std.specs.List.{AllByRecursion};
-ghost use Rattle.calling.specs.Conversing.{HasSent, IsAtRest, IsFinal, TakesOf, numbered, said};
+ghost use Rattle.calling.specs.Conversing.{HasConversed, IsNew, IsOver, IsReadBack, TakesNone, TakesOne, first_snapshot, piece_of, said, server_of};
+ghost use Rattle.unftp_control.specs.Acts.{AreFirst, IsClear, exchanges};
+ghost use Rattle.unftp_control.specs.Canonical.{HasLine, canonical_line};
 ghost use Rattle.unftp_control.specs.CommandMeaning.{command_of};
-ghost use Rattle.unftp_control.specs.Conversation.{IsReadable};
-ghost use Rattle.unftp_control.specs.ReplyReader.{IsPartial};
+ghost use Rattle.unftp_control.specs.Dialogue.{after_line};
+ghost use Rattle.unftp_control.specs.Endings.{PieceOutcome, snapshot_with};
+ghost use Rattle.unftp_control.specs.Engine.{IsRunning, fed, more_left, run_with};
+ghost use Rattle.unftp_control.specs.Exchange.{IsOtherError};
+ghost use Rattle.unftp_control.specs.FtpReply.{FtpReply, encoded};
+ghost use Rattle.unftp_control.specs.ReplyDecoding.{pushed};
+ghost use Rattle.unftp_control.specs.Room.{LacksRoom};
 ghost use Rattle.unftp_control.specs.Steps.{reply_to};
+ghost use Rattle.unftp_control.specs.Writing.{appended_state_of};
+ghost use Rattle.unftp_control.specs.declared.client.To.TheVariants.{Greeting};
 
-use crate::serving::serve_connection;
 use std::alloc::{AllocError, AllocFailed, Global};
-use std::io;
-use std::io::Read;
 use thiserror::Error;
 use unftp_control::client::{Client, ClientReply, SendError};
 use unftp_control::command::Command;
-use unftp_control::laws::both_ends::conversation;
-use unftp_control::laws::commands_of_lines;
+use unftp_control::laws;
 use unftp_control::read::NextReplyError;
-use unftp_control::serve::{Handler, ServeError};
+use unftp_control::serve::{Engine, Handler, ServeError};
 
-/// The most bytes of a piece.
-const PIECE: usize = 61;
-
-/// Carries bytes, in pieces of changing length.
-#[derive(Drop)]
-pub struct Network<'a> {
-    /// The bytes that are still to come.
-    rest: &'a [u8],
-    seed: u32,
-}
-
-impl<'a> Network<'a> {
-    /// Carries these bytes. The lengths of the pieces follow from the seed.
-    pub fn new(bytes: &'a [u8], seed: u32) -> Network<'a>
-        ensures { result.rest.now ≡ bytes.now }
-    {
-        Network { rest: bytes, seed }
-    }
-
-    /// The next piece, of at most `most` bytes. It is empty only where `most` is 0, or no byte is left.
-    pub fn next_piece(&mut self, most: usize) -> &'a [u8]
-        ensures whole { self.old.rest.now ≡ result.now ++ self.new.rest.now }
-        ensures most { length result.now ≤ most }
-        ensures some { result.now ≡ [] → (most ≡ 0) ⊎ (self.old.rest.now ≡ []) }
-    {
-        // the next number of a linear congruential generator; its high bits repeat least often
-        self.seed = self
-            .seed
-            .wrapping_mul(1_664_525)
-            .wrapping_add(1_013_904_223);
-        let length = 1 + (self.seed >> 16) as usize % PIECE;
-        let (piece, rest) = self.rest.split_at(length.min(most).min(self.rest.len()));
-        self.rest = rest;
-        piece
-    }
-}
-
-impl Read for Network<'_> {
-    ghost remaining = { λ network. Some network.rest.now };
-
-    fn read(&mut self, buf: &mut [u8]) -> io::Result<usize> {
-        let piece = self.next_piece(buf.len());
-        buf[..piece.len()].copy_from_slice(piece);
-        Ok(piece.len())
-    }
+/// What is done next.
+#[derive(Clone, Copy, Debug)]
+pub enum Turn {
+    /// The client sends the next command, if any is left.
+    Send,
+    /// At most so many of the bytes on their way come to the server, which answers each line that is
+    /// complete.
+    ToServer(usize),
+    /// At most so many of the bytes on their way come to the client.
+    ToClient(usize),
+    /// The client takes the next reply, if a whole one is there.
+    Take,
 }
 
 /// Why a conversation stops.
@@ -84,100 +56,267 @@ pub enum ConverseError {
 }
 
 impl From<SendError> for ConverseError {
-    fn from(error: SendError) -> ConverseError {
-        ConverseError::Send(error)
+    ghost use Rattle.std.specs.Prelude.{◌≡◌};
+    ghost use Rattle.calling.specs.declared.conversation.ConverseError.TheVariants.{Send};
+
+    ghost from_gives = { λ why error. error ≡ Send why };
+
+    fn from(why: SendError) -> ConverseError {
+        ConverseError::Send(why)
     }
 }
 
 impl From<ServeError> for ConverseError {
-    fn from(error: ServeError) -> ConverseError {
-        ConverseError::Serve(error)
+    ghost use Rattle.std.specs.Prelude.{◌≡◌};
+    ghost use Rattle.calling.specs.declared.conversation.ConverseError.TheVariants.{Serve};
+
+    ghost from_gives = { λ why error. error ≡ Serve why };
+
+    fn from(why: ServeError) -> ConverseError {
+        ConverseError::Serve(why)
     }
 }
 
 impl From<NextReplyError> for ConverseError {
-    fn from(error: NextReplyError) -> ConverseError {
-        ConverseError::Reply(error)
+    ghost use Rattle.std.specs.Prelude.{◌≡◌};
+    ghost use Rattle.calling.specs.declared.conversation.ConverseError.TheVariants.{Reply};
+
+    ghost from_gives = { λ why error. error ≡ Reply why };
+
+    fn from(why: NextReplyError) -> ConverseError {
+        ConverseError::Reply(why)
     }
 }
 
 impl From<AllocError> for ConverseError {
+    ghost use Rattle.std.specs.Prelude.{◌≡◌};
+    ghost use Rattle.calling.specs.declared.conversation.ConverseError.TheVariants.{OutOfMemory};
+
+    ghost from_gives = { λ _ error. error ≡ OutOfMemory };
+
     fn from(_failed: AllocError) -> ConverseError {
         ConverseError::OutOfMemory
     }
 }
 
 impl<T: Drop> From<AllocFailed<T>> for ConverseError {
+    ghost use Rattle.std.specs.Prelude.{◌≡◌};
+    ghost use Rattle.calling.specs.declared.conversation.ConverseError.TheVariants.{OutOfMemory};
+
+    ghost from_gives = { λ _ error. error ≡ OutOfMemory };
+
     fn from(_failed: AllocFailed<T>) -> ConverseError {
         ConverseError::OutOfMemory
     }
 }
 
-/// Has a client send commands to a server with this handler, all before it takes the first reply, and
-/// returns the replies. The network cuts both directions into pieces, by the seed.
-pub fn converse<H: Handler>(
-    alloc: Global,
-    client: &mut Client,
-    commands: &[Command],
-    handler: &mut H,
-    seed: u32,
-) -> Result<Vec<ClientReply>, ConverseError>
-    // Where each reply of the server is final, readable and sent, the client is given exactly the
-    // replies to the commands of the run, and each is to its command, whatever the pieces.
-    ensures understood { IfOk result (λ taken. IsAtRest client.old
-        → AllByRecursion IsReadable (said H.law (H.state handler.old) (map command_of commands.now))
-        → AllByRecursion IsFinal (said H.law (H.state handler.old) (map command_of commands.now))
-        → map (λ reply. Some (reply_to reply)) taken.items ≡ numbered client.old.dialogue.sent
-        (said H.law (H.state handler.old) (map command_of commands.now))) }
-{
-    conversation::<H>();
-    commands_of_lines();
-    let mut to_server = Vec::new(alloc);
-    send_all(client, commands, &mut to_server)?;
-    let carried = Network::new(to_server.as_slice(), seed);
-    let (served, to_client) = serve_connection(alloc, carried, Vec::new(alloc), handler);
-    served?;
-    let taken = take_all(alloc, client, Network::new(to_client.as_slice(), seed))?;
-    Ok(taken)
+/// A client and a server, and what goes between them.
+#[derive(Drop)]
+pub struct Conversation {
+    /// The client.
+    pub client: Client,
+    /// The replies that it has taken.
+    pub taken: Vec<ClientReply>,
+    server: Engine,
+    /// All that the client has sent, and how many of these bytes came to the server.
+    to_server: Vec<u8>,
+    at_server: usize,
+    /// All that the server has written, and how many of these bytes came to the client.
+    to_client: Vec<u8>,
+    at_client: usize,
 }
 
-/// Appends the lines of the commands.
-fn send_all(
-    client: &mut Client,
-    commands: &[Command],
-    to_server: &mut Vec<u8>,
-) -> Result<(), ConverseError>
-    ensures { OnOk result (HasSent client.old client.new to_server.old.items to_server.new.items
-        (map command_of commands.now)) }
+/// The next piece of the bytes, of which so many came, and of at most so many.
+fn next_piece(bytes: &[u8], at: usize, most: usize) -> &[u8]
+    requires { at ≤ length bytes.now }
+    ensures { result.now ≡ piece_of at bytes.now most }
 {
-    for command in commands {
-        client.send(command, to_server)?;
-    }
-    Ok(())
+    let (_, rest) = bytes.split_at(at);
+    let (piece, _) = rest.split_at(most.min(rest.len()));
+    piece
 }
 
-/// Receives all that the network carries, and takes the replies.
-fn take_all(
-    alloc: Global,
-    client: &mut Client,
-    network: Network<'_>,
-) -> Result<Vec<ClientReply>, ConverseError>
-    ensures taken { IfOk result (λ taken.
-        TakesOf client.old network.entry.rest.now [] taken.items client.new) }
-    ensures none { OnOk result (IsPartial client.new.replies.bytes) }
-{
-    let mut network = network;
-    let mut taken = Vec::new(alloc);
-    'replies: loop {
-        match client.next_reply()? {
-            Some(reply) => taken.push(reply)?,
-            None => {
-                let piece = network.next_piece(PIECE);
-                if piece.is_empty() {
-                    return Ok(taken);
-                }
-                client.receive(piece)?;
-            }
+impl Conversation {
+    /// A client and a server that have said nothing yet but the server's greeting: these bytes, which
+    /// are on their way to the client.
+    pub fn new(alloc: Global, greeting: Vec<u8>) -> Conversation
+        ensures new { IsNew result }
+        ensures greeting { result.to_client.items ≡ greeting.items }
+    {
+        Conversation {
+            client: Client::new(alloc),
+            taken: Vec::new(alloc),
+            server: Engine::new(alloc),
+            to_server: Vec::new(alloc),
+            at_server: 0,
+            to_client: greeting,
+            at_client: 0,
         }
     }
+
+    /// The client sends the command.
+    fn send(&mut self, command: &Command) -> Result<(), SendError>
+        ensures client { OnOk result (self.new.client ≡ record self.old.client {
+          dialogue = after_line (canonical_line (command_of command.now)) self.old.client.dialogue;
+        }) }
+        ensures line { OnOk result (self.new.to_server.items
+            ≡ self.old.to_server.items ++ canonical_line (command_of command.now)) }
+        ensures read_back { OnOk result (IsReadBack (command_of command.now)) }
+        ensures rest { self.new ≡ record self.old {
+          client = self.new.client;
+          to_server = self.new.to_server;
+        } }
+        ensures err { OnErr result (self.new.client ≡ self.old.client) }
+        ensures items { OnErr result (self.new.to_server.items ≡ self.old.to_server.items) }
+        ensures no_line { ¬ HasLine (command_of command.now) → result ≡ Err SendError.NoLine }
+        ensures has_line { HasLine (command_of command.now) → IfErr result (λ why.
+            IsOtherError self.old.client.dialogue.sent
+            (LacksRoom self.old.to_server (canonical_line (command_of command.now))) why) }
+    {
+        self.client.send(command, &mut self.to_server)?;
+        Ok(())
+    }
+
+    /// A piece comes to the server.
+    fn bring_to_server<H: Handler>(
+        &mut self,
+        most: usize,
+        handler: &mut H,
+    ) -> Result<(), ServeError>
+        requires { self.old.at_server ≤ length self.old.to_server.items }
+        ensures outcome { IsRunning self.old.server → PieceOutcome H.law
+            (snapshot_with H.state H.failures appended_state_of handler.old self.old.to_client)
+            (run_with self.old.server H.law (H.state handler.old)
+            (piece_of self.old.at_server self.old.to_server.items most))
+            (piece_of self.old.at_server self.old.to_server.items most)
+            (snapshot_with H.state H.failures appended_state_of handler.new self.new.to_client)
+            result }
+        ensures fed { IsRunning self.old.server → OnOk result (self.new.server
+            ≡ fed H.law (H.state handler.old) self.old.server
+            (piece_of self.old.at_server self.old.to_server.items most)) }
+        ensures over { self.old.server.finished ≡ true → IsTrue (is_ok result)
+            × (handler.new ≡ handler.old) × (self.new.to_client ≡ self.old.to_client)
+            × (self.new.server ≡ more_left self.old.server
+            (piece_of self.old.at_server self.old.to_server.items most)) }
+        ensures ok { OnOk result (self.new.at_server ≡ self.old.at_server
+            + length (piece_of self.old.at_server self.old.to_server.items most)) }
+        ensures err { OnErr result (self.new.at_server ≡ self.old.at_server) }
+        ensures rest { self.new ≡ record self.old {
+          server = self.new.server;
+          at_server = self.new.at_server;
+          to_client = self.new.to_client;
+        } }
+    {
+        let piece = next_piece(self.to_server.as_slice(), self.at_server, most);
+        self.server.feed(piece, handler, &mut self.to_client)?;
+        self.at_server += piece.len();
+        Ok(())
+    }
+
+    /// A piece comes to the client.
+    fn bring_to_client(&mut self, most: usize) -> Result<(), AllocError>
+        requires { self.old.at_client ≤ length self.old.to_client.items }
+        ensures ok { OnOk result (self.new ≡ record self.old {
+          client = record self.old.client {
+            replies = pushed self.old.client.replies
+                (piece_of self.old.at_client self.old.to_client.items most);
+          };
+          at_client = self.old.at_client
+              + length (piece_of self.old.at_client self.old.to_client.items most);
+        }) }
+        ensures err { OnErr result (self.new ≡ self.old) }
+        ensures some { OnErr result
+            (¬ (piece_of self.old.at_client self.old.to_client.items most ≡ [])) }
+    {
+        let piece = next_piece(self.to_client.as_slice(), self.at_client, most);
+        self.client.receive(piece)?;
+        self.at_client += piece.len();
+        Ok(())
+    }
+
+    /// The client takes the next reply, if a whole one is there.
+    fn take(&mut self) -> Result<(), ConverseError>
+        ensures { MatchResult result
+            (λ _. TakesOne self.old self.new)
+            (λ why. TakesNone self.old self.new why) }
+    {
+        // so that a reply that is taken is not lost
+        self.taken.reserve(1)?;
+        if let Some(reply) = self.client.next_reply()? {
+            self.taken.push(reply)?;
+        }
+        Ok(())
+    }
+}
+
+/// Has the client and the server do what the turns say, one after the other, up to the first that
+/// fails. The client sends these commands, and the handler answers the lines.
+///
+/// It fails where a command is not sent, the server stops, a reply can't be taken, or memory runs
+/// out. What was done at the turns before stays, and so do the replies that were taken.
+pub fn converse<H: Handler>(
+    conversation: &mut Conversation,
+    commands: &[Command],
+    handler: &mut H,
+    turns: &[Turn],
+) -> Result<(), ConverseError>
+    requires { IsNew conversation.old }
+    // what was done at each turn, and at which one it failed
+    ensures turns { (greeting : FtpReply) → conversation.old.to_client.items ≡ encoded greeting
+        → HasConversed (server_of H.law (H.state handler.old) greeting) (map command_of commands.now)
+        turns.now conversation.new
+        (first_snapshot (server_of H.law (H.state handler.old) greeting) (H.failures handler.old))
+        (snapshot_with H.state H.failures appended_state_of handler.new conversation.new.to_client)
+        result }
+    // Where each reply is sent, plain and final, those that the client has taken are the first ones:
+    // to the greeting, and then to each command in order.
+    ensures understood { (greeting : FtpReply) → conversation.old.to_client.items ≡ encoded greeting
+        → AllByRecursion IsClear
+        (greeting ∷ said H.law (H.state handler.old) (map command_of commands.now))
+        → AreFirst (map reply_to conversation.new.taken.items) (exchanges Greeting
+        (greeting ∷ said H.law (H.state handler.old) (map command_of commands.now))) }
+    // And once all was sent and came, they are all.
+    ensures all { (greeting : FtpReply) → conversation.old.to_client.items ≡ encoded greeting
+        → AllByRecursion IsClear
+        (greeting ∷ said H.law (H.state handler.old) (map command_of commands.now))
+        → IsOver (map command_of commands.now) conversation.new
+        → map Some (map reply_to conversation.new.taken.items) ≡ exchanges Greeting
+        (greeting ∷ said H.law (H.state handler.old) (map command_of commands.now)) }
+{
+    laws::conversation::<H>();
+    laws::any_order::<H>();
+    laws::commands_of_lines();
+    take_turns(conversation, commands, handler, turns)
+}
+
+/// Takes the turns, up to the first that fails.
+fn take_turns<H: Handler>(
+    conversation: &mut Conversation,
+    commands: &[Command],
+    handler: &mut H,
+    turns: &[Turn],
+) -> Result<(), ConverseError>
+    requires { IsNew conversation.old }
+    ensures { (greeting : FtpReply) → conversation.old.to_client.items ≡ encoded greeting
+        → HasConversed (server_of H.law (H.state handler.old) greeting) (map command_of commands.now)
+        turns.now conversation.new
+        (first_snapshot (server_of H.law (H.state handler.old) greeting) (H.failures handler.old))
+        (snapshot_with H.state H.failures appended_state_of handler.new conversation.new.to_client)
+        result }
+{
+    let mut left = commands;
+    for turn in turns {
+        match turn {
+            Turn::Send => {
+                if let Some((command, rest)) = left.split_first() {
+                    conversation.send(command)?;
+                    left = rest;
+                }
+            }
+            Turn::ToServer(most) => conversation.bring_to_server(*most, handler)?,
+            Turn::ToClient(most) => conversation.bring_to_client(*most)?,
+            Turn::Take => conversation.take()?,
+        }
+    }
+    Ok(())
 }

@@ -4,18 +4,15 @@ ghost use Rattle.std.specs.Prelude.{◌≡◌, Bool, [], ◌∷◌, ◌++◌, No
 ghost use Rattle.calling.specs.EventLoop.{replies_to, turn_after};
 ghost use Rattle.calling.specs.FactList.{facts_asked, facts_text};
 ghost use Rattle.calling.specs.Forwarding.{IsReplyInPlace};
-ghost use Rattle.calling.specs.Conversing.{IsAtRest, IsFinal, numbered, said};
-ghost use Rattle.calling.specs.NextCode.{MayBeginTls, after_auth};
 ghost use Rattle.calling.specs.UntilTls.{BeginsTls, LeavesStream, until_tls};
 ghost use Rattle.calling.specs.WholeLine.{AsksFor, all_facts, image_modes, modes_after, no_facts, reply_to};
 ghost use Rattle.unftp_control.specs.Bytes.{Bytes};
 ghost use Rattle.unftp_control.specs.Events.{Command, Refused, refusal_fault};
 ghost use Rattle.unftp_control.specs.FtpCommand.{Auth, Epsv, InvalidCommand, Pasv, Quit, Retr, TypeCode};
 ghost use Rattle.unftp_control.specs.Forwarding.{IsForwardError, IsForwarded};
-ghost use Rattle.unftp_control.specs.FtpReply.{CodeAndMsg, Nothing};
+ghost use Rattle.unftp_control.specs.FtpReply.{CodeAndMsg};
 ghost use Rattle.unftp_control.specs.Service.{InputState};
 ghost use Rattle.unftp_control.specs.Writing.{OutputState};
-ghost use Rattle.unftp_control.specs.declared.client.To.TheVariants.{Command as Place};
 ghost use Rattle.unftp_control.specs.declared.commands.AuthParam.TheVariants.{Ssl, Tls};
 
 use crate::event_loop::Turn;
@@ -81,35 +78,6 @@ pub fn events_are_answered()
     ensures quit { turn_after (Command Quit) (codes "N") ≡ Turn.Close }
     ensures refused_quit { turn_after (Refused (refusal_fault InvalidCommand)) [] ≡ Turn.Close
         → ⊥ }
-{}
-
-/// A client begins TLS after 234 to its last command, with nothing after it.
-pub fn tls_begins()
-    ensures agreed { MayBeginTls (after_auth 1 true []) }
-    ensures with_more { ¬ MayBeginTls (after_auth 1 true (codes "2")) }
-    ensures owed { ¬ MayBeginTls (after_auth 2 true []) }
-    ensures another_code { ¬ MayBeginTls (after_auth 1 false []) }
-{}
-
-/// A client is at rest where no command is owed a reply and nothing is pending.
-pub fn clients_are_at_rest()
-    ensures rest { IsAtRest (after_auth 1 false []) }
-    ensures owed { IsAtRest (after_auth 2 false []) → ⊥ }
-    ensures pending { IsAtRest (after_auth 1 false (codes "2")) → ⊥ }
-{}
-
-/// Final replies, and replies by the places of their commands.
-pub fn replies_are_numbered()
-    ensures completion { IsFinal (CodeAndMsg 200 []) }
-    ensures preliminary { ¬ IsFinal (CodeAndMsg 199 []) }
-    ensures below { IsFinal (CodeAndMsg 99 []) }
-    ensures none { numbered 3 [] ≡ [] }
-    ensures two { numbered 3 (CodeAndMsg 200 (codes "a") ∷ CodeAndMsg 221 [] ∷ [])
-        ≡ Some (record { to = Place 3; reply = (200, codes "a" ∷ []) })
-        ∷ Some (record { to = Place 4; reply = (221, [] ∷ []) }) ∷ [] }
-    ensures not_sent { numbered 3 (Nothing ∷ []) ≡ None ∷ [] }
-    ensures said { said until_tls false (Quit ∷ Auth Tls ∷ Quit ∷ [])
-        ≡ until_tls.says false (Command Quit) ∷ until_tls.says false (Command (Auth Tls)) ∷ [] }
 {}
 
 /// What a reader of known bytes has yet to give, where TLS begins and where it doesn't.

@@ -15,6 +15,7 @@ mod FirstLineLemmas
 mod NeededLemmas
 mod NoonLemmas
 mod ConversationLemmas
+pub mod ActLemmas
 pub use Rattle.unftp_control_defs.proofs.LineLemmas
 pub use Rattle.unftp_control_defs.proofs.RunLemmas
 pub use Rattle.unftp_control_serve.proofs.SendLemmas

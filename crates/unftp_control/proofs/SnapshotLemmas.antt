@@ -1,5 +1,5 @@
 -- The examples' snapshots.
-use Rattle.std.proofs.Common.{◌≡◌, ℕ, ◌<◌, ◌≤◌, Bool, true, false, List, [], ◌∷◌, ◌++◌, map, None, Option, Some, length, codes, refl, sym, ap, ◌∙◌, arith, drop, get_or, length-append}
+use Rattle.std.proofs.Common.{◌≡◌, ℕ, ◌+◌, ◌<◌, ◌≤◌, Bool, true, false, List, [], ◌∷◌, ◌++◌, map, None, Option, Some, length, codes, refl, sym, ap, ◌∙◌, arith, drop, get_or, length-append}
 use Rattle.std.proofs.Math.Seq.{drop-append_seam}
 use Rattle.std.specs.Fmt.{digits}
 use Rattle.std.specs.Io.KnownBytes.{Appends}
@@ -8,7 +8,8 @@ use Rattle.std.specs.Prelude.{if◌then◌else◌}
 use Rattle.std.specs.Str.{is_utf8, chars}
 use Rattle.std.specs.Str.Lossy.{utf8_lossy, utf8_valid_len, utf8_error_len}
 use Rattle.std.proofs.lemmas.Bool.{false≢true}
-use Rattle.unftp_control_serve.specs.Endings.{Snapshot, LineMemory, Write, AllAnswered, RunEnded, RunFailed}
+use Rattle.unftp_control_serve.specs.Endings.{Snapshot, Cause, Finished, Handler, LineMemory, ReplyMemory, Write, IsCauseOf, handler_failures, AllAnswered, RunEnded, RunFailed}
+use Rattle.unftp_control_reply.specs.ErrorParts.{KindAndSource}
 use Rattle.unftp_control_serve.specs.Service.{AnsweredAll, InputState, NoRoomForPiece, Serves}
 use Rattle.unftp_control_serve.specs.Writing.{Begins}
 use Rattle.unftp_control_serve.specs.declared.error.ServeError.TheVariants as error
@@ -125,3 +126,13 @@ pub served-other_rest : (before after : Snapshot ℕ) (served : Served)
 served-other_rest before after served v =
     let rest : codes "XX" ≡ v.rest = cc in
     another_end v.read (v.whole ∙ ap (λ rest. v.read ++ rest) (sym rest))
+
+-- an error of the handler is one that it has counted
+pub handler-counted : (before after : ℕ) (failed : KindAndSource) (cause : Cause)
+    → IsCauseOf cause (error.Handler failed) → after ≡ before + handler_failures cause
+    → after ≡ before + 1
+handler-counted before after failed Finished means counted = absurd means
+handler-counted before after failed (Write part) means counted = absurd means
+handler-counted before after failed (Handler fault) means counted = counted
+handler-counted before after failed LineMemory means counted = absurd means
+handler-counted before after failed ReplyMemory means counted = absurd means

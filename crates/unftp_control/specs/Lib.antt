@@ -1,6 +1,7 @@
 pub mod Snapshots
 pub mod RunEnd
 pub mod Conversation
+pub mod Acts
 pub mod ClientRuns
 pub use Rattle.unftp_control_defs.specs.Bytes
 pub use Rattle.unftp_control_defs.specs.Lines
@@ -53,6 +54,7 @@ pub use Rattle.unftp_control_login.specs.Promises
 pub use Rattle.unftp_control_read.specs.Reading
 pub use Rattle.unftp_control_read.specs.ReplyDecoding
 pub use Rattle.unftp_control_read.specs.Receiving
+pub use Rattle.unftp_control_write.specs.Room
 pub use Rattle.unftp_control_write.specs.Forwarding
 pub use Rattle.unftp_control_write.specs.declared.WriteCommandError
 pub use Rattle.unftp_control_write.specs.declared.forwarding.ForwardError

@@ -31,7 +31,7 @@ pub mod both_ends;
 pub mod examples;
 pub mod replies;
 
-pub use both_ends::{canonical_lines_change_nothing, conversation};
+pub use both_ends::{any_order, canonical_lines_change_nothing, conversation};
 pub use replies::{
     any_cutting_of_replies, one_front, one_reading, replies_read_back, replies_stay,
     too_long_replies_stay,

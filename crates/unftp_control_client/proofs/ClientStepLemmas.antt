@@ -148,7 +148,7 @@ steps-exchanges (Took taken ∷ steps) before after (next, step, are) =
     took-exchanges before next taken step (replies_taken steps)
     (steps-exchanges steps next after are)
 
-steps-sent : (steps : List ClientStep) (before after : Client) → AreSteps before steps after
+pub steps-sent : (steps : List ClientStep) (before after : Client) → AreSteps before steps after
     → after.dialogue.sent ≡ before.dialogue.sent + length (lines_sent steps)
 steps-sent [] before after are = omega (arith, ap (λ (d : Dialogue). d.sent) are.0)
 steps-sent (Sent line ∷ steps) before after (next, step, are) =

@@ -20,7 +20,7 @@ use Rattle.unftp_control_line_parser.specs.declared.rule.PathCommand.{PathComman
 use Rattle.unftp_control_line_parser.specs.declared.rule.PathCommand.TheVariants as path
 use Rattle.unftp_control_line_parser.specs.Memory.{held_len, maybe_len, AnswerMayTakeMemory, MayTakeMemory, IfOutOfMemory, OnOutOfMemory}
 use Rattle.unftp_control_line_parser.specs.Meaning.{text_command, path_command}
-use Rattle.unftp_control_line_parser.specs.Values.{RefusesEmpty}
+use Rattle.unftp_control_line_parser.specs.Values.{RefusesEmpty, RefusesText}
 use Rattle.unftp_control_line_parser.proofs.LossyPathLemmas.{path_of-utf8_lossy}
 use Rattle.unftp_control_line_parser.proofs.OutcomeLemmas.{named_utf8}
 use Rattle.unftp_control_line_parser.proofs.PathLemmas.{no_text}
@@ -139,6 +139,23 @@ some_text_memory command v error answer held refuses is =
     by_kind kind.InvalidUtf8 h = tt
     by_kind kind.InvalidEol h = tt
     by_kind kind.OutOfMemory h = may h
+
+-- a verb without a rule of its own
+pub other_answer : (name : Bytes) (value : Option Bytes) {text : Bytes}
+    → option_map utf8_lossy value ≡ Some text
+    → value_answer (any_text (Other name)) value ≡ Ok (Other name text)
+other_answer name None e = cc
+other_answer name (Some v) e = let is : utf8_lossy v ≡ _ = cc in ap (λ t. Ok (Other name t)) is
+
+pub other_text_memory : (name : Bytes) (value : Option Bytes) (error : ParseErrorKind) {T : Type 0}
+    (answer : Result T ParseErrorKind) → RefusesText value error
+    → IsErrAnd answer (λ e. e ≡ error)
+    → OnOutOfMemory answer (AnswerMayTakeMemory (value_answer (any_text (Other name)) value))
+other_text_memory name None error answer refuses is =
+    passed_on answer error ⊥ is (subst (λ e. IfOutOfMemory e ⊥) (sym refuses) tt)
+other_text_memory name (Some v) error answer refuses is =
+    OnOutOfMemory-from answer (0 < held_len (Other name (utf8_lossy v)))
+    (omega (arith, some_lossy v refuses.1))
 
 -- so a line may take memory only where it is such a command
 module _ (line word parameter : Bytes) (whole : word ≡ verb_of line)

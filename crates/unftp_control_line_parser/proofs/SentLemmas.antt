@@ -144,3 +144,9 @@ pub rest_short : (bytes rest further : Bytes) (n : ℕ) → n < length bytes
     → rest ≡ drop (n + 1) bytes → further ≡ after_nul rest → length further < length bytes
 rest_short bytes rest further n lt is after =
     omega (arith, ap length is, length-drop (n + 1) bytes, ap length after, after_nul-short rest)
+
+pub unescaped_cr_nul : (bytes : Bytes) → begins_with_cr_nul bytes ≡ true
+    → unescaped bytes ≡ CR ∷ unescaped (drop 2 bytes)
+unescaped_cr_nul [] h = absurd (false≢true h)
+unescaped_cr_nul (a ∷ []) h = absurd (false≢true h)
+unescaped_cr_nul (a ∷ b ∷ bytes) h = rw h refl

@@ -1,5 +1,5 @@
 -- What the parts of a parameter's reading answer.
-use Rattle.std.specs.Prelude.{◌≡◌, ℕ, ◌<◌, ◌≤◌, ◌==◌, ◌||◌, Bool, true, false, ◌&&◌, if◌then◌else◌, [], ◌∷◌, ◌++◌, length, take, drop, slice_index, Some, option_map, None, Result, Ok, Err, String, string_bytes}
+use Rattle.std.specs.Prelude.{◌≡◌, ℕ, ◌<◌, ◌≤◌, ◌==◌, ◌||◌, Bool, true, false, ◌&&◌, if◌then◌else◌, [], ◌∷◌, ◌++◌, length, take, drop, slice_index, Option, Some, option_map, None, Result, Ok, Err, String, string_bytes}
 use Rattle.std.specs.Str.Lossy.{utf8_lossy}
 use Rattle.unftp_control_defs.specs.Bytes.{Bytes, CR, LF, NUL, Lacks}
 use Rattle.unftp_control_defs.specs.ComputedValue.{Context, later_value, Fresh, Plain}
@@ -87,3 +87,12 @@ RefusesEmpty v kind.InvalidUtf8 = ⊥
 abbrev pub ReturnsSomeText : {A : Type 0} → Bytes → Result (String A) ParseErrorKind → Type 0
 ReturnsSomeText v (Ok text) = (0 < length v) × (string_bytes text ≡ utf8_lossy v)
 ReturnsSomeText v (Err refusal) = RefusesEmpty v refusal
+
+-- the text of a value; there is none after an invalid line ending
+abbrev pub RefusesText : Option Bytes → ParseErrorKind → Type 0
+RefusesText None error = error ≡ kind.InvalidEol
+RefusesText (Some v) error = (error ≡ kind.OutOfMemory) × (0 < length v)
+
+abbrev pub ReturnsText : {A : Type 0} → Option Bytes → Result (String A) ParseErrorKind → Type 0
+ReturnsText value (Ok text) = option_map utf8_lossy value ≡ Some (string_bytes text)
+ReturnsText value (Err refusal) = RefusesText value refusal

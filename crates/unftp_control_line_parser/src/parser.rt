@@ -12,7 +12,7 @@ ghost use Rattle.unftp_control_defs.specs.ComputedValue.{value_of};
 ghost use Rattle.unftp_control_line_parser.specs.Meaning.{meaning, parameter_answer, unit_command};
 ghost use Rattle.unftp_control_line_parser.specs.Memory.{AnswerMayTakeMemory, MayTakeMemory, OnOutOfMemory};
 ghost use Rattle.unftp_control_line_parser.specs.ParseAnswer.{Returns};
-ghost use Rattle.unftp_control_line_parser.specs.Values.{ReturnsSomeText, value_bytes};
+ghost use Rattle.unftp_control_line_parser.specs.Values.{ReturnsSomeText, ReturnsText, value_bytes};
 
 use crate::fields::{list_path, optional_raw, optional_text, raw, text, upper_cased};
 use crate::rule::{ParameterKind, Rule, UnitCommand};
@@ -199,11 +199,23 @@ fn other(alloc: Global, name: &str, parameter: &[u8]) -> Answer
     ensures memory { OnOutOfMemory result (AnswerMayTakeMemory
         (value_answer (any_text (Other (upper name.now))) (value_of parameter.now))) }
 {
-    let Some(value) = parameter_value(parameter) else {
-        return Err(ParseErrorKind::InvalidEol);
+    let arguments = if has_no_value(parameter) {
+        String::new(alloc)
+    } else {
+        value_text(alloc, parameter)?
     };
     Ok(Command::Other {
-        arguments: text(alloc, value)?,
         command_name: upper_cased(alloc, name)?,
+        arguments,
     })
+}
+
+/// The value of the parameter as text.
+fn value_text(alloc: Global, parameter: &[u8]) -> result::Result<String, ParseErrorKind>
+    ensures { ReturnsText (value_of parameter.now) result }
+{
+    match parameter_value(parameter) {
+        Some(value) => Ok(text(alloc, value)?),
+        None => Err(ParseErrorKind::InvalidEol),
+    }
 }

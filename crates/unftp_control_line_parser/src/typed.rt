@@ -15,6 +15,8 @@ use unftp_control_reply::error::ParseErrorKind;
 type Answer = Result<Command, ParseErrorKind>;
 
 /// What the command's own type makes of the value.
+// nearly always it is called by the parser, where a call of its own would copy the result once more
+#[inline(always)]
 pub fn typed(command: TypedCommand, value: &[u8]) -> Answer
     ensures answer { Returns (typed_answer command value.now) result }
     ensures memory { OnOutOfMemory result ⊥ }
@@ -104,6 +106,7 @@ fn opts(value: &[u8]) -> Answer
 }
 
 /// AUTH and a mechanism, ignoring ASCII case (RFC 2228, section 3; RFC 4217, section 2).
+#[inline(always)]
 fn auth(value: &[u8]) -> Answer
     ensures answer { Returns (auth value.now) result }
     ensures memory { OnOutOfMemory result ⊥ }

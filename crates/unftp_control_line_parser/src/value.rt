@@ -202,13 +202,19 @@ pub fn unescape(alloc: Global, sent: &[u8]) -> Result<Vec<u8>, AllocError>
     let mut value = Vec::with_capacity(alloc, sent.len())?;
     let mut rest = sent;
     'parts: loop {
-        let Some(end) = memchr(CR, rest) else {
-            value.extend_from_slice(rest)?;
-            return Ok(value);
-        };
-        let (part, further) = rest.split_at(end + 1);
-        value.extend_from_slice(part)?;
-        rest = after_nul(further);
+        if begins_with_cr_nul(rest) {
+            let (_, further) = rest.split_at(2);
+            value.push(CR).map_err(AllocError::from)?;
+            rest = further;
+        } else {
+            let Some(end) = memchr(CR, rest) else {
+                value.extend_from_slice(rest)?;
+                return Ok(value);
+            };
+            let (part, further) = rest.split_at(end + 1);
+            value.extend_from_slice(part)?;
+            rest = after_nul(further);
+        }
     }
 }
 

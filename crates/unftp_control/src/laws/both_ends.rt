@@ -4,10 +4,14 @@ ghost use Rattle.std.specs.List.{AllByRecursion, concat};
 ghost use Rattle.unftp_control_defs.specs.Bytes.{Bytes};
 ghost use Rattle.unftp_control_defs.specs.Events.{Command, event_for, events};
 ghost use Rattle.unftp_control_defs.specs.FtpCommand.{FtpCommand};
+ghost use Rattle.unftp_control_defs.specs.FtpReply.{FtpReply};
 ghost use Rattle.unftp_control_defs.specs.Lines.{IsLine, incomplete_line, lines_of};
 ghost use Rattle.unftp_control_defs.specs.ReplyReader.{HasFront};
 ghost use Rattle.unftp_control_defs.specs.Run.{replies, run_for, text_for};
 ghost use Rattle.unftp_control_defs.specs.TakingSteps.{AreTakingSteps, TakesReply, TakingStep, all_pushed, all_taken};
+ghost use Rattle.unftp_control_client.specs.declared.Client.{Client as RustClient};
+ghost use Rattle.unftp_control_client.specs.declared.dialogue.To.TheVariants.{Greeting};
+ghost use Rattle.unftp_control.specs.Acts.{AreFirst, IsClear, IsConversation, Server, Act, came_to_client, exchanges, said_by, sent_by_client, taken_by_client, written_by};
 ghost use Rattle.unftp_control.specs.Conversation.{CanBeSent, IsReadable, KeepsMeaning, Show, canonical_of, forwarded_of, rewritten, sent};
 
 use unftp_control_serve::Handler;
@@ -42,6 +46,33 @@ pub fn conversation<H: Handler>()
         → Show (all_taken steps) (replies H.law s (run_for limit H.law s input))
         × (length (all_taken steps) ≡ length (run_for limit H.law s input))
         × (pending ≡ []) }
+{}
+
+/// Whatever the order in which a client sends lines, pieces come to either end and replies are taken:
+/// where each reply of the server is sent, plain and final, the replies that the client has taken are
+/// the first ones, that to the greeting and then one to each of its lines, each at its place; and
+/// once all bytes came and no more can be taken, they are all, and no byte is pending (RFC 959,
+/// sections 4.2 and 5.4). It joins `conversation` with the law `replies_are_exchanges` of clients.
+pub fn any_order<H: Handler>()
+    ensures so_far { (state : H.State) (limit client_limit : Option ℕ) (greeting : FtpReply)
+        (acts : List Act) (client : RustClient)
+        → let server : Server H.State =
+        record { law = H.law; state = state; limit = limit; greeting = greeting } in
+        IsConversation server client_limit acts client
+        → AllByRecursion IsClear (said_by server (sent_by_client acts))
+        → AreFirst (taken_by_client acts)
+        (exchanges Greeting (said_by server (sent_by_client acts))) }
+    ensures all { (state : H.State) (limit client_limit : Option ℕ) (greeting : FtpReply)
+        (acts : List Act) (client : RustClient)
+        → let server : Server H.State =
+        record { law = H.law; state = state; limit = limit; greeting = greeting } in
+        IsConversation server client_limit acts client
+        → AllByRecursion IsClear (said_by server (sent_by_client acts))
+        → came_to_client acts ≡ written_by server (sent_by_client acts)
+        → ¬ HasFront client.replies.bytes
+        → (map Some (taken_by_client acts)
+        ≡ exchanges Greeting (said_by server (sent_by_client acts)))
+        × (client.replies.bytes ≡ []) }
 {}
 
 /// A proxy that rewrites each line as one that means the same changes nothing: neither the events of

@@ -1,4 +1,5 @@
 use Rattle.std.proofs.Common.{◌≡◌, ℕ, true, false, [], ◌∷◌, Ok, Err, codes, refl, sym, ap, ◌∙◌, arith}
+use Rattle.std.specs.Prelude.{IsOk}
 use Rattle.std.specs.Str.{is_utf8, chars}
 use Rattle.std.specs.Str.Lossy.{utf8_lossy, utf8_valid_len, utf8_error_len}
 use Rattle.unftp_control.specs.Bytes.{Bytes}
@@ -18,9 +19,9 @@ noop : outcome (codes "NOOP\r\n") ≡ Ok Noop
 unfolding is_utf8 chars utf8_lossy utf8_valid_len utf8_error_len lib.Utf8.encode
 noop = refl
 
-not_utf8 : is_utf8 (255 ∷ []) ≡ false
+no_command : IsOk (outcome (255 ∷ codes "\r\n")) → ⊥
 unfolding is_utf8 chars utf8_lossy utf8_valid_len utf8_error_len lib.Utf8.encode
-not_utf8 = refl
+no_command is = let not : false ≡ true = is in cc
 
 no_refusal : (why : Refusal) → ◌≡◌ {A = Answer} (Ok Noop) (Err why) → ⊥
 no_refusal why e = cc
@@ -29,19 +30,19 @@ replied : IsReplyInPlace (codes "NOOP\r\n") (codes "500 Not understood\r\n") →
 unfolding third
 replied (not_a_line not reply) = not (Lines-lines_of (codes "NOOP\r\n")).each.0
 replied (refused why means reply) = no_refusal why (sym noop ∙ means)
-replied (out_of_memory is_text reply) = omega (arith, ap third reply)
+replied (out_of_memory has_command reply) = omega (arith, ap third reply)
 
 no_memory : IsReplyInPlace (255 ∷ codes "\r\n") (codes "421 Out of memory\r\n") → ⊥
 unfolding third
 no_memory (not_a_line not reply) = omega (arith, ap third reply)
 no_memory (refused why means reply) = omega (arith, ap third reply)
-no_memory (out_of_memory is_text reply) = let not : false ≡ true = sym not_utf8 ∙ is_text in cc
+no_memory (out_of_memory has_command reply) = no_command has_command
 
 other : IsReplyInPlace (codes "RETR\r\n") (codes "502 Not here\r\n") → ⊥
 unfolding third
 other (not_a_line not reply) = omega (arith, ap third reply)
 other (refused why means reply) = omega (arith, ap third reply)
-other (out_of_memory is_text reply) = omega (arith, ap third reply)
+other (out_of_memory has_command reply) = omega (arith, ap third reply)
 
 pub returns : goal.returns
 unfolding is_utf8 chars utf8_lossy utf8_valid_len utf8_error_len lib.Utf8.encode

@@ -105,10 +105,17 @@ pub fn memory_ran_out_for_a_line()
         ServeError.OutOfMemory []) → v.cause ≡ LineMemory → ⊥ }
 {}
 
-/// At one event it is never the memory for its line.
-pub fn an_event_has_its_line()
-    ensures { (before after : Snapshot ℕ) (error : ServeError)
+/// At one event it is never the memory for its line; and an error of the handler is a failure that
+/// it has counted.
+pub fn an_event_fails()
+    ensures line { (before after : Snapshot ℕ) (error : ServeError)
         (v : EventFailed counter before noop after error) → v.cause ≡ LineMemory → ⊥ }
+    ensures handler { (before after : Snapshot ℕ) (error : KindAndSource)
+        → EventFailed counter before noop after (ServeError.Handler error)
+        → after.failures ≡ before.failures + 1 }
+    ensures run { (before after : Snapshot ℕ) (error : KindAndSource)
+        → RunFailed None counter before (codes "NOOP\r\n") after (ServeError.Handler error) []
+        → after.failures ≡ before.failures + 1 }
 {}
 
 /// What may be unflushed, and what a text begins with.
