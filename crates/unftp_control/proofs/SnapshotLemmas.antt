@@ -7,7 +7,6 @@ use Rattle.std.specs.List.{AllByRecursion}
 use Rattle.std.specs.Prelude.{if◌then◌else◌}
 use Rattle.std.specs.Str.{is_utf8, chars}
 use Rattle.std.specs.Str.Lossy.{utf8_lossy, utf8_valid_len, utf8_error_len}
-use Rattle.std.proofs.lemmas.Bool.{false≢true}
 use Rattle.unftp_control_serve.specs.Endings.{Snapshot, Cause, Finished, Handler, LineMemory, ReplyMemory, Write, IsCauseOf, handler_failures, AllAnswered, RunEnded, RunFailed}
 use Rattle.unftp_control_reply.specs.ErrorParts.{KindAndSource}
 use Rattle.unftp_control_serve.specs.Service.{AnsweredAll, InputState, NoRoomForPiece, Serves}

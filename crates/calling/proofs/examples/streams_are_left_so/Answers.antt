@@ -1,4 +1,4 @@
-use Rattle.std.proofs.Common.{Some, refl, sym, ap, ◌∙◌, inl, inr, length, arith}
+use Rattle.std.proofs.Common.{Some, sym, ap, ◌∙◌, inl, inr, length, arith}
 use Rattle.std.proofs.lemmas.Bool.{false≢true}
 use Rattle.calling.proofs.TlsLemmas.{asked-before_two, not_asked}
 use Rattle.calling.proofs.examples.streams_are_left_so.Goals as goal
