@@ -203,9 +203,11 @@ grown T law before after events piece items items' error had has (inl (out_of_me
     let is : Some items' ≡ Some items = sym has ∙ written ∙ had in
     ([], (let equal : items' ≡ items = cc in equal) ∙ sym (append-nil items))
 grown T law before after events piece items items' error had has (inr (done, failed)) =
-    let text = text_until (text_of law before.state done) failed.cause in
-    (text, subst (λ written. Appends (Some items) written text) has
-    (subst (λ written. Appends written after.output.written text) had failed.ended.written))
+    let text = text_until (text_of law before.state done) failed.cause in (
+      text,
+      subst (λ written. Appends (Some items) written text) has
+          (subst (λ written. Appends written after.output.written text) had failed.ended.written),
+    )
 
 -- the turn of this place, and those before and after it
 pub split_at : (turns : List Turn) (at : ℕ) (d : Turn) {turn : Turn} → at < length turns
@@ -519,7 +521,7 @@ module _ {S : Type 0} (law : Law S) (state : S) (greeting : FtpReply) (commands 
         let exact = exact_of (came_to_server acts ++ piece) now' c'.to_client.items written
         answered.answered in
         let to_client : c'.to_client.items
-            ≡ written_by server (came_to_server (acts ++ brings ∷ [])) =
+        ≡ written_by server (came_to_server (acts ++ brings ∷ [])) =
         exact ∙ ap (written_by server) (sym came) in
         let more = written-more (came_to_server acts) piece in
         let grows : c'.to_client.items ≡ c.to_client.items ++ more.0 =
@@ -571,15 +573,15 @@ module _ {S : Type 0} (law : Law S) (state : S) (greeting : FtpReply) (commands 
         ap (λ (c : Conversation). c.to_server.items) rest ∙ h.to_server
         ∙ sym (sent-more acts (receives ∷ []) ∙ append-nil (sent_by_client acts)) in
         let at_server : came_to_server (acts ++ receives ∷ [])
-            ≡ take c'.at_server c'.to_server.items =
+        ≡ take c'.at_server c'.to_server.items =
         none_came ∙ h.at_server
         ∙ sym (ap (λ (c : Conversation). take c.at_server c.to_server.items) rest) in
         let to_client : c'.to_client.items
-            ≡ written_by server (came_to_server (acts ++ receives ∷ [])) =
+        ≡ written_by server (came_to_server (acts ++ receives ∷ [])) =
         ap (λ (c : Conversation). c.to_client.items) rest ∙ h.to_client
         ∙ ap (written_by server) (sym none_came) in
         let at_client : came_to_client (acts ++ receives ∷ [])
-            ≡ take c'.at_client c'.to_client.items =
+        ≡ take c'.at_client c'.to_client.items =
         came_to_client-more acts (receives ∷ [])
         ∙ ap (λ more. came_to_client acts ++ more) (append-nil piece')
         ∙ ap (λ front. front ++ piece') h.at_client
@@ -658,7 +660,7 @@ module _ {S : Type 0} (law : Law S) (state : S) (greeting : FtpReply) (commands 
         none_came ∙ h.at_server
         ∙ sym (ap (λ (c : Conversation). take c.at_server c.to_server.items) rest) in
         let to_client : c'.to_client.items
-            ≡ written_by server (came_to_server (acts ++ act ∷ [])) =
+        ≡ written_by server (came_to_server (acts ++ act ∷ [])) =
         ap (λ (c : Conversation). c.to_client.items) rest ∙ h.to_client
         ∙ ap (written_by server) (sym none_came) in
         let at_client : came_to_client (acts ++ act ∷ []) ≡ take c'.at_client c'.to_client.items =
@@ -882,16 +884,20 @@ module _ {S : Type 0} (law : Law S) (state : S) (greeting : FtpReply) (commands 
           HasConversed-err whole later Send (error.Send why) after result split
           (HasTalked-kept (ap (λ (client : Client). client.replies.bytes) client)
           (ap (λ (client : Client). client.dialogue) client) bytes
-          (ap (λ (c : Conversation). c.at_server) rest)
-          ([], ap (λ (c : Conversation). c.to_client.items) rest
-          ∙ sym (append-nil c.to_client.items))
+          (ap (λ (c : Conversation). c.at_server) rest) (
+            [],
+            ap (λ (c : Conversation). c.to_client.items) rest
+                ∙ sym (append-nil c.to_client.items),
+          )
           (ap (λ (c : Conversation). c.at_client) rest)
           (ap (λ (c : Conversation). c.taken.items) rest))
           (subst (λ left. IsNotSent left c'.client.dialogue.sent why)
-          (sym (left_of h.talks.sent left h.acts h.talks.whole h.talks.lines ∙ is))
-          (no_line, λ has. any_room (LacksRoom c.to_server (canonical_line command)) c'.client.dialogue.sent why
-          (subst (λ sent. IsOtherError sent (LacksRoom c.to_server (canonical_line command)) why)
-          (sym (ap (λ (client : Client). client.dialogue.sent) client)) (has_line has))))
+          (sym (left_of h.talks.sent left h.acts h.talks.whole h.talks.lines ∙ is)) (
+            no_line,
+            λ has. any_room (LacksRoom c.to_server (canonical_line command)) c'.client.dialogue.sent why
+                (subst (λ sent. IsOtherError sent (LacksRoom c.to_server (canonical_line command)) why)
+                (sym (ap (λ (client : Client). client.dialogue.sent) client)) (has_line has)),
+          ))
           failed
 
       pub not-fed : (most : ℕ) → whole ≡ turns ++ ToServer most ∷ later → (why : ServeError)
@@ -922,9 +928,11 @@ module _ {S : Type 0} (law : Law S) (state : S) (greeting : FtpReply) (commands 
           (HasTalked-kept (ap (λ (c : Conversation). c.client.replies.bytes) same)
           (ap (λ (c : Conversation). c.client.dialogue) same)
           (ap (λ (c : Conversation). c.to_server.items) same)
-          (ap (λ (c : Conversation). c.at_server) same)
-          ([], ap (λ (c : Conversation). c.to_client.items) same
-          ∙ sym (append-nil c.to_client.items))
+          (ap (λ (c : Conversation). c.at_server) same) (
+            [],
+            ap (λ (c : Conversation). c.to_client.items) same
+                ∙ sym (append-nil c.to_client.items),
+          )
           (ap (λ (c : Conversation). c.at_client) same)
           (ap (λ (c : Conversation). c.taken.items) same))
           (subst (λ (c : Conversation). ¬ (piece_of c.at_client c.to_client.items most ≡ []))
@@ -938,9 +946,11 @@ module _ {S : Type 0} (law : Law S) (state : S) (greeting : FtpReply) (commands 
           HasConversed-err whole later Take why after result split
           (HasTalked-kept none.bytes none.dialogue
           (ap (λ (c : Conversation). c.to_server.items) none.rest)
-          (ap (λ (c : Conversation). c.at_server) none.rest)
-          ([], ap (λ (c : Conversation). c.to_client.items) none.rest
-          ∙ sym (append-nil c.to_client.items))
+          (ap (λ (c : Conversation). c.at_server) none.rest) (
+            [],
+            ap (λ (c : Conversation). c.to_client.items) none.rest
+                ∙ sym (append-nil c.to_client.items),
+          )
           (ap (λ (c : Conversation). c.at_client) none.rest) none.taken)
           (by_why why none.because)
           failed
@@ -991,7 +1001,7 @@ module _ {S : Type 0} (law : Law S) (state : S) (greeting : FtpReply) (commands 
     (has : (command : FtpCommand) → IsReadBack command → HasLine command × HasTypedFields command)
     (events_are : (commands : List FtpCommand) → AllByRecursion (CanBeSent None) commands
     → events None (sent commands) ≡ map Command commands)
-    (clear : AllByRecursion IsClear (greeting ∷ said law state commands)) where
+    (clear : AllByRecursion IsClear (said law state greeting commands)) where
   abbrev ends : Server S
   ends = server_of law state greeting
 
@@ -999,20 +1009,20 @@ module _ {S : Type 0} (law : Law S) (state : S) (greeting : FtpReply) (commands 
   said_so_far = said_by ends (sent_by_client acts)
 
   said_is : (some : List FtpCommand) → h.sent ≡ some
-      → said_so_far ≡ greeting ∷ said law state some
+      → said_so_far ≡ said law state greeting some
   said_is some same = ap (λ (events : List FtpEvent). greeting ∷ replies law state (run_of law state events))
       (ap (events None) (ap concat h.lines ∙ joined h.sent)
       ∙ events_are h.sent (all_can_be_sent h.sent has h.read_back) ∙ ap (map Command) same)
 
-  said_begin : Begins (greeting ∷ said law state commands) said_so_far
+  said_begin : Begins (said law state greeting commands) said_so_far
   said_begin =
       let first = replies_first law state (map Command h.sent) (map Command h.first.0) in (
         first.0,
         ap (λ (events : List FtpEvent). greeting
-        ∷ replies law state (run_of law state events))
-        (ap (map Command) h.first.1 ∙ map-append Command h.sent h.first.0)
-        ∙ ap (λ (later : List FtpReply). greeting ∷ later) first.1
-        ∙ ap (λ (said : List FtpReply). said ++ first.0) (sym (said_is h.sent refl)),
+            ∷ replies law state (run_of law state events))
+            (ap (map Command) h.first.1 ∙ map-append Command h.sent h.first.0)
+            ∙ ap (λ (later : List FtpReply). greeting ∷ later) first.1
+            ∙ ap (λ (said : List FtpReply). said ++ first.0) (sym (said_is h.sent refl)),
       )
 
   clear_so_far : AllByRecursion IsClear said_so_far
@@ -1023,11 +1033,11 @@ module _ {S : Type 0} (law : Law S) (state : S) (greeting : FtpReply) (commands 
       (AllByRecursion IsClear said_so_far
       → AreFirst (taken_by_client acts) (exchanges Greeting said_so_far))
       → AreFirst (map reply_to c.taken.items)
-      (exchanges Greeting (greeting ∷ said law state commands))
+      (exchanges Greeting (said law state greeting commands))
   understood so_far =
-      subst (λ taken. AreFirst taken (exchanges Greeting (greeting ∷ said law state commands)))
+      subst (λ taken. AreFirst taken (exchanges Greeting (said law state greeting commands)))
       (sym h.taken)
-      (begins_first (exchanges Greeting (greeting ∷ said law state commands))
+      (begins_first (exchanges Greeting (said law state greeting commands))
       (exchanges Greeting said_so_far) (map Some (taken_by_client acts))
       (subst (λ all. Begins (exchanges Greeting all) (exchanges Greeting said_so_far))
       (sym said_begin.1) (exchanges_first Greeting said_so_far said_begin.0))
@@ -1040,7 +1050,7 @@ module _ {S : Type 0} (law : Law S) (state : S) (greeting : FtpReply) (commands 
       → (map Some (taken_by_client acts) ≡ exchanges Greeting said_so_far)
       × (c.client.replies.bytes ≡ []))
       → map Some (map reply_to c.taken.items)
-      ≡ exchanges Greeting (greeting ∷ said law state commands)
+      ≡ exchanges Greeting (said law state greeting commands)
   understood_all over all =
       let none = none_left h.first.0 (omega (
         arith,

@@ -1,3 +1,4 @@
+mod Computing
 mod PieceLemmas
 mod ExampleLemmas
 mod CallerLemmas

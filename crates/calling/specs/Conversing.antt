@@ -31,9 +31,10 @@ use Rattle.calling.specs.declared.conversation.ConverseError.TheVariants as erro
 use Rattle.calling.specs.declared.conversation.Turn.{Turn}
 use Rattle.calling.specs.declared.conversation.Turn.TheVariants.{Send, ToServer, ToClient, Take}
 
--- what a handler says to these commands, up to the one that ends its session
-abbrev pub said : {S : Type 0} → Law S → S → List FtpCommand → List FtpReply
-said law s commands = replies law s (run_of law s (map Command commands))
+-- what a server says: its greeting, and its handler's replies to these commands, up to the one that
+-- ends the session
+abbrev pub said : {S : Type 0} → Law S → S → FtpReply → List FtpCommand → List FtpReply
+said law s greeting commands = greeting ∷ replies law s (run_of law s (map Command commands))
 
 -- a server with this handler and greeting, whose lines may have any length
 abbrev pub server_of : {S : Type 0} → Law S → S → FtpReply → Server S

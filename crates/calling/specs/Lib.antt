@@ -7,6 +7,7 @@ pub mod NoFiles
 pub mod NextCode
 pub mod Sessions
 pub mod Conversing
+pub mod ExampleTalks
 pub mod Pieces
 pub mod FactList
 pub mod WholeLine

@@ -271,17 +271,14 @@ pub fn converse<H: Handler>(
     // Where each reply is sent, plain and final, those that the client has taken are the first ones:
     // to the greeting, and then to each command in order.
     ensures understood { (greeting : FtpReply) → conversation.old.to_client.items ≡ encoded greeting
-        → AllByRecursion IsClear
-        (greeting ∷ said H.law (H.state handler.old) (map command_of commands.now))
-        → AreFirst (map reply_to conversation.new.taken.items) (exchanges Greeting
-        (greeting ∷ said H.law (H.state handler.old) (map command_of commands.now))) }
+        → let replies = said H.law (H.state handler.old) greeting (map command_of commands.now) in
+        AllByRecursion IsClear replies
+        → AreFirst (map reply_to conversation.new.taken.items) (exchanges Greeting replies) }
     // And once all was sent and came, they are all.
     ensures all { (greeting : FtpReply) → conversation.old.to_client.items ≡ encoded greeting
-        → AllByRecursion IsClear
-        (greeting ∷ said H.law (H.state handler.old) (map command_of commands.now))
-        → IsOver (map command_of commands.now) conversation.new
-        → map Some (map reply_to conversation.new.taken.items) ≡ exchanges Greeting
-        (greeting ∷ said H.law (H.state handler.old) (map command_of commands.now)) }
+        → let replies = said H.law (H.state handler.old) greeting (map command_of commands.now) in
+        AllByRecursion IsClear replies → IsOver (map command_of commands.now) conversation.new
+        → map Some (map reply_to conversation.new.taken.items) ≡ exchanges Greeting replies }
 {
     laws::conversation::<H>();
     laws::any_order::<H>();

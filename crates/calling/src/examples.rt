@@ -15,6 +15,9 @@ ghost use Rattle.unftp_control.specs.Service.{InputState};
 ghost use Rattle.unftp_control.specs.Writing.{OutputState};
 ghost use Rattle.unftp_control.specs.declared.commands.AuthParam.TheVariants.{Ssl, Tls};
 
+pub mod conversing;
+pub mod sessions;
+
 use crate::event_loop::Turn;
 use crate::whole_line::{Asked, Modes};
 use unftp_control::line_parser::ParseErrorKind;

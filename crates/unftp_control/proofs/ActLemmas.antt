@@ -51,9 +51,9 @@ said_first server input more =
     (events server.limit (incomplete_line input ++ more)) in (
       first.0,
       ap (λ (events : List FtpEvent). server.greeting
-      ∷ replies server.law server.state (run_of server.law server.state events))
-      (events-append server.limit input more)
-      ∙ ap (λ (later : List FtpReply). server.greeting ∷ later) first.1,
+          ∷ replies server.law server.state (run_of server.law server.state events))
+          (events-append server.limit input more)
+          ∙ ap (λ (later : List FtpReply). server.greeting ∷ later) first.1,
     )
 
 pub all_of_first : {X : Type 0} (P : X → Type 0) (xs ys : List X) → AllByRecursion P (xs ++ ys)
@@ -292,6 +292,6 @@ module _ {S : Type 0} (server : Server S) (limit : Option ℕ) (acts : List Act)
       ∙ sym (append-nil (map (λ (t : ReplyTo). t.reply) (taken_by_client acts)))) read.0)
       clear in (
         sym (rest.1 ∙ ap (λ more. map Some (taken_by_client acts) ++ more) (rest.2 refl)
-        ∙ append-nil (map Some (taken_by_client acts))),
+            ∙ append-nil (map Some (taken_by_client acts))),
         read.2,
       )

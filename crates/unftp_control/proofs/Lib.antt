@@ -16,6 +16,9 @@ mod NeededLemmas
 mod NoonLemmas
 mod ConversationLemmas
 pub mod ActLemmas
+pub use Rattle.unftp_control_defs.proofs.EncodingLemmas
+pub use Rattle.unftp_control_defs.proofs.ReplyPartLemmas
+pub use Rattle.unftp_control_defs.proofs.ReplyCasesLemmas
 pub use Rattle.unftp_control_defs.proofs.LineLemmas
 pub use Rattle.unftp_control_defs.proofs.RunLemmas
 pub use Rattle.unftp_control_serve.proofs.SendLemmas

@@ -1,11 +1,15 @@
 -- Replies and states of a client for the examples.
-use Rattle.std.specs.Prelude.{ℕ, Bool, false, [], ◌∷◌, Option, Some, None, codes}
+use Rattle.std.specs.Prelude.{ℕ, Bool, false, List, [], ◌∷◌, Option, Some, None, codes}
 use Rattle.unftp_control_defs.specs.Bytes.{Bytes}
 use Rattle.unftp_control_read.specs.ReplyDecoding.{appended, no_bytes}
-use Rattle.unftp_control_client.specs.Steps.{ReplyTo}
+use Rattle.unftp_control_defs.specs.FtpReply.{CodeAndMsg}
+use Rattle.unftp_control_client.specs.Steps.{Received, ReplyTo, Sent, Took}
 use Rattle.unftp_control_client.specs.declared.Client.{Client}
 use Rattle.unftp_control_client.specs.declared.dialogue.Dialogue.{Dialogue}
 use Rattle.unftp_control_client.specs.declared.dialogue.To.{To}
+use Rattle.unftp_control_client.specs.declared.dialogue.To.TheVariants.{Command, Greeting}
+use Rattle.unftp_control.specs.Acts.{Act, AtClient, AtServer, Server}
+use Rattle.unftp_control.specs.Snapshots.{farewell}
 
 -- lines that a client sends
 abbrev pub noop : Bytes
@@ -20,6 +24,16 @@ reply_with code to = record { to = to; reply = (code, [] ∷ []) }
 
 abbrev pub auth_tls : Bytes
 auth_tls = codes "AUTH TLS\r\n"
+
+-- A server that greets with 220, and then answers as `farewell` does. NOOP is sent to it and answered.
+abbrev pub farewell_server : Server Bool
+farewell_server =
+    record { law = farewell; state = false; limit = None; greeting = CodeAndMsg 220 [] }
+
+abbrev pub talk : List Act
+talk = AtClient (Sent noop) ∷ AtServer noop ∷ AtClient (Received (codes "220\r\n2"))
+    ∷ AtClient (Took (reply_with 220 Greeting)) ∷ AtClient (Received (codes "00\r\n"))
+    ∷ AtClient (Took (reply_with 200 (Command 0))) ∷ []
 
 -- So many commands were sent, none for TLS, and so many of them have their final reply.
 abbrev pub dialogue : ℕ → Option ℕ → Dialogue

@@ -2,7 +2,7 @@
 use crate::held::assert_held;
 use calling::client::{first_code, next_code, tls_agreed};
 use calling::codec::{answer, first_is_noop, next_is_noop};
-use calling::conversation::converse;
+use calling::conversation::{Conversation, ConverseError, Turn as Told, converse};
 use calling::event_loop::{Turn, answer_next};
 use calling::handler::Basic;
 use calling::lines::log_line;
@@ -14,11 +14,11 @@ use std::alloc::Global;
 use std::io;
 use std::io::{Read, Write};
 use std::process::Abort;
-use unftp_control::client::{Client, ClientReply, To};
+use unftp_control::client::{Client, ClientReply, SendError, To};
 use unftp_control::codecs::FtpCodec;
 use unftp_control::command::Command;
 use unftp_control::commands::AuthParam;
-use unftp_control::read::{ReceiveError, ReplyDecoder};
+use unftp_control::read::{NextReplyError, ReceiveError, ReplyDecoder};
 use unftp_control::serve::{EventDecoder, Input, Output, ServeError, Served};
 
 /// Logs a line after those that are logged.
@@ -67,6 +67,16 @@ fn assert_first(rt: &impl Abort, alloc: Global, bytes: &[u8], want: Option<(u16,
     assert!(rt; first == want);
 }
 
+/// A client that was greeted.
+fn greeted(rt: &impl Abort, alloc: Global) -> Client {
+    let mut client = Client::new(alloc);
+    let mut greeting = b"220 ready\r\n".as_slice();
+    let taken = client.read_reply(&mut greeting).expect(rt, "a reply");
+    assert!(rt; taken.is_some());
+    drop(taken);
+    client
+}
+
 /// A client that was greeted, and that has sent AUTH TLS.
 fn asking_for_tls(rt: &impl Abort, alloc: Global) -> Client {
     let mut client = greeted(rt, alloc);
@@ -112,34 +122,71 @@ fn a_client_begins_tls_right_after_the_reply_or_not_at_all(rt: HostRuntime) {
     assert_agreed(&rt, alloc, b"234 Begin", false);
 }
 
-/// A client that was greeted.
-fn greeted(rt: &impl Abort, alloc: Global) -> Client {
-    let mut client = Client::new(alloc);
-    let mut greeting = b"220 ready\r\n".as_slice();
-    let taken = client.read_reply(&mut greeting).expect(rt, "a reply");
-    assert!(rt; taken.is_some());
-    drop(taken);
-    client
+/// The next number of a linear congruential generator; its high bits repeat least often.
+fn next_number(number: u32) -> u32 {
+    number.wrapping_mul(1_664_525).wrapping_add(1_013_904_223)
 }
 
-/// The reply is to the command of this place, and has this code.
-fn assert_to(rt: &impl Abort, taken: &ClientReply, place: u64, code: u16) {
-    assert!(rt; taken.to == To::Command(place) && taken.reply.code == code);
+/// A turn that follows from the number.
+fn turn_of(number: u32) -> Told {
+    let most = (number >> 20) as usize % 16;
+    match number >> 30 {
+        0 => Told::Send,
+        1 => Told::ToServer(most),
+        2 => Told::ToClient(most),
+        _ => Told::Take,
+    }
 }
 
-/// The replies to NOOP, PWD and QUIT are taken, each as one to its command.
+/// Turns that follow from the seed, and then those at which the rest is sent, carried and taken.
+fn turns_of(rt: &impl Abort, alloc: Global, seed: u32) -> Vec<Told> {
+    let mut turns = Vec::new(alloc);
+    let mut number = seed;
+    for _ in 0..seed % 40 {
+        number = next_number(number);
+        turns.push(turn_of(number)).expect(rt, "memory");
+    }
+    for turn in [
+        Told::Send,
+        Told::Send,
+        Told::Send,
+        Told::ToServer(99),
+        Told::ToClient(99),
+    ] {
+        turns.push(turn).expect(rt, "memory");
+    }
+    for _ in 0..4 {
+        turns.push(Told::Take).expect(rt, "memory");
+    }
+    turns
+}
+
+/// A client and a server, whose greeting is on its way.
+fn begun(rt: &impl Abort, alloc: Global) -> Conversation {
+    let greeting = Vec::from_slice(alloc, b"220 ready\r\n").expect(rt, "memory");
+    Conversation::new(alloc, greeting)
+}
+
+/// The reply is to this, and has this code.
+fn assert_to(rt: &impl Abort, taken: &ClientReply, to: To, code: u16) {
+    assert!(rt; taken.to == to && taken.reply.code == code);
+}
+
+/// The greeting is taken, and the replies to NOOP, PWD and QUIT, each as one to its command.
 fn assert_understood(rt: &impl Abort, alloc: Global, seed: u32) {
-    let mut client = greeted(rt, alloc);
+    let mut conversation = begun(rt, alloc);
     let commands = [Command::Noop, Command::Pwd, Command::Quit];
-    let answers = converse(alloc, &mut client, &commands, &mut Basic::new(), seed);
+    let turns = turns_of(rt, alloc, seed);
+    let handler = &mut Basic::new();
+    let conversed = converse(&mut conversation, &commands, handler, turns.as_slice());
     drop(commands);
-    let taken = answers.expect(rt, "replies");
-    assert!(rt; taken.len() == 3 && client.owed() == 0);
-    drop(client);
-    assert_to(rt, &taken[0], 0, 200);
-    assert_to(rt, &taken[1], 1, 502);
-    assert_to(rt, &taken[2], 2, 221);
-    drop(taken);
+    conversed.expect(rt, "all turns");
+    assert!(rt; conversation.taken.len() == 4 && conversation.client.owed() == 0);
+    assert_to(rt, &conversation.taken[0], To::Greeting, 220);
+    assert_to(rt, &conversation.taken[1], To::Command(0), 200);
+    assert_to(rt, &conversation.taken[2], To::Command(1), 502);
+    assert_to(rt, &conversation.taken[3], To::Command(2), 221);
+    drop(conversation);
 }
 
 #[test]
@@ -147,6 +194,42 @@ fn a_client_and_a_server_converse_whatever_the_pieces(rt: HostRuntime) {
     for seed in 0..200 {
         assert_understood(&rt, rt.alloc(), seed);
     }
+}
+
+#[test]
+fn a_conversation_stops_at_a_command_without_a_line(rt: HostRuntime) {
+    let mut conversation = begun(&rt, rt.alloc());
+    let commands = [Command::Retr {
+        path: String::new(rt.alloc()),
+    }];
+    let turns = [Told::ToClient(99), Told::Take, Told::Send, Told::Take];
+    let conversed = converse(&mut conversation, &commands, &mut Basic::new(), &turns);
+    drop(commands);
+    assert!(rt; matches!(&conversed, Err(ConverseError::Send(SendError::NoLine))));
+    drop(conversed);
+    // what was taken before stays
+    assert!(rt; conversation.taken.len() == 1 && conversation.client.owed() == 0);
+    drop(conversation);
+}
+
+/// The error prints this text.
+fn assert_prints(rt: &impl Abort, alloc: Global, error: ConverseError, want: &str) {
+    let text = format!(in alloc; "{error}").expect(rt, "memory");
+    drop(error);
+    assert!(rt; text.as_str() == want);
+    drop(text);
+}
+
+#[test]
+fn errors_of_a_conversation_print_their_texts(rt: HostRuntime) {
+    let alloc = rt.alloc();
+    let send = ConverseError::Send(SendError::NoLine);
+    assert_prints(&rt, alloc, send, "a command was not sent");
+    let serve = ConverseError::Serve(ServeError::Stopped);
+    assert_prints(&rt, alloc, serve, "the server stopped");
+    let reply = ConverseError::Reply(NextReplyError::Malformed);
+    assert_prints(&rt, alloc, reply, "a reply could not be taken");
+    assert_prints(&rt, alloc, ConverseError::OutOfMemory, "out of memory");
 }
 
 /// Two bytes are left.

@@ -55,7 +55,7 @@ returns-in_err-bring_to_server-in-ToServer g c greeting greeted =
     let piece = piece_of c.loop-turn.conversation.at_server
     c.loop-turn.conversation.to_server.items c.in-ToServer.most in
     let over = λ (finished : c.loop-turn.conversation.server.finished ≡ true).
-        (fed.over finished).0 in
+    (fed.over finished).0 in
     not-fed g.H.Handler.law (g.H.Handler.state c.args.handler.now) greeting
     (map command_of c.args.commands.now) (g.H.Handler.failures c.args.handler.now) so_far
     c.bring_to_server.new.self turns (drop (suc at) turns)
@@ -122,81 +122,81 @@ loop-turn-preserved g c =
     let more = take_more c.args.turns.now c.loop-turn.turn-index Send c.loop-turn-test.true in
     elim c.match-turn.branch [
       | in-Send+in-Some+in_ok-send-in-Send w ↦
-        let sent = w.in_ok-send-in-Send.ensures in
-        rw (w.conversation-is, w.handler-is, w.left-is, more, w.in-Send.is) (record {
-          within = Within-sent within w.send.new.self
-              (canonical_line (command_of w.in-Some.command.now)) sent.line
-              (ap (λ (client : Client). client.replies) sent.client) sent.rest;
-          so_far = λ greeting greeted. subst
-              (λ (bytes : Vec ℕ). SoFar law state greeting commands failures
-              (take c.loop-turn.turn-index c.args.turns.now ++ Send ∷ [])
-              (map command_of w.in-Some.rest.now)
-              (snapshot_with g.H.Handler.state g.H.Handler.failures appended_state_of
-              c.loop-turn.handler bytes) w.send.new.self)
-              (sym (ap (λ (c : Conversation). c.to_client) sent.rest)) (SoFar-sent law state greeting commands failures
-              (c.loop-turn.invariant.so_far greeting greeted) w.send.new.self
-              (command_of w.in-Some.command.now) (map command_of w.in-Some.rest.now)
-              (ap (map command_of) w.in-Some.ensures.cases.0) within.server sent.client sent.line
-              sent.read_back sent.rest);
-        })
+          let sent = w.in_ok-send-in-Send.ensures in
+          rw (w.conversation-is, w.handler-is, w.left-is, more, w.in-Send.is) (record {
+            within = Within-sent within w.send.new.self
+                (canonical_line (command_of w.in-Some.command.now)) sent.line
+                (ap (λ (client : Client). client.replies) sent.client) sent.rest;
+            so_far = λ greeting greeted. subst
+                (λ (bytes : Vec ℕ). SoFar law state greeting commands failures
+                (take c.loop-turn.turn-index c.args.turns.now ++ Send ∷ [])
+                (map command_of w.in-Some.rest.now)
+                (snapshot_with g.H.Handler.state g.H.Handler.failures appended_state_of
+                c.loop-turn.handler bytes) w.send.new.self)
+                (sym (ap (λ (c : Conversation). c.to_client) sent.rest)) (SoFar-sent law state greeting commands failures
+                (c.loop-turn.invariant.so_far greeting greeted) w.send.new.self
+                (command_of w.in-Some.command.now) (map command_of w.in-Some.rest.now)
+                (ap (map command_of) w.in-Some.ensures.cases.0) within.server sent.client sent.line
+                sent.read_back sent.rest);
+          })
       | in-Send+in_default w ↦
-        rw (w.conversation-is, w.handler-is, w.left-is, more, w.in-Send.is) (record {
-          within = within;
-          so_far = λ greeting greeted. SoFar-none_left law state greeting commands failures
-              (c.loop-turn.invariant.so_far greeting greeted) c.loop-turn.conversation
-              (none_of command_of c.loop-turn.left.now w.in_default.ensures.cases) refl;
-        })
+          rw (w.conversation-is, w.handler-is, w.left-is, more, w.in-Send.is) (record {
+            within = within;
+            so_far = λ greeting greeted. SoFar-none_left law state greeting commands failures
+                (c.loop-turn.invariant.so_far greeting greeted) c.loop-turn.conversation
+                (none_of command_of c.loop-turn.left.now w.in_default.ensures.cases) refl;
+          })
       | in-ToServer+in_ok-bring_to_server-in-ToServer w ↦
-        let fed = w.in_ok-bring_to_server-in-ToServer.ensures in
-        let before = snapshot_with g.H.Handler.state g.H.Handler.failures appended_state_of
-        c.loop-turn.handler c.loop-turn.conversation.to_client in
-        let after = snapshot_with g.H.Handler.state g.H.Handler.failures appended_state_of
-        w.bring_to_server.new.handler w.bring_to_server.new.self.to_client in
-        let piece = piece_of c.loop-turn.conversation.at_server
-        c.loop-turn.conversation.to_server.items w.in-ToServer.most in
-        rw (w.conversation-is, w.handler-is, w.left-is, more, w.in-ToServer.is) (record {
-          within = Within-fed within w.bring_to_server.new.self law
-              (g.H.Handler.state c.loop-turn.handler)
-              (run_with c.loop-turn.conversation.server law
-              (g.H.Handler.state c.loop-turn.handler) piece) before after w.in-ToServer.most refl
-              refl fed.ok fed.rest fed.fed fed.outcome
-              (λ finished. let same = fed.over finished in (same.2, same.3));
-          so_far = λ greeting greeted.
-              let so_far = c.loop-turn.invariant.so_far greeting greeted in
-              SoFar-fed law state greeting commands failures so_far w.bring_to_server.new.self
-              w.in-ToServer.most after within.server within.client fed.ok fed.rest refl
-              (AnsweredSoFar-more so_far.talks.answered piece fed.fed fed.outcome
-              (λ finished. let same = fed.over finished in (
-                λ i. snapshot_with g.H.Handler.state g.H.Handler.failures appended_state_of
-                    (same.1 i) (same.2 i),
-                same.3,
-              )));
-        })
+          let fed = w.in_ok-bring_to_server-in-ToServer.ensures in
+          let before = snapshot_with g.H.Handler.state g.H.Handler.failures appended_state_of
+          c.loop-turn.handler c.loop-turn.conversation.to_client in
+          let after = snapshot_with g.H.Handler.state g.H.Handler.failures appended_state_of
+          w.bring_to_server.new.handler w.bring_to_server.new.self.to_client in
+          let piece = piece_of c.loop-turn.conversation.at_server
+          c.loop-turn.conversation.to_server.items w.in-ToServer.most in
+          rw (w.conversation-is, w.handler-is, w.left-is, more, w.in-ToServer.is) (record {
+            within = Within-fed within w.bring_to_server.new.self law
+                (g.H.Handler.state c.loop-turn.handler)
+                (run_with c.loop-turn.conversation.server law
+                (g.H.Handler.state c.loop-turn.handler) piece) before after w.in-ToServer.most refl
+                refl fed.ok fed.rest fed.fed fed.outcome
+                (λ finished. let same = fed.over finished in (same.2, same.3));
+            so_far = λ greeting greeted.
+                let so_far = c.loop-turn.invariant.so_far greeting greeted in
+                SoFar-fed law state greeting commands failures so_far w.bring_to_server.new.self
+                w.in-ToServer.most after within.server within.client fed.ok fed.rest refl
+                (AnsweredSoFar-more so_far.talks.answered piece fed.fed fed.outcome
+                (λ finished. let same = fed.over finished in (
+                  λ i. snapshot_with g.H.Handler.state g.H.Handler.failures appended_state_of
+                      (same.1 i) (same.2 i),
+                  same.3,
+                )));
+          })
       | in-ToClient+in_ok-bring_to_client-in-ToClient w ↦
-        let received = w.in_ok-bring_to_client-in-ToClient.ensures.ok in
-        rw (w.conversation-is, w.handler-is, w.left-is, more, w.in-ToClient.is) (record {
-          within = Within-received within w.bring_to_client.new.self w.in-ToClient.most received;
-          so_far = λ greeting greeted. subst
-              (λ (bytes : Vec ℕ). SoFar law state greeting commands failures
-              (take c.loop-turn.turn-index c.args.turns.now ++ ToClient w.in-ToClient.most ∷ [])
-              (map command_of c.loop-turn.left.now)
-              (snapshot_with g.H.Handler.state g.H.Handler.failures appended_state_of
-              c.loop-turn.handler bytes) w.bring_to_client.new.self)
-              (sym (ap (λ (c : Conversation). c.to_client) received)) (SoFar-received law state greeting commands failures
-              (c.loop-turn.invariant.so_far greeting greeted) w.bring_to_client.new.self
-              w.in-ToClient.most within.client received);
-        })
+          let received = w.in_ok-bring_to_client-in-ToClient.ensures.ok in
+          rw (w.conversation-is, w.handler-is, w.left-is, more, w.in-ToClient.is) (record {
+            within = Within-received within w.bring_to_client.new.self w.in-ToClient.most received;
+            so_far = λ greeting greeted. subst
+                (λ (bytes : Vec ℕ). SoFar law state greeting commands failures
+                (take c.loop-turn.turn-index c.args.turns.now ++ ToClient w.in-ToClient.most ∷ [])
+                (map command_of c.loop-turn.left.now)
+                (snapshot_with g.H.Handler.state g.H.Handler.failures appended_state_of
+                c.loop-turn.handler bytes) w.bring_to_client.new.self)
+                (sym (ap (λ (c : Conversation). c.to_client) received)) (SoFar-received law state greeting commands failures
+                (c.loop-turn.invariant.so_far greeting greeted) w.bring_to_client.new.self
+                w.in-ToClient.most within.client received);
+          })
       | in-Take+in_ok-take-in-Take w ↦
-        let one = w.in_ok-take-in-Take.ensures in
-        rw (w.conversation-is, w.handler-is, w.left-is, more, w.in-Take.is) (record {
-          within = Within-taken within w.take.new.self one;
-          so_far = λ greeting greeted. subst
-              (λ (bytes : Vec ℕ). SoFar law state greeting commands failures
-              (take c.loop-turn.turn-index c.args.turns.now ++ Take ∷ [])
-              (map command_of c.loop-turn.left.now)
-              (snapshot_with g.H.Handler.state g.H.Handler.failures appended_state_of
-              c.loop-turn.handler bytes) w.take.new.self)
-              (sym (ap (λ (c : Conversation). c.to_client) one.rest)) (SoFar-taken law state greeting commands failures
-              (c.loop-turn.invariant.so_far greeting greeted) w.take.new.self one);
-        })
+          let one = w.in_ok-take-in-Take.ensures in
+          rw (w.conversation-is, w.handler-is, w.left-is, more, w.in-Take.is) (record {
+            within = Within-taken within w.take.new.self one;
+            so_far = λ greeting greeted. subst
+                (λ (bytes : Vec ℕ). SoFar law state greeting commands failures
+                (take c.loop-turn.turn-index c.args.turns.now ++ Take ∷ [])
+                (map command_of c.loop-turn.left.now)
+                (snapshot_with g.H.Handler.state g.H.Handler.failures appended_state_of
+                c.loop-turn.handler bytes) w.take.new.self)
+                (sym (ap (λ (c : Conversation). c.to_client) one.rest)) (SoFar-taken law state greeting commands failures
+                (c.loop-turn.invariant.so_far greeting greeted) w.take.new.self one);
+          })
     ]

@@ -6,6 +6,11 @@ ghost use Rattle.unftp_control_defs.specs.Events.{events};
 ghost use Rattle.unftp_control_defs.specs.FtpCommand.{Noop, Retr, User};
 ghost use Rattle.unftp_control_defs.specs.FtpReply.{CodeAndMsg, MultiLine, Nothing};
 ghost use Rattle.unftp_control_defs.specs.Run.{replies, run_for, text_for};
+ghost use Rattle.unftp_control_client.specs.Steps.{Received, Sent, Took};
+ghost use Rattle.unftp_control_client.specs.declared.Client.{Client as RustClient};
+ghost use Rattle.unftp_control_client.specs.declared.dialogue.To.TheVariants.{Command, Greeting};
+ghost use Rattle.unftp_control.specs.Acts.{AreFirst, AtClient, AtServer, InOrder, IsClear, IsConversation, IsFinal, came_to_client, came_to_server, client_steps, exchanges, said_by, sent_by_client, taken_by_client, written_by};
+ghost use Rattle.unftp_control.specs.ClientRuns.{client_with, dialogue, farewell_server, noop, reply_with, retr, talk};
 ghost use Rattle.unftp_control.specs.Conversation.{CanBeSent, IsReadable, KeepsMeaning, Show, canonical_of, forwarded_of, rewritten, sent};
 ghost use Rattle.unftp_control.specs.Snapshots.{farewell};
 
@@ -48,6 +53,66 @@ pub fn lines_are_answered_so()
     ensures replies { Show ((200, [] ∷ []) ∷ (500, [] ∷ []) ∷ (221, [] ∷ []) ∷ [])
         (replies farewell false
         (run_for None farewell false (codes "NOOP\r\nNOOP x\r\nQUIT\r\nNOOP\r\n"))) }
+{}
+
+/// A talk: NOOP is sent and answered, and what each end has of it.
+pub fn acts_are_so()
+    ensures steps { client_steps talk ≡ Sent noop ∷ Received (codes "220\r\n2")
+        ∷ Took (reply_with 220 Greeting) ∷ Received (codes "00\r\n")
+        ∷ Took (reply_with 200 (Command 0)) ∷ [] }
+    ensures sent { sent_by_client (AtClient (Sent noop) ∷ AtServer (codes "NO")
+        ∷ AtClient (Sent retr) ∷ []) ≡ codes "NOOP\r\nRETR x\r\n" }
+    ensures came_to_server { came_to_server (AtServer (codes "NO") ∷ AtClient (Sent noop)
+        ∷ AtServer (codes "OP") ∷ []) ≡ codes "NOOP" }
+    ensures came_to_client { came_to_client talk ≡ codes "220\r\n200\r\n" }
+    ensures taken { taken_by_client talk
+        ≡ reply_with 220 Greeting ∷ reply_with 200 (Command 0) ∷ [] }
+    ensures written { written_by farewell_server (codes "NOOP\r\nQU")
+        ≡ codes "220\r\n200\r\n" }
+    ensures nothing_came { written_by farewell_server [] ≡ codes "220\r\n" }
+    ensures said { said_by farewell_server (codes "NOOP\r\nQUIT\r\nNOOP\r\n")
+        ≡ CodeAndMsg 220 [] ∷ CodeAndMsg 200 [] ∷ CodeAndMsg 221 [] ∷ [] }
+{}
+
+/// No byte comes before it was sent, at either end.
+pub fn acts_are_in_order()
+    ensures all { InOrder farewell_server talk }
+    ensures greeting { InOrder farewell_server (AtClient (Received (codes "220\r\n")) ∷ []) }
+    ensures not_sent { ¬ InOrder farewell_server (AtServer (codes "N") ∷ []) }
+    ensures not_said { ¬ InOrder farewell_server (AtClient (Received (codes "220\r\n2")) ∷ []) }
+    ensures another_byte { ¬ InOrder farewell_server
+        (AtClient (Sent noop) ∷ AtServer (codes "P") ∷ []) }
+    ensures conversation { IsConversation farewell_server None
+        (AtClient (Sent noop) ∷ AtServer (codes "NO") ∷ []) (client_with (dialogue 1 None) []) }
+    ensures came_first { (client : RustClient) → ¬ IsConversation farewell_server None
+        (AtServer (codes "NO") ∷ AtClient (Sent noop) ∷ []) client }
+    ensures not_counted { ¬ IsConversation farewell_server None
+        (AtClient (Sent noop) ∷ []) (client_with (dialogue 0 None) []) }
+    ensures no_line { (client : RustClient) → ¬ IsConversation farewell_server None
+        (AtClient (Sent (codes "NOOP")) ∷ []) client }
+{}
+
+/// Final replies, and what each of some replies is to.
+pub fn replies_are_exchanged_so()
+    ensures completion { IsFinal (CodeAndMsg 200 []) }
+    ensures preliminary { ¬ IsFinal (CodeAndMsg 199 []) }
+    ensures below { IsFinal (CodeAndMsg 99 []) }
+    ensures clear { IsClear (CodeAndMsg 200 []) }
+    ensures not_final { ¬ IsClear (CodeAndMsg 199 []) }
+    ensures not_readable { ¬ IsClear (CodeAndMsg 99 []) }
+    ensures none { exchanges Greeting [] ≡ [] }
+    ensures three { exchanges Greeting (CodeAndMsg 220 [] ∷ CodeAndMsg 200 [] ∷ CodeAndMsg 221 [] ∷ [])
+        ≡ Some (reply_with 220 Greeting) ∷ Some (reply_with 200 (Command 0))
+        ∷ Some (reply_with 221 (Command 1)) ∷ [] }
+    ensures not_sent { exchanges Greeting (Nothing ∷ []) ≡ None ∷ [] }
+    ensures first { AreFirst (reply_with 220 Greeting ∷ [])
+        (exchanges Greeting (CodeAndMsg 220 [] ∷ CodeAndMsg 200 [] ∷ [])) }
+    ensures another_place { ¬ AreFirst (reply_with 220 (Command 0) ∷ [])
+        (exchanges Greeting (CodeAndMsg 220 [] ∷ CodeAndMsg 200 [] ∷ [])) }
+    ensures left_out { ¬ AreFirst (reply_with 200 (Command 0) ∷ [])
+        (exchanges Greeting (CodeAndMsg 220 [] ∷ CodeAndMsg 200 [] ∷ [])) }
+    ensures one_too_many { ¬ AreFirst (reply_with 220 Greeting ∷ reply_with 200 (Command 0) ∷ [])
+        (exchanges Greeting (CodeAndMsg 220 [] ∷ [])) }
 {}
 
 /// Lines that are rewritten, and a line that doesn't keep its meaning.

@@ -22,5 +22,17 @@ returns c = record {
     (refl, refl),
     (after, (is.0, is.1, receives.takes_next.takes), (refl, refl)),
   );
+  none = λ before after takes is. (is, takes.same);
+  failed = λ before after error takes is. (is, takes.1);
+  read_none = λ before after input left receives is. (
+    record before { replies = appended before.replies receives.read },
+    (refl, refl),
+    (is, receives.takes_next.0.same),
+  );
+  read_failed = λ before after error input left receives is. (
+    record before { replies = appended before.replies receives.read },
+    (refl, refl),
+    (is, receives.takes_next.1),
+  );
   in_turn = steps-append;
 }

@@ -1,5 +1,4 @@
 use Rattle.std.proofs.Common.{⊎_elim, arith, inl, inr, lit<, lit≤}
-
 use Rattle.unftp_control.proofs.NeededLemmas.{malformed, no_line_end, part, whole_front, whole_is_formed, whole_is_no_part}
 use Rattle.unftp_control.proofs.laws.examples.receiving.these_failures_are_so.Goals as goal
 
