@@ -39,7 +39,7 @@ use Rattle.unftp_control.specs.declared.read.NextReplyError.{NextReplyError}
 use Rattle.unftp_control.specs.declared.serve.ServeError.{ServeError}
 use Rattle.unftp_control.proofs.ActLemmas.{all_of_first, replies_first, said_first}
 use Rattle.unftp_control.proofs.ClientStepLemmas.{steps-append, steps-sent, steps-taken}
-use Rattle.calling.specs.Conversing.{AreDone, Fails, HasConversed, HasTalked, IsDone, IsNew, IsNotSent, IsNotTaken, IsReadBack, TakesNone, TakesOne, IsOver, first_snapshot, next_line, piece_of, said, server_of}
+use Rattle.calling.specs.Conversing.{AreDone, Fails, HasConversed, HasTalked, IsAnswered, IsDone, IsNew, IsNotSent, IsNotTaken, IsReadBack, TakesNone, TakesOne, IsOver, first_snapshot, next_line, piece_of, said, server_of}
 use Rattle.calling.specs.Pieces.{FailsAtPiece}
 use Rattle.calling.specs.Sessions.{at_start}
 use Rattle.calling.specs.declared.conversation.Conversation.{Conversation}
@@ -854,9 +854,10 @@ module _ {S : Type 0} (law : Law S) (state : S) (greeting : FtpReply) (commands 
     HasConversed-err : (whole later : List Turn) (turn : Turn) (error : ConverseError)
         (after : Snapshot S) (result : Result (Unit {0}) ConverseError)
         → whole ≡ turns ++ turn ∷ later → HasTalked server commands h.acts c'
-        → Fails server commands h.acts c' start after turn error → result ≡ Err error
+        → Fails server commands h.acts c' start after turn error
+        → IsAnswered server h.acts start after turn → result ≡ Err error
         → HasConversed server commands whole c' start after result
-    HasConversed-err whole later turn error after result split talked fails is = record {
+    HasConversed-err whole later turn error after result split talked fails answered is = record {
       acts = h.acts;
       talked = talked;
       ended = rw is (record {
@@ -866,21 +867,28 @@ module _ {S : Type 0} (law : Law S) (state : S) (greeting : FtpReply) (commands 
         whole = split;
         done = h.done;
         fails = fails;
+        answered = answered;
       });
     }
 
     module _ (whole later : List Turn) (after : Snapshot S)
         (result : Result (Unit {0}) ConverseError) where
-      pub not-sent : whole ≡ turns ++ Send ∷ later → (command : FtpCommand)
+      still_answered : after ≡ now → AllAnswered law start
+          (run_for None law state (came_to_server h.acts)) after
+      still_answered same = subst
+          (AllAnswered law start (run_for None law state (came_to_server h.acts))) (sym same)
+          h.talks.answered.answered
+
+      pub not_sent : whole ≡ turns ++ Send ∷ later → (command : FtpCommand)
           (others : List FtpCommand) → left ≡ command ∷ others → (why : SendError)
           → c'.client ≡ c.client → c'.to_server.items ≡ c.to_server.items
           → c' ≡ record c { client = c'.client; to_server = c'.to_server }
           → (¬ HasLine command → why ≡ NoLine)
           → (HasLine command → IsOtherError c.client.dialogue.sent
           (LacksRoom c.to_server (canonical_line command)) why)
-          → result ≡ Err (error.Send why)
+          → after ≡ now → result ≡ Err (error.Send why)
           → HasConversed server commands whole c' start after result
-      not-sent split command others is why client bytes rest no_line has_line failed =
+      not_sent split command others is why client bytes rest no_line has_line same failed =
           HasConversed-err whole later Send (error.Send why) after result split
           (HasTalked-kept (ap (λ (client : Client). client.replies.bytes) client)
           (ap (λ (client : Client). client.dialogue) client) bytes
@@ -898,9 +906,9 @@ module _ {S : Type 0} (law : Law S) (state : S) (greeting : FtpReply) (commands 
                 (subst (λ sent. IsOtherError sent (LacksRoom c.to_server (canonical_line command)) why)
                 (sym (ap (λ (client : Client). client.dialogue.sent) client)) (has_line has)),
           ))
-          failed
+          (still_answered same) failed
 
-      pub not-fed : (most : ℕ) → whole ≡ turns ++ ToServer most ∷ later → (why : ServeError)
+      pub not_fed : (most : ℕ) → whole ≡ turns ++ ToServer most ∷ later → (why : ServeError)
           → Begins c'.to_client.items c.to_client.items
           → c'.at_server ≡ c.at_server
           → c' ≡ record c { server = c'.server; at_server = c'.at_server; to_client = c'.to_client }
@@ -908,7 +916,7 @@ module _ {S : Type 0} (law : Law S) (state : S) (greeting : FtpReply) (commands 
           ++ piece_of c.at_server c.to_server.items most ∷ []) after why
           → result ≡ Err (error.Serve why)
           → HasConversed server commands whole c' start after result
-      not-fed most split why grows at rest fails failed =
+      not_fed most split why grows at rest fails failed =
           let items = ap (λ (c : Conversation). c.to_server.items) rest in
           HasConversed-err whole later (ToServer most) (error.Serve why) after result split
           (HasTalked-kept (ap (λ (c : Conversation). c.client.replies.bytes) rest)
@@ -917,13 +925,13 @@ module _ {S : Type 0} (law : Law S) (state : S) (greeting : FtpReply) (commands 
           (ap (λ (c : Conversation). c.taken.items) rest))
           (subst (λ (piece : Bytes). FailsAtPiece law start (filter_map at_server h.acts ++ piece ∷ [])
           after why) (λ i. piece_of (sym at i) (sym items i) most) fails)
-          failed
+          tt failed
 
-      pub not-received : (most : ℕ) → whole ≡ turns ++ ToClient most ∷ later → c' ≡ c
+      pub not_received : (most : ℕ) → whole ≡ turns ++ ToClient most ∷ later → c' ≡ c
           → ¬ (piece_of c.at_client c.to_client.items most ≡ [])
-          → result ≡ Err error.OutOfMemory
+          → after ≡ now → result ≡ Err error.OutOfMemory
           → HasConversed server commands whole c' start after result
-      not-received most split same some failed =
+      not_received most split same some still failed =
           HasConversed-err whole later (ToClient most) error.OutOfMemory after result split
           (HasTalked-kept (ap (λ (c : Conversation). c.client.replies.bytes) same)
           (ap (λ (c : Conversation). c.client.dialogue) same)
@@ -937,12 +945,12 @@ module _ {S : Type 0} (law : Law S) (state : S) (greeting : FtpReply) (commands 
           (ap (λ (c : Conversation). c.taken.items) same))
           (subst (λ (c : Conversation). ¬ (piece_of c.at_client c.to_client.items most ≡ []))
           (sym same) some)
-          failed
+          (still_answered still) failed
 
-      pub not-taken : whole ≡ turns ++ Take ∷ later → c.client.replies.limit ≡ None
-          → (why : ConverseError) → TakesNone c c' why → result ≡ Err why
+      pub not_taken : whole ≡ turns ++ Take ∷ later → c.client.replies.limit ≡ None
+          → (why : ConverseError) → TakesNone c c' why → after ≡ now → result ≡ Err why
           → HasConversed server commands whole c' start after result
-      not-taken split any_length why none failed =
+      not_taken split any_length why none still failed =
           HasConversed-err whole later Take why after result split
           (HasTalked-kept none.bytes none.dialogue
           (ap (λ (c : Conversation). c.to_server.items) none.rest)
@@ -953,7 +961,7 @@ module _ {S : Type 0} (law : Law S) (state : S) (greeting : FtpReply) (commands 
           )
           (ap (λ (c : Conversation). c.at_client) none.rest) none.taken)
           (by_why why none.because)
-          failed
+          (still_answered still) failed
         where
           by_why : (why : ConverseError) → IsNotTaken c c' why
               → Fails server commands h.acts c' start after Take why

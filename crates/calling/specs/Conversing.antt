@@ -160,6 +160,14 @@ Fails server commands acts c start after Take error.OutOfMemory =
     vec_capacity c.taken < suc (vec_len c.taken)
 Fails _ _ _ _ _ _ _ _ = ⊥
 
+-- What the handler has taken and said when this turn failed: all that came, but where the server
+-- itself stopped.
+abbrev pub IsAnswered : {S : Type 0} → Server S → List Act → Snapshot S → Snapshot S → Turn
+    → Type 0
+IsAnswered server acts start after (ToServer most) = Unit {0}
+IsAnswered server acts start after _ = AllAnswered server.law start
+    (run_for None server.law server.state (came_to_server acts)) after
+
 -- The acts are those of the turns before one, which fails.
 pub record StopsAt {S : Type 0} (server : Server S) (commands : List FtpCommand)
     (turns : List Turn) (acts : List Act) (c : Conversation) (start after : Snapshot S)
@@ -170,6 +178,7 @@ pub record StopsAt {S : Type 0} (server : Server S) (commands : List FtpCommand)
   pub whole : turns ≡ first ++ turn ∷ later
   pub done : AreDone server commands [] first acts
   pub fails : Fails server commands acts c start after turn error
+  pub answered : IsAnswered server acts start after turn
 
 -- What a conversation has come to, at Ok or at its error.
 pub record HasConversed {S : Type 0} (server : Server S) (commands : List FtpCommand)

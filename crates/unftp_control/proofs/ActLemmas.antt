@@ -1,6 +1,6 @@
 -- What a client takes of what a server says, whatever the order of their acts.
-use Rattle.std.proofs.Common.{◌≡◌, ◌≤◌, ◌+◌, ℕ, suc, Bool, true, false, if◌then◌else◌, List, [], ◌∷◌, ◌++◌, flat_map, filter_map, map, length, drop, get_or, Option, Some, None, refl, sym, ap, subst, ◌∙◌, arith, append_assoc, length-append}
-use Rattle.std.specs.Prelude.{IfSome, option_map, not}
+use Rattle.std.proofs.Common.{◌≡◌, ◌≤◌, ℕ, suc, Bool, true, false, if◌then◌else◌, List, [], ◌∷◌, ◌++◌, flat_map, map, length, drop, get_or, Option, Some, None, refl, sym, ap, subst, ◌∙◌, arith, append_assoc, length-append}
+use Rattle.std.specs.Prelude.{IfSome, option_map}
 use Rattle.std.specs.List.{AllByRecursion, concat, filter}
 use Rattle.std.proofs.lemmas.Grind.{flat_map-append}
 use Rattle.std.proofs.lemmas.List.{append-nil, length-map}
@@ -11,20 +11,20 @@ use Rattle.unftp_control_defs.specs.Events.{FtpEvent, event_for, events}
 use Rattle.unftp_control_defs.specs.FtpReply.{FtpReply, encoded, reply_as_read}
 use Rattle.unftp_control_defs.specs.Lines.{IsLine, incomplete_line}
 use Rattle.unftp_control_defs.specs.ReplyReader.{HasFront}
-use Rattle.unftp_control_defs.specs.Run.{Law, replies, run_for, run_of, text_for}
-use Rattle.unftp_control_defs.specs.TakingSteps.{AreTakingSteps, TakesReply, all_pushed, all_taken}
+use Rattle.unftp_control_defs.specs.Run.{Law, replies, run_for, run_of}
+use Rattle.unftp_control_defs.specs.TakingSteps.{AreTakingSteps, TakesReply, all_taken}
 use Rattle.unftp_control_defs.proofs.LineLemmas.{events-append}
 use Rattle.unftp_control_defs.proofs.RunLemmas.{length-replies, run_of-length}
 use Rattle.unftp_control_serve.specs.Writing.{Begins}
 use Rattle.unftp_control_client.specs.Dialogue.{is_preliminary}
 use Rattle.unftp_control_client.specs.Exchange.{new_client}
-use Rattle.unftp_control_client.specs.Steps.{AreExchanges, AreSteps, ClientStep, ReplyTo, Received, Sent, Took, after_to, decoder_step, decoder_steps, is_final, is_something, lines_sent, replies_owed, replies_taken, sent_by, taken_by, was_owed}
+use Rattle.unftp_control_client.specs.Steps.{AreExchanges, AreSteps, ClientStep, ReplyTo, Received, Sent, Took, after_to, decoder_steps, is_final, is_something, lines_sent, replies_owed, replies_taken, sent_by, taken_by, was_owed}
 use Rattle.unftp_control_client.specs.declared.Client.{Client}
 use Rattle.unftp_control_client.specs.declared.dialogue.To.{To}
 use Rattle.unftp_control_client.specs.declared.dialogue.To.TheVariants.{Greeting, Command, Nothing}
 use Rattle.unftp_control_client.proofs.ClientStepLemmas.{none_owed, steps-append, steps-exchanges, steps-taken}
 use Rattle.unftp_control.specs.Conversation.{IsReadable, Show}
-use Rattle.unftp_control.specs.Acts.{AreFirst, AtClient, AtServer, IsClear, IsConversation, IsFinal, Server, Act, at_client, at_server, came_to_client, came_to_server, client_steps, exchanges, lines_of_client, reply_at, said_by, sent_by_client, taken_by_client, written_by}
+use Rattle.unftp_control.specs.Acts.{AreFirst, AtClient, AtServer, IsClear, IsConversation, Server, Act, at_client, came_to_client, came_to_server, client_steps, exchanges, lines_of_client, reply_at, said_by, sent_by_client, taken_by_client, written_by}
 use Rattle.unftp_control.proofs.ConversationLemmas.{events-lines, read_all, read_so_far}
 
 -- ---- replies to the first bytes are the first replies

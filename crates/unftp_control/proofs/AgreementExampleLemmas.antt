@@ -1,10 +1,8 @@
 -- Runs that don't end in an agreement to begin TLS.
 use Rattle.std.proofs.Common.{◌≡◌, ℕ, List, [], ◌∷◌, ◌++◌, length, ◌+◌, refl, sym, ap, ◌∙◌, arith, length-append}
 use Rattle.unftp_control_defs.specs.Bytes.{Bytes}
-use Rattle.unftp_control_client.specs.Dialogue.{asks_for_tls}
 use Rattle.unftp_control_client.specs.Steps.{ClientStep, EndsInAgreement, ReplyTo, lines_sent, replies_taken}
-use Rattle.unftp_control_client.specs.declared.dialogue.To.{To}
-use Rattle.unftp_control_client.specs.declared.dialogue.To.TheVariants.{Command, Nothing}
+use Rattle.unftp_control_client.specs.declared.dialogue.To.TheVariants.{Command}
 
 last : {A : Type 0} → A → List A → A
 last x [] = x

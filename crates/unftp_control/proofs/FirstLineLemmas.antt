@@ -1,5 +1,5 @@
 -- First lines that take memory, and that take none.
-use Rattle.std.proofs.Common.{◌≡◌, ℕ, List, [], ◌∷◌, None, Option, Some, codes, refl, sym, ap, ◌∙◌, rules}
+use Rattle.std.proofs.Common.{◌≡◌, ℕ, List, [], ◌∷◌, None, Option, Some, codes, refl, sym, ap, ◌∙◌, rules, arith}
 use Rattle.std.specs.Str.{is_utf8, chars}
 use Rattle.std.specs.Str.Lossy.{utf8_lossy, utf8_valid_len, utf8_error_len}
 use Rattle.std.proofs.lemmas.Bool.{false≢true}
@@ -17,7 +17,7 @@ user-may = record {
   is_line = (Lines-lines_of (codes "USER a\r\n")).each.0;
   whole = refl;
   short = refl;
-  takes_memory = (refl, refl);
+  takes_memory = omega arith;
 }
 
 -- it is the first of the lines
@@ -42,7 +42,7 @@ noop-no_memory v =
 
 ill_formed-takes_none : MayTakeMemory (255 ∷ codes "\r\n") → ⊥
 unfolding is_utf8 chars
-ill_formed-takes_none takes = false≢true takes.0
+ill_formed-takes_none takes = takes
 
 pub ill_formed-no_memory : MayRunOut None (255 ∷ codes "\r\nSITE a\r\n") → ⊥
 ill_formed-no_memory v =

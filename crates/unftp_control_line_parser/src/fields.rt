@@ -125,7 +125,7 @@ pub fn list_path(alloc: Global, value: Value<'_>) -> Result<Option<String>, Allo
 }
 
 /// The path of LIST in its value.
-// no option has a CR or a NUL, or its NUL is a part of the option: so it is found as it is sent
+// it is found in what is sent: a CR and its NUL are both in an option, or both in the path
 fn path_in<'a>(value: Value<'a>) -> Value<'a>
     ensures { value_bytes result ≡ path_of (value_bytes value.entry) }
 {

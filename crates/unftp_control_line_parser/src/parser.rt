@@ -70,11 +70,12 @@ pub fn split<'a>(line: &'a [u8]) -> (&'a [u8], &'a [u8])
 /// It is refused with `InvalidUtf8` where the verb, or the SITE subcommand, is not UTF-8; else with
 /// `InvalidEol` where the parameter has no end or a bare carriage return after its first byte (RFC
 /// 854); else with `InvalidCommand` where the verb doesn't take the value, or with `InvalidUtf8`
-/// where AUTH's, of at most three bytes, is not UTF-8; and with `OutOfMemory` when out of memory. A
-/// verb that ignores its parameter takes any.
+/// where AUTH's, of at most three bytes, is not UTF-8. A verb that ignores its parameter takes any.
+/// Out of memory for the texts of its command, a line is refused with `OutOfMemory`; no other
+/// refusal takes memory.
 pub fn parse(alloc: Global, line: &[u8]) -> Result<Command>
     ensures answer { Returns (outcome line.now) result }
-    // it runs out of memory only where the line may take some
+    // it runs out of memory only where its command holds bytes
     ensures memory { OnOutOfMemory result (MayTakeMemory line.now) }
     // a command is one that `write_command` has a line for
     ensures has_line { IsLine line.now → IfOk result (λ command. HasLine (command_of command)) }

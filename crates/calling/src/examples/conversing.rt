@@ -118,6 +118,10 @@ pub fn talks_are_so()
         → c.to_server.items ≡ noop × after.state ≡ false }
     ensures none_fails { (c : RustConversation) (start after : Snapshot Bool) (error : RustError)
         → ¬ HasConversed greeter (Noop ∷ []) [] c start after (Err error) }
+    ensures no_line { (c : RustConversation) (after : Snapshot Bool)
+        → HasConversed greeter (Retr [] ∷ []) (Turn.Send ∷ []) c (first_snapshot greeter 0) after
+        (Err (ConverseError.Send SendError.NoLine))
+        → (c.taken.items ≡ []) × (after.state ≡ false) × (after.failures ≡ 0) }
     ensures one_taken { (before after : RustConversation) → TakesOne before after
         → after.at_server ≡ before.at_server }
 {}

@@ -12,7 +12,7 @@ use Rattle.unftp_control.specs.Writing.{appended_state_of}
 use Rattle.calling.specs.Conversing.{piece_of}
 use Rattle.calling.specs.declared.conversation.Conversation.{Conversation}
 use Rattle.calling.specs.declared.conversation.Turn.TheVariants.{Send, ToClient, Take}
-use Rattle.calling.proofs.ConversingLemmas.{SoFar, SoFar-fed, SoFar-none_left, SoFar-received, SoFar-sent, SoFar-start, SoFar-taken, Within-fed, Within-received, Within-sent, Within-start, Within-taken, fed-grows, none_of, not-fed, not-received, not-sent, not-taken, split_at}
+use Rattle.calling.proofs.ConversingLemmas.{SoFar, SoFar-fed, SoFar-none_left, SoFar-received, SoFar-sent, SoFar-start, SoFar-taken, Within-fed, Within-received, Within-sent, Within-start, Within-taken, fed-grows, none_of, not_fed, not_received, not_sent, not_taken, split_at}
 use Rattle.calling.proofs.PieceLemmas.{AnsweredSoFar-more, FailsAtPiece-so}
 use Rattle.calling.proofs.conversation.take_turns.Goals as goal
 use Rattle.calling.proofs.conversation.take_turns.Goals.{in-Send+in-Some+in_ok-send-in-Send, in-Send+in_default, in-ToServer+in_ok-bring_to_server-in-ToServer, in-ToClient+in_ok-bring_to_client-in-ToClient, in-Take+in_ok-take-in-Take}
@@ -31,7 +31,7 @@ returns-in_err-send-in-Send g c greeting greeted =
     let at = c.loop-turn.turn-index in
     let failed = c.in_err-send-in-Send.ensures in
     let error = err_from_is_err_and c.from_residual.result c.from_residual.ensures.1 in
-    not-sent g.H.Handler.law (g.H.Handler.state c.args.handler.now) greeting
+    not_sent g.H.Handler.law (g.H.Handler.state c.args.handler.now) greeting
     (map command_of c.args.commands.now) (g.H.Handler.failures c.args.handler.now)
     (c.loop-turn.invariant.so_far greeting greeted) c.send.new.self turns (drop (suc at) turns)
     (snapshot_with g.H.Handler.state g.H.Handler.failures appended_state_of c.loop-turn.handler
@@ -41,7 +41,10 @@ returns-in_err-send-in-Send g c greeting greeted =
     (command_of c.in-Some.command.now) (map command_of c.in-Some.rest.now)
     (ap (map command_of) c.in-Some.ensures.cases.0) c.in_err-send-in-Send.field-0.0
     failed.err failed.items failed.rest (λ none. let is = failed.no_line none in cc)
-    failed.has_line (error.1 ∙ ap Err error.2)
+    failed.has_line
+    (ap (λ (bytes : Vec ℕ). snapshot_with g.H.Handler.state g.H.Handler.failures
+    appended_state_of c.loop-turn.handler bytes)
+    (ap (λ (c : Conversation). c.to_client) failed.rest)) (error.1 ∙ ap Err error.2)
 
 pub returns-in_err-bring_to_server-in-ToServer : goal.returns-in_err-bring_to_server-in-ToServer
 returns-in_err-bring_to_server-in-ToServer g c greeting greeted =
@@ -56,7 +59,7 @@ returns-in_err-bring_to_server-in-ToServer g c greeting greeted =
     c.loop-turn.conversation.to_server.items c.in-ToServer.most in
     let over = λ (finished : c.loop-turn.conversation.server.finished ≡ true).
     (fed.over finished).0 in
-    not-fed g.H.Handler.law (g.H.Handler.state c.args.handler.now) greeting
+    not_fed g.H.Handler.law (g.H.Handler.state c.args.handler.now) greeting
     (map command_of c.args.commands.now) (g.H.Handler.failures c.args.handler.now) so_far
     c.bring_to_server.new.self turns (drop (suc at) turns)
     (snapshot_with g.H.Handler.state g.H.Handler.failures appended_state_of c.bring_to_server.new.handler
@@ -87,7 +90,7 @@ returns-in_err-bring_to_client-in-ToClient g c greeting greeted =
     let failed = c.in_err-bring_to_client-in-ToClient.ensures in
     let result = c.from_residual-in_err-bring_to_client-in-ToClient in
     let error = err_from_is_err_and result.result result.ensures.1 in
-    not-received g.H.Handler.law (g.H.Handler.state c.args.handler.now) greeting
+    not_received g.H.Handler.law (g.H.Handler.state c.args.handler.now) greeting
     (map command_of c.args.commands.now) (g.H.Handler.failures c.args.handler.now)
     (c.loop-turn.invariant.so_far greeting greeted) c.bring_to_client.new.self turns
     (drop (suc at) turns)
@@ -95,7 +98,10 @@ returns-in_err-bring_to_client-in-ToClient g c greeting greeted =
     c.bring_to_client.new.self.to_client)
     result.result c.in-ToClient.most
     (split_at turns at Send c.loop-turn-test.true c.in-ToClient.is)
-    failed.err failed.some (error.1 ∙ ap Err error.2)
+    failed.err failed.some
+    (ap (λ (bytes : Vec ℕ). snapshot_with g.H.Handler.state g.H.Handler.failures
+    appended_state_of c.loop-turn.handler bytes)
+    (ap (λ (c : Conversation). c.to_client) failed.err)) (error.1 ∙ ap Err error.2)
 
 pub returns-in_err-take-in-Take : goal.returns-in_err-take-in-Take
 returns-in_err-take-in-Take g c greeting greeted =
@@ -103,14 +109,17 @@ returns-in_err-take-in-Take g c greeting greeted =
     let at = c.loop-turn.turn-index in
     let result = c.from_residual-in_err-take-in-Take in
     let error = err_from_is_err_and result.result result.ensures.1 in
-    not-taken g.H.Handler.law (g.H.Handler.state c.args.handler.now) greeting
+    not_taken g.H.Handler.law (g.H.Handler.state c.args.handler.now) greeting
     (map command_of c.args.commands.now) (g.H.Handler.failures c.args.handler.now)
     (c.loop-turn.invariant.so_far greeting greeted) c.take.new.self turns (drop (suc at) turns)
     (snapshot_with g.H.Handler.state g.H.Handler.failures appended_state_of c.loop-turn.handler
     c.take.new.self.to_client)
     result.result (split_at turns at Send c.loop-turn-test.true c.in-Take.is)
     c.loop-turn.invariant.within.any_length c.in_err-take-in-Take.field-0.0
-    c.in_err-take-in-Take.ensures (error.1 ∙ ap Err error.2)
+    c.in_err-take-in-Take.ensures
+    (ap (λ (bytes : Vec ℕ). snapshot_with g.H.Handler.state g.H.Handler.failures
+    appended_state_of c.loop-turn.handler bytes)
+    (ap (λ (c : Conversation). c.to_client) c.in_err-take-in-Take.ensures.rest)) (error.1 ∙ ap Err error.2)
 
 pub loop-turn-preserved : goal.loop-turn-preserved
 loop-turn-preserved g c =

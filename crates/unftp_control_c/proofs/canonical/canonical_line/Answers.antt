@@ -25,7 +25,7 @@ pub returns-in-Err-written-clause-canonical : goal.returns-in-Err-written-clause
 returns-in-Err-written-clause-canonical c =
     subst (λ status. IsCanonical c.args.line.now (Err status)) (sym c.line_status.ensures)
     (unwritten_line
-    c.in-Ok.ensures.answer (λ has_line. c.in-Err-written.ensures.has_line has_line))
+    c.in-Ok.ensures.answer (λ has_line. (c.in-Err-written.ensures.has_line has_line).0))
 
 pub returns-in-Err-clause-memory : goal.returns-in-Err-clause-memory
 returns-in-Err-clause-memory c = λ out.

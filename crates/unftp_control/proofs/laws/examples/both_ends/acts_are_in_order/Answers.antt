@@ -1,11 +1,11 @@
-use Rattle.std.proofs.Common.{◌≡◌, ◌≤◌, [], ◌∷◌, ◌++◌, length, take, zero, suc, codes, None, refl, sym, ap, subst, ◌∙◌, ◌+◌, ℕ, List, arith, length-append}
+use Rattle.std.proofs.Common.{◌≤◌, [], ◌∷◌, length, take, zero, suc, codes, None, refl, ap, subst, ◌∙◌, ℕ, List, arith, length-append}
 use Rattle.std.proofs.Math.Seq.{take-append_seam}
 use Rattle.std.specs.Fmt.{digits}
 use Rattle.std.specs.Str.{is_utf8, chars}
 use Rattle.unftp_control_defs.proofs.LineLemmas.{Lines-lines_of, line_first}
 use Rattle.unftp_control_client.specs.Steps.{Sent}
 use Rattle.unftp_control.specs.Acts.{Act, AtClient, AtServer, InOrder}
-use Rattle.unftp_control.specs.ClientRuns.{client_with, dialogue, farewell_server, noop, talk}
+use Rattle.unftp_control.specs.ClientRuns.{client_with, dialogue, farewell_server, noop}
 use Rattle.unftp_control.proofs.laws.examples.both_ends.acts_are_in_order.Goals as goal
 
 pub returns-clause-all : goal.returns-clause-all

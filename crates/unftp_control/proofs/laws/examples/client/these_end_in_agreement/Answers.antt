@@ -1,8 +1,7 @@
-use Rattle.std.proofs.Common.{◌≡◌, ℕ, [], ◌∷◌, length, true, false, refl, sym, ap, ◌∙◌, arith}
+use Rattle.std.proofs.Common.{◌≡◌, [], ◌∷◌, length, true, false, refl, sym, ap, ◌∙◌, arith}
 use Rattle.unftp_control_client.specs.Dialogue.{asks_for_tls}
 use Rattle.unftp_control_client.specs.Steps.{ReplyTo}
-use Rattle.unftp_control_client.specs.declared.dialogue.To.{To}
-use Rattle.unftp_control_client.specs.declared.dialogue.To.TheVariants.{Greeting, Command, Nothing}
+use Rattle.unftp_control_client.specs.declared.dialogue.To.TheVariants.{Greeting, Command}
 use Rattle.unftp_control.specs.ClientRuns.{auth_tls, noop, reply_with}
 use Rattle.unftp_control.proofs.AgreementExampleLemmas.{how_many, last_line, last_reply}
 use Rattle.unftp_control.proofs.laws.examples.client.these_end_in_agreement.Goals as goal
