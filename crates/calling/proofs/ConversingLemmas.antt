@@ -193,16 +193,16 @@ any_room room sent OutOfMemory is = tt
 any_room room sent TooManyCommands is = is
 
 -- A failed engine has written what it had before, and perhaps more.
-pub grown : {S : Type 0} (T : Type 0) (law : Law S) (before after : Snapshot S) (events : List FtpEvent)
-    (piece items items' : Bytes) (error : ServeError) → before.output.written ≡ Some items
+pub grown : {S : Type 0} (T : Type 0) (limit : Option ℕ) (law : Law S) (before after : Snapshot S)
+    (input piece items items' : Bytes) (error : ServeError) → before.output.written ≡ Some items
     → after.output.written ≡ Some items'
-    → PieceOutcome {S = S} {T = T} law before events piece after (Err error)
+    → PieceOutcome {S = S} {T = T} limit law before input piece after (Err error)
     → Begins items' items
-grown T law before after events piece items items' error had has (inl (out_of_memory, some, same)) =
+grown T limit law before after input piece items items' error had has (inl (out_of_memory, some, same)) =
     let written = ap (λ (snapshot : Snapshot _). snapshot.output.written) same in
     let is : Some items' ≡ Some items = sym has ∙ written ∙ had in
     ([], (let equal : items' ≡ items = cc in equal) ∙ sym (append-nil items))
-grown T law before after events piece items items' error had has (inr (done, failed)) =
+grown T limit law before after input piece items items' error had has (inr (done, failed)) =
     let text = text_until (text_of law before.state done) failed.cause in (
       text,
       subst (λ written. Appends (Some items) written text) has
@@ -336,19 +336,19 @@ module _ {c : Conversation} (within : Within c) (c' : Conversation) where
             ∙ within.no_failure;
       }
 
-pub fed-grows : {S : Type 0} (T : Type 0) (law : Law S) (before after : Snapshot S)
-    (events : List FtpEvent) (piece : Bytes) (c c' : Conversation) (result : Result T ServeError)
+pub fed-grows : {S : Type 0} (T : Type 0) (limit : Option ℕ) (law : Law S)
+    (before after : Snapshot S) (input piece : Bytes) (c c' : Conversation) (result : Result T ServeError)
     (why : ServeError) → Within c → before.output.written ≡ Some c.to_client.items
     → after.output.written ≡ Some c'.to_client.items → result ≡ Err why
-    → (IsRunning c.server → PieceOutcome law before events piece after result)
+    → (IsRunning c.server → PieceOutcome limit law before input piece after result)
     → (c.server.finished ≡ true → IsTrue (is_ok result))
     → Begins c'.to_client.items c.to_client.items
-fed-grows T law before after events piece c c' result why within had has failed outcome over =
+fed-grows T limit law before after input piece c c' result why within had has failed outcome over =
     by_end c.server.finished refl
   where
     by_end : (finished : Bool) → c.server.finished ≡ finished
         → Begins c'.to_client.items c.to_client.items
-    by_end false on = grown T law before after events piece c.to_client.items c'.to_client.items why
+    by_end false on = grown T limit law before after input piece c.to_client.items c'.to_client.items why
         had has (rw failed at (outcome (within.no_failure, on)))
     by_end true done = absurd (false≢true (rw failed at (over done)))
 

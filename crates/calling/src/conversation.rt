@@ -7,7 +7,7 @@ ghost use Rattle.unftp_control.specs.Canonical.{HasLine, canonical_line};
 ghost use Rattle.unftp_control.specs.CommandMeaning.{command_of};
 ghost use Rattle.unftp_control.specs.Dialogue.{after_line};
 ghost use Rattle.unftp_control.specs.Endings.{PieceOutcome, snapshot_with};
-ghost use Rattle.unftp_control.specs.Engine.{IsRunning, fed, more_left, run_with};
+ghost use Rattle.unftp_control.specs.Engine.{IsRunning, bytes_with, fed, more_left};
 ghost use Rattle.unftp_control.specs.Exchange.{IsOtherError};
 ghost use Rattle.unftp_control.specs.FtpReply.{FtpReply, encoded};
 ghost use Rattle.unftp_control.specs.ReplyDecoding.{pushed};
@@ -184,9 +184,9 @@ impl Conversation {
         handler: &mut H,
     ) -> Result<(), ServeError>
         requires { self.old.at_server ≤ length self.old.to_server.items }
-        ensures outcome { IsRunning self.old.server → PieceOutcome H.law
+        ensures outcome { IsRunning self.old.server → PieceOutcome self.old.server.limit H.law
             (snapshot_with H.state H.failures appended_state_of handler.old self.old.to_client)
-            (run_with self.old.server H.law (H.state handler.old)
+            (bytes_with self.old.server
             (piece_of self.old.at_server self.old.to_server.items most))
             (piece_of self.old.at_server self.old.to_server.items most)
             (snapshot_with H.state H.failures appended_state_of handler.new self.new.to_client)

@@ -1,4 +1,6 @@
 //! Each caller of `calling` once, over inputs and outputs in memory.
+ghost use Rattle.calling.specs.Conversing.{IsNew};
+
 use crate::held::assert_held;
 use calling::client::{first_code, next_code, tls_agreed};
 use calling::codec::{answer, first_is_noop, next_is_noop};
@@ -162,7 +164,9 @@ fn turns_of(rt: &impl Abort, alloc: Global, seed: u32) -> Vec<Told> {
 }
 
 /// A client and a server, whose greeting is on its way.
-fn begun(rt: &impl Abort, alloc: Global) -> Conversation {
+fn begun(rt: &impl Abort, alloc: Global) -> Conversation
+    ensures { IsNew result }
+{
     let greeting = Vec::from_slice(alloc, b"220 ready\r\n").expect(rt, "memory");
     Conversation::new(alloc, greeting)
 }

@@ -7,7 +7,8 @@ use Rattle.unftp_control.specs.Canonical.{canonical_line}
 use Rattle.unftp_control.specs.CommandMeaning.{command_of}
 use Rattle.unftp_control.specs.declared.client.Client.{Client}
 use Rattle.unftp_control.specs.Endings.{snapshot_with}
-use Rattle.unftp_control.specs.Engine.{run_with}
+use Rattle.unftp_control.specs.Engine.{bytes_with}
+use Rattle.unftp_control.specs.Run.{run_for}
 use Rattle.unftp_control.specs.Writing.{appended_state_of}
 use Rattle.calling.specs.Conversing.{piece_of}
 use Rattle.calling.specs.declared.conversation.Conversation.{Conversation}
@@ -66,13 +67,12 @@ returns-in_err-bring_to_server-in-ToServer g c greeting greeted =
     c.bring_to_server.new.self.to_client)
     result.result c.in-ToServer.most
     (split_at turns at Send c.loop-turn-test.true c.in-ToServer.is) failed.field-0.0
-    (fed-grows (Unit {0}) g.H.Handler.law
+    (fed-grows (Unit {0}) c.loop-turn.conversation.server.limit g.H.Handler.law
     (snapshot_with g.H.Handler.state g.H.Handler.failures appended_state_of c.loop-turn.handler
     c.loop-turn.conversation.to_client)
     (snapshot_with g.H.Handler.state g.H.Handler.failures appended_state_of
     c.bring_to_server.new.handler c.bring_to_server.new.self.to_client)
-    (run_with c.loop-turn.conversation.server g.H.Handler.law
-    (g.H.Handler.state c.loop-turn.handler) piece) piece c.loop-turn.conversation
+    (bytes_with c.loop-turn.conversation.server piece) piece c.loop-turn.conversation
     c.bring_to_server.new.self c.bring_to_server.result failed.field-0.0
     c.loop-turn.invariant.within refl refl failed.was fed.outcome over)
     failed.ensures.err failed.ensures.rest
@@ -166,8 +166,9 @@ loop-turn-preserved g c =
           rw (w.conversation-is, w.handler-is, w.left-is, more, w.in-ToServer.is) (record {
             within = Within-fed within w.bring_to_server.new.self law
                 (g.H.Handler.state c.loop-turn.handler)
-                (run_with c.loop-turn.conversation.server law
-                (g.H.Handler.state c.loop-turn.handler) piece) before after w.in-ToServer.most refl
+                (run_for c.loop-turn.conversation.server.limit law
+                (g.H.Handler.state c.loop-turn.handler)
+                (bytes_with c.loop-turn.conversation.server piece)) before after w.in-ToServer.most refl
                 refl fed.ok fed.rest fed.fed fed.outcome
                 (λ finished. let same = fed.over finished in (same.2, same.3));
             so_far = λ greeting greeted.
