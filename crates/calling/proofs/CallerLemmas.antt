@@ -1,31 +1,26 @@
 -- What callers make of the answers of the library.
-use Rattle.std.proofs.Common.{◌≡◌, ℕ, Bool, true, false, arith, [], ◌∷◌, ◌==◌, length, Option, ◌∙◌, Result, Ok, Err, sym}
+use Rattle.std.proofs.Common.{◌≡◌, ℕ, Bool, true, false, arith, [], ◌∷◌, ◌++◌, ◌==◌, ◌&&◌, length, Option, Some, ◌∙◌, Result, Ok, Err, refl, sym, ap, subst, eqb-true}
+use Rattle.std.specs.List.{concat}
 use Rattle.std.specs.Prelude.{IfErr, IfOk, MatchResult}
 use Rattle.std.proofs.lemmas.Bool.{false≢true}
 use Rattle.unftp_control.specs.Bytes.{Bytes}
-use Rattle.calling.specs.Sessions.{IsSession, SessionEnded, unused_input}
-use Rattle.unftp_control.specs.Endings.{Snapshot}
-use Rattle.unftp_control.specs.Run.{Law}
-use Rattle.unftp_control.specs.Service.{InputState}
-use Rattle.unftp_control.specs.Writing.{OutputState}
-use Rattle.unftp_control.specs.declared.serve.ServeError.{ServeError}
-use Rattle.unftp_control.specs.declared.serve.Served.{Served}
+use Rattle.unftp_control.specs.Dialogue.{agrees, is_place, next_to}
+use Rattle.unftp_control.specs.Exchange.{IsNext, MayBeginTls}
+use Rattle.unftp_control.specs.Input.{InputState}
+use Rattle.unftp_control.specs.Reading.{contents}
+use Rattle.unftp_control.specs.Receiving.{Receives}
+use Rattle.unftp_control.specs.TakingSteps.{TakesReply}
+use Rattle.unftp_control.specs.declared.client.Client.{Client}
+use Rattle.unftp_control.specs.declared.client.ClientReply.{ClientReply}
+use Rattle.unftp_control.specs.declared.client.To.{To}
+use Rattle.unftp_control.specs.declared.client.To.TheVariants.{Greeting, Command, Nothing}
+use Rattle.unftp_control.specs.declared.read.ReceiveError.{ReceiveError}
+use Rattle.calling.specs.NextCode.{ReadsAgreement}
 
 pub MatchResult-both : {T E : Type 0} (result : Result T E) (P : T → Type 0) (Q : E → Type 0)
     → IfOk result P → IfErr result Q → MatchResult result P Q
 MatchResult-both (Ok value) P Q ok err = ok
 MatchResult-both (Err error) P Q ok err = err
-
--- a session, of what `serve` says of it
-pub IsSession-of : {limit : Option ℕ} {S : Type 0} {law : Law S} {before : Snapshot S}
-    {remaining written : Option Bytes} {result : Result Served ServeError} {state : S}
-    {failures : ℕ} (output : OutputState) (input : InputState) → output.written ≡ written
-    → SessionEnded limit law before
-    (record { state = state; failures = failures; output = output }) (unused_input remaining) input
-    result
-    → IsSession limit law before remaining result state failures written
-IsSession-of output input same ended =
-    record { output = output; output_is = same; input = input; ended = ended }
 
 -- nothing is pending where the test says so
 pub none_pending : {is_none : Bool} {pending bytes : Bytes} → is_none ≡ true
@@ -34,3 +29,30 @@ none_pending {pending = []} holds is same = sym same
 none_pending {pending = b ∷ pending} holds is same =
     let apart : (length (b ∷ pending) == 0) ≡ false = search arith in
     absurd (false≢true (sym apart ∙ sym is ∙ holds))
+
+-- where the client agrees to TLS, the reply that it took is a 234, and nothing was read after it
+agrees-code : (to : To) (asked : Option ℕ) (code : ℕ) → agrees to asked code ≡ true → code ≡ 234
+agrees-code Greeting asked code e = absurd (cc)
+agrees-code (Command place) asked code e =
+    eqb-true code 234 (first (code == 234) (is_place place asked) e)
+  where
+    first : (a b : Bool) → (a && b) ≡ true → a ≡ true
+    first true b e = refl
+    first false b e = absurd (cc)
+agrees-code Nothing asked code e = absurd (cc)
+
+pub agreement-read : (before after : Client) (input input' : InputState) (taken : ClientReply)
+    → Receives before.replies input (Ok (Some taken.reply)) after.replies input'
+    → IsNext {E = ReceiveError} before.dialogue (Ok (Some taken)) after.dialogue
+    → MayBeginTls after → ReadsAgreement before.replies.bytes input input'
+agreement-read before after input input' taken received next may = (
+  concat received.pieces,
+  contents taken.reply.lines,
+  received.were_read.given,
+  subst (λ left. TakesReply (before.replies.bytes ++ concat received.pieces)
+      (234, contents taken.reply.lines) left) may.2
+      (subst (λ code. TakesReply (before.replies.bytes ++ concat received.pieces)
+      (code, contents taken.reply.lines) after.replies.bytes)
+      (agrees-code (next_to before.dialogue) before.dialogue.asked taken.reply.code
+      (sym (ap (λ d. d.agreed) next.1) ∙ may.0)) received.takes_next.takes),
+)

@@ -2,7 +2,6 @@
 use Rattle.std.proofs.Common.{◌≡◌, ◌≤◌, ◌<◌, ◌+◌, ℕ, suc, true, false, Bool, List, [], ◌∷◌, ◌++◌, flat_map, filter_map, map, length, drop, get_or, take, Option, Some, None, Ok, Err, Result, refl, sym, ap, subst, ◌∙◌, arith, append_assoc, length-append, ◌⊎◌, inl, inr, ⊎_elim}
 use Rattle.std.specs.Prelude.{option_to_list, IsTrue, is_ok}
 use Rattle.std.specs.Global.{Vec}
-use Rattle.std.specs.Io.KnownBytes.{Appends}
 use Rattle.std.specs.List.{AllByRecursion, concat}
 use Rattle.std.proofs.lemmas.Bool.{false≢true}
 use Rattle.std.proofs.lemmas.Grind.{flat_map-append}
@@ -25,10 +24,10 @@ use Rattle.unftp_control.specs.Lines.{IsLine}
 use Rattle.unftp_control.specs.ReplyDecoding.{HasError, PendingReplies, TakesNextReply, content, pushed}
 use Rattle.unftp_control.specs.Room.{LacksRoom}
 use Rattle.unftp_control.specs.ReplyReader.{HasFront}
-use Rattle.unftp_control.specs.Run.{Law, replies, run_for, run_of, text_for, text_of}
+use Rattle.unftp_control.specs.Run.{Law, replies, run_for, run_of, text_of}
 use Rattle.unftp_control.specs.Steps.{AreSteps, after_to, Received, Sent, Took, decoder_step, decoder_steps, lines_sent, replies_taken, reply_to, sent_by, taken_by}
 use Rattle.unftp_control.specs.TakingSteps.{AreTakingSteps, Pushed, Taken, TakesReply, TakingStep, all_pushed}
-use Rattle.unftp_control.specs.Writing.{Begins}
+use Rattle.unftp_control.specs.Writing.{Begins, appended_output}
 use Rattle.unftp_control.specs.declared.client.Client.{Client}
 use Rattle.unftp_control.specs.declared.client.ClientReply.{ClientReply}
 use Rattle.unftp_control.specs.declared.client.To.{To}
@@ -41,7 +40,7 @@ use Rattle.unftp_control.proofs.ActLemmas.{all_of_first, replies_first, said_fir
 use Rattle.unftp_control.proofs.ClientStepLemmas.{steps-append, steps-sent, steps-taken}
 use Rattle.calling.specs.Conversing.{AreDone, Fails, HasConversed, HasTalked, IsAnswered, IsDone, IsNew, IsNotSent, IsNotTaken, IsReadBack, TakesNone, TakesOne, IsOver, first_snapshot, next_line, piece_of, said, server_of}
 use Rattle.calling.specs.Pieces.{FailsAtPiece}
-use Rattle.calling.specs.Sessions.{at_start}
+use Rattle.calling.specs.Sessions.{snapshot}
 use Rattle.calling.specs.declared.conversation.Conversation.{Conversation}
 use Rattle.calling.specs.declared.conversation.ConverseError.{ConverseError}
 use Rattle.calling.specs.declared.conversation.ConverseError.TheVariants as error
@@ -194,19 +193,17 @@ any_room room sent TooManyCommands is = is
 
 -- A failed engine has written what it had before, and perhaps more.
 pub grown : {S : Type 0} (T : Type 0) (limit : Option ℕ) (law : Law S) (before after : Snapshot S)
-    (input piece items items' : Bytes) (error : ServeError) → before.output.written ≡ Some items
-    → after.output.written ≡ Some items'
+    (input piece items items' : Bytes) (error : ServeError) → before.output.taken ≡ items
+    → after.output.taken ≡ items'
     → PieceOutcome {S = S} {T = T} limit law before input piece after (Err error)
     → Begins items' items
 grown T limit law before after input piece items items' error had has (inl (out_of_memory, some, same)) =
-    let written = ap (λ (snapshot : Snapshot _). snapshot.output.written) same in
-    let is : Some items' ≡ Some items = sym has ∙ written ∙ had in
-    ([], (let equal : items' ≡ items = cc in equal) ∙ sym (append-nil items))
+    let taken = ap (λ (snapshot : Snapshot _). snapshot.output.taken) same in
+    ([], sym has ∙ taken ∙ had ∙ sym (append-nil items))
 grown T limit law before after input piece items items' error had has (inr (done, failed)) =
     let text = text_until (text_of law before.state done) failed.cause in (
       text,
-      subst (λ written. Appends (Some items) written text) has
-          (subst (λ written. Appends written after.output.written text) had failed.ended.written),
+      sym has ∙ failed.ended.written.taken ∙ ap (λ bytes. bytes ++ text) had,
     )
 
 -- the turn of this place, and those before and after it
@@ -277,8 +274,8 @@ module _ {c : Conversation} (within : Within c) (c' : Conversation) where
 
   pub Within-fed : {S : Type 0} (law : Law S) (n : S) (events : List FtpEvent)
       (now now' : Snapshot S) (most : ℕ)
-      → now.output.written ≡ Some c.to_client.items
-      → now'.output.written ≡ Some c'.to_client.items
+      → now.output.taken ≡ c.to_client.items
+      → now'.output.taken ≡ c'.to_client.items
       → c'.at_server ≡ after_piece c.at_server c.to_server.items most
       → c' ≡ record c { server = c'.server; at_server = c'.at_server; to_client = c'.to_client }
       → (IsRunning c.server
@@ -306,9 +303,7 @@ module _ {c : Conversation} (within : Within c) (c' : Conversation) where
           let running : IsRunning c.server = (within.no_failure, on) in
           let text = text_of law now.state events in
           let grows : c'.to_client.items ≡ c.to_client.items ++ text =
-          subst (λ written. Appends (Some c.to_client.items) written text) has
-          (subst (λ written. Appends written now'.output.written text) had
-          (answered running).written) in
+          sym has ∙ (answered running).written.taken ∙ ap (λ bytes. bytes ++ text) had in
           record {
             server = same_server;
             client = omega (
@@ -338,8 +333,8 @@ module _ {c : Conversation} (within : Within c) (c' : Conversation) where
 
 pub fed-grows : {S : Type 0} (T : Type 0) (limit : Option ℕ) (law : Law S)
     (before after : Snapshot S) (input piece : Bytes) (c c' : Conversation) (result : Result T ServeError)
-    (why : ServeError) → Within c → before.output.written ≡ Some c.to_client.items
-    → after.output.written ≡ Some c'.to_client.items → result ≡ Err why
+    (why : ServeError) → Within c → before.output.taken ≡ c.to_client.items
+    → after.output.taken ≡ c'.to_client.items → result ≡ Err why
     → (IsRunning c.server → PieceOutcome limit law before input piece after result)
     → (c.server.finished ≡ true → IsTrue (is_ok result))
     → Begins c'.to_client.items c.to_client.items
@@ -366,7 +361,7 @@ module _ {S : Type 0} (law : Law S) (state : S) (greeting : FtpReply) (commands 
 
   -- Before the first turn.
   none_answered : (written : Bytes) → written ≡ encoded greeting
-      → AnsweredSoFar law start (at_start state failures (Some written)) [] (fresh None)
+      → AnsweredSoFar law start (snapshot state failures (appended_output written)) [] (fresh None)
   none_answered written same = record {
     no_failure = refl;
     any_length = refl;
@@ -375,7 +370,10 @@ module _ {S : Type 0} (law : Law S) (state : S) (greeting : FtpReply) (commands 
     left = refl;
     answered = record {
       ends_at = refl;
-      written = same ∙ sym (append-nil (encoded greeting));
+      written = record {
+        taken = same ∙ sym (append-nil (encoded greeting));
+        known = same ∙ sym (append-nil (encoded greeting));
+      };
       flushed = omega arith;
       write_failed = refl;
       handler_failed = omega arith;
@@ -391,7 +389,7 @@ module _ {S : Type 0} (law : Law S) (state : S) (greeting : FtpReply) (commands 
   only_start c new greeted (act ∷ before) later e = absurd (cc)
 
   pub Talks-start : (c : Conversation) → IsNew c → c.to_client.items ≡ encoded greeting
-      → Talks server commands start (at_start state failures (Some c.to_client.items)) [] commands c
+      → Talks server commands start (snapshot state failures (appended_output c.to_client.items)) [] commands c
   Talks-start c new greeted = record {
     talk = record {
       steps = (
@@ -410,7 +408,7 @@ module _ {S : Type 0} (law : Law S) (state : S) (greeting : FtpReply) (commands 
     to_client = greeted ∙ sym (append-nil (encoded greeting));
     at_client = ap (λ n. take n c.to_client.items) (sym new.at_client);
     taken = ap (map reply_to) new.taken;
-    answered = subst (AnsweredSoFar law start (at_start state failures (Some c.to_client.items))
+    answered = subst (AnsweredSoFar law start (snapshot state failures (appended_output c.to_client.items))
         []) (sym new.server) (none_answered c.to_client.items greeted);
   }
 
@@ -476,11 +474,10 @@ module _ {S : Type 0} (law : Law S) (state : S) (greeting : FtpReply) (commands 
         }
 
   -- what the server has written, and writes for a piece more
-  exact_of : (input : Bytes) (now : Snapshot S) (items : Bytes) → now.output.written ≡ Some items
+  exact_of : (input : Bytes) (now : Snapshot S) (items : Bytes) → now.output.taken ≡ items
       → AllAnswered law start (run_for None law state input) now
       → items ≡ written_by server input
-  exact_of input now items is answered = subst (λ written. Appends (Some (encoded greeting)) written
-      (text_for None law state input)) is answered.written
+  exact_of input now items is answered = sym is ∙ answered.written.taken
 
   written-more : (input piece : Bytes)
       → Begins (written_by server (input ++ piece)) (written_by server input)
@@ -503,7 +500,7 @@ module _ {S : Type 0} (law : Law S) (state : S) (greeting : FtpReply) (commands 
         → c.at_client ≤ length c.to_client.items
         → c'.at_server ≡ after_piece c.at_server c.to_server.items most
         → c' ≡ record c { server = c'.server; at_server = c'.at_server; to_client = c'.to_client }
-        → now'.output.written ≡ Some c'.to_client.items
+        → now'.output.taken ≡ c'.to_client.items
         → AnsweredSoFar law start now' (came_to_server acts ++ piece) c'.server
         → Talks server commands start now' (acts ++ brings ∷ []) left c'
     Talks-fed within client_within at rest written answered =
@@ -708,7 +705,7 @@ module _ {S : Type 0} (law : Law S) (state : S) (greeting : FtpReply) (commands 
     pub talks : Talks server commands start now acts left c
 
   pub SoFar-start : (c : Conversation) → IsNew c → c.to_client.items ≡ encoded greeting
-      → SoFar [] commands (at_start state failures (Some c.to_client.items)) c
+      → SoFar [] commands (snapshot state failures (appended_output c.to_client.items)) c
   SoFar-start c new greeted =
       record { acts = []; done = refl; talks = Talks-start c new greeted }
 
@@ -753,7 +750,7 @@ module _ {S : Type 0} (law : Law S) (state : S) (greeting : FtpReply) (commands 
         → c.at_client ≤ length c.to_client.items
         → c'.at_server ≡ after_piece c.at_server c.to_server.items most
         → c' ≡ record c { server = c'.server; at_server = c'.at_server; to_client = c'.to_client }
-        → now'.output.written ≡ Some c'.to_client.items
+        → now'.output.taken ≡ c'.to_client.items
         → AnsweredSoFar law start now'
         (came_to_server h.acts ++ piece_of c.at_server c.to_server.items most) c'.server
         → SoFar (turns ++ ToServer most ∷ []) left now' c'

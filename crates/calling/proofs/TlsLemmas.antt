@@ -7,7 +7,7 @@ use Rattle.std.proofs.lemmas.Bool.{false≢true}
 use Rattle.unftp_control.specs.Bytes.{Bytes}
 use Rattle.unftp_control.specs.Decoder.{saturating_u64}
 use Rattle.unftp_control.specs.Run.{after_end, ends_for, unread}
-use Rattle.unftp_control.specs.Service.{InputState}
+use Rattle.unftp_control.specs.Input.{InputState}
 use Rattle.unftp_control.specs.Writing.{OutputState}
 use Rattle.calling.specs.UntilTls.{BeginsTls, until_tls}
 
@@ -24,10 +24,6 @@ asked = (refl, refl, refl)
 pub asked-before : Ends (codes "AUTH TLS\r\nX") true (codes "X")
 unfolding is_utf8 chars utf8_lossy utf8_valid_len utf8_error_len lib.Utf8.encode
 asked-before = (refl, refl, refl)
-
-pub asked-before_two : Ends (codes "AUTH TLS\r\nXY") true (codes "XY")
-unfolding is_utf8 chars utf8_lossy utf8_valid_len utf8_error_len lib.Utf8.encode
-asked-before_two = (refl, refl, refl)
 
 pub not_asked : Ends (codes "NOOP\r\n") false []
 unfolding is_utf8 chars utf8_lossy utf8_valid_len utf8_error_len lib.Utf8.encode

@@ -1,6 +1,6 @@
--- A client and a server in one process, which do in turn what they are told, and what they understand
--- of each other (RFC 959, sections 4.2 and 5.4).
-use Rattle.std.specs.Prelude.{◌≡◌, ◌≤◌, ◌<◌, ℕ, suc, List, [], ◌∷◌, ◌++◌, drop, take, length, map, option_to_list, Result, Ok, Option, None, Some, MatchResult, vec_capacity, vec_len}
+-- A client and a server in one process, which take the turns of a list, and what they understand of
+-- each other (RFC 959, sections 4.2 and 5.4).
+use Rattle.std.specs.Prelude.{◌≡◌, ◌≤◌, ◌<◌, ℕ, suc, List, [], ◌∷◌, ◌++◌, drop, take, length, map, option_to_list, Result, Ok, Option, None, MatchResult, vec_capacity, vec_len}
 use Rattle.std.specs.List.{AllByRecursion, filter_map}
 use Rattle.unftp_control.specs.Acts.{Act, AtClient, AtServer, IsConversation, Server, at_server, came_to_client, came_to_server, client_steps, lines_of_client, sent_by_client, taken_by_client, written_by}
 use Rattle.unftp_control.specs.Bytes.{Bytes}
@@ -18,13 +18,13 @@ use Rattle.unftp_control.specs.ReplyReader.{IsPartial}
 use Rattle.unftp_control.specs.Run.{Law, replies, run_for, run_of}
 use Rattle.unftp_control.specs.Steps.{Received, Sent, Took, decoder_steps, reply_to}
 use Rattle.unftp_control.specs.TakingSteps.{AreTakingSteps, TakesReply}
-use Rattle.unftp_control.specs.Writing.{Begins}
+use Rattle.unftp_control.specs.Writing.{Begins, appended_output}
 use Rattle.unftp_control.specs.declared.client.ClientReply.{ClientReply}
 use Rattle.unftp_control.specs.declared.read.NextReplyError.{NextReplyError}
 use Rattle.unftp_control.specs.declared.client.SendError.{SendError}
 use Rattle.unftp_control.specs.declared.client.SendError.TheVariants.{NoLine}
 use Rattle.calling.specs.Pieces.{FailsAtPiece}
-use Rattle.calling.specs.Sessions.{at_start}
+use Rattle.calling.specs.Sessions.{snapshot}
 use Rattle.calling.specs.declared.conversation.Conversation.{Conversation}
 use Rattle.calling.specs.declared.conversation.ConverseError.{ConverseError}
 use Rattle.calling.specs.declared.conversation.ConverseError.TheVariants as error
@@ -44,7 +44,7 @@ server_of law state greeting =
 -- its handler, and the greeting that it has written
 abbrev pub first_snapshot : {S : Type 0} → Server S → ℕ → Snapshot S
 first_snapshot server failures =
-    at_start server.state failures (Some (encoded server.greeting))
+    snapshot server.state failures (appended_output (encoded server.greeting))
 
 -- the canonical line of the command is one line, and is read as the command
 abbrev pub IsReadBack : FtpCommand → Type 0
@@ -106,7 +106,8 @@ pub record TakesOne (before after : Conversation) : Type 0 where
   pub taken : after.taken.items ≡ before.taken.items ++ option_to_list next
   pub rest : after ≡ record before { client = after.client; taken = after.taken }
 
--- Why it is not taken: the pending bytes are no reply, or there is no memory for it, or for one more.
+-- Why it is not taken: the pending bytes are no reply, or there is no memory for it, or for one
+-- more.
 abbrev pub IsNotTaken : Conversation → Conversation → ConverseError → Type 0
 IsNotTaken before after (error.Reply why) =
     HasError before.client.replies.limit before.client.replies.bytes why
@@ -143,8 +144,8 @@ IsNotSent [] sent why = ⊥
 IsNotSent (command ∷ commands) sent why = (¬ HasLine command → why ≡ NoLine)
     × (HasLine command → IsOtherError sent (Unit {0}) why)
 
--- Why the turn fails: the command is not sent; the server stops at the piece; there is no memory for
--- the piece; or the pending bytes are no reply, or there is no memory for it.
+-- Why the turn fails: the command is not sent; the server stops at the piece; there is no memory
+-- for the piece; or the pending bytes are no reply, or there is no memory for it.
 abbrev pub Fails : {S : Type 0} → Server S → List FtpCommand → List Act → Conversation
     → Snapshot S → Snapshot S → Turn → ConverseError → Type 0
 Fails server commands acts c start after Send (error.Send why) = IsNotSent

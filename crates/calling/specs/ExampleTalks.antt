@@ -1,13 +1,14 @@
 -- A server and some acts, for the examples.
-use Rattle.std.specs.Prelude.{Bool, false, ℕ, [], Some, codes}
+use Rattle.std.specs.Prelude.{Bool, false, ℕ, [], codes}
 use Rattle.unftp_control.specs.Acts.{Act, AtClient, Server}
 use Rattle.unftp_control.specs.Bytes.{Bytes}
 use Rattle.unftp_control.specs.Endings.{Snapshot}
 use Rattle.unftp_control.specs.FtpReply.{CodeAndMsg}
 use Rattle.unftp_control.specs.Steps.{Sent}
+use Rattle.unftp_control.specs.Writing.{appended_output}
 use Rattle.calling.specs.Basic.{basic}
 use Rattle.calling.specs.Conversing.{server_of}
-use Rattle.calling.specs.Sessions.{at_start}
+use Rattle.calling.specs.Sessions.{snapshot}
 
 -- a server that greets with 220, knows NOOP and QUIT, and ends the session at QUIT
 abbrev pub greeter : Server Bool
@@ -24,4 +25,4 @@ sends_quit = AtClient (Sent (codes "QUIT\r\n"))
 
 -- its handler at the start of a session, after so many failures; the writer holds one byte
 abbrev pub before_session : ℕ → Snapshot Bool
-before_session failures = at_start false failures (Some (codes "x"))
+before_session failures = snapshot false failures (appended_output (codes "x"))

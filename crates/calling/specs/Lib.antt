@@ -1,3 +1,4 @@
+pub mod Sessions
 pub mod NextNoop
 pub mod Forwarding
 pub mod Basic
@@ -5,7 +6,6 @@ pub mod UntilTls
 pub mod EventLoop
 pub mod NoFiles
 pub mod NextCode
-pub mod Sessions
 pub mod Conversing
 pub mod ExampleTalks
 pub mod Pieces

@@ -1,29 +1,26 @@
 //! A client.
-ghost use Rattle.std.specs.Prelude.{◌≡◌, ◌++◌, List, IsTrue, IfErr, IfOk, IfSome, MatchOption};
-ghost use Rattle.calling.specs.NextCode.{ReceivesAgreement, ReceivesCode};
+ghost use Rattle.std.specs.Prelude.{◌≡◌, List, IsTrue, IfErr, IfOk, MatchOption};
+ghost use Rattle.calling.specs.NextCode.{ReadsAgreement, ReceivesAgreement, ReceivesCode};
 ghost use Rattle.unftp_control.specs.Bytes.{Bytes};
+ghost use Rattle.unftp_control.specs.Input.{input_state_of};
 ghost use Rattle.unftp_control.specs.ReplyReader.{FrontReply, IsPartial};
-ghost use Rattle.unftp_control.specs.TakingSteps.{TakesReply};
 ghost use Rattle.unftp_control.specs.Reading.{ReturnsRefusal};
 
 use std::alloc::Global;
 use std::io::Read;
 use unftp_control::client::Client;
-use unftp_control::read::{Front, ReadReplyError, ReceiveError, ReplyDecoder, read_reply};
+use unftp_control::read::{Front, Input, ReadReplyError, ReceiveError, ReplyDecoder, read_reply};
 
 /// The code of the server's next reply, or `None` where it has closed the connection.
 pub fn next_code<R: Read>(
     replies: &mut ReplyDecoder,
-    stream: &mut R,
+    stream: &mut Input<R>,
 ) -> Result<Option<u16>, ReceiveError>
-    // it is the first reply of what was received before and of what the stream gives
-    ensures reply { IfOk result (λ next. IfSome next (λ code.
-        IfSome (R.remaining stream.old) (λ input. IfSome (R.remaining stream.new) (λ left.
-        (lines : List Bytes)
-        × TakesReply (replies.old.bytes ++ input) (code, lines) (replies.new.bytes ++ left))))) }
-    // there is none only at the stream's end; at an error all that was read is pending
-    ensures receives { ReceivesCode replies.old (R.remaining stream.old) result
-        replies.new (R.remaining stream.new) }
+    // of any stream: it is the first reply of what was received before and is read, and what
+    // follows it is pending; there is none only at the stream's end, and at an error all that was
+    // read is pending
+    ensures receives { ReceivesCode replies.old (input_state_of R.remaining stream.old) result
+        replies.new (input_state_of R.remaining stream.new) }
     ensures limit { replies.new.limit ≡ replies.old.limit }
 {
     match replies.read_reply(stream)? {
@@ -37,15 +34,13 @@ pub fn next_code<R: Read>(
 ///
 /// Bytes that came after the reply in clear text must not be taken for replies under TLS: where
 /// there are any, the connection has to be closed.
-pub fn tls_agreed<R: Read>(client: &mut Client, stream: &mut R) -> Result<bool, ReceiveError>
+pub fn tls_agreed<R: Read>(client: &mut Client, stream: &mut Input<R>) -> Result<bool, ReceiveError>
     // the next reply is taken, and TLS begins exactly where there is one and the client says so
-    ensures receives { ReceivesAgreement client.old (R.remaining stream.old) result
-        client.new (R.remaining stream.new) }
-    // where TLS begins, the reply is a 234, and the stream goes on with the byte after it
-    ensures reply { IfOk result (λ agreed. IsTrue agreed
-        → IfSome (R.remaining stream.old) (λ input. IfSome (R.remaining stream.new) (λ left.
-        (lines : List Bytes)
-        × TakesReply (client.old.replies.bytes ++ input) (234, lines) left))) }
+    ensures receives { ReceivesAgreement client.old (input_state_of R.remaining stream.old) result
+        client.new (input_state_of R.remaining stream.new) }
+    // where TLS begins, the reply is a 234, and the last byte that was read is its last one
+    ensures reply { IfOk result (λ agreed. IsTrue agreed → ReadsAgreement client.old.replies.bytes
+        (input_state_of R.remaining stream.old) (input_state_of R.remaining stream.new)) }
     ensures limit { client.new.replies.limit ≡ client.old.replies.limit }
 {
     match client.read_reply(stream)? {

@@ -1,4 +1,4 @@
-//! A client and a server in one process, which do in turn what they are told.
+//! A client and a server in one process, which take the turns of a list.
 ghost use Rattle.std.specs.Prelude.{◌≡◌, ◌≤◌, ◌+◌, ◌++◌, ◌∷◌, None, Err, Ok, Some, IfErr, MatchResult, OnErr, OnOk, IsTrue, [], is_ok, length, map, true};
 ghost use Rattle.std.specs.List.{AllByRecursion};
 ghost use Rattle.calling.specs.Conversing.{HasConversed, IsNew, IsOver, IsReadBack, TakesNone, TakesOne, first_snapshot, piece_of, said, server_of};
@@ -29,8 +29,8 @@ use unftp_control::serve::{Engine, Handler, ServeError};
 pub enum Turn {
     /// The client sends the next command, if any is left.
     Send,
-    /// At most so many of the bytes on their way come to the server, which answers each line that is
-    /// complete.
+    /// At most so many of the bytes on their way come to the server, which answers each line that
+    /// is complete.
     ToServer(usize),
     /// At most so many of the bytes on their way come to the client.
     ToClient(usize),
@@ -137,8 +137,8 @@ fn next_piece(bytes: &[u8], at: usize, most: usize) -> &[u8]
 }
 
 impl Conversation {
-    /// A client and a server that have said nothing yet but the server's greeting: these bytes, which
-    /// are on their way to the client.
+    /// A client and a server that have said nothing yet but the server's greeting: these bytes,
+    /// which are on their way to the client.
     pub fn new(alloc: Global, greeting: Vec<u8>) -> Conversation
         ensures new { IsNew result }
         ensures greeting { result.to_client.items ≡ greeting.items }
@@ -263,13 +263,13 @@ pub fn converse<H: Handler>(
     requires { IsNew conversation.old }
     // what was done at each turn, and at which one it failed
     ensures turns { (greeting : FtpReply) → conversation.old.to_client.items ≡ encoded greeting
-        → HasConversed (server_of H.law (H.state handler.old) greeting) (map command_of commands.now)
-        turns.now conversation.new
+        → HasConversed (server_of H.law (H.state handler.old) greeting)
+        (map command_of commands.now) turns.now conversation.new
         (first_snapshot (server_of H.law (H.state handler.old) greeting) (H.failures handler.old))
         (snapshot_with H.state H.failures appended_state_of handler.new conversation.new.to_client)
         result }
-    // Where each reply is sent, plain and final, those that the client has taken are the first ones:
-    // to the greeting, and then to each command in order.
+    // Where each reply is sent, plain and final, those that the client has taken are the first
+    // ones: to the greeting, and then to each command in order.
     ensures understood { (greeting : FtpReply) → conversation.old.to_client.items ≡ encoded greeting
         → let replies = said H.law (H.state handler.old) greeting (map command_of commands.now) in
         AllByRecursion IsClear replies
@@ -295,8 +295,8 @@ fn take_turns<H: Handler>(
 ) -> Result<(), ConverseError>
     requires { IsNew conversation.old }
     ensures { (greeting : FtpReply) → conversation.old.to_client.items ≡ encoded greeting
-        → HasConversed (server_of H.law (H.state handler.old) greeting) (map command_of commands.now)
-        turns.now conversation.new
+        → HasConversed (server_of H.law (H.state handler.old) greeting)
+        (map command_of commands.now) turns.now conversation.new
         (first_snapshot (server_of H.law (H.state handler.old) greeting) (H.failures handler.old))
         (snapshot_with H.state H.failures appended_state_of handler.new conversation.new.to_client)
         result }

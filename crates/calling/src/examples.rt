@@ -4,14 +4,14 @@ ghost use Rattle.std.specs.Prelude.{◌≡◌, Bool, [], ◌∷◌, ◌++◌, No
 ghost use Rattle.calling.specs.EventLoop.{replies_to, turn_after};
 ghost use Rattle.calling.specs.FactList.{facts_asked, facts_text};
 ghost use Rattle.calling.specs.Forwarding.{IsReplyInPlace};
-ghost use Rattle.calling.specs.UntilTls.{BeginsTls, LeavesStream, until_tls};
+ghost use Rattle.calling.specs.UntilTls.{BeginsTls, EndsWithAuth, until_tls};
 ghost use Rattle.calling.specs.WholeLine.{AsksFor, all_facts, image_modes, modes_after, no_facts, reply_to};
 ghost use Rattle.unftp_control.specs.Bytes.{Bytes};
 ghost use Rattle.unftp_control.specs.Events.{Command, Refused, refusal_fault};
 ghost use Rattle.unftp_control.specs.FtpCommand.{Auth, Epsv, InvalidCommand, Pasv, Quit, Retr, TypeCode};
 ghost use Rattle.unftp_control.specs.Forwarding.{IsForwardError, IsForwarded};
 ghost use Rattle.unftp_control.specs.FtpReply.{CodeAndMsg};
-ghost use Rattle.unftp_control.specs.Service.{InputState};
+ghost use Rattle.unftp_control.specs.Input.{InputState};
 ghost use Rattle.unftp_control.specs.Writing.{OutputState};
 ghost use Rattle.unftp_control.specs.declared.commands.AuthParam.TheVariants.{Ssl, Tls};
 
@@ -83,23 +83,21 @@ pub fn events_are_answered()
         → ⊥ }
 {}
 
-/// What a reader of known bytes has yet to give, where TLS begins and where it doesn't.
+/// With what the bytes end that were read, where TLS begins and where it doesn't.
 pub fn streams_are_left_so()
-    ensures begins { (remaining : Option Bytes)
-        → LeavesStream (codes "AUTH TLS\r\nXY") true remaining → remaining ≡ Some (codes "XY") }
-    ensures not_asked { (remaining : Option Bytes)
-        → LeavesStream (codes "NOOP\r\n") true remaining → ⊥ }
-    ensures never_asked { (remaining : Option Bytes)
-        → LeavesStream (codes "NOOP\r\n") false remaining }
-    ensures some_read { LeavesStream (codes "AUTH TLS\r\nXY") false (Some (codes "Y")) }
-    ensures none_read { LeavesStream (codes "AUTH TLS\r\nXY") false (Some (codes "XY")) → ⊥ }
+    ensures begins { EndsWithAuth true (codes "AUTH TLS\r\n") }
+    ensures read_on { EndsWithAuth true (codes "AUTH TLS\r\nX") → ⊥ }
+    ensures not_asked { EndsWithAuth true (codes "NOOP\r\n") → ⊥ }
+    ensures never_asked { EndsWithAuth false (codes "NOOP\r\n") }
+    ensures some_read { EndsWithAuth false (codes "AUTH TLS\r\nX") }
+    ensures none_read { EndsWithAuth false (codes "AUTH TLS\r\n") → ⊥ }
 {}
 
 /// TLS begins where AUTH TLS ends the last piece that was read, and only there; no piece was read
 /// after it.
 pub fn tls_begins_so()
-    ensures at_the_end { (before after : OutputState) (input input_after : InputState) (begins : Bool)
-        (v : BeginsTls before after input input_after begins)
+    ensures at_the_end { (before after : OutputState) (input input_after : InputState)
+        (begins : Bool) (v : BeginsTls before after input input_after begins)
         → v.answered.pieces ≡ codes "AUTH TLS\r\n" ∷ [] → begins ≡ true }
     ensures before_others { (before after : OutputState) (input input_after : InputState)
         (begins : Bool) (v : BeginsTls before after input input_after begins)

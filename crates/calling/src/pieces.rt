@@ -1,13 +1,12 @@
 //! A server's own loop over the engine.
 ghost use Rattle.std.specs.Prelude.{◌≡◌, [], None, Some, map, IfOk, OnOk, length};
 ghost use Rattle.std.specs.List.{concat};
-ghost use Rattle.std.specs.Io.KnownBytes.{Appends};
 ghost use Rattle.calling.specs.Pieces.{AnswersPieces};
 ghost use Rattle.calling.specs.Sessions.{at_start};
 ghost use Rattle.unftp_control.specs.Decoder.{saturating_u64};
 ghost use Rattle.unftp_control.specs.Endings.{snapshot_of};
 ghost use Rattle.unftp_control.specs.Run.{unread, text_for};
-ghost use Rattle.unftp_control.specs.Writing.{OutputState};
+ghost use Rattle.unftp_control.specs.Writing.{HasWritten, OutputState, output_state_of};
 
 use std::alloc::Global;
 use std::io::Write;
@@ -21,8 +20,8 @@ pub fn answer_pieces<H: Handler, W: Write>(
     handler: &mut H,
     output: &mut Output<W>,
 ) -> Result<u64, ServeError>
-    ensures written { OnOk result
-        (Appends (W.contents output.old.writer) (W.contents output.new.writer)
+    ensures written { OnOk result (HasWritten
+        (output_state_of W.contents output.old) (output_state_of W.contents output.new)
         (text_for None H.law (H.state handler.old)
         (concat (map (λ piece. piece.now) pieces.now)))) }
     ensures left { IfOk result (λ left.

@@ -1,10 +1,10 @@
 //! A connection whose commands come under TLS, after AUTH in clear text (RFC 4217, section 4).
-ghost use Rattle.std.specs.Prelude.{◌≡◌, ℕ, Bool, Some, false, IfErr, IfOk, IfSome, OnOk};
-ghost use Rattle.std.specs.Io.KnownBytes.{Appends};
-ghost use Rattle.calling.specs.UntilTls.{BeginsTls, LeavesStream, at_state, is_auth_tls, until_tls};
+ghost use Rattle.std.specs.Prelude.{◌≡◌, ℕ, Bool, Some, false, IfErr, IfOk};
+ghost use Rattle.calling.specs.Sessions.{snapshot};
+ghost use Rattle.calling.specs.UntilTls.{BeginsTls, LeavesStream, is_auth_tls, until_tls};
 ghost use Rattle.unftp_control.specs.EventMeaning.{event_meant};
-ghost use Rattle.unftp_control.specs.Run.{text_for};
-ghost use Rattle.unftp_control.specs.Service.{ServeEnded, input_state_of};
+ghost use Rattle.unftp_control.specs.Input.{input_state_of};
+ghost use Rattle.unftp_control.specs.Service.{ServeEnded};
 ghost use Rattle.unftp_control.specs.Writing.{output_state_of};
 
 use std::alloc::Global;
@@ -69,28 +69,27 @@ const LINE_LIMIT: usize = 512;
 /// client came so far, and nothing of what it sent after AUTH was read. The reader then has yet to
 /// give the first byte of TLS. The session under TLS is a new engine's.
 ///
-/// Bytes that came after AUTH in clear text must not be taken for commands under TLS: where some were
-/// read with it, the answer is `false`, and the connection has to be closed.
+/// Bytes that came after AUTH in clear text must not be taken for commands under TLS: where some
+/// were read with it, the answer is `false`, and the connection has to be closed.
 pub fn serve_until_tls<R: Read, W: Write>(
     alloc: Global,
     input: &mut Input<R>,
     output: &mut Output<W>,
 ) -> Result<bool, ServeError>
-    ensures written { OnOk result (IfSome (R.remaining input.old.reader) (λ bytes.
-        Appends (W.contents output.old.writer) (W.contents output.new.writer)
-        (text_for (Some 512) until_tls false bytes))) }
-    // nothing is read after the piece with AUTH TLS; TLS begins where no byte came after it there
-    ensures tls { IfOk result (λ begins. BeginsTls
+    // Of any two streams: exactly the replies to what was read were written, and where TLS begins,
+    // nothing was read after AUTH's line.
+    ensures stream { IfOk result (LeavesStream
         (output_state_of W.contents output.old) (output_state_of W.contents output.new)
-        (input_state_of R.remaining input.old) (input_state_of R.remaining input.new) begins) }
-    // of a reader whose bytes contracts know, the stream goes on with the byte after AUTH's line feed
-    ensures stream { IfOk result (λ begins. IfSome (R.remaining input.old.reader) (λ bytes.
-        LeavesStream bytes begins (R.remaining input.new.reader))) }
+        (input_state_of R.remaining input.old) (input_state_of R.remaining input.new)) }
+    // nothing is read after the piece with AUTH TLS; TLS begins where no byte came after it there
+    ensures tls { IfOk result (BeginsTls
+        (output_state_of W.contents output.old) (output_state_of W.contents output.new)
+        (input_state_of R.remaining input.old) (input_state_of R.remaining input.new)) }
     // and at an error all that `serve_with_limit` says
     ensures err { IfErr result (λ error. (is_done : Bool) × (failures : ℕ)
         × ServeEnded (Some 512) until_tls
-        (at_state false 0 (output_state_of W.contents output.old))
-        (at_state is_done failures (output_state_of W.contents output.new))
+        (snapshot false 0 (output_state_of W.contents output.old))
+        (snapshot is_done failures (output_state_of W.contents output.new))
         (input_state_of R.remaining input.old) (input_state_of R.remaining input.new) error) }
 {
     let mut until_tls = UntilTls {

@@ -104,8 +104,8 @@ fn agree(modes: &mut Modes, event: &Event, asked: Asked) -> (ReplyCode, &'static
 
 /// Answers the next event by what its line asks, and remembers that; whether there was one.
 ///
-/// It fails only when out of memory: nothing is appended then, and the modes are as before; the line
-/// stays, or is taken and not answered.
+/// It fails only when out of memory: nothing is appended then, and the modes are as before; the
+/// line stays, or is taken and not answered.
 pub fn answer_line(
     alloc: Global,
     decoder: &mut EventDecoder,

@@ -5,25 +5,24 @@ use Rattle.std.specs.List.{AllByRecursion, concat}
 use Rattle.std.specs.Str.{is_utf8, chars}
 use Rattle.std.specs.Str.Lossy.{utf8_lossy, utf8_valid_len, utf8_error_len}
 use Rattle.unftp_control_defs.specs.Bytes.{Bytes}
+use Rattle.unftp_control_defs.specs.Input.{InputState, HasPieceSize}
 use Rattle.unftp_control_defs.specs.Lines.{lines_of}
-use Rattle.unftp_control_serve.specs.Service.{InputState}
-use Rattle.unftp_control_serve.specs.Writing.{OutputState, Sent}
+use Rattle.unftp_control_serve.specs.Writing.{OutputState, Sent, appended_output}
 use Rattle.unftp_control_serve.specs.declared.error.ServeError.{ServeError}
 use Rattle.unftp_control_serve.specs.declared.error.ServeError.TheVariants as error
-use Rattle.unftp_control_serve.proofs.ServiceLemmas.{HasSize}
 use Rattle.control_log.specs.Log.{EndedLate, LogsAll, NoRoomForPiece, ReadFailed, StopsAt, log_of}
-use Rattle.control_log.specs.States.{to_read, written}
+use Rattle.control_log.specs.States.{given_and_left}
 use Rattle.control_log.proofs.LogLemmas.{LogsAll-written, Sent-nothing}
 
-pub stops_without_memory : StopsAt None (codes "NOOP\r\n" ∷ []) (written (codes "x"))
-    (written (codes "x")) error.OutOfMemory
+pub stops_without_memory : StopsAt None (codes "NOOP\r\n" ∷ []) (appended_output (codes "x"))
+    (appended_output (codes "x")) error.OutOfMemory
 stops_without_memory = record {
   logged = [];
   line = codes "NOOP\r\n";
   later = [];
   split = refl;
-  between = written (codes "x");
-  sent = Sent-nothing (written (codes "x"));
+  between = appended_output (codes "x");
+  sent = Sent-nothing (appended_output (codes "x"));
   fails = refl;
 }
 
@@ -51,15 +50,15 @@ appended None before text is = absurd is
 appended (Some bytes) before text is = ap (λ bytes. Some bytes) is
 
 pub logs_noop : (after : OutputState)
-    → Sent (log_of None (codes "NOOP\r\nNO")) (written (codes "x")) after
+    → Sent (log_of None (codes "NOOP\r\nNO")) (appended_output (codes "x")) after
     → after.written ≡ Some (codes "xNOOP\n")
 logs_noop after sent = appended after.written (codes "x") (codes "NOOP\n")
     (subst (λ text. Appends (Some (codes "x")) after.written text) noop_and_more_logged
-    sent.written)
+    sent.written.known)
 
 pub logs_all_noop : (after : OutputState) (reads : List ℕ) (input : InputState)
-    → LogsAll None (written (codes "x")) after
-    (to_read (codes "NOOP\r\nNO") reads 2) input
+    → LogsAll None (appended_output (codes "x")) after
+    (given_and_left [] (codes "NOOP\r\nNO") reads 2) input
     → after.written ≡ Some (codes "xNOOP\n")
 logs_all_noop after reads input all = appended after.written (codes "x") (codes "NOOP\n")
     (subst (λ text. Appends (Some (codes "x")) after.written text) noop_and_more_logged
@@ -68,7 +67,7 @@ logs_all_noop after reads input all = appended after.written (codes "x") (codes 
 unlike : (m n : ℕ) → m < n → m ≡ n → ⊥
 unlike m n less same = absurd (omega arith)
 
-two_nothings : (pieces : List Bytes) → AllByRecursion HasSize pieces
+two_nothings : (pieces : List Bytes) → AllByRecursion HasPieceSize pieces
     → 4 ∷ 0 ∷ 0 ∷ [] ≡ map length pieces ++ 0 ∷ [] → ⊥
 two_nothings [] sizes is = unlike 1 3 (omega arith) (sym (ap length is))
 two_nothings (first ∷ []) sizes is = unlike 2 3 (omega arith) (sym (ap length is))
@@ -115,7 +114,7 @@ pub failed_read_logs : (before after : OutputState) (input input_after : InputSt
 failed_read_logs before after input input_after v same =
     sent_of v.pieces (codes "NOOP\r\nNO" ∷ []) (codes "NOOP\n") v.sent same noop_and_more_logged
 
-last_size : (pieces : List Bytes) (last : Bytes) → AllByRecursion HasSize (pieces ++ last ∷ [])
+last_size : (pieces : List Bytes) (last : Bytes) → AllByRecursion HasPieceSize (pieces ++ last ∷ [])
     → 0 < length last
 last_size [] last sizes = sizes.0.0
 last_size (piece ∷ pieces) last sizes = last_size pieces last sizes.1
@@ -152,35 +151,39 @@ stops_within before after error v =
     more_than_all (codes "NOOP\r\n") v.logged v.line v.later v.split
 
 -- an output to which the log line of NOOP was sent
-noop_sent : Sent (codes "NOOP\n") (written (codes "x")) (written (codes "xNOOP\n"))
-noop_sent = record { written = refl; no_failure = refl; flushed = omega arith }
+noop_sent : Sent (codes "NOOP\n") (appended_output (codes "x")) (appended_output (codes "xNOOP\n"))
+noop_sent = record {
+  written = record { taken = refl; known = refl };
+  no_failure = refl;
+  flushed = omega arith;
+}
 
-first_sent : Sent (log_of None (codes "NOOP\r\n")) (written (codes "x")) (written (codes "xNOOP\n"))
-first_sent = subst (λ text. Sent text (written (codes "x")) (written (codes "xNOOP\n")))
+first_sent : Sent (log_of None (codes "NOOP\r\n")) (appended_output (codes "x")) (appended_output (codes "xNOOP\n"))
+first_sent = subst (λ text. Sent text (appended_output (codes "x")) (appended_output (codes "xNOOP\n")))
     (sym noop_logged) noop_sent
 
-pub whole_input : LogsAll None (written (codes "x")) (written (codes "xNOOP\n"))
-    (to_read (codes "NOOP\r\nNO") [] 2) (to_read [] (8 ∷ 0 ∷ []) 2)
+pub whole_input : LogsAll None (appended_output (codes "x")) (appended_output (codes "xNOOP\n"))
+    (given_and_left [] (codes "NOOP\r\nNO") [] 2) (given_and_left (codes "NOOP\r\nNO") [] (8 ∷ 0 ∷ []) 2)
 whole_input = record {
   pieces = codes "NOOP\r\nNO" ∷ [];
   were_read = record {
-    consumed = refl;
+    given = record { given = refl; known = refl };
     reads = refl;
     sizes = ((omega arith, omega arith), tt);
   };
   at_end = refl;
-  sent = subst (λ text. Sent text (written (codes "x")) (written (codes "xNOOP\n")))
+  sent = subst (λ text. Sent text (appended_output (codes "x")) (appended_output (codes "xNOOP\n")))
       (sym noop_and_more_logged) noop_sent;
   no_read_failed = refl;
 }
 
-pub second_line : EndedLate None (written (codes "x")) (written (codes "xNOOP\n"))
-    (to_read (codes "NOOP\r\nQUIT\r\n") [] 2) (to_read [] (6 ∷ 6 ∷ []) 2) error.OutOfMemory
+pub second_line : EndedLate None (appended_output (codes "x")) (appended_output (codes "xNOOP\n"))
+    (given_and_left [] (codes "NOOP\r\nQUIT\r\n") [] 2) (given_and_left (codes "NOOP\r\nQUIT\r\n") [] (6 ∷ 6 ∷ []) 2) error.OutOfMemory
 second_line = record {
   pieces = codes "NOOP\r\n" ∷ [];
   last = codes "QUIT\r\n";
   were_read = record {
-    consumed = refl;
+    given = record { given = refl; known = refl };
     reads = refl;
     sizes = ((omega arith, omega arith), ((omega arith, omega arith), tt));
   };
@@ -189,7 +192,7 @@ second_line = record {
     line = codes "QUIT\r\n";
     later = [];
     split = refl;
-    between = written (codes "xNOOP\n");
+    between = appended_output (codes "xNOOP\n");
     sent = first_sent;
     fails = refl;
   };
@@ -197,13 +200,13 @@ second_line = record {
   no_read_failed = refl;
 }
 
-pub second_piece : NoRoomForPiece None (written (codes "x")) (written (codes "xNOOP\n"))
-    (to_read (codes "NOOP\r\nNO") [] 2) (to_read [] (6 ∷ 2 ∷ []) 2)
+pub second_piece : NoRoomForPiece None (appended_output (codes "x")) (appended_output (codes "xNOOP\n"))
+    (given_and_left [] (codes "NOOP\r\nNO") [] 2) (given_and_left (codes "NOOP\r\nNO") [] (6 ∷ 2 ∷ []) 2)
 second_piece = record {
   pieces = codes "NOOP\r\n" ∷ [];
   last = codes "NO";
   were_read = record {
-    consumed = refl;
+    given = record { given = refl; known = refl };
     reads = refl;
     sizes = ((omega arith, omega arith), ((omega arith, omega arith), tt));
   };
@@ -211,12 +214,12 @@ second_piece = record {
   no_read_failed = refl;
 }
 
-pub failed_read : ReadFailed None (written (codes "x")) (written (codes "xNOOP\n"))
-    (to_read (codes "NOOP\r\nNO") [] 2) (to_read (codes "NO") (6 ∷ []) 3)
+pub failed_read : ReadFailed None (appended_output (codes "x")) (appended_output (codes "xNOOP\n"))
+    (given_and_left [] (codes "NOOP\r\nNO") [] 2) (given_and_left (codes "NOOP\r\n") (codes "NO") (6 ∷ []) 3)
 failed_read = record {
   pieces = codes "NOOP\r\n" ∷ [];
   were_read = record {
-    consumed = refl;
+    given = record { given = refl; known = refl };
     reads = refl;
     sizes = ((omega arith, omega arith), tt);
   };

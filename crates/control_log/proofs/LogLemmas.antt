@@ -1,24 +1,25 @@
 -- Logs that are put together: line by line, and piece by piece.
-use Rattle.std.proofs.Common.{◌≡◌, ℕ, ◌≤◌, ◌+◌, ◌-◌, ◌^◌, List, [], ◌∷◌, ◌++◌, length, map, take, Option, Some, None, Ok, inr, refl, sym, ap, subst, ◌∙◌, arith, append_assoc, append-nil, length-append}
+use Rattle.std.proofs.Common.{◌≡◌, ℕ, ◌≤◌, ◌+◌, ◌-◌, ◌^◌, List, [], ◌∷◌, ◌++◌, length, take, Option, Some, Ok, inr, refl, sym, ap, subst, ◌∙◌, arith, append_assoc, append-nil, length-append}
 use Rattle.std.specs.Prelude.{if◌then◌else◌}
-use Rattle.std.specs.Io.KnownBytes.{Appends, Consumes, IsAtEnd, Keeps}
+use Rattle.std.specs.Io.KnownBytes.{Appends, IsAtEnd}
+use Rattle.std.proofs.KnownBytes.{Consumes-whole}
 use Rattle.std.specs.List.{concat}
 use Rattle.std.specs.Option.{IfSome}
 use Rattle.unftp_control_defs.specs.Bytes.{Bytes, LF}
 use Rattle.unftp_control_defs.specs.Events.{event_for}
+use Rattle.unftp_control_defs.specs.Input.{InputState, HasPieceSize, HasRead, WereRead}
 use Rattle.unftp_control_defs.specs.Lines.{lines_of, incomplete_line}
+use Rattle.unftp_control_defs.proofs.InputLemmas.{WereRead-start, WereRead-more, WereRead-no_more, concat-more}
 use Rattle.unftp_control_defs.proofs.LineLemmas.{incomplete_line-append, incomplete_line-incomplete, line_first, lines_of-append, lines_of-incomplete}
 use Rattle.unftp_control_log.specs.LogLine.{log_line, unless_too_long}
 use Rattle.unftp_control_serve.specs.Decoder.{HasNoLine, MayRunOut, Pending, TakesLine, line_after, pushed}
 use Rattle.unftp_control_serve.specs.EventMeaning.{event_meant, refuses_length}
-use Rattle.unftp_control_serve.specs.Service.{InputState, WereRead}
 use Rattle.unftp_control_serve.specs.Writing.{OutputState, SendFailed, Sent}
 use Rattle.unftp_control_serve.specs.declared.error.ServeError.{ServeError}
 use Rattle.unftp_control_serve.specs.declared.error.ServeError.TheVariants as error
 use Rattle.unftp_control_serve.specs.declared.event.Event.{Event}
 use Rattle.unftp_control_serve.proofs.EventLineLemmas.{line_after-taken, refuses_length-exceeds}
-use Rattle.unftp_control_serve.proofs.SendLemmas.{Appends-nothing, Appends-then, Flushed-then}
-use Rattle.unftp_control_serve.proofs.ServiceLemmas.{Consumes-kept, Consumes-nothing, Consumes-then, HasSize, WereRead-more, concat-more}
+use Rattle.unftp_control_serve.proofs.SendLemmas.{HasWritten-nothing, HasWritten-then, Flushed-then}
 use Rattle.control_log.specs.Log.{EndedLate, LogEnded, LogsAll, NoRoomForPiece, ReadFailed, ReadTooOften, StopsAt, log_entries, log_entry, log_of}
 
 log_entries-append : (limit : Option ℕ) (lines more : List Bytes)
@@ -36,13 +37,12 @@ log_of-append limit bytes more = ap (log_entries limit) (lines_of-append bytes m
 
 pub Sent-nothing : (output : OutputState) → Sent [] output output
 Sent-nothing output =
-    record { written = Appends-nothing output.written; no_failure = refl; flushed = omega arith }
+    record { written = HasWritten-nothing output; no_failure = refl; flushed = omega arith }
 
 Sent-then : {text more : Bytes} {before between after : OutputState} → Sent text before between
     → Sent more between after → Sent (text ++ more) before after
 Sent-then {text} {more} {before} {between} {after} first second = record {
-  written = Appends-then before.written between.written after.written text more first.written
-      second.written;
+  written = HasWritten-then first.written second.written;
   no_failure = second.no_failure ∙ first.no_failure;
   flushed = Flushed-then text more [] before.unflushed between.unflushed after.unflushed
       first.flushed second.flushed;
@@ -161,11 +161,7 @@ pub Logging-start : {limit : Option ℕ} {before : OutputState} {i : InputState}
     → decoder.bytes ≡ [] → decoder.limit ≡ limit → Logging limit before before i i decoder 0
 Logging-start {before = before} {i} none limited = record {
   pieces = [];
-  were_read = record {
-    consumed = Consumes-nothing i.remaining;
-    reads = sym (append-nil i.reads);
-    sizes = tt;
-  };
+  were_read = WereRead-start i;
   pending = none;
   limited = limited;
   sent = Sent-nothing before;
@@ -191,50 +187,33 @@ module _ {limit : Option ℕ} {before now : OutputState} {i j : InputState}
 
   module _ (k : InputState) where
     -- a read failed
-    pub Logging-read_failed : Keeps j.remaining k.remaining → k.reads ≡ j.reads
+    pub Logging-read_failed : HasRead j k [] → k.reads ≡ j.reads
         → k.failures ≡ j.failures + 1 → ReadFailed limit before now i k
-    Logging-read_failed kept reads counted = record {
+    Logging-read_failed nothing reads counted = record {
       pieces = so_far.pieces;
-      were_read = record {
-        consumed = Consumes-kept i.remaining j.remaining k.remaining read_so_far
-            so_far.were_read.consumed kept;
-        reads = reads ∙ so_far.were_read.reads;
-        sizes = so_far.were_read.sizes;
-      };
+      were_read = WereRead-no_more so_far.were_read [] nothing (reads ∙ sym (append-nil j.reads));
       sent = so_far.sent;
       read_failed = counted ∙ ap (λ n. n + 1) so_far.no_read_failed;
     }
 
     -- a read gave nothing
     pub Logging-all : {count : ℕ} (piece : Bytes) → count ≡ 0 → k.reads ≡ j.reads ++ count ∷ []
-        → Consumes j.remaining k.remaining (take count piece) → IsAtEnd k.remaining
+        → HasRead j k (take count piece) → IsAtEnd k.remaining
         → k.failures ≡ j.failures → LogsAll limit before now i k
-    Logging-all piece zero reads given at_end quiet =
-        let nothing : Consumes j.remaining k.remaining [] = rw zero at given in
-        record {
-          pieces = so_far.pieces;
-          were_read = record {
-            consumed = rw (sym (append-nil read_so_far))
-                (Consumes-then i.remaining j.remaining k.remaining read_so_far []
-                so_far.were_read.consumed nothing);
-            reads = (rw zero at reads)
-                ∙ ap (λ reads. reads ++ 0 ∷ [])
-                (so_far.were_read.reads
-                ∙ ap (λ reads. i.reads ++ reads) (append-nil (map length so_far.pieces)))
-                ∙ append_assoc i.reads (map length so_far.pieces) (0 ∷ []);
-            sizes = so_far.were_read.sizes;
-          };
-          at_end = at_end;
-          sent = so_far.sent;
-          no_read_failed = quiet ∙ so_far.no_read_failed;
-        }
+    Logging-all piece zero reads given at_end quiet = record {
+      pieces = so_far.pieces;
+      were_read = WereRead-no_more so_far.were_read (0 ∷ []) (rw zero at given) (rw zero at reads);
+      at_end = at_end;
+      sent = so_far.sent;
+      no_read_failed = quiet ∙ so_far.no_read_failed;
+    }
 
     -- a piece was read
-    module _ (piece : Bytes) (given : Consumes j.remaining k.remaining piece)
-        (reads : k.reads ≡ j.reads ++ length piece ∷ []) (size : HasSize piece)
+    module _ (piece : Bytes) (given : HasRead j k piece)
+        (reads : k.reads ≡ j.reads ++ length piece ∷ []) (size : HasPieceSize piece)
         (quiet : k.failures ≡ j.failures) where
       were_read_so : WereRead i k (so_far.pieces ++ piece ∷ []) []
-      were_read_so = WereRead-more piece so_far.were_read given reads size
+      were_read_so = WereRead-more so_far.were_read piece given reads size
 
       -- there is no memory for it
       pub Logging-no_room : NoRoomForPiece limit before now i k
@@ -324,18 +303,11 @@ module _ {limit : Option ℕ} {before now : OutputState} {i j : InputState}
   }
 
 -- of an input that is known
-known_input : (a b : Option Bytes) (read : Bytes) (P : Bytes → Type 0) → Consumes a b read
-    → IsAtEnd b → P read → IfSome a P
-known_input None b read P p q h = tt
-known_input (Some a) None read P p q h = absurd p
-known_input (Some a) (Some b) read P p q h =
-    subst P (sym (p ∙ ap (λ b. read ++ b) q ∙ append-nil read)) h
-
 pub LogsAll-written : {limit : Option ℕ} {before after : OutputState} {i k : InputState}
     → LogsAll limit before after i k →
     IfSome i.remaining (λ input. Appends before.written after.written (log_of limit input))
 LogsAll-written {limit} {before} {after} {i} {k} all =
     let read = concat all.pieces in
-    known_input i.remaining k.remaining read
+    Consumes-whole i.remaining k.remaining read
     (λ input. Appends before.written after.written (log_of limit input))
-    all.were_read.consumed all.at_end all.sent.written
+    all.were_read.given.known all.at_end all.sent.written.known

@@ -3,9 +3,9 @@ use Rattle.std.specs.Prelude.{◌≡◌, ℕ, ◌+◌, ◌-◌, ◌^◌, ◌≤�
 use Rattle.std.specs.Io.KnownBytes.{IsAtEnd}
 use Rattle.std.specs.List.{concat, flat_map}
 use Rattle.unftp_control_defs.specs.Bytes.{Bytes, LF}
+use Rattle.unftp_control_defs.specs.Input.{InputState, WereRead}
 use Rattle.unftp_control_defs.specs.Lines.{lines_of}
 use Rattle.unftp_control_log.specs.LogLine.{logged}
-use Rattle.unftp_control_serve.specs.Service.{InputState, WereRead}
 use Rattle.unftp_control_serve.specs.Writing.{Begins, OutputState, SendFailed, Sent}
 use Rattle.unftp_control_serve.specs.declared.error.ServeError.{ServeError}
 use Rattle.unftp_control_serve.specs.declared.error.ServeError.TheVariants.{Read, Write, WriteZero, OutOfMemory, TooManyReads}
@@ -21,7 +21,8 @@ log_entries limit lines = flat_map (log_entry limit) lines
 abbrev pub log_of : Option ℕ → Bytes → Bytes
 log_of limit input = log_entries limit (lines_of input)
 
--- The first of these lines are logged; the entry of the next one was not made, or not written whole.
+-- The first of these lines are logged; the entry of the next one was not made, or not written
+-- whole.
 pub record StopsAt (limit : Option ℕ) (lines : List Bytes) (before after : OutputState)
     (error : ServeError) : Type 0 where
   pub logged : List Bytes

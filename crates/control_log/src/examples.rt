@@ -5,12 +5,12 @@ ghost use Rattle.std.specs.Prelude.{◌≡◌, ℕ, ◌+◌, ◌-◌, ◌^◌, �
 ghost use Rattle.std.specs.List.{concat};
 ghost use Rattle.std.specs.Io.KnownBytes.{IsAtEnd};
 ghost use Rattle.unftp_control_defs.specs.Bytes.{Bytes};
+ghost use Rattle.unftp_control_defs.specs.Input.{InputState};
 ghost use Rattle.unftp_control_defs.specs.Lines.{lines_of};
-ghost use Rattle.unftp_control_serve.specs.Service.{InputState};
-ghost use Rattle.unftp_control_serve.specs.Writing.{Begins, OutputState, Sent};
+ghost use Rattle.unftp_control_serve.specs.Writing.{Begins, OutputState, Sent, appended_output};
 ghost use Rattle.unftp_control_reply.specs.ErrorParts.{KindAndSource};
 ghost use Rattle.control_log.specs.Log.{EndedLate, LogEnded, Logs, LogsAll, NoRoomForPiece, ReadFailed, ReadTooOften, StopsAt, log_entries, log_entry, log_of};
-ghost use Rattle.control_log.specs.States.{to_read, written};
+ghost use Rattle.control_log.specs.States.{given_and_left};
 
 use unftp_control_serve::ServeError;
 
@@ -32,10 +32,10 @@ pub fn entries_are_written()
 
 /// Where a log stops: at a line, of which nothing is written when out of memory.
 pub fn a_log_stops_so()
-    ensures memory { StopsAt None (codes "NOOP\r\n" ∷ []) (written (codes "x"))
-        (written (codes "x")) ServeError.OutOfMemory }
+    ensures memory { StopsAt None (codes "NOOP\r\n" ∷ []) (appended_output (codes "x"))
+        (appended_output (codes "x")) ServeError.OutOfMemory }
     ensures nothing_written { (after : OutputState)
-        (v : StopsAt None (codes "NOOP\r\n" ∷ []) (written (codes "x")) after
+        (v : StopsAt None (codes "NOOP\r\n" ∷ []) (appended_output (codes "x")) after
         ServeError.OutOfMemory)
         → v.logged ≡ [] → after.written ≡ Some (codes "x") }
     ensures no_line { (before after : OutputState) (error : ServeError)
@@ -46,18 +46,18 @@ pub fn a_log_stops_so()
     ensures read { (lines : List Bytes) (before after : OutputState) (error : _)
         → StopsAt None lines before after (ServeError.Read error) → ⊥ }
     ensures logs { (after : OutputState)
-        → Logs {T = ℕ} None (codes "NOOP\r\nNO") (written (codes "x")) (Ok 1) after
+        → Logs {T = ℕ} None (codes "NOOP\r\nNO") (appended_output (codes "x")) (Ok 1) after
         → after.written ≡ Some (codes "xNOOP\n") }
     ensures no_log { (after : OutputState)
-        → Logs {T = ℕ} None (codes "NO") (written (codes "x")) (Ok 1) after
+        → Logs {T = ℕ} None (codes "NO") (appended_output (codes "x")) (Ok 1) after
         → after.written ≡ Some (codes "x") }
 {}
 
 /// At the end all complete lines are logged, and the last read gave nothing: none comes after it.
 pub fn all_is_logged()
     ensures whole { (after : OutputState) (reads : List ℕ) (input : InputState)
-        → LogsAll None (written (codes "x")) after
-        (to_read (codes "NOOP\r\nNO") reads 2) input
+        → LogsAll None (appended_output (codes "x")) after
+        (given_and_left [] (codes "NOOP\r\nNO") reads 2) input
         → after.written ≡ Some (codes "xNOOP\n") }
     ensures at_end { (before after : OutputState) (input input_after : InputState)
         → LogsAll None before after input input_after
@@ -73,15 +73,21 @@ pub fn all_is_logged()
 /// An input that is logged whole; one whose second line has no memory; one whose second piece has
 /// none; and one of which a read failed.
 pub fn inputs_are_logged_so()
-    ensures whole { LogsAll None (written (codes "x")) (written (codes "xNOOP\n"))
-        (to_read (codes "NOOP\r\nNO") [] 2) (to_read [] (8 ∷ 0 ∷ []) 2) }
-    ensures late { EndedLate None (written (codes "x")) (written (codes "xNOOP\n"))
-        (to_read (codes "NOOP\r\nQUIT\r\n") [] 2) (to_read [] (6 ∷ 6 ∷ []) 2)
+    ensures whole { LogsAll None (appended_output (codes "x")) (appended_output (codes "xNOOP\n"))
+        (given_and_left [] (codes "NOOP\r\nNO") [] 2)
+        (given_and_left (codes "NOOP\r\nNO") [] (8 ∷ 0 ∷ []) 2) }
+    ensures late { EndedLate None (appended_output (codes "x")) (appended_output (codes "xNOOP\n"))
+        (given_and_left [] (codes "NOOP\r\nQUIT\r\n") [] 2)
+        (given_and_left (codes "NOOP\r\nQUIT\r\n") [] (6 ∷ 6 ∷ []) 2)
         ServeError.OutOfMemory }
-    ensures no_room { NoRoomForPiece None (written (codes "x")) (written (codes "xNOOP\n"))
-        (to_read (codes "NOOP\r\nNO") [] 2) (to_read [] (6 ∷ 2 ∷ []) 2) }
-    ensures read_failed { ReadFailed None (written (codes "x")) (written (codes "xNOOP\n"))
-        (to_read (codes "NOOP\r\nNO") [] 2) (to_read (codes "NO") (6 ∷ []) 3) }
+    ensures no_room { NoRoomForPiece None (appended_output (codes "x"))
+        (appended_output (codes "xNOOP\n"))
+        (given_and_left [] (codes "NOOP\r\nNO") [] 2)
+        (given_and_left (codes "NOOP\r\nNO") [] (6 ∷ 2 ∷ []) 2) }
+    ensures read_failed { ReadFailed None (appended_output (codes "x"))
+        (appended_output (codes "xNOOP\n"))
+        (given_and_left [] (codes "NOOP\r\nNO") [] 2)
+        (given_and_left (codes "NOOP\r\n") (codes "NO") (6 ∷ []) 3) }
 {}
 
 /// Which errors `run` returns, and what each one says.
@@ -109,7 +115,8 @@ pub fn errors_of_run()
         → LogEnded None before after input input_after ServeError.Stopped → ⊥ }
 {}
 
-/// An error comes at the first line that has one: the lines of the pieces before the last are logged.
+/// An error comes at the first line that has one: the lines of the pieces before the last are
+/// logged.
 pub fn errors_come_in_time()
     ensures late { (before after : OutputState) (input input_after : InputState)
         (error : ServeError) (v : EndedLate None before after input input_after error)

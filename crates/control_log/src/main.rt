@@ -1,19 +1,19 @@
 //! Logs one control connection from standard input to standard output: what its client sent, in
 //! printable text, an entry for each line, and no password or account.
 //!
-//! Both have to block: a read or a write that would have to wait fails, and a failed one ends the
-//! program with status 1 and a line on standard error that names the error.
+//! Both have to block: where one doesn't, a read or a write fails when nothing can be read or
+//! written. A failed one ends the program with status 1 and a line on standard error that names the
+//! error.
 #![tactic(auto)]
 
-ghost use Rattle.std.specs.Prelude.{◌≡◌, ◌++◌, ◌∷◌, [], Some, IfErr, IfSome, OnOk};
-ghost use Rattle.std.specs.Io.KnownBytes.{Appends};
+ghost use Rattle.std.specs.Prelude.{◌≡◌, ◌++◌, ◌∷◌, [], Some, IfErr, OnOk};
 ghost use Rattle.unftp_control_defs.specs.Bytes.{LF};
+ghost use Rattle.unftp_control_defs.specs.Input.{input_state_of};
 ghost use Rattle.unftp_control_defs.specs.Lines.{incomplete_line};
 ghost use Rattle.unftp_control_log.specs.LogLine.{log_line};
 ghost use Rattle.unftp_control_serve.specs.EventMeaning.{event_meant};
-ghost use Rattle.unftp_control_serve.specs.Service.{input_state_of};
 ghost use Rattle.unftp_control_serve.specs.Writing.{Sends, output_state_of};
-ghost use Rattle.control_log.specs.Log.{LogEnded, Logs, LogsAll, log_of};
+ghost use Rattle.control_log.specs.Log.{LogEnded, Logs, LogsAll};
 
 mod examples;
 
@@ -87,11 +87,8 @@ pub fn run<R: Read, W: Write>(
     reader: &mut Input<R>,
     writer: &mut Output<W>,
 ) -> Result<(), ServeError>
-    // At Ok exactly the log lines of the input's lines are written, each with a line feed.
-    ensures written { OnOk result (IfSome (R.remaining reader.old.reader) (λ input.
-        Appends (W.contents writer.old.writer) (W.contents writer.new.writer)
-        (log_of (Some LIMIT) input))) }
-    // At Ok, of any reader, with what was flushed; and what is so at each error.
+    // At Ok, of any reader and any writer, exactly the log lines of the lines that the reads gave
+    // were written and flushed, each with a line feed; and what is so at each error.
     ensures ok { OnOk result (LogsAll (Some LIMIT)
         (output_state_of W.contents writer.old) (output_state_of W.contents writer.new)
         (input_state_of R.remaining reader.old) (input_state_of R.remaining reader.new)) }

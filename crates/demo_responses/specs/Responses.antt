@@ -9,8 +9,8 @@ use Rattle.unftp_control_defs.specs.Run.{Law}
 use Rattle.unftp_control_commands.specs.Answers.{auth_reply, prot_reply, feat_reply, port_reply, help_reply, mode_reply, opts_reply, stru_reply}
 use Rattle.unftp_control_commands.specs.Facts.{facts_reply}
 
--- the facts of the one file that the handler knows, of 1,234 bytes and changed on 1 December 2023 at
--- noon (RFC 3659, section 7.5)
+-- the facts of the one file that the handler knows, of 1,234 bytes and changed on 1 December 2023
+-- at noon (RFC 3659, section 7.5)
 abbrev pub facts : Bytes
 facts = codes "type=file;size=1234;modify=20231201120000;"
 

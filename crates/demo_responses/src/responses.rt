@@ -18,8 +18,8 @@ use unftp_control_serve::{Count, Event, Handler};
 /// The port that EPSV reports. It is not opened.
 const PORT: u16 = 2121;
 
-/// The facts of the one file that the handler knows (RFC 3659, section 7.5): it has 1,234 bytes, and
-/// was last modified on 2023-12-01 at 12:00:00 UTC.
+/// The facts of the one file that the handler knows (RFC 3659, section 7.5): it has 1,234 bytes,
+/// and was last modified on 2023-12-01 at 12:00:00 UTC.
 const FACTS: &str = "type=file;size=1234;modify=20231201120000;";
 
 /// Answers each event by itself, and is done once QUIT came.

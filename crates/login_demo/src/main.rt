@@ -1,18 +1,19 @@
-//! Serves one control connection over standard input and output to who has logged in, with a tree of
-//! files in memory: each line is answered when it is complete, up to QUIT.
+//! Serves one control connection over standard input and output to who has logged in, with a tree
+//! of files in memory: each line is answered when it is complete, up to QUIT.
 //!
-//! Both have to block: a read or a write that would have to wait fails, and a failed one ends the
-//! program with status 1 and a line on standard error that names the error.
+//! Both have to block: where one doesn't, a read or a write fails when nothing can be read or
+//! written. A failed one ends the program with status 1 and a line on standard error that names the
+//! error.
 #![tactic(auto)]
 
-ghost use Rattle.std.specs.Prelude.{◌≤◌, ◌+◌, ℕ, IfErr, IfOk, IfSome, OnOk, Some};
-ghost use Rattle.std.specs.Io.KnownBytes.{Appends};
+ghost use Rattle.std.specs.Prelude.{◌≤◌, ◌+◌, ℕ, IfErr, IfOk, OnOk, Some};
 ghost use Rattle.unftp_control_defs.specs.Bytes.{Bytes};
+ghost use Rattle.unftp_control_defs.specs.Input.{HasRead, input_state_of};
 ghost use Rattle.unftp_control_login.specs.Promises.{MembersAlone};
 ghost use Rattle.unftp_control_login.specs.Gate.{Gated};
 ghost use Rattle.unftp_control_login.specs.LoginLimit.{Limited};
-ghost use Rattle.unftp_control_serve.specs.Service.{ServeEnded, Serves, input_state_of};
-ghost use Rattle.unftp_control_serve.specs.Writing.{output_state_of};
+ghost use Rattle.unftp_control_serve.specs.Service.{ServeEnded, Serves};
+ghost use Rattle.unftp_control_serve.specs.Writing.{HasWritten, output_state_of};
 ghost use Rattle.login_demo.specs.declared.session.Session.{Session};
 ghost use Rattle.login_demo.specs.Guarded.{first_snapshot, guarded_law, snapshot};
 
@@ -61,20 +62,22 @@ pub fn run<R: Read, W: Write, A: Accounts + Drop>(
     writer: &mut Output<W>,
     accounts: A,
 ) -> Result<Served, ServeError>
-    // At Ok exactly the replies to the lines are written, and `Serves` says what is returned, for
-    // some last state of the session and count of its failures.
-    ensures serves { (session : Limited (Gated Session)) × (failures : ℕ) × IfOk result (λ served.
-        IfSome (R.remaining reader.old.reader) (Serves (Some LIMIT) guarded_law
+    // At Ok exactly the replies to the lines that the reads gave were written, of any reader and
+    // any writer, for some last state of the session and count of its failures.
+    ensures serves { (session : Limited (Gated Session)) × (failures : ℕ) × IfOk result
+        (Serves (Some LIMIT) guarded_law
         (first_snapshot (A.accepts accounts) (output_state_of W.contents writer.old))
         (snapshot session failures (output_state_of W.contents writer.new))
-        (R.remaining reader.new.reader) served)) }
-    // Whatever the input: where a client reads in the output a reply that reports no failure, at the
-    // place of a command that needs a login, the accounts have accepted a name and its password
-    // before it.
-    ensures members { OnOk result (IfSome (R.remaining reader.old.reader) (λ input.
-        (output : Bytes)
-        × Appends (W.contents writer.old.writer) (W.contents writer.new.writer) output
-        × MembersAlone (Some LIMIT) (A.accepts accounts) input output)) }
+        (input_state_of R.remaining reader.old) (input_state_of R.remaining reader.new)) }
+    // Whatever was read: where a client reads in what was written a reply that reports no failure,
+    // at the place of a command that needs a login, the accounts have accepted a name and its
+    // password before it.
+    ensures members { OnOk result ((read written : Bytes)
+        × HasRead (input_state_of R.remaining reader.old) (input_state_of R.remaining reader.new)
+        read
+        × HasWritten (output_state_of W.contents writer.old) (output_state_of W.contents writer.new)
+        written
+        × MembersAlone (Some LIMIT) (A.accepts accounts) read written) }
     // At Ok the buffer has held at most the limit and one piece.
     ensures bound { IfOk result (λ served. served.held ≤ LIMIT + 4096) }
     // What is so at each error.

@@ -23,6 +23,6 @@ pub use Rattle.unftp_control_defs.proofs.LineLemmas
 pub use Rattle.unftp_control_defs.proofs.RunLemmas
 pub use Rattle.unftp_control_serve.proofs.SendLemmas
 pub use Rattle.unftp_control_serve.proofs.EndingLemmas
-pub use Rattle.unftp_control_serve.proofs.ServesLemmas
+pub use Rattle.unftp_control_serve.proofs.ServiceLemmas
 pub use Rattle.unftp_control_login.proofs.MemberLemmas
 pub use Rattle.unftp_control_client.proofs.ClientStepLemmas

@@ -1,6 +1,6 @@
 -- Reads that a client needs, and reads that it does not need.
-use Rattle.std.proofs.Common.{◌≡◌, ◌≤◌, [], ◌∷◌, ◌++◌, codes, Some, None, inl, inr, refl, sym, ap, subst, ◌∙◌, arith, lit<, lit≤, length, length-append, take, drop}
-use Rattle.std.proofs.lemmas.List.{take-append-drop, take-append-le}
+use Rattle.std.proofs.Common.{◌≡◌, [], ◌∷◌, ◌++◌, codes, Some, None, inl, inr, refl, ap, subst, arith, lit<, lit≤, List, length, length-append}
+use Rattle.std.specs.List.{concat}
 use Rattle.std.specs.Fmt.{digits}
 use Rattle.unftp_control_defs.specs.Bytes.{Bytes, LF, Lacks}
 use Rattle.unftp_control_defs.specs.FtpReply.{CodeAndMsg}
@@ -31,48 +31,29 @@ front more = FrontReply-encoded (CodeAndMsg 211 (codes "a")) more
 no_part : (more : Bytes) → IsPartial (codes "211 a\r\n" ++ more) → ⊥
 no_part more partial = partial.0 (211, codes "a" ∷ [], 7, front more)
 
-pub after_a_reply : IsNeeded (appended (no_bytes None) (codes "211 a\r\n")) (codes "2") → ⊥
+pub after_a_reply : IsNeeded (appended (no_bytes None) (codes "211 a\r\n")) (codes "2" ∷ []) → ⊥
 after_a_reply (inl none) = absurd (cc)
-after_a_reply (inr last) = no_part last.first last.part.0
+after_a_reply (inr last) = no_part (concat last.first) last.part.0
 
-pub at_the_limit : IsNeeded (appended (no_bytes (Some 6)) (codes "211 a\r")) (codes "\n") → ⊥
+pub at_the_limit : IsNeeded (appended (no_bytes (Some 6)) (codes "211 a\r")) (codes "\n" ∷ []) → ⊥
 at_the_limit (inl none) = absurd (cc)
 at_the_limit (inr last) =
     absurd (let short = last.part.1 in
-    omega (arith, short, length-append (codes "211 a\r") last.first))
+    omega (arith, short, length-append (codes "211 a\r") (concat last.first)))
 
--- The last read begins with the line feed of the reply, and has as many bytes as one read gives.
-pub most_read : (more : Bytes) → length more ≡ 4095
-    → IsNeeded (no_bytes None) (codes "211 a\r\n" ++ more)
-most_read more long = inr record {
-  first = codes "211 a\r";
-  piece = LF ∷ more;
-  whole = refl;
-  short = omega (arith, long);
-  part = (part, tt);
-}
+-- the piece before the second
+first_of_two : (a b last : Bytes) (first : List Bytes) → a ∷ b ∷ [] ≡ first ++ last ∷ []
+    → first ≡ a ∷ []
+first_of_two a b last [] is = absurd (cc)
+first_of_two a b last (c ∷ []) is = cc
+first_of_two a b last (c ∷ d ∷ first) is =
+    absurd (omega (arith, ap length is, length-append first (last ∷ [])))
 
--- With one byte more the whole reply was there before it.
-begins_so : (more first piece : Bytes) → codes "211 a\r\n" ++ more ≡ first ++ piece
-    → 7 ≤ length first → first ≡ codes "211 a\r\n" ++ drop 7 first
-begins_so more first piece whole long =
-    let seven : take 7 first ≡ codes "211 a\r\n" =
-    sym (take-append-le 7 first piece long) ∙ ap (take 7) (sym whole) in
-    sym (take-append-drop 7 first) ∙ ap (λ begin. begin ++ drop 7 first) seven
-
-pub too_much_read : (more : Bytes) → length more ≡ 4096
-    → IsNeeded (no_bytes None) (codes "211 a\r\n" ++ more) → ⊥
-too_much_read more long (inl none) = absurd (cc)
-too_much_read more long (inr last) =
-    let short : 7 ≤ length last.first = omega (
-      arith,
-      long,
-      last.short,
-      ap length last.whole,
-      length-append last.first last.piece,
-    ) in
-    let begins = begins_so more last.first last.piece last.whole short in
-    no_part (drop 7 last.first) (subst IsPartial begins last.part.0)
+pub after_a_piece : IsNeeded (no_bytes None) (codes "211 a\r\n" ∷ codes "2" ∷ []) → ⊥
+after_a_piece (inl none) = absurd (cc)
+after_a_piece (inr last) =
+    let first = first_of_two (codes "211 a\r\n") (codes "2") last.last last.first last.whole in
+    no_part [] (subst (λ pieces. IsPartial (concat pieces)) first last.part.0)
 
 -- ---- what an error means
 

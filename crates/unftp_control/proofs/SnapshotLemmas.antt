@@ -9,17 +9,18 @@ use Rattle.std.specs.Str.{is_utf8, chars}
 use Rattle.std.specs.Str.Lossy.{utf8_lossy, utf8_valid_len, utf8_error_len}
 use Rattle.unftp_control_serve.specs.Endings.{Snapshot, Cause, Finished, Handler, LineMemory, ReplyMemory, Write, IsCauseOf, handler_failures, AllAnswered, RunEnded, RunFailed}
 use Rattle.unftp_control_reply.specs.ErrorParts.{KindAndSource}
-use Rattle.unftp_control_serve.specs.Service.{AnsweredAll, InputState, NoRoomForPiece, Serves}
+use Rattle.unftp_control_serve.specs.Service.{AnsweredAll, NoRoomForPiece, ServesKnown}
 use Rattle.unftp_control_serve.specs.Writing.{Begins}
 use Rattle.unftp_control_serve.specs.declared.error.ServeError.TheVariants as error
 use Rattle.unftp_control_serve.specs.declared.service.Served.{Served}
 use Rattle.unftp_control_defs.specs.Bytes.{Bytes, LF}
 use Rattle.unftp_control_defs.specs.Events.{Command}
+use Rattle.unftp_control_defs.specs.Input.{InputState}
 use Rattle.unftp_control_defs.specs.FtpCommand.{User}
 use Rattle.unftp_control_defs.specs.FtpReply.{CodeAndMsg}
 use Rattle.unftp_control_defs.specs.ReplyReader.{ReadsBack}
 use Rattle.unftp_control_defs.proofs.LackLemmas.{Lacks-test}
-use Rattle.unftp_control.specs.Snapshots.{counter, counter_to_five, noop, snapshot}
+use Rattle.unftp_control.specs.Snapshots.{counter, counter_to_five, noop, snapshot, snapshot_of_any_writer}
 use Rattle.unftp_control.proofs.FirstLineLemmas.{user-may}
 
 abbrev pub start : Snapshot ℕ
@@ -29,11 +30,17 @@ module _ (after : Snapshot ℕ) (v : AllAnswered counter start (noop ∷ noop �
   pub all_answered-written : Appends (Some (codes "x")) after.output.written
       (codes "200 OK\r\n200 OK\r\n")
   unfolding digits
-  all_answered-written = v.written
+  all_answered-written = v.written.known
 
   pub all_answered-flushed : after.output.unflushed ≡ 0
   unfolding digits
   all_answered-flushed = let none : after.output.unflushed ≤ 0 = v.flushed in omega arith
+
+pub any_writer-written : (after : Snapshot ℕ)
+    → AllAnswered counter (snapshot_of_any_writer 3 (codes "x") 1) (noop ∷ noop ∷ []) after
+    → after.output.taken ≡ codes "x200 OK\r\n200 OK\r\n"
+unfolding digits
+any_writer-written after v = v.written.taken
 
 pub write_failed-part : (part : Bytes) (after : Snapshot ℕ)
     → RunEnded counter start (noop ∷ []) (noop ∷ []) (Write part) after →
@@ -45,7 +52,7 @@ pub write_failed-written : (after : Snapshot ℕ)
     → RunEnded counter start (noop ∷ []) (noop ∷ []) (Write (codes "20")) after →
     Appends (Some (codes "x")) after.output.written (codes "200 OK\r\n20")
 unfolding digits
-write_failed-written after v = v.written
+write_failed-written after v = v.written.known
 
 -- out of memory for the second of two lines
 pub line_memory : RunFailed None counter start (codes "NOOP\r\nUSER a\r\n")
@@ -58,7 +65,7 @@ line_memory = record {
   means = tt;
   ended = record {
     ends_at = refl;
-    written = refl;
+    written = record { taken = refl; known = refl };
     flushed = omega arith;
     write_failed = refl;
     handler_failed = refl;
@@ -98,14 +105,14 @@ room_for_nothing before after input input_after v none =
     absurd (omega (arith, last_size v.pieces v.last v.were_read.sizes, ap length none))
 
 pub served-read_back : (after : Snapshot ℕ) (remaining : Option Bytes) (served : Served)
-    → Serves None counter start after remaining served (codes "NOOP\r\nNO")
+    → ServesKnown None counter start after remaining served (codes "NOOP\r\nNO")
     → ReadsBack (codes "200 OK\r\n") (CodeAndMsg 200 (codes "OK") ∷ [])
 unfolding digits
 served-read_back after remaining served v =
     v.read_back (((omega arith, omega arith), Lacks-test LF (codes "OK") refl), tt)
 
 pub served-rest : (after : Snapshot ℕ) (remaining : Option Bytes) (served : Served)
-    → Serves None counter start after remaining served (codes "NOOP\r\nNO")
+    → ServesKnown None counter start after remaining served (codes "NOOP\r\nNO")
     → remaining ≡ Some []
 served-rest after remaining served v = v.to_be_read ∙ ap (λ rest. Some rest) (v.at_end v.done)
 
@@ -120,7 +127,7 @@ another_end read is =
     absurd (omega (arith, byte))
 
 pub served-other_rest : (before after : Snapshot ℕ) (served : Served)
-    → Serves None counter_to_five before after (Some (codes "XX")) served
+    → ServesKnown None counter_to_five before after (Some (codes "XX")) served
     (codes "NOOP\r\nNOOP\r\nNO") → ⊥
 served-other_rest before after served v =
     let rest : codes "XX" ≡ v.rest = cc in

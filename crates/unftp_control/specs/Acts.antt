@@ -1,5 +1,5 @@
--- What a client and a server do at the two ends of a control connection, in any order: lines and pieces
--- go either way while replies are taken (RFC 959, sections 4.2 and 5.4).
+-- What a client and a server do at the two ends of a control connection, in any order: lines and
+-- pieces go either way while replies are taken (RFC 959, sections 4.2 and 5.4).
 use Rattle.std.specs.Prelude.{◌≡◌, ℕ, false, List, [], ◌∷◌, ◌++◌, map, option_map, Option, Some, None, IfSome}
 use Rattle.std.specs.List.{AllByRecursion, concat, filter_map}
 use Rattle.unftp_control_defs.specs.Bytes.{Bytes}

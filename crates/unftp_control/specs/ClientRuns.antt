@@ -25,7 +25,8 @@ reply_with code to = record { to = to; reply = (code, [] ∷ []) }
 abbrev pub auth_tls : Bytes
 auth_tls = codes "AUTH TLS\r\n"
 
--- A server that greets with 220, and then answers as `farewell` does. NOOP is sent to it and answered.
+-- A server that greets with 220, and then answers as `farewell` does. NOOP is sent to it and
+-- answered.
 abbrev pub farewell_server : Server Bool
 farewell_server =
     record { law = farewell; state = false; limit = None; greeting = CodeAndMsg 220 [] }

@@ -4,6 +4,7 @@ pub mod Conversation
 pub mod Acts
 pub mod ClientRuns
 pub use Rattle.unftp_control_defs.specs.Bytes
+pub use Rattle.unftp_control_defs.specs.Input
 pub use Rattle.unftp_control_defs.specs.Lines
 pub use Rattle.unftp_control_defs.specs.Verbs
 pub use Rattle.unftp_control_defs.specs.Values

@@ -1,5 +1,5 @@
 -- A handler and snapshots for the examples.
-use Rattle.std.specs.Prelude.{◌≡◌, ℕ, ◌+◌, ◌==◌, ◌||◌, Bool, false, if◌then◌else◌, [], Option, Some, codes}
+use Rattle.std.specs.Prelude.{◌≡◌, ℕ, ◌+◌, ◌==◌, ◌||◌, Bool, false, if◌then◌else◌, [], Option, None, Some, codes}
 use Rattle.unftp_control_defs.specs.Bytes.{Bytes}
 use Rattle.unftp_control_defs.specs.Events.{FtpEvent, Command, Refused, is_quit, out_of_memory}
 use Rattle.unftp_control_defs.specs.FtpCommand.{Noop}
@@ -57,7 +57,12 @@ abbrev pub snapshot : ℕ → Bytes → ℕ → Snapshot ℕ
 snapshot taken written unflushed = record {
   state = taken;
   failures = 0;
-  output = record { written = Some written; failures = 0; unflushed = unflushed };
+  output = record {
+    taken = written;
+    unflushed = unflushed;
+    failures = 0;
+    written = Some written;
+  };
 }
 
 -- an engine that was fed the start of a line
@@ -71,4 +76,13 @@ waiting limit = record {
   limit = limit;
   buffered = 2;
   held = 2;
+}
+
+-- the same with a writer whose contracts know nothing of what is written, such as a socket; all
+-- that its writes took is in the record
+abbrev pub snapshot_of_any_writer : ℕ → Bytes → ℕ → Snapshot ℕ
+snapshot_of_any_writer taken written unflushed = record {
+  state = taken;
+  failures = 0;
+  output = record { taken = written; unflushed = unflushed; failures = 0; written = None };
 }

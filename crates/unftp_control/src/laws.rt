@@ -36,7 +36,9 @@ pub use replies::{
     any_cutting_of_replies, one_front, one_reading, replies_read_back, replies_stay,
     too_long_replies_stay,
 };
+pub use unftp_control_read::known_input_is_received;
 use unftp_control_serve::Handler;
+pub use unftp_control_serve::known_input_is_served;
 
 /// An input has one list of lines and one incomplete line, `lines_of` and `incomplete_line` (RFC
 /// 959, section 5.3).
@@ -177,8 +179,8 @@ pub fn lines_of_events()
         → refuses_length (event_for limit line) ≡ exceeds limit (length line) }
 {}
 
-/// Bytes after the line that ended the session change nothing: not what is written, nor the handler's
-/// state, nor which bytes are scanned.
+/// Bytes after the line that ended the session change nothing: not what is written, nor the
+/// handler's state, nor which bytes are scanned.
 pub fn nothing_after_the_end<H: Handler>()
     ensures text { (limit : Option ℕ) (s : H.State) (input more other : Bytes)
         → ends_for limit H.law s input ≡ true
@@ -235,8 +237,8 @@ pub fn limit_refuses_long_lines()
         → event_for (Some limit) line ≡ Refused line_too_long }
 {}
 
-/// From an empty buffer on, a codec scans as many bytes as left the buffer, and up to its scan offset
-/// those that are left: so at most those that were appended.
+/// From an empty buffer on, a codec scans as many bytes as left the buffer, and up to its scan
+/// offset those that are left: so at most those that were appended.
 pub fn tests_add_up()
     ensures total { (limit : Option ℕ) (calls : List DecodeCall) (codec : Codec) (buffer : Bytes)
         → AreDecodeCalls (new_codec limit) [] calls codec buffer

@@ -15,9 +15,9 @@ ghost use Rattle.unftp_control_c.specs.declared.status.Status.TheVariants.{Inval
 
 pub mod calls;
 
-/// Complete lines. `a_call` has the pending bytes, the offset, whether bytes were dropped, the limit
-/// and the area; `leaving` the result, how many bytes are used, the offset, whether bytes were
-/// dropped, the limit, and the area with the lengths of the name and the value.
+/// Complete lines. `a_call` has the pending bytes, the offset, whether bytes were dropped, the
+/// limit and the area; `leaving` the result, how many bytes are used, the offset, whether bytes
+/// were dropped, the limit, and the area with the lengths of the name and the value.
 pub fn lines_are_taken()
     // of a limit of 8 bytes, the line has 8; the area has one byte more, and one less
     ensures command { next_of (a_call (codes "RETR a\r\nQ") 0 0 8 (codes "......"))

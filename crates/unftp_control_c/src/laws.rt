@@ -64,8 +64,8 @@ pub fn pending_bytes_are_bounded()
 
 /// The calls of `unftp_next` scan each byte for a line feed once.
 pub fn bytes_are_scanned_once()
-    // So were all bytes that a caller has received, but those that no call has scanned yet: by calls
-    // that are not made again.
+    // So were all bytes that a caller has received, but those that no call has scanned yet: by
+    // calls that are not made again.
     ensures once { (limit : ℕ) (steps : List CallerStep) (after : Caller)
         → AreCallerSteps (new_caller limit) steps after
         → scanned_by (new_caller limit) steps + unscanned after ≡ length (input_of steps) }

@@ -181,8 +181,8 @@ fn report(
     status.number()
 }
 
-/// Writes the name and the value of the command to the area, where it has room for both, and reports
-/// how long they are; the number of the command.
+/// Writes the name and the value of the command to the area, where it has room for both, and
+/// reports how long they are; the number of the command.
 fn give(
     command: &Command,
     taken: usize,

@@ -24,8 +24,8 @@ pub enum Status {
     OutOfMemory = 106,
     /// An area of the caller's is too small.
     NoRoom = 107,
-    /// No line whose one line feed is its last byte is read as the command, or the bytes are no such
-    /// line.
+    /// No line whose one line feed is its last byte is read as the command, or the bytes are no
+    /// such line.
     NoLine = 108,
     /// The first line opens no reply.
     Malformed = 109,

@@ -1,8 +1,8 @@
 //! The version of the library.
 ghost use Rattle.std.specs.Prelude.{◌≡◌};
 
-/// The version, as `UNFTP_VERSION` of include/unftp_control.h: the major number times 1,000,000, the
-/// minor times 1,000, and the patch.
+/// The version, as `UNFTP_VERSION` of include/unftp_control.h: the major number times 1,000,000,
+/// the minor times 1,000, and the patch.
 #[unsafe(no_mangle)]
 pub extern "C" fn unftp_version() -> u32
     ensures { result ≡ 1000 }

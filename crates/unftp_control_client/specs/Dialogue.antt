@@ -20,9 +20,9 @@ at_start = record { sent = 0; answered = None; asked = None; agreed = false }
 abbrev pub commands_owed : Dialogue → ℕ
 commands_owed dialogue = dialogue.sent - unwrap_or dialogue.answered 0
 
--- The line asks for TLS (RFC 4217, section 4): AUTH with its mechanism, or with SSL, an older name of
--- the same. The case of letters is ignored (RFC 959, section 5.3; RFC 2228, section 3). A line of
--- AUTH with any other mechanism doesn't: 234 to that begins no TLS.
+-- The line asks for TLS (RFC 4217, section 4): AUTH with its mechanism, or with SSL, an older name
+-- of the same. The case of letters is ignored (RFC 959, section 5.3; RFC 2228, section 3). A line
+-- of AUTH with any other mechanism doesn't: 234 to that begins no TLS.
 abbrev pub asks_for_tls : Bytes → Bool
 asks_for_tls line = str_eq_ignore_ascii_case line (codes "AUTH TLS\r\n")
     || str_eq_ignore_ascii_case line (codes "AUTH TLS\n")

@@ -1,7 +1,8 @@
 //! What holds of each run of a client, each the contract of a function that does nothing.
 ghost use Rattle.std.specs.Prelude.{◌≡◌, ◌<◌, ◌≤◌, ℕ, suc, Option, None, Some, Ok, Err, List, [], ◌∷◌, ◌++◌, length, IsTrue};
-ghost use Rattle.std.specs.List.{filter};
+ghost use Rattle.std.specs.List.{concat, filter};
 ghost use Rattle.unftp_control_defs.specs.Bytes.{Bytes};
+ghost use Rattle.unftp_control_defs.specs.Input.{InputState};
 ghost use Rattle.unftp_control_defs.specs.TakingSteps.{AreTakingSteps, TakesReply};
 ghost use Rattle.unftp_control_read.specs.ReplyDecoding.{TakesFirst, TakesNextReply, content, pushed};
 ghost use Rattle.unftp_control_read.specs.Receiving.{Receives};
@@ -14,9 +15,9 @@ ghost use Rattle.unftp_control_client.specs.declared.Client.{Client as RustClien
 ghost use Rattle.unftp_control_client.specs.declared.dialogue.ClientReply.{ClientReply as RustReply};
 ghost use Rattle.unftp_control_client.specs.declared.dialogue.To.TheVariants.{Greeting, Command, Nothing};
 
-/// What the contract of each call ensures makes it a step, or none where it takes no reply or fails;
-/// and calls one after the other are steps. So the law `replies_are_exchanges` is one of all runs. A
-/// call of `send` or `receive` that fails leaves the client as it was.
+/// What the contract of each call ensures makes it a step, or none where it takes no reply or
+/// fails; and calls one after the other are steps. So the law `replies_are_exchanges` is one of all
+/// runs. A call of `send` or `receive` that fails leaves the client as it was.
 pub fn calls_are_steps()
     ensures send { (before after : RustClient) (line : Bytes)
         → after ≡ record before { dialogue = after_line line before.dialogue }
@@ -37,19 +38,19 @@ pub fn calls_are_steps()
         → IsNext before.dialogue (Err error) after.dialogue
         → AreSteps before [] after }
     // What `read_reply` reads is received, also where it takes none or fails.
-    ensures read_reply { (before after : RustClient) (taken : RustReply) (input left : Option Bytes)
+    ensures read_reply { (before after : RustClient) (taken : RustReply) (input left : InputState)
         (receives : Receives before.replies input (Ok (Some taken.reply)) after.replies left)
         → IsNext {E = Unit {0}} before.dialogue (Ok (Some taken)) after.dialogue
-        → AreSteps before (Received receives.read ∷ Took (reply_to taken) ∷ []) after }
-    ensures read_none { (before after : RustClient) (input left : Option Bytes)
+        → AreSteps before (Received (concat receives.pieces) ∷ Took (reply_to taken) ∷ []) after }
+    ensures read_none { (before after : RustClient) (input left : InputState)
         (receives : Receives before.replies input (Ok None) after.replies left)
         → IsNext {E = ReceiveError} before.dialogue (Ok None) after.dialogue
-        → AreSteps before (Received receives.read ∷ []) after }
+        → AreSteps before (Received (concat receives.pieces) ∷ []) after }
     ensures read_failed { (before after : RustClient) (error : ReceiveError)
-        (input left : Option Bytes)
+        (input left : InputState)
         (receives : Receives before.replies input (Err error) after.replies left)
         → IsNext before.dialogue (Err error) after.dialogue
-        → AreSteps before (Received receives.read ∷ []) after }
+        → AreSteps before (Received (concat receives.pieces) ∷ []) after }
     ensures in_turn { (first later : List ClientStep) (before middle after : RustClient)
         → AreSteps before first middle → AreSteps middle later after
         → AreSteps before (first ++ later) after }

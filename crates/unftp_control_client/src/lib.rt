@@ -6,11 +6,11 @@ ghost use Rattle.std.specs.Prelude.{◌≡◌, ◌↔◌, ◌+◌, ◌-◌, ◌^
 ghost use Rattle.unftp_control_command.specs.CommandMeaning.{command_of};
 ghost use Rattle.unftp_control_defs.specs.Bytes.{Bytes};
 ghost use Rattle.unftp_control_defs.specs.Canonical.{HasLine, canonical_line};
+ghost use Rattle.unftp_control_defs.specs.Input.{input_state_of};
 ghost use Rattle.unftp_control_defs.specs.Lines.{IsLine};
 ghost use Rattle.unftp_control_defs.specs.Outcome.{outcome};
 ghost use Rattle.unftp_control_defs.specs.ReplyLimit.{IsTooLongReply};
 ghost use Rattle.unftp_control_defs.specs.ReplyReader.{FrontReply, IsMalformed, IsPartial};
-ghost use Rattle.unftp_control_defs.specs.TakingSteps.{TakesReply};
 ghost use Rattle.unftp_control_read.specs.ReplyDecoding.{CountsNextReply, IsReturned, TakesNextReply, content, held_after, pushed, within_limit};
 ghost use Rattle.unftp_control_read.specs.Receiving.{Receives};
 ghost use Rattle.unftp_control_client.specs.Dialogue.{after_line, commands_owed};
@@ -27,6 +27,7 @@ pub use crate::errors::SendError;
 use std::alloc::{AllocError, Global};
 use std::io::Read;
 use unftp_control_command::Command;
+use unftp_control_defs::input::Input;
 use unftp_control_read::{NextReplyError, ReceiveError, ReplyDecoder};
 use unftp_control_write::{is_line, write_command};
 
@@ -69,8 +70,8 @@ impl Client {
     /// reply: the caller sends the bytes, each once.
     ///
     /// It is refused with `NoLine` where no line is read as this command, with `OutOfMemory` where
-    /// `out` has no room for the line and can't grow, and with `TooManyCommands` where 2^64 - 1 commands were sent.
-    /// At an error nothing changes: `out` is as it was, and so is what is owed.
+    /// `out` has no room for the line and can't grow, and with `TooManyCommands` where 2^64 - 1
+    /// commands were sent. At an error nothing changes: `out` is as it was, and so is what is owed.
     pub fn send(&mut self, command: &Command, out: &mut Vec<u8>) -> Result<u64, SendError>
         ensures place { IfOk result (λ place. place ≡ self.old.dialogue.sent) }
         ensures ok { OnOk result (self.new ≡ record self.old {
@@ -93,12 +94,12 @@ impl Client {
         self.add_line(out, length)
     }
 
-    /// Appends a line to `out` as it is, for what no `Command` says, as `TYPE A` or `OPTS MLST size`,
-    /// and returns its place as `send` does (RFC 959, section 5.3). It is then owed a reply.
+    /// Appends a line to `out` as it is, for what no `Command` says, as `TYPE A` or `OPTS MLST
+    /// size`, and returns its place as `send` does (RFC 959, section 5.3). It is then owed a reply.
     ///
     /// Bytes without a line feed at their end, or with another before it, are refused with
-    /// `NotALine`, so that no second line is sent with the first. It is refused with `OutOfMemory` and
-    /// `TooManyCommands` as `send` is. At an error nothing changes.
+    /// `NotALine`, so that no second line is sent with the first. It is refused with `OutOfMemory`
+    /// and `TooManyCommands` as `send` is. At an error nothing changes.
     pub fn send_line(&mut self, line: &[u8], out: &mut Vec<u8>) -> Result<u64, SendError>
         ensures place { IfOk result (λ place. place ≡ self.old.dialogue.sent) }
         ensures ok { OnOk result
@@ -118,8 +119,8 @@ impl Client {
         self.add_line(out, length)
     }
 
-    /// Counts the command whose line comes after this many bytes, and returns its place; or removes the
-    /// line where 64 bits don't count it.
+    /// Counts the command whose line comes after this many bytes, and returns its place; or removes
+    /// the line where 64 bits don't count it.
     fn add_line(&mut self, out: &mut Vec<u8>, length: usize) -> Result<u64, SendError>
         requires { length ≤ vec_len out.old }
         ensures place { IfOk result (λ place. place ≡ self.old.dialogue.sent) }
@@ -195,22 +196,14 @@ impl Client {
     /// `TooManyReads` is never returned.
     pub fn read_reply<R: Read>(
         &mut self,
-        reader: &mut R,
+        reader: &mut Input<R>,
     ) -> Result<Option<ClientReply>, ReceiveError>
-        // The reply is the first of the pending bytes and the remaining input, and what follows it
-        // is left.
-        ensures reply { IfOk result (λ next. IfSome next (λ taken.
-            IfSome (R.remaining reader.old) (λ input. IfSome (R.remaining reader.new) (λ left.
-            TakesReply (self.old.replies.bytes ++ input) (content taken.reply)
-            (self.new.replies.bytes ++ left))))) }
-        // The whole input is a part of a reply, and pending.
-        ensures end { IfOk result (λ next. IfNone next (IfSome (R.remaining reader.old) (λ input.
-            IsPartial (self.old.replies.bytes ++ input)
-            × (self.new.replies.bytes ≡ self.old.replies.bytes ++ input)))) }
         ensures dialogue { IsNext self.old.dialogue result self.new.dialogue }
-        // What holds of any reader, and at each error.
-        ensures receives { Receives self.old.replies (R.remaining reader.old) (only_reply result)
-            self.new.replies (R.remaining reader.new) }
+        // Of any reader: the reply is the first of the pending bytes and those that were read, and
+        // what follows it is pending; where there is none, all of them are a part of a reply, and
+        // pending.
+        ensures receives { Receives self.old.replies (input_state_of R.remaining reader.old)
+            (only_reply result) self.new.replies (input_state_of R.remaining reader.new) }
         ensures limit { self.new.replies.limit ≡ self.old.replies.limit }
         // With a limit, no more is pending then than the limit and one read, or than before.
         ensures pending { IfSome self.old.replies.limit (λ limit.
@@ -238,10 +231,10 @@ impl Client {
         self.replies.pending()
     }
 
-    /// Whether TLS may begin: the last reply was a 234 to the last command that was sent, which asks
-    /// for TLS, and no byte was received after it (RFC 4217, section 4). A line asks for TLS where it
-    /// is AUTH TLS or AUTH SSL, in letters of any case: 234 to AUTH with another mechanism, or to
-    /// another command, begins none.
+    /// Whether TLS may begin: the last reply was a 234 to the last command that was sent, which
+    /// asks for TLS, and no byte was received after it (RFC 4217, section 4). A line asks for TLS
+    /// where it is AUTH TLS or AUTH SSL, in letters of any case: 234 to AUTH with another
+    /// mechanism, or to another command, begins none.
     ///
     /// Bytes that came after the reply in clear text must not be taken for replies under TLS: where
     /// there are any, the connection has to be closed.

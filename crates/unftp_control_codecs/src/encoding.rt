@@ -16,7 +16,8 @@ const ROOM_BESIDE_TEXT: usize = 16;
 /// before it, and CR LF.
 const ROOM_BESIDE_LINE: usize = 3;
 
-/// Appends the bytes of the reply. The buffer grows once at most; when out of memory, it is as it was.
+/// Appends the bytes of the reply. The buffer grows once at most; when out of memory, it is as it
+/// was.
 pub fn append_reply(reply: &Reply, buf: &mut Vec<u8>) -> Result<(), AllocError>
     ensures ok { OnOk result (buf.new.items ≡ buf.old.items ++ encoded (reply_of reply.now)) }
     ensures err { OnErr result (buf.new.items ≡ buf.old.items) }

@@ -86,8 +86,8 @@ impl FtpCodec {
         FtpCodec::at(0)
     }
 
-    /// A new codec with a limit: a line of more than `limit` bytes, its line feed counted, is refused,
-    /// whatever it holds (RFC 959 names no limit).
+    /// A new codec with a limit: a line of more than `limit` bytes, its line feed counted, is
+    /// refused, whatever it holds (RFC 959 names no limit).
     pub fn with_limit(limit: usize) -> FtpCodec
         requires { 1 ≤ limit }
         ensures { result ≡ new_codec (Some limit) }
@@ -95,8 +95,9 @@ impl FtpCodec {
         FtpCodec::resume(Some(limit), 0, false)
     }
 
-    /// A codec with this scan offset and no limit, for a caller that keeps only the offset. The first
-    /// line then ends at the first line feed at or after it, so there should be none before it.
+    /// A codec with this scan offset and no limit, for a caller that keeps only the offset. The
+    /// first line then ends at the first line feed at or after it, so there should be none before
+    /// it.
     pub fn at(place: usize) -> FtpCodec
         ensures { result ≡ record { place = place; tests = 0; limit = None; skipping = false } }
     {
@@ -128,8 +129,8 @@ impl FtpCodec {
         self.skipping
     }
 
-    /// Forgets the line that it has begun: its scan offset is 0, and it drops no bytes. The limit and
-    /// the count of scanned bytes stay.
+    /// Forgets the line that it has begun: its scan offset is 0, and it drops no bytes. The limit
+    /// and the count of scanned bytes stay.
     pub fn reset(&mut self)
         ensures { self.new ≡ record {
           place = 0;
@@ -160,10 +161,10 @@ impl FtpCodec {
     /// section 5.3). While no line is complete, these are 0 and `None`. A line ends at its line
     /// feed.
     ///
-    /// With a limit, a line that is longer is refused with `LineTooLong`, without a source, whatever
-    /// it holds. Its bytes are dropped before it ends: where `bytes` has no line feed, and holds
-    /// `limit` bytes or more or goes on with a line of which some were dropped, the length of all of
-    /// `bytes` is returned with `None`, and the caller goes on after them.
+    /// With a limit, a line that is longer is refused with `LineTooLong`, without a source,
+    /// whatever it holds. Its bytes are dropped before it ends: where `bytes` has no line feed, and
+    /// holds `limit` bytes or more or goes on with a line of which some were dropped, the length of
+    /// all of `bytes` is returned with `None`, and the caller goes on after them.
     ///
     /// It is for bytes that hold many lines: the next call gets the bytes after the line, and
     /// nothing is moved. The scan offset has to be within `bytes`, as it is after each call: within
@@ -212,9 +213,9 @@ impl FtpCodec {
         }
     }
 
-    /// Finds the first line of `bytes` and leaves it to the caller to parse it. A line that is complete
-    /// and not too long is found again by the next call, until `reset` is called; after any other the
-    /// codec goes on as after `decode_slice`. No memory is taken.
+    /// Finds the first line of `bytes` and leaves it to the caller to parse it. A line that is
+    /// complete and not too long is found again by the next call, until `reset` is called; after
+    /// any other the codec goes on as after `decode_slice`. No memory is taken.
     ///
     /// The scan offset has to be within `bytes`, as for `decode_slice`.
     // `decode_slice` doesn't call it: a piece of one byte would take a third longer

@@ -33,8 +33,9 @@ pub fn is_reply_code(code: u32) -> bool
 /// `buf` grows once at most. The code may also be one that `ReplyCode` doesn't have, as 334 of
 /// RFC 2228.
 ///
-/// It is refused with `CodeOutOfRange` where the code is not from 100 to 599, and for that no memory
-/// is asked for; and with `OutOfMemory` where `buf` has to grow and can't. `buf` is then as it was.
+/// It is refused with `CodeOutOfRange` where the code is not from 100 to 599, and for that no
+/// memory is asked for; and with `OutOfMemory` where `buf` has to grow and can't. `buf` is then as
+/// it was.
 pub fn encode_lines<S: AsStr>(
     code: u32,
     lines: &[S],

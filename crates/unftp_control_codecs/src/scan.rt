@@ -100,8 +100,8 @@ impl<'a, 'c> Scan<'a, 'c> {
         self.line_feed_among(at, self.bytes.len() - at)
     }
 
-    /// The first line feed at or after `from`, if it is one of the next `count` bytes. Each of these
-    /// is read once, up to it.
+    /// The first line feed at or after `from`, if it is one of the next `count` bytes. Each of
+    /// these is read once, up to it.
     #[inline(always)]
     fn line_feed_among(&mut self, from: usize, count: usize) -> Option<usize>
         requires { from + count ≤ length self.old.bytes.now }

@@ -270,8 +270,8 @@ impl Command {
     }
 }
 
-/// What Debug writes; of PASS one text under all flags, which shows neither the password's bytes nor
-/// their length.
+/// What Debug writes; of PASS one text under all flags, which shows neither the password's bytes
+/// nor their length.
 impl fmt::Display for Command {
     ghost use Rattle.unftp_control_command.specs.CommandMeaning.{displayed};
 

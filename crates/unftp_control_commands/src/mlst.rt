@@ -70,8 +70,8 @@ impl Mlst {
     }
 
     /// 250 with these facts, which are written as they are, and the path, which is the working
-    /// directory where the command has none (RFC 3659, section 7). It fails only when out of memory,
-    /// with the kind `OutOfMemory`.
+    /// directory where the command has none (RFC 3659, section 7). It fails only when out of
+    /// memory, with the kind `OutOfMemory`.
     pub fn reply_with(
         &self,
         alloc: Global,

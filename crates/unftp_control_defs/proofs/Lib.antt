@@ -30,3 +30,4 @@ pub mod ForwardedLineLemmas
 pub mod Computing
 pub mod LineEventLemmas
 pub mod TraceLemmas
+pub mod InputLemmas

@@ -1,4 +1,4 @@
--- A part of a reply: what it looks like, and that it is partial.
+-- A part of a reply: its form, and that it is partial.
 use Rattle.std.proofs.Common.{◌≡◌, ℕ, List, [], ◌∷◌, ◌++◌, ◌⊎◌, flat_map, length, refl, sym, ap, subst, ◌∙◌, inl, inr, arith}
 use Rattle.std.specs.List.{AllByRecursion}
 use Rattle.unftp_control_defs.specs.Bytes.{Bytes, SP, DASH}

@@ -1,6 +1,7 @@
 -- To be read in this order.
 pub mod Bytes
 pub mod Buffer
+pub mod Input
 pub mod Lines
 pub mod Verbs
 pub mod Values

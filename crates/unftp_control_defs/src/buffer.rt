@@ -4,8 +4,8 @@ ghost use Rattle.unftp_control_defs.specs.Buffer.{IsTakenWithin, held_after_piec
 
 use std::alloc::{AllocError, Global};
 
-/// Bytes that come in pieces at the end, and are taken from the start. What is taken is only counted,
-/// so that bytes move once for a piece, and not for each line or reply of it.
+/// Bytes that come in pieces at the end, and are taken from the start. What is taken is only
+/// counted, so that bytes move once for a piece, and not for each line or reply of it.
 #[derive(Drop)]
 pub struct PendingBytes {
     /// The bytes that it holds.
@@ -85,8 +85,8 @@ pub fn append(buf: &mut Vec<u8>, bytes: &[u8]) -> Result<(), AllocError>
     }
 }
 
-/// Removes this many bytes from the start of the buffer. The rest is moved once, where `drain` would
-/// turn the whole buffer.
+/// Removes this many bytes from the start of the buffer. The rest is moved once, where `drain`
+/// would turn the whole buffer.
 pub fn remove_front(buf: &mut Vec<u8>, count: usize)
     requires { count ≤ vec_len buf.old }
     ensures { buf.new.items ≡ drop count buf.old.items }

@@ -1,5 +1,5 @@
-//! A count, and a list of numbers, that only contracts see: they take no byte, and their methods give
-//! nothing that code could read.
+//! A count, and a list of numbers, that only contracts see: they take no byte, and their methods
+//! give nothing that code could read.
 ghost use Rattle.std.specs.Prelude.{◌≡◌, ℕ, ◌+◌, max};
 
 mod trace;
@@ -12,8 +12,8 @@ const _: () = prove!(size_of::<Count>() == 0);
 
 const _: () = prove!(size_of::<Trace>() == 0);
 
-/// A number without a greatest value that contracts know and no code can read. Outside this crate it
-/// begins at 0, and is only counted up or reset. It is the length of a list.
+/// A number without a greatest value that contracts know and no code can read. Outside this crate
+/// it begins at 0, and is only counted up or reset. It is the length of a list.
 #[derive(Drop)]
 pub struct Count {
     numbers: Trace,

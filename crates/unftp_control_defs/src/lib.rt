@@ -4,4 +4,5 @@
 
 pub mod buffer;
 pub mod count;
+pub mod input;
 pub mod parameters;

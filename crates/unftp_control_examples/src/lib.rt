@@ -4,6 +4,7 @@
 
 pub mod commands;
 pub mod forwarding;
+pub mod inputs;
 pub mod lines;
 pub mod lossy;
 pub mod paths;

@@ -178,8 +178,8 @@ pub fn replies_are_taken_so()
         ≡ (211, codes "a" ∷ []) ∷ [] }
 {}
 
-/// How many bytes a buffer holds after a piece: those that were taken leave it only where they are more
-/// than what is pending then.
+/// How many bytes a buffer holds after a piece: those that were taken leave it only where they are
+/// more than what is pending then.
 pub fn a_buffer_holds_this_after_a_piece()
     ensures all { held_after_piece 0 0 4 ≡ 4 }
     ensures fewer_taken { held_after_piece 9 4 2 ≡ 11 }

@@ -1,7 +1,7 @@
 //! Replies: their bytes, what a client sees of them, and which of them it can read back.
 #![tactic(auto, unfolding(unftp_control_defs::proofs::Computing::at_bytes))]
 
-ghost use Rattle.std.specs.Prelude.{◌≡◌, [], ◌∷◌, true, false, Some, None, codes};
+ghost use Rattle.std.specs.Prelude.{◌≡◌, ◌++◌, [], ◌∷◌, true, false, Some, None, codes};
 ghost use Rattle.unftp_control_defs.specs.FtpReply.{Nothing, CodeAndMsg, MultiLine, HasThreeDigits, IsPlain, encoded, is_positive, padded, reply_as_read};
 
 /// A line that begins with a digit gets a space.
@@ -33,7 +33,8 @@ pub fn replies_are_encoded_so()
 pub fn the_reply_of_the_rfc_is_encoded_so()
     ensures { encoded (MultiLine 123 (codes "First line" ∷ codes "Second line"
         ∷ codes "  234 A line beginning with numbers" ∷ codes "The last line" ∷ []))
-        ≡ codes "123-First line\r\nSecond line\r\n  234 A line beginning with numbers\r\n123 The last line\r\n" }
+        ≡ codes "123-First line\r\nSecond line\r\n  234 A line beginning with numbers\r\n"
+        ++ codes "123 The last line\r\n" }
 {}
 
 /// What a client sees.

@@ -52,7 +52,8 @@ pub fn long_lines_are_refused()
 pub fn pieces_have_events()
     ensures no_pieces { events_in_turn None (codes "NOOP\n") [] ≡ [] }
     ensures rest_first { events_in_turn None (codes "NO") (codes "OP\n" ∷ []) ≡ Command Noop ∷ [] }
-    ensures pieces { events_in_turn None [] (codes "NO" ∷ codes "OP\nPW" ∷ [] ∷ codes "D\r\nNO" ∷ [])
+    ensures pieces { events_in_turn None []
+        (codes "NO" ∷ codes "OP\nPW" ∷ [] ∷ codes "D\r\nNO" ∷ [])
         ≡ Command Noop ∷ Command Pwd ∷ [] }
 {}
 

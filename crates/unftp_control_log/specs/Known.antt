@@ -21,8 +21,8 @@ abbrev pub listed_subcommand : Bytes → Option Bytes
 listed_subcommand line = if is_of_site line && is_some (row_of (subcommand_of line) site_words)
     then Some (subcommand_of line) else None
 
--- The parameter is shown after a verb with a rule of its own, but not after PASS and ACCT; and after
--- SITE where the subcommand is one whose arguments are shown.
+-- The parameter is shown after a verb with a rule of its own, but not after PASS and ACCT; and
+-- after SITE where the subcommand is one whose arguments are shown.
 abbrev pub shows_parameter : Bytes → Bool
 shows_parameter line = if is_of_site line
     then unwrap_or (row_of (subcommand_of line) site_words) false

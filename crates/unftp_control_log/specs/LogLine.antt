@@ -22,7 +22,7 @@ IsPrintable b = (32 ≤ b) × (b ≤ 126)
 abbrev pub shown : Bytes → Bytes
 shown text = flat_map escape_ascii text
 
--- what stands for what is hidden
+-- the text that is shown for what is hidden
 abbrev pub asterisks : Bytes
 asterisks = codes "***"
 

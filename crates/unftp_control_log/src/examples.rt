@@ -48,7 +48,8 @@ pub fn verbs_are_listed()
 
 /// A command shows its verb and its value, but no secret.
 pub fn commands_are_visible()
-    ensures user { visible_command (User (codes "anna")) ≡ Verb (codes "USER") (Some (codes "anna")) }
+    ensures user { visible_command (User (codes "anna"))
+        ≡ Verb (codes "USER") (Some (codes "anna")) }
     ensures no_name { visible_command (User []) ≡ Verb (codes "USER") None }
     ensures password { visible_command (Pass (codes "secret"))
         ≡ Verb (codes "PASS") (Some (codes "***")) }

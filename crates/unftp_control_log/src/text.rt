@@ -16,8 +16,9 @@ fn shown_length(text: &[u8]) -> usize {
         .fold(0, |length: usize, _| length.saturating_add(1))
 }
 
-/// Appends the text in the escapes of `escape_ascii`, or perhaps a part of it when out of memory. Its
-/// memory is asked for at once: `extend` doesn't know its length, and would ask again and again.
+/// Appends the text in the escapes of `escape_ascii`, or perhaps a part of it when out of memory.
+/// Its memory is asked for at once: `extend` doesn't know its length, and would ask again and
+/// again.
 fn append_shown(text: &[u8], buf: &mut Vec<u8>) -> Result<(), AllocError>
     ensures ok { OnOk result (buf.new.items ≡ buf.old.items ++ shown text.now) }
     ensures kept { take (vec_len buf.old) buf.new.items ≡ buf.old.items }

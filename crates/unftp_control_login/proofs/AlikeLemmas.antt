@@ -3,7 +3,6 @@ use Rattle.std.proofs.Common.{◌≡◌, ℕ, zero, suc, drop, arith, ◌-◌, B
 use Rattle.std.specs.Prelude.{if◌then◌else◌, nat_le, length, option_map, IsSome, IsSomeAnd, Ok, Err}
 use Rattle.std.specs.List.{AllByRecursion, concat}
 use Rattle.std.specs.Str.{is_utf8}
-use Rattle.std.specs.Io.KnownBytes.{Appends}
 use Rattle.std.proofs.lemmas.Bool.{false≢true}
 use Rattle.std.proofs.lemmas.List.{append-nil}
 use Rattle.unftp_control_defs.specs.Bytes.{Bytes}
@@ -21,7 +20,7 @@ use Rattle.unftp_control_defs.proofs.LineLemmas.{Lines-lines_of, line_first, lin
 use Rattle.unftp_control_line_parser.specs.Memory.{AnswerMayTakeMemory, MayTakeMemory}
 use Rattle.unftp_control_serve.specs.Decoder.{MayRunOut}
 use Rattle.unftp_control_serve.specs.Endings.{Snapshot, Cause, Finished, Write, Handler, LineMemory, ReplyMemory, EndsAt, RunFailed, part_written, text_until}
-use Rattle.unftp_control_serve.specs.Writing.{Begins, Flushed}
+use Rattle.unftp_control_serve.specs.Writing.{Begins, Flushed, HasWritten}
 use Rattle.unftp_control_serve.specs.declared.error.ServeError.{ServeError}
 use Rattle.unftp_control_login.specs.declared.stage.Stage.{Stage}
 use Rattle.unftp_control_login.specs.declared.stage.Stage.TheVariants.{NoName, Named, LoggedIn}
@@ -303,7 +302,7 @@ module _ {S : Type 0} {law : Law S} {accepts : Accounts} (alike : Alike law acce
             (append_assoc past (event ∷ []) done) rest.later_alike;
       }
 
-  -- what may come at the end of a run, and what looks like it
+  -- what may come at the end of a run, and what is alike
   record EndsAlike (past : List FtpEvent) (t : S) (later others : List FtpEvent) : Type 0 where
     now : Holds past t
     same : AllAlike past later others
@@ -350,7 +349,7 @@ module _ {S : Type 0} {law : Law S} {accepts : Accounts} (alike : Alike law acce
                 (record { now = holds-after done h; same = cut.later_alike })
                 failed.ended.ends_at);
             written =
-                subst (λ text. Appends before.output.written after.output.written
+                subst (λ text. HasWritten before.output after.output
                 (text_until text failed.cause)) text failed.ended.written;
             flushed =
                 subst (λ text. Flushed text (part_written failed.cause)

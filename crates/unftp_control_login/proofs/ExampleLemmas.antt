@@ -93,7 +93,7 @@ at_state n =
     record {
       state = n;
       failures = 0;
-      output = record { written = None; failures = 0; unflushed = 0 };
+      output = record { taken = []; unflushed = 0; failures = 0; written = None };
     }
 
 no_memory : RunFailed None counting (at_state 0) (codes "NOOP\r\n") (at_state 1) error.OutOfMemory []
@@ -104,7 +104,7 @@ no_memory = record {
   means = tt;
   ended = record {
     ends_at = (refl, λ none. absurd (cc));
-    written = tt;
+    written = record { taken = refl; known = tt };
     flushed = omega arith;
     write_failed = refl;
     handler_failed = refl;

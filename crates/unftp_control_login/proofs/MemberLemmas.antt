@@ -247,13 +247,3 @@ limit-members-alone law sends limit accepts left inner input =
     (limit_serves-members (gated_law law) accepts left (closed accepts inner)
     (gate_serves-members law accepts inner))
     (limit-plain (gated_law law) (gate-plain law sends)) limit input
-
--- What is written for an input, and what holds of it, as a caller of `serve` states them.
-pub some_output : {V E : Type 0} (result : Result V E) (known : Option Bytes)
-    (Written : Bytes → Type 0) (text : Bytes → Bytes)
-    (Holds : Bytes → Bytes → Type 0) → ((input : Bytes) → Holds input (text input))
-    → OnOk result (IfSome known (λ input. Written (text input)))
-    → OnOk result (IfSome known (λ input. (output : Bytes) × Written output × Holds input output))
-some_output (Ok served) (Some input) Written text Holds holds h = (text input, h, holds input)
-some_output (Ok served) None Written text Holds holds h = tt
-some_output (Err error) known Written text Holds holds h = tt

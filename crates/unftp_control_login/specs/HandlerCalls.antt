@@ -29,7 +29,7 @@ pub record CallState : Type 0 where
   pub refused : ℕ
   pub failed : ℕ
 
--- These calls were made, and so many more were refused memory, or made the handler fail.
+-- These calls were made, and so many more found no memory, or made the handler fail.
 pub record Called (before after : CallState) (calls : List Call) (refused failed : ℕ) : Type 0 where
   pub calls_made : after.calls ≡ before.calls ++ calls
   pub refused_more : after.refused ≡ before.refused + refused

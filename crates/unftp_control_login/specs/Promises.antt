@@ -90,7 +90,7 @@ LooksAlike accepts before (Command (Pass password)) (Command (Pass other)) =
     AnsweredAlike accepts before password other
 LooksAlike accepts before event other = event ≡ other
 
--- They are as many, and each looks like the other one at its place.
+-- They are as many, and each is like the other one at its place.
 abbrev pub AllLookAlike : Accounts → List FtpEvent → List FtpEvent → Type 0
 AllLookAlike accepts events others = AtEachPlace (LooksAlike accepts) [] events others
 

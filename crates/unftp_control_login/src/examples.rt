@@ -103,7 +103,7 @@ pub fn calls_are_made()
         (codes "NOOP\r\n") ≡ (Passes (Command Noop) ∷ []) ∷ [] }
 {}
 
-/// Which accounts a session can't tell apart: those that differ only in another user's password.
+/// Accounts that give one session: those that differ only in another user's password.
 pub fn accounts_answer_alike()
     ensures alike { AnswerAlike only_anna anna_and_ben (user anna ∷ pass wrong ∷ []) }
     ensures asked { AnswerAlike only_anna anna_and_ben (user ben ∷ pass wrong ∷ []) → ⊥ }
@@ -144,7 +144,8 @@ pub fn members_are_served()
     ensures failure { NoFailure (CodeAndMsg 400 []) → ⊥ }
     ensures failure_of_lines { NoFailure (MultiLine 530 []) → ⊥ }
     ensures anyone_served { ServesMembersAlone only_anna counting 0 → ⊥ }
-    ensures anyone_served_in_bytes { MembersAlone None only_anna (codes "PWD\r\n") (codes "257 here\r\n") → ⊥ }
+    ensures anyone_served_in_bytes { MembersAlone None only_anna (codes "PWD\r\n")
+        (codes "257 here\r\n") → ⊥ }
     ensures stranger { MembersAlone None only_anna (codes "PWD\r\n") (codes "530 no\r\n") }
     ensures garbage { MembersAlone None only_anna (codes "PWD\r\n") (codes "x") → ⊥ }
     ensures no_event { MembersAlone None only_anna [] (codes "530 no\r\n") → ⊥ }

@@ -177,10 +177,11 @@ impl<A: Accounts, H: Handler> Handler for Gate<A, H> {
     /// The reply to an event. Out of memory is returned for a reply of its own, and every other
     /// error is that of its handler. Nobody is logged in by an event that fails.
     ///
-    /// At `Ok` and at an error alike, the accounts were asked once about a password that came after a
-    /// name, whether it is that of the name, and nothing at any other event (`asked`). The handler
-    /// received each event that is passed on, once, and then memory was asked for the gate's own
-    /// reply, if it has one: an error is returned where one of these two failed (`calls`).
+    /// At `Ok` and at an error alike, the accounts were asked once about a password that came after
+    /// a name, whether it is that of the name, and nothing at any other event (`asked`). The
+    /// handler received each event that is passed on, once, and then memory was asked for the
+    /// gate's own reply, if it has one: an error is returned where one of these two failed
+    /// (`calls`).
     fn handle(&mut self, alloc: Global, event: Event) -> Result<Reply, ControlChanError>
         ensures says { IfOk result (λ reply. reply_of reply
             ≡ (gated_law H.law).says (gated A.accepts H.state self.old) (event_meant event)) }

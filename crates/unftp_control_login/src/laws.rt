@@ -45,9 +45,9 @@ pub fn members_alone_are_served<H: Handler>()
         (limited_to left (closed accepts inner)) }
 {}
 
-/// In bytes, of a handler whose replies are sent and plain: whatever the input, a reply in the output
-/// that reports no failure, at the place of a command that needs a login, comes only after a USER
-/// and a PASS that the accounts accept.
+/// In bytes, of a handler whose replies are sent and plain: whatever the input, a reply in the
+/// output that reports no failure, at the place of a command that needs a login, comes only after a
+/// USER and a PASS that the accounts accept.
 pub fn members_alone_are_served_in_bytes<H: Handler>()
     ensures gate { SendsPlainReplies H.law
         → (limit : Option ℕ) (accepts : Accounts) (inner : H.State) (input : Bytes)
@@ -76,11 +76,11 @@ pub fn passwords_stay_hidden<H: Handler>()
         (limited_to left (closed accepts inner)) other }
 {}
 
-/// Nor does an error reveal more, where the inputs differ only in lines that give passwords: however
-/// a session over one of them fails, one over the other may fail with the same error, and with the
-/// same bytes written. And at each event the gate and the limit make the same calls: the handler
-/// receives the same, and memory is asked for the same replies. They fail where one of these calls
-/// fails, and only there (`calls` of their `handle`).
+/// Nor does an error reveal more, where the inputs differ only in lines that give passwords:
+/// however a session over one of them fails, one over the other may fail with the same error, and
+/// with the same bytes written. And at each event the gate and the limit make the same calls: the
+/// handler receives the same, and memory is asked for the same replies. They fail where one of
+/// these calls fails, and only there (`calls` of their `handle`).
 pub fn errors_hide_passwords<H: Handler>()
     ensures gate { (limit : Option ℕ) (accepts : Accounts) (inner : H.State) (input other : Bytes)
         → AllLookAlike accepts (events limit input) (events limit other)
@@ -129,7 +129,7 @@ pub fn accounts_stay_hidden<H: Handler>()
 {}
 
 /// In bytes: two passwords that the accounts answer alike for the name that was given, in lines of
-/// PASS within the limit, give one output. So a wrong password looks like another user's.
+/// PASS within the limit, give one output. So a wrong password gives what another user's gives.
 pub fn refused_passwords_look_alike<H: Handler>()
     ensures gate { (limit : Option ℕ) (accepts : Accounts) (inner : H.State)
         (before after password other : Bytes) → incomplete_line before ≡ []

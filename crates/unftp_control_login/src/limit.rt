@@ -47,8 +47,9 @@ impl<H: Handler> Handler for LoginLimit<H> {
 
     ghost failures = { λ limit. limit.inner.refused + H.failures limit.inner.handler };
 
-    /// The reply to an event. Its handler receives the event, once, and then memory is asked for the
-    /// last reply, where it is that: an error is returned where one of these two failed (`calls`).
+    /// The reply to an event. Its handler receives the event, once, and then memory is asked for
+    /// the last reply, where it is that: an error is returned where one of these two failed
+    /// (`calls`).
     fn handle(&mut self, alloc: Global, event: Event) -> Result<Reply, ControlChanError>
         ensures says { IfOk result (λ reply. reply_of reply
             ≡ (limited_law H.law).says (limited H.state self.old) (event_meant event)) }

@@ -5,6 +5,7 @@ use Rattle.std.proofs.Math.Seq.{take-append-add}
 use Rattle.std.proofs.lemmas.Bool.{cases_lt}
 use Rattle.std.proofs.lemmas.List.{take_all, take-append-drop, take-append-le, drop-append-le, length-take-le}
 use Rattle.unftp_control_defs.specs.Bytes.{Bytes}
+use Rattle.unftp_control_defs.specs.Input.{InputState}
 use Rattle.unftp_control_defs.specs.ReplyReader.{with_crlf, FrontReply, HasFront, IsMalformed, IsPartial}
 use Rattle.unftp_control_defs.specs.ReplyLimit.{IsTooLongReply}
 use Rattle.unftp_control_defs.proofs.ReplyAppendLemmas.{FrontReply-append, IsMalformed-append}
@@ -242,18 +243,18 @@ module _ {limit : Option ℕ} {s : Search} {buf : Bytes} {start : ℕ}
     ap (drop start) e ∙ drop-append-le start buf piece well.start_within,
   )
 
-  module _ (most : ℕ) (remaining remaining' : Option Bytes) where
+  module _ (most : ℕ) (input input' : InputState) where
     pub decoder_read : (result : Result ℕ ReceiveError)
-        → AppendsPiece most buf after remaining remaining' result
+        → AppendsPiece most buf after input input' result
         → IsReplyDecoder limit s after start
     decoder_read (Ok n) h =
         let more = after_piece h.0 h.1 in decoder_more well after h.0 start more.0 more.1
     decoder_read (Err error) h = subst (λ b. IsReplyDecoder limit s b start) (sym h.0) well
 
     pub reads_pending : (tests : ℕ) (result : Result ℕ ReceiveError)
-        → AppendsPiece most buf after remaining remaining' result
+        → AppendsPiece most buf after input input' result
         → AppendsPending most (pending_replies limit s tests (drop start buf) (length buf))
-        (pending_replies limit s tests (drop start after) (length after)) remaining remaining'
+        (pending_replies limit s tests (drop start after) (length after)) input input'
         result
     reads_pending tests (Ok n) h =
         let more = after_piece h.0 h.1 in (
@@ -264,9 +265,11 @@ module _ {limit : Option ℕ} {s : Search} {buf : Bytes} {start : ℕ}
           h.3,
           h.4,
           h.5,
+          h.6,
+          h.7,
         )
     reads_pending tests (Err error) h =
-        (ap (λ b. pending_replies limit s tests (drop start b) (length b)) h.0, h.1, h.2)
+        (ap (λ b. pending_replies limit s tests (drop start b) (length b)) h.0, h.1)
 
 -- ---- two answers that are not the same
 

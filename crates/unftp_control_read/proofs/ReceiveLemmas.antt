@@ -1,14 +1,16 @@
 -- Replies that are read from a reader.
-use Rattle.std.proofs.Common.{◌≡◌, ℕ, ◌+◌, ◌*◌, ◌<◌, ◌≤◌, max, Option, Some, None, Result, Ok, Err, IfOk, IfSome, IfNone, OnOk, [], ◌∷◌, ◌++◌, inl, inr, length, refl, sym, ap, subst, ◌∙◌, append_assoc, append-nil, length-append, arith}
-use Rattle.std.specs.Io.KnownBytes.{Consumes}
-use Rattle.std.proofs.KnownBytes.{Consumes-trans, Consumes-kept}
+use Rattle.std.proofs.Common.{◌≡◌, ℕ, ◌+◌, ◌*◌, ◌<◌, ◌≤◌, max, List, Option, Some, None, Ok, Err, IfSome, [], ◌∷◌, ◌++◌, inl, inr, length, refl, sym, ap, subst, ◌∙◌, append_assoc, append-nil, length-append, arith}
+use Rattle.std.specs.List.{concat}
+use Rattle.std.specs.Io.KnownBytes.{Consumes, IsAtEnd}
 use Rattle.std.proofs.Math.Nat.{le-max_right}
 use Rattle.unftp_control_defs.specs.Bytes.{Bytes}
+use Rattle.unftp_control_defs.specs.Input.{InputState, WereRead}
 use Rattle.unftp_control_defs.specs.ReplyReader.{IsPartial}
 use Rattle.unftp_control_defs.specs.TakingSteps.{TakesReply}
+use Rattle.unftp_control_defs.proofs.InputLemmas.{WereRead-start, WereRead-more, WereRead-no_more, concat-more}
 use Rattle.unftp_control_defs.proofs.ReplyAppendLemmas.{TakesReply-append}
 use Rattle.unftp_control_read.specs.ReplyDecoding.{HasError, HasNoReply, IsShortPart, PendingReplies, TakesFirst, TakesNextReply, content, copy_scans, held_after}
-use Rattle.unftp_control_read.specs.Receiving.{AppendsPending, HasFailure, IsNeeded, IsOfRead, Receives, failure_of}
+use Rattle.unftp_control_read.specs.Receiving.{AppendsPending, FailsToRead, HasFailure, IsNeeded, Receives, failed_reads, failure_of}
 use Rattle.unftp_control_read.specs.declared.reply.ReceivedReply.{ReceivedReply}
 use Rattle.unftp_control_read.specs.declared.errors.NextReplyError.{NextReplyError}
 use Rattle.unftp_control_read.specs.declared.errors.NextReplyError.TheVariants as next
@@ -23,17 +25,40 @@ Bounded before now = IfSome before.limit (λ limit.
     (length now.bytes ≤ max (length before.bytes) (limit + 4095))
     × (now.buffered ≤ max before.buffered (limit + 4095)))
 
-pub record Reading (before : PendingReplies) (remaining : Option Bytes) (now : PendingReplies)
-    (remaining' : Option Bytes) (reads : ℕ) : Type 0 where
-  pub read : Bytes
-  pub consumed : Consumes remaining remaining' read
-  pub bytes_are : now.bytes ≡ before.bytes ++ read
+pub record Reading (before : PendingReplies) (input : InputState) (now : PendingReplies)
+    (input' : InputState) (turn : ℕ) : Type 0 where
+  pub pieces : List Bytes
+  pub were_read : WereRead input input' pieces []
+  pub quiet : input'.failures ≡ input.failures
+  pub bytes_are : now.bytes ≡ before.bytes ++ concat pieces
   pub limit_is : now.limit ≡ before.limit
-  pub counted : now.tests + now.unscanned ≡ before.tests + before.unscanned + length read
+  pub counted : now.tests + now.unscanned
+      ≡ before.tests + before.unscanned + length (concat pieces)
   pub never_fewer : before.tests ≤ now.tests
-  pub many : reads ≤ length read
+  pub many : turn ≤ length (concat pieces)
   pub bounded : Bounded before now
-  pub needed : IsNeeded before read
+  pub needed : IsNeeded before pieces
+
+pub Reading-start : (before : PendingReplies) (input : InputState)
+    → Reading before input before input 0
+Reading-start before input = record {
+  pieces = [];
+  were_read = WereRead-start input;
+  quiet = refl;
+  bytes_are = sym (append-nil before.bytes);
+  limit_is = refl;
+  counted = omega arith;
+  never_fewer = omega arith;
+  many = omega arith;
+  bounded = same_bounded before.limit;
+  needed = inl refl;
+}
+  where
+    same_bounded : (limit : Option ℕ) → IfSome limit (λ limit.
+        (length before.bytes ≤ max (length before.bytes) (limit + 4095))
+        × (before.buffered ≤ max before.buffered (limit + 4095)))
+    same_bounded None = tt
+    same_bounded (Some limit) = (omega arith, omega arith)
 
 -- fewer bytes are bounded too
 pub fewer_bounded : (limit : Option ℕ) (pending buffered pending' buffered' most held : ℕ)
@@ -67,9 +92,11 @@ unended now after next is takes buffered limit_is counted never_fewer = record {
   never_fewer = never_fewer;
 }
 
-module _ {before : PendingReplies} {remaining : Option Bytes} {now : PendingReplies}
-    {remaining' : Option Bytes} {reads : ℕ}
-    (r : Reading before remaining now remaining' reads) where
+module _ {before : PendingReplies} {input : InputState} {now : PendingReplies}
+    {input' : InputState} {turn : ℕ} (r : Reading before input now input' turn) where
+  abbrev read : Bytes
+  read = concat r.pieces
+
   -- a reply is taken
   pub received : {reply : ReceivedReply} {after : PendingReplies}
       → TakesFirst now (content reply) after
@@ -77,10 +104,11 @@ module _ {before : PendingReplies} {remaining : Option Bytes} {now : PendingRepl
       (Ok (Some reply))
       → after.tests + after.unscanned + length after.bytes ≤ now.tests + now.unscanned + length
       now.bytes
-      → Receives before remaining (Ok (Some reply)) after remaining'
+      → Receives before input (Ok (Some reply)) after input'
   received t exact twice = record {
-    read = r.read;
-    consumed = r.consumed;
+    pieces = r.pieces;
+    were_read = r.were_read;
+    failures = omega (arith, r.quiet);
     takes_next = record {
       takes = record {
         used = t.takes.used;
@@ -96,7 +124,7 @@ module _ {before : PendingReplies} {remaining : Option Bytes} {now : PendingRepl
       twice,
       r.counted,
       ap length r.bytes_are,
-      length-append before.bytes r.read,
+      length-append before.bytes read,
     );
     unscanned = tt;
     needed = r.needed;
@@ -104,7 +132,7 @@ module _ {before : PendingReplies} {remaining : Option Bytes} {now : PendingRepl
 
   -- there is none
   module _ {mid : PendingReplies} (u : IsUnended now mid) where
-    part : IsShortPart before.limit (before.bytes ++ r.read)
+    part : IsShortPart before.limit (before.bytes ++ read)
     part = (
       subst IsPartial r.bytes_are u.none.partial,
       subst (λ b. IfSome before.limit (λ limit. length b < limit)) (u.none.same ∙ r.bytes_are)
@@ -113,14 +141,17 @@ module _ {before : PendingReplies} {remaining : Option Bytes} {now : PendingRepl
     )
 
     -- one more piece
-    pub more_read : {after : PendingReplies} {left : Option Bytes} (n : ℕ)
-        → AppendsPending 4096 mid after remaining' left (Ok n) → 0 < n
-        → Reading before remaining after left (reads + 1)
-    more_read {after} {left} n h some = record {
-      read = r.read ++ h.0;
-      consumed = Consumes-trans remaining remaining' left r.read h.0 r.consumed h.4;
+    pub more_read : {after : PendingReplies} {next : InputState} (n : ℕ)
+        → AppendsPending 4096 mid after input' next (Ok n) → 0 < n
+        → Reading before input after next (turn + 1)
+    more_read {after} {next} n h some = record {
+      pieces = r.pieces ++ h.0 ∷ [];
+      were_read = WereRead-more r.were_read h.0 h.4 (rw (sym h.2) at h.5)
+          (omega (arith, h.2, some), omega (arith, h.2, h.3));
+      quiet = h.6 ∙ r.quiet;
       bytes_are = ap (λ (p : PendingReplies). p.bytes) h.1
-          ∙ ap (λ b. b ++ h.0) (u.none.same ∙ r.bytes_are) ∙ append_assoc before.bytes r.read h.0;
+          ∙ ap (λ b. b ++ h.0) (u.none.same ∙ r.bytes_are) ∙ append_assoc before.bytes read h.0
+          ∙ ap (λ read. before.bytes ++ read) (sym (concat-more r.pieces h.0));
       limit_is = ap (λ (p : PendingReplies). p.limit) h.1 ∙ u.limit_is ∙ r.limit_is;
       counted =
           omega (
@@ -129,28 +160,25 @@ module _ {before : PendingReplies} {remaining : Option Bytes} {now : PendingRepl
             ap (λ (p : PendingReplies). p.unscanned) h.1,
             u.counted,
             r.counted,
-            length-append r.read h.0,
+            more,
           );
       never_fewer =
           omega (arith, ap (λ (p : PendingReplies). p.tests) h.1, u.never_fewer, r.never_fewer);
-      many = omega (arith, r.many, length-append r.read h.0, h.2, some);
+      many = omega (arith, r.many, more, h.2, some);
       bounded = by_limit before.limit part.1;
-      needed = inr record {
-        first = r.read;
-        piece = h.0;
-        whole = refl;
-        short = omega (arith, h.2, h.3);
-        part = part;
-      };
+      needed = inr record { first = r.pieces; last = h.0; whole = refl; part = part };
     }
       where
+        more : length (concat (r.pieces ++ h.0 ∷ [])) ≡ length read + length h.0
+        more = ap length (concat-more r.pieces h.0) ∙ length-append read h.0
+
         by_limit : (limit : Option ℕ)
-            → IfSome limit (λ limit. length (before.bytes ++ r.read) < limit)
+            → IfSome limit (λ limit. length (before.bytes ++ read) < limit)
             → IfSome limit (λ limit. (length after.bytes ≤ max (length before.bytes) (limit + 4095))
             × (after.buffered ≤ max before.buffered (limit + 4095)))
         by_limit None short = tt
         by_limit (Some limit) short =
-            let all : length mid.bytes ≡ length (before.bytes ++ r.read) =
+            let all : length mid.bytes ≡ length (before.bytes ++ read) =
             ap length (u.none.same ∙ r.bytes_are) in (
               omega (
                 arith,
@@ -175,22 +203,20 @@ module _ {before : PendingReplies} {remaining : Option Bytes} {now : PendingRepl
             )
 
     -- what is pending is a part of a reply, at the end
-    pub at_end : {after : PendingReplies} {left : Option Bytes}
-        → AppendsPending 4096 mid after remaining' left (Ok 0)
-        → Receives before remaining (Ok None) after left
-    at_end {after} {left} h =
+    pub at_end : {after : PendingReplies} {last : InputState}
+        → AppendsPending 4096 mid after input' last (Ok 0)
+        → Receives before input (Ok None) after last
+    at_end {after} {last} h =
         let nothing : h.0 ≡ [] = none h.0 h.2 in
-        let consumed : Consumes remaining' left [] =
-        subst (λ p. Consumes remaining' left p) nothing h.4 in
-        let same : after.bytes ≡ before.bytes ++ r.read = ap (λ (p : PendingReplies). p.bytes) h.1
+        let same : after.bytes ≡ before.bytes ++ read = ap (λ (p : PendingReplies). p.bytes) h.1
         ∙ ap (λ p. mid.bytes ++ p) nothing ∙ append-nil mid.bytes ∙ u.none.same ∙ r.bytes_are in
         let unscanned : after.unscanned ≡ 0 =
         omega (arith, ap (λ (p : PendingReplies). p.unscanned) h.1, h.2, u.none.all_scanned) in
         let tests : after.tests ≡ mid.tests = ap (λ (p : PendingReplies). p.tests) h.1 in
         record {
-          read = r.read;
-          consumed = subst (λ p. Consumes remaining left p) (append-nil r.read)
-              (Consumes-trans remaining remaining' left r.read [] r.consumed consumed);
+          pieces = r.pieces;
+          were_read = WereRead-no_more r.were_read (0 ∷ []) (rw nothing at h.4) h.5;
+          failures = omega (arith, h.6, r.quiet);
           takes_next = (
             record {
               partial = part.0;
@@ -199,7 +225,7 @@ module _ {before : PendingReplies} {remaining : Option Bytes} {now : PendingRepl
               short = subst (λ b. IfSome before.limit (λ limit. length b < limit))
                   (sym same) part.1;
             },
-            h.5 refl,
+            h.7 refl,
           );
           counted = omega (arith, unscanned, tests, u.none.all_scanned, u.counted, r.counted);
           twice = omega (
@@ -210,7 +236,7 @@ module _ {before : PendingReplies} {remaining : Option Bytes} {now : PendingRepl
             u.counted,
             r.counted,
             ap length same,
-            length-append before.bytes r.read,
+            length-append before.bytes read,
           );
           unscanned = tt;
           needed = r.needed;
@@ -221,37 +247,53 @@ module _ {before : PendingReplies} {remaining : Option Bytes} {now : PendingRepl
         none (b ∷ piece) e = absurd (omega (arith, e))
 
     -- a failure of reading
-    pub failed : {error : ReceiveError} {after : PendingReplies} {left : Option Bytes}
-        → AppendsPending 4096 mid after remaining' left (Err error)
-        → Receives before remaining (Err error) after left
-    failed {error} {after} {left} h = record {
-      read = r.read;
-      consumed = Consumes-kept remaining remaining' left r.read r.consumed h.1;
-      takes_next =
-          (has error h.2, ap (λ (p : PendingReplies). p.bytes) h.0 ∙ u.none.same ∙ r.bytes_are);
+    pub failed : (error : ReceiveError) {after : PendingReplies} {last : InputState}
+        → AppendsPending 4096 mid after input' last (Err error)
+        → Receives before input (Err error) after last
+    failed error {after} {last} h = record {
+      pieces = r.pieces;
+      were_read = (read_so error h.1).0;
+      failures = (read_so error h.1).1;
+      takes_next = (
+        has error h.1,
+        ap (λ (p : PendingReplies). p.bytes) h.0 ∙ u.none.same ∙ r.bytes_are,
+      );
       counted = omega (arith, ap (λ (p : PendingReplies). p.tests) h.0, u.counted, r.counted);
       twice = tt;
       unscanned = omega (arith, ap (λ (p : PendingReplies). p.unscanned) h.0, u.none.all_scanned);
       needed = r.needed;
     }
       where
-        has : (e : ReceiveError) → IsOfRead e → HasFailure before.limit (before.bytes ++ r.read) e
+        has : (e : ReceiveError) → FailsToRead input' last e
+            → HasFailure before.limit (before.bytes ++ read) e
         has (Read _) k = part
         has OutOfMemory k = inr part
         has Malformed k = absurd k
         has TooLong k = absurd k
         has TooManyReads k = absurd k
 
+        read_so : (e : ReceiveError) → FailsToRead input' last e
+            → WereRead input last r.pieces [] × (last.failures ≡ input.failures + failed_reads (Err e))
+        read_so (Read _) k = (
+          WereRead-no_more r.were_read [] k.0 (k.1 ∙ sym (append-nil input'.reads)),
+          omega (arith, k.2, r.quiet),
+        )
+        read_so OutOfMemory k = rw k (r.were_read, omega (arith, r.quiet))
+        read_so Malformed k = absurd k
+        read_so TooLong k = absurd k
+        read_so TooManyReads k = absurd k
+
   -- a refusal
   pub refused : (error : NextReplyError) {after : PendingReplies}
       → HasError now.limit now.bytes error → after.bytes ≡ now.bytes
       → after.tests ≤ now.tests + now.unscanned + length now.bytes → after.unscanned ≤ now.unscanned
-      → Receives before remaining (Err (failure_of error)) after remaining'
+      → Receives before input (Err (failure_of error)) after input'
   refused error h same tests less = record {
-    read = r.read;
-    consumed = r.consumed;
+    pieces = r.pieces;
+    were_read = r.were_read;
+    failures = no_read error;
     takes_next = (
-      has error (subst (λ limit. HasError limit (before.bytes ++ r.read) error) r.limit_is
+      has error (subst (λ limit. HasError limit (before.bytes ++ read) error) r.limit_is
           (subst (λ b. HasError now.limit b error) r.bytes_are h)),
       same ∙ r.bytes_are,
     );
@@ -261,62 +303,65 @@ module _ {before : PendingReplies} {remaining : Option Bytes} {now : PendingRepl
     needed = r.needed;
   }
     where
-      has : (e : NextReplyError) → HasError before.limit (before.bytes ++ r.read) e
-          → HasFailure before.limit (before.bytes ++ r.read) (failure_of e)
+      has : (e : NextReplyError) → HasError before.limit (before.bytes ++ read) e
+          → HasFailure before.limit (before.bytes ++ read) (failure_of e)
       has next.Malformed k = k
       has next.TooLong k = k
       has next.OutOfMemory k = inl k
 
+      no_read : (e : NextReplyError)
+          → input'.failures ≡ input.failures + failed_reads (Err (failure_of e))
+      no_read next.Malformed = omega (arith, r.quiet)
+      no_read next.TooLong = omega (arith, r.quiet)
+      no_read next.OutOfMemory = omega (arith, r.quiet)
+
 -- ---- the same of the remaining input, where it is known
 
-pub whole_reply : {before : PendingReplies} {remaining : Option Bytes}
-    {result : Result (Option ReceivedReply) ReceiveError} {after : PendingReplies}
-    {remaining' : Option Bytes}
-    → Receives before remaining result after remaining'
-    → IfOk result
-    (λ next. IfSome next
-    (λ reply. IfSome remaining
-    (λ input. IfSome remaining'
-    (λ left. TakesReply (before.bytes ++ input) (content reply) (after.bytes ++ left)))))
-whole_reply {result = Err error} h = tt
-whole_reply {result = Ok None} h = tt
-whole_reply {remaining = None} {result = Ok (Some reply)} h = tt
-whole_reply {remaining = Some input} {result = Ok (Some reply)} {remaining' = None} h = tt
-whole_reply {before} {remaining = Some input} {result = Ok (Some reply)} {after}
-    {remaining' = Some left} h =
-    subst (λ b. TakesReply b (content reply) (after.bytes ++ left))
-    (append_assoc before.bytes h.read left ∙ ap (λ b. before.bytes ++ b) (sym h.consumed))
-    (TakesReply-append left h.takes_next.takes)
+module _ {before : PendingReplies} {input : InputState} {after : PendingReplies}
+    {input' : InputState} where
+  pub reply_known : {reply : ReceivedReply} → Receives before input (Ok (Some reply)) after input'
+      → IfSome input.remaining (λ bytes. IfSome input'.remaining (λ left.
+      TakesReply (before.bytes ++ bytes) (content reply) (after.bytes ++ left)))
+  reply_known {reply} h = of_known input.remaining input'.remaining h.were_read.given.known
+    where
+      of_known : (a b : Option Bytes) → Consumes a b (concat h.pieces)
+          → IfSome a (λ bytes. IfSome b (λ left.
+          TakesReply (before.bytes ++ bytes) (content reply) (after.bytes ++ left)))
+      of_known None b consumed = tt
+      of_known (Some bytes) None consumed = tt
+      of_known (Some bytes) (Some left) consumed =
+          subst (λ b. TakesReply b (content reply) (after.bytes ++ left))
+          (append_assoc before.bytes (concat h.pieces) left
+          ∙ ap (λ b. before.bytes ++ b) (sym consumed))
+          (TakesReply-append left h.takes_next.takes)
 
-pub whole_end : {before : PendingReplies} {remaining : Option Bytes}
-    {result : Result (Option ReceivedReply) ReceiveError} {after : PendingReplies}
-    {remaining' : Option Bytes}
-    → Receives before remaining result after remaining'
-    → IfOk result
-    (λ next. IfNone next
-    (IfSome remaining
-    (λ input. IsPartial (before.bytes ++ input) × (after.bytes ≡ before.bytes ++ input))))
-whole_end {result = Err error} h = tt
-whole_end {result = Ok (Some reply)} h = tt
-whole_end {remaining = None} {result = Ok None} h = tt
-whole_end {remaining = Some input} {result = Ok None} {remaining' = None} h = absurd h.consumed
-whole_end {before} {remaining = Some input} {result = Ok None} {after} {remaining' = Some left} h =
-    let same : h.read ≡ input = sym (append-nil h.read) ∙ ap (λ b. h.read ++ b) (sym h.takes_next.1)
-    ∙ sym h.consumed in (
-      subst (λ b. IsPartial (before.bytes ++ b)) same h.takes_next.0.partial,
-      h.takes_next.0.same
-          ∙ ap (λ b. before.bytes ++ b) same,
-    )
+  pub end_known : Receives before input (Ok None) after input' → IfSome input.remaining (λ bytes.
+      IsPartial (before.bytes ++ bytes) × (after.bytes ≡ before.bytes ++ bytes))
+  end_known h = of_known input.remaining input'.remaining h.were_read.given.known h.takes_next.1
+    where
+      of_known : (a b : Option Bytes) → Consumes a b (concat h.pieces) → IsAtEnd b
+          → IfSome a (λ bytes.
+          IsPartial (before.bytes ++ bytes) × (after.bytes ≡ before.bytes ++ bytes))
+      of_known None b consumed none_left = tt
+      of_known (Some bytes) None consumed none_left = absurd consumed
+      of_known (Some bytes) (Some left) consumed none_left =
+          let same : concat h.pieces ≡ bytes = sym (append-nil (concat h.pieces))
+          ∙ ap (λ b. concat h.pieces ++ b) (sym none_left) ∙ sym consumed in (
+            subst (λ b. IsPartial (before.bytes ++ b)) same h.takes_next.0.partial,
+            h.takes_next.0.same ∙ ap (λ b. before.bytes ++ b) same,
+          )
 
-pub counted_known : {before : PendingReplies} {remaining : Option Bytes}
-    {result : Result (Option ReceivedReply) ReceiveError} {after : PendingReplies}
-    {remaining' : Option Bytes}
-    → Receives before remaining result after remaining'
-    → OnOk result (IfSome remaining (λ input. IfSome remaining' (λ left.
-    after.tests + after.unscanned + length after.bytes + 2 * length left ≤ before.tests +
-    before.unscanned + length before.bytes + 2 * length input)))
-counted_known {result = Err error} h = tt
-counted_known {remaining = None} {result = Ok next} h = tt
-counted_known {remaining = Some input} {result = Ok next} {remaining' = None} h = tt
-counted_known {remaining = Some input} {result = Ok next} {remaining' = Some left} h =
-    omega (arith, h.twice, ap length h.consumed, length-append h.read left)
+  pub tests_known : {next : Option ReceivedReply} → Receives before input (Ok next) after input'
+      → IfSome input.remaining (λ bytes. IfSome input'.remaining (λ left.
+      after.tests + after.unscanned + length after.bytes + 2 * length left
+      ≤ before.tests + before.unscanned + length before.bytes + 2 * length bytes))
+  tests_known h = of_known input.remaining input'.remaining h.were_read.given.known
+    where
+      of_known : (a b : Option Bytes) → Consumes a b (concat h.pieces)
+          → IfSome a (λ bytes. IfSome b (λ left.
+          after.tests + after.unscanned + length after.bytes + 2 * length left
+          ≤ before.tests + before.unscanned + length before.bytes + 2 * length bytes))
+      of_known None b consumed = tt
+      of_known (Some bytes) None consumed = tt
+      of_known (Some bytes) (Some left) consumed =
+          omega (arith, h.twice, ap length consumed, length-append (concat h.pieces) left)

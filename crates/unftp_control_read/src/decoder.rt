@@ -1,6 +1,7 @@
 //! The pending bytes, and the replies that they begin with.
 ghost use Rattle.std.specs.Prelude.{◌≡◌, ◌<◌, ◌≤◌, ◌+◌, ℕ, List, [], None, Some, OnOk, OnErr, IfSome, IsTrue, false, length};
 ghost use Rattle.unftp_control_defs.specs.Bytes.{Bytes};
+ghost use Rattle.unftp_control_defs.specs.Input.{input_state_of};
 ghost use Rattle.unftp_control_defs.specs.ReplyReader.{FrontReply, IsPartial, IsMalformed};
 ghost use Rattle.unftp_control_defs.specs.ReplyLimit.{IsTooLongReply};
 ghost use Rattle.unftp_control_read.specs.ReplyDecoding.{IsReturned, TakesNextReply, CountsNextReply, cleared, copy_scans, held_after, no_bytes, settled, pushed, within_limit};
@@ -16,12 +17,13 @@ use std::io::Read;
 use std::marker::Model;
 use unftp_control_defs::buffer::PendingBytes;
 use unftp_control_defs::count::Count;
+use unftp_control_defs::input::Input;
 
 /// Cuts replies from an input that comes in pieces: for a client with an event loop of its own. A
 /// piece is pushed, and replies are taken until there is none; between two of them the client does
 /// what it likes, and after the last it may clear what is pending.
-// The search, which counts from the first pending byte, keeps how far it has come, so that no byte is
-// searched again with each piece.
+// The search, which counts from the first pending byte, keeps how far it has come, so that no byte
+// is searched again with each piece.
 #[derive(Drop)]
 pub struct ReplyDecoder {
     buffer: PendingBytes,
@@ -87,8 +89,8 @@ impl ReplyDecoder {
         self.tests.same()
     }
 
-    /// Appends a piece to the pending bytes. When out of memory, nothing changes; it never is for an
-    /// empty piece.
+    /// Appends a piece to the pending bytes. When out of memory, nothing changes; it never is for
+    /// an empty piece.
     pub fn push(&mut self, piece: &[u8]) -> Result<(), AllocError>
         ensures ok { OnOk result (self.new ≡ pushed self.old piece.now) }
         ensures err { OnErr result (self.new ≡ self.old) }
@@ -191,9 +193,12 @@ impl ReplyDecoder {
 
     /// Reads once, and appends what is read to the pending bytes. When out of memory, nothing is
     /// read.
-    pub(crate) fn fill_from<R: Read>(&mut self, reader: &mut R) -> Result<usize, ReceiveError>
+    pub(crate) fn fill_from<R: Read>(
+        &mut self,
+        reader: &mut Input<R>,
+    ) -> Result<usize, ReceiveError>
         ensures { AppendsPending PIECE self.old self.new
-            (R.remaining reader.old) (R.remaining reader.new) result }
+            (input_state_of R.remaining reader.old) (input_state_of R.remaining reader.new) result }
     {
         read_after(&mut self.buffer.bytes, reader)
     }

@@ -47,7 +47,8 @@ pub enum ReceiveError {
     /// An allocation failed: for the bytes of the next read, or for the lines of a complete reply.
     #[error("out of memory")]
     OutOfMemory,
-    /// More reads gave bytes than 64 bits count: never returned, since all these bytes would be held.
+    /// More reads gave bytes than 64 bits count: never returned, since all these bytes would be
+    /// held.
     #[error("too many reads")]
     TooManyReads,
 }

@@ -24,11 +24,13 @@ use crate::copying::copy_lines;
 pub use crate::decoder::ReplyDecoder;
 pub use crate::errors::{NextReplyError, ReceiveError};
 use crate::finding::Finding;
+pub use crate::receiving::known_input_is_received;
 pub use crate::reply::{ReceivedReply, same_received_replies};
 use crate::search::Search;
 use std::alloc::Global;
 use thiserror::Error;
 pub use unftp_control_defs::count::Count;
+pub use unftp_control_defs::input::Input;
 
 /// What some bytes begin with.
 #[derive(Debug, PartialEq, Eq, Drop)]
@@ -131,8 +133,8 @@ pub enum FoundReply {
     Malformed,
 }
 
-/// Finds the reply at the start of `bytes`, as `read_reply` does (RFC 959, section 4.2). It copies no
-/// lines, so it takes no memory.
+/// Finds the reply at the start of `bytes`, as `read_reply` does (RFC 959, section 4.2). It copies
+/// no lines, so it takes no memory.
 pub fn find_reply(bytes: &[u8]) -> FoundReply
     ensures found { ReturnsFound bytes.now result }
     ensures whole { (code : ℕ) (lines : List Bytes) (used : ℕ)

@@ -1,15 +1,21 @@
 //! Replies from a reader.
-ghost use Rattle.std.specs.Prelude.{◌≡◌, ◌+◌, ◌*◌, ◌≤◌, length, max, ◌++◌, replicate, IfOk, IfSome, IfNone, OnOk, OnErr};
+ghost use Rattle.std.specs.Prelude.{◌≡◌, ◌+◌, ◌*◌, ◌≤◌, ℕ, None, Ok, Some, Option, List, length, max, ◌++◌, replicate, IfSome, OnOk, OnErr};
+ghost use Rattle.std.specs.List.{concat};
+ghost use Rattle.unftp_control_defs.specs.Bytes.{Bytes};
+ghost use Rattle.unftp_control_defs.specs.Input.{InputState, input_state_of};
 ghost use Rattle.unftp_control_defs.specs.ReplyReader.{IsPartial};
 ghost use Rattle.unftp_control_defs.specs.TakingSteps.{TakesReply};
-ghost use Rattle.unftp_control_read.specs.ReplyDecoding.{content};
+ghost use Rattle.unftp_control_read.specs.ReplyDecoding.{NextReply, PendingReplies, content};
 ghost use Rattle.unftp_control_read.specs.Receiving.{AppendsPiece, Receives};
+ghost use Rattle.unftp_control_read.specs.declared.errors.ReceiveError.{ReceiveError as Failure};
+ghost use Rattle.unftp_control_read.specs.declared.reply.ReceivedReply.{ReceivedReply as Reply};
 
 use crate::decoder::ReplyDecoder;
 use crate::errors::ReceiveError;
 use crate::reply::ReceivedReply;
 use std::alloc::AllocError;
 use std::io::Read;
+use unftp_control_defs::input::Input;
 
 /// How many bytes are read at a time, at most.
 pub(crate) const PIECE: usize = 4096;
@@ -26,9 +32,12 @@ fn add_room(buf: &mut Vec<u8>) -> Result<(), AllocError>
 }
 
 /// Reads once, and appends what is read. When out of memory, nothing is read.
-pub(crate) fn read_after<R: Read>(buf: &mut Vec<u8>, reader: &mut R) -> Result<usize, ReceiveError>
+pub(crate) fn read_after<R: Read>(
+    buf: &mut Vec<u8>,
+    reader: &mut Input<R>,
+) -> Result<usize, ReceiveError>
     ensures { AppendsPiece PIECE buf.old.items buf.new.items
-        (R.remaining reader.old) (R.remaining reader.new) result }
+        (input_state_of R.remaining reader.old) (input_state_of R.remaining reader.new) result }
 {
     let len = buf.len();
     add_room(buf)?;
@@ -55,25 +64,13 @@ impl ReplyDecoder {
     /// `Malformed` and `TooLong` are returned from then on. `TooManyReads` is never returned.
     pub fn read_reply<R: Read>(
         &mut self,
-        reader: &mut R,
+        reader: &mut Input<R>,
     ) -> Result<Option<ReceivedReply>, ReceiveError>
-        // The reply is the first of the pending bytes and the remaining input, and what follows it
-        // is left.
-        ensures reply { IfOk result (λ next. IfSome next (λ reply.
-            IfSome (R.remaining reader.old) (λ input. IfSome (R.remaining reader.new) (λ left.
-            TakesReply (self.old.bytes ++ input) (content reply) (self.new.bytes ++ left))))) }
-        // The whole input is a part of a reply, and pending.
-        ensures end { IfOk result (λ next. IfNone next (IfSome (R.remaining reader.old) (λ input.
-            IsPartial (self.old.bytes ++ input)
-            × (self.new.bytes ≡ self.old.bytes ++ input)))) }
-        // Each byte is scanned at most twice: by the search, and where its reply is copied.
-        ensures tests { OnOk result
-            (IfSome (R.remaining reader.old) (λ input. IfSome (R.remaining reader.new) (λ left.
-            self.new.tests + self.new.unscanned + length self.new.bytes + 2 * length left
-            ≤ self.old.tests + self.old.unscanned + length self.old.bytes + 2 * length input))) }
-        // What holds of any reader, and at each error.
-        ensures receives { Receives self.old (R.remaining reader.old) result
-            self.new (R.remaining reader.new) }
+        // Of any reader: the reply is the first of the pending bytes and those that were read, and
+        // what follows it is pending; where there is none, all of them are a part of a reply, and
+        // pending.
+        ensures receives { Receives self.old (input_state_of R.remaining reader.old) result
+            self.new (input_state_of R.remaining reader.new) }
         ensures limit { self.new.limit ≡ self.old.limit }
         // With a limit, no more is pending then than the limit and one read, or than before.
         ensures pending { IfSome self.old.limit (λ limit.
@@ -96,3 +93,25 @@ impl ReplyDecoder {
         Err(ReceiveError::TooManyReads)
     }
 }
+
+/// What follows of `Receives` where the bytes that the reader has yet to give are known, before and
+/// after, as those of a slice are.
+pub fn known_input_is_received()
+    // The reply is the first of the pending bytes and the remaining input, and what follows it is
+    // left.
+    ensures reply { (before after : PendingReplies) (input input_after : InputState) (reply : Reply)
+        → Receives before input (Ok (Some reply)) after input_after
+        → IfSome input.remaining (λ bytes. IfSome input_after.remaining (λ left.
+        TakesReply (before.bytes ++ bytes) (content reply) (after.bytes ++ left))) }
+    // The whole input is a part of a reply, and pending.
+    ensures end { (before after : PendingReplies) (input input_after : InputState)
+        → Receives before input (Ok None) after input_after
+        → IfSome input.remaining (λ bytes. IsPartial (before.bytes ++ bytes)
+        × (after.bytes ≡ before.bytes ++ bytes)) }
+    // Each byte is scanned at most twice: by the search, and where its reply is copied.
+    ensures tests { (before after : PendingReplies) (input input_after : InputState)
+        (next : Option Reply) → Receives before input (Ok next) after input_after
+        → IfSome input.remaining (λ bytes. IfSome input_after.remaining (λ left.
+        after.tests + after.unscanned + length after.bytes + 2 * length left
+        ≤ before.tests + before.unscanned + length before.bytes + 2 * length bytes)) }
+{}

@@ -206,7 +206,8 @@ impl From<ParseError> for ControlChanError {
     ghost use Rattle.unftp_control_reply.specs.ErrorMeaning.{converted};
     ghost use Rattle.unftp_control_reply.specs.declared.error.Source.TheVariants.{Parse};
 
-    ghost from_gives = { λ parse error. (error.kind ≡ converted parse) × (error.source ≡ Parse parse) };
+    ghost from_gives = { λ parse error. (error.kind ≡ converted parse)
+        × (error.source ≡ Parse parse) };
 
     fn from(error: ParseError) -> ControlChanError {
         let kind = match error.kind() {

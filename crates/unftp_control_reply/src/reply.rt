@@ -140,7 +140,8 @@ fn is_one_line(text: &str) -> bool
 
 /// Whether no line has a line feed.
 fn are_lines(lines: &Vec<String>) -> bool
-    ensures { IsTrue result ↔ AllByRecursion (λ line. Lacks LF (string_bytes line)) lines.now.items }
+    ensures { IsTrue result
+        ↔ AllByRecursion (λ line. Lacks LF (string_bytes line)) lines.now.items }
 {
     lines.iter().all(|line| is_one_line(line.as_str()))
 }

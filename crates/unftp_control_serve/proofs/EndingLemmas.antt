@@ -17,13 +17,13 @@ use Rattle.unftp_control_serve.specs.Endings.{Snapshot, Cause, Finished, Write, 
 use Rattle.unftp_control_serve.specs.declared.error.ServeError.{ServeError}
 use Rattle.unftp_control_serve.specs.declared.error.ServeError.TheVariants as error
 use Rattle.unftp_control_serve.proofs.AfterLinesLemmas.{after_lines-append}
-use Rattle.unftp_control_serve.proofs.SendLemmas.{Appends-nothing, Appends-then, Flushed-then}
+use Rattle.unftp_control_serve.proofs.SendLemmas.{HasWritten-nothing, HasWritten-then, Flushed-then}
 
 module _ {S : Type 0} (law : Law S) where
   pub AllAnswered-nothing : (m : Snapshot S) → AllAnswered law m [] m
   AllAnswered-nothing m = record {
     ends_at = refl;
-    written = Appends-nothing m.output.written;
+    written = HasWritten-nothing m.output;
     flushed = omega arith;
     write_failed = omega arith;
     handler_failed = omega arith;
@@ -56,8 +56,7 @@ module _ {S : Type 0} (law : Law S) where
     RunEnded-then {k} fs later cause v = record {
       ends_at = rw (last-then fs) v.ends_at;
       written = rw (text_until-then fs cause)
-          (Appends-then m.output.written n.output.written k.output.written (text_of law m.state es)
-          (text_until (text_of law n.state fs) cause) all.written v.written);
+          (HasWritten-then all.written v.written);
       flushed = rw (text-then fs)
           (Flushed-then (text_of law m.state es) (text_of law n.state fs) (part_written cause)
           m.output.unflushed n.output.unflushed k.output.unflushed all.flushed v.flushed);
@@ -108,7 +107,7 @@ module _ {S : Type 0} (law : Law S) where
       has_line = λ at_line. absurd (cc);
       ended = record {
         ends_at = may;
-        written = rw same (Appends-nothing m.output.written);
+        written = rw same (HasWritten-nothing m.output);
         flushed = rw same (omega arith);
         write_failed = rw same (omega arith);
         handler_failed = failures;
@@ -142,7 +141,7 @@ module _ {S : Type 0} (law : Law S) where
         has_line = λ at_line. absurd (cc);
         ended = record {
           ends_at = (state, some);
-          written = rw same (Appends-nothing m.output.written);
+          written = rw same (HasWritten-nothing m.output);
           flushed = rw same (omega arith);
           write_failed = rw same (omega arith);
           handler_failed = omega (arith, failures);

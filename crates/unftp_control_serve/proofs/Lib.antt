@@ -6,4 +6,3 @@ pub mod EndingLemmas
 mod EngineLemmas
 mod LineRunLemmas
 pub mod ServiceLemmas
-pub mod ServesLemmas

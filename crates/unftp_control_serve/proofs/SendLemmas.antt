@@ -1,21 +1,22 @@
 -- Sendings that are put together.
-use Rattle.std.proofs.Common.{◌≡◌, ℕ, ◌+◌, ◌≤◌, [], ◌∷◌, ◌++◌, Option, Some, None, length, take, drop, sym, ◌∙◌, ap, arith, append_assoc, length-append, length-take}
+use Rattle.std.proofs.Common.{◌≡◌, ℕ, ◌+◌, ◌≤◌, [], ◌∷◌, ◌++◌, length, take, drop, sym, ◌∙◌, ap, arith, append_assoc, length-append, length-take}
 use Rattle.std.proofs.lemmas.List.{append-nil, take-append-drop}
-use Rattle.std.specs.Io.KnownBytes.{Appends}
+use Rattle.std.proofs.KnownBytes.{Appends-nil, Appends-trans}
 use Rattle.unftp_control_defs.specs.Bytes.{Bytes}
-use Rattle.unftp_control_serve.specs.Writing.{OutputState, Flushed, Wrote}
+use Rattle.unftp_control_serve.specs.Writing.{OutputState, Flushed, HasWritten, Wrote}
 
-pub Appends-nothing : (known : Option Bytes) → Appends known known []
-Appends-nothing None = tt
-Appends-nothing (Some bytes) = sym (append-nil bytes)
+pub HasWritten-nothing : (output : OutputState) → HasWritten output output []
+HasWritten-nothing output = record {
+  taken = sym (append-nil output.taken);
+  known = Appends-nil output.written;
+}
 
-pub Appends-then : (a b c : Option Bytes) (text more : Bytes) → Appends a b text → Appends b c more
-    → Appends a c (text ++ more)
-Appends-then None b c text more p q = tt
-Appends-then (Some a) None c text more p q = absurd p
-Appends-then (Some a) (Some b) None text more p q = q
-Appends-then (Some a) (Some b) (Some c) text more p q = q ∙ ap (λ bytes. bytes ++ more) p
-    ∙ append_assoc a text more
+pub HasWritten-then : {a b c : OutputState} {text more : Bytes} → HasWritten a b text → HasWritten b c more
+    → HasWritten a c (text ++ more)
+HasWritten-then {a} {b} {c} {text} {more} p q = record {
+  taken = q.taken ∙ ap (λ bytes. bytes ++ more) p.taken ∙ append_assoc a.taken text more;
+  known = Appends-trans a.written b.written c.written text more p.known q.known;
+}
 
 pub Flushed-then : (text more part : Bytes) (t u v : ℕ) → Flushed text [] t u
     → Flushed more part u v → Flushed (text ++ more) part t v
@@ -32,7 +33,7 @@ pub record Sending (bytes rest : Bytes) (before now : OutputState) : Type 0 wher
 
 pub Sending-more : {bytes rest : Bytes} {before now after : OutputState} (n : ℕ)
     → Sending bytes rest before now → n ≤ length rest →
-    Appends now.written after.written (take n rest) → after.failures ≡ now.failures
+    HasWritten now after (take n rest) → after.failures ≡ now.failures
     → after.unflushed ≡ now.unflushed + n →
     Sending bytes (drop n rest) before after
 Sending-more {rest} {before} {now} {after} n sending within written kept unflushed =
@@ -42,8 +43,7 @@ Sending-more {rest} {before} {now} {after} n sending within written kept unflush
       part = sending.part ++ take n rest;
       split = rw (append_assoc, joined) sending.split;
       wrote = record {
-        written = Appends-then before.written now.written after.written sending.part
-            (take n rest) sending.wrote.written written;
+        written = HasWritten-then sending.wrote.written written;
         no_failure = kept ∙ sending.wrote.no_failure;
         unflushed =
             omega (arith, sending.wrote.unflushed, taken, length-append sending.part (take n rest));

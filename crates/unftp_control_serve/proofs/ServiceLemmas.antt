@@ -1,14 +1,15 @@
 -- A service, piece by piece.
-use Rattle.std.proofs.Common.{◌≡◌, ℕ, max, ◌+◌, ◌-◌, ◌^◌, ◌<◌, ◌≤◌, ◌⊎◌, inl, inr, Bool, true, false, List, [], ◌∷◌, ◌++◌, map, take, Option, Some, None, length, refl, sym, ◌∙◌, ap, subst, arith, append_assoc, length-append}
-use Rattle.std.proofs.lemmas.List.{append-nil, map-append}
+use Rattle.std.proofs.Common.{◌≡◌, ℕ, max, ◌+◌, ◌-◌, ◌^◌, ◌≤◌, ◌⊎◌, inl, inr, Bool, true, false, List, [], ◌∷◌, ◌++◌, take, Option, Some, None, Result, Ok, Err, length, refl, sym, ◌∙◌, ap, subst, arith, append_assoc, length-append}
+use Rattle.std.proofs.lemmas.List.{append-nil}
 use Rattle.std.specs.List.{AllByRecursion, concat}
 use Rattle.std.proofs.lemmas.Bool.{false≢true}
-use Rattle.std.proofs.lemmas.List.Folds.{concat-append}
 use Rattle.std.specs.Prelude.{if◌then◌else◌}
 use Rattle.std.specs.Option.{IfSome}
-use Rattle.std.specs.Io.KnownBytes.{Appends, Consumes, IsAtEnd, Keeps}
+use Rattle.std.specs.Prelude.{IfOk}
+use Rattle.std.specs.Io.KnownBytes.{Appends, Consumes, IsAtEnd}
 use Rattle.unftp_control_defs.specs.Bytes.{Bytes, LF, Lacks}
 use Rattle.unftp_control_defs.specs.Events.{FtpEvent, events}
+use Rattle.unftp_control_defs.specs.Input.{InputState, HasPieceSize, HasRead, WereRead}
 use Rattle.unftp_control_defs.specs.Lines.{incomplete_line}
 use Rattle.unftp_control_defs.specs.Run.{Law, last_state, replies, text_of, run_for, ends_for, unread, after_end}
 use Rattle.unftp_control_defs.proofs.EncodingLemmas.{ReadsBack-encoded}
@@ -17,10 +18,11 @@ use Rattle.unftp_control_defs.proofs.RunLemmas.{run_of-all, run-append, unread-a
 use Rattle.unftp_control_serve.specs.Endings.{Snapshot, Cause, Finished, Write, Handler, LineMemory, ReplyMemory, IsCauseOf, AllAnswered, RunFailed, NoRoom}
 use Rattle.unftp_control_serve.specs.Decoder.{kept_length, saturating_u64}
 use Rattle.unftp_control_serve.specs.Engine.{EngineState, IsRunning, bytes_with, ends_with, unread_with, after_end_with, pending_with, fed, fresh}
-use Rattle.unftp_control_serve.specs.Service.{InputState, Answered, AnsweredAll, EndedLate, NoRoomForPiece, ReadFailed, ReadTooOften, Reports, ServeEnded, Serves, WereRead, most_held}
+use Rattle.unftp_control_serve.specs.Service.{Answered, AnsweredAll, EndedLate, NoRoomForPiece, ReadFailed, ReadTooOften, Reports, ServeEnded, Serves, ServesKnown, most_held}
 use Rattle.unftp_control_serve.specs.declared.service.Served.{Served}
 use Rattle.unftp_control_serve.specs.declared.error.ServeError.{ServeError}
 use Rattle.unftp_control_serve.specs.declared.error.ServeError.TheVariants as error
+use Rattle.unftp_control_defs.proofs.InputLemmas.{WereRead-start, WereRead-more, WereRead-no_more, WereRead-ended, concat-more}
 use Rattle.unftp_control_serve.proofs.EngineLemmas.{kept_within, nothing_kept}
 use Rattle.unftp_control_serve.proofs.EndingLemmas.{AllAnswered-nothing, RunEnded-then, RunFailed-then}
 
@@ -46,25 +48,6 @@ no_cause-reads (Handler fault) h = h
 no_cause-reads LineMemory h = h
 no_cause-reads ReplyMemory h = h
 
-pub Consumes-nothing : (known : Option Bytes) → Consumes known known []
-Consumes-nothing None = tt
-Consumes-nothing (Some bytes) = refl
-
-pub Consumes-then : (a b c : Option Bytes) (read more : Bytes) → Consumes a b read → Consumes b c more
-    → Consumes a c (read ++ more)
-Consumes-then None b c read more p q = tt
-Consumes-then (Some a) None c read more p q = absurd p
-Consumes-then (Some a) (Some b) None read more p q = q
-Consumes-then (Some a) (Some b) (Some c) read more p q = p ∙ ap (λ z. read ++ z) q
-    ∙ sym (append_assoc read more c)
-
-pub Consumes-kept : (a b c : Option Bytes) (read : Bytes) → Consumes a b read → Keeps b c →
-    Consumes a c read
-Consumes-kept None b c read p q = tt
-Consumes-kept (Some a) None c read p q = absurd p
-Consumes-kept (Some a) (Some b) None read p q = q
-Consumes-kept (Some a) (Some b) (Some c) read p q = rw q p
-
 -- in the loop of `serve`: all lines of what was read are answered, and the engine holds the
 -- incomplete line
 pub record Serving (limit : Option ℕ) {S : Type 0} (law : Law S) (m n : Snapshot S)
@@ -81,35 +64,6 @@ pub record Serving (limit : Option ℕ) {S : Type 0} (law : Law S) (m n : Snapsh
   pub limited : engine.limit ≡ limit
   pub buffered : engine.buffered ≡ kept_length limit engine.incomplete
   pub held : engine.held ≡ most_held limit [] pieces
-
--- one read more
-pub concat-more : (pieces : List Bytes) (piece : Bytes) → concat (pieces ++ piece ∷ []) ≡ concat pieces
-    ++ piece
-concat-more pieces piece = concat-append pieces (piece ∷ []) ∙ ap (λ end. concat pieces ++ end)
-    (append-nil piece)
-
-abbrev pub HasSize : Bytes → Type 0
-HasSize piece = (0 < length piece) × (length piece ≤ 4096)
-
-sized_pieces : (pieces : List Bytes) (piece : Bytes) → AllByRecursion HasSize pieces
-    → HasSize piece → AllByRecursion HasSize (pieces ++ piece ∷ [])
-sized_pieces [] piece each size = (size, tt)
-sized_pieces (first ∷ pieces) piece each size = (each.0, sized_pieces pieces piece each.1 size)
-
-pub WereRead-more : {i j k : InputState} {pieces : List Bytes} (piece : Bytes) → WereRead i j pieces []
-    → Consumes j.remaining k.remaining piece → k.reads ≡ j.reads ++ length piece ∷ []
-    → HasSize piece → WereRead i k (pieces ++ piece ∷ []) []
-WereRead-more {i} {j} {k} {pieces} piece so_far consumed reads size = record {
-  consumed =
-      rw (concat-more pieces piece)
-      (Consumes-then i.remaining j.remaining k.remaining (concat pieces) piece so_far.consumed
-      consumed);
-  reads = rw (append-nil, map-append)
-      (reads ∙ ap (λ reads. reads ++ length piece ∷ [])
-      (so_far.reads ∙ ap (λ reads. i.reads ++ reads) (append-nil (map length pieces)))
-      ∙ append_assoc i.reads (map length pieces) (length piece ∷ []));
-  sizes = sized_pieces pieces piece so_far.sizes size;
-}
 
 -- of an input that comes in one piece more
 most_held-more : (limit : Option ℕ) (incomplete : Bytes) (pieces : List Bytes) (piece : Bytes)
@@ -140,7 +94,7 @@ most_held-piece limit pieces piece most kept =
     rw (most_held-more limit [] pieces piece tt, most, kept) refl
 
 most_held-within : (limit : ℕ) (incomplete : Bytes) (pieces : List Bytes)
-    → AllByRecursion HasSize pieces → most_held (Some limit) incomplete pieces ≤ limit + 4096
+    → AllByRecursion HasPieceSize pieces → most_held (Some limit) incomplete pieces ≤ limit + 4096
 most_held-within limit incomplete [] each = omega arith
 most_held-within limit incomplete (piece ∷ pieces) each =
     omega (
@@ -155,11 +109,7 @@ module _ {limit : Option ℕ} {S : Type 0} {law : Law S} {m : Snapshot S} {i : I
       → Serving limit law m m i i engine 0
   Serving-start new = rw new record {
     pieces = [];
-    were_read = record {
-      consumed = Consumes-nothing i.remaining;
-      reads = sym (append-nil i.reads);
-      sizes = tt;
-    };
+    were_read = WereRead-start i;
     so_far = record { answered = AllAnswered-nothing law m; goes_on = refl };
     running = (refl, refl);
     incomplete = refl;
@@ -227,11 +177,11 @@ module _ {limit : Option ℕ} {S : Type 0} {law : Law S} {m : Snapshot S} {i : I
       whole = concat-more s.pieces piece
 
       -- a piece that was read
-      module _ (consumed : Consumes j.remaining k.remaining piece)
-          (reads : k.reads ≡ j.reads ++ length piece ∷ []) (size : HasSize piece)
+      module _ (given : HasRead j k piece)
+          (reads : k.reads ≡ j.reads ++ length piece ∷ []) (size : HasPieceSize piece)
           (quiet : k.failures ≡ j.failures) where
         were_read_so : WereRead i k (s.pieces ++ piece ∷ []) []
-        were_read_so = WereRead-more piece s.were_read consumed reads size
+        were_read_so = WereRead-more s.were_read piece given reads size
 
         -- and whose lines were answered
         module _ (after : Snapshot S) (all : AllAnswered law n run_with after) where
@@ -364,26 +314,17 @@ module _ {limit : Option ℕ} {S : Type 0} {law : Law S} {m : Snapshot S} {i : I
 
     pub Serving-all : (piece : Bytes) {count : ℕ} {served : Served} → Reports served engine
         → count ≡ 0 → k.reads ≡ j.reads ++ count ∷ [] →
-        Consumes j.remaining k.remaining (take count piece) → IsAtEnd k.remaining →
+        HasRead j k (take count piece) → IsAtEnd k.remaining →
         k.failures ≡ j.failures → AnsweredAll limit law m n i k served
     Serving-all piece {served} reports zero reads given at_end kept =
-        let known = Consumes-then i.remaining j.remaining k.remaining bytes_so_far in
-        let nothing : Consumes j.remaining k.remaining [] = rw zero at given in
+        let nothing : HasRead j k [] = rw zero at given in
         let nothing_after : after_end limit law m.state bytes_so_far ≡ [] =
         ap (λ ended. if ended then unread limit law m.state bytes_so_far else [])
         s.so_far.goes_on in
         let on : served.done ≡ false = reports.done ∙ s.running.1 in
         record {
           pieces = s.pieces;
-          were_read = rw on record {
-            consumed = rw (sym (append-nil bytes_so_far)) (known [] s.were_read.consumed nothing);
-            reads = (rw zero at reads)
-                ∙ ap (λ reads. reads ++ 0 ∷ [])
-                (s.were_read.reads
-                ∙ ap (λ reads. i.reads ++ reads) (append-nil (map length s.pieces)))
-                ∙ append_assoc i.reads (map length s.pieces) (0 ∷ []);
-            sizes = s.were_read.sizes;
-          };
+          were_read = rw on (WereRead-no_more s.were_read (0 ∷ []) nothing (rw zero at reads));
           ended = on ∙ sym s.so_far.goes_on;
           in_last = λ h. absurd (false≢true (sym on ∙ h));
           at_end = λ _. at_end;
@@ -395,17 +336,12 @@ module _ {limit : Option ℕ} {S : Type 0} {law : Law S} {m : Snapshot S} {i : I
           no_read_failed = kept ∙ s.no_read_failed;
         }
 
-    pub Serving-read_failed : Keeps j.remaining k.remaining → k.reads ≡ j.reads
+    pub Serving-read_failed : HasRead j k [] → k.reads ≡ j.reads
         → k.failures ≡ j.failures + 1 →
         ReadFailed limit law m n i k
-    Serving-read_failed kept reads counted = record {
+    Serving-read_failed nothing reads counted = record {
       pieces = s.pieces;
-      were_read = record {
-        consumed = Consumes-kept i.remaining j.remaining k.remaining bytes_so_far
-            s.were_read.consumed kept;
-        reads = reads ∙ s.were_read.reads;
-        sizes = s.were_read.sizes;
-      };
+      were_read = WereRead-no_more s.were_read [] nothing (reads ∙ sym (append-nil j.reads));
       answered = record { answered = s.so_far.answered; goes_on = s.so_far.goes_on };
       read_failed = counted ∙ ap (λ n. n + 1) s.no_read_failed;
     }
@@ -467,65 +403,93 @@ known_input P (Some input) None read consumed at_end it = absurd consumed
 known_input P (Some input) (Some rest) read consumed at_end it =
     it input rest refl consumed at_end
 
+-- what all pieces come to
+pub AnsweredAll-serves : {limit : Option ℕ} {S : Type 0} {law : Law S} {m n : Snapshot S}
+    {i k : InputState} {served : Served} → AnsweredAll limit law m n i k served
+    → Serves limit law m n i k served
+AnsweredAll-serves {limit} {law} {m} {i} all = record {
+  read = concat all.pieces;
+  given = all.were_read.given;
+  at_end = λ on. WereRead-ended (all.at_end on) (rw on at all.were_read);
+  written = all.answered.written;
+  flushed = all.answered.flushed;
+  state = all.answered.ends_at;
+  done = all.ended;
+  tested = all.scanned;
+  left = all.left;
+  read_back = ReadsBack-encoded (replies law m.state (run_for limit law m.state (concat all.pieces)));
+}
+
+pub served_serves : {S : Type 0} (limit : Option ℕ) (law : Law S) (m n : Snapshot S)
+    (i k : InputState) (result : Result Served ServeError)
+    → IfOk result (AnsweredAll limit law m n i k) → IfOk result (Serves limit law m n i k)
+served_serves limit law m n i k (Ok served) all = AnsweredAll-serves all
+served_serves limit law m n i k (Err error) all = tt
+
 module _ {limit : Option ℕ} {S : Type 0} {law : Law S} {m n : Snapshot S} {i k : InputState}
-    {served : Served} (all : AnsweredAll limit law m n i k served) where
-  module _ (input rest : Bytes) (is : k.remaining ≡ Some rest)
-      (whole : input ≡ (concat all.pieces) ++ rest)
+    {served : Served} (s : Serves limit law m n i k served) where
+  module _ (input rest : Bytes) (is : k.remaining ≡ Some rest) (whole : input ≡ s.read ++ rest)
       (end : served.done ≡ false → rest ≡ [])
-      (alike : AlikeRead limit law m.state input (concat all.pieces) rest whole served.done) where
+      (alike : AlikeRead limit law m.state input s.read rest whole served.done) where
     -- where the run ended and nothing is left, what was not read is all that follows its end
     not_read : served.done ≡ true → served.left ≡ 0 → after_end limit law m.state input ≡ rest
     not_read done none =
-        let nothing : after_end limit law m.state (concat all.pieces) ≡ [] =
-        ap (λ ended. if ended then unread limit law m.state (concat all.pieces) else [])
-        (sym all.ended ∙ done)
-        ∙ no_bytes (unread limit law m.state (concat all.pieces)) (omega (arith, none, all.left)) in
+        let nothing : after_end limit law m.state s.read ≡ [] =
+        ap (λ ended. if ended then unread limit law m.state s.read else [])
+        (sym s.done ∙ done)
+        ∙ no_bytes (unread limit law m.state s.read) (omega (arith, none, s.left)) in
         alike.more_after_end ∙ ap (λ bytes. bytes ++ rest) nothing
       where
         no_bytes : (bytes : Bytes) → length bytes ≡ 0 → bytes ≡ []
         no_bytes [] h = refl
         no_bytes (b ∷ bytes) h = absurd (omega (arith, h))
 
-    serves : Serves limit law m n k.remaining served input
-    serves = record {
+    known : ServesKnown limit law m n k.remaining served input
+    known = record {
       written = subst (λ run. Appends m.output.written n.output.written (text_of law m.state run))
-          (sym alike.same_run) all.answered.written;
-      state = all.answered.ends_at ∙ ap (last_state law m.state) (sym alike.same_run);
+          (sym alike.same_run) s.written.known;
+      state = s.state ∙ ap (last_state law m.state) (sym alike.same_run);
       done = alike.same_end;
       tested = omega (
         arith,
-        all.scanned,
+        s.tested,
         ap length whole,
-        length-append (concat all.pieces) rest,
+        length-append s.read rest,
         ap length alike.more_after_end,
-        length-append (after_end limit law m.state (concat all.pieces)) rest,
+        length-append (after_end limit law m.state s.read) rest,
       );
-      read = concat all.pieces;
+      read = s.read;
       rest = rest;
       whole = whole;
       to_be_read = is;
       at_end = end;
-      left = all.left
+      left = s.left
           ∙ ap saturating_u64
           (omega (
             arith,
             ap length alike.more_unread,
-            length-append (unread limit law m.state (concat all.pieces)) rest,
+            length-append (unread limit law m.state s.read) rest,
           ));
       not_read = not_read;
       read_back = ReadsBack-encoded (replies law m.state (run_for limit law m.state input));
     }
 
-  pub AnsweredAll-serves : IfSome i.remaining (Serves limit law m n k.remaining served)
-  AnsweredAll-serves =
-      known_input (Serves limit law m n k.remaining served) i.remaining k.remaining
-      (concat all.pieces) all.were_read.consumed all.at_end
-      (λ input rest is whole end. serves input rest is whole end
-      (alike_read limit law m.state input (concat all.pieces) rest whole served.done all.ended
-      end))
+  pub Serves-known : IfSome i.remaining (ServesKnown limit law m n k.remaining served)
+  Serves-known =
+      known_input (ServesKnown limit law m n k.remaining served) i.remaining k.remaining s.read
+      s.given.known (λ on. (s.at_end on).none_left)
+      (λ input rest is whole end. known input rest is whole end
+      (alike_read limit law m.state input s.read rest whole served.done s.done end))
 
 -- the bound
 pub AnsweredAll-bound : {limit : ℕ} {S : Type 0} {law : Law S} {m n : Snapshot S} {i k : InputState}
     {served : Served} → AnsweredAll (Some limit) law m n i k served → served.held ≤ limit + 4096
 AnsweredAll-bound {limit} all =
     omega (arith, all.held, most_held-within limit [] all.pieces all.were_read.sizes)
+
+pub served_limited : {S : Type 0} (limit : ℕ) (law : Law S) (m n : Snapshot S) (i k : InputState)
+    (result : Result Served ServeError) → IfOk result (AnsweredAll (Some limit) law m n i k)
+    → IfOk result (Serves (Some limit) law m n i k)
+    × IfOk result (λ served. served.held ≤ limit + 4096)
+served_limited limit law m n i k (Ok served) all = (AnsweredAll-serves all, AnsweredAll-bound all)
+served_limited limit law m n i k (Err error) all = (tt, tt)

@@ -1,14 +1,13 @@
 -- How a run ended: which of its events were answered, why no more were, and what was written and
 -- flushed.
 use Rattle.std.specs.Prelude.{◌≡◌, ⊤, ℕ, ◌+◌, ◌⊎◌, List, [], ◌∷◌, ◌++◌, length, Option, Result, Err, MatchResult}
-use Rattle.std.specs.Io.KnownBytes.{Appends}
 use Rattle.unftp_control_defs.specs.Bytes.{Bytes}
 use Rattle.unftp_control_defs.specs.Events.{Fault, FtpEvent}
 use Rattle.unftp_control_defs.specs.FtpReply.{Nothing, encoded}
 use Rattle.unftp_control_defs.specs.Run.{Law, after_lines, last_state, run_for, text_of}
 use Rattle.unftp_control_reply.specs.ErrorMeaning.{fault_of}
 use Rattle.unftp_control_serve.specs.Decoder.{MayRunOut}
-use Rattle.unftp_control_serve.specs.Writing.{OutputState, output_state_of, Begins, Flushed}
+use Rattle.unftp_control_serve.specs.Writing.{OutputState, output_state_of, Begins, Flushed, HasWritten}
 use Rattle.unftp_control_serve.specs.declared.output.Output.{Output}
 use Rattle.unftp_control_serve.specs.declared.error.ServeError.{ServeError}
 use Rattle.unftp_control_serve.specs.declared.error.ServeError.TheVariants as error
@@ -85,7 +84,7 @@ handler_failures _ = 0
 pub record RunEnded {S : Type 0} (law : Law S) (before : Snapshot S) (done later : List FtpEvent)
     (cause : Cause) (after : Snapshot S) : Type 0 where
   pub ends_at : EndsAt law cause (last_state law before.state done) later after.state
-  pub written : Appends before.output.written after.output.written
+  pub written : HasWritten before.output after.output
       (text_until (text_of law before.state done) cause)
   pub flushed : Flushed (text_of law before.state done) (part_written cause)
       before.output.unflushed after.output.unflushed

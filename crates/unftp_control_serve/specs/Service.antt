@@ -1,42 +1,21 @@
 -- What a whole service comes to.
-use Rattle.std.specs.Prelude.{◌≡◌, ℕ, ◌+◌, ◌-◌, ◌^◌, ◌<◌, ◌≤◌, ◌⊎◌, max, true, false, List, [], ◌∷◌, ◌++◌, if◌then◌else◌, length, map, Option, Some}
+use Rattle.std.specs.Prelude.{◌≡◌, ℕ, ◌+◌, ◌-◌, ◌^◌, ◌≤◌, ◌⊎◌, max, true, false, List, [], ◌∷◌, ◌++◌, if◌then◌else◌, length, Option, Some}
 use Rattle.std.specs.List.{AllByRecursion, concat}
-use Rattle.std.specs.Io.KnownBytes.{Appends, Consumes, IsAtEnd}
+use Rattle.std.specs.Io.KnownBytes.{Appends, IsAtEnd}
 use Rattle.unftp_control_defs.specs.Bytes.{Bytes}
 use Rattle.unftp_control_defs.specs.Events.{FtpEvent, events}
 use Rattle.unftp_control_defs.specs.FtpReply.{IsPlain}
+use Rattle.unftp_control_defs.specs.Input.{InputState, HasEnded, HasRead, WereRead}
 use Rattle.unftp_control_defs.specs.Lines.{incomplete_line}
 use Rattle.unftp_control_defs.specs.ReplyReader.{ReadsBack}
 use Rattle.unftp_control_defs.specs.Run.{Law, last_state, replies, run_for, ends_for, text_for, unread, after_end}
-use Rattle.unftp_control_serve.specs.Writing.{Begins}
+use Rattle.unftp_control_serve.specs.Writing.{Begins, Flushed, HasWritten}
 use Rattle.unftp_control_serve.specs.Endings.{Snapshot, AllAnswered, RunFailed}
 use Rattle.unftp_control_serve.specs.Decoder.{kept_length, saturating_u64}
 use Rattle.unftp_control_serve.specs.Engine.{EngineState}
-use Rattle.unftp_control_serve.specs.declared.input.Input.{Input}
 use Rattle.unftp_control_serve.specs.declared.service.Served.{Served}
 use Rattle.unftp_control_serve.specs.declared.error.ServeError.{ServeError}
 use Rattle.unftp_control_serve.specs.declared.error.ServeError.TheVariants.{Read, Write, WriteZero, Handler, OutOfMemory, TooManyReads}
-
--- What contracts see of an input: the bytes that are not read yet, where the reader's contracts
--- know them; how many bytes each read gave; and how often one failed.
-pub record InputState : Type 0 where
-  pub remaining : Option Bytes
-  pub reads : List ℕ
-  pub failures : ℕ
-
-abbrev pub input_state_of : {R : Type 0} → (R → Option Bytes) → Input R → InputState
-input_state_of remaining input = record {
-  remaining = remaining input.reader;
-  reads = input.reads;
-  failures = input.failures;
-}
-
--- Each of these pieces was read, of at least one byte and at most 4,096, and then as many bytes as
--- `more` says.
-pub record WereRead (input input' : InputState) (pieces : List Bytes) (more : List ℕ) : Type 0 where
-  pub consumed : Consumes input.remaining input'.remaining (concat pieces)
-  pub reads : input'.reads ≡ input.reads ++ (map length pieces ++ more)
-  pub sizes : AllByRecursion (λ piece. (0 < length piece) × (length piece ≤ 4096)) pieces
 
 -- what is returned of an engine
 pub record Reports (served : Served) (engine : EngineState) : Type 0 where
@@ -129,16 +108,41 @@ module _ (limit : Option ℕ) {S : Type 0} (law : Law S) (before after : Snapsho
   ServeEnded TooManyReads = ReadTooOften
   ServeEnded _ = ⊥
 
--- What it means at Ok that an input was served, whatever pieces it came in.
+-- What it means at Ok that a session was served, whatever pieces its input came in.
 pub record Serves (limit : Option ℕ) {S : Type 0} (law : Law S) (before after : Snapshot S)
+    (input input' : InputState) (served : Served) : Type 0 where
+  -- The reads gave these bytes; and where the handler didn't end the session, the last one was of
+  -- none, at the reader's end.
+  pub read : Bytes
+  pub given : HasRead input input' read
+  pub at_end : served.done ≡ false → HasEnded input'
+  -- The writes took exactly the replies to the lines of these bytes, up to the line that left the
+  -- handler done, and they were flushed.
+  pub written : HasWritten before.output after.output (text_for limit law before.state read)
+  pub flushed : Flushed (text_for limit law before.state read) [] before.output.unflushed
+      after.output.unflushed
+  -- The handler is in the last state of this run;
+  pub state : after.state ≡ last_state law before.state (run_for limit law before.state read)
+  pub done : served.done ≡ ends_for limit law before.state read
+  -- and each byte was scanned for a line feed exactly once, but those after that line.
+  pub tested : served.tests + length (after_end limit law before.state read) ≡ length read
+  -- So many bytes came after the last line of the run.
+  pub left : served.left ≡ saturating_u64 (length (unread limit law before.state read))
+  -- What was written is read as what the replies show, and as nothing else, where each is plain.
+  pub read_back : AllByRecursion IsPlain
+      (replies law before.state (run_for limit law before.state read))
+      → ReadsBack (text_for limit law before.state read)
+      (replies law before.state (run_for limit law before.state read))
+
+-- What follows where the bytes of the whole input are known, read or not, as those of a slice are:
+-- what was read may be a part of it, where the handler ended the session, and the same is so of
+-- all.
+pub record ServesKnown (limit : Option ℕ) {S : Type 0} (law : Law S) (before after : Snapshot S)
     (remaining : Option Bytes) (served : Served) (input : Bytes) : Type 0 where
-  -- Exactly the replies to its lines were written, up to the line that left the handler done,
   pub written : Appends before.output.written after.output.written
       (text_for limit law before.state input)
-  -- which is in the last state of this run;
   pub state : after.state ≡ last_state law before.state (run_for limit law before.state input)
   pub done : served.done ≡ ends_for limit law before.state input
-  -- and each byte was scanned for a line feed exactly once, but those after that line.
   pub tested : served.tests + length (after_end limit law before.state input) ≡ length input
   -- These bytes were read, and the reader has yet to give the others: none, where the handler
   -- didn't end the session. `left` is how many were read of those after the last line of the run.
@@ -152,7 +156,6 @@ pub record Serves (limit : Option ℕ) {S : Type 0} (law : Law S) (before after 
   -- Where the handler ended the session and no byte is left, they are all that come after its end.
   pub not_read : served.done ≡ true → served.left ≡ 0
       → after_end limit law before.state input ≡ rest
-  -- What was written is read as what the replies show, and as nothing else, where each is plain.
   pub read_back : AllByRecursion IsPlain
       (replies law before.state (run_for limit law before.state input))
       → ReadsBack (text_for limit law before.state input)

@@ -1,5 +1,5 @@
 -- What writing does to an output.
-use Rattle.std.specs.Prelude.{◌≡◌, ℕ, ◌+◌, ◌≤◌, ◌==◌, ◌&&◌, not, if◌then◌else◌, [], ◌∷◌, ◌++◌, length, List, Option, Some, Result, MatchResult}
+use Rattle.std.specs.Prelude.{◌≡◌, ℕ, ◌+◌, ◌≤◌, ◌==◌, ◌&&◌, not, if◌then◌else◌, [], ◌∷◌, ◌++◌, length, take, List, Option, Some, Result, MatchResult}
 use Rattle.std.specs.Io.KnownBytes.{Appends}
 use Rattle.std.specs.declared.vec.Vec.{Vec}
 use Rattle.std.specs.declared.alloc.Global.{Global}
@@ -8,38 +8,52 @@ use Rattle.unftp_control_serve.specs.declared.output.Output.{Output}
 use Rattle.unftp_control_serve.specs.declared.error.ServeError.{ServeError}
 use Rattle.unftp_control_serve.specs.declared.error.ServeError.TheVariants.{Write, WriteZero, OutOfMemory}
 
--- What contracts see of an output: what was written, where the writer's contracts say
--- it; how often it failed; and how many bytes were written since it was last flushed.
+-- What contracts see of an output: all bytes that its writes took, and how many of the last of them
+-- were not flushed; and how often it failed. And the bytes that were written, where the writer's
+-- own contracts know them: those of a vector do, and those of a socket don't.
 pub record OutputState : Type 0 where
-  pub written : Option Bytes
-  pub failures : ℕ
+  pub taken : Bytes
   pub unflushed : ℕ
+  pub failures : ℕ
+  pub written : Option Bytes
 
 -- of an output over a writer with these written bytes
 abbrev pub output_state_of : {W : Type 0} → (W → Option Bytes) → Output W → OutputState
 output_state_of contents output = record {
-  written = contents output.writer;
-  failures = output.failures;
+  taken = output.taken;
   unflushed = output.unflushed;
+  failures = output.failures;
+  written = contents output.writer;
 }
 
--- of a vector that replies are appended to: no write to it fails, and nothing is left to flush
-abbrev pub appended_state_of : Vec ℕ Global → OutputState
-appended_state_of bytes = record { written = Some bytes.items; failures = 0; unflushed = 0 }
+-- of bytes that replies are appended to: no write to them fails, and nothing is left to flush
+abbrev pub appended_output : Bytes → OutputState
+appended_output bytes =
+    record { taken = bytes; unflushed = 0; failures = 0; written = Some bytes }
 
--- One write of so many bytes: an error is a failure, and so is a write that takes nothing of bytes
--- that are not empty.
-abbrev pub CountsWrite : {E : Type 0} → Result ℕ E → ℕ → ℕ → ℕ → ℕ → ℕ → Type 0
-CountsWrite result len failures failures' unflushed unflushed' = MatchResult result
-    (λ n. (failures' ≡ failures + (if n == 0 && not (len == 0) then 1 else 0))
-    × (unflushed' ≡ unflushed + n))
-    (λ _. (failures' ≡ failures + 1) × (unflushed' ≡ unflushed))
+abbrev pub appended_state_of : Vec ℕ Global → OutputState
+appended_state_of bytes = appended_output bytes.items
+
+-- The writes took exactly these bytes; where it is known what is written, it grew by them.
+pub record HasWritten (before after : OutputState) (bytes : Bytes) : Type 0 where
+  pub taken : after.taken ≡ before.taken ++ bytes
+  pub known : Appends before.written after.written bytes
+
+-- One write of these bytes, at Ok of the first `n`. An error is a failure, and nothing was written
+-- then; and so is a write that takes nothing of bytes that are not empty.
+abbrev pub OneWrite : {E : Type 0} → Result ℕ E → Bytes → OutputState → OutputState → Type 0
+OneWrite result bytes before after = MatchResult result
+    (λ n. HasWritten before after (take n bytes)
+    × (after.failures ≡ before.failures + (if n == 0 && not (length bytes == 0) then 1 else 0))
+    × (after.unflushed ≡ before.unflushed + n))
+    (λ _. HasWritten before after []
+    × (after.failures ≡ before.failures + 1) × (after.unflushed ≡ before.unflushed))
 
 -- one flush
-abbrev pub CountsFlush : {T E : Type 0} → Result T E → ℕ → ℕ → ℕ → ℕ → Type 0
-CountsFlush result failures failures' unflushed unflushed' = MatchResult result
-    (λ _. (failures' ≡ failures) × (unflushed' ≡ 0))
-    (λ _. (failures' ≡ failures + 1) × (unflushed' ≡ unflushed))
+abbrev pub OneFlush : {T E : Type 0} → Result T E → OutputState → OutputState → Type 0
+OneFlush result before after = HasWritten before after [] × MatchResult result
+    (λ _. (after.failures ≡ before.failures) × (after.unflushed ≡ 0))
+    (λ _. (after.failures ≡ before.failures + 1) × (after.unflushed ≡ before.unflushed))
 
 -- the whole begins with this part
 abbrev pub Begins : {A : Type 0} → List A → List A → Type 0
@@ -52,13 +66,13 @@ Flushed (b ∷ text) part unflushed unflushed' = unflushed' ≤ length part
 
 -- the bytes were written, and not flushed
 pub record Wrote (bytes : Bytes) (before after : OutputState) : Type 0 where
-  pub written : Appends before.written after.written bytes
+  pub written : HasWritten before after bytes
   pub no_failure : after.failures ≡ before.failures
   pub unflushed : after.unflushed ≡ before.unflushed + length bytes
 
 -- the bytes were written, and flushed where there are any
 pub record Sent (bytes : Bytes) (before after : OutputState) : Type 0 where
-  pub written : Appends before.written after.written bytes
+  pub written : HasWritten before after bytes
   pub no_failure : after.failures ≡ before.failures
   pub flushed : Flushed bytes [] before.unflushed after.unflushed
 
@@ -66,7 +80,7 @@ pub record Sent (bytes : Bytes) (before after : OutputState) : Type 0 where
 pub record CutShort (bytes : Bytes) (before after : OutputState) : Type 0 where
   pub part : Bytes
   pub begins : Begins bytes part
-  pub written : Appends before.written after.written part
+  pub written : HasWritten before after part
   pub failure : after.failures ≡ before.failures + 1
   pub unflushed : after.unflushed ≤ before.unflushed + length part
 

@@ -15,9 +15,9 @@ use unftp_control_reply::error::{ControlChanError, ControlChanErrorKind};
 /// Cuts an input that comes in pieces into lines, and returns the event of each: for a server with
 /// an event loop of its own. A piece is pushed, and events are taken until there is none; between
 /// two of them the server does what it likes, and after the last it may clear what is pending.
-// There is no line feed between the first pending byte and the codec's scan offset, which counts from
-// there. Where the codec has a limit, it keeps no bytes of a line that is longer: they are `skipped`.
-// The last `line` bytes that were taken are those of the event that was returned last.
+// There is no line feed between the first pending byte and the codec's scan offset, which counts
+// from there. Where the codec has a limit, it keeps no bytes of a line that is longer: they are
+// `skipped`. The last `line` bytes that were taken are those of the event that was returned last.
 #[derive(Drop)]
 pub struct EventDecoder {
     codec: FtpCodec,
@@ -75,18 +75,18 @@ impl EventDecoder {
         }
     }
 
-    /// The pending bytes: those after the last line that was taken. Those of a line that is too long
-    /// are not among them, once they were dropped. Where `next_event` has returned `None`, they are
-    /// an incomplete line.
+    /// The pending bytes: those after the last line that was taken. Those of a line that is too
+    /// long are not among them, once they were dropped. Where `next_event` has returned `None`,
+    /// they are an incomplete line.
     pub fn pending(&self) -> &[u8]
         ensures { result.now ≡ kept_bytes self.now }
     {
         self.buffer.pending()
     }
 
-    /// The bytes of the line whose event the last call of `next_event` returned, its line feed among
-    /// them; empty where the line is too long, where that call returned no event, and after `push` or
-    /// `clear`.
+    /// The bytes of the line whose event the last call of `next_event` returned, its line feed
+    /// among them; empty where the line is too long, where that call returned no event, and after
+    /// `push` or `clear`.
     pub fn line(&self) -> &[u8]
         ensures { result.now ≡ self.now.line }
     {
@@ -118,8 +118,8 @@ impl EventDecoder {
         self.held.same()
     }
 
-    /// Appends a piece to the pending bytes. When out of memory, nothing changes; it never is for an
-    /// empty piece.
+    /// Appends a piece to the pending bytes. When out of memory, nothing changes; it never is for
+    /// an empty piece.
     pub fn push(&mut self, piece: &[u8]) -> Result<(), AllocError>
         ensures ok { OnOk result (self.new ≡ pushed self.old piece.now) }
         ensures err { OnErr result (self.new ≡ self.old) }
@@ -133,8 +133,8 @@ impl EventDecoder {
     }
 
     /// Takes the first line of the pending bytes, and returns its event (RFC 959, section 5.3), or
-    /// `None` where no line is complete. When out of memory, the line stays, and the next call finds
-    /// it again; it never is for a line that is too long, or whose command takes no value.
+    /// `None` where no line is complete. When out of memory, the line stays, and the next call
+    /// finds it again; it never is for a line that is too long, or whose command takes no value.
     ///
     /// Where it returns `None`, its buffer holds the pending bytes only: so with a limit, where all
     /// events are taken before the next piece is pushed, it never holds more than the limit and one

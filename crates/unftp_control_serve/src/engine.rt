@@ -168,9 +168,9 @@ impl Engine {
         }
     }
 
-    /// How many bytes came after the last line that was taken, of what was fed by calls that returned
-    /// `Ok`: after the last line feed, or, once the run has ended, after the line that ended it; or
-    /// `u64::MAX` where there are more.
+    /// How many bytes came after the last line that was taken, of what was fed by calls that
+    /// returned `Ok`: after the last line feed, or, once the run has ended, after the line that
+    /// ended it; or `u64::MAX` where there are more.
     pub fn left(&self) -> u64
         ensures { result ≡ self.now.left }
     {

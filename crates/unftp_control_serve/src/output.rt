@@ -1,44 +1,48 @@
-//! A writer whose failures and unflushed bytes are counted.
-ghost use Rattle.std.specs.Prelude.{◌≡◌, length};
+//! A writer whose writes are recorded.
+ghost use Rattle.std.specs.Prelude.{◌≡◌, []};
 ghost use Rattle.std.specs.Io.{WritesAtMost};
-ghost use Rattle.std.specs.Io.KnownBytes.{Keeps, WriteAppends};
-ghost use Rattle.unftp_control_serve.specs.Writing.{CountsWrite, CountsFlush};
+ghost use Rattle.unftp_control_serve.specs.Writing.{OneFlush, OneWrite, output_state_of};
 
 use std::io;
 use std::io::Write;
-use unftp_control_defs::count::Count;
+use unftp_control_defs::count::{Count, Trace};
 
-/// A writer with a count of its failures and one of the bytes that were written since it was last
-/// flushed, which take no byte and which only contracts see.
+/// A writer with a record of all bytes that its writes took, of how many of the last of them were
+/// not flushed, and of how often it failed. The record takes no byte, and only contracts see it.
 #[derive(Drop)]
 pub struct Output<W> {
     writer: W,
-    failures: Count,
+    taken: Trace,
     unflushed: Count,
+    failures: Count,
 }
 
 impl<W: Write> Output<W> {
     /// This writer, which has not failed so far.
     pub fn new(writer: W) -> Output<W>
         ensures writer { result.writer ≡ writer }
-        ensures failures { result.failures ≡ 0 }
+        ensures taken { result.taken ≡ [] }
         ensures unflushed { result.unflushed ≡ 0 }
+        ensures failures { result.failures ≡ 0 }
     {
         Output {
             writer,
-            failures: Count::new(),
+            taken: Trace::new(),
             unflushed: Count::new(),
+            failures: Count::new(),
         }
     }
 
-    /// The writer, as the last call left it: bytes that were not flushed are still not.
+    /// The writer, as the last call left it: bytes that were not flushed are still not. What is
+    /// written to it then is in no record.
     pub fn into_inner(self) -> W
         ensures { result ≡ self.writer }
     {
         let Output {
             writer,
-            failures: _,
+            taken: _,
             unflushed: _,
+            failures: _,
         } = self;
         writer
     }
@@ -47,14 +51,13 @@ impl<W: Write> Output<W> {
     /// bytes that are not empty.
     pub(crate) fn write(&mut self, bytes: &[u8]) -> io::Result<usize>
         ensures bound { WritesAtMost result bytes.now }
-        ensures bytes { WriteAppends (W.contents self.old.writer)
-            (W.contents self.new.writer) result bytes.now }
-        ensures counts { CountsWrite result (length bytes.now)
-            self.old.failures self.new.failures self.old.unflushed self.new.unflushed }
+        ensures wrote { OneWrite result bytes.now
+            (output_state_of W.contents self.old) (output_state_of W.contents self.new) }
     {
         let result = self.writer.write(bytes);
         match &result {
             Ok(n) => {
+                self.taken.extend_by(bytes, *n);
                 self.unflushed.raise_by(*n);
                 if *n == 0 && !bytes.is_empty() {
                     self.failures.raise();
@@ -67,9 +70,8 @@ impl<W: Write> Output<W> {
 
     /// Flushes once. Each error counts.
     pub(crate) fn flush(&mut self) -> io::Result<()>
-        ensures bytes { Keeps (W.contents self.old.writer) (W.contents self.new.writer) }
-        ensures counts { CountsFlush result
-            self.old.failures self.new.failures self.old.unflushed self.new.unflushed }
+        ensures flushed { OneFlush result
+            (output_state_of W.contents self.old) (output_state_of W.contents self.new) }
     {
         let result = self.writer.flush();
         match &result {

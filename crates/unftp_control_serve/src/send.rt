@@ -20,8 +20,8 @@ pub trait Sink {
     ghost allocates: { Type 0 };
 
     /// Sends the bytes of a reply; where there are none, it does nothing, at `Ok`. At `Write` and
-    /// `WriteZero` a beginning of them may be written; at `OutOfMemory` none is. It returns no other
-    /// error.
+    /// `WriteZero` a beginning of them may be written; at `OutOfMemory` none is. It returns no
+    /// other error.
     fn send(&mut self, bytes: &[u8]) -> Result<(), ServeError>
         ensures sends { Sends result bytes.now (state self.old) (state self.new) }
         ensures cuts { OnWrite result cuts }

@@ -1,16 +1,18 @@
 //! A whole connection, from the first read to the end of the input.
-ghost use Rattle.std.specs.Prelude.{◌≤◌, ◌+◌, None, Some, IfOk, IfErr, IfSome};
-ghost use Rattle.unftp_control_serve.specs.Endings.{snapshot_of};
-ghost use Rattle.unftp_control_serve.specs.Service.{AnsweredAll, Reports, ServeEnded, Serves, input_state_of};
+ghost use Rattle.std.specs.Prelude.{◌≤◌, ◌+◌, ℕ, None, Some, Option, IfOk, IfErr, IfSome};
+ghost use Rattle.unftp_control_serve.specs.Endings.{Snapshot, snapshot_of};
+ghost use Rattle.unftp_control_defs.specs.Input.{InputState, input_state_of};
+ghost use Rattle.unftp_control_serve.specs.Service.{AnsweredAll, Reports, ServeEnded, Serves, ServesKnown};
+ghost use Rattle.unftp_control_serve.specs.declared.service.Served.{Served as Report};
 
 use crate::engine::Engine;
 use crate::error::ServeError;
 use crate::handler::Handler;
-use crate::input::Input;
 use crate::output::Output;
 use std::alloc::Global;
 use std::io::{Read, Write};
 use unftp_control_defs::count::Count;
+use unftp_control_defs::input::Input;
 
 /// What `serve` returns at the end of its input, or of the session.
 #[derive(Drop)]
@@ -36,27 +38,28 @@ const PIECE: usize = 4096;
 /// Once the handler is done, no later byte is parsed.
 ///
 /// At `Ok` the reader has come to its end, or the handler is done. `Read` is a failed read, after
-/// which all complete lines are answered; `Write` and `WriteZero` are a failed write or flush, after
-/// which a beginning of a reply may be written; `Handler` and `OutOfMemory` are a failed handler or
-/// allocation, after which the replies to the lines before are written and flushed; `TooManyReads`
-/// comes after 2^64 - 1 reads. It is never `Stopped`.
+/// which all complete lines are answered; `Write` and `WriteZero` are a failed write or flush,
+/// after which a beginning of a reply may be written; `Handler` and `OutOfMemory` are a failed
+/// handler or allocation, after which the replies to the lines before are written and flushed;
+/// `TooManyReads` comes after 2^64 - 1 reads. It is never `Stopped`.
 ///
 /// A line may have any length, and all its bytes are kept until its line feed comes: for input that
 /// is not trusted, use `serve_with_limit`.
+#[tactic(auto, using(crate::proofs::ServiceLemmas::served_serves))]
 pub fn serve<R: Read, W: Write, H: Handler>(
     alloc: Global,
     reader: &mut Input<R>,
     writer: &mut Output<W>,
     handler: &mut H,
 ) -> Result<Served, ServeError>
-    // At Ok, of a reader whose bytes contracts know: what was written, in which state the handler
-    // is, and what was read and scanned.
-    ensures serves { IfOk result (λ served. IfSome (R.remaining reader.old.reader)
-        (Serves None H.law
+    // At Ok, of any reader and any writer: what was read and written, in which state the handler
+    // is, and what was scanned.
+    ensures serves { IfOk result (Serves None H.law
         (snapshot_of H.state H.failures W.contents handler.old writer.old)
         (snapshot_of H.state H.failures W.contents handler.new writer.new)
-        (R.remaining reader.new.reader) served)) }
-    // At Ok, of any reader, with what was flushed and held; and what is so at each error.
+        (input_state_of R.remaining reader.old)
+        (input_state_of R.remaining reader.new)) }
+    // In which pieces it was read, and what was held; and what is so at each error.
     ensures ok { IfOk result (AnsweredAll None H.law
         (snapshot_of H.state H.failures W.contents handler.old writer.old)
         (snapshot_of H.state H.failures W.contents handler.new writer.new)
@@ -71,11 +74,12 @@ pub fn serve<R: Read, W: Write, H: Handler>(
     serve_lines(alloc, None, reader, writer, handler)
 }
 
-/// As `serve`, with a limit: a line of more than `limit` bytes, its line feed counted, gets one event,
-/// a refusal with `LineTooLong`, whatever it holds (RFC 959 names no limit). Its bytes are dropped
-/// once they are too many, so at most `limit` and 4,096 bytes of the input are held.
+/// As `serve`, with a limit: a line of more than `limit` bytes, its line feed counted, gets one
+/// event, a refusal with `LineTooLong`, whatever it holds (RFC 959 names no limit). Its bytes are
+/// dropped once they are too many, so at most `limit` and 4,096 bytes of the input are held.
 ///
 /// `left` counts the dropped bytes too. The errors are those of `serve`.
+#[tactic(auto, using(crate::proofs::ServiceLemmas::served_limited))]
 pub fn serve_with_limit<R: Read, W: Write, H: Handler>(
     alloc: Global,
     limit: usize,
@@ -85,11 +89,11 @@ pub fn serve_with_limit<R: Read, W: Write, H: Handler>(
 ) -> Result<Served, ServeError>
     requires { 1 ≤ limit }
     // What `serve` says, under the limit.
-    ensures serves { IfOk result (λ served. IfSome (R.remaining reader.old.reader)
-        (Serves (Some limit) H.law
+    ensures serves { IfOk result (Serves (Some limit) H.law
         (snapshot_of H.state H.failures W.contents handler.old writer.old)
         (snapshot_of H.state H.failures W.contents handler.new writer.new)
-        (R.remaining reader.new.reader) served)) }
+        (input_state_of R.remaining reader.old)
+        (input_state_of R.remaining reader.new)) }
     // At Ok the buffer has held at most the limit and one piece.
     ensures bound { IfOk result (λ served. served.held ≤ limit + 4096) }
     ensures ok { IfOk result (AnsweredAll (Some limit) H.law
@@ -106,8 +110,8 @@ pub fn serve_with_limit<R: Read, W: Write, H: Handler>(
     serve_lines(alloc, Some(limit), reader, writer, handler)
 }
 
-/// Answers the lines that the reader gives. A line may have so many bytes, its line feed counted, if
-/// that is limited.
+/// Answers the lines that the reader gives. A line may have so many bytes, its line feed counted,
+/// if that is limited.
 fn serve_lines<R: Read, W: Write, H: Handler>(
     alloc: Global,
     limit: Option<usize>,
@@ -158,3 +162,12 @@ fn served_by(engine: &Engine) -> Served
         held: engine.held(),
     }
 }
+
+/// What follows of `Serves` where the bytes of the whole input are known, read or not, as those of
+/// a slice are.
+pub fn known_input_is_served<H: Handler>()
+    ensures { (limit : Option ℕ) (before after : Snapshot H.State) (input input_after : InputState)
+        (served : Report) → Serves limit H.law before after input input_after served
+        → IfSome input.remaining
+        (ServesKnown limit H.law before after input_after.remaining served) }
+{}

@@ -6,6 +6,7 @@ use calling::client::{first_code, next_code, tls_agreed};
 use calling::codec::{answer, first_is_noop, next_is_noop};
 use calling::conversation::{Conversation, ConverseError, Turn as Told, converse};
 use calling::event_loop::{Turn, answer_next};
+use calling::first::answer_client;
 use calling::handler::Basic;
 use calling::lines::log_line;
 use calling::pieces::{answer_pieces, replies_to_pieces};
@@ -72,7 +73,7 @@ fn assert_first(rt: &impl Abort, alloc: Global, bytes: &[u8], want: Option<(u16,
 /// A client that was greeted.
 fn greeted(rt: &impl Abort, alloc: Global) -> Client {
     let mut client = Client::new(alloc);
-    let mut greeting = b"220 ready\r\n".as_slice();
+    let mut greeting = Input::new(b"220 ready\r\n".as_slice());
     let taken = client.read_reply(&mut greeting).expect(rt, "a reply");
     assert!(rt; taken.is_some());
     drop(taken);
@@ -94,9 +95,9 @@ fn asking_for_tls(rt: &impl Abort, alloc: Global) -> Client {
 }
 
 /// The client begins TLS, or doesn't, where the server then sends this.
-fn assert_agreed(rt: &impl Abort, alloc: Global, mut sent: &[u8], want: bool) {
+fn assert_agreed(rt: &impl Abort, alloc: Global, sent: &[u8], want: bool) {
     let mut client = asking_for_tls(rt, alloc);
-    let is_agreed = tls_agreed(&mut client, &mut sent).expect(rt, "a reply");
+    let is_agreed = tls_agreed(&mut client, &mut Input::new(sent)).expect(rt, "a reply");
     drop(client);
     assert!(rt; is_agreed == want);
 }
@@ -106,7 +107,7 @@ fn a_client_reads_replies(rt: HostRuntime) {
     assert_first(&rt, rt.alloc(), b"220 ready\r\n331", Some((220, 11)));
     assert_first(&rt, rt.alloc(), b"220 ready\r", None);
     let mut replies = ReplyDecoder::new(rt.alloc());
-    let mut stream = b"220 ready\r\n234 Begin TLS\r\n".as_slice();
+    let mut stream = Input::new(b"220 ready\r\n234 Begin TLS\r\n".as_slice());
     let code = next_code(&mut replies, &mut stream).expect(&rt, "a reply");
     assert_eq!(rt; code, Some(220));
     // the second reply was received with the first
@@ -241,24 +242,28 @@ fn assert_left(rt: &impl Abort, served: Result<Served, ServeError>) {
     assert!(rt; served.expect(rt, "an answer").left == 2);
 }
 
-/// Two bytes are left, and the writer holds a reply.
-fn assert_served(rt: &impl Abort, answer: (Result<Served, ServeError>, Vec<u8>)) {
-    let (served, output) = answer;
-    assert_left(rt, served);
-    assert_held(rt, output, b"200 OK\r\n");
-}
-
 #[test]
 fn a_connection_is_served(rt: HostRuntime) {
     let alloc = rt.alloc();
-    let input = b"NOOP\r\nQU".as_slice();
-    let answer = serve_connection(alloc, input, Vec::new(alloc), &mut Basic::new());
-    assert_served(&rt, answer);
-    let answer = serve_stranger(alloc, input, Vec::new(alloc), &mut Basic::new());
-    assert_served(&rt, answer);
+    let bytes = b"NOOP\r\nQU".as_slice();
+    let mut output = Output::new(Vec::new(alloc));
+    let mut input = Input::new(bytes);
+    assert_left(
+        &rt,
+        serve_connection(alloc, &mut input, &mut output, &mut Basic::new()),
+    );
+    let mut input = Input::new(bytes);
+    assert_left(
+        &rt,
+        serve_stranger(alloc, &mut input, &mut output, &mut Basic::new()),
+    );
+    assert_held(&rt, output.into_inner(), b"200 OK\r\n200 OK\r\n");
+    let (served, _, output) = answer_client(alloc, bytes, Vec::new(alloc), &mut Basic::new());
+    assert_left(&rt, served);
+    assert_held(&rt, output.into_inner(), b"200 OK\r\n");
 }
 
-/// The client is told to begin TLS after this input, and it is begun only where it can be.
+/// The server agrees to TLS after this input, and begins it only where it can.
 fn assert_upgraded(rt: &impl Abort, alloc: Global, bytes: &[u8], is_begun: bool) {
     let mut output = Output::new(Vec::new(alloc));
     let begins = serve_until_tls(alloc, &mut Input::new(bytes), &mut output);
@@ -384,14 +389,15 @@ fn assert_number(rt: &impl Abort, error: Option<i32>, number: i32) {
 fn the_error_of_a_read_is_returned(rt: HostRuntime) {
     let alloc = rt.alloc();
     let mut replies = ReplyDecoder::new(alloc);
-    let code = next_code(&mut replies, &mut NoReads(104));
+    let code = next_code(&mut replies, &mut Input::new(NoReads(104)));
     assert_number(&rt, receive_error(code), 104);
     drop(replies);
-    let is_agreed = tls_agreed(&mut Client::new(alloc), &mut NoReads(110));
+    let is_agreed = tls_agreed(&mut Client::new(alloc), &mut Input::new(NoReads(110)));
     assert_number(&rt, receive_error(is_agreed), 110);
-    let (served, _) = serve_connection(alloc, NoReads(104), Vec::new(alloc), &mut Basic::new());
-    assert_number(&rt, read_error(served), 104);
     let mut output = Output::new(Vec::new(alloc));
+    let mut input = Input::new(NoReads(104));
+    let served = serve_connection(alloc, &mut input, &mut output, &mut Basic::new());
+    assert_number(&rt, read_error(served), 104);
     let begins = serve_until_tls(alloc, &mut Input::new(NoReads(110)), &mut output);
     assert_number(&rt, read_error(begins), 110);
 }
@@ -399,11 +405,16 @@ fn the_error_of_a_read_is_returned(rt: HostRuntime) {
 /// Each way to serve returns the error of the write; or of the flush, where writes succeed.
 fn assert_failure_returned(rt: &impl Abort, alloc: Global, is_written: bool) {
     let input = b"NOOP\r\n".as_slice();
-    let output = NoWrites {
+    let mut output = Output::new(NoWrites {
         error: 32,
         is_written,
-    };
-    let (served, _) = serve_connection(alloc, input, output, &mut Basic::new());
+    });
+    let served = serve_connection(
+        alloc,
+        &mut Input::new(input),
+        &mut output,
+        &mut Basic::new(),
+    );
     assert_number(rt, write_error(served), 32);
     let mut output = Output::new(NoWrites {
         error: 28,

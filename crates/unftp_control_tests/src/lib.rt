@@ -1,5 +1,5 @@
-//! Tests of what no contract says and no row of `vectors/` can show: what `?` makes of another error,
-//! readers that fail, what Debug writes under its flags, and most callers of `calling` once.
+//! Tests of what no contract says and no row of `vectors/` can show: what `?` makes of another
+//! error, readers that fail, what Debug writes under its flags, and most callers of `calling` once.
 #![tactic(auto)]
 
 #[cfg(test)]

@@ -3,7 +3,7 @@ use crate::held::assert_bytes;
 use std::io;
 use std::io::{ErrorKind, Read};
 use std::process::Abort;
-use unftp_control::read::{ReceiveError, ReceivedReply, ReplyDecoder};
+use unftp_control::read::{Input, ReceiveError, ReceivedReply, ReplyDecoder};
 
 /// Gives a byte a read, and fails at every third.
 #[derive(Drop)]
@@ -54,7 +54,7 @@ fn assert_outcome(rt: &impl Abort, outcome: Received, want: Received) {
 fn assert_received<R: Read>(
     rt: &impl Abort,
     decoder: &mut ReplyDecoder,
-    reader: &mut R,
+    reader: &mut Input<R>,
     want: Received,
     pending: &[u8],
 ) {
@@ -67,11 +67,11 @@ fn a_failed_read_loses_nothing(rt: HostRuntime) {
     let mut decoder = ReplyDecoder::new(rt.alloc());
     let kind = ErrorKind::Interrupted;
     let rest = b"220\r\n33".as_slice();
-    let mut reader = Failing {
+    let mut reader = Input::new(Failing {
         rest,
         reads: 0,
         kind,
-    };
+    });
     let failed = Err(kind);
     assert_received(&rt, &mut decoder, &mut reader, failed, b"22");
     assert_received(&rt, &mut decoder, &mut reader, failed, b"220\r");
@@ -85,15 +85,15 @@ fn another_reader_goes_on_after_an_error(rt: HostRuntime) {
     let mut decoder = ReplyDecoder::with_limit(rt.alloc(), 100);
     let kind = ErrorKind::ConnectionReset;
     let rest = b"220 ready\r\n".as_slice();
-    let mut reader = Failing {
+    let mut reader = Input::new(Failing {
         rest,
         reads: 0,
         kind,
-    };
+    });
     let failed = Err(kind);
     assert_received(&rt, &mut decoder, &mut reader, failed, b"22");
     assert_received(&rt, &mut decoder, &mut reader, failed, b"220 ");
-    let mut reader = b"\r\n331\r\n".as_slice();
+    let mut reader = Input::new(b"\r\n331\r\n".as_slice());
     let reply = Ok(Some(220));
     assert_received(&rt, &mut decoder, &mut reader, reply, b"331\r\n");
 }

@@ -72,8 +72,8 @@ fn shown_in(rt: &impl Abort, alloc: Global, flags: u8, room: usize) -> (bool, Ve
     (written.is_ok(), writer.held)
 }
 
-/// A writer with room for so many bytes gets the first ones of this text, fails where there are more,
-/// and gets none after that.
+/// A writer with room for so many bytes gets the first ones of this text, fails where there are
+/// more, and gets none after that.
 fn assert_begun(rt: &impl Abort, alloc: Global, flags: u8, room: usize, whole: &str) {
     let (is_written, held) = shown_in(rt, alloc, flags, room);
     assert!(rt; is_written == (room == whole.len()));

@@ -30,8 +30,8 @@ pub(crate) fn line_of(command: &Command) -> Option<Line<'_>>
     }
 }
 
-/// The line with this verb, a word and a value, where it has them; none where the value is empty or has
-/// a line feed.
+/// The line with this verb, a word and a value, where it has them; none where the value is empty or
+/// has a line feed.
 fn line<'a>(verb: &'a str, word: Option<&'a str>, value: Option<Value<'a>>) -> Option<Line<'a>>
     ensures { ReturnsLine (IsOptionalText (option_map bytes_of value.entry))
         (line_body verb.now (option_map (λ word. word.now) word.entry)

@@ -42,8 +42,8 @@ pub enum ForwardError {
 /// Bytes without a line feed at their end, or with another before it, are refused with `NotALine`,
 /// so that no second line is sent with the first. A line that `parse` refuses is refused with
 /// `Refused` and the parser's error. It returns `OutOfMemory` where reading the line takes memory,
-/// or `buf` has to grow, which it does once at most, and can't; never for a line that is refused. At
-/// each error `buf` is as it was.
+/// or `buf` has to grow, which it does once at most, and can't; never for a line that is refused.
+/// At each error `buf` is as it was.
 pub fn forward(alloc: Global, line: &[u8], buf: &mut Vec<u8>) -> Result<(), ForwardError>
     ensures ok { OnOk result (IsForwarded line.now buf.old.items buf.new.items) }
     ensures err { OnErr result (buf.new.items ≡ buf.old.items) }

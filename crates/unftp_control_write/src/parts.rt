@@ -26,8 +26,8 @@ pub struct Parts<'a> {
     pub number: u32,
     /// Its verb, or its subcommand of SITE.
     pub name: &'a str,
-    /// Its value, before any CR is written as CR NUL (RFC 854). None where the command has none, and
-    /// for an empty name, password, account or argument.
+    /// Its value, before any CR is written as CR NUL (RFC 854). None where the command has none,
+    /// and for an empty name, password, account or argument.
     pub value: Option<Value<'a>>,
 }
 

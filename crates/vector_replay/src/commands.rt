@@ -156,7 +156,7 @@ impl Settings {
         Ok(())
     }
 
-    /// The setting of this name that is a text. A fault stands in place of what was found.
+    /// The setting of this name that is a text. With a fault nothing is found.
     fn text(&mut self, name: &str) -> Result<&mut String, CaseError> {
         match name {
             "cwd" => Ok(&mut self.cwd),

@@ -67,8 +67,8 @@ impl Forms {
         answers.put_unless(!(is_alternate && is_padded && is_cut), " alike");
     }
 
-    /// Writes what Debug writes, ` alike` where it is so under a width and a precision, and then what
-    /// it writes under `#`, where that is another text.
+    /// Writes what Debug writes, ` alike` where it is so under a width and a precision, and then
+    /// what it writes under `#`, where that is another text.
     pub fn debug_lines(&mut self, value: &(impl Debug + Drop), answers: &mut Answers) {
         self.put_plain(format_args!("{value:?}"), answers);
         let is_padded = self.is_alike(format_args!("{value:>60?}"));

@@ -16,7 +16,8 @@ use unftp_control_serve::{Count, Event, Handler};
 
 /// A handler that is tried from its start.
 pub trait Tried: Drop {
-    /// A new one. Of the events, counted from 1, it fails at this one if it is a handler that fails.
+    /// A new one. Of the events, counted from 1, it fails at this one if it is a handler that
+    /// fails.
     fn start(fails_at: u32) -> Self;
 
     /// How many events it has taken.

@@ -5,7 +5,7 @@ use crate::steps::{Action, Step, read_steps};
 use crate::words::{CaseError, Words};
 use std::alloc::Global;
 use unftp_control_read::{
-    Front, ReadReplyError, ReceiveError, ReceivedReply, ReplyDecoder, read_reply,
+    Front, Input, ReadReplyError, ReceiveError, ReceivedReply, ReplyDecoder, read_reply,
 };
 
 /// Writes the code of a reply and its lines.
@@ -81,7 +81,7 @@ fn put_received(received: Received, answers: &mut Answers) -> bool {
 }
 
 /// What the next call returns, of a decoder that reads or doesn't.
-fn receive(decoder: &mut ReplyDecoder, is_reading: bool, reader: &mut &[u8]) -> Received {
+fn receive(decoder: &mut ReplyDecoder, is_reading: bool, reader: &mut Input<&[u8]>) -> Received {
     if is_reading {
         return decoder.read_reply(reader);
     }
@@ -92,7 +92,7 @@ fn receive(decoder: &mut ReplyDecoder, is_reading: bool, reader: &mut &[u8]) -> 
 fn receive_reply(
     decoder: &mut ReplyDecoder,
     is_reading: bool,
-    reader: &mut &[u8],
+    reader: &mut Input<&[u8]>,
     answers: &mut Answers,
 ) -> Received {
     match receive(decoder, is_reading, reader) {
@@ -116,7 +116,7 @@ fn push(decoder: &mut ReplyDecoder, piece: &[u8], answers: &mut Answers) {
 
 /// Takes as many replies as there are, and writes them.
 fn take_replies(decoder: &mut ReplyDecoder, is_reading: bool, piece: &[u8], answers: &mut Answers) {
-    let mut reader = piece;
+    let mut reader = Input::new(piece);
     let most = decoder.pending().len().saturating_add(piece.len());
     // a reply has bytes, so the last call finds none
     for _ in 0..=most {
@@ -139,7 +139,8 @@ fn make_step(decoder: &mut ReplyDecoder, is_reading: bool, step: &Step, answers:
         }
         Action::Push => push(decoder, piece, answers),
         Action::Next => {
-            let received = receive_reply(decoder, is_reading, &mut b"".as_slice(), answers);
+            let mut no_more = Input::new(b"".as_slice());
+            let received = receive_reply(decoder, is_reading, &mut no_more, answers);
             put_received(received, answers);
         }
         Action::Clear => decoder.clear(),

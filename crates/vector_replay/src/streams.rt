@@ -1,6 +1,6 @@
 //! Readers that give pieces and writers with little room, which fail when they are asked to. A
-//! failure is an error of the system, `INTERRUPTED` where no other is asked for: it is an error like
-//! any other, and nothing is tried again.
+//! failure is an error of the system, `INTERRUPTED` where no other is asked for: it is an error
+//! like any other, and nothing is tried again.
 ghost use Rattle.std.specs.Prelude.{Some};
 
 use std::io;

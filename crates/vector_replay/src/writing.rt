@@ -169,7 +169,8 @@ fn forward_line(
     }
 }
 
-/// Writes the line after the byte that the buffer had; where there is none, only that byte is there.
+/// Writes the line after the byte that the buffer had; where there is none, only that byte is
+/// there.
 fn put_forwarded(forwarded: &Result<(), ForwardError>, buf: &[u8], answers: &mut Answers) {
     match (forwarded, buf) {
         (Ok(()), [b'x', line @ ..]) => answers.put(Quoted(line)),

@@ -8,13 +8,14 @@ ghost use Rattle.calling.specs.EventLoop.{AnswersNext};
 ghost use Rattle.calling.specs.ExampleTalks.{before_session};
 ghost use Rattle.calling.specs.NextCode.{ReceivesCode};
 ghost use Rattle.calling.specs.Pieces.{AnswersPieces, FailsAtPiece, HasNoRoom};
-ghost use Rattle.calling.specs.Sessions.{IsSession, SessionEnded, unused_input};
+ghost use Rattle.calling.specs.Sessions.{SessionEnded, at_start, unused_input};
 ghost use Rattle.unftp_control.specs.Bytes.{Bytes};
 ghost use Rattle.unftp_control.specs.Decoder.{Pending, no_bytes as no_lines, pushed as lines_pushed};
 ghost use Rattle.unftp_control.specs.Endings.{AllAnswered, Snapshot};
+ghost use Rattle.unftp_control.specs.Input.{InputState};
 ghost use Rattle.unftp_control.specs.ReplyDecoding.{PendingReplies, TakesFirst, appended};
 ghost use Rattle.unftp_control.specs.Receiving.{HasFailure};
-ghost use Rattle.unftp_control.specs.Service.{AnsweredAll, InputState, ReadFailed};
+ghost use Rattle.unftp_control.specs.Service.{AnsweredAll, ReadFailed};
 ghost use Rattle.unftp_control.specs.declared.serve.Served.{Served};
 ghost use Rattle.unftp_control.specs.declared.serve.ServeError.{ServeError as RustError};
 ghost use Rattle.unftp_control.specs.declared.read.ReceiveError.{ReceiveError as RustFailure};
@@ -24,15 +25,15 @@ use unftp_control::serve::ServeError;
 
 /// What a session is at Ok, where all was read, and at its errors.
 pub fn sessions_end_so()
-    ensures written { (served : Served) (state : Bool) (failures : ℕ) (written : Option Bytes)
-        (session : IsSession None basic (before_session 2) (Some (codes "NOOP\r\nNO")) (Ok served)
-        state failures written)
-        → served.done ≡ false
-        → Appends (Some (codes "x")) written (codes "200 OK\r\n") × (state ≡ false)
-        × (failures ≡ 2) }
-    ensures stopped { (state : Bool) (failures : ℕ) (written : Option Bytes)
-        → ¬ IsSession None basic (before_session 0) (Some []) (Err ServeError.Stopped) state failures
-        written }
+    ensures written { (after : Snapshot Bool) (input : InputState) (served : Served)
+        → SessionEnded None basic (at_start false 2 None) after (unused_input None) input
+        (Ok served)
+        → input.given ≡ codes "NOOP\r\nNO"
+        → (after.output.taken ≡ codes "200 OK\r\n") × (after.state ≡ false) × (after.failures ≡ 2) }
+    ensures not_written { (after : Snapshot Bool) (input : InputState) (served : Served)
+        → SessionEnded None basic (at_start false 0 None) after (unused_input None) input
+        (Ok served)
+        → input.given ≡ codes "NOOP\r\nNO" → after.output.taken ≡ codes "200 OK\r" → ⊥ }
     ensures ok { (after : Snapshot Bool) (input : InputState) (served : Served)
         → SessionEnded None basic (before_session 0) after (unused_input None) input (Ok served)
         → AnsweredAll None basic (before_session 0) after (unused_input None) input served }
@@ -87,13 +88,13 @@ pub fn turns_of_a_loop_are_so()
 
 /// What is received of a reply, of the end of the input, and at an error.
 pub fn codes_are_received_so()
-    ensures code { (before after : PendingReplies) (input left : Option Bytes)
+    ensures code { (before after : PendingReplies) (input left : InputState)
         → ReceivesCode before input (Ok (Some 220)) after left
         → (read : Bytes) × (lines : List Bytes)
         × TakesFirst (appended before read) (220, lines) after }
-    ensures end { (before after : PendingReplies) (input left : Option Bytes)
-        → ReceivesCode before input (Ok None) after left → IsAtEnd left }
-    ensures error { (before after : PendingReplies) (input left : Option Bytes)
+    ensures end { (before after : PendingReplies) (input left : InputState)
+        → ReceivesCode before input (Ok None) after left → IsAtEnd left.remaining }
+    ensures error { (before after : PendingReplies) (input left : InputState)
         (error : RustFailure) → ReceivesCode before input (Err error) after left
         → (read : Bytes) × HasFailure before.limit (before.bytes ++ read) error
         × (after.bytes ≡ before.bytes ++ read) }

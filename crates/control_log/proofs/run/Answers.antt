@@ -1,28 +1,25 @@
-use Rattle.std.proofs.Common.{◌<◌, ◌≤◌, sym, arith, inl, length}
+use Rattle.std.proofs.Common.{◌<◌, ◌≤◌, refl, sym, arith, inl, length}
 use Rattle.std.proofs.lemmas.Result.{err_from_is_err_and}
-use Rattle.control_log.proofs.LogLemmas.{Logging-all, Logging-failed, Logging-next, Logging-no_room, Logging-read_failed, Logging-too_often, LogsAll-written}
+use Rattle.control_log.proofs.LogLemmas.{Logging-start, Logging-all, Logging-failed, Logging-next, Logging-no_room, Logging-read_failed, Logging-too_often}
 use Rattle.control_log.proofs.run.Goals as goal
+
+pub loop-turn-init : goal.loop-turn-init
+loop-turn-init g c = record {
+  logging = rw c.with_limit-decoder.ensures (Logging-start refl refl);
+  room = refl;
+}
 
 pub returns-then-n-eq0-clause-ok : goal.returns-then-n-eq0-clause-ok
 returns-then-n-eq0-clause-ok g c =
     let room : 0 < length c.read.new.buf =
     omega (arith, c.loop-turn.invariant.room, c.read.auto.buf) in
-    let read = c.in-Ok.ensures in
-    Logging-all c.loop-turn.invariant.logging _ c.read.new.buf c.if-n-eq0.true read.reads
-    read.bytes.0 (read.bytes.1 c.if-n-eq0.true room) read.quiet
-
-pub returns-then-n-eq0-clause-written : goal.returns-then-n-eq0-clause-written
-returns-then-n-eq0-clause-written g c =
-    let room : 0 < length c.read.new.buf =
-    omega (arith, c.loop-turn.invariant.room, c.read.auto.buf) in
-    let read = c.in-Ok.ensures in
-    LogsAll-written
-    (Logging-all c.loop-turn.invariant.logging _ c.read.new.buf c.if-n-eq0.true read.reads
-    read.bytes.0 (read.bytes.1 c.if-n-eq0.true room) read.quiet)
+    let read = c.in-Ok.ensures.reads in
+    Logging-all c.loop-turn.invariant.logging _ c.read.new.buf c.if-n-eq0.true read.2
+    read.0 (read.1 c.if-n-eq0.true room) read.3
 
 pub returns-in-Err-clause-err : goal.returns-in-Err-clause-err
 returns-in-Err-clause-err g c = Logging-read_failed c.loop-turn.invariant.logging _
-    c.in-Err.ensures.bytes c.in-Err.ensures.reads c.in-Err.ensures.counted
+    c.in-Err.ensures.reads.0 c.in-Err.ensures.reads.1 c.in-Err.ensures.reads.2
 
 pub returns-clause-err : goal.returns-clause-err
 returns-clause-err g c =
@@ -36,11 +33,11 @@ returns-in_err-push-clause-err g c =
     omega (arith, cut.front_len, c.if-n-eq0.false) in
     let short : length c.split_at.result.0.now ≤ 4096 =
     omega (arith, c.loop-turn.invariant.room, c.read.auto.buf, cut.front_len, read.bound.0) in
-    let given = rw (sym cut.front) at read.bytes.0 in
+    let given = rw (sym cut.front) at read.reads.0 in
     let error = err_from_is_err_and c.from_residual.result c.from_residual.ensures.1 in
     rw (error.1, error.2)
     (inl (Logging-no_room c.loop-turn.invariant.logging _ c.split_at.result.0.now given
-    (rw cut.front_len read.reads) (some, short) read.quiet))
+    (rw cut.front_len read.reads.2) (some, short) read.reads.3))
 
 pub returns-in_err-log_pending-clause-err : goal.returns-in_err-log_pending-clause-err
 returns-in_err-log_pending-clause-err g c =
@@ -50,12 +47,12 @@ returns-in_err-log_pending-clause-err g c =
     omega (arith, cut.front_len, c.if-n-eq0.false) in
     let short : length c.split_at.result.0.now ≤ 4096 =
     omega (arith, c.loop-turn.invariant.room, c.read.auto.buf, cut.front_len, read.bound.0) in
-    let given = rw (sym cut.front) at read.bytes.0 in
+    let given = rw (sym cut.front) at read.reads.0 in
     let error = err_from_is_err_and c.from_residual-in_err-log_pending.result
     c.from_residual-in_err-log_pending.ensures.1 in
     rw (error.1, error.2)
     (Logging-failed c.loop-turn.invariant.logging _ c.split_at.result.0.now given
-    (rw cut.front_len read.reads) (some, short) read.quiet c.in_ok-push.ensures.ok
+    (rw cut.front_len read.reads.2) (some, short) read.reads.3 c.in_ok-push.ensures.ok
     c.in_err-log_pending.ensures.logs)
 
 pub loop-turn-preserved : goal.loop-turn-preserved
@@ -66,11 +63,11 @@ loop-turn-preserved g c =
     omega (arith, cut.front_len, c.if-n-eq0.false) in
     let short : length c.split_at.result.0.now ≤ 4096 =
     omega (arith, c.loop-turn.invariant.room, c.read.auto.buf, cut.front_len, read.bound.0) in
-    let given = rw (sym cut.front) at read.bytes.0 in
+    let given = rw (sym cut.front) at read.reads.0 in
     let ensured = c.in_ok-log_pending.ensures in
     record {
       logging = Logging-next c.loop-turn.invariant.logging _ c.split_at.result.0.now given
-          (rw cut.front_len read.reads) (some, short) read.quiet c.in_ok-push.ensures.ok
+          (rw cut.front_len read.reads.2) (some, short) read.reads.3 c.in_ok-push.ensures.ok
           ensured.logs ensured.pending ensured.limit;
       room = omega (arith, c.loop-turn.invariant.room, c.read.auto.buf);
     }

@@ -1,5 +1,5 @@
 use Rattle.std.proofs.Common.{◌≡◌, Some, length}
-use Rattle.unftp_control_serve.specs.Service.{input_state_of}
+use Rattle.unftp_control_defs.specs.Input.{input_state_of}
 use Rattle.unftp_control_serve.specs.Writing.{output_state_of}
 use Rattle.control_log.proofs.LogLemmas.{Logging}
 use Rattle.control_log.proofs.run.Given as goal

@@ -1,9 +1,7 @@
 use Rattle.std.specs.Prelude.{Some}
 use Rattle.std.proofs.Common.{rules}
-use Rattle.std.specs.Io.KnownBytes.{Appends}
-use Rattle.unftp_control_defs.specs.Bytes.{Bytes}
-use Rattle.unftp_control_login.proofs.MemberLemmas.{limit-members-alone, some_output}
-use Rattle.unftp_control_serve.proofs.ServesLemmas.{Serves-written}
+use Rattle.std.proofs.lemmas.Result.{IfOk-weaker}
+use Rattle.unftp_control_login.proofs.MemberLemmas.{limit-members-alone}
 use Rattle.login_demo.specs.Session.{files_law, new_session}
 use Rattle.login_demo.proofs.PlainLemmas.{SendsPlainReplies-files}
 use Rattle.login_demo.proofs.run.Goals as goal
@@ -28,12 +26,15 @@ returns g c =
     ) at served.ensures.serves in
     record {
       serves = (_, _, serves);
-      members = some_output served.result (g.R.Read.remaining c.args.reader.now.reader)
-          (λ (output : Bytes). Appends (g.W.Write.contents c.args.writer.now.writer)
-          (g.W.Write.contents served.new.writer.writer) output)
-          _ _ (limit-members-alone files_law SendsPlainReplies-files (Some 4096)
-          (g.A.Accounts.accepts c.args.accounts) 3 new_session)
-          (Serves-written _ _ _ _ _ _ served.result serves);
+      members = IfOk-weaker served.result _ _
+          (λ served serves. (
+            serves.read,
+            _,
+            serves.given,
+            serves.written,
+            limit-members-alone files_law SendsPlainReplies-files (Some 4096)
+                (g.A.Accounts.accepts c.args.accounts) 3 new_session serves.read,
+          )) serves;
       bound = search rules;
       err = (
         _,

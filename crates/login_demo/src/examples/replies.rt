@@ -1,5 +1,5 @@
 //! What is said of entries, and to commands that ask for none.
-ghost use Rattle.std.specs.Prelude.{◌≡◌, [], ◌∷◌, Some, None, codes};
+ghost use Rattle.std.specs.Prelude.{◌≡◌, ◌++◌, [], ◌∷◌, Some, None, codes};
 ghost use Rattle.unftp_control_defs.specs.Events.{InvalidCommand, LineTooLong, NoSource, Parse, UnknownCommand, refusal_fault, line_too_long};
 ghost use Rattle.unftp_control_defs.specs.FtpCommand.{Abor, Acct, Allo, Dele, Epsv, InvalidCommand as NoCommand, InvalidEol, InvalidUtf8, Noop, Other, Pass, Port, Rest, Retr, Rnfr, Rnto, Site, Syst, TypeCode};
 ghost use Rattle.unftp_control_defs.specs.FtpReply.{CodeAndMsg, MultiLine, encoded};
@@ -39,9 +39,11 @@ pub fn entries_are_shown_so()
 /// FEAT (RFC 2389, section 3.2; RFC 3659, section 7.8) and HELP.
 pub fn lists_are_sent_so()
     ensures features { encoded features_reply ≡ codes
-        "211-Extensions supported:\r\n MDTM\r\n MLST type*;size*;modify*;\r\n SIZE\r\n UTF8\r\n211 END\r\n" }
+        "211-Extensions supported:\r\n MDTM\r\n MLST type*;size*;modify*;\r\n"
+        ++ codes " SIZE\r\n UTF8\r\n211 END\r\n" }
     ensures commands { encoded commands_reply ≡ codes
-        "214-Commands:\r\n ABOR ACCT ALLO CDUP CWD FEAT HELP MDTM MLST MODE NOOP OPTS\r\n PASS PWD QUIT SITE SIZE STRU SYST TYPE USER\r\n214 END\r\n" }
+        "214-Commands:\r\n ABOR ACCT ALLO CDUP CWD FEAT HELP MDTM MLST MODE NOOP OPTS\r\n"
+        ++ codes " PASS PWD QUIT SITE SIZE STRU SYST TYPE USER\r\n214 END\r\n" }
     ensures site { site_reply (codes "HELP") ≡ CodeAndMsg 214 (codes "SITE has HELP only") }
     ensures other_site { site_reply (codes "HELPX") ≡ CodeAndMsg 504 (codes "SITE has HELP only") }
     ensures no_site { site_reply [] ≡ CodeAndMsg 504 (codes "SITE has HELP only") }
@@ -58,7 +60,8 @@ pub fn commands_are_answered_so()
     ensures abort { standing_reply Abor ≡ CodeAndMsg 226 (codes "No transfer is under way") }
     ensures restart { standing_reply (Rest 0) ≡ CodeAndMsg 502 (codes "Not implemented") }
     ensures renamed { standing_reply (Rnfr (codes "a")) ≡ CodeAndMsg 502 (codes "Not implemented") }
-    ensures new_name { standing_reply (Rnto (codes "b")) ≡ CodeAndMsg 503 (codes "Send RNFR first") }
+    ensures new_name { standing_reply (Rnto (codes "b"))
+        ≡ CodeAndMsg 503 (codes "Send RNFR first") }
     ensures transfer { standing_reply (Retr (codes "/pub/readme.txt"))
         ≡ CodeAndMsg 425 (codes "No data connection") }
     ensures subcommand { standing_reply (Site (codes "HELP") []) ≡ site_reply (codes "HELP") }
@@ -83,6 +86,9 @@ pub fn refusals_are_answered_so()
         ≡ CodeAndMsg 500 (codes "Out of memory") }
     ensures no_source { refusal_reply (record { kind = InvalidCommand; source = NoSource })
         ≡ CodeAndMsg 500 (codes "Not understood") }
-    ensures unknown { refusal_reply (record { kind = UnknownCommand (codes "\n"); source = NoSource })
+    ensures unknown { refusal_reply (record {
+      kind = UnknownCommand (codes "\n");
+      source = NoSource;
+    })
         ≡ CodeAndMsg 500 (codes "Not understood") }
 {}

@@ -16,12 +16,12 @@ ghost use Rattle.unftp_control.specs.Conversation.{CanBeSent, IsReadable, KeepsM
 
 use unftp_control_serve::Handler;
 
-/// A client that writes lines and takes replies, and a server that answers its input, understand each
-/// other, whatever the pieces in either direction: the commands arrive in their order; and where each
-/// reply is sent and plain, the client reads exactly one for each line of the run, at its place what
-/// the handler said to the line there. So a refused line costs one reply, as any other. What the
-/// server writes is `text_for`, by the contract of `serve`; where its run ends, `one_run` says (RFC
-/// 959, sections 4.2 and 5.3).
+/// A client that writes lines and takes replies, and a server that answers its input, understand
+/// each other, whatever the pieces in either direction: the commands arrive in their order; and
+/// where each reply is sent and plain, the client reads exactly one for each line of the run, at
+/// its place what the handler said to the line there. So a refused line costs one reply, as any
+/// other. What the server writes is `text_for`, by the contract of `serve`; where its run ends,
+/// `one_run` says (RFC 959, sections 4.2 and 5.3).
 pub fn conversation<H: Handler>()
     // The canonical lines of the commands are these commands; and any lines are one event each.
     ensures commands { (limit : Option ℕ) (commands : List FtpCommand)
@@ -48,11 +48,12 @@ pub fn conversation<H: Handler>()
         × (pending ≡ []) }
 {}
 
-/// Whatever the order in which a client sends lines, pieces come to either end and replies are taken:
-/// where each reply of the server is sent, plain and final, the replies that the client has taken are
-/// the first ones, that to the greeting and then one to each of its lines, each at its place; and
-/// once all bytes came and no more can be taken, they are all, and no byte is pending (RFC 959,
-/// sections 4.2 and 5.4). It joins `conversation` with the law `replies_are_exchanges` of clients.
+/// Whatever the order in which a client sends lines, pieces come to either end and replies are
+/// taken: where each reply of the server is sent, plain and final, the replies that the client has
+/// taken are the first ones, that to the greeting and then one to each of its lines, each at its
+/// place; and once all bytes came and no more can be taken, they are all, and no byte is pending
+/// (RFC 959, sections 4.2 and 5.4). It joins `conversation` with the law `replies_are_exchanges` of
+/// clients.
 pub fn any_order<H: Handler>()
     ensures so_far { (state : H.State) (limit client_limit : Option ℕ) (greeting : FtpReply)
         (acts : List Act) (client : RustClient)
@@ -75,9 +76,9 @@ pub fn any_order<H: Handler>()
         × (client.replies.bytes ≡ []) }
 {}
 
-/// A proxy that rewrites each line as one that means the same changes nothing: neither the events of
-/// the input, nor what a server writes. Such are the canonical line of a command, and the line that
-/// `forward` writes for it; a line that is refused is sent as it is.
+/// A proxy that rewrites each line as one that means the same changes nothing: neither the events
+/// of the input, nor what a server writes. Such are the canonical line of a command, and the line
+/// that `forward` writes for it; a line that is refused is sent as it is.
 pub fn canonical_lines_change_nothing<H: Handler>()
     ensures canonical { KeepsMeaning canonical_of }
     ensures forwarded { KeepsMeaning forwarded_of }

@@ -60,9 +60,9 @@ pub fn any_cutting_of_replies()
         → AreReplies input replies [] ↔ AllReplies input replies }
 {}
 
-/// A reply that is too long stays so when bytes are appended; a reply, or a line that opens none, is
-/// too long where it has more bytes than the limit, and a part of one where it has at least as many
-/// (RFC 959, section 4.2).
+/// A reply that is too long stays so when bytes are appended; a reply, or a line that opens none,
+/// is too long where it has more bytes than the limit, and a part of one where it has at least as
+/// many (RFC 959, section 4.2).
 pub fn too_long_replies_stay()
     ensures appended { (limit : Option ℕ) (bytes more : Bytes)
         → IsTooLongReply limit bytes → IsTooLongReply limit (bytes ++ more) }

@@ -14,7 +14,10 @@ pub fn callers_make_steps()
         (Received (codes "NO") ∷ Called [] (leaving 101 0 2 0 9 [] 0 0)
         ∷ Received (codes "OP\nQ")
         ∷ Called (codes "....") (leaving 10 5 0 0 9 (codes "NOOP") 4 0) ∷ [])
-        (record { connection = record { limit = 9; offset = 0; skipping = 0 }; bytes = codes "Q" }) }
+        (record {
+          connection = record { limit = 9; offset = 0; skipping = 0 };
+          bytes = codes "Q";
+        }) }
     ensures piece_forgotten { ¬ AreCallerSteps (new_caller 0) (Received (codes "N") ∷ [])
         (new_caller 0) }
     // no byte is there

@@ -1,10 +1,10 @@
 //! A list of numbers that only contracts see.
-ghost use Rattle.std.specs.Prelude.{◌≡◌, ◌++◌, ◌∷◌, ◌-◌, [], List, ℕ, length, max, replicate};
+ghost use Rattle.std.specs.Prelude.{◌≡◌, ◌++◌, ◌∷◌, ◌-◌, [], List, ℕ, length, max, replicate, take};
 
 use std::marker::Model;
 
-/// Numbers that contracts know and no code can read: it takes no byte, and no time where the compiler
-/// drops a loop that does nothing. Outside this crate it begins empty, and is only extended or reset.
+/// Numbers that contracts know and no code can read: it takes no byte and no time. Outside this
+/// crate it begins empty, and is only extended or reset.
 #[derive(Drop)]
 pub struct Trace {
     seal: (),
@@ -30,11 +30,20 @@ impl Trace {
         Trace { seal: () }
     }
 
-    /// The number again and again after the others: so many times, and until there are so many in all.
+    /// The number again and again after the others: so many times, and until there are so many in
+    /// all.
     #[inline(always)]
     pub(crate) fn with(&self, _number: usize, _times: usize, _in_all: usize) -> Trace
         ensures { result
             ≡ self.now ++ replicate (max _times (_in_all - length self.now)) _number }
+    {
+        Trace { seal: () }
+    }
+
+    /// The first `n` of these bytes after the others.
+    #[inline(always)]
+    pub(crate) fn with_front(&self, _bytes: &[u8], _n: usize) -> Trace
+        ensures { result ≡ self.now ++ take _n _bytes.now }
     {
         Trace { seal: () }
     }
@@ -52,9 +61,15 @@ impl Trace {
     pub fn extend(&mut self, bytes: &[u8])
         ensures { self.new ≡ self.old ++ bytes.now }
     {
-        for byte in bytes {
-            self.push(usize::from(*byte));
-        }
+        self.extend_by(bytes, bytes.len());
+    }
+
+    /// The first `n` of these bytes after the others.
+    #[inline(always)]
+    pub fn extend_by(&mut self, bytes: &[u8], n: usize)
+        ensures { self.new ≡ self.old ++ take n bytes.now }
+    {
+        *self = self.with_front(bytes, n);
     }
 
     /// No numbers again.

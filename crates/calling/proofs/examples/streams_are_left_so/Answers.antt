@@ -1,16 +1,17 @@
-use Rattle.std.proofs.Common.{Some, sym, ap, ◌∙◌, inl, inr, length, arith}
+use Rattle.std.proofs.Common.{sym, ap, ◌∙◌, inl, inr, length, arith}
 use Rattle.std.proofs.lemmas.Bool.{false≢true}
-use Rattle.calling.proofs.TlsLemmas.{asked-before_two, not_asked}
+use Rattle.calling.proofs.TlsLemmas.{asked, asked-before, not_asked}
 use Rattle.calling.proofs.examples.streams_are_left_so.Goals as goal
 
 pub returns : goal.returns
 returns c = record {
-  begins = λ remaining left. left.1 ∙ ap (λ rest. Some rest) asked-before_two.2;
-  not_asked = λ remaining left. false≢true (sym not_asked.0 ∙ left.0);
-  never_asked = λ remaining. inl not_asked.0;
-  some_read = inr (omega (arith, ap length asked-before_two.2));
-  none_read = λ left. elim left [
-    | inl never ↦ false≢true (sym never ∙ asked-before_two.0)
-    | inr fewer ↦ absurd (omega (arith, fewer, ap length asked-before_two.2))
+  begins = (asked.0, asked.2);
+  read_on = λ ends. absurd (omega (arith, ap length (sym ends.1 ∙ asked-before.2)));
+  not_asked = λ ends. false≢true (sym not_asked.0 ∙ ends.0);
+  never_asked = inl not_asked.0;
+  some_read = inr (λ none. absurd (omega (arith, ap length (sym none ∙ asked-before.2))));
+  none_read = λ ends. elim ends [
+    | inl never ↦ false≢true (sym never ∙ asked.0)
+    | inr more ↦ more asked.2
   ];
 }

@@ -1,15 +1,37 @@
-use Rattle.std.proofs.Common.{refl}
-use Rattle.unftp_control.specs.Service.{input_state_of}
-use Rattle.unftp_control.specs.Writing.{output_state_of}
-use Rattle.calling.proofs.CallerLemmas.{IsSession-of, MatchResult-both}
+use Rattle.std.proofs.Common.{Some, sym, ap, ◌∙◌}
+use Rattle.std.proofs.lemmas.Result.{IfOk-weaker}
+use Rattle.unftp_control.specs.Run.{text_for}
+use Rattle.calling.proofs.CallerLemmas.{MatchResult-both}
 use Rattle.calling.proofs.first.answer_client.Goals as goal
 
-pub returns-clause-session : goal.returns-clause-session
-returns-clause-session g c =
+pub returns : goal.returns
+returns g c =
     let served = c.serve_with_limit-served in
     let from = c.new-input.ensures in
     let to = c.new-output.ensures in
-    IsSession-of (output_state_of g.W.Write.contents served.new.writer)
-    (input_state_of g.R.Read.remaining served.new.reader) (rw c.into_inner.ensures refl)
-    (simp (from.reader, from.reads, from.failures, to.writer, to.failures, to.unflushed) at
-    (MatchResult-both served.result _ _ served.ensures.ok served.ensures.err))
+    let serves = simp (
+      from.reader,
+      from.given,
+      from.reads,
+      from.failures,
+      to.writer,
+      to.taken,
+      to.unflushed,
+      to.failures,
+    ) at served.ensures.serves in
+    let both = MatchResult-both served.result _ _ served.ensures.ok served.ensures.err in
+    record {
+      written = IfOk-weaker served.result _ _ (λ served serves. serves.written.taken
+          ∙ ap (text_for (Some 8192) g.H.Handler.law (g.H.Handler.state c.args.handler.now))
+          (sym serves.given.given)) serves;
+      session = simp (
+        from.reader,
+        from.given,
+        from.reads,
+        from.failures,
+        to.writer,
+        to.taken,
+        to.unflushed,
+        to.failures,
+      ) at both;
+    }

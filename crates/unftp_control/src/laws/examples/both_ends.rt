@@ -101,7 +101,8 @@ pub fn replies_are_exchanged_so()
     ensures not_final { ¬ IsClear (CodeAndMsg 199 []) }
     ensures not_readable { ¬ IsClear (CodeAndMsg 99 []) }
     ensures none { exchanges Greeting [] ≡ [] }
-    ensures three { exchanges Greeting (CodeAndMsg 220 [] ∷ CodeAndMsg 200 [] ∷ CodeAndMsg 221 [] ∷ [])
+    ensures three { exchanges Greeting
+        (CodeAndMsg 220 [] ∷ CodeAndMsg 200 [] ∷ CodeAndMsg 221 [] ∷ [])
         ≡ Some (reply_with 220 Greeting) ∷ Some (reply_with 200 (Command 0))
         ∷ Some (reply_with 221 (Command 1)) ∷ [] }
     ensures not_sent { exchanges Greeting (Nothing ∷ []) ≡ None ∷ [] }

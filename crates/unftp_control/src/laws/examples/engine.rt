@@ -1,6 +1,6 @@
 //! Snapshots worked out by hand: what the definitions of the clauses of `feed` say of
 //! them.
-ghost use Rattle.std.specs.Prelude.{◌≡◌, ◌+◌, ◌^◌, ◌-◌, ◌≤◌, ℕ, true, false, [], ◌∷◌, None, Some, Err, length, codes};
+ghost use Rattle.std.specs.Prelude.{◌≡◌, ◌+◌, ◌^◌, ◌-◌, ◌≤◌, ℕ, true, false, [], ◌∷◌, None, Some, Ok, Err, length, codes};
 ghost use Rattle.std.specs.Io.KnownBytes.{Appends};
 ghost use Rattle.unftp_control_defs.specs.Bytes.{Bytes};
 ghost use Rattle.unftp_control_defs.specs.Events.{Fault, Command, Refused, line_too_long, out_of_memory};
@@ -11,9 +11,9 @@ ghost use Rattle.unftp_control_reply.specs.ErrorParts.{KindAndSource};
 ghost use Rattle.unftp_control_serve.specs.Endings.{Snapshot, Finished, Write, Handler, LineMemory, ReplyMemory, IsCauseOf, AllAnswered, EventFailed, RunEnded, RunFailed, NoRoom, OnWrite, OnMemory};
 ghost use Rattle.unftp_control_serve.specs.Decoder.{kept_length, saturating_u64};
 ghost use Rattle.unftp_control_serve.specs.Engine.{EngineState, FailedAfter, bytes_with, fed, has_failed, has_finished, more_left};
-ghost use Rattle.unftp_control.specs.Snapshots.{counter, counter_to_five, noop, silent, snapshot, waiting};
+ghost use Rattle.unftp_control.specs.Snapshots.{counter, counter_to_five, noop, silent, snapshot, snapshot_of_any_writer, waiting};
 ghost use Rattle.unftp_control_serve.specs.declared.engine.Phase.TheVariants as phase;
-ghost use Rattle.unftp_control_serve.specs.Writing.{Begins, Flushed, OutputState, Sends, appended_state_of};
+ghost use Rattle.unftp_control_serve.specs.Writing.{Begins, Flushed, OneFlush, OneWrite, OutputState, Sends, appended_state_of};
 ghost use Rattle.std.specs.declared.vec.Vec.{Vec};
 ghost use Rattle.std.specs.declared.alloc.Global.{Global};
 
@@ -27,6 +27,9 @@ pub fn all_events_are_answered()
     ensures written { (after : Snapshot ℕ)
         → AllAnswered counter (snapshot 3 (codes "x") 1) (noop ∷ noop ∷ []) after
         → Appends (Some (codes "x")) after.output.written (codes "200 OK\r\n200 OK\r\n") }
+    ensures any_writer { (after : Snapshot ℕ)
+        → AllAnswered counter (snapshot_of_any_writer 3 (codes "x") 1) (noop ∷ noop ∷ []) after
+        → after.output.taken ≡ codes "x200 OK\r\n200 OK\r\n" }
     ensures flushed { (after : Snapshot ℕ)
         → AllAnswered counter (snapshot 3 (codes "x") 1) (noop ∷ noop ∷ []) after
         → after.output.unflushed ≡ 0 }
@@ -37,8 +40,31 @@ pub fn all_events_are_answered()
         → RunEnded counter (snapshot 3 (codes "x") 1) [] (noop ∷ []) Finished after → ⊥ }
 {}
 
-/// The writer failed at the reply to the second of two events: the first was written and flushed, and
-/// then a part, which may not be flushed.
+/// One write takes the front of the bytes, and a failed one nothing; a flush leaves none unflushed.
+pub fn writes_are_recorded_so()
+    ensures ok { (before after : OutputState)
+        → OneWrite {E = ℕ} (Ok 2) (codes "200 OK\r\n") before after
+        → before.taken ≡ codes "x" → before.unflushed ≡ 1
+        → (after.taken ≡ codes "x20") × (after.unflushed ≡ 3) × (after.failures ≡ before.failures) }
+    ensures failed { (before after : OutputState)
+        → OneWrite {E = ℕ} (Err 32) (codes "200 OK\r\n") before after
+        → before.taken ≡ codes "x" → before.failures ≡ 1
+        → (after.taken ≡ codes "x") × (after.failures ≡ 2) }
+    ensures took_nothing { (before after : OutputState)
+        → OneWrite {E = ℕ} (Ok 0) (codes "200 OK\r\n") before after
+        → before.failures ≡ 1 → after.failures ≡ 2 }
+    ensures forgotten { (before after : OutputState)
+        → OneWrite {E = ℕ} (Ok 2) (codes "200 OK\r\n") before after
+        → before.taken ≡ codes "x" → after.taken ≡ codes "x2" → ⊥ }
+    ensures flushed { (before after : OutputState) → OneFlush {T = ℕ} {E = ℕ} (Ok 0) before after
+        → before.taken ≡ codes "x" → (after.taken ≡ codes "x") × (after.unflushed ≡ 0) }
+    ensures not_flushed { (before after : OutputState)
+        → OneFlush {T = ℕ} {E = ℕ} (Err 5) before after
+        → before.unflushed ≡ 1 → after.unflushed ≡ 0 → ⊥ }
+{}
+
+/// The writer failed at the reply to the second of two events: the first was written and flushed,
+/// and then a part, which may not be flushed.
 pub fn a_write_failed_at_a_reply()
     ensures part { (part : Bytes) (after : Snapshot ℕ)
         → RunEnded counter (snapshot 3 (codes "x") 1) (noop ∷ []) (noop ∷ []) (Write part) after
@@ -72,8 +98,8 @@ pub fn the_handler_failed_at_an_event()
         → RunEnded counter (snapshot 3 (codes "x") 1) (noop ∷ []) [] (Handler fault) after → ⊥ }
 {}
 
-/// Memory ran out: for the command of a line, which the handler didn't take, or for the reply to it,
-/// which it did. It never does for no reply.
+/// Memory ran out: for the command of a line, which the handler didn't take, or for the reply to
+/// it, which it did. It never does for no reply.
 pub fn memory_ran_out()
     ensures line { (after : Snapshot ℕ)
         → RunEnded counter (snapshot 3 (codes "x") 1) [] (Command (User (codes "a")) ∷ [])
@@ -126,8 +152,8 @@ pub fn flushes_and_beginnings()
     ensures other_bytes { Begins (codes "ab") (codes "b") → ⊥ }
 {}
 
-/// An engine that has the start of a line is fed its end and the start of the next; or its end and a
-/// line after the end of the session.
+/// An engine that has the start of a line is fed its end and the start of the next; or its end and
+/// a line after the end of the session.
 pub fn an_engine_is_fed()
     ensures goes_on { fed counter 3 (waiting None) (codes "OP\r\nP") ≡ record {
       incomplete = codes "P";
@@ -161,8 +187,8 @@ pub fn an_engine_is_fed()
     ensures saturating_u64 { (saturating_u64 5 ≡ 5) × (saturating_u64 (2 ^ 64) ≡ 2 ^ 64 - 1) }
 {}
 
-/// What an error leaves of it; and there is no lack of memory for no piece, and no other error means
-/// one.
+/// What an error leaves of it; and there is no lack of memory for no piece, and no other error
+/// means one.
 pub fn an_engine_fails()
     ensures failed { (after : EngineState) → FailedAfter (waiting None) (codes "OP\r\nP") after
         → (after.failed ≡ true) × (after.left ≡ 2) × (after.finished ≡ false)

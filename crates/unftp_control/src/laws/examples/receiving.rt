@@ -1,28 +1,24 @@
 //! Reads worked out by hand: which of them a client needs, and what an error means.
-ghost use Rattle.std.specs.Prelude.{◌≡◌, ◌++◌, [], None, Some, codes, length};
+ghost use Rattle.std.specs.Prelude.{[], ◌∷◌, None, Some, codes};
 ghost use Rattle.std.specs.declared.io.Error.{Error as IoError};
-ghost use Rattle.unftp_control_defs.specs.Bytes.{Bytes};
 ghost use Rattle.unftp_control_read.specs.ReplyDecoding.{appended, no_bytes};
 ghost use Rattle.unftp_control_read.specs.Receiving.{HasFailure, IsNeeded};
 ghost use Rattle.unftp_control_read.specs.declared.errors.ReceiveError.TheVariants.{Read, Malformed, TooLong, OutOfMemory, TooManyReads};
 
-/// Nothing was read, or only a part of a reply was there before the last read, of 4096 bytes at most.
+/// Nothing was read, or only a part of a reply was there before the last piece.
 pub fn these_reads_are_needed()
     ensures none { IsNeeded (appended (no_bytes None) (codes "211 a\r\n")) [] }
-    ensures first { IsNeeded (no_bytes None) (codes "211 a\r\n") }
-    ensures line_end { IsNeeded (appended (no_bytes None) (codes "211 a\r")) (codes "\n2") }
-    ensures limit { IsNeeded (appended (no_bytes (Some 7)) (codes "211 a\r")) (codes "\n") }
-    // the last read begins with the line feed
-    ensures most { (more : Bytes) → length more ≡ 4095
-        → IsNeeded (no_bytes None) (codes "211 a\r\n" ++ more) }
+    ensures first { IsNeeded (no_bytes None) (codes "211 a\r\n" ∷ []) }
+    ensures line_end { IsNeeded (appended (no_bytes None) (codes "211 a\r")) (codes "\n2" ∷ []) }
+    ensures limit { IsNeeded (appended (no_bytes (Some 7)) (codes "211 a\r")) (codes "\n" ∷ []) }
+    ensures second { IsNeeded (no_bytes None) (codes "211 a\r" ∷ codes "\n2" ∷ []) }
 {}
 
 /// A reply was there already, or as many bytes as it may have.
 pub fn these_reads_are_not_needed()
-    ensures whole { ¬ IsNeeded (appended (no_bytes None) (codes "211 a\r\n")) (codes "2") }
-    ensures long { ¬ IsNeeded (appended (no_bytes (Some 6)) (codes "211 a\r")) (codes "\n") }
-    ensures one_more { (more : Bytes) → length more ≡ 4096
-        → ¬ IsNeeded (no_bytes None) (codes "211 a\r\n" ++ more) }
+    ensures whole { ¬ IsNeeded (appended (no_bytes None) (codes "211 a\r\n")) (codes "2" ∷ []) }
+    ensures long { ¬ IsNeeded (appended (no_bytes (Some 6)) (codes "211 a\r")) (codes "\n" ∷ []) }
+    ensures one_more { ¬ IsNeeded (no_bytes None) (codes "211 a\r\n" ∷ codes "2" ∷ []) }
 {}
 
 /// What an error means for the pending bytes.

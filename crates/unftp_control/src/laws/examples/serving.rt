@@ -5,12 +5,13 @@ ghost use Rattle.std.specs.Io.KnownBytes.{Appends, IsAtEnd};
 ghost use Rattle.unftp_control_defs.specs.Bytes.{Bytes};
 ghost use Rattle.unftp_control_defs.specs.Events.{events};
 ghost use Rattle.unftp_control_defs.specs.FtpReply.{CodeAndMsg};
+ghost use Rattle.unftp_control_defs.specs.Input.{InputState};
 ghost use Rattle.unftp_control_defs.specs.ReplyReader.{ReadsBack};
 ghost use Rattle.unftp_control_reply.specs.ErrorParts.{KindAndSource};
 ghost use Rattle.unftp_control_serve.specs.Endings.{Snapshot, AllAnswered};
 ghost use Rattle.unftp_control.specs.RunEnd.{EndsAfter, EndsNowhere};
-ghost use Rattle.unftp_control.specs.Snapshots.{counter, counter_to_five, noop, snapshot};
-ghost use Rattle.unftp_control_serve.specs.Service.{InputState, AnsweredAll, EndsInLast, EndedLate, NoRoomForPiece, ReadFailed, ReadTooOften, ServeEnded, Serves, WereRead, most_held};
+ghost use Rattle.unftp_control.specs.Snapshots.{counter, counter_to_five, noop, snapshot, snapshot_of_any_writer};
+ghost use Rattle.unftp_control_serve.specs.Service.{AnsweredAll, EndsInLast, EndedLate, NoRoomForPiece, ReadFailed, ReadTooOften, ServeEnded, Serves, ServesKnown, most_held};
 ghost use Rattle.unftp_control_serve.specs.Writing.{Begins};
 ghost use Rattle.unftp_control_serve.specs.declared.service.Served.{Served};
 
@@ -74,22 +75,27 @@ pub fn failed_reads_are_counted()
 /// An input without its last line feed that was served whole.
 pub fn an_input_is_served()
     ensures whole { (after : Snapshot ℕ) (served : Served)
-        → Serves None counter (snapshot 3 (codes "x") 1) after (Some []) served
+        → ServesKnown None counter (snapshot 3 (codes "x") 1) after (Some []) served
         (codes "NOOP\r\nNO")
         → Appends (Some (codes "x")) after.output.written (codes "200 OK\r\n")
         × (after.state ≡ 4) × (served.done ≡ false) × (served.left ≡ 2) × (served.tests ≡ 8) }
     ensures read_back { (after : Snapshot ℕ) (remaining : Option Bytes) (served : Served)
-        → Serves None counter (snapshot 3 (codes "x") 1) after remaining served
+        → ServesKnown None counter (snapshot 3 (codes "x") 1) after remaining served
         (codes "NOOP\r\nNO")
         → ReadsBack (codes "200 OK\r\n") (CodeAndMsg 200 (codes "OK") ∷ []) }
     ensures rest { (after : Snapshot ℕ) (remaining : Option Bytes) (served : Served)
-        → Serves None counter (snapshot 3 (codes "x") 1) after remaining served
+        → ServesKnown None counter (snapshot 3 (codes "x") 1) after remaining served
         (codes "NOOP\r\nNO")
         → remaining ≡ Some [] }
     ensures any_reader { (before after : Snapshot ℕ) (input : InputState) (served : Served)
         → served.done ≡ false
         → AnsweredAll None counter before after
-        (record { remaining = Some (codes "NOOP\r\nNO"); reads = []; failures = 2 }) input served
+        (record {
+          given = [];
+          reads = [];
+          failures = 2;
+          remaining = Some (codes "NOOP\r\nNO");
+        }) input served
         → AllAnswered counter before (noop ∷ []) after × IsAtEnd input.remaining
         × (input.failures ≡ 2) }
     ensures read_to_the_end { (before after : Snapshot ℕ) (input input_after : InputState)
@@ -100,6 +106,26 @@ pub fn an_input_is_served()
     ensures read_no_more { (before after : Snapshot ℕ) (input input_after : InputState)
         (served : Served) → AnsweredAll None counter before after input input_after served
         → input.reads ≡ [] → input_after.reads ≡ 4 ∷ 0 ∷ 0 ∷ [] → ⊥ }
+{}
+
+/// The same of a reader and a writer whose contracts know nothing, such as sockets: what was read
+/// and written is in their records, after what was there before.
+pub fn any_stream_is_served()
+    ensures whole { (after : Snapshot ℕ) (input : InputState) (served : Served)
+        → Serves None counter (snapshot_of_any_writer 3 (codes "x") 1) after
+        (record { given = codes "PWD\n"; reads = 4 ∷ []; failures = 0; remaining = None }) input
+        served
+        → input.given ≡ codes "PWD\nNOOP\r\nNO"
+        → (after.output.taken ≡ codes "x200 OK\r\n") × (after.output.unflushed ≡ 0)
+        × (after.state ≡ 4) × (served.done ≡ false) × (served.left ≡ 2) × (served.tests ≡ 8) }
+    ensures not_written { (after : Snapshot ℕ) (input : InputState) (served : Served)
+        → Serves None counter (snapshot_of_any_writer 3 (codes "x") 1) after
+        (record { given = []; reads = []; failures = 0; remaining = None }) input served
+        → input.given ≡ codes "NOOP\r\n" → after.output.taken ≡ codes "x200 OK\r" → ⊥ }
+    // at the reader's end the last read gave nothing
+    ensures not_at_the_end { (before after : Snapshot ℕ) (input : InputState) (served : Served)
+        → Serves None counter before after input input served
+        → served.done ≡ false → input.reads ≡ 8 ∷ [] → ⊥ }
 {}
 
 /// Where a run ends: at the fifth event, and nowhere where there are fewer.
@@ -115,15 +141,15 @@ pub fn a_run_ends_so()
 /// A session that the handler ended, and some bytes after its end, of which two were not read.
 pub fn a_session_is_ended()
     ensures whole { (after : Snapshot ℕ) (served : Served)
-        → Serves None counter_to_five (snapshot 4 (codes "x") 1) after (Some (codes "NO")) served
-        (codes "NOOP\r\nNOOP\r\nNO")
+        → ServesKnown None counter_to_five (snapshot 4 (codes "x") 1) after (Some (codes "NO"))
+        served (codes "NOOP\r\nNOOP\r\nNO")
         → Appends (Some (codes "x")) after.output.written (codes "200 OK\r\n")
         × (after.state ≡ 5) × (served.done ≡ true) × (served.left ≡ 6) × (served.tests ≡ 6) }
     ensures other_rest { (before after : Snapshot ℕ) (served : Served)
-        → Serves None counter_to_five before after (Some (codes "XX")) served
+        → ServesKnown None counter_to_five before after (Some (codes "XX")) served
         (codes "NOOP\r\nNOOP\r\nNO") → ⊥ }
     ensures not_read { (after : Snapshot ℕ) (served : Served) (remaining : Option Bytes)
-        → Serves None counter_to_five (snapshot 4 (codes "x") 1) after remaining served
+        → ServesKnown None counter_to_five (snapshot 4 (codes "x") 1) after remaining served
         (codes "NOOP\r\nNO")
         → served.left ≡ 0 → remaining ≡ Some (codes "NO") }
     ensures going_on { (after : Snapshot ℕ) (input input_after : InputState) (served : Served)
@@ -136,25 +162,11 @@ pub fn a_session_is_ended()
         → v.first ≡ codes "NOOP" ∷ codes "\r\n" ∷ [] → ⊥ }
 {}
 
-/// Each read is listed with how many bytes it gave, at least one and at most 4,096.
-pub fn pieces_are_read_so()
-    ensures reads { (remaining : Option Bytes) (input : InputState)
-        → WereRead (record { remaining = remaining; reads = 5 ∷ []; failures = 0 }) input
-        (codes "NOOP" ∷ codes "\r\n" ∷ []) (0 ∷ [])
-        → input.reads ≡ 5 ∷ 4 ∷ 2 ∷ 0 ∷ [] }
-    ensures consumed { (input : InputState)
-        → WereRead (record { remaining = Some (codes "NOOP\r\nP"); reads = []; failures = 0 }) input
-        (codes "NOOP" ∷ codes "\r\n" ∷ []) []
-        → IsSomeAnd input.remaining (λ rest. rest ≡ codes "P") }
-    ensures sizes { (input input_after : InputState) (piece : Bytes)
-        → WereRead input input_after (piece ∷ []) []
-        → (0 < length piece) × (length piece ≤ 4096) }
-{}
-
 /// What is held of pieces: of a line that is too long nothing is kept after its piece.
 pub fn pieces_are_held_so()
     ensures nothing { most_held (Some 6) [] [] ≡ 0 }
     ensures limited { most_held (Some 6) [] (codes "NOOP" ∷ codes " XY" ∷ codes "Z\n" ∷ []) ≡ 7 }
-    ensures at_the_limit { most_held (Some 8) [] (codes "NOOP" ∷ codes " XY" ∷ codes "\n" ∷ []) ≡ 8 }
+    ensures at_the_limit { most_held (Some 8) [] (codes "NOOP" ∷ codes " XY" ∷ codes "\n" ∷ [])
+        ≡ 8 }
     ensures no_limit { most_held None [] (codes "NOOP" ∷ codes " XY" ∷ codes "Z\n" ∷ []) ≡ 9 }
 {}

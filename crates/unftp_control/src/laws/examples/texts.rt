@@ -78,8 +78,8 @@ pub fn help_is_given_so()
         ∷ codes "View the docs at: https://unftp.rs/" ∷ []) }
 {}
 
-/// The facts of a file of 1,234 bytes that was last modified on 2023-12-01 at 12:00:00 UTC (RFC 3659,
-/// section 7.5).
+/// The facts of a file of 1,234 bytes that was last modified on 2023-12-01 at 12:00:00 UTC (RFC
+/// 3659, section 7.5).
 pub fn facts_are_given_so()
     ensures noon { (instant : Timestamp) → instant.nanosecond ≡ pos 1_701_432_000_000_000_000
         → IsFacts (record {

@@ -1,3 +1,4 @@
+use Rattle.std.specs.List.{concat}
 use Rattle.std.proofs.Common.{refl, ap}
 use Rattle.unftp_control_read.specs.ReplyDecoding.{appended}
 use Rattle.unftp_control_client.specs.declared.Client.{Client}
@@ -18,19 +19,19 @@ returns c = record {
   );
   next_reply = λ before after taken takes is. (after, (is.0, is.1, takes.takes), (refl, refl));
   read_reply = λ before after taken input left receives is. (
-    record before { replies = appended before.replies receives.read },
+    record before { replies = appended before.replies (concat receives.pieces) },
     (refl, refl),
     (after, (is.0, is.1, receives.takes_next.takes), (refl, refl)),
   );
   none = λ before after takes is. (is, takes.same);
   failed = λ before after error takes is. (is, takes.1);
   read_none = λ before after input left receives is. (
-    record before { replies = appended before.replies receives.read },
+    record before { replies = appended before.replies (concat receives.pieces) },
     (refl, refl),
     (is, receives.takes_next.0.same),
   );
   read_failed = λ before after error input left receives is. (
-    record before { replies = appended before.replies receives.read },
+    record before { replies = appended before.replies (concat receives.pieces) },
     (refl, refl),
     (is, receives.takes_next.1),
   );

@@ -34,6 +34,8 @@ returns-in-Ok g c =
       c.truncate.ensures.items ∙ read_part grew c.read.new.buf _ c.in-Ok.n long,
       sym c.in-Ok.ensures.bound.1,
       omega (arith, c.in-Ok.ensures.bound, long, length-replicate {A = ℕ} PIECE 0),
-      c.in-Ok.ensures.bytes.0,
-      λ none. c.in-Ok.ensures.bytes.1 none some,
+      c.in-Ok.ensures.reads.0,
+      c.in-Ok.ensures.reads.2,
+      c.in-Ok.ensures.reads.3,
+      λ none. c.in-Ok.ensures.reads.1 none some,
     )

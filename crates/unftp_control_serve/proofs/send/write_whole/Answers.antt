@@ -6,10 +6,10 @@ use Rattle.unftp_control_serve.proofs.send.write_whole.Goals as goal
 pub loop-rest-preserved : goal.loop-rest-preserved
 loop-rest-preserved g c =
     let kept : c.write.new.self.failures ≡ c.loop-rest.output.failures =
-    grind (arith, common_steps, c.in-Ok.ensures.counts.0, c.in-Ok.n-test.1) in
+    grind (arith, common_steps, c.in-Ok.ensures.wrote.1, c.in-Ok.n-test.1) in
     rw c.split_at.ensures.back
     (Sending-more c.in-Ok.n c.loop-rest.invariant c.in-Ok.ensures.bound
-    c.in-Ok.ensures.bytes kept c.in-Ok.ensures.counts.1)
+    c.in-Ok.ensures.wrote.0 kept c.in-Ok.ensures.wrote.2)
 
 pub loop-rest-smaller : goal.loop-rest-smaller
 loop-rest-smaller g c = search rules

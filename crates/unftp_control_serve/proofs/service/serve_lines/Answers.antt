@@ -15,11 +15,11 @@ returns-in_err-feed-clause-err g c =
     omega (arith, cut.front_len, c.if-n-eq0.false) in
     let short : length c.split_at.result.0.now ≤ 4096 =
     omega (arith, c.loop-turn.invariant.room, c.read.auto.buf, cut.front_len, read.bound.0) in
-    let given = rw (sym cut.front) at read.bytes.0 in
+    let given = rw (sym cut.front) at read.reads.0 in
     let error = err_from_is_err_and c.from_residual.result c.from_residual.ensures.1 in
     rw (error.1, error.2)
     (Serving-failed _ c.loop-turn.invariant.serving c.split_at.result.0.now given
-    (rw cut.front_len read.reads) (some, short) read.quiet _ _
+    (rw cut.front_len read.reads.2) (some, short) read.reads.3 _ _
     (c.in_err-feed.ensures.outcome c.loop-turn.invariant.serving.running))
 
 pub loop-turn-preserved : goal.loop-turn-preserved
@@ -30,7 +30,7 @@ loop-turn-preserved g c =
     omega (arith, cut.front_len, c.if-n-eq0.false) in
     let short : length c.split_at.result.0.now ≤ 4096 =
     omega (arith, c.loop-turn.invariant.room, c.read.auto.buf, cut.front_len, read.bound.0) in
-    let given = rw (sym cut.front) at read.bytes.0 in
+    let given = rw (sym cut.front) at read.reads.0 in
     let running = c.loop-turn.invariant.serving.running in
     let is = c.in_ok-feed.ensures.fed running in
     let on = ap (λ engine. engine.finished) (sym is) ∙ sym c.finished-is_over.ensures
@@ -38,7 +38,7 @@ loop-turn-preserved g c =
     record {
       serving = rw is
           (Serving-next _ c.loop-turn.invariant.serving c.split_at.result.0.now
-          given (rw cut.front_len read.reads) (some, short) read.quiet _
+          given (rw cut.front_len read.reads.2) (some, short) read.reads.3 _
           (c.in_ok-feed.ensures.outcome running) on);
       room = omega (arith, c.loop-turn.invariant.room, c.read.auto.buf);
     }
@@ -51,13 +51,13 @@ returns-then-is_over-clause-ok g c =
     omega (arith, cut.front_len, c.if-n-eq0.false) in
     let short : length c.split_at.result.0.now ≤ 4096 =
     omega (arith, c.loop-turn.invariant.room, c.read.auto.buf, cut.front_len, read.bound.0) in
-    let given = rw (sym cut.front) at read.bytes.0 in
+    let given = rw (sym cut.front) at read.reads.0 in
     let running = c.loop-turn.invariant.serving.running in
     let is = c.in_ok-feed.ensures.fed running in
     let done = ap (λ engine. engine.finished) (sym is) ∙ sym c.finished-is_over.ensures
     ∙ c.if-is_over.true in
     Serving-done _ c.loop-turn.invariant.serving c.split_at.result.0.now given
-    (rw cut.front_len read.reads) (some, short) read.quiet _
+    (rw cut.front_len read.reads.2) (some, short) read.reads.3 _
     (c.in_ok-feed.ensures.outcome running) (rw is at c.served_by-then-is_over.ensures) done
 
 pub returns-clause-err : goal.returns-clause-err
@@ -67,16 +67,16 @@ returns-clause-err g c = Serving-too_often c.loop-turn.invariant.serving
 pub returns-in-Err-clause-err : goal.returns-in-Err-clause-err
 returns-in-Err-clause-err g c =
     Serving-read_failed _ c.loop-turn.invariant.serving
-    c.in-Err.ensures.bytes c.in-Err.ensures.reads c.in-Err.ensures.counted
+    c.in-Err.ensures.reads.0 c.in-Err.ensures.reads.1 c.in-Err.ensures.reads.2
 
 pub returns-then-n-eq0-clause-ok : goal.returns-then-n-eq0-clause-ok
 returns-then-n-eq0-clause-ok g c =
     let room : 0 < length c.read.new.buf =
     omega (arith, c.loop-turn.invariant.room, c.read.auto.buf) in
-    let given = c.in-Ok.ensures.bytes in
+    let read = c.in-Ok.ensures.reads in
     Serving-all _ c.loop-turn.invariant.serving c.read.new.buf
-    c.served_by.ensures c.if-n-eq0.true c.in-Ok.ensures.reads
-    given.0 (given.1 c.if-n-eq0.true room) c.in-Ok.ensures.quiet
+    c.served_by.ensures c.if-n-eq0.true read.2
+    read.0 (read.1 c.if-n-eq0.true room) read.3
 
 pub returns-clause-ok : goal.returns-clause-ok
 returns-clause-ok g c = search rules

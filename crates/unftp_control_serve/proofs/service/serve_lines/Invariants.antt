@@ -1,6 +1,6 @@
 use Rattle.std.proofs.Common.{◌≡◌, length}
 use Rattle.unftp_control_serve.specs.Endings.{snapshot_of}
-use Rattle.unftp_control_serve.specs.Service.{input_state_of}
+use Rattle.unftp_control_defs.specs.Input.{input_state_of}
 use Rattle.unftp_control_serve.proofs.ServiceLemmas.{Serving}
 use Rattle.unftp_control_serve.proofs.service.serve_lines.Given as goal
 

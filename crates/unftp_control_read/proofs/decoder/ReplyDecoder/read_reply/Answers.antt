@@ -1,6 +1,6 @@
 use Rattle.std.proofs.Common.{length, ap, ◌∙◌, arith}
 use Rattle.std.proofs.lemmas.Result.{err_from_is_err_and}
-use Rattle.unftp_control_read.proofs.ReceiveLemmas.{received, unended, more_read, at_end, failed, refused, fewer_bounded, whole_reply, whole_end, counted_known}
+use Rattle.unftp_control_read.proofs.ReceiveLemmas.{received, unended, more_read, at_end, failed, refused, fewer_bounded}
 use Rattle.unftp_control_read.proofs.decoder.ReplyDecoder.read_reply.Goals as goal
 
 pub returns-in_err-reply : goal.returns-in_err-reply
@@ -15,9 +15,6 @@ returns-in_err-reply g c =
     before.buffered
     (omega (arith, ap length n.takes_next.1)) (omega (arith, n.buffered)) i.bounded in
     rw (error.1, error.2) (record {
-      reply = tt;
-      end = tt;
-      tests = tt;
       receives = refused i c.in_err-reply.field-0.0 n.takes_next.0 n.takes_next.1 n.error
           n.unscanned;
       limit = n.limit ∙ i.limit_is;
@@ -33,12 +30,6 @@ returns-in-Some-clause-receives g c =
     let exact = rw c.in-Some.is at n.tests in
     received c.loop-turn.invariant takes exact n.twice
 
-pub returns-in-Some-clause-reply : goal.returns-in-Some-clause-reply
-returns-in-Some-clause-reply g c = whole_reply (returns-in-Some-clause-receives g c)
-
-pub returns-in-Some-clause-tests : goal.returns-in-Some-clause-tests
-returns-in-Some-clause-tests g c = counted_known (returns-in-Some-clause-receives g c)
-
 pub returns-in_err-fill_from-clause-receives : goal.returns-in_err-fill_from-clause-receives
 returns-in_err-fill_from-clause-receives g c =
     let n = c.in_ok-reply.ensures in
@@ -47,7 +38,7 @@ returns-in_err-fill_from-clause-receives g c =
     c.from_residual-in_err-fill_from.ensures.1 in
     let u = unended c.loop-turn.self c.next_reply.new.self _ c.in_default.is n.takes_next n.buffered
     n.limit n.tests n.never_fewer in
-    rw (error.1, error.2) (failed c.loop-turn.invariant u c.in_err-fill_from.ensures)
+    rw (error.1, error.2) (failed c.loop-turn.invariant u _ c.in_err-fill_from.ensures)
 
 pub returns-then-branch-eq0-clause-receives : goal.returns-then-branch-eq0-clause-receives
 returns-then-branch-eq0-clause-receives g c =
@@ -56,9 +47,6 @@ returns-then-branch-eq0-clause-receives g c =
     n.limit n.tests n.never_fewer in
     let ended = rw c.if-branch-eq0.true at c.in_ok-fill_from.ensures in
     at_end c.loop-turn.invariant u ended
-
-pub returns-then-branch-eq0-clause-end : goal.returns-then-branch-eq0-clause-end
-returns-then-branch-eq0-clause-end g c = whole_end (returns-then-branch-eq0-clause-receives g c)
 
 pub loop-turn-preserved : goal.loop-turn-preserved
 loop-turn-preserved g c =

@@ -1,5 +1,5 @@
-use Rattle.std.proofs.Common.{[], codes, inl, inr, refl, lit<, lit≤}
-use Rattle.unftp_control.proofs.NeededLemmas.{part, empty_part, most_read}
+use Rattle.std.proofs.Common.{[], ◌∷◌, codes, inl, inr, refl, lit<}
+use Rattle.unftp_control.proofs.NeededLemmas.{part, empty_part}
 use Rattle.unftp_control.proofs.laws.examples.receiving.these_reads_are_needed.Goals as goal
 
 pub returns : goal.returns
@@ -7,25 +7,16 @@ returns c = record {
   none = inl refl;
   first = inr record {
     first = [];
-    piece = codes "211 a\r\n";
+    last = codes "211 a\r\n";
     whole = refl;
-    short = lit≤ tt;
     part = (empty_part, tt);
   };
-  line_end =
-      inr record {
-        first = [];
-        piece = codes "\n2";
-        whole = refl;
-        short = lit≤ tt;
-        part = (part, tt);
-      };
-  limit = inr record {
-    first = [];
-    piece = codes "\n";
+  line_end = inr record { first = []; last = codes "\n2"; whole = refl; part = (part, tt) };
+  limit = inr record { first = []; last = codes "\n"; whole = refl; part = (part, lit< tt) };
+  second = inr record {
+    first = codes "211 a\r" ∷ [];
+    last = codes "\n2";
     whole = refl;
-    short = lit≤ tt;
-    part = (part, lit< tt);
+    part = (part, tt);
   };
-  most = most_read;
 }
