@@ -9,12 +9,12 @@ use Rattle.std.proofs.lemmas.List.{append-nil, length-drop, length-map, length-t
 use Rattle.std.proofs.lemmas.List.Elements.{filter_map-append}
 use Rattle.std.proofs.lemmas.List.Folds.{concat-append}
 use Rattle.std.proofs.Math.Seq.{take-append_seam, take-append-add, drop-append_seam, drop-cons}
-use Rattle.unftp_control.specs.Acts.{Act, AreFirst, AtClient, AtServer, InOrder, IsClear, IsConversation, Server, at_client, at_server, came_to_client, came_to_server, client_steps, exchanges, lines_of_client, reply_at, said_by, sent_by_client, taken_by_client, written_by}
+use Rattle.unftp_control.specs.Acts.{Act, AreFirst, AtClient, AtServer, InOrder, IsConversation, IsUnderstood, Server, all_said, at_client, at_server, came_to_client, came_to_server, client_steps, exchanges, lines_of_client, reply_at, sent_by_client, taken_by_client, turns_to, written_by}
 use Rattle.unftp_control.specs.Bytes.{Bytes}
 use Rattle.unftp_control.specs.Canonical.{HasLine, canonical_line}
 use Rattle.unftp_control.specs.Conversation.{CanBeSent, sent}
 use Rattle.unftp_control.specs.Dialogue.{after_line, after_reply, next_to}
-use Rattle.unftp_control.specs.Endings.{AllAnswered, PieceOutcome, Snapshot, text_until}
+use Rattle.unftp_control.specs.Endings.{whole_text, AllAnswered, PieceOutcome, Snapshot, text_until}
 use Rattle.unftp_control.specs.Engine.{EngineState, IsRunning, fed, fresh, more_left}
 use Rattle.unftp_control.specs.Events.{Command, FtpEvent, events}
 use Rattle.unftp_control.specs.Exchange.{IsNext, IsOtherError, new_client, only_reply}
@@ -24,7 +24,8 @@ use Rattle.unftp_control.specs.Lines.{IsLine}
 use Rattle.unftp_control.specs.ReplyDecoding.{HasError, PendingReplies, TakesNextReply, content, pushed}
 use Rattle.unftp_control.specs.Room.{LacksRoom}
 use Rattle.unftp_control.specs.ReplyReader.{HasFront}
-use Rattle.unftp_control.specs.Run.{Law, replies, run_for, run_of, text_of}
+use Rattle.unftp_control.specs.Run.{SessionLaw, run_for, run_of, text_of}
+use Rattle.unftp_control.specs.Turns.{replies_by_event}
 use Rattle.unftp_control.specs.Steps.{AreSteps, after_to, Received, Sent, Took, decoder_step, decoder_steps, lines_sent, replies_taken, reply_to, sent_by, taken_by}
 use Rattle.unftp_control.specs.TakingSteps.{AreTakingSteps, Pushed, Taken, TakesReply, TakingStep, all_pushed}
 use Rattle.unftp_control.specs.Writing.{Begins, appended_output}
@@ -36,9 +37,9 @@ use Rattle.unftp_control.specs.declared.client.SendError.{SendError}
 use Rattle.unftp_control.specs.declared.client.SendError.TheVariants.{NoLine, NotALine, OutOfMemory, TooManyCommands}
 use Rattle.unftp_control.specs.declared.read.NextReplyError.{NextReplyError}
 use Rattle.unftp_control.specs.declared.serve.ServeError.{ServeError}
-use Rattle.unftp_control.proofs.ActLemmas.{all_of_first, replies_first, said_first}
+use Rattle.unftp_control.proofs.ActLemmas.{IsUnderstood-first, all_said-append, turns_first, turns_to_first, written-said}
 use Rattle.unftp_control.proofs.ClientStepLemmas.{steps-append, steps-sent, steps-taken}
-use Rattle.calling.specs.Conversing.{AreDone, Fails, HasConversed, HasTalked, IsAnswered, IsDone, IsNew, IsNotSent, IsNotTaken, IsReadBack, TakesNone, TakesOne, IsOver, first_snapshot, next_line, piece_of, said, server_of}
+use Rattle.calling.specs.Conversing.{AreDone, Fails, HasConversed, HasTalked, IsAnswered, IsDone, IsNew, IsNotSent, IsNotTaken, IsReadBack, TakesNone, TakesOne, IsOver, first_snapshot, next_line, piece_of, server_of, turns_of}
 use Rattle.calling.specs.Pieces.{FailsAtPiece}
 use Rattle.calling.specs.Sessions.{snapshot}
 use Rattle.calling.specs.declared.conversation.Conversation.{Conversation}
@@ -192,7 +193,8 @@ any_room room sent OutOfMemory is = tt
 any_room room sent TooManyCommands is = is
 
 -- A failed engine has written what it had before, and perhaps more.
-pub grown : {S : Type 0} (T : Type 0) (limit : Option ℕ) (law : Law S) (before after : Snapshot S)
+pub grown : {S : Type 0} (T : Type 0) (limit : Option ℕ) (law : SessionLaw S)
+    (before after : Snapshot S)
     (input piece items items' : Bytes) (error : ServeError) → before.output.taken ≡ items
     → after.output.taken ≡ items'
     → PieceOutcome {S = S} {T = T} limit law before input piece after (Err error)
@@ -201,7 +203,7 @@ grown T limit law before after input piece items items' error had has (inl (out_
     let taken = ap (λ (snapshot : Snapshot _). snapshot.output.taken) same in
     ([], sym has ∙ taken ∙ had ∙ sym (append-nil items))
 grown T limit law before after input piece items items' error had has (inr (done, failed)) =
-    let text = text_until (text_of law before.state done) failed.cause in (
+    let text = text_until (whole_text law before.state done failed.sent) failed.cause in (
       text,
       sym has ∙ failed.ended.written.taken ∙ ap (λ bytes. bytes ++ text) had,
     )
@@ -272,7 +274,7 @@ module _ {c : Conversation} (within : Within c) (c' : Conversation) where
     no_failure = ap (λ (c : Conversation). c.server.failed) one.rest ∙ within.no_failure;
   }
 
-  pub Within-fed : {S : Type 0} (law : Law S) (n : S) (events : List FtpEvent)
+  pub Within-fed : {S : Type 0} (law : SessionLaw S) (n : S) (events : List FtpEvent)
       (now now' : Snapshot S) (most : ℕ)
       → now.output.taken ≡ c.to_client.items
       → now'.output.taken ≡ c'.to_client.items
@@ -331,7 +333,7 @@ module _ {c : Conversation} (within : Within c) (c' : Conversation) where
             ∙ within.no_failure;
       }
 
-pub fed-grows : {S : Type 0} (T : Type 0) (limit : Option ℕ) (law : Law S)
+pub fed-grows : {S : Type 0} (T : Type 0) (limit : Option ℕ) (law : SessionLaw S)
     (before after : Snapshot S) (input piece : Bytes) (c c' : Conversation) (result : Result T ServeError)
     (why : ServeError) → Within c → before.output.taken ≡ c.to_client.items
     → after.output.taken ≡ c'.to_client.items → result ≡ Err why
@@ -351,7 +353,8 @@ pub none_of : {A B : Type 0} (f : A → B) (xs : List A) → length xs ≡ 0 →
 none_of f [] e = refl
 none_of f (x ∷ xs) e = absurd (omega (arith, e))
 
-module _ {S : Type 0} (law : Law S) (state : S) (greeting : FtpReply) (commands : List FtpCommand)
+module _ {S : Type 0} (law : SessionLaw S) (state : S) (greeting : FtpReply)
+    (commands : List FtpCommand)
     (failures : ℕ) where
   abbrev server : Server S
   server = server_of law state greeting
@@ -481,10 +484,16 @@ module _ {S : Type 0} (law : Law S) (state : S) (greeting : FtpReply) (commands 
 
   written-more : (input piece : Bytes)
       → Begins (written_by server (input ++ piece)) (written_by server input)
-  written-more input piece = let first = said_first server input piece in (
-    flat_map encoded first.0,
-    ap (flat_map encoded) first.1 ∙ flat_map-append encoded (said_by server input) first.0,
-  )
+  written-more input piece =
+      let first = turns_to_first server input piece in
+      let now = turns_to server input in
+      let more = all_said first.0 in (
+        flat_map encoded more,
+        written-said server (input ++ piece)
+            ∙ ap (flat_map encoded) (ap all_said first.1 ∙ all_said-append now first.0)
+            ∙ flat_map-append encoded (all_said now) more
+            ∙ ap (λ bytes. bytes ++ flat_map encoded more) (sym (written-said server input)),
+      )
 
   -- A piece comes to the server.
   module _ {now : Snapshot S} {acts : List Act} {left : List FtpCommand} {c : Conversation}
@@ -969,13 +978,43 @@ module _ {S : Type 0} (law : Law S) (state : S) (greeting : FtpReply) (commands 
               (subst (λ limit. HasError limit c.client.replies.bytes why) any_length because)
           by_why error.OutOfMemory because = because
 
+-- all turns were taken
+pub HasConversed-ok : {S : Type 0} (server : Server S) (commands : List FtpCommand)
+    (turns : List Turn) (acts : List Act) (left : List FtpCommand) (start now : Snapshot S)
+    (c : Conversation) → start.state ≡ server.state → AreDone server commands [] turns acts
+    → Talks server commands start now acts left c
+    → HasConversed server commands turns c start now (Ok tt)
+HasConversed-ok server commands turns acts left start now c at_start done h = record {
+  acts = acts;
+  talked = record {
+    talk = h.talk;
+    sent = h.sent;
+    first = (left, h.whole);
+    lines = h.lines;
+    read_back = h.read_back;
+    to_server = h.to_server;
+    at_server = h.at_server;
+    to_client = ([], h.to_client ∙ sym (append-nil (written_by server (came_to_server acts))));
+    at_client = h.at_client ∙ ap (take c.at_client) h.to_client;
+    taken = h.taken;
+  };
+  ended = (
+    done,
+    subst (λ state. AllAnswered server.law start
+        (run_for None server.law state (came_to_server acts)) now) at_start h.answered.answered,
+  );
+}
+
 -- ---- what the client understood
 
-exchanges_first : (to : To) (first more : List FtpReply)
+exchanges_first : (to : To) (first more : List (List FtpReply))
     → Begins (exchanges to (first ++ more)) (exchanges to first)
 exchanges_first to [] more = (exchanges to more, refl)
-exchanges_first to (reply ∷ first) more = let rest = exchanges_first (after_to to) first more in
-    (rest.0, ap (λ later. reply_at to reply ∷ later) rest.1)
+exchanges_first to (turn ∷ first) more = let rest = exchanges_first (after_to to) first more in (
+  rest.0,
+  ap (λ later. map (reply_at to) turn ++ later) rest.1
+      ∙ sym (append_assoc (map (reply_at to) turn) (exchanges (after_to to) first) rest.0),
+)
 
 begins_first : {A : Type 0} (all some few : List A) → Begins all some → Begins some few
     → Begins all few
@@ -1000,62 +1039,68 @@ all_can_be_sent (command ∷ commands) has each =
     let fields = has command each.0 in
     ((fields.0, fields.1, refl), all_can_be_sent commands has each.1)
 
-module _ {S : Type 0} (law : Law S) (state : S) (greeting : FtpReply) (commands : List FtpCommand)
+module _ {S : Type 0} (law : SessionLaw S) (state : S) (greeting : FtpReply)
+    (commands : List FtpCommand)
     (acts : List Act) (c : Conversation)
     (h : HasTalked (server_of law state greeting) commands acts c)
     (has : (command : FtpCommand) → IsReadBack command → HasLine command × HasTypedFields command)
     (events_are : (commands : List FtpCommand) → AllByRecursion (CanBeSent None) commands
     → events None (sent commands) ≡ map Command commands)
-    (clear : AllByRecursion IsClear (said law state greeting commands)) where
+    (clear : IsUnderstood (turns_of law state greeting commands)) where
   abbrev ends : Server S
   ends = server_of law state greeting
 
-  abbrev said_so_far : List FtpReply
-  said_so_far = said_by ends (sent_by_client acts)
+  abbrev turns_so_far : List (List FtpReply)
+  turns_so_far = turns_to ends (sent_by_client acts)
 
-  said_is : (some : List FtpCommand) → h.sent ≡ some
-      → said_so_far ≡ said law state greeting some
-  said_is some same = ap (λ (events : List FtpEvent). greeting ∷ replies law state (run_of law state events))
+  abbrev with_greeting : List (List FtpReply) → List (List FtpReply)
+  with_greeting turns = (greeting ∷ []) ∷ turns
+
+  turns_are : (some : List FtpCommand) → h.sent ≡ some
+      → turns_so_far ≡ turns_of law state greeting some
+  turns_are some same = ap (λ (events : List FtpEvent). with_greeting
+      (replies_by_event law state (run_of law state events)))
       (ap (events None) (ap concat h.lines ∙ joined h.sent)
       ∙ events_are h.sent (all_can_be_sent h.sent has h.read_back) ∙ ap (map Command) same)
 
-  said_begin : Begins (said law state greeting commands) said_so_far
-  said_begin =
-      let first = replies_first law state (map Command h.sent) (map Command h.first.0) in (
+  turns_begin : Begins (turns_of law state greeting commands) turns_so_far
+  turns_begin =
+      let first = turns_first law state (map Command h.sent) (map Command h.first.0) in (
         first.0,
-        ap (λ (events : List FtpEvent). greeting
-            ∷ replies law state (run_of law state events))
+        ap (λ (events : List FtpEvent). with_greeting
+            (replies_by_event law state (run_of law state events)))
             (ap (map Command) h.first.1 ∙ map-append Command h.sent h.first.0)
-            ∙ ap (λ (later : List FtpReply). greeting ∷ later) first.1
-            ∙ ap (λ (said : List FtpReply). said ++ first.0) (sym (said_is h.sent refl)),
+            ∙ ap with_greeting first.1
+            ∙ ap (λ (turns : List (List FtpReply)). turns ++ first.0)
+            (sym (turns_are h.sent refl)),
       )
 
-  clear_so_far : AllByRecursion IsClear said_so_far
-  clear_so_far = all_of_first IsClear said_so_far said_begin.0
-      (subst (AllByRecursion IsClear) said_begin.1 clear)
+  clear_so_far : IsUnderstood turns_so_far
+  clear_so_far = IsUnderstood-first turns_so_far turns_begin.0
+      (subst IsUnderstood turns_begin.1 clear)
 
   pub understood :
-      (AllByRecursion IsClear said_so_far
-      → AreFirst (taken_by_client acts) (exchanges Greeting said_so_far))
+      (IsUnderstood turns_so_far
+      → AreFirst (taken_by_client acts) (exchanges Greeting turns_so_far))
       → AreFirst (map reply_to c.taken.items)
-      (exchanges Greeting (said law state greeting commands))
+      (exchanges Greeting (turns_of law state greeting commands))
   understood so_far =
-      subst (λ taken. AreFirst taken (exchanges Greeting (said law state greeting commands)))
+      subst (λ taken. AreFirst taken (exchanges Greeting (turns_of law state greeting commands)))
       (sym h.taken)
-      (begins_first (exchanges Greeting (said law state greeting commands))
-      (exchanges Greeting said_so_far) (map Some (taken_by_client acts))
-      (subst (λ all. Begins (exchanges Greeting all) (exchanges Greeting said_so_far))
-      (sym said_begin.1) (exchanges_first Greeting said_so_far said_begin.0))
+      (begins_first (exchanges Greeting (turns_of law state greeting commands))
+      (exchanges Greeting turns_so_far) (map Some (taken_by_client acts))
+      (subst (λ all. Begins (exchanges Greeting all) (exchanges Greeting turns_so_far))
+      (sym turns_begin.1) (exchanges_first Greeting turns_so_far turns_begin.0))
       (so_far clear_so_far))
 
   pub understood_all : IsOver commands c
-      → (AllByRecursion IsClear said_so_far
+      → (IsUnderstood turns_so_far
       → came_to_client acts ≡ written_by ends (sent_by_client acts)
       → ¬ HasFront c.client.replies.bytes
-      → (map Some (taken_by_client acts) ≡ exchanges Greeting said_so_far)
+      → (map Some (taken_by_client acts) ≡ exchanges Greeting turns_so_far)
       × (c.client.replies.bytes ≡ []))
       → map Some (map reply_to c.taken.items)
-      ≡ exchanges Greeting (said law state greeting commands)
+      ≡ exchanges Greeting (turns_of law state greeting commands)
   understood_all over all =
       let none = none_left h.first.0 (omega (
         arith,
@@ -1080,4 +1125,4 @@ module _ {S : Type 0} (law : Law S) (state : S) (greeting : FtpReply) (commands 
       h.at_client ∙ take_all c.at_client (written_by ends (came_to_server acts)) within
       ∙ ap (written_by ends) to_server in
       ap (map Some) h.taken ∙ (all clear_so_far to_client over.none_pending.0).0
-      ∙ ap (exchanges Greeting) (said_is commands every)
+      ∙ ap (exchanges Greeting) (turns_are commands every)

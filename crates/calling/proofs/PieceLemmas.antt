@@ -7,7 +7,7 @@ use Rattle.std.proofs.lemmas.List.{append-nil, map-append, take_more}
 use Rattle.std.proofs.lemmas.List.Folds.{concat-append}
 use Rattle.unftp_control.specs.Bytes.{Bytes}
 use Rattle.unftp_control.specs.Events.{FtpEvent, events}
-use Rattle.unftp_control.specs.Run.{Law, last_state, run_for, ends_for, unread}
+use Rattle.unftp_control.specs.Run.{SessionLaw, last_state, run_for, ends_for, unread}
 use Rattle.unftp_control.specs.Lines.{incomplete_line}
 use Rattle.unftp_control.specs.Decoder.{saturating_u64}
 use Rattle.unftp_control.specs.Endings.{AllAnswered, Finished, PieceOutcome, Snapshot}
@@ -19,7 +19,7 @@ use Rattle.unftp_control.proofs.RunLemmas.{run_of-all, run-append, run-ended, un
 use Rattle.calling.specs.Pieces.{FailsAtPiece}
 
 -- what was sent so far is answered, up to the end of the run
-pub record AnsweredSoFar {S : Type 0} (law : Law S) (m n : Snapshot S) (sent : Bytes)
+pub record AnsweredSoFar {S : Type 0} (law : SessionLaw S) (m n : Snapshot S) (sent : Bytes)
     (engine : EngineState) : Type 0 where
   pub no_failure : engine.failed ≡ false
   pub any_length : engine.limit ≡ None
@@ -35,7 +35,7 @@ pub record ComesAfter (sent piece : Bytes) (pieces : List Bytes) : Type 0 where
   pub whole : pieces ≡ first ++ piece ∷ later
   pub same : concat first ≡ sent
 
-module _ {S : Type 0} {law : Law S} {m n : Snapshot S} {sent : Bytes} {engine : EngineState}
+module _ {S : Type 0} {law : SessionLaw S} {m n : Snapshot S} {sent : Bytes} {engine : EngineState}
     (so_far : AnsweredSoFar law m n sent engine) (piece : Bytes) where
   -- while the run goes on
   module _ (on : engine.finished ≡ false) where
@@ -85,7 +85,7 @@ module _ {S : Type 0} {law : Law S} {m n : Snapshot S} {sent : Bytes} {engine : 
           (sym (unread-append law None m.state sent piece goes_on
           ∙ moved (λ limit state bytes. unread limit law state bytes)));
       answered =
-          rw run_so (RunEnded-then law all_events run_with [] Finished answered);
+          rw run_so (RunEnded-then law all_events run_with [] [] Finished answered);
     }
 
     FailsAtPiece-on : {k : Snapshot S} {error : ServeError} {pieces : List Bytes} (T : Type 0)

@@ -6,16 +6,16 @@ use Rattle.std.specs.Str.Lossy.{utf8_lossy, utf8_valid_len, utf8_error_len}
 use Rattle.std.proofs.lemmas.Bool.{false≢true}
 use Rattle.unftp_control.specs.Bytes.{Bytes}
 use Rattle.unftp_control.specs.Decoder.{saturating_u64}
-use Rattle.unftp_control.specs.Run.{after_end, ends_for, unread}
+use Rattle.unftp_control.specs.Run.{after_end, ends_for, unread, as_session}
 use Rattle.unftp_control.specs.Input.{InputState}
 use Rattle.unftp_control.specs.Writing.{OutputState}
 use Rattle.calling.specs.UntilTls.{BeginsTls, until_tls}
 
 -- an input that AUTH TLS ends, one that it doesn't end, and one without it
 abbrev pub Ends : Bytes → Bool → Bytes → Type 0
-Ends input ended after = (ends_for (Some 512) until_tls false input ≡ ended)
-    × (unread (Some 512) until_tls false input ≡ after)
-    × (after_end (Some 512) until_tls false input ≡ after)
+Ends input ended after = (ends_for (Some 512) (as_session until_tls) false input ≡ ended)
+    × (unread (Some 512) (as_session until_tls) false input ≡ after)
+    × (after_end (Some 512) (as_session until_tls) false input ≡ after)
 
 pub asked : Ends (codes "AUTH TLS\r\n") true []
 unfolding is_utf8 chars utf8_lossy utf8_valid_len utf8_error_len lib.Utf8.encode
@@ -37,12 +37,14 @@ module _ {before after : OutputState} {input input' : InputState} {begins : Bool
   begins-by {piece} {after} {ended} is joined ends =
       let done : v.served.done ≡ ended =
       v.answered.ended
-      ∙ ap (λ pieces. ends_for (Some 512) until_tls false (concat pieces)) is
-      ∙ ap (ends_for (Some 512) until_tls false) joined ∙ ends.0 in
+      ∙ ap (λ pieces. ends_for (Some 512) (as_session until_tls) false (concat pieces)) is
+      ∙ ap (ends_for (Some 512) (as_session until_tls) false) joined ∙ ends.0 in
       let left : v.served.left ≡ saturating_u64 (length after) =
       v.answered.left
-      ∙ ap (λ pieces. saturating_u64 (length (unread (Some 512) until_tls false (concat pieces)))) is
-      ∙ ap (λ bytes. saturating_u64 (length (unread (Some 512) until_tls false bytes))) joined
+      ∙ ap (λ pieces. saturating_u64 (length (unread (Some 512) (as_session until_tls) false
+      (concat pieces)))) is
+      ∙ ap (λ bytes. saturating_u64 (length (unread (Some 512) (as_session until_tls) false
+      bytes))) joined
       ∙ ap (λ bytes. saturating_u64 (length bytes)) ends.1 in
       v.begins_so ∙ ap (λ done. done && (v.served.left == 0)) done
       ∙ ap (λ left. ended && (left == 0)) left
@@ -55,12 +57,14 @@ first_of_two (piece ∷ []) last one other is = cc
 first_of_two (piece ∷ next ∷ []) last one other is = absurd (cc)
 first_of_two (piece ∷ next ∷ later ∷ pieces) last one other is = absurd (cc)
 
-asked-two : ends_for (Some 512) until_tls false (concat (codes "AUTH TLS\r\n" ∷ codes "X" ∷ []))
+asked-two : ends_for (Some 512) (as_session until_tls) false
+    (concat (codes "AUTH TLS\r\n" ∷ codes "X" ∷ []))
     ≡ true
 unfolding is_utf8 chars utf8_lossy utf8_valid_len utf8_error_len lib.Utf8.encode
 asked-two = refl
 
-asked-one : ends_for (Some 512) until_tls false (concat (codes "AUTH TLS\r\n" ∷ [])) ≡ true
+asked-one : ends_for (Some 512) (as_session until_tls) false (concat (codes "AUTH TLS\r\n" ∷ []))
+    ≡ true
 unfolding is_utf8 chars utf8_lossy utf8_valid_len utf8_error_len lib.Utf8.encode
 asked-one = refl
 
@@ -69,8 +73,10 @@ pub read_on : (before after : OutputState) (input input' : InputState) (begins :
     → v.answered.pieces ≡ codes "AUTH TLS\r\n" ∷ codes "X" ∷ [] → ⊥
 read_on before after input input' begins v is =
     let last = v.answered.in_last
-    (v.answered.ended ∙ ap (λ pieces. ends_for (Some 512) until_tls false (concat pieces)) is
+    (v.answered.ended ∙ ap (λ pieces. ends_for (Some 512) (as_session until_tls) false
+    (concat pieces)) is
     ∙ asked-two) in
     let first = first_of_two last.first last.last _ _ (sym is ∙ last.whole) in
     false≢true (sym last.goes_on
-    ∙ ap (λ pieces. ends_for (Some 512) until_tls false (concat pieces)) first ∙ asked-one)
+    ∙ ap (λ pieces. ends_for (Some 512) (as_session until_tls) false (concat pieces)) first
+    ∙ asked-one)

@@ -15,7 +15,8 @@ use Rattle.unftp_control.specs.Lines.{IsLine}
 use Rattle.unftp_control.specs.Outcome.{outcome}
 use Rattle.unftp_control.specs.ReplyDecoding.{HasError, TakesNextReply}
 use Rattle.unftp_control.specs.ReplyReader.{IsPartial}
-use Rattle.unftp_control.specs.Run.{Law, replies, run_for, run_of}
+use Rattle.unftp_control.specs.Run.{SessionLaw, run_for, run_of}
+use Rattle.unftp_control.specs.Turns.{replies_by_event}
 use Rattle.unftp_control.specs.Steps.{Received, Sent, Took, decoder_steps, reply_to}
 use Rattle.unftp_control.specs.TakingSteps.{AreTakingSteps, TakesReply}
 use Rattle.unftp_control.specs.Writing.{Begins, appended_output}
@@ -31,13 +32,15 @@ use Rattle.calling.specs.declared.conversation.ConverseError.TheVariants as erro
 use Rattle.calling.specs.declared.conversation.Turn.{Turn}
 use Rattle.calling.specs.declared.conversation.Turn.TheVariants.{Send, ToServer, ToClient, Take}
 
--- what a server says: its greeting, and its handler's replies to these commands, up to the one that
--- ends the session
-abbrev pub said : {S : Type 0} → Law S → S → FtpReply → List FtpCommand → List FtpReply
-said law s greeting commands = greeting ∷ replies law s (run_of law s (map Command commands))
+-- what a server says: its greeting, and its handler's replies to each of these commands, up to the
+-- one that ends the session
+abbrev pub turns_of : {S : Type 0} → SessionLaw S → S → FtpReply → List FtpCommand
+    → List (List FtpReply)
+turns_of law s greeting commands =
+    (greeting ∷ []) ∷ replies_by_event law s (run_of law s (map Command commands))
 
 -- a server with this handler and greeting, whose lines may have any length
-abbrev pub server_of : {S : Type 0} → Law S → S → FtpReply → Server S
+abbrev pub server_of : {S : Type 0} → SessionLaw S → S → FtpReply → Server S
 server_of law state greeting =
     record { law = law; state = state; limit = None; greeting = greeting }
 

@@ -4,6 +4,7 @@ use Rattle.unftp_control.specs.Acts.{Act, AtClient, Server}
 use Rattle.unftp_control.specs.Bytes.{Bytes}
 use Rattle.unftp_control.specs.Endings.{Snapshot}
 use Rattle.unftp_control.specs.FtpReply.{CodeAndMsg}
+use Rattle.unftp_control.specs.Run.{as_session}
 use Rattle.unftp_control.specs.Steps.{Sent}
 use Rattle.unftp_control.specs.Writing.{appended_output}
 use Rattle.calling.specs.Basic.{basic}
@@ -12,7 +13,7 @@ use Rattle.calling.specs.Sessions.{snapshot}
 
 -- a server that greets with 220, knows NOOP and QUIT, and ends the session at QUIT
 abbrev pub greeter : Server Bool
-greeter = server_of basic false (CodeAndMsg 220 [])
+greeter = server_of (as_session basic) false (CodeAndMsg 220 [])
 
 abbrev pub noop : Bytes
 noop = codes "NOOP\r\n"

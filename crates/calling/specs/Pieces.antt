@@ -4,18 +4,19 @@ use Rattle.std.specs.List.{concat}
 use Rattle.unftp_control.specs.Bytes.{Bytes}
 use Rattle.unftp_control.specs.Endings.{AllAnswered, RunFailed, Snapshot}
 use Rattle.unftp_control.specs.Events.{FtpEvent, events}
-use Rattle.unftp_control.specs.Run.{Law, run_for}
+use Rattle.unftp_control.specs.Run.{SessionLaw, run_for}
 use Rattle.unftp_control.specs.declared.serve.ServeError.{ServeError}
 use Rattle.unftp_control.specs.declared.serve.ServeError.TheVariants.{OutOfMemory}
 
 -- There was no memory for the last of these pieces, and all lines of those before it were answered.
-abbrev pub HasNoRoom : {S : Type 0} → Law S → Snapshot S → Bytes → Bytes → Snapshot S
+abbrev pub HasNoRoom : {S : Type 0} → SessionLaw S → Snapshot S → Bytes → Bytes → Snapshot S
     → ServeError → Type 0
 HasNoRoom law before first last after error = (error ≡ OutOfMemory) × ¬ (last ≡ [])
     × AllAnswered law before (events None first) after
 
 -- At one of the pieces there was no memory for it, or the run failed at one of its lines.
-pub record FailsAtPiece {S : Type 0} (law : Law S) (before : Snapshot S) (pieces : List Bytes)
+pub record FailsAtPiece {S : Type 0} (law : SessionLaw S) (before : Snapshot S)
+    (pieces : List Bytes)
     (after : Snapshot S) (error : ServeError) : Type 0 where
   pub first : List Bytes
   pub last : Bytes
@@ -26,7 +27,7 @@ pub record FailsAtPiece {S : Type 0} (law : Law S) (before : Snapshot S) (pieces
 
 -- The lines of all pieces put together were answered, up to the end of the session; or it failed at
 -- one of the pieces.
-abbrev pub AnswersPieces : {S T : Type 0} → Law S → Snapshot S → List Bytes → Snapshot S
+abbrev pub AnswersPieces : {S T : Type 0} → SessionLaw S → Snapshot S → List Bytes → Snapshot S
     → Result T ServeError → Type 0
 AnswersPieces law before pieces after result = MatchResult result
     (λ _. AllAnswered law before (run_for None law before.state (concat pieces)) after)

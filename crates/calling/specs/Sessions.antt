@@ -3,7 +3,7 @@ use Rattle.std.specs.Prelude.{ℕ, [], Option, Result, MatchResult}
 use Rattle.unftp_control.specs.Bytes.{Bytes}
 use Rattle.unftp_control.specs.Endings.{Snapshot}
 use Rattle.unftp_control.specs.Input.{InputState}
-use Rattle.unftp_control.specs.Run.{Law}
+use Rattle.unftp_control.specs.Run.{SessionLaw}
 use Rattle.unftp_control.specs.Service.{AnsweredAll, ServeEnded}
 use Rattle.unftp_control.specs.Writing.{OutputState}
 use Rattle.unftp_control.specs.declared.serve.ServeError.{ServeError}
@@ -26,7 +26,8 @@ unused_input remaining =
     record { given = []; reads = []; failures = 0; remaining = remaining }
 
 -- All that `serve` says of a session, at Ok or at its error.
-abbrev pub SessionEnded : {S : Type 0} → Option ℕ → Law S → Snapshot S → Snapshot S → InputState
+abbrev pub SessionEnded : {S : Type 0} → Option ℕ → SessionLaw S → Snapshot S → Snapshot S
+    → InputState
     → InputState → Result Served ServeError → Type 0
 SessionEnded limit law before after input input' result = MatchResult result
     (AnsweredAll limit law before after input input')

@@ -4,7 +4,7 @@ use Rattle.unftp_control.specs.Bytes.{Bytes}
 use Rattle.unftp_control.specs.Events.{FtpEvent, Command, out_of_memory}
 use Rattle.unftp_control.specs.FtpCommand.{Auth}
 use Rattle.unftp_control.specs.FtpReply.{CodeAndMsg}
-use Rattle.unftp_control.specs.Run.{Law, after_end, ends_for, text_for}
+use Rattle.unftp_control.specs.Run.{Law, after_end, as_session, ends_for, text_for}
 use Rattle.unftp_control.specs.Input.{InputState, HasRead}
 use Rattle.unftp_control.specs.Service.{AnsweredAll}
 use Rattle.unftp_control.specs.Writing.{HasWritten, OutputState}
@@ -34,17 +34,17 @@ pub record BeginsTls (before after : OutputState) (input input' : InputState) (b
   pub is_done : Bool
   pub failures : ℕ
   pub served : Served
-  pub answered : AnsweredAll (Some 512) until_tls (snapshot false 0 before)
+  pub answered : AnsweredAll (Some 512) (as_session until_tls) (snapshot false 0 before)
       (snapshot is_done failures after) input input' served
   pub begins_so : begins ≡ (served.done && (served.left == 0))
 
 -- These bytes end with the line of AUTH TLS, and nothing comes after it; or they don't: there is no
 -- such line among them, or bytes come after it.
 abbrev pub EndsWithAuth : Bool → Bytes → Type 0
-EndsWithAuth true read = (ends_for (Some 512) until_tls false read ≡ true)
-    × (after_end (Some 512) until_tls false read ≡ [])
-EndsWithAuth false read = (ends_for (Some 512) until_tls false read ≡ false)
-    ⊎ (after_end (Some 512) until_tls false read ≡ [] → ⊥)
+EndsWithAuth true read = (ends_for (Some 512) (as_session until_tls) false read ≡ true)
+    × (after_end (Some 512) (as_session until_tls) false read ≡ [])
+EndsWithAuth false read = (ends_for (Some 512) (as_session until_tls) false read ≡ false)
+    ⊎ (after_end (Some 512) (as_session until_tls) false read ≡ [] → ⊥)
 
 -- What was read and written, of any two streams. Where TLS begins, the reads gave exactly the bytes
 -- up to the end of AUTH's line: the stream goes on with the first byte of TLS.
@@ -52,5 +52,5 @@ pub record LeavesStream (before after : OutputState) (input input' : InputState)
     : Type 0 where
   pub read : Bytes
   pub given : HasRead input input' read
-  pub written : HasWritten before after (text_for (Some 512) until_tls false read)
+  pub written : HasWritten before after (text_for (Some 512) (as_session until_tls) false read)
   pub ends : EndsWithAuth begins read

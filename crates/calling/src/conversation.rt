@@ -1,8 +1,7 @@
 //! A client and a server in one process, which take the turns of a list.
-ghost use Rattle.std.specs.Prelude.{◌≡◌, ◌≤◌, ◌+◌, ◌++◌, ◌∷◌, None, Err, Ok, Some, IfErr, MatchResult, OnErr, OnOk, IsTrue, [], is_ok, length, map, true};
-ghost use Rattle.std.specs.List.{AllByRecursion};
-ghost use Rattle.calling.specs.Conversing.{HasConversed, IsNew, IsOver, IsReadBack, TakesNone, TakesOne, first_snapshot, piece_of, said, server_of};
-ghost use Rattle.unftp_control.specs.Acts.{AreFirst, IsClear, exchanges};
+ghost use Rattle.std.specs.Prelude.{◌≡◌, ◌≤◌, ◌+◌, ◌++◌, ◌∷◌, None, Err, Ok, Some, IfErr, MatchResult, OnErr, OnOk, IsTrue, List, [], is_ok, length, map, true};
+ghost use Rattle.calling.specs.Conversing.{HasConversed, IsNew, IsOver, IsReadBack, TakesNone, TakesOne, first_snapshot, piece_of, server_of, turns_of};
+ghost use Rattle.unftp_control.specs.Acts.{AreFirst, IsUnderstood, exchanges};
 ghost use Rattle.unftp_control.specs.Canonical.{HasLine, canonical_line};
 ghost use Rattle.unftp_control.specs.CommandMeaning.{command_of};
 ghost use Rattle.unftp_control.specs.Dialogue.{after_line};
@@ -13,7 +12,7 @@ ghost use Rattle.unftp_control.specs.FtpReply.{FtpReply, encoded};
 ghost use Rattle.unftp_control.specs.ReplyDecoding.{pushed};
 ghost use Rattle.unftp_control.specs.Room.{LacksRoom};
 ghost use Rattle.unftp_control.specs.Steps.{reply_to};
-ghost use Rattle.unftp_control.specs.Writing.{appended_state_of};
+ghost use Rattle.unftp_control.specs.Writing.{Begins, appended_state_of};
 ghost use Rattle.unftp_control.specs.declared.client.To.TheVariants.{Greeting};
 
 use std::alloc::{AllocError, AllocFailed, Global};
@@ -22,7 +21,7 @@ use unftp_control::client::{Client, ClientReply, SendError};
 use unftp_control::command::Command;
 use unftp_control::laws;
 use unftp_control::read::NextReplyError;
-use unftp_control::serve::{Engine, Handler, ServeError};
+use unftp_control::serve::{Engine, ServeError, Session};
 
 /// What is done next.
 #[derive(Clone, Copy, Debug)]
@@ -178,21 +177,25 @@ impl Conversation {
     }
 
     /// A piece comes to the server.
-    fn bring_to_server<H: Handler>(
+    fn bring_to_server<H: Session>(
         &mut self,
         most: usize,
         handler: &mut H,
     ) -> Result<(), ServeError>
         requires { self.old.at_server ≤ length self.old.to_server.items }
-        ensures outcome { IsRunning self.old.server → PieceOutcome self.old.server.limit H.law
+        ensures heard { Begins (H.heard handler.new) (H.heard handler.old) }
+        ensures outcome { IsRunning self.old.server → (said : List H.Said)
+            → Begins said (H.heard handler.new)
+            → PieceOutcome self.old.server.limit (H.law said)
             (snapshot_with H.state H.failures appended_state_of handler.old self.old.to_client)
             (bytes_with self.old.server
             (piece_of self.old.at_server self.old.to_server.items most))
             (piece_of self.old.at_server self.old.to_server.items most)
             (snapshot_with H.state H.failures appended_state_of handler.new self.new.to_client)
             result }
-        ensures fed { IsRunning self.old.server → OnOk result (self.new.server
-            ≡ fed H.law (H.state handler.old) self.old.server
+        ensures fed { IsRunning self.old.server → OnOk result ((said : List H.Said)
+            → Begins said (H.heard handler.new) → self.new.server
+            ≡ fed (H.law said) (H.state handler.old) self.old.server
             (piece_of self.old.at_server self.old.to_server.items most)) }
         ensures over { self.old.server.finished ≡ true → IsTrue (is_ok result)
             × (handler.new ≡ handler.old) × (self.new.to_client ≡ self.old.to_client)
@@ -254,7 +257,7 @@ impl Conversation {
 ///
 /// It fails where a command is not sent, the server stops, a reply can't be taken, or memory runs
 /// out. What was done at the turns before stays, and so do the replies that were taken.
-pub fn converse<H: Handler>(
+pub fn converse<H: Session>(
     conversation: &mut Conversation,
     commands: &[Command],
     handler: &mut H,
@@ -263,22 +266,24 @@ pub fn converse<H: Handler>(
     requires { IsNew conversation.old }
     // what was done at each turn, and at which one it failed
     ensures turns { (greeting : FtpReply) → conversation.old.to_client.items ≡ encoded greeting
-        → HasConversed (server_of H.law (H.state handler.old) greeting)
-        (map command_of commands.now) turns.now conversation.new
-        (first_snapshot (server_of H.law (H.state handler.old) greeting) (H.failures handler.old))
+        → let server = server_of (H.law (H.heard handler.new)) (H.state handler.old) greeting in
+        HasConversed server (map command_of commands.now) turns.now conversation.new
+        (first_snapshot server (H.failures handler.old))
         (snapshot_with H.state H.failures appended_state_of handler.new conversation.new.to_client)
         result }
-    // Where each reply is sent, plain and final, those that the client has taken are the first
-    // ones: to the greeting, and then to each command in order.
+    // Where each reply is sent and plain, and those to each command are some preliminary ones and
+    // then a final one, those that the client has taken are the first ones: to the greeting, and
+    // then to each command in order.
     ensures understood { (greeting : FtpReply) → conversation.old.to_client.items ≡ encoded greeting
-        → let replies = said H.law (H.state handler.old) greeting (map command_of commands.now) in
-        AllByRecursion IsClear replies
-        → AreFirst (map reply_to conversation.new.taken.items) (exchanges Greeting replies) }
+        → let turns = turns_of (H.law (H.heard handler.new)) (H.state handler.old) greeting
+        (map command_of commands.now) in IsUnderstood turns
+        → AreFirst (map reply_to conversation.new.taken.items) (exchanges Greeting turns) }
     // And once all was sent and came, they are all.
     ensures all { (greeting : FtpReply) → conversation.old.to_client.items ≡ encoded greeting
-        → let replies = said H.law (H.state handler.old) greeting (map command_of commands.now) in
-        AllByRecursion IsClear replies → IsOver (map command_of commands.now) conversation.new
-        → map Some (map reply_to conversation.new.taken.items) ≡ exchanges Greeting replies }
+        → let turns = turns_of (H.law (H.heard handler.new)) (H.state handler.old) greeting
+        (map command_of commands.now) in IsUnderstood turns
+        → IsOver (map command_of commands.now) conversation.new
+        → map Some (map reply_to conversation.new.taken.items) ≡ exchanges Greeting turns }
 {
     laws::conversation::<H>();
     laws::any_order::<H>();
@@ -287,7 +292,7 @@ pub fn converse<H: Handler>(
 }
 
 /// Takes the turns, up to the first that fails.
-fn take_turns<H: Handler>(
+fn take_turns<H: Session>(
     conversation: &mut Conversation,
     commands: &[Command],
     handler: &mut H,
@@ -295,9 +300,9 @@ fn take_turns<H: Handler>(
 ) -> Result<(), ConverseError>
     requires { IsNew conversation.old }
     ensures { (greeting : FtpReply) → conversation.old.to_client.items ≡ encoded greeting
-        → HasConversed (server_of H.law (H.state handler.old) greeting)
-        (map command_of commands.now) turns.now conversation.new
-        (first_snapshot (server_of H.law (H.state handler.old) greeting) (H.failures handler.old))
+        → let server = server_of (H.law (H.heard handler.new)) (H.state handler.old) greeting in
+        HasConversed server (map command_of commands.now) turns.now conversation.new
+        (first_snapshot server (H.failures handler.old))
         (snapshot_with H.state H.failures appended_state_of handler.new conversation.new.to_client)
         result }
 {

@@ -7,11 +7,11 @@ ghost use Rattle.unftp_control.specs.Run.{text_for};
 
 use std::alloc::Global;
 use std::io::{Read, Write};
-use unftp_control::serve::{Handler, Input, Output, ServeError, Served, serve_with_limit};
+use unftp_control::serve::{Input, Output, ServeError, Served, Session, serve_with_limit};
 
 /// Answers the lines of a client, until it sends no more or the handler ends the session, and gives
 /// the streams back. A line of more than 8,192 bytes gets one refusal.
-pub fn answer_client<R: Read, W: Write, H: Handler>(
+pub fn answer_client<R: Read, W: Write, H: Session>(
     alloc: Global,
     stream_in: R,
     stream_out: W,
@@ -19,9 +19,10 @@ pub fn answer_client<R: Read, W: Write, H: Handler>(
 ) -> (Result<Served, ServeError>, Input<R>, Output<W>)
     // at Ok exactly the replies to the lines that the reads gave were written, of any two streams
     ensures written { OnOk result.0 (result.2.taken
-        ≡ text_for (Some 8192) H.law (H.state handler.old) result.1.given) }
+        ≡ text_for (Some 8192) (H.law (H.heard handler.new)) (H.state handler.old)
+        result.1.given) }
     // and all that `serve_with_limit` says, at Ok and at each error
-    ensures session { SessionEnded (Some 8192) H.law
+    ensures session { SessionEnded (Some 8192) (H.law (H.heard handler.new))
         (at_start (H.state handler.old) (H.failures handler.old) (W.contents stream_out))
         (snapshot_of H.state H.failures W.contents handler.new result.2)
         (unused_input (R.remaining stream_in)) (input_state_of R.remaining result.1) result.0 }

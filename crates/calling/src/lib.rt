@@ -16,5 +16,6 @@ pub mod no_files;
 pub mod pieces;
 pub mod proxy;
 pub mod serving;
+pub mod transfers;
 pub mod upgrading;
 pub mod whole_line;

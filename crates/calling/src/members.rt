@@ -1,46 +1,48 @@
 //! A server for who has logged in.
-ghost use Rattle.std.specs.Prelude.{ℕ, IfErr, IfOk, OnOk, Some};
+ghost use Rattle.std.specs.Prelude.{ℕ, List, IfErr, IfOk, OnOk, Some};
 ghost use Rattle.calling.specs.Sessions.{snapshot};
 ghost use Rattle.unftp_control.specs.Bytes.{Bytes};
 ghost use Rattle.unftp_control.specs.Gate.{Gated, closed, gated_law};
 ghost use Rattle.unftp_control.specs.Input.{HasRead, input_state_of};
 ghost use Rattle.unftp_control.specs.LoginLimit.{Limited, limited_law, limited_to};
-ghost use Rattle.unftp_control.specs.Promises.{MembersAlone, SendsPlainReplies};
+ghost use Rattle.unftp_control.specs.Promises.{MembersAlone, SendsPlainExchanges};
 ghost use Rattle.unftp_control.specs.Service.{ServeEnded, Serves};
 ghost use Rattle.unftp_control.specs.Writing.{HasWritten, output_state_of};
 
 use std::alloc::Global;
 use std::io::{Read, Write};
 use unftp_control::login::{Accounts, Gate, LoginLimit};
-use unftp_control::serve::{Handler, Input, Output, ServeError, Served, serve_with_limit};
+use unftp_control::serve::{Input, Output, ServeError, Served, Session, serve_with_limit};
 
 /// Serves a connection. What needs a login reaches the handler after one; a line has at most 4,096
 /// bytes, and the third login that fails ends the session.
-pub fn serve_members<R: Read, W: Write, A: Accounts + Drop, H: Handler + Drop>(
+pub fn serve_members<R: Read, W: Write, A: Accounts + Drop, H: Session + Drop>(
     alloc: Global,
     reader: &mut Input<R>,
     writer: &mut Output<W>,
     accounts: A,
     handler: H,
 ) -> Result<Served, ServeError>
-    // exactly the replies of limit, gate and handler to the lines that were read are written
-    ensures serves { (state : Limited (Gated H.State)) × (failures : ℕ) × IfOk result
-        (Serves (Some 4096) (limited_law (gated_law H.law))
+    // exactly the replies of limit, gate and handler to the lines that were read are written, by
+    // all that the handler has heard
+    ensures serves { (heard : List H.Said) × (state : Limited (Gated H.State)) × (failures : ℕ)
+        × IfOk result (Serves (Some 4096) (limited_law (gated_law (H.law heard)))
         (snapshot (limited_to 3 (closed (A.accepts accounts) (H.state handler)))
         (H.failures handler) (output_state_of W.contents writer.old))
         (snapshot state failures (output_state_of W.contents writer.new))
         (input_state_of R.remaining reader.old) (input_state_of R.remaining reader.new)) }
-    // a reply that reports no failure, at the place of a command that needs a login, comes only
+    // a reply that reports no failure, among those to a command that needs a login, comes only
     // after a name and a password that the accounts accept
-    ensures members { SendsPlainReplies H.law → OnOk result ((read written : Bytes)
+    ensures members { ((heard : List H.Said) → SendsPlainExchanges (H.law heard)) → OnOk result
+        ((read written : Bytes)
         × HasRead (input_state_of R.remaining reader.old) (input_state_of R.remaining reader.new)
         read
         × HasWritten (output_state_of W.contents writer.old) (output_state_of W.contents writer.new)
         written
         × MembersAlone (Some 4096) (A.accepts accounts) read written) }
     // and all that `serve_with_limit` says at each error, for some last state
-    ensures err { (state : Limited (Gated H.State)) × (failures : ℕ) × IfErr result
-        (ServeEnded (Some 4096) (limited_law (gated_law H.law))
+    ensures err { (heard : List H.Said) × (state : Limited (Gated H.State)) × (failures : ℕ)
+        × IfErr result (ServeEnded (Some 4096) (limited_law (gated_law (H.law heard)))
         (snapshot (limited_to 3 (closed (A.accepts accounts) (H.state handler)))
         (H.failures handler) (output_state_of W.contents writer.old))
         (snapshot state failures (output_state_of W.contents writer.new))

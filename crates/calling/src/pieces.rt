@@ -10,11 +10,11 @@ ghost use Rattle.unftp_control.specs.Writing.{HasWritten, OutputState, output_st
 
 use std::alloc::Global;
 use std::io::Write;
-use unftp_control::serve::{Engine, Handler, Output, ServeError};
+use unftp_control::serve::{Engine, Output, ServeError, Session};
 
 /// Answers what a client sent, piece by piece, and returns how many bytes come after the last line
 /// that was answered: the start of a line, or what came after the end of the session.
-pub fn answer_pieces<H: Handler, W: Write>(
+pub fn answer_pieces<H: Session, W: Write>(
     alloc: Global,
     pieces: &[&[u8]],
     handler: &mut H,
@@ -22,13 +22,13 @@ pub fn answer_pieces<H: Handler, W: Write>(
 ) -> Result<u64, ServeError>
     ensures written { OnOk result (HasWritten
         (output_state_of W.contents output.old) (output_state_of W.contents output.new)
-        (text_for None H.law (H.state handler.old)
+        (text_for None (H.law (H.heard handler.new)) (H.state handler.old)
         (concat (map (λ piece. piece.now) pieces.now)))) }
     ensures left { IfOk result (λ left.
-        left ≡ saturating_u64 (length (unread None H.law (H.state handler.old)
-        (concat (map (λ piece. piece.now) pieces.now))))) }
+        left ≡ saturating_u64 (length (unread None (H.law (H.heard handler.new))
+        (H.state handler.old) (concat (map (λ piece. piece.now) pieces.now))))) }
     // the handler's last state, what was flushed, and where it failed at an error
-    ensures answered { AnswersPieces H.law
+    ensures answered { AnswersPieces (H.law (H.heard handler.new))
         (snapshot_of H.state H.failures W.contents handler.old output.old)
         (map (λ piece. piece.now) pieces.now)
         (snapshot_of H.state H.failures W.contents handler.new output.new) result }
@@ -41,15 +41,15 @@ pub fn answer_pieces<H: Handler, W: Write>(
 }
 
 /// The replies to what a client sent, piece by piece, for a server that sends them itself.
-pub fn replies_to_pieces<H: Handler>(
+pub fn replies_to_pieces<H: Session>(
     alloc: Global,
     pieces: &[&[u8]],
     handler: &mut H,
 ) -> Result<Vec<u8>, ServeError>
     ensures replies { IfOk result (λ replies. replies.items
-        ≡ text_for None H.law (H.state handler.old)
+        ≡ text_for None (H.law (H.heard handler.new)) (H.state handler.old)
         (concat (map (λ piece. piece.now) pieces.now))) }
-    ensures answered { (output : OutputState) × AnswersPieces H.law
+    ensures answered { (output : OutputState) × AnswersPieces (H.law (H.heard handler.new))
         (at_start (H.state handler.old) (H.failures handler.old) (Some []))
         (map (λ piece. piece.now) pieces.now)
         (record {

@@ -6,6 +6,7 @@ ghost use Rattle.unftp_control.specs.EventMeaning.{event_meant};
 ghost use Rattle.unftp_control.specs.Input.{input_state_of};
 ghost use Rattle.unftp_control.specs.Service.{ServeEnded};
 ghost use Rattle.unftp_control.specs.Writing.{output_state_of};
+ghost use Rattle.unftp_control.specs.Run.{as_session};
 
 use std::alloc::Global;
 use std::io::{Read, Write};
@@ -87,7 +88,7 @@ pub fn serve_until_tls<R: Read, W: Write>(
         (input_state_of R.remaining input.old) (input_state_of R.remaining input.new)) }
     // and at an error all that `serve_with_limit` says
     ensures err { IfErr result (λ error. (is_done : Bool) × (failures : ℕ)
-        × ServeEnded (Some 512) until_tls
+        × ServeEnded (Some 512) (as_session until_tls)
         (snapshot false 0 (output_state_of W.contents output.old))
         (snapshot is_done failures (output_state_of W.contents output.new))
         (input_state_of R.remaining input.old) (input_state_of R.remaining input.new) error) }

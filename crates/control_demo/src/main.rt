@@ -11,6 +11,7 @@ ghost use Rattle.unftp_control_defs.specs.Input.{input_state_of};
 ghost use Rattle.unftp_control_serve.specs.Service.{ServeEnded, Serves};
 ghost use Rattle.unftp_control_serve.specs.Writing.{output_state_of};
 ghost use Rattle.demo_responses.specs.Responses.{responses_law};
+ghost use Rattle.unftp_control_defs.specs.Run.{as_session};
 
 use demo_responses::Responses;
 use std::alloc::Global;
@@ -28,7 +29,7 @@ pub fn run<R: Read, W: Write>(
     // At Ok, of any reader and any writer, sockets and standard input and output too: exactly the
     // replies to the lines that the reads gave were written and flushed, up to QUIT.
     ensures serves { IfOk result (λ served. (quit : Bool) × (failures : ℕ)
-        × Serves None responses_law
+        × Serves None (as_session responses_law)
         (record { state = false; failures = 0; output = output_state_of W.contents writer.old })
         (record {
           state = quit;
@@ -39,7 +40,7 @@ pub fn run<R: Read, W: Write>(
         (input_state_of R.remaining reader.new) served) }
     // What is so at each error, for some last state of the handler and count of its failures.
     ensures err { IfErr result (λ error. (quit : Bool) × (failures : ℕ)
-        × ServeEnded None responses_law
+        × ServeEnded None (as_session responses_law)
         (record { state = false; failures = 0; output = output_state_of W.contents writer.old })
         (record {
           state = quit;

@@ -1,5 +1,5 @@
 -- Each reply is sent, and a client can read it back.
-use Rattle.std.proofs.Common.{◌≡◌, ◌≢◌, ℕ, Bool, true, false, ◌&&◌, nat_le, nat_lt, List, [], ◌∷◌, Option, Some, None, bytes_eq, cond, codes, refl}
+use Rattle.std.proofs.Common.{◌≡◌, ◌≢◌, ℕ, Bool, true, false, not, ◌&&◌, nat_le, nat_lt, List, [], ◌∷◌, Option, Some, None, bytes_eq, cond, codes, refl, sym}
 use Rattle.std.specs.Fmt.{digits}
 use Rattle.std.specs.List.{AllByRecursion, list_all}
 use Rattle.std.proofs.lemmas.Bool.{and_parts, ltb-true, leb-true}
@@ -10,7 +10,9 @@ use Rattle.unftp_control_defs.specs.Events as event
 use Rattle.unftp_control_defs.specs.FtpCommand as command
 use Rattle.unftp_control_defs.specs.FtpCommand.{FtpCommand}
 use Rattle.unftp_control_defs.specs.FtpReply.{FtpReply, Nothing, CodeAndMsg, MultiLine, HasThreeDigits, IsPlain}
-use Rattle.unftp_control_login.specs.Promises.{IsSentPlain, SendsPlainReplies}
+use Rattle.unftp_control_defs.specs.Run.{as_session}
+use Rattle.unftp_control_defs.specs.Turns.{is_preliminary, is_preliminary_reply}
+use Rattle.unftp_control_login.specs.Promises.{IsSentPlain, SendsPlainExchanges}
 use Rattle.unftp_control_defs.proofs.LackLemmas.{lacks, Lacks-test}
 use Rattle.unftp_control_defs.specs.declared.parameters.ModeParam.TheVariants as mode
 use Rattle.unftp_control_defs.specs.declared.parameters.Opt.TheVariants as opt
@@ -25,23 +27,24 @@ use Rattle.login_demo.specs.Facts.{mdtm_reply, mlst_reply, pwd_reply, size_reply
 use Rattle.login_demo.specs.Standing.{fixed_reply, refusal_code, refusal_text, site_reply, standing_reply}
 use Rattle.login_demo.specs.Session.{command_reply, event_reply, files_law, moved_reply, tree_reply}
 
-abbrev pub IsSent : FtpReply → Type 0
-IsSent reply = IsPlain reply × (reply ≢ Nothing)
+pub record IsSent (reply : FtpReply) : Type 0 where
+  pub plain : IsPlain reply
+  pub sent : reply ≢ Nothing
+  pub final : is_preliminary_reply reply ≡ false
 
 three_digits : (code : ℕ) → (nat_le 100 code && nat_lt code 1000) ≡ true → HasThreeDigits code
 three_digits code h =
     let parts = and_parts (nat_le 100 code) (nat_lt code 1000) h in
     (leb-true 100 code parts.0, ltb-true code 1000 parts.1)
 
-line : (code : ℕ) (text : Bytes) → (nat_le 100 code && nat_lt code 1000) ≡ true → Lacks LF text
-    → IsSent (CodeAndMsg code text)
-line code text three lack = ((three_digits code three, lack), λ e. cc)
-
 -- a test for replies that are written out
+abbrev is_final_code : ℕ → Bool
+is_final_code code = (nat_le 100 code && nat_lt code 1000) && not (is_preliminary code)
+
 abbrev is_sent : FtpReply → Bool
 is_sent Nothing = false
-is_sent (CodeAndMsg code text) = (nat_le 100 code && nat_lt code 1000) && lacks LF text
-is_sent (MultiLine code lines) = (nat_le 100 code && nat_lt code 1000) && list_all (lacks LF) lines
+is_sent (CodeAndMsg code text) = is_final_code code && lacks LF text
+is_sent (MultiLine code lines) = is_final_code code && list_all (lacks LF) lines
 
 lines_lack : (lines : List Bytes) → list_all (lacks LF) lines ≡ true
     → AllByRecursion (Lacks LF) lines
@@ -49,14 +52,34 @@ lines_lack [] h = tt
 lines_lack (one ∷ lines) h = let parts = and_parts (lacks LF one) (list_all (lacks LF) lines) h in
     (Lacks-test LF one parts.0, lines_lack lines parts.1)
 
+not-true : (test : Bool) → not test ≡ true → test ≡ false
+not-true true h = sym h
+not-true false h = refl
+
+final-code : (code : ℕ) → is_final_code code ≡ true
+    → HasThreeDigits code × (is_preliminary code ≡ false)
+final-code code h =
+    let parts = and_parts (nat_le 100 code && nat_lt code 1000) (not (is_preliminary code)) h in
+    (three_digits code parts.0, not-true (is_preliminary code) parts.1)
+
 IsSent-test : (reply : FtpReply) → is_sent reply ≡ true → IsSent reply
 IsSent-test Nothing h = cc
 IsSent-test (CodeAndMsg code text) h =
-    let parts = and_parts (nat_le 100 code && nat_lt code 1000) (lacks LF text) h in
-    line code text parts.0 (Lacks-test LF text parts.1)
+    let parts = and_parts (is_final_code code) (lacks LF text) h in
+    let final = final-code code parts.0 in
+    record {
+      plain = (final.0, Lacks-test LF text parts.1);
+      sent = λ e. cc;
+      final = final.1;
+    }
 IsSent-test (MultiLine code lines) h =
-    let parts = and_parts (nat_le 100 code && nat_lt code 1000) (list_all (lacks LF) lines) h in
-    ((three_digits code parts.0, lines_lack lines parts.1), λ e. cc)
+    let parts = and_parts (is_final_code code) (list_all (lacks LF) lines) h in
+    let final = final-code code parts.0 in
+    record {
+      plain = (final.0, lines_lack lines parts.1);
+      sent = λ e. cc;
+      final = final.1;
+    }
 
 pub IsSent-pwd : (d : Directory) → IsSent (pwd_reply d)
 IsSent-pwd directory.Root = IsSent-test _ refl
@@ -174,10 +197,13 @@ IsSent-event session (event.Refused fault) = IsSent-refusal fault.kind fault.sou
 
 -- A reply that is plain, and not `Nothing`, is sent.
 IsSentPlain-sent : (reply : FtpReply) → IsSent reply → IsSentPlain reply
-IsSentPlain-sent Nothing h = absurd (h.1 refl)
-IsSentPlain-sent (CodeAndMsg code text) h = h.0
-IsSentPlain-sent (MultiLine code lines) h = h.0
+IsSentPlain-sent Nothing h = absurd (h.sent refl)
+IsSentPlain-sent (CodeAndMsg code text) h = h.plain
+IsSentPlain-sent (MultiLine code lines) h = h.plain
 
-pub SendsPlainReplies-files : SendsPlainReplies files_law
-SendsPlainReplies-files session event = IsSentPlain-sent (event_reply session event)
-    (IsSent-event session event)
+pub SendsPlainExchanges-files : SendsPlainExchanges (as_session files_law)
+SendsPlainExchanges-files = (
+  λ session event. (IsSent-event session event).final,
+  λ session event.
+      (IsSentPlain-sent (event_reply session event) (IsSent-event session event), tt),
+)

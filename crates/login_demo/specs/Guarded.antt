@@ -1,6 +1,6 @@
 -- The whole session: a limit on failed logins, the login gate, and the tree.
 use Rattle.std.specs.Prelude.{ℕ}
-use Rattle.unftp_control_defs.specs.Run.{Law}
+use Rattle.unftp_control_defs.specs.Run.{SessionLaw, as_session}
 use Rattle.unftp_control_login.specs.Login.{Accounts}
 use Rattle.unftp_control_login.specs.Gate.{Gated, closed, gated_law}
 use Rattle.unftp_control_login.specs.LoginLimit.{Limited, limited_law, limited_to}
@@ -9,8 +9,8 @@ use Rattle.unftp_control_serve.specs.Writing.{OutputState}
 use Rattle.login_demo.specs.declared.session.Session.{Session}
 use Rattle.login_demo.specs.Session.{files_law, new_session}
 
-abbrev pub guarded_law : Law (Limited (Gated Session))
-guarded_law = limited_law (gated_law files_law)
+abbrev pub guarded_law : SessionLaw (Limited (Gated Session))
+guarded_law = limited_law (gated_law (as_session files_law))
 
 -- three logins may fail
 abbrev pub guarded_session : Accounts → Limited (Gated Session)

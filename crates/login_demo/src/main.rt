@@ -70,7 +70,7 @@ pub fn run<R: Read, W: Write, A: Accounts + Drop>(
         (snapshot session failures (output_state_of W.contents writer.new))
         (input_state_of R.remaining reader.old) (input_state_of R.remaining reader.new)) }
     // Whatever was read: where a client reads in what was written a reply that reports no failure,
-    // at the place of a command that needs a login, the accounts have accepted a name and its
+    // among those to a command that needs a login, the accounts have accepted a name and its
     // password before it.
     ensures members { OnOk result ((read written : Bytes)
         × HasRead (input_state_of R.remaining reader.old) (input_state_of R.remaining reader.new)

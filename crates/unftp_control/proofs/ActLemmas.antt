@@ -1,7 +1,7 @@
 -- What a client takes of what a server says, whatever the order of their acts.
 use Rattle.std.proofs.Common.{◌≡◌, ◌≤◌, ℕ, suc, Bool, true, false, if◌then◌else◌, List, [], ◌∷◌, ◌++◌, flat_map, map, length, drop, get_or, Option, Some, None, refl, sym, ap, subst, ◌∙◌, arith, append_assoc, length-append}
-use Rattle.std.specs.Prelude.{IfSome, option_map}
-use Rattle.std.specs.List.{AllByRecursion, concat, filter}
+use Rattle.std.specs.Prelude.{not, option_map}
+use Rattle.std.specs.List.{AllByRecursion, concat, filter, onto_first}
 use Rattle.std.proofs.lemmas.Grind.{flat_map-append}
 use Rattle.std.proofs.lemmas.List.{append-nil, length-map}
 use Rattle.std.proofs.lemmas.List.Elements.{filter_map-append}
@@ -11,85 +11,147 @@ use Rattle.unftp_control_defs.specs.Events.{FtpEvent, event_for, events}
 use Rattle.unftp_control_defs.specs.FtpReply.{FtpReply, encoded, reply_as_read}
 use Rattle.unftp_control_defs.specs.Lines.{IsLine, incomplete_line}
 use Rattle.unftp_control_defs.specs.ReplyReader.{HasFront}
-use Rattle.unftp_control_defs.specs.Run.{Law, replies, run_for, run_of}
+use Rattle.unftp_control_defs.specs.Run.{SessionLaw, after, replies, run_for, run_of, said, turn}
 use Rattle.unftp_control_defs.specs.TakingSteps.{AreTakingSteps, TakesReply, all_taken}
 use Rattle.unftp_control_defs.proofs.LineLemmas.{events-append}
-use Rattle.unftp_control_defs.proofs.RunLemmas.{length-replies, run_of-length}
+use Rattle.unftp_control_defs.proofs.RunLemmas.{run_of-length}
+use Rattle.unftp_control_defs.proofs.ExchangeLemmas.{length-replies_by_event, read-alike}
 use Rattle.unftp_control_serve.specs.Writing.{Begins}
-use Rattle.unftp_control_client.specs.Dialogue.{is_preliminary}
+use Rattle.unftp_control_defs.specs.Turns.{IsExchange, cut_reads, is_preliminary_read, replies_by_event}
 use Rattle.unftp_control_client.specs.Exchange.{new_client}
-use Rattle.unftp_control_client.specs.Steps.{AreExchanges, AreSteps, ClientStep, ReplyTo, Received, Sent, Took, after_to, decoder_steps, is_final, is_something, lines_sent, replies_owed, replies_taken, sent_by, taken_by, was_owed}
+use Rattle.unftp_control_client.specs.Steps.{AreExchanges, AreSteps, ClientStep, ReplyTo, Received, Sent, Took, after_to, decoder_steps, is_final, is_something, lines_sent, replies_taken, sent_by, taken_by, was_owed}
 use Rattle.unftp_control_client.specs.declared.Client.{Client}
 use Rattle.unftp_control_client.specs.declared.dialogue.To.{To}
 use Rattle.unftp_control_client.specs.declared.dialogue.To.TheVariants.{Greeting, Command, Nothing}
 use Rattle.unftp_control_client.proofs.ClientStepLemmas.{none_owed, steps-append, steps-exchanges, steps-taken}
 use Rattle.unftp_control.specs.Conversation.{IsReadable, Show}
-use Rattle.unftp_control.specs.Acts.{AreFirst, AtClient, AtServer, IsClear, IsConversation, Server, Act, at_client, came_to_client, came_to_server, client_steps, exchanges, lines_of_client, reply_at, said_by, sent_by_client, taken_by_client, written_by}
-use Rattle.unftp_control.proofs.ConversationLemmas.{events-lines, read_all, read_so_far}
+use Rattle.unftp_control.specs.Acts.{AreFirst, AtClient, AtServer, IsConversation, IsUnderstood, Server, Act, at_client, came_to_client, came_to_server, client_steps, exchanges, lines_of_client, all_said, reply_at, sent_by_client, taken_by_client, turns_to, written_by}
+use Rattle.unftp_control.proofs.ConversationLemmas.{events-lines, length-cut_by, length-onto_first, read_all, read_so_far, shown_turns}
 
 -- ---- replies to the first bytes are the first replies
 
-pub replies_first : {S : Type 0} (law : Law S) (s : S) (events more : List FtpEvent)
-    → Begins (replies law s (run_of law s (events ++ more))) (replies law s (run_of law s events))
-replies_first law s [] more = (replies law s (run_of law s more), refl)
-replies_first law s (event ∷ events) more = by_done (law.done (law.next s event))
-    (replies_first law (law.next s event) events more)
+pub turns_first : {S : Type 0} (law : SessionLaw S) (s : S) (events more : List FtpEvent)
+    → Begins (replies_by_event law s (run_of law s (events ++ more)))
+    (replies_by_event law s (run_of law s events))
+turns_first law s [] more = (replies_by_event law s (run_of law s more), refl)
+turns_first law s (event ∷ events) more = by_done (law.done (after law s event))
+    (turns_first law (after law s event) events more)
   where
-    by_done : (done : Bool)
-        → Begins (replies law (law.next s event) (run_of law (law.next s event) (events ++ more)))
-        (replies law (law.next s event) (run_of law (law.next s event) events))
-        → Begins (replies law s (event
-        ∷ (if done then [] else run_of law (law.next s event) (events ++ more))))
-        (replies law s (event ∷ (if done then [] else run_of law (law.next s event) events)))
+    by_done : (done : Bool) → Begins
+        (replies_by_event law (after law s event) (run_of law (after law s event) (events ++ more)))
+        (replies_by_event law (after law s event) (run_of law (after law s event) events))
+        → Begins (replies_by_event law s (event
+        ∷ (if done then [] else run_of law (after law s event) (events ++ more))))
+        (replies_by_event law s (event
+        ∷ (if done then [] else run_of law (after law s event) events)))
     by_done true rest = ([], refl)
-    by_done false rest = (rest.0, ap (λ later. law.says s event ∷ later) rest.1)
+    by_done false rest = (rest.0, ap (λ later. said (turn law s event) ∷ later) rest.1)
 
-pub said_first : {S : Type 0} (server : Server S) (input more : Bytes)
-    → Begins (said_by server (input ++ more)) (said_by server input)
-said_first server input more =
-    let first = replies_first server.law server.state (events server.limit input)
-    (events server.limit (incomplete_line input ++ more)) in (
+pub turns_to_first : {S : Type 0} (server : Server S) (input more : Bytes)
+    → Begins (turns_to server (input ++ more)) (turns_to server input)
+turns_to_first server input more =
+    let first = turns_first server.law server.state (events server.limit input)
+    (events server.limit (incomplete_line input ++ more)) in
+    let greeting : List FtpReply = server.greeting ∷ [] in (
       first.0,
-      ap (λ (events : List FtpEvent). server.greeting
-          ∷ replies server.law server.state (run_of server.law server.state events))
+      ap (λ (events : List FtpEvent). greeting
+          ∷ replies_by_event server.law server.state
+          (run_of server.law server.state events))
           (events-append server.limit input more)
-          ∙ ap (λ (later : List FtpReply). server.greeting ∷ later) first.1,
+          ∙ ap (λ (later : List (List FtpReply)). greeting ∷ later) first.1,
     )
+
+pub all_said-append : (a b : List (List FtpReply)) → all_said (a ++ b) ≡ all_said a ++ all_said b
+all_said-append [] b = refl
+all_said-append (turn ∷ a) b = ap (λ later. turn ++ later) (all_said-append a b)
+    ∙ sym (append_assoc turn (all_said a) (all_said b))
+
+pub all_said-replies : {S : Type 0} (law : SessionLaw S) (s : S) (events : List FtpEvent)
+    → all_said (replies_by_event law s events) ≡ replies law s events
+all_said-replies law s [] = refl
+all_said-replies law s (event ∷ events) =
+    ap (λ later. said (turn law s event) ++ later) (all_said-replies law (after law s event) events)
+
+-- what is written is what is said
+pub written-said : {S : Type 0} (server : Server S) (input : Bytes)
+    → written_by server input ≡ flat_map encoded (all_said (turns_to server input))
+written-said server input =
+    ap (λ said. encoded server.greeting ++ flat_map encoded said)
+    (sym (all_said-replies server.law server.state
+    (run_for server.limit server.law server.state input)))
 
 pub all_of_first : {X : Type 0} (P : X → Type 0) (xs ys : List X) → AllByRecursion P (xs ++ ys)
     → AllByRecursion P xs
 all_of_first P [] ys each = tt
 all_of_first P (x ∷ xs) ys each = (each.0, all_of_first P xs ys each.1)
 
-readable_of : (replies : List FtpReply) → AllByRecursion IsClear replies
-    → AllByRecursion IsReadable replies
-readable_of [] each = tt
-readable_of (reply ∷ replies) each = (each.0.0, readable_of replies each.1)
+-- the first of turns that are understood are understood
+pub IsUnderstood-first : (turns more : List (List FtpReply)) → IsUnderstood (turns ++ more)
+    → IsUnderstood turns
+IsUnderstood-first turns more all = record {
+  readable = all_of_first IsReadable (all_said turns) (all_said more)
+      (subst (AllByRecursion IsReadable) (all_said-append turns more) all.readable);
+  exchanges = all_of_first IsExchange turns more all.exchanges;
+}
 
--- ---- replies that are final, by what they are to
+-- ---- replies by what they are to
 
-numbered : (taken : List ReplyTo) (more : List (ℕ × List Bytes)) (to : To) (said : List FtpReply)
-    → AreExchanges to taken → Show (map (λ t. t.reply) taken ++ more) said
-    → AllByRecursion IsClear said
-    → (rest : List (Option ReplyTo)) × (exchanges to said ≡ map Some taken ++ rest)
-    × (more ≡ [] → rest ≡ [])
-numbered [] more to [] are show clear = ([], refl, λ none. refl)
-numbered [] [] to (reply ∷ said) are show clear = absurd (cc)
-numbered [] (read ∷ more) to (reply ∷ said) are show clear =
-    (exchanges to (reply ∷ said), refl, λ none. absurd (cc))
-numbered (taken ∷ later) more to [] are show clear = absurd (cc)
-numbered (taken ∷ later) more to (reply ∷ said) are show clear =
-    let read : Some taken.reply ≡ reply_as_read reply =
-    ap (λ shown. get_or shown 0 None) show in
-    let last : is_preliminary taken.reply.0 ≡ false =
-    subst (λ read. IfSome read (λ read. is_preliminary read.0 ≡ false)) (sym read) clear.0.1 in
-    let next : (if is_final taken then after_to to else to) ≡ after_to to = rw last refl in
-    let rest = numbered later more (after_to to) said
-    (subst (λ to. AreExchanges to later) next are.1) (ap (drop 1) show) clear.1 in
+-- These were taken, and those that were read after them follow.
+abbrev AreNumbered : List ReplyTo → List (ℕ × List Bytes) → List (Option ReplyTo) → Type 0
+AreNumbered taken more all =
+    (rest : List (Option ReplyTo)) × (all ≡ map Some taken ++ rest) × (more ≡ [] → rest ≡ [])
+
+numbered-first : (taken : ReplyTo) (later : List ReplyTo) (more : List (ℕ × List Bytes)) (to : To)
+    (reply : FtpReply) (all : List (Option ReplyTo)) → Some taken.reply ≡ reply_as_read reply
+    → taken.to ≡ to → AreNumbered later more all
+    → AreNumbered (taken ∷ later) more (reply_at to reply ∷ all)
+numbered-first taken later more to reply all read is_to rest =
     let is_so : ◌≡◌ {A = Option ReplyTo} (reply_at to reply) (Some taken) =
     sym (ap (option_map (λ read. record { to = to; reply = read })) read)
-    ∙ (λ i. Some (record { to = sym are.0 i; reply = taken.reply })) in
+    ∙ (λ i. Some (record { to = sym is_to i; reply = taken.reply })) in
     (rest.0, (λ i. is_so i ∷ rest.1 i), rest.2)
+
+shown_first : (taken : ReplyTo) (later : List ReplyTo) (more : List (ℕ × List Bytes))
+    (reply : FtpReply) (replies : List FtpReply)
+    → Show (map (λ t. t.reply) (taken ∷ later) ++ more) (reply ∷ replies)
+    → Some taken.reply ≡ reply_as_read reply
+shown_first taken later more reply replies show = ap (λ shown. get_or shown 0 None) show
+
+-- what comes after a reply that completes its exchange, and after one that doesn't
+to_next : (taken : ReplyTo) (to : To) → is_preliminary_read taken.reply ≡ false
+    → (if is_final taken then after_to to else to) ≡ after_to to
+to_next taken to final = rw final refl
+
+to_same : (taken : ReplyTo) (to : To) → is_preliminary_read taken.reply ≡ true
+    → (if is_final taken then after_to to else to) ≡ to
+to_same taken to preliminary = rw preliminary refl
+
+-- the replies of a turn, and of those after it
+numbered : (taken : List ReplyTo) (more : List (ℕ × List Bytes)) (to : To) (turn : List FtpReply)
+    (turns : List (List FtpReply)) → IsExchange turn → AllByRecursion IsExchange turns
+    → AreExchanges to taken → Show (map (λ t. t.reply) taken ++ more) (turn ++ all_said turns)
+    → AreNumbered taken more (exchanges to (turn ∷ turns))
+numbered taken more to [] turns is each are show = absurd is
+numbered [] [] to (reply ∷ turn) turns is each are show = absurd (cc)
+numbered [] (read ∷ more) to (reply ∷ turn) turns is each are show =
+    (exchanges to ((reply ∷ turn) ∷ turns), refl, λ none. absurd (cc))
+numbered (taken ∷ []) [] to (reply ∷ []) [] is each are show =
+    numbered-first taken [] [] to reply [] (shown_first taken [] [] reply [] show) are.0
+    ([], refl, λ none. refl)
+numbered (taken ∷ []) (other ∷ more) to (reply ∷ []) [] is each are show = absurd (cc)
+numbered (taken ∷ (next ∷ later)) more to (reply ∷ []) [] is each are show = absurd (cc)
+numbered (taken ∷ later) more to (reply ∷ []) (turn ∷ turns) is each are show =
+    let read = shown_first taken later more reply (turn ++ all_said turns) show in
+    let next = to_next taken to (read-alike reply taken.reply read ∙ is) in
+    numbered-first taken later more to reply (exchanges (after_to to) (turn ∷ turns)) read are.0
+    (numbered later more (after_to to) turn turns each.0 each.1
+    (subst (λ to. AreExchanges to later) next are.1) (ap (drop 1) show))
+numbered (taken ∷ later) more to (reply ∷ (second ∷ turn)) turns is each are show =
+    let read = shown_first taken later more reply ((second ∷ turn) ++ all_said turns) show in
+    let same = to_same taken to (read-alike reply taken.reply read ∙ is.0) in
+    numbered-first taken later more to reply (exchanges to ((second ∷ turn) ∷ turns)) read are.0
+    (numbered later more to (second ∷ turn) turns is.1 each
+    (subst (λ to. AreExchanges to later) same are.1) (ap (drop 1) show))
 
 -- ---- replies that are all owed
 
@@ -98,14 +160,41 @@ owed_all : (taken : List ReplyTo) → AllByRecursion (λ t. was_owed t ≡ true)
 owed_all [] each = refl
 owed_all (t ∷ taken) each = rw each.0 (ap (λ later. t ∷ later) (owed_all taken each.1))
 
-filter_within : {X : Type 0} (p : X → Bool) (xs : List X) → length (filter p xs) ≤ length xs
-filter_within p [] = omega arith
-filter_within p (x ∷ xs) = by_test (p x) (filter_within p xs)
+-- those of them that are final
+final_owed : (taken : List ReplyTo)
+    → length (filter is_final (filter was_owed taken)) ≤ length (filter is_final taken)
+final_owed [] = omega arith
+final_owed (t ∷ taken) = by_tests (was_owed t) (is_final t) refl (final_owed taken)
   where
-    by_test : (test : Bool) → length (filter p xs) ≤ length xs
-        → length (if test then x ∷ filter p xs else filter p xs) ≤ suc (length xs)
-    by_test true h = omega (arith, h)
-    by_test false h = omega (arith, h)
+    by_tests : (owed final : Bool) → is_final t ≡ final
+        → length (filter is_final (filter was_owed taken)) ≤ length (filter is_final taken)
+        → length (filter is_final (if owed then t ∷ filter was_owed taken
+        else filter was_owed taken))
+        ≤ length (if final then t ∷ filter is_final taken else filter is_final taken)
+    by_tests true true e h = rw e (omega (arith, h))
+    by_tests true false e h = rw e h
+    by_tests false true e h = omega (arith, h)
+    by_tests false false e h = h
+
+one_more : (t : ReplyTo) (final : List ReplyTo) (parts : List (List (ℕ × List Bytes)))
+    (test : Bool) → suc (length final) ≤ length parts
+    → suc (length (if not test then t ∷ final else final))
+    ≤ length (if test then onto_first t.reply parts else (t.reply ∷ []) ∷ parts)
+one_more t final parts true h = omega (arith, h, (length-onto_first t.reply parts).1)
+one_more t final parts false h = omega (arith, h)
+
+-- each of these ended an exchange, and the next reply is of one more
+final_before : (taken : List ReplyTo) (next : ReplyTo) → suc (length (filter is_final taken))
+    ≤ length (cut_reads (map (λ t. t.reply) (taken ++ next ∷ [])))
+final_before [] next = one_part (is_preliminary_read next.reply)
+  where
+    one_part : (test : Bool) → suc 0 ≤ length (if test then onto_first next.reply []
+        else (next.reply ∷ []) ∷ [])
+    one_part true = omega arith
+    one_part false = omega arith
+final_before (t ∷ taken) next =
+    one_more t (filter is_final taken) (cut_reads (map (λ t. t.reply) (taken ++ next ∷ [])))
+    (is_preliminary_read t.reply) (final_before taken next)
 
 taken_of : (steps : List ClientStep)
     → all_taken (decoder_steps steps) ≡ map (λ t. t.reply) (replies_taken steps)
@@ -114,21 +203,16 @@ taken_of (Sent line ∷ steps) = taken_of steps
 taken_of (Received piece ∷ steps) = taken_of steps
 taken_of (Took taken ∷ steps) = ap (λ more. taken.reply ∷ more) (taken_of steps)
 
-shown_length : (read : List (ℕ × List Bytes)) (said : List FtpReply) → Show read said
-    → length read ≡ length said
-shown_length read said show =
-    sym (length-map read Some) ∙ ap length show ∙ length-map said reply_as_read
-
 -- ---- a conversation
 
 module _ {S : Type 0} (server : Server S) (limit : Option ℕ) (acts : List Act) (client : Client)
     (talk : IsConversation server limit acts client)
-    (clear : AllByRecursion IsClear (said_by server (sent_by_client acts))) where
+    (clear : IsUnderstood (turns_to server (sent_by_client acts))) where
   -- at some time of it
   module _ (before later : List Act) (split : acts ≡ before ++ later) (middle : Client)
       (are : AreSteps (new_client limit) (client_steps before) middle) where
-    abbrev here : List FtpReply
-    here = said_by server (came_to_server before)
+    abbrev here : List (List FtpReply)
+    here = turns_to server (came_to_server before)
 
     lines_so : lines_of_client acts ≡ lines_of_client before ++ lines_of_client later
     lines_so = ap lines_of_client split
@@ -143,37 +227,41 @@ module _ {S : Type 0} (server : Server S) (limit : Option ℕ) (acts : List Act)
           ∙ append_assoc (came_to_server before) sent.0 (sent_by_client later),
     )
 
-    here_first : Begins (said_by server (sent_by_client acts)) here
-    here_first = let first = said_first server (came_to_server before) came_first.0 in
-        (first.0, ap (said_by server) came_first.1 ∙ first.1)
+    here_first : Begins (turns_to server (sent_by_client acts)) here
+    here_first = let first = turns_to_first server (came_to_server before) came_first.0 in
+        (first.0, ap (turns_to server) came_first.1 ∙ first.1)
+
+    here_clear : IsUnderstood here
+    here_clear = IsUnderstood-first here here_first.0 (subst IsUnderstood here_first.1 clear)
 
     decoded : AreTakingSteps TakesReply [] (decoder_steps (client_steps before))
         middle.replies.bytes
     decoded = steps-taken (client_steps before) (new_client limit) middle are
 
     shown : (more : List (ℕ × List Bytes))
-        × Show (all_taken (decoder_steps (client_steps before)) ++ more) here
+        × Show (all_taken (decoder_steps (client_steps before)) ++ more) (all_said here)
     shown = let came = (talk.in_order before later split).to_client in
-        read_so_far here
-        (all_of_first IsReadable here here_first.0 (subst (AllByRecursion IsReadable) here_first.1
-        (readable_of (said_by server (sent_by_client acts)) clear)))
-        (decoder_steps (client_steps before)) middle.replies.bytes decoded came.0 (sym came.1)
+        read_so_far (all_said here) here_clear.readable (decoder_steps (client_steps before))
+        middle.replies.bytes decoded came.0
+        (sym came.1 ∙ written-said server (came_to_server before))
 
-    -- the greeting and one reply for each line at most
-    pub few : length (taken_by_client before) ≤ suc (length (lines_of_client before))
+    -- the greeting and one exchange for each line at most
+    pub few : length (cut_reads (map (λ (t : ReplyTo). t.reply) (taken_by_client before)))
+        ≤ suc (length (lines_of_client before))
     few =
         let sent = (talk.in_order before later split).to_server in
         let events_of = events-append server.limit (came_to_server before) sent.0 in
         let lines_are = events-lines server.limit (lines_of_client before)
         (all_of_first IsLine (lines_of_client before) (lines_of_client later)
         (subst (AllByRecursion IsLine) lines_so talk.lines)) in
+        let taken = all_taken (decoder_steps (client_steps before)) in
+        let parts = cut_reads (taken ++ shown.0) in
         omega (
           arith,
-          shown_length _ here shown.1,
-          length-append (all_taken (decoder_steps (client_steps before))) shown.0,
-          ap length (taken_of (client_steps before)),
-          length-map (taken_by_client before) (λ (t : ReplyTo). t.reply),
-          length-replies server.law server.state
+          ap (λ read. length (cut_reads read)) (taken_of (client_steps before)),
+          length-cut_by is_preliminary_read taken shown.0,
+          shown_turns (taken ++ shown.0) here here_clear.exchanges shown.1,
+          length-replies_by_event server.law server.state
               (run_for server.limit server.law server.state (came_to_server before)),
           run_of-length server.law server.state (events server.limit (came_to_server before)),
           ap (λ input. length (events server.limit input)) sent.1,
@@ -215,13 +303,14 @@ module _ {S : Type 0} (server : Server S) (limit : Option ℕ) (acts : List Act)
         arith,
         unasked,
         all,
-        filter_within is_final (replies_owed (client_steps before)),
-        filter_within was_owed (taken_by_client before),
-        ap (λ steps. length (replies_taken steps)) both,
+        final_owed (taken_by_client before),
+        final_before (taken_by_client before) taken,
         ap (λ steps. length (lines_sent steps)) both,
-        ap length (filter_map-append taken_by (client_steps before) (Took taken ∷ [])),
+        ap (λ steps. length (cut_reads (map (λ (t : ReplyTo). t.reply) (replies_taken steps))))
+            both,
+        ap (λ taken. length (cut_reads (map (λ (t : ReplyTo). t.reply) taken)))
+            (filter_map-append taken_by (client_steps before) (Took taken ∷ [])),
         ap length (filter_map-append sent_by (client_steps before) (Took taken ∷ [])),
-        length-append (taken_by_client before) (taken ∷ []),
         length-append (lines_of_client before) [],
       ))
 
@@ -253,8 +342,8 @@ module _ {S : Type 0} (server : Server S) (limit : Option ℕ) (acts : List Act)
 
   -- ---- at its end
 
-  abbrev said : List FtpReply
-  said = said_by server (sent_by_client acts)
+  abbrev turns : List (List FtpReply)
+  turns = turns_to server (sent_by_client acts)
 
   are_exchanges : AreExchanges Greeting (taken_by_client acts)
   are_exchanges = subst (AreExchanges Greeting)
@@ -264,34 +353,44 @@ module _ {S : Type 0} (server : Server S) (limit : Option ℕ) (acts : List Act)
   whole_acts : acts ≡ acts ++ []
   whole_acts = sym (append-nil acts)
 
-  pub taken_so_far : AreFirst (taken_by_client acts) (exchanges Greeting said)
+  -- each reply of what was read has its number
+  all_numbered : (more : List (ℕ × List Bytes))
+      → Show (all_taken (decoder_steps (client_steps acts)) ++ more) (all_said turns)
+      → AreNumbered (taken_by_client acts) more (exchanges Greeting turns)
+  all_numbered more show = numbered (taken_by_client acts) more Greeting (server.greeting ∷ [])
+      (replies_by_event server.law server.state
+      (run_for server.limit server.law server.state (sent_by_client acts)))
+      clear.exchanges.0 clear.exchanges.1 are_exchanges
+      (subst (λ all. Show (all ++ more) (all_said turns)) (taken_of (client_steps acts)) show)
+
+  pub taken_so_far : AreFirst (taken_by_client acts) (exchanges Greeting turns)
   taken_so_far =
       let came = (talk.in_order acts [] whole_acts).to_client in
       let first = here_first acts [] whole_acts client talk.steps in
-      let whole = ap (flat_map encoded) first.1
-      ∙ flat_map-append encoded (said_by server (came_to_server acts)) first.0
-      ∙ ap (λ bytes. bytes ++ flat_map encoded first.0) came.1
-      ∙ append_assoc (came_to_client acts) came.0 (flat_map encoded first.0) in
-      let read = read_so_far said (readable_of said clear) (decoder_steps (client_steps acts))
+      let now = turns_to server (came_to_server acts) in
+      let whole = ap (flat_map encoded) (ap all_said first.1 ∙ all_said-append now first.0)
+      ∙ flat_map-append encoded (all_said now) (all_said first.0)
+      ∙ ap (λ bytes. bytes ++ flat_map encoded (all_said first.0))
+      (sym (written-said server (came_to_server acts)) ∙ came.1)
+      ∙ append_assoc (came_to_client acts) came.0 (flat_map encoded (all_said first.0)) in
+      let read = read_so_far (all_said turns) clear.readable (decoder_steps (client_steps acts))
       client.replies.bytes (decoded acts [] whole_acts client talk.steps)
-      (came.0 ++ flat_map encoded first.0) (sym whole) in
-      let rest = numbered (taken_by_client acts) read.0 Greeting said are_exchanges
-      (subst (λ all. Show (all ++ read.0) said) (taken_of (client_steps acts)) read.1) clear in
+      (came.0 ++ flat_map encoded (all_said first.0)) (sym whole) in
+      let rest = all_numbered read.0 read.1 in
       (rest.0, rest.1)
 
   pub taken_all : came_to_client acts ≡ written_by server (sent_by_client acts)
       → ¬ HasFront client.replies.bytes
-      → (map Some (taken_by_client acts) ≡ exchanges Greeting said)
+      → (map Some (taken_by_client acts) ≡ exchanges Greeting turns)
       × (client.replies.bytes ≡ [])
   taken_all came none =
-      let read = read_all said (readable_of said clear) (decoder_steps (client_steps acts))
-      client.replies.bytes (decoded acts [] whole_acts client talk.steps) came none in
-      let rest = numbered (taken_by_client acts) [] Greeting said are_exchanges
-      (subst (λ all. Show all said)
-      (taken_of (client_steps acts)
-      ∙ sym (append-nil (map (λ (t : ReplyTo). t.reply) (taken_by_client acts)))) read.0)
-      clear in (
+      let read = read_all (all_said turns) clear.readable (decoder_steps (client_steps acts))
+      client.replies.bytes (decoded acts [] whole_acts client talk.steps)
+      (came ∙ written-said server (sent_by_client acts)) none in
+      let rest = all_numbered []
+      (subst (λ all. Show all (all_said turns))
+      (sym (append-nil (all_taken (decoder_steps (client_steps acts))))) read.0) in (
         sym (rest.1 ∙ ap (λ more. map Some (taken_by_client acts) ++ more) (rest.2 refl)
             ∙ append-nil (map Some (taken_by_client acts))),
-        read.2,
+        read.1,
       )

@@ -1,8 +1,8 @@
 -- What a client and a server understand of each other.
 use Rattle.std.proofs.Common.{◌≡◌, ℕ, ◌≤◌, List, [], ◌∷◌, ◌++◌, flat_map, filter_map, map, length, drop, Option, Some, None, Ok, Err, refl, sym, ap, subst, ◌∙◌, arith}
-use Rattle.std.specs.Prelude.{suc}
-use Rattle.std.specs.List.{AllByRecursion, concat}
-use Rattle.std.proofs.lemmas.List.{append-nil}
+use Rattle.std.specs.Prelude.{Bool, true, false, if◌then◌else◌}
+use Rattle.std.specs.List.{AllByRecursion, concat, onto_first}
+use Rattle.std.proofs.lemmas.List.{append-nil, length-map}
 use Rattle.unftp_control_defs.specs.Bytes.{Bytes}
 use Rattle.unftp_control_defs.specs.Events.{Command, event_for, event_of, events}
 use Rattle.unftp_control_defs.specs.FtpCommand.{Answer, FtpCommand}
@@ -14,14 +14,17 @@ use Rattle.unftp_control_defs.specs.TakingSteps.{AreReplies, AreTakingSteps, Tak
 use Rattle.unftp_control_defs.proofs.CanonicalLineEndLemmas.{IsLine-canonical_line}
 use Rattle.unftp_control_defs.proofs.CanonicalLineLemmas.{outcome-canonical_line}
 use Rattle.unftp_control_defs.proofs.CommandLineLemmas.{HasLine-outcome, HasTypedFields-outcome}
+use Rattle.unftp_control_defs.specs.Turns.{IsExchange, cut_after_final, cut_by, cut_reads, is_preliminary_reply}
 use Rattle.unftp_control_defs.proofs.EncodingLemmas.{ReadsBack-encoded}
+use Rattle.unftp_control_defs.proofs.ExchangeLemmas.{cut-exchange, cut-read}
 use Rattle.unftp_control_defs.proofs.ForwardedLineLemmas.{IsLine-forwarded_line, outcome-forwarded_line}
 use Rattle.unftp_control_defs.proofs.LineEventLemmas.{events-canonical_line}
 use Rattle.unftp_control_defs.proofs.LineLemmas.{Lines-lines_of, events-within, lines_of-concat}
 use Rattle.unftp_control_defs.proofs.ReplyAppendLemmas.{TakesReply-append}
 use Rattle.unftp_control_defs.proofs.ReplyCasesLemmas.{front_within}
 use Rattle.unftp_control_defs.proofs.ReplyUniqueLemmas.{FrontReply-unique}
-use Rattle.unftp_control.specs.Conversation.{CanBeSent, IsReadable, KeepsMeaning, Show, canonical_if_read, forwarded_if_read, rewritten, sent}
+use Rattle.unftp_control.specs.Acts.{all_said}
+use Rattle.unftp_control.specs.Conversation.{CanBeSent, IsReadable, KeepsMeaning, Show, ShowTurns, canonical_if_read, forwarded_if_read, rewritten, sent}
 use Rattle.unftp_control.proofs.ReplyStepLemmas.{AreReplies-all, AreReplies-unique, steps-replies}
 
 -- Lines, one after the other.
@@ -52,14 +55,6 @@ all_plain : (replies : List FtpReply) → AllByRecursion IsReadable replies
     → AllByRecursion IsPlain replies
 all_plain [] each = tt
 all_plain (reply ∷ replies) each = (each.0.0, all_plain replies each.1)
-
-same_length : (read : List (ℕ × List Bytes)) (replies : List FtpReply) → Show read replies
-    → length read ≡ length replies
-same_length [] [] show = refl
-same_length [] (reply ∷ replies) show = absurd (cc)
-same_length (reply ∷ read) [] show = absurd (cc)
-same_length (reply ∷ read) (other ∷ replies) show =
-    ap suc (same_length read replies (ap (drop 1) show))
 
 none_of_nothing : ¬ HasFront []
 none_of_nothing (code, lines, used, front) =
@@ -114,14 +109,59 @@ module _ (replies : List FtpReply) (readable : AllByRecursion IsReadable replies
       (first.0, ap (map Some) first.1 ∙ all_read replies readable)
 
   pub read_all : all_pushed steps ≡ text → ¬ HasFront pending
-      → Show (all_taken steps) replies × (length (all_taken steps) ≡ length replies)
-      × (pending ≡ [])
+      → Show (all_taken steps) replies × (pending ≡ [])
   read_all whole none =
       let same = AreReplies-unique text (all_taken steps) read
       (subst (λ bytes. AreReplies bytes (all_taken steps) pending) whole taken_of_pushed) none
       all_of_text none_of_nothing in
       let show = ap (map Some) same.0 ∙ all_read replies readable in
-      (show, same_length (all_taken steps) replies show, same.1)
+      (show, same.1)
+
+-- What is read, cut after each final reply.
+pub length-onto_first : {A : Type 0} (x : A) (parts : List (List A))
+    → (1 ≤ length (onto_first x parts)) × (length parts ≤ length (onto_first x parts))
+length-onto_first x [] = (omega arith, omega arith)
+length-onto_first x (part ∷ parts) = (omega arith, omega arith)
+
+onto_first-longer : {A : Type 0} (x : A) (parts more : List (List A))
+    → length parts ≤ length more → length (onto_first x parts) ≤ length (onto_first x more)
+onto_first-longer x [] more h = (length-onto_first x more).0
+onto_first-longer x (part ∷ parts) more h = omega (arith, h, (length-onto_first x more).1)
+
+longer : {A : Type 0} (x : A) (parts all : List (List A)) (test : Bool)
+    → length parts ≤ length all
+    → length (if test then onto_first x parts else (x ∷ []) ∷ parts)
+    ≤ length (if test then onto_first x all else (x ∷ []) ∷ all)
+longer x parts all true h = onto_first-longer x parts all h
+longer x parts all false h = omega (arith, h)
+
+-- more replies have no fewer parts
+pub length-cut_by : {A : Type 0} (preliminary : A → Bool) (read more : List A)
+    → length (cut_by preliminary read) ≤ length (cut_by preliminary (read ++ more))
+length-cut_by preliminary [] more = omega arith
+length-cut_by preliminary (x ∷ read) more =
+    longer x (cut_by preliminary read) (cut_by preliminary (read ++ more)) (preliminary x)
+    (length-cut_by preliminary read more)
+
+cut_turns : (turns : List (List FtpReply)) → AllByRecursion IsExchange turns
+    → cut_after_final (all_said turns) ≡ turns
+cut_turns [] each = refl
+cut_turns (turn ∷ turns) each =
+    cut-exchange is_preliminary_reply turn (all_said turns) each.0
+    ∙ ap (λ later. turn ∷ later) (cut_turns turns each.1)
+
+-- those to each event are a part
+pub shows_turns : (read : List (ℕ × List Bytes)) (turns : List (List FtpReply))
+    → AllByRecursion IsExchange turns → Show read (all_said turns) → ShowTurns read turns
+shows_turns read turns each show = cut-read (all_said turns) read show
+    ∙ ap (map (map reply_as_read)) (cut_turns turns each)
+
+pub shown_turns : (read : List (ℕ × List Bytes)) (turns : List (List FtpReply))
+    → AllByRecursion IsExchange turns → Show read (all_said turns)
+    → length (cut_reads read) ≡ length turns
+shown_turns read turns each show =
+    sym (length-map (cut_reads read) (map Some)) ∙ ap length (shows_turns read turns each show)
+    ∙ length-map turns (map reply_as_read)
 
 -- Lines that are rewritten.
 pub canonical-keeps : (line : Bytes) → IsLine line → (answer : Answer) → outcome line ≡ answer

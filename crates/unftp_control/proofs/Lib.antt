@@ -23,6 +23,8 @@ pub use Rattle.unftp_control_defs.proofs.LineLemmas
 pub use Rattle.unftp_control_defs.proofs.RunLemmas
 pub use Rattle.unftp_control_serve.proofs.SendLemmas
 pub use Rattle.unftp_control_serve.proofs.EndingLemmas
+pub use Rattle.unftp_control_serve.proofs.HeardLemmas
+pub use Rattle.unftp_control_defs.proofs.ExchangeLemmas
 pub use Rattle.unftp_control_serve.proofs.ServiceLemmas
 pub use Rattle.unftp_control_login.proofs.MemberLemmas
 pub use Rattle.unftp_control_client.proofs.ClientStepLemmas

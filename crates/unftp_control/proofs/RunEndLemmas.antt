@@ -6,11 +6,11 @@ use Rattle.std.proofs.lemmas.List.Folds.{concat-append}
 use Rattle.std.specs.Prelude.{if◌then◌else◌}
 use Rattle.unftp_control_defs.specs.Bytes.{Bytes}
 use Rattle.unftp_control_defs.specs.Lines.{lines_of, incomplete_line}
-use Rattle.unftp_control_defs.specs.Run.{Law, run_for, ends_for, after_lines, unread, after_end}
+use Rattle.unftp_control_defs.specs.Run.{SessionLaw, run_for, ends_for, after_lines, unread, after_end}
 use Rattle.unftp_control_defs.proofs.LineLemmas.{Lines-lines_of}
 use Rattle.unftp_control_defs.proofs.RunLemmas.{run-ended, unread-ended}
 
-module _ {S : Type 0} (law : Law S) (limit : Option ℕ) (s : S) where
+module _ {S : Type 0} (law : SessionLaw S) (limit : Option ℕ) (s : S) where
   pub same_run : (input more other : Bytes) → ends_for limit law s input ≡ true →
       run_for limit law s (input ++ more) ≡ run_for limit law s (input ++ other)
   same_run input more other ended = (run-ended law limit s input more ended).0

@@ -1,26 +1,27 @@
 -- The examples' snapshots.
-use Rattle.std.proofs.Common.{◌≡◌, ℕ, ◌+◌, ◌<◌, ◌≤◌, Bool, true, false, List, [], ◌∷◌, ◌++◌, map, None, Option, Some, length, codes, refl, sym, ap, ◌∙◌, arith, drop, get_or, length-append}
+use Rattle.std.proofs.Common.{◌≡◌, ℕ, ◌+◌, ◌<◌, ◌≤◌, Bool, true, false, List, [], ◌∷◌, ◌++◌, map, None, Option, Some, length, codes, refl, sym, ap, subst, ◌∙◌, arith, drop, get_or, length-append}
 use Rattle.std.proofs.Math.Seq.{drop-append_seam}
 use Rattle.std.specs.Fmt.{digits}
 use Rattle.std.specs.Io.KnownBytes.{Appends}
 use Rattle.std.specs.List.{AllByRecursion}
 use Rattle.std.specs.Prelude.{if◌then◌else◌}
 use Rattle.std.specs.Str.{is_utf8, chars}
+use Rattle.std.proofs.lemmas.List.{append_cancel_left}
 use Rattle.std.specs.Str.Lossy.{utf8_lossy, utf8_valid_len, utf8_error_len}
-use Rattle.unftp_control_serve.specs.Endings.{Snapshot, Cause, Finished, Handler, LineMemory, ReplyMemory, Write, IsCauseOf, handler_failures, AllAnswered, RunEnded, RunFailed}
+use Rattle.unftp_control_serve.specs.Endings.{Snapshot, Unsent, Cause, Finished, Handler, LineMemory, ReplyMemory, Write, IsCauseOf, handler_failures, AllAnswered, RunEnded, RunFailed}
 use Rattle.unftp_control_reply.specs.ErrorParts.{KindAndSource}
 use Rattle.unftp_control_serve.specs.Service.{AnsweredAll, NoRoomForPiece, ServesKnown}
 use Rattle.unftp_control_serve.specs.Writing.{Begins}
 use Rattle.unftp_control_serve.specs.declared.error.ServeError.TheVariants as error
 use Rattle.unftp_control_serve.specs.declared.service.Served.{Served}
 use Rattle.unftp_control_defs.specs.Bytes.{Bytes, LF}
-use Rattle.unftp_control_defs.specs.Events.{Command}
+use Rattle.unftp_control_defs.specs.Events.{Command, Fault}
 use Rattle.unftp_control_defs.specs.Input.{InputState}
 use Rattle.unftp_control_defs.specs.FtpCommand.{User}
-use Rattle.unftp_control_defs.specs.FtpReply.{CodeAndMsg}
+use Rattle.unftp_control_defs.specs.FtpReply.{FtpReply, CodeAndMsg, Nothing}
 use Rattle.unftp_control_defs.specs.ReplyReader.{ReadsBack}
 use Rattle.unftp_control_defs.proofs.LackLemmas.{Lacks-test}
-use Rattle.unftp_control.specs.Snapshots.{counter, counter_to_five, noop, snapshot, snapshot_of_any_writer}
+use Rattle.unftp_control.specs.Snapshots.{counter, counter_to_five, noop, snapshot, snapshot_of_any_writer, two_replies}
 use Rattle.unftp_control.proofs.FirstLineLemmas.{user-may}
 
 abbrev pub start : Snapshot ℕ
@@ -42,14 +43,61 @@ pub any_writer-written : (after : Snapshot ℕ)
 unfolding digits
 any_writer-written after v = v.written.taken
 
+-- the only reply of a turn that was not sent, and the state after it
+pub unsent-first : {S : Type 0} (steps : List (FtpReply × S)) (sent : List (FtpReply × S))
+    {IsSo : FtpReply → Type 0} {s : S} (reply : FtpReply) (next : S)
+    → steps ≡ sent ++ (reply, next) ∷ [] → Unsent steps sent IsSo s → IsSo reply × (s ≡ next)
+unsent-first steps sent {IsSo} {s} reply next is v =
+    let same : (reply, next) ∷ [] ≡ (v.reply, s) ∷ v.later =
+    append_cancel_left sent ((reply, next) ∷ []) ((v.reply, s) ∷ v.later) (sym is ∙ v.split) in
+    let pair = ap (λ steps. get_or steps 0 (reply, next)) same in
+    (subst IsSo (sym (ap (λ step. step.0) pair)) v.so, sym (ap (λ step. step.1) pair))
+
 pub write_failed-part : (part : Bytes) (after : Snapshot ℕ)
-    → RunEnded counter start (noop ∷ []) (noop ∷ []) (Write part) after →
+    → RunEnded counter start (noop ∷ []) (noop ∷ []) [] (Write part) after →
     Begins (codes "200 OK\r\n") part × (after.output.unflushed ≤ length part)
 unfolding digits
-write_failed-part part after v = (v.ends_at.1, v.flushed)
+write_failed-part part after v =
+    ((unsent-first _ [] (CodeAndMsg 200 (codes "OK")) 5 refl v.ends_at).0, v.flushed)
+
+pub write_failed-state : (part : Bytes) (after : Snapshot ℕ)
+    → RunEnded counter start (noop ∷ []) (noop ∷ []) [] (Write part) after → after.state ≡ 5
+write_failed-state part after v =
+    (unsent-first _ [] (CodeAndMsg 200 (codes "OK")) 5 refl v.ends_at).1
+
+abbrev between : Snapshot ℕ
+between = snapshot 0 [] 0
+
+pub two_replies-written : (fault : Fault) (after : Snapshot ℕ)
+    → RunEnded two_replies between [] (noop ∷ []) ((CodeAndMsg 150 [], 1) ∷ []) (Handler fault)
+    after
+    → Appends (Some []) after.output.written (codes "150\r\n") × (after.output.unflushed ≡ 0)
+unfolding digits
+two_replies-written fault after v =
+    let none : after.output.unflushed ≤ 0 = v.flushed in (v.written.known, omega (arith, none))
+
+pub two_replies-part : (part : Bytes) (after : Snapshot ℕ)
+    → RunEnded two_replies between [] (noop ∷ []) ((CodeAndMsg 150 [], 1) ∷ []) (Write part) after
+    → Begins (codes "226\r\n") part × (after.state ≡ 0)
+unfolding digits
+two_replies-part part after v =
+    unsent-first _ ((CodeAndMsg 150 [], 1) ∷ []) (CodeAndMsg 226 []) 0 refl v.ends_at
+
+pub two_replies-all_sent : (part : Bytes) (after : Snapshot ℕ)
+    → RunEnded two_replies between [] (noop ∷ [])
+    ((CodeAndMsg 150 [], 1) ∷ (CodeAndMsg 226 [], 0) ∷ []) (Write part) after → ⊥
+two_replies-all_sent part after v = let split = v.ends_at.split in absurd (cc)
+
+pub two_replies-never_sent : (fault : Fault) (after : Snapshot ℕ)
+    → RunEnded two_replies between [] (noop ∷ []) ((CodeAndMsg 150 [], 5) ∷ []) (Handler fault)
+    after → ⊥
+two_replies-never_sent fault after v =
+    let state : 1 ≡ 5 =
+    ap (λ steps. (get_or {A = FtpReply × ℕ} steps 0 (Nothing, 0)).1) v.ends_at.0.1 in
+    absurd (omega (arith, state))
 
 pub write_failed-written : (after : Snapshot ℕ)
-    → RunEnded counter start (noop ∷ []) (noop ∷ []) (Write (codes "20")) after →
+    → RunEnded counter start (noop ∷ []) (noop ∷ []) [] (Write (codes "20")) after →
     Appends (Some (codes "x")) after.output.written (codes "200 OK\r\n20")
 unfolding digits
 write_failed-written after v = v.written.known
@@ -61,6 +109,7 @@ unfolding digits is_utf8 chars utf8_lossy utf8_valid_len utf8_error_len lib.Utf8
 line_memory = record {
   later = Command (User (codes "a")) ∷ [];
   split = refl;
+  sent = [];
   cause = LineMemory;
   means = tt;
   ended = record {

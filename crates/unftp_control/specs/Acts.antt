@@ -1,14 +1,14 @@
 -- What a client and a server do at the two ends of a control connection, in any order: lines and
 -- pieces go either way while replies are taken (RFC 959, sections 4.2 and 5.4).
-use Rattle.std.specs.Prelude.{◌≡◌, ℕ, false, List, [], ◌∷◌, ◌++◌, map, option_map, Option, Some, None, IfSome}
+use Rattle.std.specs.Prelude.{◌≡◌, ℕ, List, [], ◌∷◌, ◌++◌, map, option_map, Option, Some, None}
 use Rattle.std.specs.List.{AllByRecursion, concat, filter_map}
 use Rattle.unftp_control_defs.specs.Bytes.{Bytes}
 use Rattle.unftp_control_defs.specs.FtpReply.{FtpReply, encoded, reply_as_read}
 use Rattle.unftp_control_defs.specs.Lines.{IsLine}
-use Rattle.unftp_control_defs.specs.Run.{Law, replies, run_for, text_for}
+use Rattle.unftp_control_defs.specs.Run.{SessionLaw, run_for, text_for}
+use Rattle.unftp_control_defs.specs.Turns.{IsExchange, replies_by_event}
 use Rattle.unftp_control_defs.specs.TakingSteps.{all_pushed}
 use Rattle.unftp_control_serve.specs.Writing.{Begins}
-use Rattle.unftp_control_client.specs.Dialogue.{is_preliminary}
 use Rattle.unftp_control_client.specs.Exchange.{new_client}
 use Rattle.unftp_control_client.specs.Steps.{AreSteps, ClientStep, ReplyTo, after_to, decoder_steps, lines_sent, replies_taken}
 use Rattle.unftp_control_client.specs.declared.Client.{Client}
@@ -51,19 +51,25 @@ taken_by_client acts = replies_taken (client_steps acts)
 -- A server: its handler's law and first state, the limit of its lines, and the reply with which it
 -- greets the client.
 pub record Server (S : Type 0) : Type 1 where
-  pub law : Law S
+  pub law : SessionLaw S
   pub state : S
   pub limit : Option ℕ
   pub greeting : FtpReply
 
--- what it has written once this came, and what it says to that
+-- what it has written once this came
 abbrev pub written_by : {S : Type 0} → Server S → Bytes → Bytes
 written_by server input =
     encoded server.greeting ++ text_for server.limit server.law server.state input
 
-abbrev pub said_by : {S : Type 0} → Server S → Bytes → List FtpReply
-said_by server input = server.greeting
-    ∷ replies server.law server.state (run_for server.limit server.law server.state input)
+-- what it says to that: the greeting, and its replies to each line
+abbrev pub turns_to : {S : Type 0} → Server S → Bytes → List (List FtpReply)
+turns_to server input = (server.greeting ∷ [])
+    ∷ replies_by_event server.law server.state
+    (run_for server.limit server.law server.state input)
+
+abbrev pub all_said : List (List FtpReply) → List FtpReply
+all_said [] = []
+all_said (turn ∷ turns) = turn ++ all_said turns
 
 -- No byte comes before it was sent: what came is the beginning of what was sent until then.
 pub record InOrder {S : Type 0} (server : Server S) (acts : List Act) : Type 0 where
@@ -77,22 +83,20 @@ pub record IsConversation {S : Type 0} (server : Server S) (limit : Option ℕ) 
   pub lines : AllByRecursion IsLine (lines_of_client acts)
   pub in_order : (before later : List Act) → acts ≡ before ++ later → InOrder server before
 
--- A reply that is sent, can be read back, and completes its exchange: no other one to the same
--- command follows.
-abbrev pub IsFinal : FtpReply → Type 0
-IsFinal reply = IfSome (reply_as_read reply) (λ read. is_preliminary read.0 ≡ false)
+-- The client can read back each of the replies, and tell which are to which line: those to each are
+-- some preliminary ones and then a final one.
+pub record IsUnderstood (turns : List (List FtpReply)) : Type 0 where
+  pub readable : AllByRecursion IsReadable (all_said turns)
+  pub exchanges : AllByRecursion IsExchange turns
 
-abbrev pub IsClear : FtpReply → Type 0
-IsClear reply = IsReadable reply × IsFinal reply
-
--- What is read of these replies: the first is to this, and each later one to what comes next, the
--- commands in the order of their lines.
+-- What is read of these replies: the first ones are to this, and those of each later list to what
+-- comes next, the commands in the order of their lines.
 abbrev pub reply_at : To → FtpReply → Option ReplyTo
 reply_at to reply = option_map (λ read. record { to = to; reply = read }) (reply_as_read reply)
 
-abbrev pub exchanges : To → List FtpReply → List (Option ReplyTo)
+abbrev pub exchanges : To → List (List FtpReply) → List (Option ReplyTo)
 exchanges to [] = []
-exchanges to (reply ∷ replies) = reply_at to reply ∷ exchanges (after_to to) replies
+exchanges to (turn ∷ turns) = map (reply_at to) turn ++ exchanges (after_to to) turns
 
 -- The replies that were taken are the first of these.
 abbrev pub AreFirst : List ReplyTo → List (Option ReplyTo) → Type 0

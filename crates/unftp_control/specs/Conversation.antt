@@ -10,6 +10,7 @@ use Rattle.unftp_control_defs.specs.FtpCommand.{Answer, FtpCommand, HasTypedFiel
 use Rattle.unftp_control_defs.specs.FtpReply.{FtpReply, IsPlain, Nothing, reply_as_read}
 use Rattle.unftp_control_defs.specs.Lines.{IsLine, lines_of, incomplete_line}
 use Rattle.unftp_control_defs.specs.Outcome.{outcome}
+use Rattle.unftp_control_defs.specs.Turns.{cut_reads}
 
 -- what a client sends for these commands: their canonical lines
 abbrev pub sent : List FtpCommand → Bytes
@@ -27,6 +28,11 @@ IsReadable reply = IsPlain reply × (reply ≢ Nothing)
 -- What a client has read is what these replies show: one for each, at its place.
 abbrev pub Show : List (ℕ × List Bytes) → List FtpReply → Type 0
 Show read replies = map Some read ≡ map reply_as_read replies
+
+-- The same of the replies to each event: the client cuts what it has read after each final reply,
+-- and so has one part for each event.
+abbrev pub ShowTurns : List (ℕ × List Bytes) → List (List FtpReply) → Type 0
+ShowTurns read turns = map (map Some) (cut_reads read) ≡ map (map reply_as_read) turns
 
 -- Each complete line of an input is rewritten, as by a proxy.
 abbrev pub rewritten : (Bytes → Bytes) → Bytes → Bytes

@@ -23,6 +23,7 @@ pub use Rattle.unftp_control_defs.specs.TakingSteps
 pub use Rattle.unftp_control_defs.specs.Events
 pub use Rattle.unftp_control_defs.specs.Texts
 pub use Rattle.unftp_control_defs.specs.Run
+pub use Rattle.unftp_control_defs.specs.Turns
 pub use Rattle.unftp_control_defs.specs.Pieces
 pub use Rattle.unftp_control_command.specs.CommandMeaning
 pub use Rattle.unftp_control_command.specs.declared.Command

@@ -1,16 +1,16 @@
 -- Where a run ends, in words that compute nothing.
 use Rattle.std.specs.Prelude.{◌≡◌, true, false, List, [], ◌∷◌, ◌++◌}
 use Rattle.unftp_control_defs.specs.Events.{FtpEvent}
-use Rattle.unftp_control_defs.specs.Run.{Law, last_state}
+use Rattle.unftp_control_defs.specs.Run.{SessionLaw, last_state}
 
 -- None of these events leaves the handler done.
-abbrev pub EndsNowhere : {S : Type 0} → Law S → S → List FtpEvent → Type 0
+abbrev pub EndsNowhere : {S : Type 0} → SessionLaw S → S → List FtpEvent → Type 0
 EndsNowhere law s events = (first later : List FtpEvent) (event : FtpEvent)
     → events ≡ first ++ event ∷ later
     → law.done (last_state law s (first ++ event ∷ [])) ≡ false
 
 -- Of these events, the one after the first ones leaves the handler done, and none before it does.
-pub record EndsAfter {S : Type 0} (law : Law S) (s : S) (events first : List FtpEvent)
+pub record EndsAfter {S : Type 0} (law : SessionLaw S) (s : S) (events first : List FtpEvent)
     (event : FtpEvent) : Type 0 where
   pub later : List FtpEvent
   pub split : events ≡ first ++ event ∷ later

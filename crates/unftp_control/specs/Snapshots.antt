@@ -1,38 +1,49 @@
 -- A handler and snapshots for the examples.
-use Rattle.std.specs.Prelude.{◌≡◌, ℕ, ◌+◌, ◌==◌, ◌||◌, Bool, false, if◌then◌else◌, [], Option, None, Some, codes}
+use Rattle.std.specs.Prelude.{◌≡◌, ℕ, ◌+◌, ◌==◌, ◌||◌, Bool, false, if◌then◌else◌, [], ◌∷◌, Option, None, Some, codes}
 use Rattle.unftp_control_defs.specs.Bytes.{Bytes}
 use Rattle.unftp_control_defs.specs.Events.{FtpEvent, Command, Refused, is_quit, out_of_memory}
 use Rattle.unftp_control_defs.specs.FtpCommand.{Noop}
 use Rattle.unftp_control_defs.specs.FtpReply.{FtpReply, CodeAndMsg, Nothing}
-use Rattle.unftp_control_defs.specs.Run.{Law}
+use Rattle.unftp_control_defs.specs.Run.{SessionLaw, as_session}
 use Rattle.unftp_control_serve.specs.Endings.{Snapshot}
 use Rattle.unftp_control_serve.specs.Engine.{EngineState}
 
 -- It counts the events, and its reply to each is `200 OK`. It may fail with `OutOfMemory` only.
-abbrev pub counter : Law ℕ
-counter = record {
+abbrev pub counter : SessionLaw ℕ
+counter = as_session (record {
   says = λ _ _. CodeAndMsg 200 (codes "OK");
   next = λ taken _. taken + 1;
   may_fail = λ _ _ fault. fault ≡ out_of_memory;
   done = λ _. false;
-}
+})
 
 -- As the one before, but done once it has taken five events.
-abbrev pub counter_to_five : Law ℕ
-counter_to_five = record {
+abbrev pub counter_to_five : SessionLaw ℕ
+counter_to_five = as_session (record {
   says = counter.says;
   next = counter.next;
   may_fail = counter.may_fail;
   done = λ taken. taken == 5;
-}
+})
 
 -- As the first one, but it sends no reply.
-abbrev pub silent : Law ℕ
-silent = record {
+abbrev pub silent : SessionLaw ℕ
+silent = as_session (record {
   says = λ _ _. Nothing;
   next = counter.next;
   may_fail = counter.may_fail;
   done = counter.done;
+})
+
+-- It answers 150 to each event, and then 226. It may fail with `OutOfMemory` between them.
+abbrev pub two_replies : SessionLaw ℕ
+two_replies = record {
+  says = λ _ _. CodeAndMsg 150 [];
+  next = λ _ _. 1;
+  more = λ waits. if waits == 1 then (CodeAndMsg 226 [], 0) ∷ [] else [];
+  may_fail = λ _ _ _. ⊥;
+  may_break = λ _ fault. fault ≡ out_of_memory;
+  done = λ _. false;
 }
 
 -- It answers 221 to QUIT, after which it is done, 500 to a refused line, and 200 to any other.
@@ -40,13 +51,13 @@ abbrev pub farewell_reply : FtpEvent → FtpReply
 farewell_reply (Refused fault) = CodeAndMsg 500 []
 farewell_reply (Command command) = CodeAndMsg (if is_quit (Command command) then 221 else 200) []
 
-abbrev pub farewell : Law Bool
-farewell = record {
+abbrev pub farewell : SessionLaw Bool
+farewell = as_session (record {
   says = λ _ event. farewell_reply event;
   next = λ quit event. quit || is_quit event;
   may_fail = λ _ _ _. ⊥;
   done = λ quit. quit;
-}
+})
 
 abbrev pub noop : FtpEvent
 noop = Command Noop

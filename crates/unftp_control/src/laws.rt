@@ -12,7 +12,7 @@ ghost use Rattle.unftp_control_defs.specs.TakingSteps.{TakingStep, TakesEvent, A
 ghost use Rattle.unftp_control_defs.specs.Pieces.{events_in_turn, events_in_turn, replies_in_turn};
 ghost use Rattle.unftp_control_defs.specs.Events.{FtpEvent, Refused, events, exceeds, line_too_long, event_for};
 ghost use Rattle.unftp_control_defs.specs.FtpCommand.{FtpCommand, User, HasTypedFields};
-ghost use Rattle.unftp_control_defs.specs.Run.{run_for, ends_for, text_for, unread, after_end, ends, last_state, replies, run_of};
+ghost use Rattle.unftp_control_defs.specs.Run.{as_session, run_for, ends_for, text_for, unread, after_end, ends, last_state, replies, run_of};
 ghost use Rattle.unftp_control_defs.specs.Lines.{IsLine, Lines, lines_of, incomplete_line};
 ghost use Rattle.unftp_control_defs.specs.LossyText.{Character, LossyText, first_part};
 ghost use Rattle.unftp_control_defs.specs.Outcome.{outcome};
@@ -37,8 +37,8 @@ pub use replies::{
     too_long_replies_stay,
 };
 pub use unftp_control_read::known_input_is_received;
-use unftp_control_serve::Handler;
 pub use unftp_control_serve::known_input_is_served;
+use unftp_control_serve::{Handler, Session};
 
 /// An input has one list of lines and one incomplete line, `lines_of` and `incomplete_line` (RFC
 /// 959, section 5.3).
@@ -143,12 +143,19 @@ pub fn epsv_ports_differ()
 
 /// The pieces that an input comes in give its events and the replies to them, however it is split;
 /// the pieces after the one in which the handler ends the session give no reply.
-pub fn any_cutting<H: Handler>()
+pub fn any_cutting<H: Session>()
     ensures same_events { (limit : Option ℕ) (pieces : List Bytes)
         → events_in_turn limit [] pieces ≡ events limit (concat pieces) }
-    ensures replies { (limit : Option ℕ) (s : H.State) (pieces : List Bytes)
-        → replies_in_turn limit H.law s [] pieces
-        ≡ replies H.law s (run_for limit H.law s (concat pieces)) }
+    ensures replies { (said : List H.Said) (limit : Option ℕ) (s : H.State)
+        (pieces : List Bytes)
+        → replies_in_turn limit (H.law said) s [] pieces
+        ≡ replies (H.law said) s (run_for limit (H.law said) s (concat pieces)) }
+{}
+
+/// A handler with one reply to each event gives as many replies as it takes events.
+pub fn one_reply_each<H: Handler>()
+    ensures { (s : H.State) (events : List FtpEvent)
+        → length (replies (as_session H.law) s events) ≡ length events }
 {}
 
 /// Whatever the pieces, and whenever an event is taken: the events that a server takes, and then
@@ -181,50 +188,57 @@ pub fn lines_of_events()
 
 /// Bytes after the line that ended the session change nothing: not what is written, nor the
 /// handler's state, nor which bytes are scanned.
-pub fn nothing_after_the_end<H: Handler>()
-    ensures text { (limit : Option ℕ) (s : H.State) (input more other : Bytes)
-        → ends_for limit H.law s input ≡ true
-        → text_for limit H.law s (input ++ more)
-        ≡ text_for limit H.law s (input ++ other) }
-    ensures state { (limit : Option ℕ) (s : H.State) (input more other : Bytes)
-        → ends_for limit H.law s input ≡ true
-        → last_state H.law s (run_for limit H.law s (input ++ more))
-        ≡ last_state H.law s (run_for limit H.law s (input ++ other)) }
-    ensures unread { (limit : Option ℕ) (s : H.State) (input more : Bytes)
-        → ends_for limit H.law s input ≡ true
-        → after_end limit H.law s (input ++ more) ≡ after_end limit H.law s input ++ more }
+pub fn nothing_after_the_end<H: Session>()
+    ensures text { (said : List H.Said) (limit : Option ℕ) (s : H.State)
+        (input more other : Bytes)
+        → ends_for limit (H.law said) s input ≡ true
+        → text_for limit (H.law said) s (input ++ more)
+        ≡ text_for limit (H.law said) s (input ++ other) }
+    ensures state { (said : List H.Said) (limit : Option ℕ) (s : H.State)
+        (input more other : Bytes)
+        → ends_for limit (H.law said) s input ≡ true
+        → last_state (H.law said) s (run_for limit (H.law said) s (input ++ more))
+        ≡ last_state (H.law said) s (run_for limit (H.law said) s (input ++ other)) }
+    ensures unread { (said : List H.Said) (limit : Option ℕ) (s : H.State)
+        (input more : Bytes)
+        → ends_for limit (H.law said) s input ≡ true
+        → after_end limit (H.law said) s (input ++ more)
+        ≡ after_end limit (H.law said) s input ++ more }
 {}
 
 /// A run ends with the first event that leaves the handler done, and has no later one; where none
 /// does, it has all events. The lines of its events, and then the unread bytes, are the input.
-pub fn one_run<H: Handler>()
-    ensures nowhere { (s : H.State) (events : List FtpEvent)
-        → EndsNowhere H.law s events ↔ (ends H.law s events ≡ false) }
-    ensures all { (s : H.State) (events : List FtpEvent)
-        → EndsNowhere H.law s events → run_of H.law s events ≡ events }
-    ensures ended { (s : H.State) (events first : List FtpEvent) (event : FtpEvent)
-        → EndsAfter H.law s events first event
-        → (run_of H.law s events ≡ first ++ event ∷ []) × (ends H.law s events ≡ true) }
-    ensures found { (s : H.State) (events : List FtpEvent) → ends H.law s events ≡ true
+pub fn one_run<H: Session>()
+    ensures nowhere { (said : List H.Said) (s : H.State) (events : List FtpEvent)
+        → EndsNowhere (H.law said) s events ↔ (ends (H.law said) s events ≡ false) }
+    ensures all { (said : List H.Said) (s : H.State) (events : List FtpEvent)
+        → EndsNowhere (H.law said) s events → run_of (H.law said) s events ≡ events }
+    ensures ended { (said : List H.Said) (s : H.State) (events first : List FtpEvent)
+        (event : FtpEvent)
+        → EndsAfter (H.law said) s events first event
+        → (run_of (H.law said) s events ≡ first ++ event ∷ [])
+        × (ends (H.law said) s events ≡ true) }
+    ensures found { (said : List H.Said) (s : H.State) (events : List FtpEvent)
+        → ends (H.law said) s events ≡ true
         → (first : List FtpEvent) × (event : FtpEvent)
-        × EndsAfter H.law s events first event }
-    ensures unread { (limit : Option ℕ) (s : H.State) (input : Bytes)
-        → concat (take (length (run_for limit H.law s input)) (lines_of input))
-        ++ unread limit H.law s input ≡ input }
+        × EndsAfter (H.law said) s events first event }
+    ensures unread { (said : List H.Said) (limit : Option ℕ) (s : H.State) (input : Bytes)
+        → concat (take (length (run_for limit (H.law said) s input)) (lines_of input))
+        ++ unread limit (H.law said) s input ≡ input }
 {}
 
 /// The run of a handler that is never done has all events, and leaves the incomplete line.
-pub fn never_done<H: Handler>()
-    ensures run { ((s : H.State) → H.law.done s ≡ false)
+pub fn never_done<H: Session>()
+    ensures run { (said : List H.Said) → ((s : H.State) → (H.law said).done s ≡ false)
         → (limit : Option ℕ) (s : H.State) (input : Bytes)
-        → run_for limit H.law s input ≡ events limit input }
-    ensures end { ((s : H.State) → H.law.done s ≡ false)
+        → run_for limit (H.law said) s input ≡ events limit input }
+    ensures end { (said : List H.Said) → ((s : H.State) → (H.law said).done s ≡ false)
         → (limit : Option ℕ) (s : H.State) (input : Bytes)
-        → ends_for limit H.law s input ≡ false }
-    ensures unread { ((s : H.State) → H.law.done s ≡ false)
+        → ends_for limit (H.law said) s input ≡ false }
+    ensures unread { (said : List H.Said) → ((s : H.State) → (H.law said).done s ≡ false)
         → (limit : Option ℕ) (s : H.State) (input : Bytes)
-        → (unread limit H.law s input ≡ incomplete_line input)
-        × (after_end limit H.law s input ≡ []) }
+        → (unread limit (H.law said) s input ≡ incomplete_line input)
+        × (after_end limit (H.law said) s input ≡ []) }
 {}
 
 /// A limit changes nothing for an input whose lines are within it; and of a line that is longer,

@@ -1,7 +1,8 @@
 -- An agreement to begin TLS, along a run of a client.
 use Rattle.std.proofs.Common.{◌≡◌, ◌&&◌, ◌==◌, ℕ, suc, Bool, true, false, if◌then◌else◌, List, [], ◌∷◌, ◌++◌, length, Option, Some, None, ◌-◌, unwrap_or, refl, sym, ap, subst, ◌∙◌, arith, eqb-true, append_assoc, append-nil, length-append}
 use Rattle.unftp_control_defs.specs.Bytes.{Bytes}
-use Rattle.unftp_control_client.specs.Dialogue.{agrees, after_final, after_line, after_reply, asks_for_tls, commands_owed, is_place, is_preliminary, next_to}
+use Rattle.unftp_control_defs.specs.Turns.{is_preliminary}
+use Rattle.unftp_control_client.specs.Dialogue.{agrees, after_final, after_line, after_reply, asks_for_tls, commands_owed, is_place, next_to}
 use Rattle.unftp_control_client.specs.Steps.{AreSteps, ClientStep, EndsInAgreement, ReplyTo, Sent, Received, Took, lines_sent, replies_taken}
 use Rattle.unftp_control_client.specs.declared.Client.{Client}
 use Rattle.unftp_control_client.specs.declared.dialogue.Dialogue.{Dialogue}

@@ -4,7 +4,8 @@ use Rattle.std.proofs.lemmas.Bool.{ltb-true, ltb-false}
 use Rattle.std.specs.List.{filter}
 use Rattle.unftp_control_defs.specs.Bytes.{Bytes}
 use Rattle.unftp_control_defs.specs.TakingSteps.{AreTakingSteps, TakesReply}
-use Rattle.unftp_control_client.specs.Dialogue.{after_line, after_final, after_reply, first_owed, is_preliminary, next_to}
+use Rattle.unftp_control_defs.specs.Turns.{is_preliminary}
+use Rattle.unftp_control_client.specs.Dialogue.{after_line, after_final, after_reply, first_owed, next_to}
 use Rattle.unftp_control_client.specs.Steps.{AreExchanges, AreSteps, ClientStep, IsStep, ReplyTo, Sent, Received, Took, lines_sent, decoder_steps, is_final, replies_owed, replies_taken, was_owed}
 use Rattle.unftp_control_client.specs.declared.Client.{Client}
 use Rattle.unftp_control_client.specs.declared.dialogue.Dialogue.{Dialogue}

@@ -1,16 +1,13 @@
 -- How far the dialogue of a client with a server has come (RFC 959, sections 4.2 and 5.4). The
 -- server greets the client, and then replies to its commands in order. Each gets some preliminary
 -- replies and then a final one.
-use Rattle.std.specs.Prelude.{ℕ, suc, ◌-◌, ◌&&◌, ◌||◌, ◌==◌, Bool, false, if◌then◌else◌, nat_le, nat_lt, Option, Some, None, unwrap_or, codes}
+use Rattle.std.specs.Prelude.{ℕ, suc, ◌-◌, ◌&&◌, ◌||◌, ◌==◌, Bool, false, if◌then◌else◌, nat_lt, Option, Some, None, unwrap_or, codes}
 use Rattle.std.specs.Str.{str_eq_ignore_ascii_case}
 use Rattle.unftp_control_defs.specs.Bytes.{Bytes}
+use Rattle.unftp_control_defs.specs.Turns.{is_preliminary}
 use Rattle.unftp_control_client.specs.declared.dialogue.To.{To}
 use Rattle.unftp_control_client.specs.declared.dialogue.To.TheVariants.{Greeting, Command, Nothing}
 use Rattle.unftp_control_client.specs.declared.dialogue.Dialogue.{Dialogue}
-
--- The code is 1yz: another reply to the same command follows.
-abbrev pub is_preliminary : ℕ → Bool
-is_preliminary code = nat_le 100 code && nat_lt code 200
 
 -- nothing was sent or received
 abbrev pub at_start : Dialogue

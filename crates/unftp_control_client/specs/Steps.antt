@@ -4,7 +4,8 @@ use Rattle.std.specs.List.{filter, filter_map}
 use Rattle.unftp_control_defs.specs.Bytes.{Bytes}
 use Rattle.unftp_control_defs.specs.TakingSteps.{TakesReply, TakingStep, Pushed, Taken}
 use Rattle.unftp_control_read.specs.ReplyDecoding.{content}
-use Rattle.unftp_control_client.specs.Dialogue.{after_line, after_reply, asks_for_tls, is_preliminary, next_to}
+use Rattle.unftp_control_defs.specs.Turns.{is_preliminary}
+use Rattle.unftp_control_client.specs.Dialogue.{after_line, after_reply, asks_for_tls, next_to}
 use Rattle.unftp_control_client.specs.declared.Client.{Client}
 use Rattle.unftp_control_client.specs.declared.dialogue.ClientReply.{ClientReply}
 use Rattle.unftp_control_client.specs.declared.dialogue.To.{To}

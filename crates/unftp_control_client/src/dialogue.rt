@@ -1,7 +1,8 @@
 //! How far the dialogue with a server has come.
 ghost use Rattle.std.specs.Prelude.{◌≡◌, ◌↔◌, ◌-◌, ◌^◌, IsTrue, MatchOption};
 ghost use Rattle.std.specs.Str.{str_eq_ignore_ascii_case};
-ghost use Rattle.unftp_control_client.specs.Dialogue.{after_line, after_reply, asks_for_tls, at_start, commands_owed, is_preliminary, next_to};
+ghost use Rattle.unftp_control_defs.specs.Turns.{is_preliminary};
+ghost use Rattle.unftp_control_client.specs.Dialogue.{after_line, after_reply, asks_for_tls, at_start, commands_owed, next_to};
 ghost use Rattle.unftp_control_client.specs.Steps.{reply_to};
 ghost use Rattle.unftp_control_client.specs.declared.dialogue.ClientReply.{ClientReply as RustReply};
 ghost use Rattle.unftp_control_client.specs.declared.dialogue.To.{To as RustTo};

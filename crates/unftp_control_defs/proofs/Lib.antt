@@ -5,6 +5,7 @@ pub mod VerbLemmas
 pub mod ValueLemmas
 pub mod PathLemmas
 pub mod RunLemmas
+pub mod ExchangeLemmas
 pub mod ReplyUniqueLemmas
 pub mod ReplyPartLemmas
 pub mod ReplyCasesLemmas

@@ -1,5 +1,5 @@
 -- Runs over events and inputs that are put together.
-use Rattle.std.proofs.Common.{◌≡◌, ◌≤◌, ℕ, zero, suc, Bool, true, false, ◌||◌, ◌+◌, List, [], ◌∷◌, ◌++◌, Option, length, map, take, drop, refl, sym, ap, ◌∙◌, arith, append_assoc, length-append}
+use Rattle.std.proofs.Common.{◌≡◌, ◌≤◌, ℕ, zero, suc, Bool, true, false, ◌||◌, ◌+◌, List, [], ◌∷◌, ◌++◌, Option, length, map, flat_map, take, drop, refl, sym, ap, ◌∙◌, arith, append_assoc, length-append}
 use Rattle.std.specs.Prelude.{if◌then◌else◌}
 use Rattle.std.specs.List.{AllByRecursion, concat}
 use Rattle.std.proofs.lemmas.List.{append-nil, drop-append-le, drop_all, length-map}
@@ -9,57 +9,74 @@ use Rattle.unftp_control_defs.specs.Bytes.{Bytes, LF, Lacks}
 use Rattle.unftp_control_defs.specs.Events.{FtpEvent, event_for, events}
 use Rattle.unftp_control_defs.specs.FtpReply.{FtpReply, encoded}
 use Rattle.unftp_control_defs.specs.Lines.{IsLine, lines_of, incomplete_line}
-use Rattle.unftp_control_defs.specs.Run.{run_for, ends_for, after_lines, unread, after_end, Law, run_of, ends, replies, last_state, text_of}
+use Rattle.unftp_control_defs.specs.Run.{run_for, ends_for, after_lines, unread, after_end, SessionLaw, turn, said, state_after, after, run_of, ends, replies, last_state, text_of}
 use Rattle.unftp_control_defs.specs.Pieces.{replies_in_turn}
 use Rattle.unftp_control_defs.proofs.LineLemmas.{Lines-lines_of, lines_of-append, lines_of-incomplete, incomplete_line-append, incomplete_line-incomplete, line_first, events-append, events-incomplete}
 
-pub last_state-append : {S : Type 0} (law : Law S) (s : S) (events more : List FtpEvent)
+pub last_state-append : {S : Type 0} (law : SessionLaw S) (s : S) (events more : List FtpEvent)
     → last_state law s (events ++ more) ≡ last_state law (last_state law s events) more
 last_state-append law s [] more = refl
-last_state-append law s (event ∷ events) more = last_state-append law (law.next s event) events more
-
-pub text_of-append : {S : Type 0} (law : Law S) (s : S) (events more : List FtpEvent) →
-    text_of law s (events ++ more) ≡ text_of law s events ++ text_of law (last_state law s events)
+last_state-append law s (event ∷ events) more = last_state-append law (after law s event) events
     more
-text_of-append law s [] more = refl
-text_of-append law s (event ∷ events) more =
-    ap (λ text. encoded (law.says s event) ++ text)
-    (text_of-append law (law.next s event) events more)
-    ∙ sym (append_assoc (encoded (law.says s event)) (text_of law (law.next s event) events)
-    (text_of law (last_state law (law.next s event) events) more))
 
-pub replies-append : {S : Type 0} (law : Law S) (s : S) (events more : List FtpEvent) →
+flat_map-append : (a b : List FtpReply) → flat_map encoded (a ++ b) ≡ flat_map encoded a
+    ++ flat_map encoded b
+flat_map-append [] b = refl
+flat_map-append (reply ∷ a) b = ap (λ text. encoded reply ++ text) (flat_map-append a b)
+    ∙ sym (append_assoc (encoded reply) (flat_map encoded a) (flat_map encoded b))
+
+pub replies-append : {S : Type 0} (law : SessionLaw S) (s : S) (events more : List FtpEvent) →
     replies law s (events ++ more) ≡ replies law s events ++ replies law (last_state law s events)
     more
 replies-append law s [] more = refl
 replies-append law s (event ∷ events) more =
-    ap (λ later. law.says s event ∷ later) (replies-append law (law.next s event) events more)
+    ap (λ later. said (turn law s event) ++ later)
+    (replies-append law (after law s event) events more)
+    ∙ sym (append_assoc (said (turn law s event)) (replies law (after law s event) events)
+    (replies law (last_state law (after law s event) events) more))
 
-pub length-replies : {S : Type 0} (law : Law S) (s : S) (events : List FtpEvent)
-    → length (replies law s events) ≡ length events
-length-replies law s [] = refl
-length-replies law s (event ∷ events) = let more = length-replies law (law.next s event) events in
-    omega (arith, more)
+pub text_of-append : {S : Type 0} (law : SessionLaw S) (s : S) (events more : List FtpEvent) →
+    text_of law s (events ++ more) ≡ text_of law s events ++ text_of law (last_state law s events)
+    more
+text_of-append law s events more = ap (flat_map encoded) (replies-append law s events more)
+    ∙ flat_map-append (replies law s events) (replies law (last_state law s events) more)
+
+pub said-append : {S : Type 0} (a b : List (FtpReply × S)) → said (a ++ b) ≡ said a ++ said b
+said-append [] b = refl
+said-append (step ∷ a) b = ap (λ replies. step.0 ∷ replies) (said-append a b)
+
+pub state_after-append : {S : Type 0} (s : S) (a b : List (FtpReply × S))
+    → state_after s (a ++ b) ≡ state_after (state_after s a) b
+state_after-append s [] b = refl
+state_after-append s (step ∷ a) b = state_after-append step.1 a b
+
+-- each event has at least one reply
+pub length-replies : {S : Type 0} (law : SessionLaw S) (s : S) (events : List FtpEvent)
+    → length events ≤ length (replies law s events)
+length-replies law s [] = omega arith
+length-replies law s (event ∷ events) =
+    let more = length-replies law (after law s event) events in
+    let both = length-append (said (law.more (law.next s event)))
+    (replies law (after law s event) events) in
+    omega (arith, more, both)
 
 -- what holds of every reply holds of these
-pub replies-all : {S : Type 0} (law : Law S) (P : FtpReply → Type 0)
-    → ((s : S) (event : FtpEvent) → P (law.says s event))
-    → (s : S) (events : List FtpEvent) → AllByRecursion P (replies law s events)
-replies-all law P each s [] = tt
-replies-all law P each s (event ∷ events) =
-    (each s event, replies-all law P each (law.next s event) events)
+said-all : {S : Type 0} (P : FtpReply → Type 0) (steps : List (FtpReply × S))
+    → ((step : FtpReply × S) → P step.0) → AllByRecursion P (said steps)
+said-all P [] each = tt
+said-all P (step ∷ steps) each = (each step, said-all P steps each)
 
-module _ {S : Type 0} (law : Law S) where
+module _ {S : Type 0} (law : SessionLaw S) where
   -- one event first, after which the handler is done or goes on
   pub run_of-done : (s : S) (event : FtpEvent) (events : List FtpEvent)
-      → law.done (law.next s event) ≡ true →
+      → law.done (after law s event) ≡ true →
       (run_of law s (event ∷ events) ≡ event ∷ []) × (ends law s (event ∷ events) ≡ true)
   run_of-done s event events done = rw (done) (refl, refl)
 
   pub run_of-on : (s : S) (event : FtpEvent) (events : List FtpEvent)
-      → law.done (law.next s event) ≡ false →
-      (run_of law s (event ∷ events) ≡ event ∷ run_of law (law.next s event) events)
-      × (ends law s (event ∷ events) ≡ ends law (law.next s event) events)
+      → law.done (after law s event) ≡ false →
+      (run_of law s (event ∷ events) ≡ event ∷ run_of law (after law s event) events)
+      × (ends law s (event ∷ events) ≡ ends law (after law s event) events)
   run_of-on s event events on = rw (on) (refl, refl)
 
   -- a run that doesn't end takes all events, and goes on over more of them
@@ -71,27 +88,27 @@ module _ {S : Type 0} (law : Law S) where
       → run_of law s events ≡ events
   run_of-all s [] h = refl
   run_of-all s (event ∷ events) h =
-      let on = on-first (law.done (law.next s event)) (ends law (law.next s event) events) h in
+      let on = on-first (law.done (after law s event)) (ends law (after law s event) events) h in
       (run_of-on s event events on.0).0
-      ∙ ap (λ later. event ∷ later) (run_of-all (law.next s event) events on.1)
+      ∙ ap (λ later. event ∷ later) (run_of-all (after law s event) events on.1)
 
   pub run_of-append : (s : S) (events more : List FtpEvent) → ends law s events ≡ false →
       (run_of law s (events ++ more) ≡ events ++ run_of law (last_state law s events) more)
       × (ends law s (events ++ more) ≡ ends law (last_state law s events) more)
   run_of-append s [] more h = (refl, refl)
   run_of-append s (event ∷ events) more h =
-      let on = on-first (law.done (law.next s event)) (ends law (law.next s event) events) h in
+      let on = on-first (law.done (after law s event)) (ends law (after law s event) events) h in
       let first = run_of-on s event (events ++ more) on.0 in
-      let later = run_of-append (law.next s event) events more on.1 in
+      let later = run_of-append (after law s event) events more on.1 in
       (first.0 ∙ ap (λ later. event ∷ later) later.0, first.1 ∙ later.1)
 
   -- one that ended takes none of them
   ended-first : (s : S) (event : FtpEvent) (events more : List FtpEvent)
       → ends law s (event ∷ events) ≡ true →
-      (ends law (law.next s event) events ≡ true
-      → (run_of law (law.next s event) (events ++ more) ≡ run_of law (law.next s event) events)
-      × (ends law (law.next s event) (events ++ more) ≡ true)) →
-      (done : Bool) → law.done (law.next s event) ≡ done →
+      (ends law (after law s event) events ≡ true
+      → (run_of law (after law s event) (events ++ more) ≡ run_of law (after law s event) events)
+      × (ends law (after law s event) (events ++ more) ≡ true)) →
+      (done : Bool) → law.done (after law s event) ≡ done →
       (run_of law s (event ∷ (events ++ more)) ≡ run_of law s (event ∷ events))
       × (ends law s (event ∷ (events ++ more)) ≡ true)
   ended-first s event events more h later true done =
@@ -107,13 +124,14 @@ module _ {S : Type 0} (law : Law S) where
       (run_of law s (events ++ more) ≡ run_of law s events) × (ends law s (events ++ more) ≡ true)
   run_of-ended s [] more h = absurd (cc)
   run_of-ended s (event ∷ events) more h =
-      ended-first s event events more h (λ later. run_of-ended (law.next s event) events more later)
-      (law.done (law.next s event)) refl
+      ended-first s event events more h (λ later. run_of-ended (after law s event) events more
+      later)
+      (law.done (after law s event)) refl
 
   -- a run has no more events than there are
   length-first : (s : S) (event : FtpEvent) (events : List FtpEvent)
-      → length (run_of law (law.next s event) events) ≤ length events →
-      (done : Bool) → law.done (law.next s event) ≡ done
+      → length (run_of law (after law s event) events) ≤ length events →
+      (done : Bool) → law.done (after law s event) ≡ done
       → length (run_of law s (event ∷ events)) ≤ length (event ∷ events)
   length-first s event events later true done =
       omega (arith, ap length (run_of-done s event events done).0)
@@ -124,8 +142,8 @@ module _ {S : Type 0} (law : Law S) where
       → length (run_of law s events) ≤ length events
   run_of-length s [] = omega arith
   run_of-length s (event ∷ events) =
-      length-first s event events (run_of-length (law.next s event) events)
-      (law.done (law.next s event)) refl
+      length-first s event events (run_of-length (after law s event) events)
+      (law.done (after law s event)) refl
 
   -- a run has the first of the events
   taken-first : (done : Bool) {event : FtpEvent} (events : List FtpEvent) {run : List FtpEvent}
@@ -139,20 +157,20 @@ module _ {S : Type 0} (law : Law S) where
       ≡ run_of law s events
   run_of-taken s [] = refl
   run_of-taken s (event ∷ events) =
-      taken-first (law.done (law.next s event)) events (run_of-taken (law.next s event) events)
+      taken-first (law.done (after law s event)) events (run_of-taken (after law s event) events)
 
   -- a handler that is never done takes all events
   pub never_ends : ((s : S) → law.done s ≡ false) → (s : S) (events : List FtpEvent)
       → ends law s events ≡ false
   never_ends never s [] = refl
-  never_ends never s (event ∷ events) = (run_of-on s event events (never (law.next s event))).1
-      ∙ never_ends never (law.next s event) events
+  never_ends never s (event ∷ events) = (run_of-on s event events (never (after law s event))).1
+      ∙ never_ends never (after law s event) events
 
   -- Inputs, with a limit or without one.
   module _ (limit : Option ℕ) where
     -- one line first
     module _ (s s' : S) (line more : Bytes) (is_line : IsLine line)
-        (next : s' ≡ law.next s (event_for limit line)) where
+        (next : s' ≡ after law s (event_for limit line)) where
       first_event : events limit (line ++ more) ≡ event_for limit line ∷ events limit more
       first_event = ap (map (event_for limit)) (line_first line more is_line).0
 
@@ -343,7 +361,7 @@ after_lines-within n input = omega (
   length-append (concat (drop n (lines_of input))) (incomplete_line input),
 )
 
-pub after_end-within : {S : Type 0} (law : Law S) (limit : Option ℕ) (s : S) (input : Bytes)
+pub after_end-within : {S : Type 0} (law : SessionLaw S) (limit : Option ℕ) (s : S) (input : Bytes)
     → length (after_end limit law s input) ≤ length input
 after_end-within law limit s input = by_end (ends_for limit law s input)
   where

@@ -20,5 +20,6 @@ pub mod TakingSteps
 pub mod Events
 pub mod Texts
 pub mod Run
+pub mod Turns
 pub mod Pieces
 pub mod LossyText

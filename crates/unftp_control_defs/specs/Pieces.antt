@@ -4,7 +4,7 @@ use Rattle.unftp_control_defs.specs.Bytes.{Bytes}
 use Rattle.unftp_control_defs.specs.Lines.{incomplete_line}
 use Rattle.unftp_control_defs.specs.Events.{FtpEvent, events}
 use Rattle.unftp_control_defs.specs.FtpReply.{FtpReply}
-use Rattle.unftp_control_defs.specs.Run.{run_for, ends_for, Law, last_state, replies}
+use Rattle.unftp_control_defs.specs.Run.{run_for, ends_for, SessionLaw, last_state, replies}
 
 -- the events that the pieces give one after the other, each after the incomplete line that those
 -- before it left
@@ -16,7 +16,7 @@ events_in_turn limit incomplete (piece ∷ pieces) =
 
 -- The replies that the pieces give one after the other; those after the piece in which the run ends
 -- give none.
-abbrev pub replies_in_turn : {S : Type 0} → Option ℕ → Law S → S → Bytes → List Bytes
+abbrev pub replies_in_turn : {S : Type 0} → Option ℕ → SessionLaw S → S → Bytes → List Bytes
     → List FtpReply
 replies_in_turn limit law s incomplete [] = []
 replies_in_turn limit law s incomplete (piece ∷ pieces) =

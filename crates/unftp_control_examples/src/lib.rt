@@ -11,5 +11,6 @@ pub mod paths;
 pub mod reading;
 pub mod replies;
 pub mod runs;
+pub mod turns;
 pub mod values;
 pub mod verbs;

@@ -5,7 +5,7 @@ ghost use Rattle.std.specs.Prelude.{◌≡◌, ◌+◌, ◌==◌, ℕ, true, fal
 ghost use Rattle.unftp_control_defs.specs.Events.{FtpEvent, Command, Refused, IoError, ParseError, InternalServerError, AuthenticationError, InternalMsgError, Utf8Error, UnknownCommand, InvalidCommand, ControlChannelTimeout, IllegalState, OutOfMemory, LineTooLong, NoSource, Parse, events, refusal_fault, out_of_memory, line_too_long, event_for};
 ghost use Rattle.unftp_control_defs.specs.FtpCommand.{Noop, Pwd, Quit, InvalidCommand as NoCommand, InvalidUtf8, InvalidEol};
 ghost use Rattle.unftp_control_defs.specs.FtpReply.{CodeAndMsg};
-ghost use Rattle.unftp_control_defs.specs.Run.{Law, run_of, ends, replies, last_state, text_for, after_lines, unread, after_end};
+ghost use Rattle.unftp_control_defs.specs.Run.{SessionLaw, as_session, run_of, ends, replies, last_state, text_for, after_lines, unread, after_end};
 ghost use Rattle.unftp_control_defs.specs.Pieces.{events_in_turn, events_in_turn, replies_in_turn};
 ghost use Rattle.unftp_control_defs.specs.TakingSteps.{TakesEvent, Pushed, Taken, AreTakingSteps, all_pushed, all_taken};
 ghost use Rattle.unftp_control_defs.specs.Texts.{error_text, kind_text, parse_error_text, reading_text};
@@ -83,7 +83,7 @@ pub fn errors_have_texts()
 /// A handler that counts its events, and puts the count into the code of its reply, 2yz to a
 /// command and 5yz to a refused line.
 pub fn handlers_run_so()
-    ensures { let law : Law ℕ = record {
+    ensures { let law : SessionLaw ℕ = as_session (record {
       says = λ count event. elim event [
         | Command command ↦ CodeAndMsg (200 + count) []
         | Refused fault ↦ CodeAndMsg (500 + count) []
@@ -91,7 +91,7 @@ pub fn handlers_run_so()
       next = λ count event. count + 1;
       may_fail = λ count event kind. ⊥;
       done = λ count. false;
-    } in
+    }) in
         (replies law 7 [] ≡ [])
         × (replies law 7 (Command Noop ∷ Refused out_of_memory ∷ [])
         ≡ CodeAndMsg 207 [] ∷ CodeAndMsg 508 [] ∷ [])
@@ -103,12 +103,12 @@ pub fn handlers_run_so()
 /// A handler that puts the count of its events into the code of its reply, and is done once there
 /// are two. It is not asked before the first event.
 pub fn runs_end_so()
-    ensures { let law : Law ℕ = record {
+    ensures { let law : SessionLaw ℕ = as_session (record {
       says = λ count _. CodeAndMsg (200 + count) [];
       next = λ count _. count + 1;
       may_fail = λ _ _ _. ⊥;
       done = λ count. count == 2;
-    } in
+    }) in
         let noop : FtpEvent = Command Noop in
         (run_of law 0 (noop ∷ noop ∷ noop ∷ []) ≡ noop ∷ noop ∷ [])
         × (run_of law 2 (noop ∷ noop ∷ []) ≡ noop ∷ noop ∷ [])

@@ -1,26 +1,33 @@
 -- What is written and called depends on the accounts only by the answers that they give.
-use Rattle.std.proofs.Common.{◌≡◌, ℕ, ◌-◌, Bool, true, false, cond, not, ◌&&◌, List, [], ◌∷◌, ◌++◌, Option, Some, None, refl, sym, ap, subst, ◌∙◌, append_assoc}
-use Rattle.std.specs.Prelude.{nat_le, flat_map, option_map}
+use Rattle.std.proofs.Common.{◌≡◌, ℕ, Bool, true, false, cond, List, [], ◌∷◌, ◌++◌, Option, Some, refl, sym, ap, subst, ◌∙◌, append_assoc}
+use Rattle.std.specs.Prelude.{flat_map}
 use Rattle.unftp_control_defs.specs.Bytes.{Bytes}
-use Rattle.unftp_control_defs.specs.FtpCommand.{User, Pass}
+use Rattle.unftp_control_defs.specs.FtpCommand.{Pass}
 use Rattle.unftp_control_defs.specs.Events.{FtpEvent, Command, events}
-use Rattle.unftp_control_defs.specs.FtpReply.{encoded, is_positive}
-use Rattle.unftp_control_defs.specs.Run.{Law, replies, run_of, text_for, text_of}
+use Rattle.unftp_control_defs.specs.FtpReply.{FtpReply, encoded}
+use Rattle.unftp_control_defs.specs.Run.{SessionLaw, after, replies, run_of, said, state_after, text_for, text_of, turn}
 use Rattle.unftp_control_login.specs.declared.stage.Stage.{Stage}
 use Rattle.unftp_control_login.specs.declared.stage.Stage.TheVariants.{NoName, Named, LoggedIn}
 use Rattle.unftp_control_login.specs.Login.{Accounts, GaveName}
-use Rattle.unftp_control_login.specs.HandlerCalls.{passes, makes}
-use Rattle.unftp_control_login.specs.Gate.{Gated, closed, gated_law}
-use Rattle.unftp_control_login.specs.LoginLimit.{Limited, is_pass, limited_law, limited_to, too_many}
-use Rattle.unftp_control_login.specs.Promises.{AnswerAlike, at_each, calls_for, gate_calls, limit_calls}
-use Rattle.unftp_control_login.proofs.StageLemmas.{Reason}
-use Rattle.unftp_control_login.proofs.AlikeLemmas.{Follows, Outcome, after_outcome, follows, outcome_of}
+use Rattle.unftp_control_login.specs.HandlerCalls.{and_makes}
+use Rattle.unftp_control_login.specs.Gate.{Gated, closed, gated_law, named, passed_steps}
+use Rattle.unftp_control_login.specs.LoginLimit.{Limited, is_pass, last_reply, limited_law, limited_steps, limited_to}
+use Rattle.unftp_control_login.specs.Promises.{AnswerAlike, at_each, calls_for, gate_calls, handler_calls, limit_calls, replies_to}
+use Rattle.unftp_control_login.proofs.LimitStepLemmas.{after-lifted, lifted, limited-lifted, said-lifted}
+use Rattle.unftp_control_login.proofs.MemberLemmas.{limit-follows}
+use Rattle.unftp_control_login.proofs.StageLemmas.{Follows, Reason, begins, follows}
+use Rattle.unftp_control_login.proofs.AlikeLemmas.{Outcome, outcome_of, outcome_turn}
 
-replies-each : {S : Type 0} (law : Law S) (s : S) (events : List FtpEvent)
-    → replies law s events ≡ at_each law.says law s events
+joined : List (List FtpReply) → List FtpReply
+joined [] = []
+joined (replies ∷ later) = replies ++ joined later
+
+replies-each : {S : Type 0} (law : SessionLaw S) (s : S) (events : List FtpEvent)
+    → replies law s events ≡ joined (at_each (replies_to law) law s events)
+unfolding joined
 replies-each law s [] = refl
 replies-each law s (event ∷ events) =
-    ap (λ later. law.says s event ∷ later) (replies-each law (law.next s event) events)
+    ap (λ later. replies_to law s event ++ later) (replies-each law (after law s event) events)
 
 -- At each event of some, by what comes before it.
 AllSame : (List FtpEvent → FtpEvent → Type 0) → List FtpEvent → List FtpEvent → Type 0
@@ -28,12 +35,12 @@ AllSame Same past [] = Unit {0}
 AllSame Same past (event ∷ events) = Same past event × AllSame Same (past ++ event ∷ []) events
 
 -- Runs from a state, and from another one that goes with it.
-module _ {S : Type 0} (law : Law S) (other_of : S → S) (Holds : List FtpEvent → S → Type 0)
+module _ {S : Type 0} (law : SessionLaw S) (other_of : S → S) (Holds : List FtpEvent → S → Type 0)
     (Same : List FtpEvent → FtpEvent → Type 0)
     (holds : (past : List FtpEvent) (s : S) (event : FtpEvent) → Holds past s
-    → Holds (past ++ event ∷ []) (law.next s event))
-    (next : (past : List FtpEvent) (s : S) (event : FtpEvent) → Holds past s → Same past event
-    → law.next (other_of s) event ≡ other_of (law.next s event))
+    → Holds (past ++ event ∷ []) (after law s event))
+    (turns : (past : List FtpEvent) (s : S) (event : FtpEvent) → Holds past s → Same past event
+    → turn law (other_of s) event ≡ lifted other_of (turn law s event))
     (done : (s : S) → law.done (other_of s) ≡ law.done s) where
   module _ {R : Type 0} (f : S → FtpEvent → R)
       (one : (past : List FtpEvent) (s : S) (event : FtpEvent) → Holds past s → Same past event
@@ -53,9 +60,11 @@ module _ {S : Type 0} (law : Law S) (other_of : S → S) (Holds : List FtpEvent 
     unfolding AllSame
     each-same [] past s h same = refl
     each-same (event ∷ events) past s h same =
-        let n = law.next s event in
+        let n = after law s event in
         let first = one past s event h same.0 in
-        let goes = next past s event h same.0 in
+        let goes : after law (other_of s) event ≡ other_of n =
+        ap (state_after (other_of s)) (turns past s event h same.0)
+        ∙ after-lifted other_of s (turn law s event) in
         let later = each-same events (past ++ event ∷ []) n (holds past s event h) same.1 in
         (λ i. first i ∷ at_each f law (goes i)
         (cond (law.done (goes i)) [] (run_of law (goes i) events)))
@@ -63,14 +72,14 @@ module _ {S : Type 0} (law : Law S) (other_of : S → S) (Holds : List FtpEvent 
         (cond (done n i) [] (run_of law (other_of n) events)))
         ∙ ap (λ later. f s event ∷ later) (each-or-none (law.done n) n events later)
 
-  text-same : ((past : List FtpEvent) (s : S) (event : FtpEvent) → Holds past s → Same past event
-      → law.says (other_of s) event ≡ law.says s event)
-      → (events : List FtpEvent) (s : S) → Holds [] s → AllSame Same [] events
+  text-same : (events : List FtpEvent) (s : S) → Holds [] s → AllSame Same [] events
       → text_of law (other_of s) (run_of law (other_of s) events)
       ≡ text_of law s (run_of law s events)
-  text-same says events s h same =
+  text-same events s h same =
       ap (flat_map encoded) (replies-each law (other_of s) (run_of law (other_of s) events)
-      ∙ each-same law.says says events [] s h same
+      ∙ ap joined (each-same (replies_to law)
+      (λ past s event h same. ap said (turns past s event h same)
+      ∙ said-lifted other_of (turn law s event)) events [] s h same)
       ∙ sym (replies-each law s (run_of law s events)))
 
 -- Other accounts, which answer alike.
@@ -97,7 +106,7 @@ module _ (accepts other : Accounts) where
         (subst (AnswerAlike accepts other) (sym (append_assoc past (event ∷ []) events)) alike),
   )
 
-  module _ {S : Type 0} (law : Law S) where
+  module _ {S : Type 0} (law : SessionLaw S) where
     abbrev with_other : Gated S → Gated S
     with_other s = record s { accepts = other }
 
@@ -122,72 +131,73 @@ module _ (accepts other : Accounts) where
         ap (λ (outcome : Outcome). outcome.reply) (outcome-same past s password h same)
     gate-says past s event h same = refl
 
-    gate-next : (past : List FtpEvent) (s : Gated S) (event : FtpEvent) → Follows accepts past s
-        → SameAnswer past event
-        → (gated_law law).next (with_other s) event ≡ with_other ((gated_law law).next s event)
+    with-passed : (s : Gated S) (steps : List (FtpReply × S))
+        → passed_steps (with_other s) steps ≡ lifted with_other (passed_steps s steps)
+    with-passed s [] = refl
+    with-passed s (step ∷ steps) =
+        ap (λ later. (step.0, record s { accepts = other; inner = step.1 }) ∷ later)
+        (with-passed s steps)
+
+    with-more : (s : Gated S) → (gated_law law).more (with_other s)
+        ≡ lifted with_other ((gated_law law).more s)
+    with-more s = by_passed s.passed where
+      by_passed : (passed : Bool)
+          → cond passed (passed_steps (with_other s) (law.more s.inner)) []
+          ≡ lifted with_other (cond passed (passed_steps s (law.more s.inner)) [])
+      by_passed true = with-passed s (law.more s.inner)
+      by_passed false = refl
+
+    gate-turns : (past : List FtpEvent) (s : Gated S) (event : FtpEvent)
+        → Follows accepts past s → SameAnswer past event
+        → turn (gated_law law) (with_other s) event
+        ≡ lifted with_other (turn (gated_law law) s event)
     unfolding SameAnswer
-    gate-next past s (Command (Pass password)) h same =
-        ap (after_outcome law (with_other s)) (outcome-same past s password h same)
-    gate-next past s event h same = refl
+    gate-turns past s (Command (Pass password)) h same =
+        ap (outcome_turn law (with_other s)) (outcome-same past s password h same)
+    gate-turns past s event h same =
+        let n = (gated_law law).next s event in
+        ap (λ more. ((gated_law law).says s event, with_other n) ∷ more) (with-more n)
 
     gate-called : (past : List FtpEvent) (s : Gated S) (event : FtpEvent) → Follows accepts past s
-        → SameAnswer past event → gate_calls (with_other s) event ≡ gate_calls s event
+        → SameAnswer past event → gate_calls law (with_other s) event ≡ gate_calls law s event
     unfolding SameAnswer
     gate-called past s (Command (Pass password)) h same =
-        ap (λ (outcome : Outcome). passes (option_map (λ name. Command (User name)) outcome.name)
-        ++ makes (Some outcome.reply))
-        (outcome-same past s password h same)
+        ap (λ (outcome : Outcome). and_makes (handler_calls law s.inner (named outcome.name))
+        (Some outcome.reply)) (outcome-same past s password h same)
     gate-called past s event h same = refl
 
     abbrev limit_with : Limited (Gated S) → Limited (Gated S)
-    limit_with s = record { left = s.left; inner = with_other s.inner }
+    limit_with s = record s { inner = with_other s.inner }
 
-    limit-says : (past : List FtpEvent) (s : Limited (Gated S)) (event : FtpEvent)
+    limit-turns : (past : List FtpEvent) (s : Limited (Gated S)) (event : FtpEvent)
         → Follows accepts past s.inner → SameAnswer past event
-        → (limited_law (gated_law law)).says (limit_with s) event
-        ≡ (limited_law (gated_law law)).says s event
-    limit-says past s event h same =
-        let says = gate-says past s.inner event h same in
-        λ i. cond ((is_pass event && not (is_positive (says i))) && nat_le s.left 1) too_many
-        (says i)
-
-    limit-next : (past : List FtpEvent) (s : Limited (Gated S)) (event : FtpEvent)
-        → Follows accepts past s.inner → SameAnswer past event
-        → (limited_law (gated_law law)).next (limit_with s) event
-        ≡ limit_with ((limited_law (gated_law law)).next s event)
-    limit-next past s event h same =
-        let says = gate-says past s.inner event h same in
-        λ i. record {
-          left = cond (is_pass event && not (is_positive (says i))) (s.left - 1) s.left;
-          inner = gate-next past s.inner event h same i;
-        }
+        → turn (limited_law (gated_law law)) (limit_with s) event
+        ≡ lifted limit_with (turn (limited_law (gated_law law)) s event)
+    limit-turns past s event h same =
+        ap (limited_steps s.left (is_pass event)) (gate-turns past s.inner event h same)
+        ∙ limited-lifted with_other s.left (is_pass event) (turn (gated_law law) s.inner event)
 
     limit-called : (past : List FtpEvent) (s : Limited (Gated S)) (event : FtpEvent)
         → Follows accepts past s.inner → SameAnswer past event
         → limit_calls law (limit_with s) event ≡ limit_calls law s event
     limit-called past s event h same =
-        let says = gate-says past s.inner event h same in
-        λ i. gate-called past s.inner event h same i
-        ++ makes (cond ((is_pass event && not (is_positive (says i))) && nat_le s.left 1)
-        (Some too_many) None)
+        λ i. and_makes (gate-called past s.inner event h same i)
+        (last_reply s.left (is_pass event) (gate-says past s.inner event h same i))
 
     module _ (limit : Option ℕ) (inner : S) (input : Bytes)
         (alike : AnswerAlike accepts other (events limit input)) where
-      begins : Follows accepts [] (closed accepts inner)
-      begins = record { accounts = refl; reason = tt }
-
       pub gate-accounts-hidden : (text_for limit (gated_law law) (closed accepts inner) input
           ≡ text_for limit (gated_law law) (closed other inner) input)
-          × (calls_for limit gate_calls (gated_law law) (closed accepts inner) input
-          ≡ calls_for limit gate_calls (gated_law law) (closed other inner) input)
+          × (calls_for limit (gate_calls law) (gated_law law) (closed accepts inner) input
+          ≡ calls_for limit (gate_calls law) (gated_law law) (closed other inner) input)
       gate-accounts-hidden =
           let same = all-same [] (events limit input) alike in (
             sym (text-same (gated_law law) with_other (Follows accepts) SameAnswer
-                (λ past s event. follows law event) gate-next (λ s. refl) gate-says
-                (events limit input) (closed accepts inner) begins same),
+                (follows law accepts) gate-turns (λ s. refl)
+                (events limit input) (closed accepts inner) (begins accepts inner) same),
             sym (each-same (gated_law law) with_other (Follows accepts) SameAnswer
-                (λ past s event. follows law event) gate-next (λ s. refl) gate_calls gate-called
-                (events limit input) [] (closed accepts inner) begins same),
+                (follows law accepts) gate-turns (λ s. refl) (gate_calls law) gate-called
+                (events limit input) [] (closed accepts inner) (begins accepts inner) same),
           )
 
       pub limit-accounts-hidden : (left : ℕ)
@@ -204,10 +214,12 @@ module _ (accepts other : Accounts) where
           let Holds = λ (past : List FtpEvent) (s : Limited (Gated S)). Follows accepts past s.inner
           in (
             sym (text-same (limited_law (gated_law law)) limit_with Holds SameAnswer
-                (λ past s event. follows law event) limit-next (λ s. refl) limit-says
-                (events limit input) (limited_to left (closed accepts inner)) begins same),
+                (limit-follows law accepts) limit-turns (λ s. refl)
+                (events limit input) (limited_to left (closed accepts inner))
+                (begins accepts inner) same),
             sym (each-same (limited_law (gated_law law)) limit_with Holds SameAnswer
-                (λ past s event. follows law event) limit-next (λ s. refl) (limit_calls law)
+                (limit-follows law accepts) limit-turns (λ s. refl) (limit_calls law)
                 limit-called
-                (events limit input) [] (limited_to left (closed accepts inner)) begins same),
+                (events limit input) [] (limited_to left (closed accepts inner))
+                (begins accepts inner) same),
           )

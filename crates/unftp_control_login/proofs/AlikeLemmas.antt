@@ -1,35 +1,34 @@
 -- What is written and returned says of a password only whether it is accepted.
-use Rattle.std.proofs.Common.{◌≡◌, ℕ, zero, suc, drop, arith, ◌-◌, Bool, true, false, cond, not, ◌&&◌, ◌||◌, ◌==◌, ◌⊎◌, inl, inr, IsTrue, List, [], ◌∷◌, ◌++◌, Option, Some, None, refl, sym, ap, subst, ◌∙◌, append_assoc}
-use Rattle.std.specs.Prelude.{if◌then◌else◌, nat_le, length, option_map, IsSome, IsSomeAnd, Ok, Err}
+use Rattle.std.proofs.Common.{◌≡◌, ℕ, zero, suc, drop, arith, Bool, true, false, cond, ◌||◌, ◌==◌, ◌⊎◌, inl, inr, IsTrue, List, [], ◌∷◌, ◌++◌, Option, Some, None, refl, sym, ap, subst, ◌∙◌, append_assoc}
+use Rattle.std.specs.Prelude.{if◌then◌else◌, flat_map, length, IsSome, Ok, Err}
 use Rattle.std.specs.List.{AllByRecursion, concat}
-use Rattle.std.specs.Str.{is_utf8}
 use Rattle.std.proofs.lemmas.Bool.{false≢true}
 use Rattle.std.proofs.lemmas.List.{append-nil}
 use Rattle.unftp_control_defs.specs.Bytes.{Bytes}
 use Rattle.unftp_control_defs.specs.Canonical.{canonical_line}
-use Rattle.unftp_control_defs.specs.FtpCommand.{Answer, User, Pass, InvalidUtf8}
+use Rattle.unftp_control_defs.specs.FtpCommand.{Answer, User, Pass}
 use Rattle.unftp_control_defs.specs.Events.{Fault, FtpEvent, Command, Refused, event_of, events, exceeds, line_too_long, out_of_memory}
-use Rattle.unftp_control_defs.specs.FtpReply.{FtpReply, encoded, is_positive}
+use Rattle.unftp_control_defs.specs.FtpReply.{FtpReply, Nothing, encoded}
 use Rattle.unftp_control_defs.specs.Lines.{IsLine, incomplete_line, lines_of}
-use Rattle.unftp_control_defs.specs.Outcome.{answer_by, outcome}
-use Rattle.unftp_control_defs.specs.Rules.{rule_of}
-use Rattle.unftp_control_defs.specs.Run.{after_lines, text_for, Law, last_state, run_of, text_of}
-use Rattle.unftp_control_defs.specs.Verbs.{parameter_of, upper, verb_of}
+use Rattle.unftp_control_defs.specs.Outcome.{outcome}
+use Rattle.unftp_control_defs.specs.Run.{SessionLaw, after, after_lines, last_state, replies, run_of, said, state_after, text_for, text_of, turn}
 use Rattle.unftp_control_defs.proofs.LineEventLemmas.{events-after, events-canonical_line}
 use Rattle.unftp_control_defs.proofs.LineLemmas.{Lines-lines_of, line_first, lines_of-concat}
 use Rattle.unftp_control_line_parser.specs.Memory.{AnswerMayTakeMemory, MayTakeMemory}
 use Rattle.unftp_control_serve.specs.Decoder.{MayRunOut}
-use Rattle.unftp_control_serve.specs.Endings.{Snapshot, Cause, Finished, Write, Handler, LineMemory, ReplyMemory, EndsAt, RunFailed, part_written, text_until}
+use Rattle.unftp_control_serve.specs.Endings.{Snapshot, Cause, Finished, Write, Handler, LineMemory, ReplyMemory, EndsAt, RunFailed, Unsent, part_written, text_until, whole_text}
 use Rattle.unftp_control_serve.specs.Writing.{Begins, Flushed, HasWritten}
 use Rattle.unftp_control_serve.specs.declared.error.ServeError.{ServeError}
 use Rattle.unftp_control_login.specs.declared.stage.Stage.{Stage}
 use Rattle.unftp_control_login.specs.declared.stage.Stage.TheVariants.{NoName, Named, LoggedIn}
 use Rattle.unftp_control_login.specs.Login.{Accounts}
-use Rattle.unftp_control_login.specs.HandlerCalls.{Call, passes, makes}
-use Rattle.unftp_control_login.specs.Gate.{Gated, admitted, closed, gated_law, inner_after, not_accepted, password_reply, stage_after, stage_after_password}
-use Rattle.unftp_control_login.specs.LoginLimit.{Limited, is_pass, limited_law, limited_to, too_many}
-use Rattle.unftp_control_login.specs.Promises.{AllLookAlike, AnsweredAlike, AtEachPlace, DifferInPasswords, GivesPassword, PasswordFits, FailsAlike, IsRefusedLogin, LooksAlike, at_each, calls_for, gate_calls, limit_calls, login_lines, pass_line}
-use Rattle.unftp_control_login.proofs.StageLemmas.{Reason, stage_after-reason}
+use Rattle.unftp_control_login.specs.HandlerCalls.{Call, MayFailAt, and_makes, state_then}
+use Rattle.unftp_control_login.specs.Gate.{Gated, admitted, closed, gated_law, named, not_accepted, password_reply, stage_after_password}
+use Rattle.unftp_control_login.specs.LoginLimit.{Limited, is_pass, last_reply, limited_law, limited_steps, limited_to}
+use Rattle.unftp_control_login.specs.Promises.{AllLookAlike, AnsweredAlike, AtEachPlace, DifferInPasswords, GivesPassword, PasswordFits, FailsAlike, IsRefusedLogin, LooksAlike, at_each, calls_for, gate_calls, handler_calls, limit_calls, login_lines, pass_line}
+use Rattle.unftp_control_login.proofs.StageLemmas.{Follows, Reason, begins, follows, holds-last}
+use Rattle.unftp_control_login.proofs.LimitStepLemmas.{others-after, others-said}
+use Rattle.unftp_control_login.proofs.MemberLemmas.{limit-follows}
 
 -- Lines of passwords may take memory.
 pass-answer : (answer : Answer) → IsTrue (is_pass (event_of answer)) → AnswerMayTakeMemory answer
@@ -125,9 +124,14 @@ same-length Holds before (x ∷ xs) (y ∷ ys) same =
     omega (arith, same-length Holds (before ++ x ∷ []) xs ys same.1)
 
 -- A run over events, and one over others that look like them.
-module _ {S : Type 0} (law : Law S) where
-  abbrev pub text : S → List FtpEvent → Bytes
-  text s events = text_of law s (run_of law s events)
+abbrev first_said : {S : Type 0} → List (FtpReply × S) → FtpReply
+first_said [] = Nothing
+first_said (step ∷ steps) = step.0
+
+module _ {S : Type 0} (law : SessionLaw S) where
+  -- the replies to the events of a run
+  abbrev pub answered : S → List FtpEvent → List FtpReply
+  answered s events = replies law s (run_of law s events)
 
   -- the later events of a run, where the handler isn't done
   abbrev later_run : S → List FtpEvent → List FtpEvent
@@ -135,88 +139,90 @@ module _ {S : Type 0} (law : Law S) where
 
   -- of the other event, the handler does what it does of the one
   pub record SameStep (s : S) (event other : FtpEvent) : Type 0 where
-    pub says : law.says s event ≡ law.says s other
-    pub next : law.next s event ≡ law.next s other
+    pub turns : turn law s event ≡ turn law s other
     pub may_fail : (fault : Fault) → law.may_fail s event fault → law.may_fail s other fault
 
-  later-same : (done : Bool) (s : S) (events others : List FtpEvent) → text s events ≡ text s others
-      → text_of law s (cond done [] (run_of law s events))
-      ≡ text_of law s (cond done [] (run_of law s others))
+  pub says-same : (s : S) (event other : FtpEvent) → SameStep s event other
+      → law.says s event ≡ law.says s other
+  says-same s event other step = ap first_said step.turns
+
+  after-same : {s : S} {event other : FtpEvent} → SameStep s event other
+      → after law s event ≡ after law s other
+  after-same {s} step = ap (state_after s) step.turns
+
+  later-same : (done : Bool) (s : S) (events others : List FtpEvent)
+      → answered s events ≡ answered s others
+      → replies law s (cond done [] (run_of law s events))
+      ≡ replies law s (cond done [] (run_of law s others))
   later-same true s events others same = refl
   later-same false s events others same = same
 
   first-same : {s : S} {event other : FtpEvent} (events others : List FtpEvent)
       → SameStep s event other
-      → text (law.next s event) events ≡ text (law.next s event) others
-      → text s (event ∷ events) ≡ text s (other ∷ others)
+      → answered (after law s event) events ≡ answered (after law s event) others
+      → answered s (event ∷ events) ≡ answered s (other ∷ others)
   first-same {s} {event} events others step same =
-      ap (λ later. encoded (law.says s event) ++ later)
-      (later-same (law.done (law.next s event)) (law.next s event) events others same)
-      ∙ (λ i. encoded (step.says i) ++ text_of law (step.next i) (later_run (step.next i) others))
+      ap (λ later. said (turn law s event) ++ later)
+      (later-same (law.done (after law s event)) (after law s event) events others same)
+      ∙ (λ i. said (step.turns i) ++ replies law (state_after s (step.turns i))
+      (later_run (state_after s (step.turns i)) others))
 
   -- two events after which all is the same again
   pub record SameSteps (s : S) (first second other another : FtpEvent) : Type 0 where
-    pub says : law.says s first ≡ law.says s other
-    pub done : law.done (law.next s first) ≡ law.done (law.next s other)
-    pub says_next : law.says (law.next s first) second ≡ law.says (law.next s other) another
-    pub next : law.next (law.next s first) second ≡ law.next (law.next s other) another
+    pub says : said (turn law s first) ≡ said (turn law s other)
+    pub done : law.done (after law s first) ≡ law.done (after law s other)
+    pub next : turn law (after law s first) second ≡ turn law (after law s other) another
 
   second-same : (done : Bool) {s t : S} {second another : FtpEvent} (events : List FtpEvent)
-      → law.says s second ≡ law.says t another → law.next s second ≡ law.next t another
-      → text_of law s (cond done [] (run_of law s (second ∷ events)))
-      ≡ text_of law t (cond done [] (run_of law t (another ∷ events)))
-  second-same true events says next = refl
-  second-same false events says next =
-      λ i. encoded (says i) ++ text_of law (next i) (later_run (next i) events)
+      → turn law s second ≡ turn law t another
+      → replies law s (cond done [] (run_of law s (second ∷ events)))
+      ≡ replies law t (cond done [] (run_of law t (another ∷ events)))
+  second-same true events turns = refl
+  second-same false {s} events turns = λ i. said (turns i)
+      ++ replies law (state_after s (turns i)) (later_run (state_after s (turns i)) events)
 
   pub two-same : {s : S} {first second other another : FtpEvent} (events : List FtpEvent)
       → SameSteps s first second other another
-      → text s (first ∷ second ∷ events) ≡ text s (other ∷ another ∷ events)
+      → answered s (first ∷ second ∷ events) ≡ answered s (other ∷ another ∷ events)
   two-same {s} {first} {second} {other} events h =
-      (λ i. encoded (h.says i) ++ text_of law (law.next s first)
-      (cond (h.done i) [] (run_of law (law.next s first) (second ∷ events))))
-      ∙ ap (λ later. encoded (law.says s other) ++ later)
-      (second-same (law.done (law.next s other)) events h.says_next h.next)
+      (λ i. h.says i ++ replies law (after law s first)
+      (cond (h.done i) [] (run_of law (after law s first) (second ∷ events))))
+      ∙ ap (λ later. said (turn law s other) ++ later)
+      (second-same (law.done (after law s other)) events h.next)
 
 -- What holds of the state after some events, and of events that look alike the same step.
-pub record Alike {S : Type 0} (law : Law S) (accepts : Accounts) : Type 1 where
+pub record Alike {S : Type 0} (law : SessionLaw S) (accepts : Accounts) : Type 1 where
   pub Holds : List FtpEvent → S → Type 0
-  pub holds : {past : List FtpEvent} {s : S} (event : FtpEvent) → Holds past s
-      → Holds (past ++ event ∷ []) (law.next s event)
+  pub holds : (past : List FtpEvent) (s : S) (event : FtpEvent) → Holds past s
+      → Holds (past ++ event ∷ []) (after law s event)
   pub step : {past : List FtpEvent} {s : S} {event other : FtpEvent} → Holds past s
       → LooksAlike accepts past event other → SameStep law s event other
 
-module _ {S : Type 0} {law : Law S} {accepts : Accounts} (alike : Alike law accepts) where
+module _ {S : Type 0} {law : SessionLaw S} {accepts : Accounts} (alike : Alike law accepts) where
   open alike use {Holds, holds, step}
 
   abbrev AllAlike : List FtpEvent → List FtpEvent → List FtpEvent → Type 0
   AllAlike past events others = AtEachPlace (LooksAlike accepts) past events others
 
-  text-after : (before events others : List FtpEvent) {past : List FtpEvent} {s : S}
+  answered-after : (before events others : List FtpEvent) {past : List FtpEvent} {s : S}
       → Holds past s
-      → ((past : List FtpEvent) (s : S) → Holds past s → text law s events ≡ text law s others)
-      → text law s (before ++ events) ≡ text law s (before ++ others)
-  text-after [] events others {past} {s} h same = same past s h
-  text-after (event ∷ before) events others h same =
+      → ((past : List FtpEvent) (s : S) → Holds past s
+      → answered law s events ≡ answered law s others)
+      → answered law s (before ++ events) ≡ answered law s (before ++ others)
+  answered-after [] events others {past} {s} h same = same past s h
+  answered-after (event ∷ before) events others h same =
       first-same law (before ++ events) (before ++ others)
-      (record { says = refl; next = refl; may_fail = λ fault may. may })
-      (text-after before events others (holds event h) same)
+      (record { turns = refl; may_fail = λ fault may. may })
+      (answered-after before events others (holds _ _ event h) same)
 
-  holds-after : (events : List FtpEvent) {past : List FtpEvent} {s : S} → Holds past s
-      → Holds (past ++ events) (last_state law s events)
-  holds-after [] {past} {s} h = subst (λ past. Holds past s) (sym (append-nil past)) h
-  holds-after (event ∷ events) {past} {s} h =
-      subst (λ past. Holds past (last_state law (law.next s event) events))
-      (append_assoc past (event ∷ []) events)
-      (holds-after events (holds event h))
-
-  text-alike : (events others : List FtpEvent) {past : List FtpEvent} {s : S} → Holds past s
-      → AllAlike past events others → text law s events ≡ text law s others
-  text-alike [] [] h same = refl
-  text-alike [] (other ∷ others) h same = absurd same
-  text-alike (event ∷ events) [] h same = absurd same
-  text-alike (event ∷ events) (other ∷ others) h same =
-      first-same law events others (step h same.0) (text-alike events others (holds event h) same.1)
+  answered-alike : (events others : List FtpEvent) {past : List FtpEvent} {s : S} → Holds past s
+      → AllAlike past events others → answered law s events ≡ answered law s others
+  answered-alike [] [] h same = refl
+  answered-alike [] (other ∷ others) h same = absurd same
+  answered-alike (event ∷ events) [] h same = absurd same
+  answered-alike (event ∷ events) (other ∷ others) h same =
+      first-same law events others (step h same.0)
+      (answered-alike events others (holds _ _ event h) same.1)
 
   alike-or-none : (past : List FtpEvent) (done : Bool) (later others : List FtpEvent)
       → AllAlike past later others → AllAlike past (cond done [] later) (cond done [] others)
@@ -231,10 +237,10 @@ module _ {S : Type 0} {law : Law S} {accepts : Accounts} (alike : Alike law acce
   run-alike (event ∷ events) [] h same = absurd same
   run-alike (event ∷ events) (other ∷ others) {past} {s} h same = (
     same.0,
-    subst (λ t. AllAlike (past ++ event ∷ []) (later_run law (law.next s event) events)
-        (later_run law t others)) (step h same.0).next
-        (alike-or-none (past ++ event ∷ []) (law.done (law.next s event)) _ _
-        (run-alike events others (holds event h) same.1)),
+    subst (λ t. AllAlike (past ++ event ∷ []) (later_run law (after law s event) events)
+        (later_run law t others)) (after-same law (step h same.0))
+        (alike-or-none (past ++ event ∷ []) (law.done (after law s event)) _ _
+        (run-alike events others (holds _ _ event h) same.1)),
   )
 
   last-same : (events others : List FtpEvent) {past : List FtpEvent} {s : S} → Holds past s
@@ -243,19 +249,19 @@ module _ {S : Type 0} {law : Law S} {accepts : Accounts} (alike : Alike law acce
   last-same [] (other ∷ others) h same = absurd same
   last-same (event ∷ events) [] h same = absurd same
   last-same (event ∷ events) (other ∷ others) h same =
-      last-same events others (holds event h) same.1
-      ∙ ap (λ t. last_state law t others) (step h same.0).next
+      last-same events others (holds _ _ event h) same.1
+      ∙ ap (λ t. last_state law t others) (after-same law (step h same.0))
 
   replies-same : (events others : List FtpEvent) {past : List FtpEvent} {s : S} → Holds past s
-      → AllAlike past events others → text_of law s events ≡ text_of law s others
+      → AllAlike past events others → replies law s events ≡ replies law s others
   replies-same [] [] h same = refl
   replies-same [] (other ∷ others) h same = absurd same
   replies-same (event ∷ events) [] h same = absurd same
   replies-same (event ∷ events) (other ∷ others) {past} {s} h same =
       let first : SameStep law s event other = step h same.0 in
-      ap (λ later. encoded (law.says s event) ++ later)
-      (replies-same events others (holds event h) same.1)
-      ∙ (λ i. encoded (first.says i) ++ text_of law (first.next i) others)
+      ap (λ later. said (turn law s event) ++ later)
+      (replies-same events others (holds _ _ event h) same.1)
+      ∙ (λ i. said (first.turns i) ++ replies law (state_after s (first.turns i)) others)
 
   -- What is the same of events that look alike is so at each event of such runs.
   at_each-alike : {R : Type 0} (f : S → FtpEvent → R)
@@ -268,10 +274,11 @@ module _ {S : Type 0} {law : Law S} {accepts : Accounts} (alike : Alike law acce
   at_each-alike f one (event ∷ events) [] h same = absurd same
   at_each-alike f one (event ∷ events) (other ∷ others) {past} {s} h same =
       let first : SameStep law s event other = step h same.0 in
-      ap (λ first. first ∷ at_each f law (law.next s event) events)
+      ap (λ first. first ∷ at_each f law (after law s event) events)
       (one past s event other h same.0)
-      ∙ ap (λ later. f s other ∷ later) (at_each-alike f one events others (holds event h) same.1)
-      ∙ ap (λ t. f s other ∷ at_each f law t others) first.next
+      ∙ ap (λ later. f s other ∷ later)
+      (at_each-alike f one events others (holds _ _ event h) same.1)
+      ∙ ap (λ t. f s other ∷ at_each f law t others) (after-same law first)
 
   -- A run that failed after some of its events.
   record Split (past done later run : List FtpEvent) : Type 0 where
@@ -308,21 +315,35 @@ module _ {S : Type 0} {law : Law S} {accepts : Accounts} (alike : Alike law acce
     same : AllAlike past later others
 
   ends_at-alike : {past : List FtpEvent} {t : S} (cause : Cause) (later others : List FtpEvent)
-      (t' : S) → EndsAlike past t later others
-      → EndsAt law cause t later t' → EndsAt law cause t others t'
-  ends_at-alike Finished [] [] t' both ends = ends
-  ends_at-alike Finished [] (other ∷ others) t' both ends = absurd both.same
-  ends_at-alike cause (event ∷ events) [] t' both ends = absurd both.same
-  ends_at-alike {past} {t} (Write part) (event ∷ events) (other ∷ others) t' both ends =
-      let first : SameStep law t event other = step both.now both.same.0 in
-      (ends.0 ∙ first.next, subst (λ reply. Begins (encoded reply) part) first.says ends.1)
-  ends_at-alike (Handler fault) (event ∷ events) (other ∷ others) t' both ends =
+      (sent : List (FtpReply × S)) (t' : S) → EndsAlike past t later others
+      → EndsAt law cause t later sent t' → EndsAt law cause t others sent t'
+  ends_at-alike Finished [] [] [] t' both ends = ends
+  ends_at-alike Finished [] [] (step ∷ steps) t' both ends = absurd ends
+  ends_at-alike Finished [] (other ∷ others) sent t' both ends = absurd both.same
+  ends_at-alike cause (event ∷ events) [] sent t' both ends = absurd both.same
+  ends_at-alike (Write part) (event ∷ events) (other ∷ others) sent t' both ends =
+      subst (λ steps. Unsent steps sent (λ reply. Begins (encoded reply) part) t')
+      (step both.now both.same.0).turns ends
+  ends_at-alike (Handler fault) (event ∷ events) (other ∷ others) [] t' both ends =
       (step both.now both.same.0).may_fail fault ends
-  ends_at-alike LineMemory (event ∷ events) (other ∷ others) t' both ends = ends
-  ends_at-alike {past} {t} ReplyMemory (event ∷ events) (other ∷ others) t' both ends =
-      let first : SameStep law t event other = step both.now both.same.0 in
-      (ends.0 ∙ first.next, λ none. ends.1 (first.says ∙ none))
-  ends_at-alike cause events others t' both ends = absurd ends
+  ends_at-alike (Handler fault) (event ∷ events) (other ∷ others) (given ∷ sent) t' both ends = (
+    subst (λ steps. Begins steps (given ∷ sent)) (step both.now both.same.0).turns ends.0,
+    ends.1,
+  )
+  ends_at-alike LineMemory (event ∷ events) (other ∷ others) [] t' both ends = ends
+  ends_at-alike LineMemory (event ∷ events) (other ∷ others) (given ∷ sent) t' both ends =
+      absurd ends
+  ends_at-alike ReplyMemory (event ∷ events) (other ∷ others) sent t' both ends =
+      subst (λ steps. Unsent steps sent (λ reply. ¬ (reply ≡ Nothing)) t')
+      (step both.now both.same.0).turns ends
+  ends_at-alike cause events others sent t' both ends = absurd ends
+
+  whole-same : (s : S) (done others : List FtpEvent) (sent : List (FtpReply × S))
+      → text_of law s done ≡ text_of law s others
+      → whole_text law s done sent ≡ whole_text law s others sent
+  whole-same s done others [] same = same
+  whole-same s done others (step ∷ steps) same =
+      ap (λ text. text ++ flat_map encoded (said (step ∷ steps))) same
 
   fails-alike : (limit : Option ℕ) (input other : Bytes) {before after : Snapshot S}
       {error : ServeError} {done : List FtpEvent} → Holds [] before.state
@@ -335,19 +356,24 @@ module _ {S : Type 0} {law : Law S} {accepts : Accounts} (alike : Alike law acce
       let runs = run-alike (events limit input) (events limit other) h same in
       let cut = split done (run_of law s (events limit other))
       (subst (λ run. AllAlike [] run (run_of law s (events limit other))) failed.split runs) in
-      let text = replies-same done cut.done_too h cut.done_alike in (
+      let text = whole-same s done cut.done_too failed.sent
+      (ap (flat_map encoded) (replies-same done cut.done_too h cut.done_alike)) in (
         cut.done_too,
         record {
           later = cut.later_too;
           split = cut.whole;
+          sent = failed.sent;
           cause = failed.cause;
           means = failed.means;
           ended = record {
-            ends_at = subst (λ t. EndsAt law failed.cause t cut.later_too after.state)
+            ends_at = subst
+                (λ t. EndsAt law failed.cause t cut.later_too failed.sent after.state)
                 (last-same done cut.done_too h cut.done_alike)
-                (ends_at-alike failed.cause failed.later cut.later_too after.state
-                (record { now = holds-after done h; same = cut.later_alike })
-                failed.ended.ends_at);
+                (ends_at-alike failed.cause failed.later cut.later_too failed.sent after.state
+                (record {
+                  now = holds-last law Holds holds [] s done h;
+                  same = cut.later_alike;
+                }) failed.ended.ends_at);
             written =
                 subst (λ text. HasWritten before.output after.output
                 (text_until text failed.cause)) text failed.ended.written;
@@ -377,34 +403,23 @@ outcome_of accepts stage password = record {
   name = admitted accepts stage password;
 }
 
-abbrev pub after_outcome : {S : Type 0} → Law S → Gated S → Outcome → Gated S
+abbrev pub after_outcome : {S : Type 0} → SessionLaw S → Gated S → Outcome → Gated S
 after_outcome law s outcome = record {
   accepts = s.accepts;
   stage = outcome.stage;
   quit = s.quit || false;
-  inner = inner_after law s.inner (option_map (λ name. Command (User name)) outcome.name);
+  passed = false;
+  inner = state_then law s.inner (named outcome.name);
 }
 
-abbrev MayFail : {S : Type 0} → Law S → Gated S → Fault → Outcome → Type 0
+-- all replies to a password
+abbrev pub outcome_turn : {S : Type 0} → SessionLaw S → Gated S → Outcome
+    → List (FtpReply × Gated S)
+outcome_turn law s outcome = (outcome.reply, after_outcome law s outcome) ∷ []
+
+abbrev MayFail : {S : Type 0} → SessionLaw S → Gated S → Fault → Outcome → Type 0
 MayFail law s fault outcome = (IsSome (Some outcome.reply) × (fault ≡ out_of_memory))
-    ⊎ IsSomeAnd (option_map (λ name. Command (User name)) outcome.name)
-    (λ passed. law.may_fail s.inner passed fault)
-
--- the accounts stay, and the stage comes from the events
-pub record Follows {S : Type 0} (accepts : Accounts) (past : List FtpEvent)
-    (s : Gated S) : Type 0 where
-  pub accounts : s.accepts ≡ accepts
-  pub reason : Reason accepts s.stage past
-
-pub follows : {S : Type 0} (law : Law S) {accepts : Accounts} {past : List FtpEvent} {s : Gated S}
-    (event : FtpEvent)
-    → Follows accepts past s → Follows accepts (past ++ event ∷ []) ((gated_law law).next s event)
-follows law {accepts} {past} {s} event h = record {
-  accounts = h.accounts;
-  reason = subst (λ told. Reason accepts (stage_after told s.stage event) (past ++ event ∷ []))
-      (sym h.accounts)
-      (stage_after-reason accepts s.stage past event h.reason);
-}
+    ⊎ MayFailAt law s.inner (named outcome.name) fault
 
 outcome-alike : {S : Type 0} {accepts : Accounts} {past : List FtpEvent} {s : Gated S}
     (password other : Bytes) → Follows accepts past s → AnsweredAlike accepts past password other
@@ -419,28 +434,26 @@ outcome-alike {accepts = accepts} {past = past} {s = s} password other h same =
     by_stage NoName given = refl
     by_stage LoggedIn given = refl
 
-gate-step : {S : Type 0} (law : Law S) {accepts : Accounts} {past : List FtpEvent} {s : Gated S}
-    (event other : FtpEvent)
+gate-step : {S : Type 0} (law : SessionLaw S) {accepts : Accounts} {past : List FtpEvent}
+    {s : Gated S} (event other : FtpEvent)
     → Follows accepts past s → LooksAlike accepts past event other
     → SameStep (gated_law law) s event other
 gate-step law {s = s} (Command (Pass password)) (Command (Pass other)) h same =
     let outcome = outcome-alike password other h same in
     record {
-      says = ap (λ (outcome : Outcome). outcome.reply) outcome;
-      next = ap (after_outcome law s) outcome;
+      turns = ap (outcome_turn law s) outcome;
       may_fail = λ fault may. subst (MayFail law s fault) outcome may;
     }
 gate-step law {s = s} event other h same = record {
-  says = ap ((gated_law law).says s) same;
-  next = ap ((gated_law law).next s) same;
+  turns = ap (turn (gated_law law) s) same;
   may_fail = λ fault may. subst (λ event. (gated_law law).may_fail s event fault) same may;
 }
 
 abbrev refused : Outcome
 refused = record { reply = not_accepted; stage = NoName; name = None }
 
-gate-steps : {S : Type 0} (law : Law S) {accepts : Accounts} {past : List FtpEvent} {s : Gated S}
-    {name password other another : Bytes}
+gate-steps : {S : Type 0} (law : SessionLaw S) {accepts : Accounts} {past : List FtpEvent}
+    {s : Gated S} {name password other another : Bytes}
     → accepts name password ≡ false → accepts other another ≡ false → Follows accepts past s
     → SameSteps (gated_law law) s (Command (User name)) (Command (Pass password))
     (Command (User other)) (Command (Pass another))
@@ -451,19 +464,17 @@ gate-steps law {s = s} {name} {password} {other} {another} first second h =
     record {
       says = refl;
       done = refl;
-      says_next = ap (λ (outcome : Outcome). outcome.reply) same;
-      next = ap (after_outcome law (record s { quit = s.quit || false })) same;
+      next = ap (outcome_turn law (record s { quit = s.quit || false })) same;
     }
 
-calls-step : {S : Type 0} {accepts : Accounts} {past : List FtpEvent} {s : Gated S}
-    (event other : FtpEvent)
+calls-step : {S : Type 0} (law : SessionLaw S) {accepts : Accounts} {past : List FtpEvent}
+    {s : Gated S} (event other : FtpEvent)
     → Follows accepts past s → LooksAlike accepts past event other
-    → gate_calls s event ≡ gate_calls s other
-calls-step (Command (Pass password)) (Command (Pass other)) h same =
-    ap (λ (outcome : Outcome). passes (option_map (λ name. Command (User name)) outcome.name)
-    ++ makes (Some outcome.reply))
-    (outcome-alike password other h same)
-calls-step {s = s} event other h same = ap (gate_calls s) same
+    → gate_calls law s event ≡ gate_calls law s other
+calls-step law {s = s} (Command (Pass password)) (Command (Pass other)) h same =
+    ap (λ (outcome : Outcome). and_makes (handler_calls law s.inner (named outcome.name))
+    (Some outcome.reply)) (outcome-alike password other h same)
+calls-step law {s = s} event other h same = ap (gate_calls law s) same
 
 -- Steps of a limit.
 is_pass-alike : (accepts : Accounts) (past : List FtpEvent) (event other : FtpEvent)
@@ -471,48 +482,58 @@ is_pass-alike : (accepts : Accounts) (past : List FtpEvent) (event other : FtpEv
 is_pass-alike accepts past (Command (Pass password)) (Command (Pass other)) same = refl
 is_pass-alike accepts past event other same = ap is_pass same
 
-limit-step : {S : Type 0} {law : Law S} {s : Limited S} {event other : FtpEvent}
+limit-step : {S : Type 0} {law : SessionLaw S} {s : Limited S} {event other : FtpEvent}
     → is_pass event ≡ is_pass other
     → SameStep law s.inner event other → SameStep (limited_law law) s event other
 limit-step {law = law} {s} {event} {other} pass same = record {
-  says = λ i. cond ((pass i && not (is_positive (same.says i))) && nat_le s.left 1) too_many
-      (same.says i);
-  next = λ i. record {
-    left = cond (pass i && not (is_positive (same.says i))) (s.left - 1) s.left;
-    inner = same.next i;
-  };
+  turns = λ i. limited_steps s.left (pass i) (same.turns i);
   may_fail = fails;
 }
   where
     fails : (fault : Fault) → (limited_law law).may_fail s event fault
         → (limited_law law).may_fail s other fault
     fails fault (inl may) = inl (same.may_fail fault may)
-    fails fault (inr last) =
-        inr (subst IsTrue (λ i. pass i && not (is_positive (same.says i))) last.0, last.1, last.2)
+    fails fault (inr last) = inr (
+      subst IsSome
+          (λ i. last_reply s.left (pass i) (says-same law s.inner event other same i)) last.0,
+      last.1,
+    )
 
-limit_calls-step : {S : Type 0} (law : Law S) (s : Limited (Gated S)) (event other : FtpEvent)
-    → is_pass event ≡ is_pass other → gate_calls s.inner event ≡ gate_calls s.inner other
+limit_calls-step : {S : Type 0} (law : SessionLaw S) (s : Limited (Gated S))
+    (event other : FtpEvent) → is_pass event ≡ is_pass other
+    → gate_calls law s.inner event ≡ gate_calls law s.inner other
     → (gated_law law).says s.inner event ≡ (gated_law law).says s.inner other
     → limit_calls law s event ≡ limit_calls law s other
 limit_calls-step law s event other pass calls says =
-    λ i. calls i
-    ++ makes (cond ((pass i && not (is_positive (says i))) && nat_le s.left 1) (Some too_many) None)
+    λ i. and_makes (calls i) (last_reply s.left (pass i) (says i))
 
-limit-steps : {S : Type 0} {law : Law S} {s : Limited S} {name password other another : Bytes}
+limit-steps : {S : Type 0} {law : SessionLaw S} {s : Limited S}
+    {name password other another : Bytes}
     → SameSteps law s.inner (Command (User name)) (Command (Pass password)) (Command (User other))
     (Command (Pass another))
     → SameSteps (limited_law law) s (Command (User name)) (Command (Pass password))
     (Command (User other)) (Command (Pass another))
-limit-steps {s = s} h = record {
-  says = h.says;
-  done = ap (λ done. (s.left == 0) || done) h.done;
-  says_next = λ i. cond ((true && not (is_positive (h.says_next i))) && nat_le s.left 1) too_many
-      (h.says_next i);
-  next = λ i. record {
-    left = cond (true && not (is_positive (h.says_next i))) (s.left - 1) s.left;
-    inner = h.next i;
-  };
-}
+limit-steps {law = law} {s} {name} {password} {other} {another} h =
+    let one = user_after name in
+    let two = user_after other in
+    record {
+      says = others-said s.left (turn law s.inner (Command (User name))) ∙ h.says
+          ∙ sym (others-said s.left (turn law s.inner (Command (User other))));
+      done = ap (limited_law law).done one ∙ ap (λ done. (s.left == 0) || done) h.done
+          ∙ sym (ap (limited_law law).done two);
+      next = ap (λ s. turn (limited_law law) s (Command (Pass password))) one
+          ∙ ap (limited_steps s.left true) h.next
+          ∙ sym (ap (λ s. turn (limited_law law) s (Command (Pass another))) two);
+    }
+  where
+    user_after : (name : Bytes) → after (limited_law law) s (Command (User name)) ≡ record {
+      left = s.left;
+      at_pass = false;
+      ended = false;
+      inner = after law s.inner (Command (User name));
+    }
+    user_after name = others-after s.left (law.next s.inner (Command (User name)))
+        (law.more (law.next s.inner (Command (User name))))
 
 -- Events that look alike, in bytes.
 events-pass : (limit : Option ℕ) (before after password : Bytes) → incomplete_line before ≡ []
@@ -566,7 +587,7 @@ module _ (accepts : Accounts) where
 
 -- What is said of a handler, from some state on: of inputs that look alike, of passwords that are
 -- answered alike, and of logins that are refused.
-module _ {S : Type 0} (limit : Option ℕ) (accepts : Accounts) (law : Law S) (s : S) where
+module _ {S : Type 0} (limit : Option ℕ) (accepts : Accounts) (law : SessionLaw S) (s : S) where
   abbrev pub TextHidden : Type 0
   TextHidden = (input other : Bytes)
       → AllLookAlike accepts (events limit input) (events limit other)
@@ -596,11 +617,11 @@ module _ {S : Type 0} (limit : Option ℕ) (accepts : Accounts) (law : Law S) (s
       ≡ text_for limit law s (before ++ (login_lines other another ++ after))
 
 -- A handler whose steps are so, over inputs.
-module _ {S : Type 0} {law : Law S} {accepts : Accounts} (alike : Alike law accepts)
+module _ {S : Type 0} {law : SessionLaw S} {accepts : Accounts} (alike : Alike law accepts)
     (limit : Option ℕ) (s : S) (first : alike.Holds [] s) where
   text-hidden : TextHidden limit accepts law s
-  text-hidden input other same = text-alike alike (events limit input) (events limit other) first
-      same
+  text-hidden input other same = ap (flat_map encoded)
+      (answered-alike alike (events limit input) (events limit other) first same)
 
   errors-hidden : ErrorsHidden limit accepts law s
   errors-hidden input other same differ before after error done is failed =
@@ -631,45 +652,43 @@ module _ {S : Type 0} {law : Law S} {accepts : Accounts} (alike : Alike law acce
       (Command (Pass another)))
       → LoginsAlike limit accepts law s
   text-logins steps before after name password other another ended one two =
-      ap (text law s) (events-login before after ended one)
-      ∙ text-after alike (events limit before) _ _ first
+      ap (flat_map encoded) (ap (answered law s) (events-login before after ended one)
+      ∙ answered-after alike (events limit before) _ _ first
       (λ past s h. two-same law (events limit after)
       (steps _ _ _ _ past s one.refused two.refused h))
-      ∙ sym (ap (text law s) (events-login before after ended two))
+      ∙ sym (ap (answered law s) (events-login before after ended two)))
 
 -- The gate, and a limit before it.
-module _ {S : Type 0} (law : Law S) (limit : Option ℕ) (accepts : Accounts) (inner : S) where
+module _ {S : Type 0} (law : SessionLaw S) (limit : Option ℕ) (accepts : Accounts) (inner : S) where
   abbrev gate_alike : Alike (gated_law law) accepts
   gate_alike = record {
     Holds = Follows accepts;
-    holds = follows law;
+    holds = follows law accepts;
     step = gate-step law _ _;
   }
 
-  begins : Follows accepts [] (closed accepts inner)
-  begins = record { accounts = refl; reason = tt }
-
   pub gate-text-hidden : TextHidden limit accepts (gated_law law) (closed accepts inner)
-  gate-text-hidden = text-hidden gate_alike limit (closed accepts inner) begins
+  gate-text-hidden = text-hidden gate_alike limit (closed accepts inner) (begins accepts inner)
 
   pub gate-errors-hidden : ErrorsHidden limit accepts (gated_law law) (closed accepts inner)
-  gate-errors-hidden = errors-hidden gate_alike limit (closed accepts inner) begins
+  gate-errors-hidden = errors-hidden gate_alike limit (closed accepts inner) (begins accepts inner)
 
   pub gate-calls-hidden : CallsHidden limit accepts (gated_law law) (closed accepts inner)
-      gate_calls
-  gate-calls-hidden = calls-hidden gate_alike limit (closed accepts inner) begins gate_calls
-      (λ past s event other. calls-step event other)
+      (gate_calls law)
+  gate-calls-hidden = calls-hidden gate_alike limit (closed accepts inner) (begins accepts inner)
+      (gate_calls law) (λ past s event other. calls-step law event other)
 
   pub gate-text-passwords : PasswordsAlike limit accepts (gated_law law) (closed accepts inner)
-  gate-text-passwords = text-passwords gate_alike limit (closed accepts inner) begins
+  gate-text-passwords =
+      text-passwords gate_alike limit (closed accepts inner) (begins accepts inner)
 
   pub gate-text-logins : LoginsAlike limit accepts (gated_law law) (closed accepts inner)
-  gate-text-logins = text-logins gate_alike limit (closed accepts inner) begins
+  gate-text-logins = text-logins gate_alike limit (closed accepts inner) (begins accepts inner)
       (λ name password other another past s. gate-steps law)
 
-module _ {S : Type 0} (law : Law S) (limit : Option ℕ) (accepts : Accounts) (left : ℕ)
+module _ {S : Type 0} (law : SessionLaw S) (limit : Option ℕ) (accepts : Accounts) (left : ℕ)
     (inner : S) where
-  abbrev limited : Law (Limited (Gated S))
+  abbrev limited : SessionLaw (Limited (Gated S))
   limited = limited_law (gated_law law)
 
   abbrev start : Limited (Gated S)
@@ -678,12 +697,12 @@ module _ {S : Type 0} (law : Law S) (limit : Option ℕ) (accepts : Accounts) (l
   abbrev limit_alike : Alike limited accepts
   limit_alike = record {
     Holds = λ past s. Follows accepts past s.inner;
-    holds = follows law;
+    holds = limit-follows law accepts;
     step = λ h same. limit-step (is_pass-alike accepts _ _ _ same) (gate-step law _ _ h same);
   }
 
   limit_begins : Follows accepts [] start.inner
-  limit_begins = record { accounts = refl; reason = tt }
+  limit_begins = begins accepts inner
 
   pub limit-text-hidden : TextHidden limit accepts limited start
   limit-text-hidden = text-hidden limit_alike limit start limit_begins
@@ -695,7 +714,8 @@ module _ {S : Type 0} (law : Law S) (limit : Option ℕ) (accepts : Accounts) (l
   limit-calls-hidden = calls-hidden limit_alike limit start limit_begins (limit_calls law)
       (λ past s event other h same. limit_calls-step law s event other
       (is_pass-alike accepts _ _ _ same)
-      (calls-step event other h same) (gate-step law event other h same).says)
+      (calls-step law event other h same)
+      (says-same (gated_law law) s.inner event other (gate-step law event other h same)))
 
   pub limit-text-passwords : PasswordsAlike limit accepts limited start
   limit-text-passwords = text-passwords limit_alike limit start limit_begins

@@ -4,10 +4,10 @@ use Rattle.std.proofs.lemmas.Bool.{false≢true}
 use Rattle.unftp_control_defs.specs.Bytes.{Bytes}
 use Rattle.unftp_control_defs.specs.FtpCommand.{Noop}
 use Rattle.unftp_control_defs.specs.Events.{FtpEvent, Command, events}
-use Rattle.unftp_control_defs.specs.Run.{Law, run_of}
+use Rattle.unftp_control_defs.specs.Run.{SessionLaw, run_of}
 use Rattle.unftp_control_defs.proofs.LineEventLemmas.{events-canonical_line}
 use Rattle.unftp_control_login.specs.declared.stage.Stage.TheVariants.{NoName, Named}
-use Rattle.unftp_control_login.specs.HandlerCalls.{Call, Passes}
+use Rattle.unftp_control_login.specs.HandlerCalls.{AsksFurther, Call, Passes}
 use Rattle.unftp_control_login.specs.Login.{GaveName}
 use Rattle.unftp_control_login.specs.Gate.{Gated, closed, gated_law}
 use Rattle.unftp_control_login.specs.Promises.{AnswerAlike, at_each, calls_for, gate_calls}
@@ -21,12 +21,12 @@ noop = events-canonical_line None Noop [] tt tt refl
 
 abbrev calls_of_run : List FtpEvent → List (List Call)
 calls_of_run events =
-    let law : Law (Gated ℕ) = gated_law counting in
+    let law : SessionLaw (Gated ℕ) = gated_law counting in
     let s = closed only_anna 0 in
-    at_each gate_calls law s (run_of law s events)
+    at_each (gate_calls counting) law s (run_of law s events)
 
-pub input : calls_for None gate_calls (gated_law counting) (closed only_anna 0) (codes "NOOP\r\n")
-    ≡ (Passes (Command Noop) ∷ []) ∷ []
+pub input : calls_for None (gate_calls counting) (gated_law counting) (closed only_anna 0)
+    (codes "NOOP\r\n") ≡ (Passes (Command Noop) ∷ AsksFurther ∷ []) ∷ []
 input = ap calls_of_run noop
 
 gave : (one : Bytes) → GaveName one (user one ∷ [])

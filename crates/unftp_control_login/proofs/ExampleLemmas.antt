@@ -1,16 +1,16 @@
 -- What the examples need beside computation.
-use Rattle.std.proofs.Common.{◌≡◌, inl, inr, ◌<◌, ℕ, true, false, List, [], ◌∷◌, ◌++◌, length, take, flat_map, None, refl, sym, ap, subst, ◌∙◌, arith, codes, length-append}
+use Rattle.std.proofs.Common.{◌≡◌, inl, inr, ◌<◌, ℕ, true, false, List, [], ◌∷◌, ◌++◌, length, filter_map, take, flat_map, None, refl, sym, ap, subst, ◌∙◌, arith, codes, length-append}
 use Rattle.std.specs.Prelude.{bytes_eq}
 use Rattle.std.specs.Fmt.{digits}
-use Rattle.std.specs.List.{AllByRecursion}
 use Rattle.std.specs.Str.{is_utf8, chars}
 use Rattle.std.proofs.lemmas.Bool.{false≢true}
 use Rattle.unftp_control_defs.specs.Bytes.{Bytes, LF, crlf}
 use Rattle.unftp_control_defs.specs.FtpCommand.{Noop, Pwd}
-use Rattle.unftp_control_defs.specs.FtpReply.{CodeAndMsg, IsPlain}
+use Rattle.unftp_control_defs.specs.FtpReply.{FtpReply, CodeAndMsg, reply_as_read}
 use Rattle.unftp_control_defs.specs.Events.{FtpEvent, Command, events}
 use Rattle.unftp_control_defs.specs.ReplyReader.{AllReplies, IsReply, ReadsBack, code_only, single, several, with_crlf}
 use Rattle.unftp_control_defs.specs.Run.{last_state, run_of}
+use Rattle.unftp_control_defs.specs.Turns.{cut_reads}
 use Rattle.unftp_control_defs.proofs.EncodingLemmas.{ReadsBack-encoded}
 use Rattle.unftp_control_defs.proofs.LackLemmas.{Lacks-test}
 use Rattle.unftp_control_login.specs.declared.stage.Stage.{Stage}
@@ -19,8 +19,8 @@ use Rattle.unftp_control_serve.specs.Endings.{Snapshot, Cause, LineMemory, Reply
 use Rattle.unftp_control_serve.specs.declared.error.ServeError.TheVariants as error
 use Rattle.unftp_control_login.specs.Login.{Accounts, GaveName, IsLoggedIn}
 use Rattle.unftp_control_login.specs.Gate.{is_logged_in}
-use Rattle.unftp_control_login.specs.Promises.{AfterLogin, AllLookAlike, AtEachPlace, DifferInPasswords, FailsAlike, LooksAlike, MembersAlone, SendsPlainReplies, ServesMembersAlone}
-use Rattle.unftp_control_login.specs.Examples.{anna, anna_and_ben, ben, counting, here, only_anna, pass, secret, silent, user, wrong}
+use Rattle.unftp_control_login.specs.Promises.{AfterLogin, AllLookAlike, AtEachPlace, DifferInPasswords, FailsAlike, LooksAlike, MembersAlone, SendsPlainExchanges, ServesMembersAlone}
+use Rattle.unftp_control_login.specs.Examples.{anna, anna_and_ben, ben, counting, here, only_anna, opened, pass, secret, silent, transferring, user, wrong}
 use Rattle.unftp_control_defs.proofs.LineEventLemmas.{events-canonical_line}
 use Rattle.unftp_control_login.proofs.StageLemmas.{stage_after_all, GaveName-stage, IsLoggedIn-stage}
 
@@ -43,7 +43,8 @@ name-changed h =
     absurd (false≢true first)
 
 -- the name that these two give
-pub given-name : (accepts : Accounts) (one name : Bytes) → GaveName name (user one ∷ []) → one ≡ name
+pub given-name : (accepts : Accounts) (one name : Bytes) → GaveName name (user one ∷ [])
+    → one ≡ name
 given-name accepts one name given = ap name_of (GaveName-stage accepts name (user one ∷ []) given)
 
 gave : (one : Bytes) → GaveName one (user one ∷ [])
@@ -96,14 +97,17 @@ at_state n =
       output = record { taken = []; unflushed = 0; failures = 0; written = None };
     }
 
-no_memory : RunFailed None counting (at_state 0) (codes "NOOP\r\n") (at_state 1) error.OutOfMemory []
+no_memory : RunFailed None counting (at_state 0) (codes "NOOP\r\n") (at_state 1)
+    error.OutOfMemory []
 no_memory = record {
   later = Command Noop ∷ [];
   split = ap (run_of counting 0) noop;
+  sent = [];
   cause = ReplyMemory;
   means = tt;
   ended = record {
-    ends_at = (refl, λ none. absurd (cc));
+    ends_at =
+        record { reply = here; later = []; split = refl; so = λ none. absurd (cc) };
     written = record { taken = refl; known = tt };
     flushed = omega arith;
     write_failed = refl;
@@ -112,48 +116,87 @@ no_memory = record {
   next_line = λ at_line. absurd (cc);
 }
 
-none_fails : (cause : Cause) (done later : List FtpEvent) (s : ℕ) → [] ≡ done ++ later
-    → IsCauseOf cause error.OutOfMemory
-    → ¬ EndsAt counting cause (last_state counting 0 done) later s
-none_fails cause [] (event ∷ later) s e means ends = absurd (cc)
-none_fails cause (event ∷ done) later s e means ends = absurd (cc)
-none_fails LineMemory [] [] s e means ends = ends
-none_fails ReplyMemory [] [] s e means ends = ends
-none_fails cause [] [] s e means ends = means
+none_fails : (cause : Cause) (done later : List FtpEvent) (sent : List (FtpReply × ℕ)) (s : ℕ)
+    → [] ≡ done ++ later → IsCauseOf cause error.OutOfMemory
+    → ¬ EndsAt counting cause (last_state counting 0 done) later sent s
+none_fails cause [] (event ∷ later) sent s e means ends = absurd (cc)
+none_fails cause (event ∷ done) later sent s e means ends = absurd (cc)
+none_fails LineMemory [] [] sent s e means ends = ends
+none_fails ReplyMemory [] [] sent s e means ends = ends
+none_fails cause [] [] sent s e means ends = means
 
 pub never_fails : ¬ FailsAlike None counting 0 (codes "NOOP\r\n") []
 never_fails same =
     let other = same (at_state 0) (at_state 1) error.OutOfMemory [] refl no_memory in
-    none_fails other.1.cause other.0 other.1.later 1 other.1.split other.1.means
+    none_fails other.1.cause other.0 other.1.later other.1.sent 1 other.1.split other.1.means
     other.1.ended.ends_at
 
 -- without a login, the event is answered with no failure
 pub anyone-served : ¬ ServesMembersAlone only_anna counting 0
 anyone-served h =
     let low : 257 < 400 = omega arith in
-    not-logged-in only_anna [] refl (h [] (Command Pwd) refl low)
+    not-logged-in only_anna [] refl ((h [] (Command Pwd) refl).0 low)
+
+-- also by a preliminary reply
+pub anyone-opened : ¬ ServesMembersAlone only_anna transferring []
+anyone-opened h =
+    let low : 150 < 400 = omega arith in
+    not-logged-in only_anna [] refl ((h [] (Command Pwd) refl).0 low)
 
 -- the line's event
 pwd : events None (codes "PWD\r\n") ≡ Command Pwd ∷ []
 pwd = events-canonical_line None Pwd [] tt tt refl
 
-pub anyone-served-in-bytes : ¬ MembersAlone None only_anna (codes "PWD\r\n") (codes "257 here\r\n")
-unfolding digits
-anyone-served-in-bytes h =
-    let plain : AllByRecursion IsPlain (here ∷ []) =
-    (((omega arith, omega arith), Lacks-test LF (codes "here") refl), tt) in
-    let read = h.no_other ((257, codes "here" ∷ []) ∷ []) (ReadsBack-encoded (here ∷ []) plain).0 in
-    let low : 257 < 400 = omega arith in
+-- nothing that a client reads as replies to it may report no failure
+none-served : (output : Bytes) (replies : List FtpReply) (read : ℕ × List Bytes)
+    (part : List (ℕ × List Bytes)) → ReadsBack output replies
+    → cut_reads (filter_map reply_as_read replies) ≡ (read ∷ part) ∷ [] → read.0 < 400
+    → ¬ MembersAlone None only_anna (codes "PWD\r\n") output
+none-served output replies read part reads cut low h =
+    let same = ap cut_reads (sym (h.no_other (filter_map reply_as_read replies) reads.0)) ∙ cut in
     let at_each : AtEachPlace (AfterLogin only_anna) [] (Command Pwd ∷ [])
-    ((257, codes "here" ∷ []) ∷ []) =
+    ((read ∷ part) ∷ []) =
     subst (λ events. AtEachPlace (AfterLogin only_anna) [] (take 1 events)
-    ((257, codes "here" ∷ []) ∷ [])) pwd
-    (subst (λ read. AtEachPlace (AfterLogin only_anna) []
-    (take (length read) (events None (codes "PWD\r\n"))) read) (sym read) h.alone) in
-    not-logged-in only_anna [] refl (at_each.0 refl low)
+    ((read ∷ part) ∷ [])) pwd
+    (subst (λ parts. AtEachPlace (AfterLogin only_anna) []
+    (take (length parts) (events None (codes "PWD\r\n"))) parts) same h.alone) in
+    not-logged-in only_anna [] refl ((at_each.0 refl).0 low)
 
-pub not-plain : ¬ SendsPlainReplies silent
-not-plain h = h 0 (Command Pwd)
+served_reply : ReadsBack (codes "257 here\r\n") (here ∷ [])
+unfolding digits
+served_reply = ReadsBack-encoded (here ∷ [])
+    (((omega arith, omega arith), Lacks-test LF (codes "here") refl), tt)
+
+pub anyone-served-in-bytes : ¬ MembersAlone None only_anna (codes "PWD\r\n") (codes "257 here\r\n")
+anyone-served-in-bytes =
+    none-served (codes "257 here\r\n") (here ∷ []) (257, codes "here" ∷ []) [] served_reply refl
+    (omega arith)
+
+opened_replies : ReadsBack (codes "150 opened\r\n530 no\r\n")
+    (opened ∷ CodeAndMsg 530 (codes "no") ∷ [])
+unfolding digits
+opened_replies = ReadsBack-encoded (opened ∷ CodeAndMsg 530 (codes "no") ∷ []) (
+  ((omega arith, omega arith), Lacks-test LF (codes "opened") refl),
+  (((omega arith, omega arith), Lacks-test LF (codes "no") refl), tt),
+)
+
+pub anyone-opened-in-bytes : ¬ MembersAlone None only_anna (codes "PWD\r\n")
+    (codes "150 opened\r\n530 no\r\n")
+anyone-opened-in-bytes = none-served (codes "150 opened\r\n530 no\r\n")
+    (opened ∷ CodeAndMsg 530 (codes "no") ∷ []) (150, codes "opened" ∷ [])
+    ((530, codes "no" ∷ []) ∷ []) opened_replies refl (omega arith)
+
+pub not-plain : ¬ SendsPlainExchanges silent
+not-plain h = (h.1 0 (Command Pwd)).0
+
+pub both-plain : SendsPlainExchanges transferring
+both-plain = (
+  λ s event. (refl, refl),
+  λ s event. (
+    ((omega arith, omega arith), Lacks-test LF (codes "opened") refl),
+    (((omega arith, omega arith), Lacks-test LF (codes "here") refl), tt),
+  ),
+)
 
 refused_reply : ReadsBack (codes "530 no\r\n") (CodeAndMsg 530 (codes "no") ∷ [])
 unfolding digits
@@ -167,16 +210,16 @@ stranger = record {
   no_other = refused_reply.1;
   alone = subst
       (λ events. AtEachPlace (AfterLogin only_anna) [] (take 1 events)
-      ((530, codes "no" ∷ []) ∷ [])) (sym pwd)
-      ((λ needs low. absurd (omega (arith, low))), tt);
+      (((530, codes "no" ∷ []) ∷ []) ∷ [])) (sym pwd)
+      ((λ needs. ((λ low. absurd (omega (arith, low))), tt)), tt);
 }
 
 -- more replies than events
 pub no-event : ¬ MembersAlone None only_anna [] (codes "530 no\r\n")
 no-event h =
     let read = h.no_other ((530, codes "no" ∷ []) ∷ []) refused_reply.0 in
-    subst (λ read. AtEachPlace (AfterLogin only_anna) [] (take (length read) []) read)
-    (sym read) h.alone
+    subst (λ read. AtEachPlace (AfterLogin only_anna) []
+    (take (length (cut_reads read)) []) (cut_reads read)) (sym read) h.alone
 
 -- bytes that are no replies
 whole_lines : (whole : List Bytes) (rest digits : Bytes) (lines : List Bytes)

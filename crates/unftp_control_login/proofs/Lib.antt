@@ -1,5 +1,9 @@
 mod CallLemmas
 mod CalledLemmas
+mod DrainLemmas
+mod GateLemmas
+mod LimitedLemmas
+mod LimitStepLemmas
 pub mod StageLemmas
 pub mod MemberLemmas
 pub mod AlikeLemmas

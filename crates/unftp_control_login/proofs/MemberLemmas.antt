@@ -1,65 +1,90 @@
 -- Who is served: only who has logged in.
-use Rattle.std.proofs.Common.{◌≡◌, ◌<◌, ◌≤◌, ℕ, Bool, true, false, not, ◌&&◌, cond, IsTrue, List, [], ◌∷◌, ◌++◌, length, filter_map, take, Option, Some, None, unwrap_or, ◌⊎◌, inl, inr, refl, sym, ap, ◌∙◌, subst, arith, codes}
-use Rattle.std.specs.Prelude.{nat_le, Result, Ok, Err, OnOk, IfSome}
+use Rattle.std.proofs.Common.{◌≡◌, ◌<◌, ◌≤◌, ℕ, Bool, true, false, not, ◌&&◌, cond, IsTrue, List, [], ◌∷◌, ◌++◌, length, filter_map, map, take, Option, Some, unwrap_or, ◌⊎◌, inl, inr, refl, sym, ap, ◌∙◌, subst, arith, codes}
 use Rattle.std.specs.List.{AllByRecursion}
+use Rattle.std.proofs.lemmas.List.{length-map}
 use Rattle.std.proofs.lemmas.Option.{same_Some}
 use Rattle.unftp_control_defs.specs.Bytes.{Bytes, LF}
 use Rattle.unftp_control_defs.specs.FtpCommand.{User, Pass}
 use Rattle.unftp_control_defs.specs.Events.{FtpEvent, Command, events}
 use Rattle.unftp_control_defs.specs.FtpReply.{FtpReply, Nothing, CodeAndMsg, MultiLine, IsPlain, lines_as_read, reply_as_read}
-use Rattle.unftp_control_defs.specs.Run.{run_for, text_for, Law, last_state, replies}
+use Rattle.unftp_control_defs.specs.Run.{SessionLaw, after, last_state, replies, run_for, said, state_after, text_for, turn}
+use Rattle.unftp_control_defs.specs.Turns.{IsExchange, cut_reads, replies_by_event}
 use Rattle.unftp_control_defs.proofs.EncodingLemmas.{ReadsBack-encoded}
+use Rattle.unftp_control_defs.proofs.ExchangeLemmas.{cut-read, cut-replies, length-replies_by_event, replies-all}
 use Rattle.unftp_control_defs.proofs.LackLemmas.{lacks, Lacks-test}
+use Rattle.unftp_control_defs.proofs.RunLemmas.{last_state-append, run_of-taken}
 use Rattle.unftp_control_login.specs.declared.stage.Stage.{Stage}
 use Rattle.unftp_control_login.specs.declared.stage.Stage.TheVariants.{NoName, Named}
+use Rattle.unftp_control_login.specs.HandlerCalls.{state_then}
 use Rattle.unftp_control_login.specs.Login.{Accounts, GaveName, IsLoggedIn, is_login, needs_login}
-use Rattle.unftp_control_login.specs.Gate.{Gated, closed, gated_law, inner_after, is_barred, is_logged_in, login_needed, password_reply, passed_on}
-use Rattle.unftp_control_login.specs.LoginLimit.{Limited, is_failed_login, limited_law, limited_to, too_many}
-use Rattle.unftp_control_login.specs.Promises.{AfterLogin, AtEachPlace, IsSentPlain, IsTurnedAway, MembersAlone, NoFailure, ReachesHandler, SendsPlainReplies, ServesMembersAlone}
-use Rattle.unftp_control_login.proofs.StageLemmas.{by_test, stage_after_all, accepts-stays, stage-follows, logged_in-stage, GaveName-stage, IsLoggedIn-stage, own-barred, own-open, needs-other}
-use Rattle.unftp_control_defs.proofs.RunLemmas.{last_state-append, length-replies, replies-all, run_of-taken}
+use Rattle.unftp_control_login.specs.Gate.{Gated, closed, gated_law, is_barred, is_logged_in, logged_in, login_needed, name_needed, not_accepted, passed_steps, password_needed, password_reply, wanted}
+use Rattle.unftp_control_login.specs.LoginLimit.{Limited, is_pass, limited_law, limited_to}
+use Rattle.unftp_control_login.specs.Promises.{AfterLogin, AtEachPlace, IsSentPlain, IsTurnedAway, LearnsName, MembersAlone, NoFailure, ReachesHandler, SendsPlainExchanges, ServesMembersAlone, replies_to}
+use Rattle.unftp_control_login.proofs.LimitStepLemmas.{limited-exchange, limited-kept, limited-plain, limited-served}
+use Rattle.unftp_control_login.proofs.StageLemmas.{Follows, IsLoggedIn-stage, GaveName-stage, accepts-stays, begins, by_test, follows, follows-turn, gate-after, holds-last, logged_in-reason, logged_in-stage, needs-other, own-barred, own-open, stage_after_all, stage-follows}
 
-module _ {S : Type 0} (law : Law S) (accepts : Accounts) (inner : S) where
-  abbrev state_after : List FtpEvent → Gated S
-  state_after before = last_state (gated_law law) (closed accepts inner) before
+all-of : {X : Type 0} (P : X → Type 0) (xs : List X) → ((x : X) → P x) → AllByRecursion P xs
+all-of P [] each = tt
+all-of P (x ∷ xs) each = (each x, all-of P xs each)
+
+-- What the gate does with an event that is neither USER nor PASS.
+said-passed : {S : Type 0} (s : Gated S) (steps : List (FtpReply × S))
+    → said (passed_steps s steps) ≡ said steps
+said-passed s [] = refl
+said-passed s (step ∷ steps) = ap (λ replies. step.0 ∷ replies) (said-passed s steps)
+
+module _ {S : Type 0} (law : SessionLaw S) (s : Gated S) (event : FtpEvent)
+    (other : is_login event ≡ false) where
+  pub barred-turn : is_barred s.stage event ≡ true
+      → (replies_to (gated_law law) s event ≡ login_needed ∷ [])
+      × ((after (gated_law law) s event).inner ≡ s.inner)
+  barred-turn barred =
+      let own = own-barred s.accepts s.stage event other barred in
+      let n = (gated_law law).next s event in
+      let passed : n.passed ≡ false = λ i. not (other i) && not (barred i) in
+      let none : (gated_law law).more n ≡ [] =
+      ap (λ passed. cond passed (passed_steps n (law.more n.inner)) []) passed in (
+        λ i. unwrap_or (own.0 i) (law.says s.inner event) ∷ said (none i),
+        ap (λ steps. (state_after n steps).inner) none ∙ ap (state_then law s.inner) own.1,
+      )
+
+  pub open-turn : is_barred s.stage event ≡ false
+      → (replies_to (gated_law law) s event ≡ replies_to law s.inner event)
+      × ((after (gated_law law) s event).inner ≡ after law s.inner event)
+  open-turn free =
+      let own = own-open s.accepts s.stage event other free in
+      let n = (gated_law law).next s event in
+      let passed : n.passed ≡ true = λ i. not (other i) && not (free i) in
+      let inner : n.inner ≡ law.next s.inner event = ap (state_then law s.inner) own.1 in (
+        (λ i. unwrap_or (own.0 i) (law.says s.inner event)
+            ∷ said (cond (passed i) (passed_steps n (law.more n.inner)) []))
+            ∙ ap (λ replies. law.says s.inner event ∷ replies) (said-passed n (law.more n.inner))
+            ∙ ap (λ inner. law.says s.inner event ∷ said (law.more inner)) inner,
+        ap (λ (s : Gated S). s.inner) (gate-after law n)
+            ∙ (λ i. state_after (inner i) (cond (passed i) (law.more (inner i)) [])),
+      )
+
+module _ {S : Type 0} (law : SessionLaw S) (accepts : Accounts) (inner : S) where
+  abbrev after_all : List FtpEvent → Gated S
+  after_all before = last_state (gated_law law) (closed accepts inner) before
 
   stage-is : (before : List FtpEvent)
-      → (state_after before).stage ≡ stage_after_all accepts NoName before
+      → (after_all before).stage ≡ stage_after_all accepts NoName before
   stage-is before = stage-follows law (closed accepts inner) before
 
-  -- what the gate does with an event follows from what it answers itself
-  turned-away : (before : List FtpEvent) (event : FtpEvent) → is_login event ≡ false
-      → is_barred (state_after before).stage event ≡ true
-      → IsTurnedAway law accepts inner before event
-  turned-away before event other barred =
-      let s = state_after before in
-      let own = own-barred s.accepts s.stage event other barred in (
-        ap (λ reply. unwrap_or reply (law.says s.inner event)) own.0,
-        ap (inner_after law s.inner) own.1,
-      )
-
-  reaches : (before : List FtpEvent) (event : FtpEvent) → is_login event ≡ false
-      → is_barred (state_after before).stage event ≡ false
-      → ReachesHandler law accepts inner before event
-  reaches before event other free =
-      let s = state_after before in
-      let own = own-open s.accepts s.stage event other free in (
-        ap (λ reply. unwrap_or reply (law.says s.inner event)) own.0,
-        ap (inner_after law s.inner) own.1,
-      )
-
   gated_at : (before : List FtpEvent) (event : FtpEvent) → IsTrue (needs_login event)
-      → (member : Bool) → is_logged_in (state_after before).stage ≡ member
+      → (member : Bool) → is_logged_in (after_all before).stage ≡ member
       → IsLoggedIn accepts before ⊎ IsTurnedAway law accepts inner before event
   gated_at before event needs true e =
       inl (logged_in-stage accepts before (ap is_logged_in (sym (stage-is before)) ∙ e))
   gated_at before event needs false e =
-      inr (turned-away before event (needs-other event needs) (λ i. needs i && not (e i)))
+      inr (barred-turn law (after_all before) event (needs-other event needs)
+      (λ i. needs i && not (e i)))
 
   pub gated-all : (before : List FtpEvent) (event : FtpEvent) → IsTrue (needs_login event)
       → IsLoggedIn accepts before ⊎ IsTurnedAway law accepts inner before event
   gated-all before event needs =
-      gated_at before event needs (is_logged_in (state_after before).stage) refl
+      gated_at before event needs (is_logged_in (after_all before).stage) refl
 
   needs_none : (needs member : Bool) → needs ≡ false → (needs && not member) ≡ false
   needs_none needs member e = ap (λ test. test && not member) e
@@ -72,7 +97,7 @@ module _ {S : Type 0} (law : Law S) (accepts : Accounts) (inner : S) where
       → IsLoggedIn accepts before
       → ReachesHandler law accepts inner before event
   member-reaches before event other member =
-      reaches before event other
+      open-turn law (after_all before) event other
       (ap (λ stage. needs_login event && not (is_logged_in stage))
       (stage-is before ∙ IsLoggedIn-stage accepts before member)
       ∙ is_member (needs_login event))
@@ -81,83 +106,132 @@ module _ {S : Type 0} (law : Law S) (accepts : Accounts) (inner : S) where
       → needs_login event ≡ false
       → ReachesHandler law accepts inner before event
   open-reaches before event other free =
-      reaches before event other
-      (needs_none (needs_login event) (is_logged_in (state_after before).stage) free)
+      open-turn law (after_all before) event other
+      (needs_none (needs_login event) (is_logged_in (after_all before).stage) free)
 
   -- an accepted password: the handler receives the name
   pub name-learned : (before : List FtpEvent) (name password : Bytes) → GaveName name before
-      → accepts name password ≡ true
-      → ((gated_law law).next (state_after before) (Command (Pass password))).inner
-      ≡ law.next (state_after before).inner (Command (User name))
+      → accepts name password ≡ true → LearnsName law accepts inner before name password
   name-learned before name password named accepted =
-      let s = state_after before in
-      (λ i. inner_after law s.inner (passed_on (accepts-stays law (closed accepts inner) before i)
+      let s = after_all before in
+      (λ i. state_then law s.inner (wanted (accepts-stays law (closed accepts inner) before i)
       ((stage-is before ∙ GaveName-stage accepts name before named) i) (Command (Pass password))))
       ∙ rw (accepted) refl
 
-  pub gate_serves-members : ServesMembersAlone accepts (gated_law law) (closed accepts inner)
-  gate_serves-members before event needs ok = by_case (gated-all before event needs) where
-    by_case : IsLoggedIn accepts before ⊎ IsTurnedAway law accepts inner before event
-        → IsLoggedIn accepts before
-    by_case (inl member) = member
-    by_case (inr away) =
-        let low : 530 < 400 = subst NoFailure away.0 ok in
-        absurd (omega (arith, low))
+-- Who is served, at a state that follows from the events.
+abbrev Serves : {S : Type 0} → Accounts → List FtpEvent → SessionLaw S → S → FtpEvent → Type 0
+Serves accepts before law s event =
+    AllByRecursion (λ reply. NoFailure reply → IsLoggedIn accepts before) (replies_to law s event)
 
--- the same after a limit, which passes each event on
-inner-follows : {S : Type 0} (law : Law S) (s : Limited S) (events : List FtpEvent)
-    → (last_state (limited_law law) s events).inner ≡ last_state law s.inner events
-inner-follows law s [] = refl
-inner-follows law s (event ∷ events) = inner-follows law ((limited_law law).next s event) events
+serves-members : {S : Type 0} (law : SessionLaw S) (accepts : Accounts) (before : List FtpEvent)
+    (s : Gated S) (event : FtpEvent) → Follows accepts before s → IsTrue (needs_login event)
+    → Serves accepts before (gated_law law) s event
+serves-members law accepts before s event h needs =
+    by_member (is_logged_in s.stage) refl
+  where
+    by_member : (member : Bool) → is_logged_in s.stage ≡ member
+        → Serves accepts before (gated_law law) s event
+    by_member true e = all-of (λ reply. NoFailure reply → IsLoggedIn accepts before)
+        (replies_to (gated_law law) s event) (λ reply ok. logged_in-reason s.stage h.reason e)
+    by_member false e = subst
+        (AllByRecursion (λ reply. NoFailure reply → IsLoggedIn accepts before))
+        (sym (barred-turn law s event (needs-other event needs) (λ i. needs i && not (e i))).0)
+        ((λ low. absurd (omega (arith, low))), tt)
 
-no_failure-limited : (test : Bool) (reply : FtpReply) → NoFailure (cond test too_many reply)
-    → NoFailure reply
-no_failure-limited true reply ok = absurd (omega (arith, ok))
-no_failure-limited false reply ok = ok
+pub gate_serves-members : {S : Type 0} (law : SessionLaw S) (accepts : Accounts) (inner : S)
+    → ServesMembersAlone accepts (gated_law law) (closed accepts inner)
+gate_serves-members law accepts inner before event needs =
+    serves-members law accepts before _ event
+    (holds-last (gated_law law) (Follows accepts) (follows law accepts) [] (closed accepts inner)
+    before (begins accepts inner)) needs
 
-pub limit_serves-members : {S : Type 0} (law : Law S) (accepts : Accounts) (left : ℕ) (s : S)
-    → ServesMembersAlone accepts law s
-    → ServesMembersAlone accepts (limited_law law) (limited_to left s)
-limit_serves-members law accepts left s serves before event needs ok =
-    let limited = last_state (limited_law law) (limited_to left s) before in
-    serves before event needs
-    (subst (λ inner. NoFailure (law.says inner event))
-    (inner-follows law (limited_to left s) before)
-    (no_failure-limited _ (law.says limited.inner event) ok))
+-- the same after a limit
+pub limit-follows : {S : Type 0} (law : SessionLaw S) (accepts : Accounts) (past : List FtpEvent)
+    (s : Limited (Gated S)) (event : FtpEvent) → Follows accepts past s.inner
+    → Follows accepts (past ++ event ∷ []) (after (limited_law (gated_law law)) s event).inner
+limit-follows law accepts past s event h =
+    let all = follows-turn law accepts past s.inner event h in
+    let steps = turn (gated_law law) s.inner event in
+    limited-kept (Follows accepts (past ++ event ∷ [])) s.left (is_pass event) steps
+    (record s { inner = (gated_law law).next s.inner event }) all.0 all
+
+pub limit_serves-members : {S : Type 0} (law : SessionLaw S) (accepts : Accounts) (left : ℕ)
+    (inner : S) → ServesMembersAlone accepts (limited_law (gated_law law))
+    (limited_to left (closed accepts inner))
+limit_serves-members law accepts left inner before event needs =
+    let limited = limited_law (gated_law law) in
+    let s = last_state limited (limited_to left (closed accepts inner)) before in
+    limited-served (IsLoggedIn accepts before) s.left (is_pass event)
+    (turn (gated_law law) s.inner event)
+    (serves-members law accepts before s.inner event
+    (holds-last limited (λ past s. Follows accepts past s.inner) (limit-follows law accepts) []
+    (limited_to left (closed accepts inner)) before (begins accepts inner)) needs)
 
 -- Plain replies.
 plain : (code : ℕ) (text : Bytes) → 100 ≤ code → code < 1000 → lacks LF text ≡ true
     → IsSentPlain (CodeAndMsg code text)
 plain code text low high test = ((low, high), Lacks-test LF text test)
 
-password-plain : (accepts : Accounts) (stage : Stage) (password : Bytes)
-    → IsSentPlain (password_reply accepts stage password)
-password-plain accepts (Named name) password =
-    by_test IsSentPlain (accepts name password) _ _
-    (λ _. plain 230 (codes "User logged in, proceed") (omega arith) (omega arith) refl)
-    (λ _. plain 530 (codes "Login incorrect") (omega arith) (omega arith) refl)
-password-plain accepts stage password = plain 503 (codes "Send USER first") (omega arith)
-    (omega arith) refl
+-- what holds of each of the gate's own replies, as the only one to an event
+record HoldsOfOwn (P : List FtpReply → Type 0) : Type 0 where
+  to_user : P (password_needed ∷ [])
+  accepted : P (logged_in ∷ [])
+  refused : P (not_accepted ∷ [])
+  no_name : P (name_needed ∷ [])
+  barred : P (login_needed ∷ [])
 
-pub gate-plain : {S : Type 0} (law : Law S) → SendsPlainReplies law
-    → SendsPlainReplies (gated_law law)
-gate-plain law inner s (Command (User name)) = plain 331 (codes "User name okay, need password")
-    (omega arith) (omega arith) refl
-gate-plain law inner s (Command (Pass password)) = password-plain s.accepts s.stage password
-gate-plain law inner s event =
-    by_test (λ (own : Option FtpReply). IsSentPlain (unwrap_or own (law.says s.inner event)))
-    (is_barred s.stage event) (Some login_needed) None
-    (λ _. plain 530 (codes "Log in with USER and PASS") (omega arith) (omega arith) refl)
-    (λ _. inner s.inner event)
+password-own : (P : List FtpReply → Type 0) → HoldsOfOwn P → (accepts : Accounts) (stage : Stage)
+    (password : Bytes) → P (password_reply accepts stage password ∷ [])
+password-own P own accepts (Named name) password =
+    by_test (λ reply. P (reply ∷ [])) (accepts name password) _ _ (λ _. own.accepted)
+    (λ _. own.refused)
+password-own P own accepts stage password = own.no_name
 
-pub limit-plain : {S : Type 0} (law : Law S) → SendsPlainReplies law
-    → SendsPlainReplies (limited_law law)
-limit-plain law inner s event =
-    by_test IsSentPlain (is_failed_login event (law.says s.inner event) && nat_le s.left 1) too_many
-    (law.says s.inner event)
-    (λ _. plain 421 (codes "Too many failed logins, closing control connection") (omega arith)
-    (omega arith) refl)
-    (λ _. inner s.inner event)
+-- and of all replies of the handler to one, holds of all replies of the gate
+gate-own : {S : Type 0} (law : SessionLaw S) (P : List FtpReply → Type 0) → HoldsOfOwn P
+    → ((s : S) (event : FtpEvent) → P (replies_to law s event))
+    → (s : Gated S) (event : FtpEvent) → P (replies_to (gated_law law) s event)
+gate-own law P own each s (Command (User name)) = own.to_user
+gate-own law P own each s (Command (Pass password)) =
+    password-own P own s.accepts s.stage password
+gate-own law P own each s event = by_barred (is_barred s.stage event) refl where
+  by_barred : (barred : Bool) → is_barred s.stage event ≡ barred
+      → P (replies_to (gated_law law) s event)
+  by_barred true e = subst P (sym (barred-turn law s event refl e).0) own.barred
+  by_barred false e = subst P (sym (open-turn law s event refl e).0) (each s.inner event)
+
+own-plain : HoldsOfOwn (AllByRecursion IsSentPlain)
+own-plain = record {
+  to_user = (
+    plain 331 (codes "User name okay, need password") (omega arith) (omega arith) refl,
+    tt,
+  );
+  accepted = (plain 230 (codes "User logged in, proceed") (omega arith) (omega arith) refl, tt);
+  refused = (plain 530 (codes "Login incorrect") (omega arith) (omega arith) refl, tt);
+  no_name = (plain 503 (codes "Send USER first") (omega arith) (omega arith) refl, tt);
+  barred = (plain 530 (codes "Log in with USER and PASS") (omega arith) (omega arith) refl, tt);
+}
+
+own-final : HoldsOfOwn IsExchange
+own-final =
+    record { to_user = refl; accepted = refl; refused = refl; no_name = refl; barred = refl }
+
+pub gate-plain : {S : Type 0} (law : SessionLaw S) → SendsPlainExchanges law
+    → SendsPlainExchanges (gated_law law)
+gate-plain law (exchanges, sends) = (
+  gate-own law IsExchange own-final exchanges,
+  gate-own law (AllByRecursion IsSentPlain) own-plain sends,
+)
+
+pub limit-plain : {S : Type 0} (law : SessionLaw S) → SendsPlainExchanges law
+    → SendsPlainExchanges (limited_law law)
+limit-plain law (exchanges, sends) = (
+  λ s event. limited-exchange s.left (is_pass event) (turn law s.inner event)
+      (exchanges s.inner event),
+  λ s event. limited-plain s.left (is_pass event) (turn law s.inner event)
+      (plain 421 (codes "Too many failed logins, closing control connection") (omega arith)
+      (omega arith) refl) (sends s.inner event),
+)
 
 -- What a client reads.
 shown : (reply : FtpReply) → IsSentPlain reply → (read : ℕ × List Bytes)
@@ -181,69 +255,96 @@ NoFailure-read (MultiLine said texts) {code} {lines} e low =
     subst (λ (read : ℕ × List Bytes). read.0 < 400)
     (sym (same_Some (said, lines_as_read texts) (code, lines) e)) low
 
-sent-length : (replies : List FtpReply) → AllByRecursion IsSentPlain replies
-    → length (filter_map reply_as_read replies) ≡ length replies
-sent-length [] sent = refl
-sent-length (reply ∷ replies) sent =
-    let same = sent-length replies sent.1 in
-    rw ((shown reply sent.0).1) (omega (arith, same))
+-- each is read
+all-read : (replies : List FtpReply) → AllByRecursion IsSentPlain replies
+    → map Some (filter_map reply_as_read replies) ≡ map reply_as_read replies
+all-read [] sent = refl
+all-read (reply ∷ replies) sent =
+    let same = all-read replies sent.1 in
+    let read = shown reply sent.0 in
+    rw (read.1) (ap (λ later. Some read.0 ∷ later) same)
 
--- A handler that serves only members, and sends plain replies, does so in bytes.
-module _ {S : Type 0} (law : Law S) (first : S) (accepts : Accounts)
-    (serves : ServesMembersAlone accepts law first) (sends : SendsPlainReplies law) where
+all-plain : (replies : List FtpReply) → AllByRecursion IsSentPlain replies
+    → AllByRecursion IsPlain replies
+all-plain [] sent = tt
+all-plain (reply ∷ replies) sent = (IsPlain-sent reply sent.0, all-plain replies sent.1)
+
+-- What is read of a part of the replies.
+after-part : (Q : Type 0) (replies : List FtpReply) (read : List (ℕ × List Bytes))
+    → map Some read ≡ map reply_as_read replies
+    → AllByRecursion (λ reply. NoFailure reply → Q) replies
+    → AllByRecursion (λ (reply : ℕ × List Bytes). reply.0 < 400 → Q) read
+after-part Q [] [] is each = tt
+after-part Q [] (one ∷ read) is each = absurd (cc)
+after-part Q (reply ∷ replies) [] is each = absurd (cc)
+after-part Q (reply ∷ replies) (one ∷ read) is each =
+    let first : Some one ≡ reply_as_read reply = cc in
+    let later : map Some read ≡ map reply_as_read replies = cc in (
+      λ low. each.0 (NoFailure-read reply (sym first) low),
+      after-part Q replies read later each.1,
+    )
+
+-- A handler that serves only members, and sends plain exchanges, does so in bytes.
+module _ {S : Type 0} (law : SessionLaw S) (first : S) (accepts : Accounts)
+    (serves : ServesMembersAlone accepts law first) (sends : SendsPlainExchanges law) where
   after_login : (before : List FtpEvent) (s : S) (events : List FtpEvent)
-      → last_state law first before ≡ s
-      → AtEachPlace (AfterLogin accepts) before events
-      (filter_map reply_as_read (replies law s events))
-  after_login before s [] same = tt
-  after_login before s (event ∷ events) same =
-      let read = shown (law.says s event) (sends s event) in
-      rw (read.1) (
-        λ needs low. serves before event needs
-            (subst (λ t. NoFailure (law.says t event)) (sym same)
-            (NoFailure-read (law.says s event) read.1 low)),
-        after_login (before ++ event ∷ []) (law.next s event) events
-            (last_state-append law first before (event ∷ []) ∙ ap (λ t. law.next t event) same),
+      (parts : List (List (ℕ × List Bytes))) → last_state law first before ≡ s
+      → map (map Some) parts ≡ map (map reply_as_read) (replies_by_event law s events)
+      → AtEachPlace (AfterLogin accepts) before events parts
+  after_login before s [] [] same is = tt
+  after_login before s [] (part ∷ parts) same is = absurd (cc)
+  after_login before s (event ∷ events) [] same is = absurd (cc)
+  after_login before s (event ∷ events) (part ∷ parts) same is =
+      let read : map Some part ≡ map reply_as_read (replies_to law s event) = cc in
+      let later : map (map Some) parts
+      ≡ map (map reply_as_read) (replies_by_event law (after law s event) events) = cc in (
+        λ needs. after-part (IsLoggedIn accepts before) (replies_to law s event) part read
+            (subst (λ s. AllByRecursion (λ reply. NoFailure reply → IsLoggedIn accepts before)
+            (replies_to law s event)) same (serves before event needs)),
+        after_login (before ++ event ∷ []) (after law s event) events parts
+            (last_state-append law first before (event ∷ []) ∙ ap (λ t. after law t event) same)
+            later,
       )
 
   pub members-alone : (limit : Option ℕ) (input : Bytes)
       → MembersAlone limit accepts input (text_for limit law first input)
   members-alone limit input =
       let run = run_for limit law first input in
-      let sent = replies-all law IsSentPlain sends first run in
-      let reads =
-      ReadsBack-encoded (replies law first run)
-      (replies-all law IsPlain (λ s event. IsPlain-sent (law.says s event) (sends s event))
-      first run) in
-      let same : take (length (filter_map reply_as_read (replies law first run)))
-      (events limit input) ≡ run =
-      ap (λ n. take n (events limit input)) (sent-length (replies law first run) sent
-      ∙ length-replies law first run)
-      ∙ run_of-taken law first (events limit input) in
+      let sent = replies-all law IsSentPlain sends.1 first run in
+      let read = filter_map reply_as_read (replies law first run) in
+      let reads = ReadsBack-encoded (replies law first run)
+      (all-plain (replies law first run) sent) in
+      let parts : map (map Some) (cut_reads read)
+      ≡ map (map reply_as_read) (replies_by_event law first run) =
+      cut-read (replies law first run) read (all-read (replies law first run) sent)
+      ∙ ap (map (map reply_as_read)) (cut-replies law sends.0 first run) in
+      let as_many : length (cut_reads read) ≡ length run =
+      sym (length-map (cut_reads read) (map Some)) ∙ ap length parts
+      ∙ length-map (replies_by_event law first run) (map reply_as_read)
+      ∙ length-replies_by_event law first run in
+      let same : take (length (cut_reads read)) (events limit input) ≡ run =
+      ap (λ n. take n (events limit input)) as_many ∙ run_of-taken law first (events limit input) in
       record {
-        read = filter_map reply_as_read (replies law first run);
+        read = read;
         replies = reads.0;
         no_other = reads.1;
-        alone = subst
-            (λ events. AtEachPlace (AfterLogin accepts) [] events
-            (filter_map reply_as_read (replies law first run))) (sym same)
-            (after_login [] first run refl);
+        alone = subst (λ events. AtEachPlace (AfterLogin accepts) [] events (cut_reads read))
+            (sym same) (after_login [] first run (cut_reads read) refl parts);
       }
 
-pub gate-members-alone : {S : Type 0} (law : Law S) → SendsPlainReplies law
+pub gate-members-alone : {S : Type 0} (law : SessionLaw S) → SendsPlainExchanges law
     → (limit : Option ℕ) (accepts : Accounts) (inner : S) (input : Bytes)
     → MembersAlone limit accepts input (text_for limit (gated_law law) (closed accepts inner) input)
 gate-members-alone law sends limit accepts inner input =
     members-alone (gated_law law) (closed accepts inner) accepts
     (gate_serves-members law accepts inner) (gate-plain law sends) limit input
 
-pub limit-members-alone : {S : Type 0} (law : Law S) → SendsPlainReplies law
+pub limit-members-alone : {S : Type 0} (law : SessionLaw S) → SendsPlainExchanges law
     → (limit : Option ℕ) (accepts : Accounts) (left : ℕ) (inner : S) (input : Bytes)
     → MembersAlone limit accepts input
     (text_for limit (limited_law (gated_law law)) (limited_to left (closed accepts inner))
     input)
 limit-members-alone law sends limit accepts left inner input =
     members-alone (limited_law (gated_law law)) (limited_to left (closed accepts inner)) accepts
-    (limit_serves-members (gated_law law) accepts left (closed accepts inner)
-    (gate_serves-members law accepts inner))
+    (limit_serves-members law accepts left inner)
     (limit-plain (gated_law law) (gate-plain law sends)) limit input

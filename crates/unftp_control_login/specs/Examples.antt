@@ -1,11 +1,12 @@
 -- What the examples speak of.
-use Rattle.std.specs.Prelude.{◌≡◌, ℕ, ◌+◌, ◌==◌, ◌&&◌, ◌||◌, List, [], ◌∷◌, bytes_eq, codes}
+use Rattle.std.specs.Prelude.{◌≡◌, ℕ, ◌+◌, ◌==◌, ◌&&◌, ◌||◌, false, List, [], ◌∷◌, bytes_eq, codes}
 use Rattle.unftp_control_defs.specs.Bytes.{Bytes}
 use Rattle.unftp_control_defs.specs.FtpCommand.{User, Pass}
 use Rattle.unftp_control_defs.specs.Events.{FtpEvent, Command, out_of_memory}
 use Rattle.unftp_control_defs.specs.FtpReply.{FtpReply, Nothing, CodeAndMsg}
-use Rattle.unftp_control_defs.specs.Run.{Law}
+use Rattle.unftp_control_defs.specs.Run.{SessionLaw, as_session}
 use Rattle.unftp_control_login.specs.Login.{Accounts}
+use Rattle.unftp_control_login.specs.Gate.{not_accepted}
 use Rattle.unftp_control_login.specs.HandlerCalls.{Call, CallState}
 
 abbrev pub anna : Bytes
@@ -46,19 +47,45 @@ abbrev pub so_far : List Call → ℕ → ℕ → CallState
 so_far calls refused failed = record { calls = calls; refused = refused; failed = failed }
 
 -- counts the events that it receives, and is done after nine
-abbrev pub counting : Law ℕ
-counting = record {
+abbrev pub counting : SessionLaw ℕ
+counting = as_session (record {
   says = λ _ _. here;
   next = λ s _. s + 1;
   may_fail = λ _ _ fault. fault ≡ out_of_memory;
   done = λ s. s == 9;
-}
+})
 
 -- answers nothing
-abbrev pub silent : Law ℕ
-silent = record {
+abbrev pub silent : SessionLaw ℕ
+silent = as_session (record {
   says = λ _ _. Nothing;
   next = λ s _. s;
   may_fail = λ _ _ fault. fault ≡ out_of_memory;
   done = λ s. s == 9;
+})
+
+abbrev pub opened : FtpReply
+opened = CodeAndMsg 150 (codes "opened")
+
+-- these replies are still to be given, each with those after it
+abbrev pub in_turn : List FtpReply → List (FtpReply × List FtpReply)
+in_turn [] = []
+in_turn (reply ∷ replies) = (reply, replies) ∷ in_turn replies
+
+-- gives 150 to each event, and then these replies
+abbrev pub opens_and_then : List FtpReply → SessionLaw (List FtpReply)
+opens_and_then later = record {
+  says = λ _ _. opened;
+  next = λ _ _. later;
+  more = in_turn;
+  may_fail = λ _ _ fault. fault ≡ out_of_memory;
+  may_break = λ _ fault. fault ≡ out_of_memory;
+  done = λ _. false;
 }
+
+-- one final reply, and two that report a failure
+abbrev pub transferring : SessionLaw (List FtpReply)
+transferring = opens_and_then (here ∷ [])
+
+abbrev pub refusing : SessionLaw (List FtpReply)
+refusing = opens_and_then (not_accepted ∷ not_accepted ∷ [])

@@ -1,14 +1,14 @@
 -- A login gate before a handler: what it answers itself, and what it passes on to the handler.
-use Rattle.std.specs.Prelude.{◌≡◌, List, [], ◌∷◌, Bool, true, false, if◌then◌else◌, ◌&&◌, ◌||◌, not, Option, Some, None, IsSome, IsSomeAnd, unwrap_or, option_map, ◌⊎◌, codes}
+use Rattle.std.specs.Prelude.{◌≡◌, List, [], ◌∷◌, map, Bool, true, false, IsTrue, if◌then◌else◌, ◌&&◌, ◌||◌, not, Option, Some, None, IsSome, unwrap_or, ◌⊎◌, codes}
 use Rattle.unftp_control_defs.specs.Bytes.{Bytes}
 use Rattle.unftp_control_defs.specs.FtpCommand.{User, Pass}
 use Rattle.unftp_control_defs.specs.Events.{FtpEvent, Command, is_quit, out_of_memory}
 use Rattle.unftp_control_defs.specs.FtpReply.{FtpReply, CodeAndMsg}
-use Rattle.unftp_control_defs.specs.Run.{Law}
+use Rattle.unftp_control_defs.specs.Run.{SessionLaw}
 use Rattle.unftp_control_login.specs.declared.stage.Stage.{Stage}
 use Rattle.unftp_control_login.specs.declared.stage.Stage.TheVariants.{NoName, Named, LoggedIn}
-use Rattle.unftp_control_login.specs.Login.{Accounts, needs_login, flushes_login}
-use Rattle.unftp_control_login.specs.HandlerCalls.{Call, Asks}
+use Rattle.unftp_control_login.specs.Login.{Accounts, flushes_login, is_login, needs_login}
+use Rattle.unftp_control_login.specs.HandlerCalls.{Asks, Call, Dropped, First, MayFailAt, NoReply, Wanted, state_then}
 
 -- its replies (RFC 959, section 5.4)
 abbrev pub password_needed : FtpReply
@@ -61,48 +61,60 @@ own_reply accepts stage (Command (User name)) = Some password_needed
 own_reply accepts stage (Command (Pass password)) = Some (password_reply accepts stage password)
 own_reply accepts stage event = if is_barred stage event then Some login_needed else None
 
--- The event that the handler receives, if any. Of a login it receives USER, with the name, once the
--- password is accepted.
-abbrev pub passed_on : Accounts → Stage → FtpEvent → Option FtpEvent
-passed_on accepts stage (Command (User name)) = None
-passed_on accepts stage (Command (Pass password)) =
-    option_map (λ name. Command (User name)) (admitted accepts stage password)
-passed_on accepts stage event = if is_barred stage event then None else Some event
+-- whether it is passed on: then all its replies are the handler's
+abbrev pub is_passed : Stage → FtpEvent → Bool
+is_passed stage event = not (is_login event) && not (is_barred stage event)
+
+-- who has logged in
+abbrev pub named : Option Bytes → Wanted
+named None = NoReply
+named (Some name) = Dropped (Command (User name))
+
+-- What is wanted of the handler: the first reply to an event that is passed on. Of a login it
+-- receives USER, with the name, once the password is accepted; its replies to that are dropped.
+abbrev pub wanted : Accounts → Stage → FtpEvent → Wanted
+wanted accepts stage (Command (User name)) = NoReply
+wanted accepts stage (Command (Pass password)) = named (admitted accepts stage password)
+wanted accepts stage event = if is_barred stage event then NoReply else First event
 
 -- What the accounts are asked: whether a password that comes after a name is that of the name.
 abbrev pub questions : Stage → FtpEvent → List Call
 questions (Named name) (Command (Pass password)) = Asks name password ∷ []
 questions stage event = []
 
-abbrev pub inner_after : {S : Type 0} → Law S → S → Option FtpEvent → S
-inner_after law inner None = inner
-inner_after law inner (Some event) = law.next inner event
-
--- The accounts, which stay; how far the login has come; whether QUIT has come; and what the handler
--- keeps.
+-- The accounts, which stay; how far the login has come; whether QUIT has come; whether the event at
+-- hand was passed on; and what the handler keeps.
 pub record Gated (S : Type 0) : Type 0 where
   pub accepts : Accounts
   pub stage : Stage
   pub quit : Bool
+  pub passed : Bool
   pub inner : S
 
-abbrev pub gated_law : {S : Type 0} → Law S → Law (Gated S)
+-- the handler's replies are the gate's, of which nothing else changes
+abbrev pub passed_steps : {S : Type 0} → Gated S → List (FtpReply × S) → List (FtpReply × Gated S)
+passed_steps s steps = map (λ step. (step.0, record s { inner = step.1 })) steps
+
+abbrev pub gated_law : {S : Type 0} → SessionLaw S → SessionLaw (Gated S)
 gated_law law = record {
   says = λ s event. unwrap_or (own_reply s.accepts s.stage event) (law.says s.inner event);
   next = λ s event. record {
     accepts = s.accepts;
     stage = stage_after s.accepts s.stage event;
     quit = s.quit || is_quit event;
-    inner = inner_after law s.inner (passed_on s.accepts s.stage event);
+    passed = is_passed s.stage event;
+    inner = state_then law s.inner (wanted s.accepts s.stage event);
   };
+  more = λ s. if s.passed then passed_steps s (law.more s.inner) else [];
   -- memory runs out for a reply of its own, or the handler fails
   may_fail = λ s event fault.
       (IsSome (own_reply s.accepts s.stage event) × (fault ≡ out_of_memory))
-      ⊎ IsSomeAnd (passed_on s.accepts s.stage event)
-      (λ passed. law.may_fail s.inner passed fault);
+      ⊎ MayFailAt law s.inner (wanted s.accepts s.stage event) fault;
+  may_break = λ s fault. IsTrue s.passed × law.may_break s.inner fault;
   done = λ s. s.quit || law.done s.inner;
 }
 
 -- a gate before the first event
 abbrev pub closed : {S : Type 0} → Accounts → S → Gated S
-closed accepts inner = record { accepts = accepts; stage = NoName; quit = false; inner = inner }
+closed accepts inner =
+    record { accepts = accepts; stage = NoName; quit = false; passed = false; inner = inner }

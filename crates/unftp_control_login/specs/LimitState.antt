@@ -1,20 +1,44 @@
 -- What contracts see of a limit, and of its calls.
-use Rattle.std.specs.Prelude.{ℕ, Some, Result}
-use Rattle.unftp_control_defs.specs.Events.{FtpEvent}
-use Rattle.unftp_control_defs.specs.Run.{Law}
+use Rattle.std.specs.Prelude.{◌≡◌, ℕ, [], if◌then◌else◌, Option, None, IsSome, Result, MatchResult}
+use Rattle.unftp_control_defs.specs.Events.{FtpEvent, out_of_memory}
+use Rattle.unftp_control_defs.specs.FtpReply.{FtpReply}
+use Rattle.unftp_control_defs.specs.Run.{SessionLaw}
+use Rattle.unftp_control_reply.specs.ErrorMeaning.{fault_of}
 use Rattle.unftp_control_reply.specs.declared.error.ControlChanError.{ControlChanError}
-use Rattle.unftp_control_login.specs.HandlerCalls.{CallsMade}
+use Rattle.unftp_control_login.specs.HandlerCalls.{Called, CallsMade, First, Further, NoReply, and_makes}
 use Rattle.unftp_control_login.specs.CallsOf.{calls_of}
-use Rattle.unftp_control_login.specs.LoginLimit.{Limited, last_reply}
+use Rattle.unftp_control_login.specs.LoginLimit.{Limited, is_pass, last_of, last_reply}
 use Rattle.unftp_control_login.specs.declared.inner.Inner.{Inner}
 use Rattle.unftp_control_login.specs.declared.limit.LoginLimit.{LoginLimit}
 
 abbrev pub limited : {H S : Type 0} → (H → S) → LoginLimit H → Limited S
-limited state limit = record { left = limit.left; inner = state limit.inner.handler }
+limited state limit = record {
+  left = limit.left;
+  at_pass = limit.at_pass;
+  ended = limit.ended;
+  inner = state limit.inner.handler;
+}
 
 -- At an event the handler received it, and memory was asked for the last reply, where it is that.
-abbrev pub LimitCalled : {H S T : Type 0} → (H → ℕ) → Law S → Limited S → Inner H → FtpEvent
+abbrev pub LimitCalled : {H S T : Type 0} → (H → ℕ) → SessionLaw S → Limited S → Inner H → FtpEvent
     → Inner H → Result T ControlChanError → Type 0
-LimitCalled failures law s before event after = CallsMade law s.inner (Some event)
-    (last_reply s.left event (law.says s.inner event))
+LimitCalled failures law s before event after = CallsMade law s.inner (First event)
+    (last_reply s.left (is_pass event) (law.says s.inner event))
     (calls_of failures before) (calls_of failures after)
+
+-- After it the handler was asked for its next reply, and memory for the last one, where it is that;
+-- and after the last one for nothing.
+abbrev pub LimitAsked : {H S T : Type 0} → (H → ℕ) → SessionLaw S → Limited S → Inner H → Inner H
+    → Result T ControlChanError → Type 0
+LimitAsked failures law s before after = CallsMade law s.inner
+    (if s.ended then NoReply else Further)
+    (if s.ended then None else last_of s.left s.at_pass (law.more s.inner))
+    (calls_of failures before) (calls_of failures after)
+
+-- Memory was asked for this reply, if it is one, and an error comes only where it was refused.
+abbrev pub OwnMade : {H T : Type 0} → (H → ℕ) → Option FtpReply → Inner H → Inner H
+    → Result T ControlChanError → Type 0
+OwnMade failures own before after result = MatchResult result
+    (λ _. Called (calls_of failures before) (calls_of failures after) (and_makes [] own) 0 0)
+    (λ error. IsSome own × (fault_of error ≡ out_of_memory)
+    × Called (calls_of failures before) (calls_of failures after) (and_makes [] own) 1 0)

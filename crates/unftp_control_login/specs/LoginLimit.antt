@@ -1,31 +1,40 @@
 -- A limit on the failed logins of a session, before any handler.
-use Rattle.std.specs.Prelude.{◌≡◌, ◌≤◌, ℕ, ◌+◌, ◌-◌, ◌==◌, nat_le, Bool, true, false, ◌&&◌, ◌||◌, not, if◌then◌else◌, IsTrue, List, [], ◌∷◌, ◌++◌, Option, Some, None, ◌⊎◌, codes}
+use Rattle.std.specs.Prelude.{◌≡◌, ℕ, ◌+◌, ◌-◌, ◌==◌, nat_le, Bool, true, false, ◌&&◌, ◌||◌, not, if◌then◌else◌, IsTrue, List, [], ◌∷◌, ◌++◌, Option, Some, None, IsSome, ◌⊎◌, codes}
 use Rattle.unftp_control_defs.specs.FtpCommand.{Pass}
 use Rattle.unftp_control_defs.specs.Events.{FtpEvent, Command, out_of_memory}
 use Rattle.unftp_control_defs.specs.FtpReply.{FtpReply, CodeAndMsg, is_positive}
-use Rattle.unftp_control_defs.specs.Run.{Law, ends, replies, run_of}
+use Rattle.unftp_control_defs.specs.Run.{SessionLaw, ends, replies, run_of}
+use Rattle.unftp_control_defs.specs.Turns.{is_preliminary_reply, replies_by_event}
 
 abbrev pub is_pass : FtpEvent → Bool
 is_pass (Command (Pass password)) = true
 is_pass event = false
 
--- a PASS whose reply reports a failure
-abbrev pub is_failed_login : FtpEvent → FtpReply → Bool
-is_failed_login event reply = is_pass event && not (is_positive reply)
+-- neither positive nor preliminary (RFC 959, section 4.2.1)
+abbrev pub is_failure : FtpReply → Bool
+is_failure reply = not (is_positive reply) && not (is_preliminary_reply reply)
 
--- how many there are among these events and the replies to them
-abbrev pub failed_logins : List FtpEvent → List FtpReply → ℕ
-failed_logins (event ∷ events) (reply ∷ replies) =
-    (if is_failed_login event reply then 1 else 0) + failed_logins events replies
+abbrev pub has_failure : List FtpReply → Bool
+has_failure [] = false
+has_failure (reply ∷ replies) = is_failure reply || has_failure replies
+
+-- a PASS of which a reply reports a failure
+abbrev pub is_failed_login : FtpEvent → List FtpReply → Bool
+is_failed_login event replies = is_pass event && has_failure replies
+
+-- how many there are among these events and the replies to each of them
+abbrev pub failed_logins : List FtpEvent → List (List FtpReply) → ℕ
+failed_logins (event ∷ events) (replies ∷ later) =
+    (if is_failed_login event replies then 1 else 0) + failed_logins events later
 failed_logins _ _ = 0
 
 -- how many fail in the run over some events
-abbrev pub failed_in_run : {S : Type 0} → Law S → S → List FtpEvent → ℕ
+abbrev pub failed_in_run : {S : Type 0} → SessionLaw S → S → List FtpEvent → ℕ
 failed_in_run law s events =
-    let run = run_of law s events in failed_logins run (replies law s run)
+    let run = run_of law s events in failed_logins run (replies_by_event law s run)
 
 -- the run ends the session, and this is its last reply
-abbrev pub EndsWith : {S : Type 0} → FtpReply → Law S → S → List FtpEvent → Type 0
+abbrev pub EndsWith : {S : Type 0} → FtpReply → SessionLaw S → S → List FtpEvent → Type 0
 EndsWith reply law s events = IsTrue (ends law s events)
     × (earlier : List FtpReply) × (replies law s (run_of law s events) ≡ earlier ++ reply ∷ [])
 
@@ -33,37 +42,67 @@ EndsWith reply law s events = IsTrue (ends law s events)
 abbrev pub too_many : FtpReply
 too_many = CodeAndMsg 421 (codes "Too many failed logins, closing control connection")
 
--- how many more may fail, the last of which ends the session; and what the handler keeps
+-- How many more may fail, the last of which ends the session; whether the event at hand is a PASS
+-- that hasn't failed so far; whether it was answered 421; and what the handler keeps.
 pub record Limited (S : Type 0) : Type 0 where
   pub left : ℕ
+  pub at_pass : Bool
+  pub ended : Bool
   pub inner : S
 
-abbrev pub limited_reply : ℕ → FtpEvent → FtpReply → FtpReply
-limited_reply left event reply =
-    if is_failed_login event reply && nat_le left 1 then too_many else reply
+-- One reply of the handler, to a PASS that hasn't failed so far or to another event: whether by it
+-- the login fails, and whether it is the last that may.
+abbrev pub fails : Bool → FtpReply → Bool
+fails at_pass reply = at_pass && is_failure reply
+
+abbrev pub is_last : ℕ → Bool → FtpReply → Bool
+is_last left at_pass reply = fails at_pass reply && nat_le left 1
+
+abbrev pub limited_reply : ℕ → Bool → FtpReply → FtpReply
+limited_reply left at_pass reply = if is_last left at_pass reply then too_many else reply
 
 -- the limit's own reply
-abbrev pub last_reply : ℕ → FtpEvent → FtpReply → Option FtpReply
-last_reply left event reply =
-    if is_failed_login event reply && nat_le left 1 then Some too_many else None
+abbrev pub last_reply : ℕ → Bool → FtpReply → Option FtpReply
+last_reply left at_pass reply = if is_last left at_pass reply then Some too_many else None
 
-abbrev pub left_after : ℕ → FtpEvent → FtpReply → ℕ
-left_after left event reply = if is_failed_login event reply then left - 1 else left
+abbrev pub limited_state : {S : Type 0} → ℕ → Bool → FtpReply → S → Limited S
+limited_state left at_pass reply inner = record {
+  left = if fails at_pass reply then left - 1 else left;
+  at_pass = at_pass && not (is_failure reply);
+  ended = is_last left at_pass reply;
+  inner = inner;
+}
 
-abbrev pub limited_law : {S : Type 0} → Law S → Law (Limited S)
+-- What is sent for the handler's replies, each with the state after it, up to the 421.
+abbrev pub limited_steps : {S : Type 0} → ℕ → Bool → List (FtpReply × S)
+    → List (FtpReply × Limited S)
+limited_steps left at_pass [] = []
+limited_steps left at_pass (step ∷ steps) =
+    let s = limited_state left at_pass step.0 step.1 in
+    (limited_reply left at_pass step.0, s)
+    ∷ (if s.ended then [] else limited_steps s.left s.at_pass steps)
+
+-- the limit's own reply in place of the next of the handler's, if there is one
+abbrev pub last_of : {S : Type 0} → ℕ → Bool → List (FtpReply × S) → Option FtpReply
+last_of left at_pass [] = None
+last_of left at_pass (step ∷ steps) = last_reply left at_pass step.0
+
+abbrev pub limited_law : {S : Type 0} → SessionLaw S → SessionLaw (Limited S)
 limited_law law = record {
-  says = λ s event. limited_reply s.left event (law.says s.inner event);
-  next = λ s event. record {
-    left = left_after s.left event (law.says s.inner event);
-    inner = law.next s.inner event;
-  };
+  says = λ s event. limited_reply s.left (is_pass event) (law.says s.inner event);
+  next = λ s event. limited_state s.left (is_pass event) (law.says s.inner event)
+      (law.next s.inner event);
+  more = λ s. if s.ended then [] else limited_steps s.left s.at_pass (law.more s.inner);
   -- the handler fails, or memory runs out for the last reply
   may_fail = λ s event fault. law.may_fail s.inner event fault
-      ⊎ (IsTrue (is_failed_login event (law.says s.inner event)) × (s.left ≤ 1)
+      ⊎ (IsSome (last_reply s.left (is_pass event) (law.says s.inner event))
       × (fault ≡ out_of_memory));
+  may_break = λ s fault. (s.ended ≡ false) × (law.may_break s.inner fault
+      ⊎ (IsSome (last_of s.left s.at_pass (law.more s.inner)) × (fault ≡ out_of_memory)));
   done = λ s. (s.left == 0) || law.done s.inner;
 }
 
 -- a limit before the first event
 abbrev pub limited_to : {S : Type 0} → ℕ → S → Limited S
-limited_to left inner = record { left = left; inner = inner }
+limited_to left inner =
+    record { left = left; at_pass = false; ended = false; inner = inner }

@@ -1,5 +1,6 @@
 -- What a login gate promises of all inputs.
 use Rattle.std.specs.Prelude.{◌≡◌, ℕ, ◌<◌, ⊤, ◌⊎◌, false, IsTrue, length, take, List, [], ◌∷◌, ◌++◌, Option}
+use Rattle.std.specs.List.{AllByRecursion}
 use Rattle.unftp_control_defs.specs.Bytes.{Bytes, LF, Lacks}
 use Rattle.unftp_control_defs.specs.Canonical.{canonical_line}
 use Rattle.unftp_control_defs.specs.FtpCommand.{User, Pass}
@@ -7,33 +8,42 @@ use Rattle.unftp_control_defs.specs.Events.{FtpEvent, Command, event_for, exceed
 use Rattle.unftp_control_defs.specs.FtpReply.{FtpReply, Nothing, CodeAndMsg, MultiLine, IsPlain}
 use Rattle.unftp_control_defs.specs.Lines.{lines_of}
 use Rattle.unftp_control_defs.specs.ReplyReader.{AllReplies}
-use Rattle.unftp_control_defs.specs.Run.{Law, last_state, run_for}
+use Rattle.unftp_control_defs.specs.Run.{SessionLaw, after, last_state, run_for, said, turn}
+use Rattle.unftp_control_defs.specs.Turns.{GivesExchanges, SaysOnly, cut_reads}
 use Rattle.unftp_control_serve.specs.Endings.{Snapshot, RunFailed}
 use Rattle.unftp_control_serve.specs.declared.error.ServeError.{ServeError}
 use Rattle.unftp_control_login.specs.Login.{Accounts, GaveName, IsLoggedIn, needs_login}
-use Rattle.unftp_control_login.specs.HandlerCalls.{Call, passes, makes}
-use Rattle.unftp_control_login.specs.Gate.{Gated, closed, gated_law, login_needed, own_reply, passed_on}
+use Rattle.unftp_control_login.specs.HandlerCalls.{Call, Dropped, First, Further, NoReply, Passes, Wanted, and_makes, asks_for}
+use Rattle.unftp_control_login.specs.Gate.{Gated, closed, gated_law, login_needed, own_reply, wanted}
 use Rattle.unftp_control_login.specs.LoginLimit.{Limited, is_pass, last_reply}
 
--- The event after these is answered 530, and the handler doesn't receive it.
-abbrev pub IsTurnedAway : {S : Type 0} → Law S → Accounts → S → List FtpEvent → FtpEvent → Type 0
+-- all replies to an event
+abbrev pub replies_to : {S : Type 0} → SessionLaw S → S → FtpEvent → List FtpReply
+replies_to law s event = said (turn law s event)
+
+-- The event after these has one reply, which is 530, and the handler doesn't receive it.
+abbrev pub IsTurnedAway : {S : Type 0} → SessionLaw S → Accounts → S → List FtpEvent → FtpEvent
+    → Type 0
 IsTurnedAway law accepts inner before event =
     let s = last_state (gated_law law) (closed accepts inner) before in
-    ((gated_law law).says s event ≡ login_needed) × (((gated_law law).next s event).inner ≡ s.inner)
+    (replies_to (gated_law law) s event ≡ login_needed ∷ [])
+    × ((after (gated_law law) s event).inner ≡ s.inner)
 
--- The event after these reaches the handler, whose reply is the reply.
-abbrev pub ReachesHandler : {S : Type 0} → Law S → Accounts → S → List FtpEvent → FtpEvent → Type 0
+-- The event after these reaches the handler, whose replies are the replies.
+abbrev pub ReachesHandler : {S : Type 0} → SessionLaw S → Accounts → S → List FtpEvent → FtpEvent
+    → Type 0
 ReachesHandler law accepts inner before event =
     let s = last_state (gated_law law) (closed accepts inner) before in
-    ((gated_law law).says s event ≡ law.says s.inner event)
-    × (((gated_law law).next s event).inner ≡ law.next s.inner event)
+    (replies_to (gated_law law) s event ≡ replies_to law s.inner event)
+    × ((after (gated_law law) s event).inner ≡ after law s.inner event)
 
 -- After these, this password has the handler receive USER with this name.
-abbrev pub LearnsName : {S : Type 0} → Law S → Accounts → S → List FtpEvent → Bytes → Bytes → Type 0
+abbrev pub LearnsName : {S : Type 0} → SessionLaw S → Accounts → S → List FtpEvent → Bytes → Bytes
+    → Type 0
 LearnsName law accepts inner before name password =
     let s = last_state (gated_law law) (closed accepts inner) before in
-    ((gated_law law).next s (Command (Pass password))).inner
-    ≡ law.next s.inner (Command (User name))
+    (after (gated_law law) s (Command (Pass password))).inner
+    ≡ after law s.inner (Command (User name))
 
 -- 4yz and 5yz report a failure (RFC 959, section 4.2.1).
 abbrev pub NoFailure : FtpReply → Type 0
@@ -41,19 +51,22 @@ NoFailure Nothing = ⊤
 NoFailure (CodeAndMsg code text) = code < 400
 NoFailure (MultiLine code lines) = code < 400
 
--- Whatever came before: an event that needs a login is answered with no failure only after a login.
-abbrev pub ServesMembersAlone : {S : Type 0} → Accounts → Law S → S → Type 0
+-- Whatever came before: a reply that reports no failure, to an event that needs a login, comes only
+-- after a login.
+abbrev pub ServesMembersAlone : {S : Type 0} → Accounts → SessionLaw S → S → Type 0
 ServesMembersAlone accepts law s = (before : List FtpEvent) (event : FtpEvent)
-    → IsTrue (needs_login event) → NoFailure (law.says (last_state law s before) event)
-    → IsLoggedIn accepts before
+    → IsTrue (needs_login event)
+    → AllByRecursion (λ reply. NoFailure reply → IsLoggedIn accepts before)
+    (replies_to law (last_state law s before) event)
 
 -- a reply that is sent, and that a client reads back as it is
 abbrev pub IsSentPlain : FtpReply → Type 0
 IsSentPlain Nothing = ⊥
 IsSentPlain reply = IsPlain reply
 
-abbrev pub SendsPlainReplies : {S : Type 0} → Law S → Type 0
-SendsPlainReplies {S = S} law = (s : S) (event : FtpEvent) → IsSentPlain (law.says s event)
+-- The replies to each event are preliminary ones and then a final one, and each of them is that.
+abbrev pub SendsPlainExchanges : {S : Type 0} → SessionLaw S → Type 0
+SendsPlainExchanges law = GivesExchanges law × SaysOnly IsSentPlain law
 
 -- The lists are of one length, and this holds at each place: of what the first has before it and at
 -- it, and of what the second has at it.
@@ -64,20 +77,22 @@ AtEachPlace Holds before (x ∷ xs) (y ∷ ys) =
     Holds before x y × AtEachPlace Holds (before ++ x ∷ []) xs ys
 AtEachPlace Holds before _ _ = ⊥
 
--- A code that reports no failure, read as the reply to an event that needs a login, comes only
--- after a login.
-abbrev pub AfterLogin : Accounts → List FtpEvent → FtpEvent → ℕ × List Bytes → Type 0
-AfterLogin accepts before event reply =
-    IsTrue (needs_login event) → reply.0 < 400 → IsLoggedIn accepts before
+-- A code that reports no failure, in what is read as the replies to an event that needs a login,
+-- comes only after a login.
+abbrev pub AfterLogin : Accounts → List FtpEvent → FtpEvent → List (ℕ × List Bytes) → Type 0
+AfterLogin accepts before event replies = IsTrue (needs_login event)
+    → AllByRecursion (λ reply. reply.0 < 400 → IsLoggedIn accepts before) replies
 
--- The output is a list of replies, and a client reads no other in it: one for each of the input's
--- events, up to the last that is answered, and each of them as it has to be after a login.
+-- The output is a list of replies, and a client reads no other in it. Cut after each final reply,
+-- they are in turn those to the input's events, up to the last that is answered, and each of them
+-- is as it has to be after a login.
 pub record MembersAlone (limit : Option ℕ) (accepts : Accounts) (input output : Bytes)
     : Type 0 where
   pub read : List (ℕ × List Bytes)
   pub replies : AllReplies output read
   pub no_other : (other : List (ℕ × List Bytes)) → AllReplies output other → other ≡ read
-  pub alone : AtEachPlace (AfterLogin accepts) [] (take (length read) (events limit input)) read
+  pub alone : AtEachPlace (AfterLogin accepts) []
+      (take (length (cut_reads read)) (events limit input)) (cut_reads read)
 
 -- The accounts answer alike to both passwords, for the name that was given by these events.
 abbrev pub AnsweredAlike : Accounts → List FtpEvent → Bytes → Bytes → Type 0
@@ -105,30 +120,39 @@ DifferInPasswords limit input other = AtEachPlace
 
 -- However a session over the first input fails, one over the other may fail too: with the same
 -- error, and with the same bytes written.
-abbrev pub FailsAlike : {S : Type 0} → Option ℕ → Law S → S → Bytes → Bytes → Type 0
+abbrev pub FailsAlike : {S : Type 0} → Option ℕ → SessionLaw S → S → Bytes → Bytes → Type 0
 FailsAlike {S = S} limit law s input other =
     (before after : Snapshot S) (error : ServeError) (done : List FtpEvent) → before.state ≡ s
     → RunFailed limit law before input after error done
     → (others : List FtpEvent) × RunFailed limit law before other after error others
 
 -- Of each event of a run and the state before it.
-abbrev pub at_each : {S R : Type 0} → (S → FtpEvent → R) → Law S → S → List FtpEvent → List R
+abbrev pub at_each : {S R : Type 0} → (S → FtpEvent → R) → SessionLaw S → S → List FtpEvent → List R
 at_each f law s [] = []
-at_each f law s (event ∷ events) = f s event ∷ at_each f law (law.next s event) events
+at_each f law s (event ∷ events) = f s event ∷ at_each f law (after law s event) events
+
+-- What a handler is called for at an event of which this is wanted: it receives it, and is asked
+-- for each reply that follows.
+abbrev pub handler_calls : {S : Type 0} → SessionLaw S → S → Wanted → List Call
+handler_calls law s (First event) = Passes event ∷ asks_for (law.more (law.next s event))
+handler_calls law s (Dropped event) = Passes event ∷ asks_for (law.more (law.next s event))
+handler_calls law s NoReply = []
+handler_calls law s Further = []
 
 -- What a gate calls at an event, beside the accounts.
-abbrev pub gate_calls : {S : Type 0} → Gated S → FtpEvent → List Call
-gate_calls s event =
-    passes (passed_on s.accepts s.stage event) ++ makes (own_reply s.accepts s.stage event)
+abbrev pub gate_calls : {S : Type 0} → SessionLaw S → Gated S → FtpEvent → List Call
+gate_calls law s event =
+    and_makes (handler_calls law s.inner (wanted s.accepts s.stage event))
+    (own_reply s.accepts s.stage event)
 
--- What a gate and the limit before it call.
-abbrev pub limit_calls : {S : Type 0} → Law S → Limited (Gated S) → FtpEvent → List Call
-limit_calls law s event = gate_calls s.inner event
-    ++ makes (last_reply s.left event ((gated_law law).says s.inner event))
+-- What a gate and the limit before it call: a PASS has one reply of the gate.
+abbrev pub limit_calls : {S : Type 0} → SessionLaw S → Limited (Gated S) → FtpEvent → List Call
+limit_calls law s event = and_makes (gate_calls law s.inner event)
+    (last_reply s.left (is_pass event) ((gated_law law).says s.inner event))
 
 -- what is called in the run over an input, event for event
-abbrev pub calls_for : {S : Type 0} → Option ℕ → (S → FtpEvent → List Call) → Law S → S → Bytes
-    → List (List Call)
+abbrev pub calls_for : {S : Type 0} → Option ℕ → (S → FtpEvent → List Call) → SessionLaw S → S
+    → Bytes → List (List Call)
 calls_for limit calls law s input = at_each calls law s (run_for limit law s input)
 
 -- Both answer alike to all that these events may ask: whether a password is that of the name that

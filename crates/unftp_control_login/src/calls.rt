@@ -17,6 +17,8 @@ pub(crate) enum Note<'a> {
     Asks { name: &'a [u8], password: &'a [u8] },
     /// The handler receives this event.
     Passes(&'a Event),
+    /// The handler is asked for the next of the replies that follow.
+    AsksFurther,
     /// Memory is asked for this reply.
     Makes { code: ReplyCode, text: &'a str },
 }

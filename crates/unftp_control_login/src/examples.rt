@@ -12,11 +12,11 @@ ghost use Rattle.unftp_control_defs.specs.declared.parameters.ProtParam.TheVaria
 ghost use Rattle.unftp_control_defs.specs.declared.parameters.StruParam.TheVariants.{File};
 ghost use Rattle.unftp_control_login.specs.Login.{GaveName, HasLoggedIn, IsLoggedIn, flushes_login, is_login, needs_login};
 ghost use Rattle.unftp_control_login.specs.declared.stage.Stage.TheVariants.{LoggedIn, Named, NoName};
-ghost use Rattle.unftp_control_login.specs.HandlerCalls.{AllCalled, Asks, HandlerFailed, Makes, Passes, ReplyRefused};
+ghost use Rattle.unftp_control_login.specs.HandlerCalls.{AllCalled, Asks, AsksFurther, Dropped, First, HandlerFailed, Makes, NoReply, Passes, ReplyRefused};
 ghost use Rattle.unftp_control_login.specs.Gate.{closed, gated_law, logged_in, login_needed, name_needed, not_accepted, password_needed, questions};
 ghost use Rattle.unftp_control_login.specs.LoginLimit.{EndsWith, failed_in_run, limited_law, limited_to, too_many};
-ghost use Rattle.unftp_control_login.specs.Promises.{AllLookAlike, AnswerAlike, DifferInPasswords, PasswordFits, FailsAlike, IsRefusedLogin, IsSentPlain, IsTurnedAway, LearnsName, LooksAlike, MembersAlone, NoFailure, ReachesHandler, SendsPlainReplies, ServesMembersAlone, at_each, calls_for, gate_calls, limit_calls, login_lines};
-ghost use Rattle.unftp_control_login.specs.Examples.{anna, anna_and_ben, ben, counting, here, login, only_anna, pass, secret, silent, so_far, user, wrong};
+ghost use Rattle.unftp_control_login.specs.Promises.{AllLookAlike, AnswerAlike, DifferInPasswords, PasswordFits, FailsAlike, IsRefusedLogin, IsSentPlain, IsTurnedAway, LearnsName, LooksAlike, MembersAlone, NoFailure, ReachesHandler, SendsPlainExchanges, ServesMembersAlone, at_each, calls_for, gate_calls, limit_calls, login_lines};
+ghost use Rattle.unftp_control_login.specs.Examples.{anna, anna_and_ben, ben, counting, here, login, only_anna, opened, pass, refusing, secret, silent, so_far, transferring, user, wrong};
 
 /// Which events need a login, and which undo one.
 pub fn logins_are_needed()
@@ -69,6 +69,20 @@ pub fn a_gate_answers()
     ensures handler_done { (gated_law counting).done (closed only_anna 9) ≡ true }
 {}
 
+/// A handler that gives two replies to an event: both pass the gate, and neither to a login does.
+pub fn follow_ups_pass()
+    ensures replies { replies (gated_law transferring) (closed only_anna [])
+        (Command Pwd ∷ user anna ∷ pass secret ∷ Command Pwd ∷ [])
+        ≡ login_needed ∷ password_needed ∷ logged_in ∷ opened ∷ here ∷ [] }
+    ensures dropped { (last_state (gated_law transferring) (closed only_anna []) login).inner ≡ [] }
+    ensures turned_away { IsTurnedAway transferring only_anna [] [] (Command Pwd) }
+    ensures reaches { ReachesHandler transferring only_anna [] login (Command Pwd) }
+    ensures served { ServesMembersAlone only_anna transferring [] → ⊥ }
+    ensures plain { SendsPlainExchanges transferring }
+    ensures limited { replies (limited_law transferring) (limited_to 2 [])
+        (Command Noop ∷ pass wrong ∷ []) ≡ opened ∷ here ∷ opened ∷ here ∷ [] }
+{}
+
 /// What the accounts are asked: only about a password, of the name before it, and once.
 pub fn accounts_are_asked()
     ensures asked { questions (Named anna) (pass secret) ≡ Asks anna secret ∷ [] }
@@ -81,26 +95,29 @@ pub fn accounts_are_asked()
         × (questions (Named anna) (Command Noop) ≡ []) }
 {}
 
-/// What a gate and a limit call: the handler receives an event once, and memory is asked for one
-/// reply.
+/// What a gate and a limit call: the handler receives an event once, and is then asked for each
+/// reply that follows; and memory is asked for one reply.
 pub fn calls_are_made()
-    ensures refused_login { gate_calls (last_state (gated_law counting) (closed only_anna 0)
-        (user anna ∷ [])) (pass wrong) ≡ Makes not_accepted ∷ [] }
-    ensures login { gate_calls (last_state (gated_law counting) (closed only_anna 0)
-        (user anna ∷ [])) (pass secret) ≡ Passes (user anna) ∷ Makes logged_in ∷ [] }
-    ensures stranger { gate_calls {S = ℕ} (closed only_anna 0) (Command Pwd)
+    ensures refused_login { gate_calls counting (last_state (gated_law counting)
+        (closed only_anna 0) (user anna ∷ [])) (pass wrong) ≡ Makes not_accepted ∷ [] }
+    ensures login { gate_calls counting (last_state (gated_law counting) (closed only_anna 0)
+        (user anna ∷ [])) (pass secret)
+        ≡ Passes (user anna) ∷ AsksFurther ∷ Makes logged_in ∷ [] }
+    ensures stranger { gate_calls counting (closed only_anna 0) (Command Pwd)
         ≡ Makes login_needed ∷ [] }
-    ensures anyone { gate_calls {S = ℕ} (closed only_anna 0) (Command Noop)
-        ≡ Passes (Command Noop) ∷ [] }
+    ensures anyone { gate_calls counting (closed only_anna 0) (Command Noop)
+        ≡ Passes (Command Noop) ∷ AsksFurther ∷ [] }
+    ensures follow_ups { gate_calls transferring (closed only_anna []) (Command Noop)
+        ≡ Passes (Command Noop) ∷ AsksFurther ∷ AsksFurther ∷ [] }
     ensures last { limit_calls counting (limited_to 1 (closed only_anna 0)) (pass wrong)
         ≡ Makes name_needed ∷ Makes too_many ∷ [] }
     ensures not_last { limit_calls counting (limited_to 2 (closed only_anna 0)) (pass wrong)
         ≡ Makes name_needed ∷ [] }
-    ensures run { at_each gate_calls (gated_law counting) (closed only_anna 0)
+    ensures run { at_each (gate_calls counting) (gated_law counting) (closed only_anna 0)
         (user anna ∷ pass wrong ∷ [])
         ≡ (Makes password_needed ∷ []) ∷ (Makes not_accepted ∷ []) ∷ [] }
-    ensures input { calls_for None gate_calls (gated_law counting) (closed only_anna 0)
-        (codes "NOOP\r\n") ≡ (Passes (Command Noop) ∷ []) ∷ [] }
+    ensures input { calls_for None (gate_calls counting) (gated_law counting) (closed only_anna 0)
+        (codes "NOOP\r\n") ≡ (Passes (Command Noop) ∷ AsksFurther ∷ []) ∷ [] }
 {}
 
 /// Accounts that give one session: those that differ only in another user's password.
@@ -110,21 +127,27 @@ pub fn accounts_answer_alike()
     ensures nothing_asked { AnswerAlike only_anna anna_and_ben (pass wrong ∷ user ben ∷ []) }
 {}
 
-/// Why an event fails: the handler failed, and nothing was called after it; or memory was refused.
+/// Why a call fails: the handler failed, and nothing was called after it; or memory was refused.
 pub fn calls_fail()
-    ensures called { AllCalled counting 0 (Some (Command Noop)) (Some here) (so_far [] 0 0)
+    ensures called { AllCalled counting 0 (First (Command Noop)) (Some here) (so_far [] 0 0)
         (so_far (Passes (Command Noop) ∷ Makes here ∷ []) 0 0) }
-    ensures twice { AllCalled counting 0 (Some (Command Noop)) None (so_far [] 0 0)
+    ensures twice { AllCalled counting 0 (First (Command Noop)) None (so_far [] 0 0)
         (so_far (Passes (Command Noop) ∷ Passes (Command Noop) ∷ []) 0 0) → ⊥ }
-    ensures failed { HandlerFailed counting 0 (Some (Command Noop)) (Some here) (so_far [] 0 0)
+    ensures dropped { AllCalled transferring [] (Dropped (Command Noop)) None (so_far [] 0 0)
+        (so_far (Passes (Command Noop) ∷ AsksFurther ∷ AsksFurther ∷ []) 0 0) }
+    ensures not_dropped { AllCalled transferring [] (Dropped (Command Noop)) None (so_far [] 0 0)
+        (so_far (Passes (Command Noop) ∷ AsksFurther ∷ []) 0 0) → ⊥ }
+    ensures failed { HandlerFailed counting 0 (First (Command Noop)) (Some here) (so_far [] 0 0)
         (so_far (Passes (Command Noop) ∷ []) 0 1) out_of_memory }
-    ensures went_on { HandlerFailed counting 0 (Some (Command Noop)) (Some here) (so_far [] 0 0)
+    ensures went_on { HandlerFailed counting 0 (First (Command Noop)) (Some here) (so_far [] 0 0)
         (so_far (Passes (Command Noop) ∷ Makes here ∷ []) 0 1) out_of_memory → ⊥ }
-    ensures refused { ReplyRefused counting 0 None (Some here) (so_far [] 0 0)
+    ensures broke { HandlerFailed transferring [] (Dropped (Command Noop)) None (so_far [] 0 0)
+        (so_far (Passes (Command Noop) ∷ AsksFurther ∷ AsksFurther ∷ []) 0 1) out_of_memory }
+    ensures refused { ReplyRefused counting 0 NoReply (Some here) (so_far [] 0 0)
         (so_far (Makes here ∷ []) 1 0) out_of_memory }
-    ensures not_refused { ReplyRefused counting 0 None (Some here) (so_far [] 0 0)
+    ensures not_refused { ReplyRefused counting 0 NoReply (Some here) (so_far [] 0 0)
         (so_far (Makes here ∷ []) 0 0) out_of_memory → ⊥ }
-    ensures not_asked { ReplyRefused counting 0 None None (so_far [] 0 0)
+    ensures not_asked { ReplyRefused counting 0 NoReply None (so_far [] 0 0)
         (so_far [] 1 0) out_of_memory → ⊥ }
 {}
 
@@ -141,16 +164,19 @@ pub fn events_are_gated()
 /// What serving only members means, of events and of bytes.
 pub fn members_are_served()
     ensures no_failure { NoFailure (CodeAndMsg 399 []) × NoFailure Nothing }
+    ensures preliminary { NoFailure (CodeAndMsg 150 []) }
     ensures failure { NoFailure (CodeAndMsg 400 []) → ⊥ }
     ensures failure_of_lines { NoFailure (MultiLine 530 []) → ⊥ }
     ensures anyone_served { ServesMembersAlone only_anna counting 0 → ⊥ }
     ensures anyone_served_in_bytes { MembersAlone None only_anna (codes "PWD\r\n")
         (codes "257 here\r\n") → ⊥ }
+    ensures anyone_opened { MembersAlone None only_anna (codes "PWD\r\n")
+        (codes "150 opened\r\n530 no\r\n") → ⊥ }
     ensures stranger { MembersAlone None only_anna (codes "PWD\r\n") (codes "530 no\r\n") }
     ensures garbage { MembersAlone None only_anna (codes "PWD\r\n") (codes "x") → ⊥ }
     ensures no_event { MembersAlone None only_anna [] (codes "530 no\r\n") → ⊥ }
-    ensures plain { IsSentPlain (CodeAndMsg 100 (codes "x")) × SendsPlainReplies counting }
-    ensures nothing_sent { SendsPlainReplies silent → ⊥ }
+    ensures plain { IsSentPlain (CodeAndMsg 100 (codes "x")) × SendsPlainExchanges counting }
+    ensures nothing_sent { SendsPlainExchanges silent → ⊥ }
     ensures short_code { IsSentPlain (CodeAndMsg 99 []) → ⊥ }
     ensures line_feed { IsSentPlain (MultiLine 200 (codes "a\n" ∷ [])) → ⊥ }
 {}
@@ -204,4 +230,10 @@ pub fn a_limit_counts()
     ensures not_last { EndsWith too_many (limited_law (gated_law counting))
         (limited_to 2 (closed only_anna 0)) (pass wrong ∷ []) → ⊥ }
     ensures not_ended { EndsWith here counting 0 (Command Noop ∷ []) → ⊥ }
+    ensures preliminary { replies (limited_law refusing) (limited_to 2 [])
+        (pass wrong ∷ Command Noop ∷ pass wrong ∷ [])
+        ≡ opened ∷ not_accepted ∷ not_accepted ∷ opened ∷ not_accepted ∷ not_accepted ∷ opened
+        ∷ too_many ∷ [] }
+    ensures count_once { failed_in_run (limited_law refusing) (limited_to 2 [])
+        (pass wrong ∷ Command Noop ∷ []) ≡ 1 }
 {}

@@ -1,16 +1,18 @@
 //! A login gate before a handler.
-ghost use Rattle.std.specs.Prelude.{◌≡◌, ◌+◌, ◌++◌, ◌||◌, if◌then◌else◌, false, is_ok, [], IfOk, IfErr, IsTrue, OnOk, OnErr};
+ghost use Rattle.std.specs.Prelude.{◌≡◌, ◌+◌, ◌<◌, ◌++◌, ◌||◌, if◌then◌else◌, true, false, is_ok, [], List, None, Some, IfOk, IfErr, IfSome, IsTrue, OnOk, OnErr};
 ghost use Rattle.unftp_control_defs.specs.Events.{is_quit};
 ghost use Rattle.unftp_control_defs.specs.Events as event;
 ghost use Rattle.unftp_control_defs.specs.FtpCommand.{Pass, User};
+ghost use Rattle.unftp_control_defs.specs.Run.{Follows, after};
 ghost use Rattle.unftp_control_reply.specs.ErrorMeaning.{fault_of};
-ghost use Rattle.unftp_control_serve.specs.EventMeaning.{event_meant};
+ghost use Rattle.unftp_control_serve.specs.EventMeaning.{event_meant, further_of};
+ghost use Rattle.unftp_control_serve.specs.Writing.{Begins};
 ghost use Rattle.unftp_control_reply.specs.ReplyMeaning.{reply_of};
 ghost use Rattle.unftp_control_login.specs.Login.{flushes_login, is_login, needs_login};
-ghost use Rattle.unftp_control_login.specs.HandlerCalls.{CallsMade};
+ghost use Rattle.unftp_control_login.specs.HandlerCalls.{CallsMade, Dropped, First};
 ghost use Rattle.unftp_control_login.specs.CallsOf.{calls_of};
-ghost use Rattle.unftp_control_login.specs.Gate.{Gated, gated_law, is_logged_in, logged_in, password_reply, questions};
-ghost use Rattle.unftp_control_login.specs.GateState.{GateCalled, gated};
+ghost use Rattle.unftp_control_login.specs.Gate.{Gated, gated_law, is_barred, is_logged_in, logged_in, password_reply, questions};
+ghost use Rattle.unftp_control_login.specs.GateState.{GateAsked, GateCalled, gated};
 
 use crate::accounts::Accounts;
 use crate::asked::AskedAccounts;
@@ -22,7 +24,7 @@ use std::mem;
 use unftp_control_command::Command;
 use unftp_control_reply::error::ControlChanError;
 use unftp_control_reply::{Reply, ReplyCode};
-use unftp_control_serve::{Event, Handler};
+use unftp_control_serve::{Event, Session};
 
 /// Takes names and passwords, and passes on to its handler what is allowed (RFC 959,
 /// section 4.1.1).
@@ -35,23 +37,27 @@ use unftp_control_serve::{Event, Handler};
 /// - AUTH flushes the login, also where the handler refuses it (RFC 2228, section 3; RFC 4217,
 ///   section 4).
 /// - Where a login is accepted, the handler receives USER with the name: by this it learns who has
-///   logged in. Its reply to that is dropped. It receives USER at no other time, and never PASS.
+///   logged in. It is asked for all its replies to that, and they are dropped. It receives USER at
+///   no other time, and never PASS.
+/// - A command that is passed on has the handler's replies, and no other has more than one reply.
 /// - It is done after QUIT, and where the handler is.
 #[derive(Drop)]
-pub struct Gate<A: Accounts, H: Handler> {
+pub struct Gate<A: Accounts, H: Session> {
     accounts: AskedAccounts<A>,
     stage: Stage,
     quit: bool,
+    passed: bool,
     inner: Inner<H>,
 }
 
-impl<A: Accounts, H: Handler> Gate<A, H> {
+impl<A: Accounts, H: Session> Gate<A, H> {
     /// A gate before the first event, over this handler.
     pub fn new(accounts: A, inner: H) -> Gate<A, H>
         ensures accounts { result.accounts.accounts ≡ accounts }
         ensures questions { result.accounts.questions ≡ [] }
         ensures stage { result.stage ≡ Stage.NoName }
         ensures quit { result.quit ≡ false }
+        ensures passed { result.passed ≡ false }
         ensures inner { result.inner.handler ≡ inner }
         ensures failures { result.inner.refused ≡ 0 }
     {
@@ -59,23 +65,29 @@ impl<A: Accounts, H: Handler> Gate<A, H> {
             accounts: AskedAccounts::new(accounts),
             stage: Stage::NoName,
             quit: false,
+            passed: false,
             inner: Inner::new(inner),
         }
     }
 
     /// Takes a password for the name that was given.
     fn take_password(&mut self, alloc: Global, password: &[u8]) -> Result<Reply, ControlChanError>
+        ensures heard { Begins (H.heard self.new.inner.handler) (H.heard self.old.inner.handler) }
         ensures says { IfOk result (λ reply. reply_of reply
             ≡ password_reply (A.accepts self.old.accounts.accounts) self.old.stage password.now) }
-        ensures next { OnOk result (gated A.accepts H.state self.new ≡ (gated_law H.law).next
-            (gated A.accepts H.state self.old) (event.Command (Pass password.now))) }
+        ensures next { OnOk result ((said : List H.Said)
+            → Begins said (H.heard self.new.inner.handler) → gated A.accepts H.state self.new
+            ≡ (gated_law (H.law said)).next (gated A.accepts H.state self.old)
+            (event.Command (Pass password.now))) }
         ensures asked { self.new.accounts.questions ≡ self.old.accounts.questions
             ++ questions self.old.stage (event.Command (Pass password.now)) }
-        ensures calls { GateCalled H.failures H.law (gated A.accepts H.state self.old)
+        ensures calls { (said : List H.Said) → Begins said (H.heard self.new.inner.handler)
+            → GateCalled H.failures (H.law said) (gated A.accepts H.state self.old)
             self.old.inner (event.Command (Pass password.now)) self.new.inner result }
         ensures nobody { OnErr result (IsTrue (is_logged_in self.new.stage)
             → IsTrue (is_logged_in self.old.stage)) }
     {
+        self.passed = false;
         let username = match mem::replace(&mut self.stage, Stage::NoName) {
             Stage::Named(name) => name,
             other => {
@@ -95,19 +107,23 @@ impl<A: Accounts, H: Handler> Gate<A, H> {
 
     /// Lets the handler know who has logged in. Nobody has where it fails.
     fn admit(&mut self, alloc: Global, username: Bytes) -> Result<Reply, ControlChanError>
+        ensures heard { Begins (H.heard self.new.inner.handler) (H.heard self.old.inner.handler) }
         ensures says { IfOk result (λ reply. reply_of reply ≡ logged_in) }
-        ensures next { OnOk result (H.state self.new.inner.handler
-            ≡ H.law.next (H.state self.old.inner.handler) (event.Command (User username))) }
-        ensures calls { CallsMade H.law (H.state self.old.inner.handler)
-            (Some (event.Command (User username))) (Some logged_in)
+        ensures next { OnOk result ((said : List H.Said)
+            → Begins said (H.heard self.new.inner.handler) → H.state self.new.inner.handler
+            ≡ after (H.law said) (H.state self.old.inner.handler)
+            (event.Command (User username))) }
+        ensures calls { (said : List H.Said) → Begins said (H.heard self.new.inner.handler)
+            → CallsMade (H.law said) (H.state self.old.inner.handler)
+            (Dropped (event.Command (User username))) (Some logged_in)
             (calls_of H.failures self.old.inner) (calls_of H.failures self.new.inner) result }
         ensures stage { self.new.stage
             ≡ (if is_ok result then Stage.LoggedIn else self.old.stage) }
         ensures kept { (self.new.accounts ≡ self.old.accounts)
-            × (self.new.quit ≡ self.old.quit) }
+            × (self.new.quit ≡ self.old.quit) × (self.new.passed ≡ self.old.passed) }
     {
         let user = Event::Command(Command::User { username });
-        drop(self.inner.pass_on(alloc, user)?);
+        self.inner.tell(alloc, user)?;
         let reply = self
             .inner
             .own_reply(alloc, ReplyCode::UserLoggedIn, "User logged in, proceed");
@@ -117,22 +133,36 @@ impl<A: Accounts, H: Handler> Gate<A, H> {
         reply
     }
 
+    /// Whether an event needs a login, and there is none.
+    fn bars(&self, event: &Event) -> bool
+        ensures { result ≡ is_barred self.now.stage (event_meant event.now) }
+    {
+        needs_login(event) && !self.stage.is_logged_in()
+    }
+
     /// Takes an event that is neither USER nor PASS.
     fn take_other(&mut self, alloc: Global, event: Event) -> Result<Reply, ControlChanError>
         requires { is_login (event_meant event) ≡ false }
-        ensures says { IfOk result (λ reply. reply_of reply
-            ≡ (gated_law H.law).says (gated A.accepts H.state self.old) (event_meant event)) }
-        ensures next { OnOk result (gated A.accepts H.state self.new
-            ≡ (gated_law H.law).next (gated A.accepts H.state self.old) (event_meant event)) }
+        ensures heard { Begins (H.heard self.new.inner.handler) (H.heard self.old.inner.handler) }
+        ensures says { IfOk result (λ reply. (said : List H.Said)
+            → Begins said (H.heard self.new.inner.handler) → reply_of reply
+            ≡ (gated_law (H.law said)).says (gated A.accepts H.state self.old)
+            (event_meant event)) }
+        ensures next { OnOk result ((said : List H.Said)
+            → Begins said (H.heard self.new.inner.handler) → gated A.accepts H.state self.new
+            ≡ (gated_law (H.law said)).next (gated A.accepts H.state self.old)
+            (event_meant event)) }
         ensures asked { self.new.accounts.questions ≡ self.old.accounts.questions
             ++ questions self.old.stage (event_meant event) }
-        ensures calls { GateCalled H.failures H.law (gated A.accepts H.state self.old)
+        ensures calls { (said : List H.Said) → Begins said (H.heard self.new.inner.handler)
+            → GateCalled H.failures (H.law said) (gated A.accepts H.state self.old)
             self.old.inner (event_meant event) self.new.inner result }
         ensures nobody { OnErr result (IsTrue (is_logged_in self.new.stage)
             → IsTrue (is_logged_in self.old.stage)) }
     {
-        if needs_login(&event) && !self.stage.is_logged_in() {
+        if self.bars(&event) {
             drop(event);
+            self.passed = false;
             return self
                 .inner
                 .own_reply(alloc, ReplyCode::NotLoggedIn, "Log in with USER and PASS");
@@ -143,18 +173,23 @@ impl<A: Accounts, H: Handler> Gate<A, H> {
     /// Passes an event on to the handler. It flushes the login or ends the session, also where the
     /// handler fails.
     fn pass_on(&mut self, alloc: Global, event: Event) -> Result<Reply, ControlChanError>
-        ensures says { IfOk result (λ reply. reply_of reply
-            ≡ H.law.says (H.state self.old.inner.handler) (event_meant event)) }
-        ensures next { OnOk result (H.state self.new.inner.handler
-            ≡ H.law.next (H.state self.old.inner.handler) (event_meant event)) }
-        ensures calls { CallsMade H.law (H.state self.old.inner.handler)
-            (Some (event_meant event)) None
+        ensures heard { Begins (H.heard self.new.inner.handler) (H.heard self.old.inner.handler) }
+        ensures says { IfOk result (λ reply. (said : List H.Said)
+            → Begins said (H.heard self.new.inner.handler) → reply_of reply
+            ≡ (H.law said).says (H.state self.old.inner.handler) (event_meant event)) }
+        ensures next { OnOk result ((said : List H.Said)
+            → Begins said (H.heard self.new.inner.handler) → H.state self.new.inner.handler
+            ≡ (H.law said).next (H.state self.old.inner.handler) (event_meant event)) }
+        ensures calls { (said : List H.Said) → Begins said (H.heard self.new.inner.handler)
+            → CallsMade (H.law said) (H.state self.old.inner.handler)
+            (First (event_meant event)) None
             (calls_of H.failures self.old.inner) (calls_of H.failures self.new.inner) result }
         ensures stage { self.new.stage
             ≡ (if flushes_login (event_meant event) then Stage.NoName else self.old.stage) }
         ensures quit { self.new.quit ≡ (self.old.quit || is_quit (event_meant event)) }
-        ensures kept { self.new.accounts ≡ self.old.accounts }
+        ensures kept { (self.new.accounts ≡ self.old.accounts) × (self.new.passed ≡ true) }
     {
+        self.passed = true;
         if flushes_login(&event) {
             self.stage = Stage::NoName;
         }
@@ -165,43 +200,56 @@ impl<A: Accounts, H: Handler> Gate<A, H> {
     }
 }
 
-impl<A: Accounts, H: Handler> Handler for Gate<A, H> {
+impl<A: Accounts, H: Session> Session for Gate<A, H> {
     ghost State = { Gated H.State };
+
+    ghost Said = { H.Said };
 
     ghost state = { gated A.accepts H.state };
 
-    ghost law = { gated_law H.law };
+    ghost heard = { λ gate. H.heard gate.inner.handler };
+
+    ghost law = { λ said. gated_law (H.law said) };
+
+    ghost left = { λ state. H.left state.inner };
 
     ghost failures = { λ gate. gate.inner.refused + H.failures gate.inner.handler };
 
-    /// The reply to an event. Out of memory is returned for a reply of its own, and every other
-    /// error is that of its handler. Nobody is logged in by an event that fails.
+    /// The first reply to an event. Out of memory is returned for a reply of its own, and every
+    /// other error is that of its handler. Nobody is logged in by an event that fails.
     ///
     /// At `Ok` and at an error alike, the accounts were asked once about a password that came after
     /// a name, whether it is that of the name, and nothing at any other event (`asked`). The
-    /// handler received each event that is passed on, once, and then memory was asked for the
-    /// gate's own reply, if it has one: an error is returned where one of these two failed
-    /// (`calls`).
-    fn handle(&mut self, alloc: Global, event: Event) -> Result<Reply, ControlChanError>
-        ensures says { IfOk result (λ reply. reply_of reply
-            ≡ (gated_law H.law).says (gated A.accepts H.state self.old) (event_meant event)) }
-        ensures next { OnOk result (gated A.accepts H.state self.new
-            ≡ (gated_law H.law).next (gated A.accepts H.state self.old) (event_meant event)) }
+    /// handler received each event that is passed on, once, and where a login is accepted it
+    /// received USER and was asked for all replies to that. Then memory was asked for the gate's
+    /// own reply, if it has one: an error is returned where one of these failed (`calls`).
+    fn first(&mut self, alloc: Global, event: Event) -> Result<Reply, ControlChanError>
+        ensures heard { Begins (H.heard self.new.inner.handler) (H.heard self.old.inner.handler) }
+        ensures says { IfOk result (λ reply. (said : List H.Said)
+            → Begins said (H.heard self.new.inner.handler) → reply_of reply ≡ (gated_law
+            (H.law said)).says (gated A.accepts H.state self.old) (event_meant event)) }
+        ensures next { OnOk result ((said : List H.Said)
+            → Begins said (H.heard self.new.inner.handler) → gated A.accepts H.state self.new
+            ≡ (gated_law (H.law said)).next (gated A.accepts H.state self.old)
+            (event_meant event)) }
         ensures quiet { OnOk result (self.new.inner.refused + H.failures self.new.inner.handler
             ≡ self.old.inner.refused + H.failures self.old.inner.handler) }
-        ensures may_fail { IfErr result (λ error. (gated_law H.law).may_fail
+        ensures may_fail { IfErr result (λ error. (said : List H.Said)
+            → Begins said (H.heard self.new.inner.handler) → (gated_law (H.law said)).may_fail
             (gated A.accepts H.state self.old) (event_meant event) (fault_of error)) }
         ensures counted { OnErr result (self.new.inner.refused + H.failures self.new.inner.handler
             ≡ self.old.inner.refused + H.failures self.old.inner.handler + 1) }
         ensures asked { self.new.accounts.questions ≡ self.old.accounts.questions
             ++ questions self.old.stage (event_meant event) }
-        ensures calls { GateCalled H.failures H.law (gated A.accepts H.state self.old)
+        ensures calls { (said : List H.Said) → Begins said (H.heard self.new.inner.handler)
+            → GateCalled H.failures (H.law said) (gated A.accepts H.state self.old)
             self.old.inner (event_meant event) self.new.inner result }
         ensures nobody { OnErr result (IsTrue (is_logged_in self.new.stage)
             → IsTrue (is_logged_in self.old.stage)) }
     {
         match event {
             Event::Command(Command::User { username }) => {
+                self.passed = false;
                 self.stage = Stage::Named(username);
                 self.inner.own_reply(
                     alloc,
@@ -214,6 +262,35 @@ impl<A: Accounts, H: Handler> Handler for Gate<A, H> {
             }
             event => self.take_other(alloc, event),
         }
+    }
+
+    /// The handler's next reply to an event that was passed on, for which it is asked, once
+    /// (`calls`). To any other event no reply follows.
+    fn further(&mut self, alloc: Global) -> Result<Option<Reply>, ControlChanError>
+        ensures heard { Begins (H.heard self.new.inner.handler) (H.heard self.old.inner.handler) }
+        ensures follows { IfOk result (λ reply. (said : List H.Said)
+            → Begins said (H.heard self.new.inner.handler) → Follows (gated_law (H.law said))
+            (gated A.accepts H.state self.old) (further_of reply)
+            (gated A.accepts H.state self.new)) }
+        ensures fewer { IfOk result (λ reply. IfSome reply (λ _.
+            H.left (H.state self.new.inner.handler) < H.left (H.state self.old.inner.handler))) }
+        ensures quiet { OnOk result (self.new.inner.refused + H.failures self.new.inner.handler
+            ≡ self.old.inner.refused + H.failures self.old.inner.handler) }
+        ensures may_break { IfErr result (λ error. (said : List H.Said)
+            → Begins said (H.heard self.new.inner.handler) → (gated_law (H.law said)).may_break
+            (gated A.accepts H.state self.old) (fault_of error)) }
+        ensures counted { OnErr result (self.new.inner.refused + H.failures self.new.inner.handler
+            ≡ self.old.inner.refused + H.failures self.old.inner.handler + 1) }
+        ensures kept { (self.new.accounts ≡ self.old.accounts)
+            × (self.new.stage ≡ self.old.stage) × (self.new.quit ≡ self.old.quit) }
+        ensures calls { (said : List H.Said) → Begins said (H.heard self.new.inner.handler)
+            → GateAsked H.failures (H.law said) (gated A.accepts H.state self.old)
+            self.old.inner self.new.inner result }
+    {
+        if !self.passed {
+            return Ok(None);
+        }
+        self.inner.further(alloc)
     }
 
     fn done(&self) -> bool {

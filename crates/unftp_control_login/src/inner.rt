@@ -1,32 +1,35 @@
-//! The one way by which the handler after another one receives an event, and by which that other
-//! one asks memory for a reply.
-ghost use Rattle.std.specs.Prelude.{◌≡◌, [], ◌∷◌, IfOk, IfErr, OnOk, OnErr};
+//! The one way by which the handler after another one is called, and by which that other one asks
+//! memory for a reply.
+ghost use Rattle.std.specs.Prelude.{◌≡◌, ◌<◌, [], ◌∷◌, List, None, IfOk, IfErr, IfSome, OnOk, OnErr};
 ghost use Rattle.unftp_control_defs.specs.Events.{out_of_memory};
 ghost use Rattle.unftp_control_defs.specs.FtpReply.{CodeAndMsg};
+ghost use Rattle.unftp_control_defs.specs.Run.{Follows, after};
 ghost use Rattle.unftp_control_reply.specs.ErrorMeaning.{fault_of};
 ghost use Rattle.unftp_control_reply.specs.ReplyMeaning.{number_of, reply_of};
-ghost use Rattle.unftp_control_serve.specs.EventMeaning.{event_meant};
-ghost use Rattle.unftp_control_login.specs.HandlerCalls.{Called, Makes, Passes};
-ghost use Rattle.unftp_control_login.specs.CallsOf.{calls_of};
+ghost use Rattle.unftp_control_serve.specs.EventMeaning.{event_meant, further_of};
+ghost use Rattle.unftp_control_serve.specs.Writing.{Begins};
+ghost use Rattle.unftp_control_login.specs.HandlerCalls.{Called, CallsMade, Dropped, First, Further, Makes};
+ghost use Rattle.unftp_control_login.specs.CallsOf.{DrainsAll, calls_of};
 
 use crate::calls::{Calls, Note};
 use std::alloc::Global;
 use unftp_control_defs::count::Count;
 use unftp_control_reply::error::ControlChanError;
 use unftp_control_reply::{Reply, ReplyCode};
-use unftp_control_serve::{Event, Handler};
+use unftp_control_serve::{Event, Session};
 
-/// The handler after another one. It is private, and each event that it receives is recorded; so is
-/// each reply of that other one for which memory is asked here, and those that are refused are
-/// counted. The list and the count take no byte, and only contracts see them.
+/// The handler after another one. It is private, and each event that it receives is recorded, and
+/// each time that it is asked for a reply that follows; so is each reply of that other one for
+/// which memory is asked here, and those that are refused are counted. The list and the count take
+/// no byte, and only contracts see them.
 #[derive(Drop)]
-pub(crate) struct Inner<H: Handler> {
+pub(crate) struct Inner<H: Session> {
     handler: H,
     calls: Calls,
     refused: Count,
 }
 
-impl<H: Handler> Inner<H> {
+impl<H: Session> Inner<H> {
     /// This handler, which has received nothing so far.
     pub(crate) fn new(handler: H) -> Inner<H>
         ensures handler { result.handler ≡ handler }
@@ -40,21 +43,64 @@ impl<H: Handler> Inner<H> {
         }
     }
 
-    /// Has the handler receive an event.
+    /// Has the handler receive an event, and returns its first reply.
     pub(crate) fn pass_on(&mut self, alloc: Global, event: Event) -> Result<Reply, ControlChanError>
-        ensures says { IfOk result (λ reply. reply_of reply
-            ≡ H.law.says (H.state self.old.handler) (event_meant event)) }
-        ensures next { OnOk result (H.state self.new.handler
-            ≡ H.law.next (H.state self.old.handler) (event_meant event)) }
-        ensures may_fail { IfErr result (λ error. H.law.may_fail (H.state self.old.handler)
-            (event_meant event) (fault_of error)) }
-        ensures ok { OnOk result (Called (calls_of H.failures self.old)
-            (calls_of H.failures self.new) (Passes (event_meant event) ∷ []) 0 0) }
-        ensures err { OnErr result (Called (calls_of H.failures self.old)
-            (calls_of H.failures self.new) (Passes (event_meant event) ∷ []) 0 1) }
+        ensures heard { Begins (H.heard self.new.handler) (H.heard self.old.handler) }
+        ensures says { IfOk result (λ reply. (said : List H.Said)
+            → Begins said (H.heard self.new.handler) → reply_of reply
+            ≡ (H.law said).says (H.state self.old.handler) (event_meant event)) }
+        ensures next { OnOk result ((said : List H.Said)
+            → Begins said (H.heard self.new.handler) → H.state self.new.handler
+            ≡ (H.law said).next (H.state self.old.handler) (event_meant event)) }
+        ensures calls { (said : List H.Said) → Begins said (H.heard self.new.handler)
+            → CallsMade (H.law said) (H.state self.old.handler) (First (event_meant event)) None
+            (calls_of H.failures self.old) (calls_of H.failures self.new) result }
     {
         self.calls.push(&Note::Passes(&event));
-        self.handler.handle(alloc, event)
+        self.handler.first(alloc, event)
+    }
+
+    /// Asks the handler for the next of its replies to the event.
+    pub(crate) fn further(&mut self, alloc: Global) -> Result<Option<Reply>, ControlChanError>
+        ensures heard { Begins (H.heard self.new.handler) (H.heard self.old.handler) }
+        ensures follows { IfOk result (λ reply. (said : List H.Said)
+            → Begins said (H.heard self.new.handler) → Follows (H.law said)
+            (H.state self.old.handler) (further_of reply) (H.state self.new.handler)) }
+        ensures fewer { IfOk result (λ reply. IfSome reply (λ _.
+            H.left (H.state self.new.handler) < H.left (H.state self.old.handler))) }
+        ensures calls { (said : List H.Said) → Begins said (H.heard self.new.handler)
+            → CallsMade (H.law said) (H.state self.old.handler) Further None
+            (calls_of H.failures self.old) (calls_of H.failures self.new) result }
+    {
+        self.calls.push(&Note::AsksFurther);
+        self.handler.further(alloc)
+    }
+
+    /// Has the handler receive an event, and drops all its replies to it.
+    pub(crate) fn tell(&mut self, alloc: Global, event: Event) -> Result<(), ControlChanError>
+        ensures heard { Begins (H.heard self.new.handler) (H.heard self.old.handler) }
+        ensures next { OnOk result ((said : List H.Said)
+            → Begins said (H.heard self.new.handler) → H.state self.new.handler
+            ≡ after (H.law said) (H.state self.old.handler) (event_meant event)) }
+        ensures calls { (said : List H.Said) → Begins said (H.heard self.new.handler)
+            → CallsMade (H.law said) (H.state self.old.handler) (Dropped (event_meant event)) None
+            (calls_of H.failures self.old) (calls_of H.failures self.new) result }
+    {
+        drop(self.pass_on(alloc, event)?);
+        self.drain(alloc)
+    }
+
+    /// Takes all replies that follow, and drops them.
+    fn drain(&mut self, alloc: Global) -> Result<(), ControlChanError>
+        ensures heard { Begins (H.heard self.new.handler) (H.heard self.old.handler) }
+        ensures drains { (said : List H.Said) → Begins said (H.heard self.new.handler)
+            → DrainsAll (H.law said) (H.state self.old.handler) (H.state self.new.handler)
+            (calls_of H.failures self.old) (calls_of H.failures self.new) result }
+    {
+        while let Some(reply) = self.further(alloc)? {
+            drop(reply);
+        }
+        Ok(())
     }
 
     /// A reply of the handler before it.
@@ -85,7 +131,7 @@ impl<H: Handler> Inner<H> {
 
     /// Whether the handler is done.
     pub(crate) fn done(&self) -> bool
-        ensures { result ≡ H.law.done (H.state self.now.handler) }
+        ensures { (said : List H.Said) → result ≡ (H.law said).done (H.state self.now.handler) }
     {
         self.handler.done()
     }

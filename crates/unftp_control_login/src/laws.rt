@@ -4,75 +4,82 @@ ghost use Rattle.std.specs.Prelude.{◌≡◌, ◌<◌, ◌≤◌, ◌++◌, ◌
 ghost use Rattle.unftp_control_defs.specs.Bytes.{Bytes};
 ghost use Rattle.unftp_control_defs.specs.Events.{FtpEvent, Command, events};
 ghost use Rattle.unftp_control_defs.specs.FtpCommand.{Quit};
-ghost use Rattle.unftp_control_defs.specs.Run.{text_for};
+ghost use Rattle.unftp_control_defs.specs.Run.{after, text_for};
 ghost use Rattle.unftp_control_defs.specs.Lines.{incomplete_line};
 ghost use Rattle.unftp_control_login.specs.Login.{Accounts, GaveName, IsLoggedIn, is_login, needs_login};
 ghost use Rattle.unftp_control_login.specs.Gate.{Gated, closed, gated_law};
 ghost use Rattle.unftp_control_login.specs.LoginLimit.{EndsWith, Limited, failed_in_run, is_failed_login, limited_law, limited_to, too_many};
-ghost use Rattle.unftp_control_login.specs.Promises.{AllLookAlike, AnswerAlike, AnsweredAlike, DifferInPasswords, PasswordFits, FailsAlike, IsRefusedLogin, IsTurnedAway, LearnsName, MembersAlone, ReachesHandler, SendsPlainReplies, ServesMembersAlone, calls_for, gate_calls, limit_calls, login_lines, pass_line};
+ghost use Rattle.unftp_control_login.specs.Promises.{AllLookAlike, AnswerAlike, AnsweredAlike, DifferInPasswords, PasswordFits, FailsAlike, IsRefusedLogin, IsTurnedAway, LearnsName, MembersAlone, ReachesHandler, SendsPlainExchanges, ServesMembersAlone, calls_for, gate_calls, limit_calls, login_lines, pass_line, replies_to};
 
-use unftp_control_serve::Handler;
+use unftp_control_serve::Session;
 
 /// Whatever handler the gate has, and whatever came before: an event that needs a login comes
-/// after one, or it is answered 530 and the handler doesn't receive it (RFC 959, section 5.4).
-pub fn gated_by_login<H: Handler>()
-    ensures { (accepts : Accounts) (inner : H.State) (before : List FtpEvent) (event : FtpEvent)
+/// after one, or its only reply is 530 and the handler doesn't receive it (RFC 959, section 5.4).
+pub fn gated_by_login<H: Session>()
+    ensures { (said : List H.Said)
+        (accepts : Accounts) (inner : H.State) (before : List FtpEvent) (event : FtpEvent)
         → IsTrue (needs_login event)
-        → IsLoggedIn accepts before ⊎ IsTurnedAway H.law accepts inner before event }
+        → IsLoggedIn accepts before ⊎ IsTurnedAway (H.law said) accepts inner before event }
 {}
 
 /// Each event but USER and PASS reaches the handler after a login, and one that needs no login
 /// always does; and where a password is accepted, the handler receives USER with the name.
-pub fn members_reach_the_handler<H: Handler>()
-    ensures member { (accepts : Accounts) (inner : H.State) (before : List FtpEvent)
+pub fn members_reach_the_handler<H: Session>()
+    ensures member { (said : List H.Said)
+        (accepts : Accounts) (inner : H.State) (before : List FtpEvent)
         (event : FtpEvent) → is_login event ≡ false → IsLoggedIn accepts before
-        → ReachesHandler H.law accepts inner before event }
-    ensures anyone { (accepts : Accounts) (inner : H.State) (before : List FtpEvent)
+        → ReachesHandler (H.law said) accepts inner before event }
+    ensures anyone { (said : List H.Said)
+        (accepts : Accounts) (inner : H.State) (before : List FtpEvent)
         (event : FtpEvent) → is_login event ≡ false → needs_login event ≡ false
-        → ReachesHandler H.law accepts inner before event }
-    ensures name { (accepts : Accounts) (inner : H.State) (before : List FtpEvent)
+        → ReachesHandler (H.law said) accepts inner before event }
+    ensures name { (said : List H.Said)
+        (accepts : Accounts) (inner : H.State) (before : List FtpEvent)
         (name password : Bytes) → GaveName name before → accepts name password ≡ true
-        → LearnsName H.law accepts inner before name password }
+        → LearnsName (H.law said) accepts inner before name password }
 {}
 
-/// Whatever handler the gate has, and whatever a client sends: an event that needs a login is
-/// answered with no failure only after a login. With a limit before the gate, it stays so.
-pub fn members_alone_are_served<H: Handler>()
-    ensures gate { (accepts : Accounts) (inner : H.State)
-        → ServesMembersAlone accepts (gated_law H.law) (closed accepts inner) }
-    ensures limit { (accepts : Accounts) (left : ℕ) (inner : H.State)
-        → ServesMembersAlone accepts (limited_law (gated_law H.law))
+/// Whatever handler the gate has, and whatever a client sends: to an event that needs a login, a
+/// reply that reports no failure comes only after a login. With a limit before the gate, it stays
+/// so.
+pub fn members_alone_are_served<H: Session>()
+    ensures gate { (said : List H.Said) (accepts : Accounts) (inner : H.State)
+        → ServesMembersAlone accepts (gated_law (H.law said)) (closed accepts inner) }
+    ensures limit { (said : List H.Said) (accepts : Accounts) (left : ℕ) (inner : H.State)
+        → ServesMembersAlone accepts (limited_law (gated_law (H.law said)))
         (limited_to left (closed accepts inner)) }
 {}
 
-/// In bytes, of a handler whose replies are sent and plain: whatever the input, a reply in the
-/// output that reports no failure, at the place of a command that needs a login, comes only after a
-/// USER and a PASS that the accounts accept.
-pub fn members_alone_are_served_in_bytes<H: Handler>()
-    ensures gate { SendsPlainReplies H.law
+/// In bytes, of a handler that gives each event preliminary replies and then a final one, all sent
+/// and plain: whatever the input, a reply in the output that reports no failure, among those to a
+/// command that needs a login, comes only after a USER and a PASS that the accounts accept.
+pub fn members_alone_are_served_in_bytes<H: Session>()
+    ensures gate { (said : List H.Said) → SendsPlainExchanges (H.law said)
         → (limit : Option ℕ) (accepts : Accounts) (inner : H.State) (input : Bytes)
         → MembersAlone limit accepts input
-        (text_for limit (gated_law H.law) (closed accepts inner) input) }
-    ensures limit { SendsPlainReplies H.law
+        (text_for limit (gated_law (H.law said)) (closed accepts inner) input) }
+    ensures limit { (said : List H.Said) → SendsPlainExchanges (H.law said)
         → (limit : Option ℕ) (accepts : Accounts) (left : ℕ) (inner : H.State) (input : Bytes)
         → MembersAlone limit accepts input
-        (text_for limit (limited_law (gated_law H.law))
+        (text_for limit (limited_law (gated_law (H.law said)))
         (limited_to left (closed accepts inner)) input) }
 {}
 
 /// The output reveals about a password only whether it was accepted: two inputs whose events differ
 /// in passwords that the accounts answer alike, for the name that was given, have one output.
-pub fn passwords_stay_hidden<H: Handler>()
-    ensures gate { (limit : Option ℕ) (accepts : Accounts) (inner : H.State) (input other : Bytes)
+pub fn passwords_stay_hidden<H: Session>()
+    ensures gate { (said : List H.Said)
+        (limit : Option ℕ) (accepts : Accounts) (inner : H.State) (input other : Bytes)
         → AllLookAlike accepts (events limit input) (events limit other)
-        → text_for limit (gated_law H.law) (closed accepts inner) input
-        ≡ text_for limit (gated_law H.law) (closed accepts inner) other }
-    ensures limit { (limit : Option ℕ) (accepts : Accounts) (left : ℕ) (inner : H.State)
+        → text_for limit (gated_law (H.law said)) (closed accepts inner) input
+        ≡ text_for limit (gated_law (H.law said)) (closed accepts inner) other }
+    ensures limit { (said : List H.Said)
+        (limit : Option ℕ) (accepts : Accounts) (left : ℕ) (inner : H.State)
         (input other : Bytes)
         → AllLookAlike accepts (events limit input) (events limit other)
-        → text_for limit (limited_law (gated_law H.law))
+        → text_for limit (limited_law (gated_law (H.law said)))
         (limited_to left (closed accepts inner)) input
-        ≡ text_for limit (limited_law (gated_law H.law))
+        ≡ text_for limit (limited_law (gated_law (H.law said)))
         (limited_to left (closed accepts inner)) other }
 {}
 
@@ -80,28 +87,34 @@ pub fn passwords_stay_hidden<H: Handler>()
 /// however a session over one of them fails, one over the other may fail with the same error, and
 /// with the same bytes written. And at each event the gate and the limit make the same calls: the
 /// handler receives the same, and memory is asked for the same replies. They fail where one of
-/// these calls fails, and only there (`calls` of their `handle`).
-pub fn errors_hide_passwords<H: Handler>()
-    ensures gate { (limit : Option ℕ) (accepts : Accounts) (inner : H.State) (input other : Bytes)
+/// these calls fails, and only there (`calls` of their `first` and `further`).
+pub fn errors_hide_passwords<H: Session>()
+    ensures gate { (said : List H.Said)
+        (limit : Option ℕ) (accepts : Accounts) (inner : H.State) (input other : Bytes)
         → AllLookAlike accepts (events limit input) (events limit other)
         → DifferInPasswords limit input other
-        → FailsAlike limit (gated_law H.law) (closed accepts inner) input other }
-    ensures limit { (limit : Option ℕ) (accepts : Accounts) (left : ℕ) (inner : H.State)
+        → FailsAlike limit (gated_law (H.law said)) (closed accepts inner) input other }
+    ensures limit { (said : List H.Said)
+        (limit : Option ℕ) (accepts : Accounts) (left : ℕ) (inner : H.State)
         (input other : Bytes)
         → AllLookAlike accepts (events limit input) (events limit other)
         → DifferInPasswords limit input other
-        → FailsAlike limit (limited_law (gated_law H.law))
+        → FailsAlike limit (limited_law (gated_law (H.law said)))
         (limited_to left (closed accepts inner)) input other }
-    ensures calls { (limit : Option ℕ) (accepts : Accounts) (inner : H.State) (input other : Bytes)
+    ensures calls { (said : List H.Said)
+        (limit : Option ℕ) (accepts : Accounts) (inner : H.State) (input other : Bytes)
         → AllLookAlike accepts (events limit input) (events limit other)
-        → calls_for limit gate_calls (gated_law H.law) (closed accepts inner) input
-        ≡ calls_for limit gate_calls (gated_law H.law) (closed accepts inner) other }
-    ensures calls_in_limit { (limit : Option ℕ) (accepts : Accounts) (left : ℕ) (inner : H.State)
+        → calls_for limit (gate_calls (H.law said)) (gated_law (H.law said))
+        (closed accepts inner) input
+        ≡ calls_for limit (gate_calls (H.law said)) (gated_law (H.law said))
+        (closed accepts inner) other }
+    ensures calls_in_limit { (said : List H.Said)
+        (limit : Option ℕ) (accepts : Accounts) (left : ℕ) (inner : H.State)
         (input other : Bytes)
         → AllLookAlike accepts (events limit input) (events limit other)
-        → calls_for limit (limit_calls H.law) (limited_law (gated_law H.law))
+        → calls_for limit (limit_calls (H.law said)) (limited_law (gated_law (H.law said)))
         (limited_to left (closed accepts inner)) input
-        ≡ calls_for limit (limit_calls H.law) (limited_law (gated_law H.law))
+        ≡ calls_for limit (limit_calls (H.law said)) (limited_law (gated_law (H.law said)))
         (limited_to left (closed accepts inner)) other }
 {}
 
@@ -109,89 +122,97 @@ pub fn errors_hide_passwords<H: Handler>()
 /// ask, whether a password is that of the name that was given before it: two accounts that answer
 /// these alike give one output. So no output reveals what they would answer of another name or of
 /// another password.
-pub fn accounts_stay_hidden<H: Handler>()
-    ensures gate { (limit : Option ℕ) (accepts other : Accounts) (inner : H.State) (input : Bytes)
+pub fn accounts_stay_hidden<H: Session>()
+    ensures gate { (said : List H.Said)
+        (limit : Option ℕ) (accepts other : Accounts) (inner : H.State) (input : Bytes)
         → AnswerAlike accepts other (events limit input)
-        → (text_for limit (gated_law H.law) (closed accepts inner) input
-        ≡ text_for limit (gated_law H.law) (closed other inner) input)
-        × (calls_for limit gate_calls (gated_law H.law) (closed accepts inner) input
-        ≡ calls_for limit gate_calls (gated_law H.law) (closed other inner) input) }
-    ensures limit { (limit : Option ℕ) (accepts other : Accounts) (left : ℕ) (inner : H.State)
+        → (text_for limit (gated_law (H.law said)) (closed accepts inner) input
+        ≡ text_for limit (gated_law (H.law said)) (closed other inner) input)
+        × (calls_for limit (gate_calls (H.law said)) (gated_law (H.law said))
+        (closed accepts inner) input
+        ≡ calls_for limit (gate_calls (H.law said)) (gated_law (H.law said))
+        (closed other inner) input) }
+    ensures limit { (said : List H.Said)
+        (limit : Option ℕ) (accepts other : Accounts) (left : ℕ) (inner : H.State)
         (input : Bytes) → AnswerAlike accepts other (events limit input)
-        → (text_for limit (limited_law (gated_law H.law))
+        → (text_for limit (limited_law (gated_law (H.law said)))
         (limited_to left (closed accepts inner)) input
-        ≡ text_for limit (limited_law (gated_law H.law))
+        ≡ text_for limit (limited_law (gated_law (H.law said)))
         (limited_to left (closed other inner)) input)
-        × (calls_for limit (limit_calls H.law) (limited_law (gated_law H.law))
+        × (calls_for limit (limit_calls (H.law said)) (limited_law (gated_law (H.law said)))
         (limited_to left (closed accepts inner)) input
-        ≡ calls_for limit (limit_calls H.law) (limited_law (gated_law H.law))
+        ≡ calls_for limit (limit_calls (H.law said)) (limited_law (gated_law (H.law said)))
         (limited_to left (closed other inner)) input) }
 {}
 
 /// In bytes: two passwords that the accounts answer alike for the name that was given, in lines of
 /// PASS within the limit, give one output. So a wrong password gives what another user's gives.
-pub fn refused_passwords_look_alike<H: Handler>()
-    ensures gate { (limit : Option ℕ) (accepts : Accounts) (inner : H.State)
+pub fn refused_passwords_look_alike<H: Session>()
+    ensures gate { (said : List H.Said) (limit : Option ℕ) (accepts : Accounts) (inner : H.State)
         (before after password other : Bytes) → incomplete_line before ≡ []
         → PasswordFits limit password → PasswordFits limit other
         → AnsweredAlike accepts (events limit before) password other
-        → text_for limit (gated_law H.law) (closed accepts inner)
+        → text_for limit (gated_law (H.law said)) (closed accepts inner)
         (before ++ (pass_line password ++ after))
-        ≡ text_for limit (gated_law H.law) (closed accepts inner)
+        ≡ text_for limit (gated_law (H.law said)) (closed accepts inner)
         (before ++ (pass_line other ++ after)) }
-    ensures limit { (limit : Option ℕ) (accepts : Accounts) (left : ℕ) (inner : H.State)
+    ensures limit { (said : List H.Said)
+        (limit : Option ℕ) (accepts : Accounts) (left : ℕ) (inner : H.State)
         (before after password other : Bytes) → incomplete_line before ≡ []
         → PasswordFits limit password → PasswordFits limit other
         → AnsweredAlike accepts (events limit before) password other
-        → text_for limit (limited_law (gated_law H.law))
+        → text_for limit (limited_law (gated_law (H.law said)))
         (limited_to left (closed accepts inner)) (before ++ (pass_line password ++ after))
-        ≡ text_for limit (limited_law (gated_law H.law))
+        ≡ text_for limit (limited_law (gated_law (H.law said)))
         (limited_to left (closed accepts inner)) (before ++ (pass_line other ++ after)) }
 {}
 
 /// A login that is refused gives the same output whether its name is known or not.
-pub fn refused_logins_look_alike<H: Handler>()
-    ensures gate { (limit : Option ℕ) (accepts : Accounts) (inner : H.State)
+pub fn refused_logins_look_alike<H: Session>()
+    ensures gate { (said : List H.Said) (limit : Option ℕ) (accepts : Accounts) (inner : H.State)
         (before after name password other another : Bytes) → incomplete_line before ≡ []
         → IsRefusedLogin limit accepts name password → IsRefusedLogin limit accepts other another
-        → text_for limit (gated_law H.law) (closed accepts inner)
+        → text_for limit (gated_law (H.law said)) (closed accepts inner)
         (before ++ (login_lines name password ++ after))
-        ≡ text_for limit (gated_law H.law) (closed accepts inner)
+        ≡ text_for limit (gated_law (H.law said)) (closed accepts inner)
         (before ++ (login_lines other another ++ after)) }
-    ensures limit { (limit : Option ℕ) (accepts : Accounts) (left : ℕ) (inner : H.State)
+    ensures limit { (said : List H.Said)
+        (limit : Option ℕ) (accepts : Accounts) (left : ℕ) (inner : H.State)
         (before after name password other another : Bytes) → incomplete_line before ≡ []
         → IsRefusedLogin limit accepts name password → IsRefusedLogin limit accepts other another
-        → text_for limit (limited_law (gated_law H.law))
+        → text_for limit (limited_law (gated_law (H.law said)))
         (limited_to left (closed accepts inner)) (before ++ (login_lines name password ++ after))
-        ≡ text_for limit (limited_law (gated_law H.law))
+        ≡ text_for limit (limited_law (gated_law (H.law said)))
         (limited_to left (closed accepts inner))
         (before ++ (login_lines other another ++ after)) }
 {}
 
 /// In a session no more logins fail than the limit allows, and the last that may fail is answered
 /// 421, which is the last reply of the session.
-pub fn failed_logins_are_limited<H: Handler>()
-    ensures count { (s : Limited H.State) (events : List FtpEvent) → 1 ≤ s.left
-        → failed_in_run (limited_law H.law) s events ≤ s.left }
-    ensures last { (s : Limited H.State) (events : List FtpEvent) → 1 ≤ s.left
-        → failed_in_run (limited_law H.law) s events ≡ s.left
-        → EndsWith too_many (limited_law H.law) s events }
+pub fn failed_logins_are_limited<H: Session>()
+    ensures count { (said : List H.Said) (s : Limited H.State) (events : List FtpEvent) → 1 ≤ s.left
+        → failed_in_run (limited_law (H.law said)) s events ≤ s.left }
+    ensures last { (said : List H.Said) (s : Limited H.State) (events : List FtpEvent) → 1 ≤ s.left
+        → failed_in_run (limited_law (H.law said)) s events ≡ s.left
+        → EndsWith too_many (limited_law (H.law said)) s events }
 {}
 
 /// While more than one login may fail, and at each event that is no failed login, a limit changes
-/// neither the reply nor whether the session ends.
-pub fn few_failures_change_nothing<H: Handler>()
-    ensures says { (s : Limited H.State) (event : FtpEvent)
-        → (1 < s.left) ⊎ (is_failed_login event ((H.law).says s.inner event) ≡ false)
-        → (limited_law H.law).says s event ≡ (H.law).says s.inner event }
-    ensures done { (s : Limited H.State) (event : FtpEvent) → 1 ≤ s.left
-        → (1 < s.left) ⊎ (is_failed_login event ((H.law).says s.inner event) ≡ false)
-        → (limited_law H.law).done ((limited_law H.law).next s event)
-        ≡ (H.law).done ((H.law).next s.inner event) }
+/// neither the replies nor whether the session ends.
+pub fn few_failures_change_nothing<H: Session>()
+    ensures says { (said : List H.Said) (s : Limited H.State) (event : FtpEvent) → (1 < s.left)
+        ⊎ (is_failed_login event (replies_to (H.law said) s.inner event) ≡ false)
+        → replies_to (limited_law (H.law said)) s event
+        ≡ replies_to (H.law said) s.inner event }
+    ensures done { (said : List H.Said) (s : Limited H.State) (event : FtpEvent) → 1 ≤ s.left
+        → (1 < s.left)
+        ⊎ (is_failed_login event (replies_to (H.law said) s.inner event) ≡ false)
+        → (limited_law (H.law said)).done (after (limited_law (H.law said)) s event)
+        ≡ (H.law said).done (after (H.law said) s.inner event) }
 {}
 
-/// The session ends with the reply to QUIT (RFC 959, section 4.1.1).
-pub fn quit_ends_the_session<H: Handler>()
-    ensures { (s : Gated H.State)
-        → (gated_law H.law).done ((gated_law H.law).next s (Command Quit)) ≡ true }
+/// The session ends with the replies to QUIT (RFC 959, section 4.1.1).
+pub fn quit_ends_the_session<H: Session>()
+    ensures { (said : List H.Said) (s : Gated H.State)
+        → (gated_law (H.law said)).done (after (gated_law (H.law said)) s (Command Quit)) ≡ true }
 {}

@@ -5,7 +5,7 @@ use Rattle.std.proofs.lemmas.Bool.{ltb-false}
 use Rattle.unftp_control_defs.specs.Bytes.{Bytes}
 use Rattle.unftp_control_defs.specs.Events.{exceeds}
 use Rattle.unftp_control_defs.specs.Lines.{incomplete_line}
-use Rattle.unftp_control_defs.specs.Run.{Law, ends_for, unread}
+use Rattle.unftp_control_defs.specs.Run.{SessionLaw, ends_for, unread}
 use Rattle.unftp_control_defs.proofs.RunLemmas.{unread-on}
 use Rattle.unftp_control_serve.specs.Decoder.{Pending, cleared, kept_length, pushed, saturating_u64}
 use Rattle.unftp_control_serve.specs.Engine.{EngineState, after_end_with, bytes_with, ends_with, fed, pending_with, unread_with}
@@ -42,7 +42,7 @@ engine_of pending left failed finished = record {
 
 -- A piece was pushed to `d`, which made it `p`, and the lines of the run were taken, which made it
 -- `q`.
-pub record WasFed {S : Type 0} (law : Law S) (s : S) (d p q : Pending) (piece : Bytes)
+pub record WasFed {S : Type 0} (law : SessionLaw S) (s : S) (d p q : Pending) (piece : Bytes)
     (ended : Bool) : Type 0 where
   pub push : p ≡ pushed d piece
   pub all_scanned : d.unscanned ≡ 0
@@ -53,7 +53,7 @@ pub record WasFed {S : Type 0} (law : Law S) (s : S) (d p q : Pending) (piece : 
   pub same_held : q.held ≡ p.held
   pub scanned_once : q.scanned + q.unscanned ≡ p.scanned + p.unscanned
 
-module _ {S : Type 0} {law : Law S} {s : S} {d p q : Pending} {piece : Bytes} {ended : Bool}
+module _ {S : Type 0} {law : SessionLaw S} {s : S} {d p q : Pending} {piece : Bytes} {ended : Bool}
     (h : WasFed law s d p q piece ended) (left : ℕ) (failed finished : Bool) where
   open h use {push, all_scanned, ends, pending, unscanned, same_limit, same_held, scanned_once}
 

@@ -1,3 +1,5 @@
+pub mod HeardLemmas
+mod MappedLemmas
 pub mod DecoderLemmas
 pub mod EventLineLemmas
 pub mod SendLemmas

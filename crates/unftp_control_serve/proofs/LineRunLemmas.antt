@@ -3,7 +3,7 @@ use Rattle.std.proofs.Common.{◌≡◌, ℕ, true, false, List, Option, [], ◌
 use Rattle.std.specs.Prelude.{if◌then◌else◌}
 use Rattle.unftp_control_defs.specs.Bytes.{Bytes}
 use Rattle.unftp_control_defs.specs.Events.{FtpEvent, event_for, events}
-use Rattle.unftp_control_defs.specs.Run.{run_for, ends_for, unread, Law, run_of, ends}
+use Rattle.unftp_control_defs.specs.Run.{after, run_for, ends_for, unread, SessionLaw, run_of, ends}
 use Rattle.unftp_control_defs.proofs.LineLemmas.{line_first, events-incomplete}
 use Rattle.unftp_control_defs.proofs.RunLemmas.{on-line, ended-line, unread-incomplete}
 use Rattle.unftp_control_serve.specs.Endings.{Snapshot, LineMemory, AllAnswered, EventFailed, RunFailed}
@@ -14,7 +14,7 @@ use Rattle.unftp_control_serve.proofs.AfterLinesLemmas.{IsAfterLines, IsAfterLin
 use Rattle.unftp_control_serve.proofs.EndingLemmas.{Answering, Answering-next, Answering-end, Answering-failed, AllAnswered-nothing}
 
 -- no line: no event
-module _ {S : Type 0} (law : Law S) (limit : Option ℕ) {p q : Pending} (s : S)
+module _ {S : Type 0} (law : SessionLaw S) (limit : Option ℕ) {p q : Pending} (s : S)
     (none : HasNoLine p q) where
   no_line-run : run_for limit law s p.bytes ≡ []
   no_line-run = ap (run_of law s) (events-incomplete limit p.bytes none.unended)
@@ -25,14 +25,14 @@ module _ {S : Type 0} (law : Law S) (limit : Option ℕ) {p q : Pending} (s : S)
   no_line-unread : unread limit law s p.bytes ≡ q.bytes
   no_line-unread = unread-incomplete law limit s p.bytes none.unended ∙ sym none.same
 
-module _ {S : Type 0} (law : Law S) {limit : Option ℕ} {p q : Pending} (s : S)
+module _ {S : Type 0} (law : SessionLaw S) {limit : Option ℕ} {p q : Pending} (s : S)
     (same : p.limit ≡ limit) {event : FtpEvent} (first : TakesLine p event q) where
   meant : event ≡ event_for limit first.takes.line
   meant = first.takes.meaning ∙ ap (λ limit. event_for limit first.takes.line) same
 
   -- a line: its event, and then the run over the other lines, if the handler isn't done
   abbrev run_after : List FtpEvent
-  run_after = if law.done (law.next s event) then [] else run_of law (law.next s event)
+  run_after = if law.done (after law s event) then [] else run_of law (after law s event)
       (events limit q.bytes)
 
   first_line-run : run_for limit law s p.bytes ≡ event ∷ run_after
@@ -42,9 +42,9 @@ module _ {S : Type 0} (law : Law S) {limit : Option ℕ} {p q : Pending} (s : S)
       (ap (map (event_for limit)) (line_first first.takes.line q.bytes first.takes.is_line).0)
       ∙ ap (λ e. run_of law s (e ∷ events limit q.bytes)) (sym meant)
 
-  module _ {s' : S} (next : s' ≡ law.next s event) where
-    next_state : s' ≡ law.next s (event_for limit first.takes.line)
-    next_state = next ∙ ap (law.next s) meant
+  module _ {s' : S} (next : s' ≡ after law s event) where
+    next_state : s' ≡ after law s (event_for limit first.takes.line)
+    next_state = next ∙ ap (after law s) meant
 
     module _ (on : law.done s' ≡ false) where
       first_line-on : run_for limit law s p.bytes ≡ event ∷ run_for limit law s' q.bytes
@@ -80,7 +80,7 @@ module _ {S : Type 0} (law : Law S) {limit : Option ℕ} {p q : Pending} (s : S)
           done).1
 
 -- in the loop over the lines of some bytes: the run over them goes on over those that are pending
-pub record Halfway {S : Type 0} (law : Law S) (limit : Option ℕ) (m n : Snapshot S)
+pub record Halfway {S : Type 0} (law : SessionLaw S) (limit : Option ℕ) (m n : Snapshot S)
     (bytes pending : Bytes) : Type 0 where
   pub done : List FtpEvent
   pub answering : Answering law m (run_for limit law m.state bytes) n done
@@ -89,7 +89,7 @@ pub record Halfway {S : Type 0} (law : Law S) (limit : Option ℕ) (m n : Snapsh
   pub same_end : ends_for limit law m.state bytes ≡ ends_for limit law n.state pending
   pub same_unread : unread limit law m.state bytes ≡ unread limit law n.state pending
 
-module _ {S : Type 0} {law : Law S} {limit : Option ℕ} {m : Snapshot S} where
+module _ {S : Type 0} {law : SessionLaw S} {limit : Option ℕ} {m : Snapshot S} where
   pub Halfway-start : {bytes : Bytes} → Halfway law limit m m bytes bytes
   Halfway-start {bytes} = record {
     done = [];
@@ -122,6 +122,7 @@ module _ {S : Type 0} {law : Law S} {limit : Option ℕ} {m : Snapshot S} where
           later = event ∷ run_after law n.state same first;
           split = so_far.answering.split
               ∙ ap (λ later. so_far.done ++ later) (first_line-run law n.state same first);
+          sent = failed.sent;
           cause = failed.cause;
           means = failed.means;
           ended = Answering-failed law (run_after law n.state same first) so_far.answering failed;
@@ -164,7 +165,8 @@ module _ {S : Type 0} {law : Law S} {limit : Option ℕ} {m : Snapshot S} where
               sym (so_far.same_unread ∙ first_line-unread law n.state same first all.ends_at done)
 
 -- memory runs out for the next line
-module _ {S : Type 0} {law : Law S} {limit : Option ℕ} {m n : Snapshot S} {bytes pending : Bytes}
+module _ {S : Type 0} {law : SessionLaw S} {limit : Option ℕ} {m n : Snapshot S}
+    {bytes pending : Bytes}
     (h : Halfway law limit m n bytes pending) (v : MayRunOut limit pending) where
   -- whose event this is
   abbrev next : FtpEvent
@@ -184,6 +186,7 @@ module _ {S : Type 0} {law : Law S} {limit : Option ℕ} {m n : Snapshot S} {byt
     record {
       later = later;
       split = h.answering.split ∙ ap (λ later. h.done ++ later) later-run;
+      sent = [];
       cause = LineMemory;
       means = tt;
       ended = record {

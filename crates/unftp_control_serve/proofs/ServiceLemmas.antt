@@ -11,7 +11,7 @@ use Rattle.unftp_control_defs.specs.Bytes.{Bytes, LF, Lacks}
 use Rattle.unftp_control_defs.specs.Events.{FtpEvent, events}
 use Rattle.unftp_control_defs.specs.Input.{InputState, HasPieceSize, HasRead, WereRead}
 use Rattle.unftp_control_defs.specs.Lines.{incomplete_line}
-use Rattle.unftp_control_defs.specs.Run.{Law, last_state, replies, text_of, run_for, ends_for, unread, after_end}
+use Rattle.unftp_control_defs.specs.Run.{SessionLaw, last_state, replies, text_of, run_for, ends_for, unread, after_end}
 use Rattle.unftp_control_defs.proofs.EncodingLemmas.{ReadsBack-encoded}
 use Rattle.unftp_control_defs.proofs.LineLemmas.{Lines-lines_of, incomplete_line-append, incomplete_line-incomplete}
 use Rattle.unftp_control_defs.proofs.RunLemmas.{run_of-all, run-append, unread-append, run-ended, unread-ended, after_end-within}
@@ -50,7 +50,7 @@ no_cause-reads ReplyMemory h = h
 
 -- in the loop of `serve`: all lines of what was read are answered, and the engine holds the
 -- incomplete line
-pub record Serving (limit : Option ℕ) {S : Type 0} (law : Law S) (m n : Snapshot S)
+pub record Serving (limit : Option ℕ) {S : Type 0} (law : SessionLaw S) (m n : Snapshot S)
     (i j : InputState) (engine : EngineState) (turn : ℕ) : Type 0 where
   pub pieces : List Bytes
   pub were_read : WereRead i j pieces []
@@ -104,7 +104,8 @@ most_held-within limit incomplete (piece ∷ pieces) each =
       most_held-within limit (incomplete_line (incomplete ++ piece)) pieces each.1,
     )
 
-module _ {limit : Option ℕ} {S : Type 0} {law : Law S} {m : Snapshot S} {i : InputState} where
+module _ {limit : Option ℕ} {S : Type 0} {law : SessionLaw S} {m : Snapshot S}
+    {i : InputState} where
   pub Serving-start : {engine : EngineState} → engine ≡ fresh limit
       → Serving limit law m m i i engine 0
   Serving-start new = rw new record {
@@ -186,7 +187,7 @@ module _ {limit : Option ℕ} {S : Type 0} {law : Law S} {m : Snapshot S} {i : I
         -- and whose lines were answered
         module _ (after : Snapshot S) (all : AllAnswered law n run_with after) where
           answered_so : AllAnswered law m (events limit bytes_so_far ++ run_with) after
-          answered_so = RunEnded-then law s.so_far.answered run_with [] Finished all
+          answered_so = RunEnded-then law s.so_far.answered run_with [] [] Finished all
 
           left_so : (fed law n.state engine piece).left
               ≡ saturating_u64 (length (unread limit law m.state (bytes_so_far ++ piece)))
@@ -359,7 +360,7 @@ module _ {limit : Option ℕ} {S : Type 0} {law : Law S} {m : Snapshot S} {i : I
 
 -- What is so of a known input, of which these bytes were read and `rest` was not, because the run
 -- had ended in them.
-module _ (limit : Option ℕ) {S : Type 0} (law : Law S) (s : S) (input read rest : Bytes)
+module _ (limit : Option ℕ) {S : Type 0} (law : SessionLaw S) (s : S) (input read rest : Bytes)
     (whole : input ≡ read ++ rest) where
   record AlikeRead (done : Bool) : Type 0 where
     same_run : run_for limit law s input ≡ run_for limit law s read
@@ -404,7 +405,7 @@ known_input P (Some input) (Some rest) read consumed at_end it =
     it input rest refl consumed at_end
 
 -- what all pieces come to
-pub AnsweredAll-serves : {limit : Option ℕ} {S : Type 0} {law : Law S} {m n : Snapshot S}
+pub AnsweredAll-serves : {limit : Option ℕ} {S : Type 0} {law : SessionLaw S} {m n : Snapshot S}
     {i k : InputState} {served : Served} → AnsweredAll limit law m n i k served
     → Serves limit law m n i k served
 AnsweredAll-serves {limit} {law} {m} {i} all = record {
@@ -420,13 +421,13 @@ AnsweredAll-serves {limit} {law} {m} {i} all = record {
   read_back = ReadsBack-encoded (replies law m.state (run_for limit law m.state (concat all.pieces)));
 }
 
-pub served_serves : {S : Type 0} (limit : Option ℕ) (law : Law S) (m n : Snapshot S)
+pub served_serves : {S : Type 0} (limit : Option ℕ) (law : SessionLaw S) (m n : Snapshot S)
     (i k : InputState) (result : Result Served ServeError)
     → IfOk result (AnsweredAll limit law m n i k) → IfOk result (Serves limit law m n i k)
 served_serves limit law m n i k (Ok served) all = AnsweredAll-serves all
 served_serves limit law m n i k (Err error) all = tt
 
-module _ {limit : Option ℕ} {S : Type 0} {law : Law S} {m n : Snapshot S} {i k : InputState}
+module _ {limit : Option ℕ} {S : Type 0} {law : SessionLaw S} {m n : Snapshot S} {i k : InputState}
     {served : Served} (s : Serves limit law m n i k served) where
   module _ (input rest : Bytes) (is : k.remaining ≡ Some rest) (whole : input ≡ s.read ++ rest)
       (end : served.done ≡ false → rest ≡ [])
@@ -482,12 +483,14 @@ module _ {limit : Option ℕ} {S : Type 0} {law : Law S} {m n : Snapshot S} {i k
       (alike_read limit law m.state input s.read rest whole served.done s.done end))
 
 -- the bound
-pub AnsweredAll-bound : {limit : ℕ} {S : Type 0} {law : Law S} {m n : Snapshot S} {i k : InputState}
+pub AnsweredAll-bound : {limit : ℕ} {S : Type 0} {law : SessionLaw S} {m n : Snapshot S}
+    {i k : InputState}
     {served : Served} → AnsweredAll (Some limit) law m n i k served → served.held ≤ limit + 4096
 AnsweredAll-bound {limit} all =
     omega (arith, all.held, most_held-within limit [] all.pieces all.were_read.sizes)
 
-pub served_limited : {S : Type 0} (limit : ℕ) (law : Law S) (m n : Snapshot S) (i k : InputState)
+pub served_limited : {S : Type 0} (limit : ℕ) (law : SessionLaw S) (m n : Snapshot S)
+    (i k : InputState)
     (result : Result Served ServeError) → IfOk result (AnsweredAll (Some limit) law m n i k)
     → IfOk result (Serves (Some limit) law m n i k)
     × IfOk result (λ served. served.held ≤ limit + 4096)

@@ -1,10 +1,10 @@
 -- How a run ended: which of its events were answered, why no more were, and what was written and
 -- flushed.
-use Rattle.std.specs.Prelude.{◌≡◌, ⊤, ℕ, ◌+◌, ◌⊎◌, List, [], ◌∷◌, ◌++◌, length, Option, Result, Err, MatchResult}
+use Rattle.std.specs.Prelude.{◌≡◌, ⊤, ℕ, ◌+◌, ◌⊎◌, List, [], ◌∷◌, ◌++◌, flat_map, length, Option, Result, Err, MatchResult}
 use Rattle.unftp_control_defs.specs.Bytes.{Bytes}
 use Rattle.unftp_control_defs.specs.Events.{Fault, FtpEvent}
-use Rattle.unftp_control_defs.specs.FtpReply.{Nothing, encoded}
-use Rattle.unftp_control_defs.specs.Run.{Law, after_lines, last_state, run_for, text_of}
+use Rattle.unftp_control_defs.specs.FtpReply.{FtpReply, Nothing, encoded}
+use Rattle.unftp_control_defs.specs.Run.{SessionLaw, after_lines, last_state, run_for, said, state_after, text_of, turn}
 use Rattle.unftp_control_reply.specs.ErrorMeaning.{fault_of}
 use Rattle.unftp_control_serve.specs.Decoder.{MayRunOut}
 use Rattle.unftp_control_serve.specs.Writing.{OutputState, output_state_of, Begins, Flushed, HasWritten}
@@ -49,17 +49,36 @@ IsCauseOf LineMemory error.OutOfMemory = ⊤
 IsCauseOf ReplyMemory error.OutOfMemory = ⊤
 IsCauseOf _ _ = ⊥
 
--- The handler was in state `s` after the events that were answered. What is so of its last state
--- and of the first of the events that were not.
-abbrev pub EndsAt : {S : Type 0} → Law S → Cause → S → List FtpEvent → S → Type 0
-EndsAt law Finished s [] s' = s' ≡ s
-EndsAt law (Write part) s (event ∷ _) s' =
-    (s' ≡ law.next s event) × Begins (encoded (law.says s event)) part
-EndsAt law (Handler fault) s (event ∷ _) s' = law.may_fail s event fault
-EndsAt law LineMemory s (event ∷ _) s' = s' ≡ s
-EndsAt law ReplyMemory s (event ∷ _) s' =
-    (s' ≡ law.next s event) × ¬ (law.says s event ≡ Nothing)
-EndsAt _ _ _ _ _ = ⊥
+-- The first reply of a turn that was not sent, after those that were: this is so of it, and it
+-- leaves this state.
+pub record Unsent {S : Type 0} (steps sent : List (FtpReply × S)) (IsSo : FtpReply → Type 0)
+    (s' : S) : Type 0 where
+  pub reply : FtpReply
+  pub later : List (FtpReply × S)
+  pub split : steps ≡ sent ++ (reply, s') ∷ later
+  pub so : IsSo reply
+
+-- The handler was in state `s` after the events that were answered. What is so of its last state,
+-- of the first of the events that were not, and of its replies that were sent.
+abbrev pub EndsAt : {S : Type 0} → SessionLaw S → Cause → S → List FtpEvent → List (FtpReply × S)
+    → S → Type 0
+EndsAt law Finished s [] [] s' = s' ≡ s
+EndsAt law (Write part) s (event ∷ _) sent s' =
+    Unsent (turn law s event) sent (λ reply. Begins (encoded reply) part) s'
+EndsAt law (Handler fault) s (event ∷ _) [] s' = law.may_fail s event fault
+EndsAt law (Handler fault) s (event ∷ _) (step ∷ steps) s' =
+    Begins (turn law s event) (step ∷ steps) × law.may_break (state_after step.1 steps) fault
+EndsAt law LineMemory s (event ∷ _) [] s' = s' ≡ s
+EndsAt law ReplyMemory s (event ∷ _) sent s' =
+    Unsent (turn law s event) sent (λ reply. ¬ (reply ≡ Nothing)) s'
+EndsAt _ _ _ _ _ _ = ⊥
+
+-- the text of the whole replies: those to some events, and those of the next that were sent
+abbrev pub whole_text : {S : Type 0} → SessionLaw S → S → List FtpEvent → List (FtpReply × S)
+    → Bytes
+whole_text law s done [] = text_of law s done
+whole_text law s done (step ∷ steps) =
+    text_of law s done ++ flat_map encoded (said (step ∷ steps))
 
 -- the part of the next reply that was written, and it after the text of the whole ones
 abbrev pub part_written : Cause → Bytes
@@ -79,49 +98,54 @@ abbrev pub handler_failures : Cause → ℕ
 handler_failures (Handler _) = 1
 handler_failures _ = 0
 
--- A run ended for this cause, after the whole replies to the events `done`; those of `later` were
--- not answered.
-pub record RunEnded {S : Type 0} (law : Law S) (before : Snapshot S) (done later : List FtpEvent)
-    (cause : Cause) (after : Snapshot S) : Type 0 where
-  pub ends_at : EndsAt law cause (last_state law before.state done) later after.state
+-- A run ended for this cause, after all replies to the events `done`, and the replies `sent` to the
+-- first of `later`; the others were not sent.
+pub record RunEnded {S : Type 0} (law : SessionLaw S) (before : Snapshot S)
+    (done later : List FtpEvent) (sent : List (FtpReply × S)) (cause : Cause) (after : Snapshot S)
+    : Type 0 where
+  pub ends_at : EndsAt law cause (last_state law before.state done) later sent after.state
   pub written : HasWritten before.output after.output
-      (text_until (text_of law before.state done) cause)
-  pub flushed : Flushed (text_of law before.state done) (part_written cause)
+      (text_until (whole_text law before.state done sent) cause)
+  pub flushed : Flushed (whole_text law before.state done sent) (part_written cause)
       before.output.unflushed after.output.unflushed
   pub write_failed : after.output.failures ≡ before.output.failures + write_failures cause
   pub handler_failed : after.failures ≡ before.failures + handler_failures cause
 
 -- It ended because all events were answered.
-abbrev pub AllAnswered : {S : Type 0} → Law S → Snapshot S → List FtpEvent → Snapshot S → Type 0
-AllAnswered law before events after = RunEnded law before events [] Finished after
+abbrev pub AllAnswered : {S : Type 0} → SessionLaw S → Snapshot S → List FtpEvent → Snapshot S
+    → Type 0
+AllAnswered law before events after = RunEnded law before events [] [] Finished after
 
--- At one event it ended with this error; memory for its line was there.
-pub record EventFailed {S : Type 0} (law : Law S) (before : Snapshot S) (event : FtpEvent)
+-- At one event it ended with this error, after the replies `sent`; memory for its line was there.
+pub record EventFailed {S : Type 0} (law : SessionLaw S) (before : Snapshot S) (event : FtpEvent)
     (after : Snapshot S) (error : ServeError) : Type 0 where
+  pub sent : List (FtpReply × S)
   pub cause : Cause
   pub means : IsCauseOf cause error
   pub has_line : ¬ (cause ≡ LineMemory)
-  pub ended : RunEnded law before [] (event ∷ []) cause after
+  pub ended : RunEnded law before [] (event ∷ []) sent cause after
 
-abbrev pub EventOutcome : {S T : Type 0} → Law S → Snapshot S → FtpEvent → Snapshot S
+abbrev pub EventOutcome : {S T : Type 0} → SessionLaw S → Snapshot S → FtpEvent → Snapshot S
     → Result T ServeError → Type 0
 EventOutcome law before event after result = MatchResult result
     (λ _. AllAnswered law before (event ∷ []) after)
     (λ failure. EventFailed law before event after failure)
 
--- The run over an input ended with this error, after the whole replies to its events `done`. Where
--- memory ran out for the command of a line, it is the line after those of these events.
-pub record RunFailed (limit : Option ℕ) {S : Type 0} (law : Law S) (before : Snapshot S)
+-- The run over an input ended with this error, after all replies to its events `done`, and the
+-- replies `sent` to the next. Where memory ran out for the command of a line, it is the line after
+-- those of these events.
+pub record RunFailed (limit : Option ℕ) {S : Type 0} (law : SessionLaw S) (before : Snapshot S)
     (input : Bytes) (after : Snapshot S) (error : ServeError) (done : List FtpEvent)
     : Type 0 where
   pub later : List FtpEvent
   pub split : run_for limit law before.state input ≡ done ++ later
+  pub sent : List (FtpReply × S)
   pub cause : Cause
   pub means : IsCauseOf cause error
-  pub ended : RunEnded law before done later cause after
+  pub ended : RunEnded law before done later sent cause after
   pub next_line : cause ≡ LineMemory → MayRunOut limit (after_lines (length done) input)
 
-abbrev pub RunOutcome : {S T : Type 0} → Option ℕ → Law S → Snapshot S → Bytes → Snapshot S
+abbrev pub RunOutcome : {S T : Type 0} → Option ℕ → SessionLaw S → Snapshot S → Bytes → Snapshot S
     → Result T ServeError → Type 0
 RunOutcome limit law before input after result = MatchResult result
     (λ _. AllAnswered law before (run_for limit law before.state input) after)
@@ -133,7 +157,7 @@ NoRoom failure piece before after =
     (failure ≡ error.OutOfMemory) × ¬ (piece ≡ []) × (after ≡ before)
 
 -- the same of an input that ends with this piece
-abbrev pub PieceOutcome : {S T : Type 0} → Option ℕ → Law S → Snapshot S → Bytes → Bytes
+abbrev pub PieceOutcome : {S T : Type 0} → Option ℕ → SessionLaw S → Snapshot S → Bytes → Bytes
     → Snapshot S → Result T ServeError → Type 0
 PieceOutcome limit law before input piece after result = MatchResult result
     (λ _. AllAnswered law before (run_for limit law before.state input) after)

@@ -2,7 +2,7 @@
 use Rattle.std.specs.Prelude.{◌≡◌, ℕ, ◌≤◌, ◌+◌, ◌-◌, max, Bool, true, false, if◌then◌else◌, [], ◌++◌, length, Option}
 use Rattle.unftp_control_defs.specs.Bytes.{Bytes}
 use Rattle.unftp_control_defs.specs.Lines.{incomplete_line}
-use Rattle.unftp_control_defs.specs.Run.{Law, ends_for, unread, after_end}
+use Rattle.unftp_control_defs.specs.Run.{SessionLaw, ends_for, unread, after_end}
 use Rattle.unftp_control_serve.specs.Decoder.{kept_length, saturating_u64}
 use Rattle.unftp_control_serve.specs.declared.engine.Phase.{Phase}
 use Rattle.unftp_control_serve.specs.declared.engine.Phase.TheVariants as phase
@@ -54,24 +54,24 @@ abbrev pub bytes_with : EngineState → Bytes → Bytes
 bytes_with engine piece = engine.incomplete ++ piece
 
 -- whether the run of a handler over these ends
-abbrev pub ends_with : {S : Type 0} → EngineState → Law S → S → Bytes → Bool
+abbrev pub ends_with : {S : Type 0} → EngineState → SessionLaw S → S → Bytes → Bool
 ends_with engine law s piece = ends_for engine.limit law s (bytes_with engine piece)
 
 -- the bytes after its last line, and those of them that come after its end
-abbrev pub unread_with : {S : Type 0} → EngineState → Law S → S → Bytes → Bytes
+abbrev pub unread_with : {S : Type 0} → EngineState → SessionLaw S → S → Bytes → Bytes
 unread_with engine law s piece = unread engine.limit law s (bytes_with engine piece)
 
-abbrev pub after_end_with : {S : Type 0} → EngineState → Law S → S → Bytes → Bytes
+abbrev pub after_end_with : {S : Type 0} → EngineState → SessionLaw S → S → Bytes → Bytes
 after_end_with engine law s piece = after_end engine.limit law s (bytes_with engine piece)
 
 -- the bytes that are pending then: the incomplete line, or none after the end
-abbrev pub pending_with : {S : Type 0} → EngineState → Law S → S → Bytes → Bytes
+abbrev pub pending_with : {S : Type 0} → EngineState → SessionLaw S → S → Bytes → Bytes
 pending_with engine law s piece =
     if ends_with engine law s piece then [] else incomplete_line (bytes_with engine piece)
 
 -- What a running engine is after a piece at Ok. Each byte of the piece was scanned once, but those
 -- after the end; the buffer has held the piece, and holds what is kept of the pending bytes.
-abbrev pub fed : {S : Type 0} → Law S → S → EngineState → Bytes → EngineState
+abbrev pub fed : {S : Type 0} → SessionLaw S → S → EngineState → Bytes → EngineState
 fed law s engine piece = record {
   incomplete = pending_with engine law s piece;
   left = saturating_u64 (length (unread_with engine law s piece));

@@ -1,8 +1,11 @@
 -- What an event means.
-use Rattle.std.specs.Prelude.{Bool, true, false}
+use Rattle.std.specs.Prelude.{Bool, true, false, Option, None, Some}
 use Rattle.unftp_control_defs.specs.Events.{FaultKind, FtpEvent, Command, LineTooLong, Refused}
 use Rattle.unftp_control_command.specs.CommandMeaning.{command_of}
+use Rattle.unftp_control_defs.specs.FtpReply.{FtpReply}
 use Rattle.unftp_control_reply.specs.ErrorMeaning.{fault_of}
+use Rattle.unftp_control_reply.specs.ReplyMeaning.{reply_of}
+use Rattle.unftp_control_reply.specs.declared.Reply.{Reply}
 use Rattle.unftp_control_serve.specs.declared.event.Event.{Event}
 use Rattle.unftp_control_serve.specs.declared.event.Event.TheVariants as event
 
@@ -18,3 +21,8 @@ is_line_too_long _ = false
 abbrev pub refuses_length : FtpEvent → Bool
 refuses_length (Command command) = false
 refuses_length (Refused fault) = is_line_too_long fault.kind
+
+-- the next of the replies that follow, if there is one
+abbrev pub further_of : Option Reply → Option FtpReply
+further_of None = None
+further_of (Some reply) = Some (reply_of reply)

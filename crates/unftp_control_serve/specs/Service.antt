@@ -8,7 +8,7 @@ use Rattle.unftp_control_defs.specs.FtpReply.{IsPlain}
 use Rattle.unftp_control_defs.specs.Input.{InputState, HasEnded, HasRead, WereRead}
 use Rattle.unftp_control_defs.specs.Lines.{incomplete_line}
 use Rattle.unftp_control_defs.specs.ReplyReader.{ReadsBack}
-use Rattle.unftp_control_defs.specs.Run.{Law, last_state, replies, run_for, ends_for, text_for, unread, after_end}
+use Rattle.unftp_control_defs.specs.Run.{SessionLaw, last_state, replies, run_for, ends_for, text_for, unread, after_end}
 use Rattle.unftp_control_serve.specs.Writing.{Begins, Flushed, HasWritten}
 use Rattle.unftp_control_serve.specs.Endings.{Snapshot, AllAnswered, RunFailed}
 use Rattle.unftp_control_serve.specs.Decoder.{kept_length, saturating_u64}
@@ -33,7 +33,7 @@ most_held limit incomplete (piece ∷ pieces) = max
     (most_held limit (incomplete_line (incomplete ++ piece)) pieces)
 
 -- What a service under a limit on the length of a line comes to.
-module _ (limit : Option ℕ) {S : Type 0} (law : Law S) (before after : Snapshot S)
+module _ (limit : Option ℕ) {S : Type 0} (law : SessionLaw S) (before after : Snapshot S)
     (input input' : InputState) where
   -- All lines of these pieces were answered, and the run goes on.
   pub record Answered (pieces : List Bytes) : Type 0 where
@@ -109,7 +109,7 @@ module _ (limit : Option ℕ) {S : Type 0} (law : Law S) (before after : Snapsho
   ServeEnded _ = ⊥
 
 -- What it means at Ok that a session was served, whatever pieces its input came in.
-pub record Serves (limit : Option ℕ) {S : Type 0} (law : Law S) (before after : Snapshot S)
+pub record Serves (limit : Option ℕ) {S : Type 0} (law : SessionLaw S) (before after : Snapshot S)
     (input input' : InputState) (served : Served) : Type 0 where
   -- The reads gave these bytes; and where the handler didn't end the session, the last one was of
   -- none, at the reader's end.
@@ -137,7 +137,8 @@ pub record Serves (limit : Option ℕ) {S : Type 0} (law : Law S) (before after 
 -- What follows where the bytes of the whole input are known, read or not, as those of a slice are:
 -- what was read may be a part of it, where the handler ended the session, and the same is so of
 -- all.
-pub record ServesKnown (limit : Option ℕ) {S : Type 0} (law : Law S) (before after : Snapshot S)
+pub record ServesKnown (limit : Option ℕ) {S : Type 0} (law : SessionLaw S)
+    (before after : Snapshot S)
     (remaining : Option Bytes) (served : Served) (input : Bytes) : Type 0 where
   pub written : Appends before.output.written after.output.written
       (text_for limit law before.state input)

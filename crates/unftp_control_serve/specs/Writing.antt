@@ -4,6 +4,7 @@ use Rattle.std.specs.Io.KnownBytes.{Appends}
 use Rattle.std.specs.declared.vec.Vec.{Vec}
 use Rattle.std.specs.declared.alloc.Global.{Global}
 use Rattle.unftp_control_defs.specs.Bytes.{Bytes}
+use Rattle.unftp_control_defs.specs.FtpReply.{FtpReply, Nothing, encoded}
 use Rattle.unftp_control_serve.specs.declared.output.Output.{Output}
 use Rattle.unftp_control_serve.specs.declared.error.ServeError.{ServeError}
 use Rattle.unftp_control_serve.specs.declared.error.ServeError.TheVariants.{Write, WriteZero, OutOfMemory}
@@ -104,3 +105,14 @@ abbrev pub Sends : {T : Type 0} → Result T ServeError → Bytes → OutputStat
 Sends result bytes before after = MatchResult result
     (λ _. Sent bytes before after)
     (λ error. SendFailed error bytes before after)
+
+-- the sending of a reply: where memory ran out it is not `Nothing`, and nothing was written
+abbrev pub ReplyFailed : ServeError → FtpReply → OutputState → OutputState → Type 0
+ReplyFailed OutOfMemory reply before after = (after ≡ before) × ¬ (reply ≡ Nothing)
+ReplyFailed error reply before after = WriterFailed error (CutShort (encoded reply) before after)
+
+abbrev pub SendsReply : {T : Type 0} → Result T ServeError → FtpReply → OutputState → OutputState
+    → Type 0
+SendsReply result reply before after = MatchResult result
+    (λ _. Sent (encoded reply) before after)
+    (λ error. ReplyFailed error reply before after)

@@ -1,18 +1,19 @@
 //! The engine: lines in, replies out.
-ghost use Rattle.std.specs.Prelude.{◌≡◌, ◌≤◌, ◌+◌, [], max, None, Some, IfSome, IfOk, OnOk, OnErr, IsErrOf, IsTrue, MatchResult, is_ok, if◌then◌else◌, true, false, length};
+ghost use Rattle.std.specs.Prelude.{◌≡◌, ◌≤◌, ◌+◌, [], List, max, None, Some, IfSome, IfOk, OnOk, OnErr, IsErrOf, IsTrue, MatchResult, is_ok, if◌then◌else◌, true, false, length};
 ghost use Rattle.unftp_control_defs.specs.FtpReply.{Nothing, encoded};
 ghost use Rattle.unftp_control_defs.specs.Run.{ends_for, unread};
 ghost use Rattle.unftp_control_reply.specs.ReplyMeaning.{reply_of};
 ghost use Rattle.unftp_control_serve.specs.Endings.{EventOutcome, OnWrite, PieceOutcome, RunOutcome, snapshot_with};
 ghost use Rattle.unftp_control_serve.specs.Decoder.{kept_length};
 ghost use Rattle.unftp_control_serve.specs.EventMeaning.{event_meant};
+ghost use Rattle.unftp_control_serve.specs.Writing.{Begins, SendsReply};
 ghost use Rattle.unftp_control_serve.specs.Engine.{FailedAfter, IsRunning, bytes_with, fed, fresh, more_left};
 
 use crate::decoder::EventDecoder;
 use crate::error::ServeError;
 use crate::event::Event;
-use crate::handler::Handler;
 use crate::send::Sink;
+use crate::session::Session;
 use std::alloc::Global;
 use std::marker::Model;
 use unftp_control_codecs::encode_reply;
@@ -29,46 +30,66 @@ fn encode_into(reply: &Reply, reply_bytes: &mut Vec<u8>) -> Result<(), ControlCh
     encode_reply(reply, reply_bytes)
 }
 
-/// Passes the event to the handler, and sends its reply, whose bytes are held in `reply_bytes`.
-fn answer_event<H: Handler, K: Sink>(
+/// Sends a reply, whose bytes are held in `reply_bytes`.
+fn send_reply<K: Sink>(
     reply_bytes: &mut Vec<u8>,
-    event: Event,
-    handler: &mut H,
+    reply: Reply,
     output: &mut K,
 ) -> Result<(), ServeError>
-    ensures outcome { EventOutcome H.law
-        (snapshot_with H.state H.failures K.state handler.old output.old)
-        (event_meant event)
-        (snapshot_with H.state H.failures K.state handler.new output.new)
-        result }
+    ensures sends { SendsReply result (reply_of reply) (K.state output.old) (K.state output.new) }
     ensures cuts { OnWrite result K.cuts }
 {
-    let reply = match handler.handle(*reply_bytes.allocator(), event) {
-        Ok(reply) => reply,
-        Err(error) => return Err(ServeError::Handler(error)),
-    };
     match encode_into(&reply, reply_bytes) {
         Ok(()) => output.send(reply_bytes.as_slice()),
         Err(_) => Err(ServeError::OutOfMemory),
     }
 }
 
+/// Passes the event to the handler, and sends its replies, one after the other.
+fn answer_event<H: Session, K: Sink>(
+    reply_bytes: &mut Vec<u8>,
+    event: Event,
+    handler: &mut H,
+    output: &mut K,
+) -> Result<(), ServeError>
+    ensures heard { Begins (H.heard handler.new) (H.heard handler.old) }
+    ensures outcome { (said : List H.Said) → Begins said (H.heard handler.new)
+        → EventOutcome (H.law said)
+        (snapshot_with H.state H.failures K.state handler.old output.old)
+        (event_meant event)
+        (snapshot_with H.state H.failures K.state handler.new output.new)
+        result }
+    ensures cuts { OnWrite result K.cuts }
+{
+    let alloc = *reply_bytes.allocator();
+    let first = handler.first(alloc, event).map_err(ServeError::Handler)?;
+    send_reply(reply_bytes, first, output)?;
+    while let Some(reply) = handler.further(alloc).map_err(ServeError::Handler)? {
+        send_reply(reply_bytes, reply, output)?;
+    }
+    Ok(())
+}
+
 /// Answers each pending line, up to the one that leaves the handler done: returns whether there was
 /// one.
-fn answer_lines<H: Handler, K: Sink>(
+fn answer_lines<H: Session, K: Sink>(
     decoder: &mut EventDecoder,
     reply_bytes: &mut Vec<u8>,
     handler: &mut H,
     output: &mut K,
 ) -> Result<bool, ServeError>
-    ensures outcome { RunOutcome decoder.old.limit H.law
+    ensures heard { Begins (H.heard handler.new) (H.heard handler.old) }
+    ensures outcome { (said : List H.Said) → Begins said (H.heard handler.new)
+        → RunOutcome decoder.old.limit (H.law said)
         (snapshot_with H.state H.failures K.state handler.old output.old) decoder.old.bytes
         (snapshot_with H.state H.failures K.state handler.new output.new) result }
     ensures cuts { OnWrite result K.cuts }
-    ensures ended { IfOk result (λ ended. ended
-        ≡ ends_for decoder.old.limit H.law (H.state handler.old) decoder.old.bytes) }
-    ensures unread { OnOk result (decoder.new.bytes
-        ≡ unread decoder.old.limit H.law (H.state handler.old) decoder.old.bytes) }
+    ensures ended { IfOk result (λ ended. (said : List H.Said)
+        → Begins said (H.heard handler.new) → ended
+        ≡ ends_for decoder.old.limit (H.law said) (H.state handler.old) decoder.old.bytes) }
+    ensures unread { OnOk result ((said : List H.Said) → Begins said (H.heard handler.new)
+        → decoder.new.bytes
+        ≡ unread decoder.old.limit (H.law said) (H.state handler.old) decoder.old.bytes) }
     ensures unscanned { IfOk result (λ ended. decoder.new.unscanned
         ≡ (if ended then length decoder.new.bytes else 0)) }
     ensures kept { IfOk result (λ ended. ended ≡ false
@@ -200,33 +221,37 @@ impl Engine {
     }
 
     /// Takes the next piece of the input, and answers each line that is now complete (RFC 959,
-    /// section 5.3): its event is passed to the handler, and its reply is written and flushed, or
-    /// appended where `output` is a `Vec`, before the next line is taken. The bytes after the last
-    /// line feed are kept; with a limit, those of a line that is too long are dropped, and `left`
-    /// still counts them.
+    /// section 5.3): its event is passed to the handler, and each of its replies is written and
+    /// flushed, or appended where `output` is a `Vec`, before the next reply is asked for or the
+    /// next line is taken. The bytes after the last line feed are kept; with a limit, those of a
+    /// line that is too long are dropped, and `left` still counts them.
     ///
-    /// Where an event leaves the handler done, the engine is finished: its reply is the last, and
-    /// the bytes after its line are dropped. From then on a piece is counted by `left`, and nothing
-    /// else is done with it, at `Ok`.
+    /// Where an event leaves the handler done, the engine is finished: its replies are the last,
+    /// and the bytes after its line are dropped. From then on a piece is counted by `left`, and
+    /// nothing else is done with it, at `Ok`.
     ///
     /// `Handler`, `Write`, `WriteZero` and `OutOfMemory` come where the handler, the writer or an
-    /// allocation fails: the replies to the lines before are written and flushed, and `left` stays.
-    /// Each makes the engine a failed one: from then on it returns `Stopped` and does nothing.
-    pub fn feed<H: Handler, K: Sink>(
+    /// allocation fails: the replies to the lines before and the first ones to the next line are
+    /// written and flushed, no later one is asked for, and `left` stays. Each makes the engine a
+    /// failed one: from then on it returns `Stopped` and does nothing.
+    pub fn feed<H: Session, K: Sink>(
         &mut self,
         piece: &[u8],
         handler: &mut H,
         output: &mut K,
     ) -> Result<(), ServeError>
         // What was answered, written and flushed at each answer of an engine that runs.
-        ensures outcome { IsRunning self.old → PieceOutcome self.old.limit H.law
+        ensures heard { Begins (H.heard handler.new) (H.heard handler.old) }
+        ensures outcome { IsRunning self.old → (said : List H.Said)
+            → Begins said (H.heard handler.new) → PieceOutcome self.old.limit (H.law said)
             (snapshot_with H.state H.failures K.state handler.old output.old)
             (bytes_with self.old piece.now) piece.now
             (snapshot_with H.state H.failures K.state handler.new output.new) result }
         ensures cuts { OnWrite result K.cuts }
         // What such an engine is then; a limit bounds what the buffer has held.
         ensures fed { IsRunning self.old → MatchResult result
-            (λ _. self.new ≡ fed H.law (H.state handler.old) self.old piece.now)
+            (λ _. (said : List H.Said) → Begins said (H.heard handler.new)
+            → self.new ≡ fed (H.law said) (H.state handler.old) self.old piece.now)
             (λ _. FailedAfter self.old piece.now self.new) }
         ensures bound { IfSome self.old.limit (λ limit.
             self.new.held ≤ max self.old.held (limit + length piece.now)) }
@@ -249,20 +274,23 @@ impl Engine {
 
     /// Answers the lines of the pending bytes and a piece after them. Once the run has ended, the
     /// bytes after its last line are dropped.
-    fn answer<H: Handler, K: Sink>(
+    fn answer<H: Session, K: Sink>(
         &mut self,
         piece: &[u8],
         handler: &mut H,
         output: &mut K,
     ) -> Result<(), ServeError>
         requires { IsRunning self.old }
-        ensures outcome { PieceOutcome self.old.limit H.law
+        ensures heard { Begins (H.heard handler.new) (H.heard handler.old) }
+        ensures outcome { (said : List H.Said)
+            → Begins said (H.heard handler.new) → PieceOutcome self.old.limit (H.law said)
             (snapshot_with H.state H.failures K.state handler.old output.old)
             (bytes_with self.old piece.now) piece.now
             (snapshot_with H.state H.failures K.state handler.new output.new) result }
         ensures cuts { OnWrite result K.cuts }
         ensures fed { MatchResult result
-            (λ _. self.new ≡ fed H.law (H.state handler.old) self.old piece.now)
+            (λ _. (said : List H.Said) → Begins said (H.heard handler.new)
+            → self.new ≡ fed (H.law said) (H.state handler.old) self.old piece.now)
             (λ _. FailedAfter self.old piece.now self.new) }
         ensures bound { IfSome self.old.limit (λ limit.
             self.new.held ≤ max self.old.held (limit + length piece.now)) }

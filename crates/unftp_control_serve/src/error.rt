@@ -14,10 +14,11 @@ pub enum ServeError {
     Write(io::Error),
     /// The writer took nothing of a reply. What is written and taken is as for `Write`.
     WriteZero,
-    /// The handler failed at an event. The lines before its line are answered.
+    /// The handler failed at an event, or at a reply after the first to it. The lines before its
+    /// line are answered, and the replies that it gave to the event are written.
     Handler(ControlChanError),
     /// An allocation failed. Some lines are answered, and the handler may have taken the event of
-    /// one more.
+    /// one more, of which the first replies may be written.
     OutOfMemory,
     /// The engine failed in an earlier call. Nothing is written or taken.
     Stopped,

@@ -10,7 +10,8 @@ use std::alloc::Global;
 use unftp_control_reply::Reply;
 use unftp_control_reply::error::ControlChanError;
 
-/// Answers the events of a connection, one after the other.
+/// Answers the events of a connection, one after the other, each with one reply. What gives several
+/// replies to an event is a `Session`.
 ///
 /// Its law states, as functions and relations of its state, the reply to an event, the state that
 /// follows, with which errors it may fail, of which kind and from which source, and in which states

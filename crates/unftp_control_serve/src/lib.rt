@@ -11,6 +11,7 @@ mod handler;
 mod output;
 mod send;
 mod service;
+mod session;
 mod skipped;
 
 pub use decoder::EventDecoder;
@@ -21,5 +22,6 @@ pub use handler::Handler;
 pub use output::Output;
 pub use send::Sink;
 pub use service::{Served, known_input_is_served, serve, serve_with_limit};
+pub use session::Session;
 pub use unftp_control_defs::count::Count;
 pub use unftp_control_defs::input::Input;

@@ -1,5 +1,5 @@
 //! A whole connection, from the first read to the end of the input.
-ghost use Rattle.std.specs.Prelude.{◌≤◌, ◌+◌, ℕ, None, Some, Option, IfOk, IfErr, IfSome};
+ghost use Rattle.std.specs.Prelude.{◌≤◌, ◌+◌, ℕ, None, Some, Option, IfOk, IfErr, IfSome, List};
 ghost use Rattle.unftp_control_serve.specs.Endings.{Snapshot, snapshot_of};
 ghost use Rattle.unftp_control_defs.specs.Input.{InputState, input_state_of};
 ghost use Rattle.unftp_control_serve.specs.Service.{AnsweredAll, Reports, ServeEnded, Serves, ServesKnown};
@@ -7,8 +7,8 @@ ghost use Rattle.unftp_control_serve.specs.declared.service.Served.{Served as Re
 
 use crate::engine::Engine;
 use crate::error::ServeError;
-use crate::handler::Handler;
 use crate::output::Output;
+use crate::session::Session;
 use std::alloc::Global;
 use std::io::{Read, Write};
 use unftp_control_defs::count::Count;
@@ -40,13 +40,14 @@ const PIECE: usize = 4096;
 /// At `Ok` the reader has come to its end, or the handler is done. `Read` is a failed read, after
 /// which all complete lines are answered; `Write` and `WriteZero` are a failed write or flush,
 /// after which a beginning of a reply may be written; `Handler` and `OutOfMemory` are a failed
-/// handler or allocation, after which the replies to the lines before are written and flushed;
-/// `TooManyReads` comes after 2^64 - 1 reads. It is never `Stopped`.
+/// handler or allocation. At each of these four the replies to the lines before are written and
+/// flushed, and so are the first ones to the next line; no later one is asked for. `TooManyReads`
+/// comes after 2^64 - 1 reads. It is never `Stopped`.
 ///
 /// A line may have any length, and all its bytes are kept until its line feed comes: for input that
 /// is not trusted, use `serve_with_limit`.
 #[tactic(auto, using(crate::proofs::ServiceLemmas::served_serves))]
-pub fn serve<R: Read, W: Write, H: Handler>(
+pub fn serve<R: Read, W: Write, H: Session>(
     alloc: Global,
     reader: &mut Input<R>,
     writer: &mut Output<W>,
@@ -54,18 +55,18 @@ pub fn serve<R: Read, W: Write, H: Handler>(
 ) -> Result<Served, ServeError>
     // At Ok, of any reader and any writer: what was read and written, in which state the handler
     // is, and what was scanned.
-    ensures serves { IfOk result (Serves None H.law
+    ensures serves { IfOk result (Serves None (H.law (H.heard handler.new))
         (snapshot_of H.state H.failures W.contents handler.old writer.old)
         (snapshot_of H.state H.failures W.contents handler.new writer.new)
         (input_state_of R.remaining reader.old)
         (input_state_of R.remaining reader.new)) }
     // In which pieces it was read, and what was held; and what is so at each error.
-    ensures ok { IfOk result (AnsweredAll None H.law
+    ensures ok { IfOk result (AnsweredAll None (H.law (H.heard handler.new))
         (snapshot_of H.state H.failures W.contents handler.old writer.old)
         (snapshot_of H.state H.failures W.contents handler.new writer.new)
         (input_state_of R.remaining reader.old)
         (input_state_of R.remaining reader.new)) }
-    ensures err { IfErr result (ServeEnded None H.law
+    ensures err { IfErr result (ServeEnded None (H.law (H.heard handler.new))
         (snapshot_of H.state H.failures W.contents handler.old writer.old)
         (snapshot_of H.state H.failures W.contents handler.new writer.new)
         (input_state_of R.remaining reader.old)
@@ -80,7 +81,7 @@ pub fn serve<R: Read, W: Write, H: Handler>(
 ///
 /// `left` counts the dropped bytes too. The errors are those of `serve`.
 #[tactic(auto, using(crate::proofs::ServiceLemmas::served_limited))]
-pub fn serve_with_limit<R: Read, W: Write, H: Handler>(
+pub fn serve_with_limit<R: Read, W: Write, H: Session>(
     alloc: Global,
     limit: usize,
     reader: &mut Input<R>,
@@ -89,19 +90,19 @@ pub fn serve_with_limit<R: Read, W: Write, H: Handler>(
 ) -> Result<Served, ServeError>
     requires { 1 ≤ limit }
     // What `serve` says, under the limit.
-    ensures serves { IfOk result (Serves (Some limit) H.law
+    ensures serves { IfOk result (Serves (Some limit) (H.law (H.heard handler.new))
         (snapshot_of H.state H.failures W.contents handler.old writer.old)
         (snapshot_of H.state H.failures W.contents handler.new writer.new)
         (input_state_of R.remaining reader.old)
         (input_state_of R.remaining reader.new)) }
     // At Ok the buffer has held at most the limit and one piece.
     ensures bound { IfOk result (λ served. served.held ≤ limit + 4096) }
-    ensures ok { IfOk result (AnsweredAll (Some limit) H.law
+    ensures ok { IfOk result (AnsweredAll (Some limit) (H.law (H.heard handler.new))
         (snapshot_of H.state H.failures W.contents handler.old writer.old)
         (snapshot_of H.state H.failures W.contents handler.new writer.new)
         (input_state_of R.remaining reader.old)
         (input_state_of R.remaining reader.new)) }
-    ensures err { IfErr result (ServeEnded (Some limit) H.law
+    ensures err { IfErr result (ServeEnded (Some limit) (H.law (H.heard handler.new))
         (snapshot_of H.state H.failures W.contents handler.old writer.old)
         (snapshot_of H.state H.failures W.contents handler.new writer.new)
         (input_state_of R.remaining reader.old)
@@ -112,7 +113,7 @@ pub fn serve_with_limit<R: Read, W: Write, H: Handler>(
 
 /// Answers the lines that the reader gives. A line may have so many bytes, its line feed counted,
 /// if that is limited.
-fn serve_lines<R: Read, W: Write, H: Handler>(
+fn serve_lines<R: Read, W: Write, H: Session>(
     alloc: Global,
     limit: Option<usize>,
     reader: &mut Input<R>,
@@ -120,12 +121,12 @@ fn serve_lines<R: Read, W: Write, H: Handler>(
     handler: &mut H,
 ) -> Result<Served, ServeError>
     requires { IfSome limit (λ limit. 1 ≤ limit) }
-    ensures ok { IfOk result (AnsweredAll limit H.law
+    ensures ok { IfOk result (AnsweredAll limit (H.law (H.heard handler.new))
         (snapshot_of H.state H.failures W.contents handler.old writer.old)
         (snapshot_of H.state H.failures W.contents handler.new writer.new)
         (input_state_of R.remaining reader.old)
         (input_state_of R.remaining reader.new)) }
-    ensures err { IfErr result (ServeEnded limit H.law
+    ensures err { IfErr result (ServeEnded limit (H.law (H.heard handler.new))
         (snapshot_of H.state H.failures W.contents handler.old writer.old)
         (snapshot_of H.state H.failures W.contents handler.new writer.new)
         (input_state_of R.remaining reader.old)
@@ -165,9 +166,10 @@ fn served_by(engine: &Engine) -> Served
 
 /// What follows of `Serves` where the bytes of the whole input are known, read or not, as those of
 /// a slice are.
-pub fn known_input_is_served<H: Handler>()
-    ensures { (limit : Option ℕ) (before after : Snapshot H.State) (input input_after : InputState)
-        (served : Report) → Serves limit H.law before after input input_after served
+pub fn known_input_is_served<H: Session>()
+    ensures { (said : List H.Said) (limit : Option ℕ) (before after : Snapshot H.State)
+        (input input_after : InputState) (served : Report)
+        → Serves limit (H.law said) before after input input_after served
         → IfSome input.remaining
-        (ServesKnown limit H.law before after input_after.remaining served) }
+        (ServesKnown limit (H.law said) before after input_after.remaining served) }
 {}

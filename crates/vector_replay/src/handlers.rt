@@ -17,13 +17,13 @@ use unftp_control_serve::{Count, Event, Handler};
 /// A handler that is tried from its start.
 pub trait Tried: Drop {
     /// A new one. Of the events, counted from 1, it fails at this one if it is a handler that
-    /// fails.
-    fn start(fails_at: u32) -> Self;
+    /// fails; where it transfers, its data connection fails at this one of its calls.
+    fn start(alloc: Global, fails_at: u32) -> Self;
 
     /// How many events it has taken.
     fn taken(&self) -> u32;
 
-    /// Writes the last event, if it keeps that.
+    /// Writes the last event, or what was transferred, if it keeps that.
     fn put_last(&self, _answers: &mut Answers) {}
 }
 
@@ -35,7 +35,7 @@ pub struct Demo {
 }
 
 impl Tried for Demo {
-    fn start(_fails_at: u32) -> Demo {
+    fn start(_alloc: Global, _fails_at: u32) -> Demo {
         Demo {
             taken: 0,
             responses: Responses::new(),
@@ -75,7 +75,7 @@ pub struct Okay {
 }
 
 impl Tried for Okay {
-    fn start(fails_at: u32) -> Okay {
+    fn start(_alloc: Global, fails_at: u32) -> Okay {
         Okay {
             taken: 0,
             fails_at,
@@ -130,7 +130,7 @@ pub struct Silent {
 }
 
 impl Tried for Silent {
-    fn start(_fails_at: u32) -> Silent {
+    fn start(_alloc: Global, _fails_at: u32) -> Silent {
         Silent {
             taken: 0,
             last: None,
@@ -188,7 +188,7 @@ pub struct EchoError {
 }
 
 impl Tried for EchoError {
-    fn start(_fails_at: u32) -> EchoError {
+    fn start(_alloc: Global, _fails_at: u32) -> EchoError {
         EchoError {
             taken: 0,
             failures: Count::new(),

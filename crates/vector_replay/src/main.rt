@@ -22,6 +22,7 @@ mod shown;
 mod steps;
 mod streams;
 mod texts;
+mod transfers;
 mod words;
 mod writing;
 

@@ -5,9 +5,10 @@ use crate::handlers::{Demo, EchoError, Okay, Silent, Tried};
 use crate::settings::{Answering, Settings};
 use crate::shown::Quoted;
 use crate::streams::{Pieces, Room};
+use crate::transfers::Transferring;
 use crate::words::{CaseError, Words, read_bytes};
 use std::alloc::Global;
-use unftp_control_serve::{Engine, Handler, Input, Output, Sink, serve, serve_with_limit};
+use unftp_control_serve::{Engine, Input, Output, Session, Sink, serve, serve_with_limit};
 
 /// How many bytes of replies are written before the writer's buffer grows.
 const RESERVED: usize = 1 << 16;
@@ -25,7 +26,7 @@ pub fn answer_session(
     words: &mut Words<'_>,
     answers: &mut Answers,
 ) -> Result<(), CaseError> {
-    let session = Session::read(call, words)?;
+    let session = SessionCase::read(call, words)?;
     session.answer(answers)
 }
 
@@ -59,7 +60,7 @@ impl Run {
 
 /// A session.
 #[derive(Drop)]
-struct Session {
+struct SessionCase {
     alloc: Global,
     call: Call,
     settings: Settings,
@@ -67,10 +68,10 @@ struct Session {
     pieces: Vec<Vec<u8>>,
 }
 
-impl Session {
+impl SessionCase {
     /// Reads the words and the bytes of a session.
-    fn read(call: Call, words: &mut Words<'_>) -> Result<Session, CaseError> {
-        let mut session = Session {
+    fn read(call: Call, words: &mut Words<'_>) -> Result<SessionCase, CaseError> {
+        let mut session = SessionCase {
             alloc: words.alloc,
             call,
             settings: Settings::new(),
@@ -157,7 +158,7 @@ impl Session {
     }
 
     /// Serves the bytes once.
-    fn serve_once<H: Handler>(
+    fn serve_once<H: Session>(
         &self,
         reader: &mut Input<Pieces<'_>>,
         writer: &mut Output<Room>,
@@ -170,7 +171,7 @@ impl Session {
     }
 
     /// Serves the bytes, and once more where that is asked for.
-    fn serve_all<H: Handler>(&self, handler: &mut H, room: Room, run: &mut Run) -> Room {
+    fn serve_all<H: Session>(&self, handler: &mut H, room: Room, run: &mut Run) -> Room {
         let mut reader = Input::new(Pieces::new(self.first_bytes(), self.settings.reads));
         let mut writer = Output::new(room);
         run.note(self.serve_once(&mut reader, &mut writer, handler));
@@ -192,7 +193,7 @@ impl Session {
     }
 
     /// Feeds the pieces to an engine.
-    fn feed_all<H: Handler, K: Sink>(&self, handler: &mut H, sink: &mut K, run: &mut Run) {
+    fn feed_all<H: Session, K: Sink>(&self, handler: &mut H, sink: &mut K, run: &mut Run) {
         let mut engine = self.new_engine();
         for piece in self.fed() {
             run.note(feed(&mut engine, piece.as_slice(), handler, sink));
@@ -201,7 +202,7 @@ impl Session {
     }
 
     /// Makes all calls of the session.
-    fn run<H: Handler>(&self, handler: &mut H, room: Room, run: &mut Run) -> Room {
+    fn run<H: Session>(&self, handler: &mut H, room: Room, run: &mut Run) -> Room {
         if let Call::Serve = self.call {
             return self.serve_all(handler, room, run);
         }
@@ -226,13 +227,13 @@ impl Session {
     }
 
     /// Answers a session by this handler. Where memory ran out, it is made again from the start.
-    fn answer_by<H: Handler + Tried>(&self, run: &mut Run, room: Room, answers: &mut Answers) {
-        let mut handler = H::start(self.settings.fails_at);
+    fn answer_by<H: Session + Tried>(&self, run: &mut Run, room: Room, answers: &mut Answers) {
+        let mut handler = H::start(self.alloc, self.settings.fails_at);
         let mut room = self.run(&mut handler, room, run);
         if run.is_out_of_memory {
             answers.out_of_memory_after(run.ends.as_slice(), room.held.as_slice());
             run.restart();
-            handler = H::start(self.settings.fails_at);
+            handler = H::start(self.alloc, self.settings.fails_at);
             room = self.run(&mut handler, self.restart(room), run);
         }
         put_written(&room, run, answers);
@@ -251,13 +252,14 @@ impl Session {
             Answering::Okay => self.answer_by::<Okay>(&mut run, room, answers),
             Answering::Silent => self.answer_by::<Silent>(&mut run, room, answers),
             Answering::EchoError => self.answer_by::<EchoError>(&mut run, room, answers),
+            Answering::Transfers => self.answer_by::<Transferring>(&mut run, room, answers),
         }
         Ok(())
     }
 }
 
 /// Feeds a piece to an engine.
-fn feed<H: Handler, K: Sink>(
+fn feed<H: Session, K: Sink>(
     engine: &mut Engine,
     piece: &[u8],
     handler: &mut H,

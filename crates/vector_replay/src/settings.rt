@@ -9,6 +9,7 @@ pub enum Answering {
     Okay,
     Silent,
     EchoError,
+    Transfers,
 }
 
 /// What the words say.
@@ -19,7 +20,8 @@ pub struct Settings {
     pub reads: Reads,
     pub writes: Writes,
     pub handler: Answering,
-    /// The event at which the handler fails, counted from 1; 0 for none.
+    /// The event at which the handler fails, or the call at which its data connection does, counted
+    /// from 1; 0 for none.
     pub fails_at: u32,
     /// Whether `serve` is called once more.
     pub is_again: bool,
@@ -70,16 +72,25 @@ impl Settings {
     }
 
     fn set_handler(&mut self, name: &str) -> Result<(), CaseError> {
-        if let Some(number) = name.strip_prefix("fails:") {
-            self.handler = Answering::Okay;
+        if let Some((name, number)) = name.split_once(':') {
             self.fails_at = read_number(number)?;
-            return Ok(());
+            return self.set_failing(name);
         }
         self.handler = match name {
             "demo" => Answering::Demo,
             "okay" => Answering::Okay,
             "silent" => Answering::Silent,
             "echo_error" => Answering::EchoError,
+            _ => return Err(CaseError::NoCase),
+        };
+        Ok(())
+    }
+
+    /// A handler that fails at an event, or whose data connection fails at a call.
+    fn set_failing(&mut self, name: &str) -> Result<(), CaseError> {
+        self.handler = match name {
+            "fails" => Answering::Okay,
+            "transfers" => Answering::Transfers,
             _ => return Err(CaseError::NoCase),
         };
         Ok(())

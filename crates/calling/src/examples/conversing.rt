@@ -2,7 +2,7 @@
 #![tactic(auto, unfolding(crate::proofs::Computing::at_bytes))]
 
 ghost use Rattle.std.specs.Prelude.{◌≡◌, Bool, List, [], ◌∷◌, Ok, Err, false, true, codes, vec_capacity, vec_len};
-ghost use Rattle.calling.specs.Conversing.{AreDone, Fails, HasConversed, HasTalked, IsDone, IsNew, IsNotSent, IsNotTaken, IsOver, StopsAt, TakesOne, first_snapshot, next_line, piece_of, said};
+ghost use Rattle.calling.specs.Conversing.{AreDone, Fails, HasConversed, HasTalked, IsDone, IsNew, IsNotSent, IsNotTaken, IsOver, StopsAt, TakesOne, first_snapshot, next_line, piece_of, turns_of};
 ghost use Rattle.calling.specs.Basic.{basic};
 ghost use Rattle.calling.specs.ExampleTalks.{greeter, noop, sends_noop, sends_quit};
 ghost use Rattle.calling.specs.declared.conversation.Conversation.{Conversation as RustConversation};
@@ -12,6 +12,7 @@ ghost use Rattle.unftp_control.specs.Endings.{Snapshot};
 ghost use Rattle.unftp_control.specs.FtpCommand.{Noop, Pwd, Quit, Retr};
 ghost use Rattle.unftp_control.specs.FtpReply.{CodeAndMsg};
 ghost use Rattle.unftp_control.specs.Steps.{Received, ReplyTo, Took};
+ghost use Rattle.unftp_control.specs.Run.{as_session};
 
 use crate::conversation::{ConverseError, Turn};
 use unftp_control::client::SendError;
@@ -61,8 +62,10 @@ pub fn parts_are_so()
     ensures piece { piece_of 2 (codes "NOOP") 1 ≡ codes "O" }
     ensures long_piece { piece_of 2 (codes "NOOP") 9 ≡ codes "OP" }
     ensures no_piece { piece_of 4 (codes "NOOP") 9 ≡ [] }
-    ensures said { said basic false (CodeAndMsg 220 []) (Noop ∷ Quit ∷ Pwd ∷ [])
-        ≡ CodeAndMsg 220 [] ∷ CodeAndMsg 200 (codes "OK") ∷ CodeAndMsg 221 (codes "Bye") ∷ [] }
+    ensures turns { turns_of (as_session basic) false (CodeAndMsg 220 [])
+        (Noop ∷ Quit ∷ Pwd ∷ [])
+        ≡ (CodeAndMsg 220 [] ∷ []) ∷ (CodeAndMsg 200 (codes "OK") ∷ [])
+        ∷ (CodeAndMsg 221 (codes "Bye") ∷ []) ∷ [] }
 {}
 
 /// Why a turn fails.

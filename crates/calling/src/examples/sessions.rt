@@ -19,6 +19,7 @@ ghost use Rattle.unftp_control.specs.Service.{AnsweredAll, ReadFailed};
 ghost use Rattle.unftp_control.specs.declared.serve.Served.{Served};
 ghost use Rattle.unftp_control.specs.declared.serve.ServeError.{ServeError as RustError};
 ghost use Rattle.unftp_control.specs.declared.read.ReceiveError.{ReceiveError as RustFailure};
+ghost use Rattle.unftp_control.specs.Run.{as_session};
 
 use crate::event_loop::Turn;
 use unftp_control::serve::ServeError;
@@ -26,47 +27,55 @@ use unftp_control::serve::ServeError;
 /// What a session is at Ok, where all was read, and at its errors.
 pub fn sessions_end_so()
     ensures written { (after : Snapshot Bool) (input : InputState) (served : Served)
-        → SessionEnded None basic (at_start false 2 None) after (unused_input None) input
+        → SessionEnded None (as_session basic) (at_start false 2 None) after (unused_input None)
+        input
         (Ok served)
         → input.given ≡ codes "NOOP\r\nNO"
         → (after.output.taken ≡ codes "200 OK\r\n") × (after.state ≡ false) × (after.failures ≡ 2) }
     ensures not_written { (after : Snapshot Bool) (input : InputState) (served : Served)
-        → SessionEnded None basic (at_start false 0 None) after (unused_input None) input
+        → SessionEnded None (as_session basic) (at_start false 0 None) after (unused_input None)
+        input
         (Ok served)
         → input.given ≡ codes "NOOP\r\nNO" → after.output.taken ≡ codes "200 OK\r" → ⊥ }
     ensures ok { (after : Snapshot Bool) (input : InputState) (served : Served)
-        → SessionEnded None basic (before_session 0) after (unused_input None) input (Ok served)
-        → AnsweredAll None basic (before_session 0) after (unused_input None) input served }
+        → SessionEnded None (as_session basic) (before_session 0) after (unused_input None) input
+        (Ok served)
+        → AnsweredAll None (as_session basic) (before_session 0) after (unused_input None) input
+        served }
     ensures read { (after : Snapshot Bool) (input : InputState) (error : _)
-        → SessionEnded None basic (before_session 0) after (unused_input None) input
+        → SessionEnded None (as_session basic) (before_session 0) after (unused_input None) input
         (Err (ServeError.Read error))
-        → ReadFailed None basic (before_session 0) after (unused_input None) input }
+        → ReadFailed None (as_session basic) (before_session 0) after (unused_input None) input }
     ensures not_stopped { (after : Snapshot Bool) (input : InputState)
-        → ¬ SessionEnded None basic (before_session 0) after (unused_input None) input
+        → ¬ SessionEnded None (as_session basic) (before_session 0) after (unused_input None) input
         (Err ServeError.Stopped) }
 {}
 
 /// What the pieces of an input come to.
 pub fn pieces_end_so()
     ensures answered { (after : Snapshot Bool)
-        → AnswersPieces {T = ℕ} basic (before_session 0) (codes "NOOP\r" ∷ codes "\nNO" ∷ []) after
+        → AnswersPieces {T = ℕ} (as_session basic) (before_session 0)
+        (codes "NOOP\r" ∷ codes "\nNO" ∷ []) after
         (Ok 2)
         → Appends (Some (codes "x")) after.output.written (codes "200 OK\r\n") }
     ensures failed { (after : Snapshot Bool) (error : RustError)
-        → AnswersPieces {T = ℕ} basic (before_session 0) (codes "NO" ∷ []) after (Err error)
-        → FailsAtPiece basic (before_session 0) (codes "NO" ∷ []) after error }
+        → AnswersPieces {T = ℕ} (as_session basic) (before_session 0) (codes "NO" ∷ []) after
+        (Err error)
+        → FailsAtPiece (as_session basic) (before_session 0) (codes "NO" ∷ []) after error }
     ensures no_piece { (after : Snapshot Bool) (error : RustError)
-        → ¬ FailsAtPiece basic (before_session 0) [] after error }
+        → ¬ FailsAtPiece (as_session basic) (before_session 0) [] after error }
     ensures one_of_them { (pieces : List Bytes) (after : Snapshot Bool) (error : RustError)
-        (failed : FailsAtPiece basic (before_session 0) pieces after error)
+        (failed : FailsAtPiece (as_session basic) (before_session 0) pieces after error)
         → pieces ≡ failed.first ++ failed.last ∷ failed.later }
     ensures no_room { (after : Snapshot Bool)
-        → HasNoRoom basic (before_session 0) (codes "NOOP\r\n") (codes "P") after
+        → HasNoRoom (as_session basic) (before_session 0) (codes "NOOP\r\n") (codes "P") after
         ServeError.OutOfMemory
         → Appends (Some (codes "x")) after.output.written (codes "200 OK\r\n") }
-    ensures empty_piece { (after : Snapshot Bool) → ¬ HasNoRoom basic (before_session 0)
+    ensures empty_piece { (after : Snapshot Bool)
+        → ¬ HasNoRoom (as_session basic) (before_session 0)
         (codes "NOOP\r\n") [] after ServeError.OutOfMemory }
-    ensures another_error { (after : Snapshot Bool) → ¬ HasNoRoom basic (before_session 0)
+    ensures another_error { (after : Snapshot Bool)
+        → ¬ HasNoRoom (as_session basic) (before_session 0)
         (codes "NOOP\r\n") (codes "P") after ServeError.WriteZero }
 {}
 

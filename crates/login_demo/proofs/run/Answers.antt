@@ -1,9 +1,10 @@
 use Rattle.std.specs.Prelude.{Some}
 use Rattle.std.proofs.Common.{rules}
 use Rattle.std.proofs.lemmas.Result.{IfOk-weaker}
+use Rattle.unftp_control_defs.specs.Run.{as_session}
 use Rattle.unftp_control_login.proofs.MemberLemmas.{limit-members-alone}
 use Rattle.login_demo.specs.Session.{files_law, new_session}
-use Rattle.login_demo.proofs.PlainLemmas.{SendsPlainReplies-files}
+use Rattle.login_demo.proofs.PlainLemmas.{SendsPlainExchanges-files}
 use Rattle.login_demo.proofs.run.Goals as goal
 
 pub returns : goal.returns
@@ -14,11 +15,14 @@ returns g c =
     let files = c.new.ensures in
     let serves = simp (
       limit.left,
+      limit.at_pass,
+      limit.ended,
       limit.inner,
       limit.failures,
       gate.accounts,
       gate.stage,
       gate.quit,
+      gate.passed,
       gate.inner,
       gate.failures,
       files.session,
@@ -32,7 +36,7 @@ returns g c =
             _,
             serves.given,
             serves.written,
-            limit-members-alone files_law SendsPlainReplies-files (Some 4096)
+            limit-members-alone (as_session files_law) SendsPlainExchanges-files (Some 4096)
                 (g.A.Accounts.accepts c.args.accounts) 3 new_session serves.read,
           )) serves;
       bound = search rules;
@@ -41,11 +45,14 @@ returns g c =
         _,
         simp (
           limit.left,
+          limit.at_pass,
+          limit.ended,
           limit.inner,
           limit.failures,
           gate.accounts,
           gate.stage,
           gate.quit,
+          gate.passed,
           gate.inner,
           gate.failures,
           files.session,

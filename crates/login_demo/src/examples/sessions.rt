@@ -3,7 +3,7 @@ ghost use Rattle.std.specs.Prelude.{◌≡◌, ◌++◌, true, false, [], Some, 
 ghost use Rattle.unftp_control_defs.specs.Events.{Refused, InvalidCommand, NoSource, out_of_memory};
 ghost use Rattle.unftp_control_defs.specs.FtpCommand.{Cdup, Cwd, Mdtm, Mlst, Noop, Pass, Pwd, Quit, Size, User};
 ghost use Rattle.unftp_control_defs.specs.FtpReply.{CodeAndMsg};
-ghost use Rattle.unftp_control_defs.specs.Run.{text_for};
+ghost use Rattle.unftp_control_defs.specs.Run.{as_session, text_for};
 ghost use Rattle.login_demo.specs.Facts.{mdtm_reply, mlst_reply, pwd_reply, size_reply};
 ghost use Rattle.login_demo.specs.Session.{command_reply, files_law, found, new_session, session_after};
 
@@ -86,7 +86,7 @@ pub fn the_law_is_so()
 
 /// A whole session, with a line that is too long.
 pub fn a_session_is_written_so()
-    ensures { text_for (Some 14) files_law new_session
+    ensures { text_for (Some 14) (as_session files_law) new_session
         (codes "CWD pub\r\nCWD readme.txt\r\nPWD\r\nQUIT\r\nNOOP\r\n")
         ≡ codes "250 Directory changed\r\n500 Line too long\r\n"
         ++ codes "257 \"/pub\" is the current directory\r\n221 Goodbye\r\n" }

@@ -9,20 +9,23 @@ ghost use Rattle.unftp_control_defs.specs.Lines.{IsLine, incomplete_line, lines_
 ghost use Rattle.unftp_control_defs.specs.ReplyReader.{HasFront};
 ghost use Rattle.unftp_control_defs.specs.Run.{replies, run_for, text_for};
 ghost use Rattle.unftp_control_defs.specs.TakingSteps.{AreTakingSteps, TakesReply, TakingStep, all_pushed, all_taken};
+ghost use Rattle.unftp_control_defs.specs.Turns.{IsExchange, cut_reads, replies_by_event};
 ghost use Rattle.unftp_control_client.specs.declared.Client.{Client as RustClient};
 ghost use Rattle.unftp_control_client.specs.declared.dialogue.To.TheVariants.{Greeting};
-ghost use Rattle.unftp_control.specs.Acts.{AreFirst, IsClear, IsConversation, Server, Act, came_to_client, exchanges, said_by, sent_by_client, taken_by_client, written_by};
-ghost use Rattle.unftp_control.specs.Conversation.{CanBeSent, IsReadable, KeepsMeaning, Show, canonical_of, forwarded_of, rewritten, sent};
+ghost use Rattle.unftp_control.specs.Acts.{AreFirst, IsConversation, IsUnderstood, Server, Act, came_to_client, exchanges, sent_by_client, taken_by_client, turns_to, written_by};
+ghost use Rattle.unftp_control.specs.Conversation.{CanBeSent, IsReadable, KeepsMeaning, Show, ShowTurns, canonical_of, forwarded_of, rewritten, sent};
 
-use unftp_control_serve::Handler;
+use unftp_control_serve::Session;
 
 /// A client that writes lines and takes replies, and a server that answers its input, understand
 /// each other, whatever the pieces in either direction: the commands arrive in their order; and
-/// where each reply is sent and plain, the client reads exactly one for each line of the run, at
-/// its place what the handler said to the line there. So a refused line costs one reply, as any
-/// other. What the server writes is `text_for`, by the contract of `serve`; where its run ends,
-/// `one_run` says (RFC 959, sections 4.2 and 5.3).
-pub fn conversation<H: Handler>()
+/// where each reply is sent and plain, the client reads exactly those that the handler gives, in
+/// order. Where those to each line are some preliminary ones and then a final one, the client that
+/// cuts them after each final one has for each line of the run, at its place, what the handler said
+/// to the line there. So a refused line costs one reply, as any other. What the server writes is
+/// `text_for`, by the contract of `serve`; where its run ends, `one_run` says (RFC 959, sections
+/// 4.2, 5.3 and 5.4).
+pub fn conversation<H: Session>()
     // The canonical lines of the commands are these commands; and any lines are one event each.
     ensures commands { (limit : Option ℕ) (commands : List FtpCommand)
         → AllByRecursion (CanBeSent limit) commands
@@ -30,56 +33,61 @@ pub fn conversation<H: Handler>()
     ensures lines { (limit : Option ℕ) (lines : List Bytes) → AllByRecursion IsLine lines
         → events limit (concat lines) ≡ map (event_for limit) lines }
     // The replies that the client has taken so far are the first ones,
-    ensures so_far { (limit : Option ℕ) (s : H.State) (input : Bytes)
+    ensures so_far { (said : List H.Said) (limit : Option ℕ) (s : H.State) (input : Bytes)
         (steps : List (TakingStep (ℕ × List Bytes))) (pending later : Bytes)
-        → AllByRecursion IsReadable (replies H.law s (run_for limit H.law s input))
-        → AreTakingSteps TakesReply [] steps pending
-        → all_pushed steps ++ later ≡ text_for limit H.law s input
-        → (more : List (ℕ × List Bytes))
-        × Show (all_taken steps ++ more) (replies H.law s (run_for limit H.law s input)) }
+        → let all = replies (H.law said) s (run_for limit (H.law said) s input) in
+        AllByRecursion IsReadable all → AreTakingSteps TakesReply [] steps pending
+        → all_pushed steps ++ later ≡ text_for limit (H.law said) s input
+        → (more : List (ℕ × List Bytes)) × Show (all_taken steps ++ more) all }
     // and once all bytes came and no more can be taken, they are all, and no byte is pending.
-    ensures all { (limit : Option ℕ) (s : H.State) (input : Bytes)
+    ensures all { (said : List H.Said) (limit : Option ℕ) (s : H.State) (input : Bytes)
         (steps : List (TakingStep (ℕ × List Bytes))) (pending : Bytes)
-        → AllByRecursion IsReadable (replies H.law s (run_for limit H.law s input))
-        → AreTakingSteps TakesReply [] steps pending
-        → all_pushed steps ≡ text_for limit H.law s input → ¬ HasFront pending
-        → Show (all_taken steps) (replies H.law s (run_for limit H.law s input))
-        × (length (all_taken steps) ≡ length (run_for limit H.law s input))
-        × (pending ≡ []) }
+        → let all = replies (H.law said) s (run_for limit (H.law said) s input) in
+        AllByRecursion IsReadable all → AreTakingSteps TakesReply [] steps pending
+        → all_pushed steps ≡ text_for limit (H.law said) s input → ¬ HasFront pending
+        → Show (all_taken steps) all × (pending ≡ []) }
+    // Then each line has its own replies.
+    ensures turns { (said : List H.Said) (limit : Option ℕ) (s : H.State) (input : Bytes)
+        (read : List (ℕ × List Bytes))
+        → let run = run_for limit (H.law said) s input in
+        AllByRecursion IsExchange (replies_by_event (H.law said) s run)
+        → Show read (replies (H.law said) s run)
+        → ShowTurns read (replies_by_event (H.law said) s run)
+        × (length (cut_reads read) ≡ length run) }
 {}
 
 /// Whatever the order in which a client sends lines, pieces come to either end and replies are
-/// taken: where each reply of the server is sent, plain and final, the replies that the client has
-/// taken are the first ones, that to the greeting and then one to each of its lines, each at its
-/// place; and once all bytes came and no more can be taken, they are all, and no byte is pending
-/// (RFC 959, sections 4.2 and 5.4). It joins `conversation` with the law `replies_are_exchanges` of
-/// clients.
-pub fn any_order<H: Handler>()
-    ensures so_far { (state : H.State) (limit client_limit : Option ℕ) (greeting : FtpReply)
-        (acts : List Act) (client : RustClient)
+/// taken: where each reply of the server is sent and plain, and those to each line are some
+/// preliminary ones and then a final one, the replies that the client has taken are the first ones,
+/// that to the greeting and then those to each of its lines, each at its place; and once all bytes
+/// came and no more can be taken, they are all, and no byte is pending (RFC 959, sections 4.2 and
+/// 5.4). It joins `conversation` with the law `replies_are_exchanges` of clients.
+pub fn any_order<H: Session>()
+    ensures so_far { (said : List H.Said) (state : H.State) (limit client_limit : Option ℕ)
+        (greeting : FtpReply) (acts : List Act) (client : RustClient)
         → let server : Server H.State =
-        record { law = H.law; state = state; limit = limit; greeting = greeting } in
+        record { law = H.law said; state = state; limit = limit; greeting = greeting } in
         IsConversation server client_limit acts client
-        → AllByRecursion IsClear (said_by server (sent_by_client acts))
+        → IsUnderstood (turns_to server (sent_by_client acts))
         → AreFirst (taken_by_client acts)
-        (exchanges Greeting (said_by server (sent_by_client acts))) }
-    ensures all { (state : H.State) (limit client_limit : Option ℕ) (greeting : FtpReply)
-        (acts : List Act) (client : RustClient)
+        (exchanges Greeting (turns_to server (sent_by_client acts))) }
+    ensures all { (said : List H.Said) (state : H.State) (limit client_limit : Option ℕ)
+        (greeting : FtpReply) (acts : List Act) (client : RustClient)
         → let server : Server H.State =
-        record { law = H.law; state = state; limit = limit; greeting = greeting } in
+        record { law = H.law said; state = state; limit = limit; greeting = greeting } in
         IsConversation server client_limit acts client
-        → AllByRecursion IsClear (said_by server (sent_by_client acts))
+        → IsUnderstood (turns_to server (sent_by_client acts))
         → came_to_client acts ≡ written_by server (sent_by_client acts)
         → ¬ HasFront client.replies.bytes
         → (map Some (taken_by_client acts)
-        ≡ exchanges Greeting (said_by server (sent_by_client acts)))
+        ≡ exchanges Greeting (turns_to server (sent_by_client acts)))
         × (client.replies.bytes ≡ []) }
 {}
 
 /// A proxy that rewrites each line as one that means the same changes nothing: neither the events
 /// of the input, nor what a server writes. Such are the canonical line of a command, and the line
 /// that `forward` writes for it; a line that is refused is sent as it is.
-pub fn canonical_lines_change_nothing<H: Handler>()
+pub fn canonical_lines_change_nothing<H: Session>()
     ensures canonical { KeepsMeaning canonical_of }
     ensures forwarded { KeepsMeaning forwarded_of }
     ensures same_events { (rewrite : Bytes → Bytes) (input : Bytes) → KeepsMeaning rewrite
@@ -90,15 +98,18 @@ pub fn canonical_lines_change_nothing<H: Handler>()
         → AllByRecursion (λ line. (length line ≤ limit) × (length (rewrite line) ≤ limit))
         (lines_of input)
         → events (Some limit) (rewritten rewrite input) ≡ events (Some limit) input }
-    ensures written { (rewrite : Bytes → Bytes) (s : H.State) (input : Bytes)
+    ensures written { (said : List H.Said) (rewrite : Bytes → Bytes) (s : H.State)
+        (input : Bytes)
         → KeepsMeaning rewrite
-        → text_for None H.law s (rewritten rewrite input) ≡ text_for None H.law s input }
-    ensures written_within { (rewrite : Bytes → Bytes) (limit : ℕ) (s : H.State) (input : Bytes)
+        → text_for None (H.law said) s (rewritten rewrite input)
+        ≡ text_for None (H.law said) s input }
+    ensures written_within { (said : List H.Said) (rewrite : Bytes → Bytes) (limit : ℕ)
+        (s : H.State) (input : Bytes)
         → KeepsMeaning rewrite
         → AllByRecursion (λ line. (length line ≤ limit) × (length (rewrite line) ≤ limit))
         (lines_of input)
-        → text_for (Some limit) H.law s (rewritten rewrite input)
-        ≡ text_for (Some limit) H.law s input }
+        → text_for (Some limit) (H.law said) s (rewritten rewrite input)
+        ≡ text_for (Some limit) (H.law said) s input }
     ensures incomplete { (rewrite : Bytes → Bytes) (input : Bytes) → KeepsMeaning rewrite
         → incomplete_line (rewritten rewrite input) ≡ incomplete_line input }
 {}

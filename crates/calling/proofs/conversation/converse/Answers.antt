@@ -6,24 +6,28 @@ use Rattle.calling.proofs.conversation.converse.Goals as goal
 
 pub returns-clause-understood : goal.returns-clause-understood
 returns-clause-understood g c greeting greeted clear =
-    let state = g.H.Handler.state c.args.handler.now in
+    let told = g.H.Session.heard c.take_turns.new.handler in
+    let law = g.H.Session.law told in
+    let state = g.H.Session.state c.args.handler.now in
     let conversed = c.take_turns.ensures greeting greeted in
-    understood g.H.Handler.law state greeting (map command_of c.args.commands.now) conversed.acts
+    understood law state greeting (map command_of c.args.commands.now) conversed.acts
     c.take_turns.new.conversation conversed.talked
     (λ command read. (c.commands_of_lines.ensures command).1
     (canonical_line command, read.0, read.1))
     (c.conversation.ensures.commands None) clear
-    (c.any_order.ensures.so_far state None None greeting conversed.acts
+    (c.any_order.ensures.so_far told state None None greeting conversed.acts
     c.take_turns.new.conversation.client conversed.talked.talk)
 
 pub returns-clause-all : goal.returns-clause-all
 returns-clause-all g c greeting greeted clear over =
-    let state = g.H.Handler.state c.args.handler.now in
+    let told = g.H.Session.heard c.take_turns.new.handler in
+    let law = g.H.Session.law told in
+    let state = g.H.Session.state c.args.handler.now in
     let conversed = c.take_turns.ensures greeting greeted in
-    understood_all g.H.Handler.law state greeting (map command_of c.args.commands.now)
+    understood_all law state greeting (map command_of c.args.commands.now)
     conversed.acts c.take_turns.new.conversation conversed.talked
     (λ command read. (c.commands_of_lines.ensures command).1
     (canonical_line command, read.0, read.1))
     (c.conversation.ensures.commands None) clear over
-    (c.any_order.ensures.all state None None greeting conversed.acts
+    (c.any_order.ensures.all told state None None greeting conversed.acts
     c.take_turns.new.conversation.client conversed.talked.talk)

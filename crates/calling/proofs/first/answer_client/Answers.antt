@@ -22,8 +22,9 @@ returns g c =
     let both = MatchResult-both served.result _ _ served.ensures.ok served.ensures.err in
     record {
       written = IfOk-weaker served.result _ _ (λ served serves. serves.written.taken
-          ∙ ap (text_for (Some 8192) g.H.Handler.law (g.H.Handler.state c.args.handler.now))
-          (sym serves.given.given)) serves;
+          ∙ ap (text_for (Some 8192) (g.H.Session.law
+          (g.H.Session.heard c.serve_with_limit-served.new.handler))
+          (g.H.Session.state c.args.handler.now)) (sym serves.given.given)) serves;
       session = simp (
         from.reader,
         from.given,

@@ -7,42 +7,50 @@ use Rattle.calling.proofs.members.serve_members.Goals as goal
 pub returns : goal.returns
 returns g c =
     let served = c.serve_with_limit in
+    let heard = g.H.Session.heard served.new.handler.inner.handler.inner.handler in
     let limit = c.new.ensures in
     let gate = c.new-gate.ensures in
     let serves = simp (
       zero-add,
       limit.left,
+      limit.at_pass,
+      limit.ended,
       limit.inner,
       limit.failures,
       gate.accounts,
       gate.stage,
       gate.quit,
+      gate.passed,
       gate.inner,
       gate.failures,
     ) at served.ensures.serves in
     record {
-      serves = (_, _, serves);
+      serves = (_, _, _, serves);
       members = λ sends. IfOk-weaker served.result _ _
           (λ served serves. (
             serves.read,
             _,
             serves.given,
             serves.written,
-            limit-members-alone g.H.Handler.law sends (Some 4096)
-                (g.A.Accounts.accepts c.args.accounts) 3 (g.H.Handler.state c.args.handler)
+            limit-members-alone (g.H.Session.law heard) (sends heard) (Some 4096)
+                (g.A.Accounts.accepts c.args.accounts) 3 (g.H.Session.state c.args.handler)
                 serves.read,
           )) serves;
       err = (
         _,
         _,
+        _,
         simp (
           zero-add,
           limit.left,
+          limit.at_pass,
+          limit.ended,
           limit.inner,
           limit.failures,
           gate.accounts,
           gate.stage,
           gate.quit,
+          gate.passed,
           gate.inner,
           gate.failures,
         ) at served.ensures.err,

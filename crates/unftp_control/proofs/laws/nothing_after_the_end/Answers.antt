@@ -5,9 +5,10 @@ use Rattle.unftp_control.proofs.laws.nothing_after_the_end.Goals as goal
 
 pub returns : goal.returns
 returns g c = record {
-  text = λ limit s input more other ended. ap (text_of g.H.Handler.law s)
-      (same_run g.H.Handler.law limit s input more other ended);
-  state = λ limit s input more other ended. ap (last_state g.H.Handler.law s)
-      (same_run g.H.Handler.law limit s input more other ended);
-  unread = λ limit s input more ended. after_end-more g.H.Handler.law limit s input more ended;
+  text = λ said limit s input more other ended. ap (text_of (g.H.Session.law said) s)
+      (same_run (g.H.Session.law said) limit s input more other ended);
+  state = λ said limit s input more other ended. ap (last_state (g.H.Session.law said) s)
+      (same_run (g.H.Session.law said) limit s input more other ended);
+  unread = λ said limit s input more ended. after_end-more (g.H.Session.law said) limit s input
+      more ended;
 }

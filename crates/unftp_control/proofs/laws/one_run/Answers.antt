@@ -8,13 +8,14 @@ use Rattle.unftp_control.proofs.laws.one_run.Goals as goal
 pub returns : goal.returns
 returns g c = record {
   nowhere =
-      λ s events. (
-        ends_nowhere-ends g.H.Handler.law s events,
-        ends_nowhere-not_ended g.H.Handler.law s events,
+      λ said s events. (
+        ends_nowhere-ends (g.H.Session.law said) s events,
+        ends_nowhere-not_ended (g.H.Session.law said) s events,
       );
-  all = λ s events on. run_of-all g.H.Handler.law s events
-      (ends_nowhere-ends g.H.Handler.law s events on);
-  ended = λ s events first event. ends_after-run g.H.Handler.law;
-  found = λ s events. ends-found g.H.Handler.law s events;
-  unread = λ limit s input. lines-then-after (length (run_for limit g.H.Handler.law s input)) input;
+  all = λ said s events on. run_of-all (g.H.Session.law said) s events
+      (ends_nowhere-ends (g.H.Session.law said) s events on);
+  ended = λ said s events first event. ends_after-run (g.H.Session.law said);
+  found = λ said s events. ends-found (g.H.Session.law said) s events;
+  unread = λ said limit s input. lines-then-after
+      (length (run_for limit (g.H.Session.law said) s input)) input;
 }

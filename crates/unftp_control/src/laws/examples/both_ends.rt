@@ -9,9 +9,9 @@ ghost use Rattle.unftp_control_defs.specs.Run.{replies, run_for, text_for};
 ghost use Rattle.unftp_control_client.specs.Steps.{Received, Sent, Took};
 ghost use Rattle.unftp_control_client.specs.declared.Client.{Client as RustClient};
 ghost use Rattle.unftp_control_client.specs.declared.dialogue.To.TheVariants.{Command, Greeting};
-ghost use Rattle.unftp_control.specs.Acts.{AreFirst, AtClient, AtServer, InOrder, IsClear, IsConversation, IsFinal, came_to_client, came_to_server, client_steps, exchanges, said_by, sent_by_client, taken_by_client, written_by};
+ghost use Rattle.unftp_control.specs.Acts.{AreFirst, AtClient, AtServer, InOrder, IsConversation, IsUnderstood, all_said, came_to_client, came_to_server, client_steps, exchanges, sent_by_client, taken_by_client, turns_to, written_by};
 ghost use Rattle.unftp_control.specs.ClientRuns.{client_with, dialogue, farewell_server, noop, reply_with, retr, talk};
-ghost use Rattle.unftp_control.specs.Conversation.{CanBeSent, IsReadable, KeepsMeaning, Show, canonical_of, forwarded_of, rewritten, sent};
+ghost use Rattle.unftp_control.specs.Conversation.{CanBeSent, IsReadable, KeepsMeaning, Show, ShowTurns, canonical_of, forwarded_of, rewritten, sent};
 ghost use Rattle.unftp_control.specs.Snapshots.{farewell};
 
 /// Commands that a client can send, and the bytes that it sends.
@@ -39,6 +39,10 @@ pub fn replies_are_shown_so()
         (CodeAndMsg 200 [] ∷ CodeAndMsg 221 [] ∷ []) }
     ensures one_too_many { ¬ Show ((200, [] ∷ []) ∷ []) [] }
     ensures nothing_is_read { ¬ Show [] (Nothing ∷ []) }
+    ensures by_turns { ShowTurns ((150, [] ∷ []) ∷ (226, [] ∷ []) ∷ (200, [] ∷ []) ∷ [])
+        ((CodeAndMsg 150 [] ∷ CodeAndMsg 226 [] ∷ []) ∷ (CodeAndMsg 200 [] ∷ []) ∷ []) }
+    ensures cut_too_late { ¬ ShowTurns ((226, [] ∷ []) ∷ (200, [] ∷ []) ∷ [])
+        ((CodeAndMsg 226 [] ∷ CodeAndMsg 200 [] ∷ []) ∷ []) }
     ensures at_another_place { ¬ Show ((221, [] ∷ []) ∷ (200, [] ∷ []) ∷ [])
         (CodeAndMsg 200 [] ∷ CodeAndMsg 221 [] ∷ []) }
 {}
@@ -70,8 +74,8 @@ pub fn acts_are_so()
     ensures written { written_by farewell_server (codes "NOOP\r\nQU")
         ≡ codes "220\r\n200\r\n" }
     ensures nothing_came { written_by farewell_server [] ≡ codes "220\r\n" }
-    ensures said { said_by farewell_server (codes "NOOP\r\nQUIT\r\nNOOP\r\n")
-        ≡ CodeAndMsg 220 [] ∷ CodeAndMsg 200 [] ∷ CodeAndMsg 221 [] ∷ [] }
+    ensures said { turns_to farewell_server (codes "NOOP\r\nQUIT\r\nNOOP\r\n")
+        ≡ (CodeAndMsg 220 [] ∷ []) ∷ (CodeAndMsg 200 [] ∷ []) ∷ (CodeAndMsg 221 [] ∷ []) ∷ [] }
 {}
 
 /// No byte comes before it was sent, at either end.
@@ -92,28 +96,29 @@ pub fn acts_are_in_order()
         (AtClient (Sent (codes "NOOP")) ∷ []) client }
 {}
 
-/// Final replies, and what each of some replies is to.
+/// Turns that a client understands, and what each of their replies is to.
 pub fn replies_are_exchanged_so()
-    ensures completion { IsFinal (CodeAndMsg 200 []) }
-    ensures preliminary { ¬ IsFinal (CodeAndMsg 199 []) }
-    ensures below { IsFinal (CodeAndMsg 99 []) }
-    ensures clear { IsClear (CodeAndMsg 200 []) }
-    ensures not_final { ¬ IsClear (CodeAndMsg 199 []) }
-    ensures not_readable { ¬ IsClear (CodeAndMsg 99 []) }
+    ensures understood { IsUnderstood ((CodeAndMsg 220 [] ∷ [])
+        ∷ (CodeAndMsg 150 [] ∷ CodeAndMsg 226 [] ∷ []) ∷ []) }
+    ensures no_final { ¬ IsUnderstood ((CodeAndMsg 150 [] ∷ []) ∷ []) }
+    ensures no_reply { ¬ IsUnderstood ([] ∷ []) }
+    ensures not_readable { ¬ IsUnderstood ((CodeAndMsg 99 [] ∷ []) ∷ []) }
+    ensures all { all_said ((CodeAndMsg 150 [] ∷ CodeAndMsg 226 [] ∷ []) ∷ (Nothing ∷ []) ∷ [])
+        ≡ CodeAndMsg 150 [] ∷ CodeAndMsg 226 [] ∷ Nothing ∷ [] }
     ensures none { exchanges Greeting [] ≡ [] }
-    ensures three { exchanges Greeting
-        (CodeAndMsg 220 [] ∷ CodeAndMsg 200 [] ∷ CodeAndMsg 221 [] ∷ [])
-        ≡ Some (reply_with 220 Greeting) ∷ Some (reply_with 200 (Command 0))
-        ∷ Some (reply_with 221 (Command 1)) ∷ [] }
-    ensures not_sent { exchanges Greeting (Nothing ∷ []) ≡ None ∷ [] }
+    ensures three { exchanges Greeting ((CodeAndMsg 220 [] ∷ [])
+        ∷ (CodeAndMsg 150 [] ∷ CodeAndMsg 226 [] ∷ []) ∷ (CodeAndMsg 221 [] ∷ []) ∷ [])
+        ≡ Some (reply_with 220 Greeting) ∷ Some (reply_with 150 (Command 0))
+        ∷ Some (reply_with 226 (Command 0)) ∷ Some (reply_with 221 (Command 1)) ∷ [] }
+    ensures not_sent { exchanges Greeting ((Nothing ∷ []) ∷ []) ≡ None ∷ [] }
     ensures first { AreFirst (reply_with 220 Greeting ∷ [])
-        (exchanges Greeting (CodeAndMsg 220 [] ∷ CodeAndMsg 200 [] ∷ [])) }
+        (exchanges Greeting ((CodeAndMsg 220 [] ∷ []) ∷ (CodeAndMsg 200 [] ∷ []) ∷ [])) }
     ensures another_place { ¬ AreFirst (reply_with 220 (Command 0) ∷ [])
-        (exchanges Greeting (CodeAndMsg 220 [] ∷ CodeAndMsg 200 [] ∷ [])) }
+        (exchanges Greeting ((CodeAndMsg 220 [] ∷ []) ∷ (CodeAndMsg 200 [] ∷ []) ∷ [])) }
     ensures left_out { ¬ AreFirst (reply_with 200 (Command 0) ∷ [])
-        (exchanges Greeting (CodeAndMsg 220 [] ∷ CodeAndMsg 200 [] ∷ [])) }
+        (exchanges Greeting ((CodeAndMsg 220 [] ∷ []) ∷ (CodeAndMsg 200 [] ∷ []) ∷ [])) }
     ensures one_too_many { ¬ AreFirst (reply_with 220 Greeting ∷ reply_with 200 (Command 0) ∷ [])
-        (exchanges Greeting (CodeAndMsg 220 [] ∷ [])) }
+        (exchanges Greeting ((CodeAndMsg 220 [] ∷ []) ∷ [])) }
 {}
 
 /// Lines that are rewritten, and a line that doesn't keep its meaning.

@@ -7,7 +7,7 @@ ghost use Rattle.unftp_control_defs.specs.Canonical.{canonical_line};
 ghost use Rattle.unftp_control_defs.specs.FtpCommand.{Auth, Noop};
 ghost use Rattle.unftp_control_defs.specs.TakingSteps.{Pushed, Taken};
 ghost use Rattle.unftp_control_defs.specs.declared.parameters.AuthParam.TheVariants.{Ssl, Tls};
-ghost use Rattle.unftp_control_client.specs.Dialogue.{after_line, after_reply, asks_for_tls, at_start, commands_owed, is_preliminary, next_to};
+ghost use Rattle.unftp_control_client.specs.Dialogue.{after_line, after_reply, asks_for_tls, at_start, commands_owed, next_to};
 ghost use Rattle.unftp_control_client.specs.Exchange.{IsNext, IsOtherError, MayBeginTls, new_client};
 ghost use Rattle.unftp_control_client.specs.Steps.{AreExchanges, AreSteps, EndsInAgreement, IsStep, Received, Sent, Took, decoder_steps, lines_sent, replies_owed, replies_taken};
 ghost use Rattle.unftp_control_client.specs.declared.Client.{Client as RustClient};
@@ -16,14 +16,6 @@ ghost use Rattle.unftp_control_client.specs.declared.dialogue.To.TheVariants.{Gr
 ghost use Rattle.unftp_control_client.specs.declared.errors.SendError.TheVariants.{NoLine, NotALine, OutOfMemory, TooManyCommands};
 ghost use Rattle.unftp_control_write.specs.Room.{LacksRoom};
 ghost use Rattle.unftp_control.specs.ClientRuns.{asking, auth_tls, client_with, dialogue, noop, reply_with, retr};
-
-/// The codes of preliminary replies.
-pub fn these_codes_are_preliminary()
-    ensures least { is_preliminary 100 ≡ true }
-    ensures greatest { is_preliminary 199 ≡ true }
-    ensures below { is_preliminary 99 ≡ false }
-    ensures above { is_preliminary 200 ≡ false }
-{}
 
 /// What the next reply is to, and how many commands are owed one.
 pub fn the_next_reply_is_to_this()

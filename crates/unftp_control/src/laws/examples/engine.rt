@@ -5,13 +5,14 @@ ghost use Rattle.std.specs.Io.KnownBytes.{Appends};
 ghost use Rattle.unftp_control_defs.specs.Bytes.{Bytes};
 ghost use Rattle.unftp_control_defs.specs.Events.{Fault, Command, Refused, line_too_long, out_of_memory};
 ghost use Rattle.unftp_control_defs.specs.FtpCommand.{User};
+ghost use Rattle.unftp_control_defs.specs.FtpReply.{CodeAndMsg};
 ghost use Rattle.unftp_control_defs.specs.Run.{run_for};
 ghost use Rattle.unftp_control_reply.specs.ErrorMeaning.{fault_of};
 ghost use Rattle.unftp_control_reply.specs.ErrorParts.{KindAndSource};
 ghost use Rattle.unftp_control_serve.specs.Endings.{Snapshot, Finished, Write, Handler, LineMemory, ReplyMemory, IsCauseOf, AllAnswered, EventFailed, RunEnded, RunFailed, NoRoom, OnWrite, OnMemory};
 ghost use Rattle.unftp_control_serve.specs.Decoder.{kept_length, saturating_u64};
 ghost use Rattle.unftp_control_serve.specs.Engine.{EngineState, FailedAfter, bytes_with, fed, has_failed, has_finished, more_left};
-ghost use Rattle.unftp_control.specs.Snapshots.{counter, counter_to_five, noop, silent, snapshot, snapshot_of_any_writer, waiting};
+ghost use Rattle.unftp_control.specs.Snapshots.{counter, counter_to_five, noop, silent, snapshot, snapshot_of_any_writer, two_replies, waiting};
 ghost use Rattle.unftp_control_serve.specs.declared.engine.Phase.TheVariants as phase;
 ghost use Rattle.unftp_control_serve.specs.Writing.{Begins, Flushed, OneFlush, OneWrite, OutputState, Sends, appended_state_of};
 ghost use Rattle.std.specs.declared.vec.Vec.{Vec};
@@ -37,7 +38,7 @@ pub fn all_events_are_answered()
         → AllAnswered counter (snapshot 3 (codes "x") 1) (noop ∷ noop ∷ []) after
         → (after.output.failures ≡ 0) × (after.failures ≡ 0) }
     ensures none_left { (after : Snapshot ℕ)
-        → RunEnded counter (snapshot 3 (codes "x") 1) [] (noop ∷ []) Finished after → ⊥ }
+        → RunEnded counter (snapshot 3 (codes "x") 1) [] (noop ∷ []) [] Finished after → ⊥ }
 {}
 
 /// One write takes the front of the bytes, and a failed one nothing; a flush leaves none unflushed.
@@ -67,35 +68,59 @@ pub fn writes_are_recorded_so()
 /// and then a part, which may not be flushed.
 pub fn a_write_failed_at_a_reply()
     ensures part { (part : Bytes) (after : Snapshot ℕ)
-        → RunEnded counter (snapshot 3 (codes "x") 1) (noop ∷ []) (noop ∷ []) (Write part) after
+        → RunEnded counter (snapshot 3 (codes "x") 1) (noop ∷ []) (noop ∷ []) [] (Write part) after
         → Begins (codes "200 OK\r\n") part × (after.output.unflushed ≤ length part) }
     ensures written { (after : Snapshot ℕ)
-        → RunEnded counter (snapshot 3 (codes "x") 1) (noop ∷ []) (noop ∷ []) (Write (codes "20"))
+        → RunEnded counter (snapshot 3 (codes "x") 1) (noop ∷ []) (noop ∷ []) []
+        (Write (codes "20"))
         after
         → Appends (Some (codes "x")) after.output.written (codes "200 OK\r\n20") }
     ensures state { (part : Bytes) (after : Snapshot ℕ)
-        → RunEnded counter (snapshot 3 (codes "x") 1) (noop ∷ []) (noop ∷ []) (Write part) after
+        → RunEnded counter (snapshot 3 (codes "x") 1) (noop ∷ []) (noop ∷ []) [] (Write part) after
         → after.state ≡ 5 }
     ensures failed { (part : Bytes) (after : Snapshot ℕ)
-        → RunEnded counter (snapshot 3 (codes "x") 1) (noop ∷ []) (noop ∷ []) (Write part) after
+        → RunEnded counter (snapshot 3 (codes "x") 1) (noop ∷ []) (noop ∷ []) [] (Write part) after
         → (after.output.failures ≡ 1) × (after.failures ≡ 0) }
     ensures no_event { (part : Bytes) (after : Snapshot ℕ)
-        → RunEnded counter (snapshot 3 (codes "x") 1) (noop ∷ []) [] (Write part) after → ⊥ }
+        → RunEnded counter (snapshot 3 (codes "x") 1) (noop ∷ []) [] [] (Write part) after → ⊥ }
 {}
 
 /// The handler failed at the event, with a fault that its law allows. Nothing was written.
 pub fn the_handler_failed_at_an_event()
     ensures fault { (fault : Fault) (after : Snapshot ℕ)
-        → RunEnded counter (snapshot 3 (codes "x") 1) [] (noop ∷ []) (Handler fault) after
+        → RunEnded counter (snapshot 3 (codes "x") 1) [] (noop ∷ []) [] (Handler fault) after
         → fault ≡ out_of_memory }
     ensures written { (fault : Fault) (after : Snapshot ℕ)
-        → RunEnded counter (snapshot 3 (codes "x") 1) [] (noop ∷ []) (Handler fault) after
+        → RunEnded counter (snapshot 3 (codes "x") 1) [] (noop ∷ []) [] (Handler fault) after
         → Appends (Some (codes "x")) after.output.written [] × (after.output.unflushed ≤ 1) }
     ensures failed { (fault : Fault) (after : Snapshot ℕ)
-        → RunEnded counter (snapshot 3 (codes "x") 1) [] (noop ∷ []) (Handler fault) after
+        → RunEnded counter (snapshot 3 (codes "x") 1) [] (noop ∷ []) [] (Handler fault) after
         → (after.failures ≡ 1) × (after.output.failures ≡ 0) }
     ensures no_event { (fault : Fault) (after : Snapshot ℕ)
-        → RunEnded counter (snapshot 3 (codes "x") 1) (noop ∷ []) [] (Handler fault) after → ⊥ }
+        → RunEnded counter (snapshot 3 (codes "x") 1) (noop ∷ []) [] [] (Handler fault) after → ⊥ }
+{}
+
+/// It stopped between the replies to one event: the first was written and flushed. `two_replies`
+/// answers 150 and then 226.
+pub fn stopped_within_a_turn()
+    ensures fault { (fault : Fault) (after : Snapshot ℕ)
+        → RunEnded two_replies (snapshot 0 [] 0) [] (noop ∷ []) ((CodeAndMsg 150 [], 1) ∷ [])
+        (Handler fault) after → fault ≡ out_of_memory }
+    ensures written { (fault : Fault) (after : Snapshot ℕ)
+        → RunEnded two_replies (snapshot 0 [] 0) [] (noop ∷ []) ((CodeAndMsg 150 [], 1) ∷ [])
+        (Handler fault) after
+        → Appends (Some []) after.output.written (codes "150\r\n")
+        × (after.output.unflushed ≡ 0) }
+    ensures part { (part : Bytes) (after : Snapshot ℕ)
+        → RunEnded two_replies (snapshot 0 [] 0) [] (noop ∷ []) ((CodeAndMsg 150 [], 1) ∷ [])
+        (Write part) after
+        → Begins (codes "226\r\n") part × (after.state ≡ 0) }
+    ensures all_sent { (part : Bytes) (after : Snapshot ℕ)
+        → RunEnded two_replies (snapshot 0 [] 0) [] (noop ∷ [])
+        ((CodeAndMsg 150 [], 1) ∷ (CodeAndMsg 226 [], 0) ∷ []) (Write part) after → ⊥ }
+    ensures never_sent { (fault : Fault) (after : Snapshot ℕ)
+        → RunEnded two_replies (snapshot 0 [] 0) [] (noop ∷ []) ((CodeAndMsg 150 [], 5) ∷ [])
+        (Handler fault) after → ⊥ }
 {}
 
 /// Memory ran out: for the command of a line, which the handler didn't take, or for the reply to
@@ -103,16 +128,16 @@ pub fn the_handler_failed_at_an_event()
 pub fn memory_ran_out()
     ensures line { (after : Snapshot ℕ)
         → RunEnded counter (snapshot 3 (codes "x") 1) [] (Command (User (codes "a")) ∷ [])
-        LineMemory after
+        [] LineMemory after
         → (after.state ≡ 3) × Appends (Some (codes "x")) after.output.written []
         × (after.output.unflushed ≤ 1) }
     ensures reply { (after : Snapshot ℕ)
-        → RunEnded counter (snapshot 3 (codes "x") 1) [] (noop ∷ []) ReplyMemory after
+        → RunEnded counter (snapshot 3 (codes "x") 1) [] (noop ∷ []) [] ReplyMemory after
         → (after.state ≡ 4) × Appends (Some (codes "x")) after.output.written [] }
     ensures no_reply { (after : Snapshot ℕ)
-        → RunEnded silent (snapshot 3 (codes "x") 1) [] (noop ∷ []) ReplyMemory after → ⊥ }
+        → RunEnded silent (snapshot 3 (codes "x") 1) [] (noop ∷ []) [] ReplyMemory after → ⊥ }
     ensures quiet { (after : Snapshot ℕ)
-        → RunEnded counter (snapshot 3 (codes "x") 1) [] (noop ∷ []) ReplyMemory after
+        → RunEnded counter (snapshot 3 (codes "x") 1) [] (noop ∷ []) [] ReplyMemory after
         → (after.output.failures ≡ 0) × (after.failures ≡ 0) }
 {}
 

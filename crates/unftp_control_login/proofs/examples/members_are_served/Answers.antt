@@ -1,4 +1,4 @@
-use Rattle.unftp_control_login.proofs.ExampleLemmas.{anyone-served, anyone-served-in-bytes, garbage, no-event, not-plain, stranger}
+use Rattle.unftp_control_login.proofs.ExampleLemmas.{anyone-opened-in-bytes, anyone-served, anyone-served-in-bytes, garbage, no-event, not-plain, stranger}
 use Rattle.unftp_control_login.proofs.examples.members_are_served.Goals as goal
 
 pub returns-clause-anyone_served : goal.returns-clause-anyone_served
@@ -18,3 +18,6 @@ returns-clause-garbage c = garbage
 
 pub returns-clause-no_event : goal.returns-clause-no_event
 returns-clause-no_event c = no-event
+
+pub returns-clause-anyone_opened : goal.returns-clause-anyone_opened
+returns-clause-anyone_opened c = anyone-opened-in-bytes

@@ -2,4 +2,4 @@ use Rattle.unftp_control_login.proofs.LimitLemmas.{quit-ends}
 use Rattle.unftp_control_login.proofs.laws.quit_ends_the_session.Goals as goal
 
 pub returns : goal.returns
-returns g c = quit-ends g.H.Handler.law
+returns g c = λ said. quit-ends (g.H.Session.law said)

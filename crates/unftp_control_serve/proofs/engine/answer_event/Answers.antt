@@ -1,23 +1,85 @@
-use Rattle.std.proofs.Common.{◌≡◌, refl, ◌∙◌, ap}
-use Rattle.unftp_control_defs.specs.FtpReply.{encoded}
-use Rattle.unftp_control_serve.specs.EventMeaning.{event_meant}
-use Rattle.unftp_control_serve.proofs.EndingLemmas.{failed-at, answered, no_memory-at}
+use Rattle.std.proofs.Common.{Ok, refl, ◌∙◌, ap}
+use Rattle.std.proofs.lemmas.Result.{err_from_is_err_and}
+use Rattle.unftp_control_serve.proofs.HeardLemmas.{Begins-trans}
+use Rattle.unftp_control_serve.proofs.MappedLemmas.{mapped-ok, mapped-err}
+use Rattle.unftp_control_serve.proofs.EndingLemmas.{failed-at, first-failed, InTurn-start, InTurn-next, InTurn-failed, InTurn-broke, InTurn-end}
 use Rattle.unftp_control_serve.proofs.engine.answer_event.Goals as goal
 
-pub returns-in-Err-clause-outcome : goal.returns-in-Err-clause-outcome
-returns-in-Err-clause-outcome g c =
-    failed-at _ _ c.in-Err.ensures.may_fail refl c.in-Err.ensures.counted
+pub returns-in_err-first-clause-outcome : goal.returns-in_err-first-clause-outcome
+returns-in_err-first-clause-outcome g c = λ w so.
+    let failed = mapped-err c.first.result c.map_err.result c.in_err-first.field-0.0
+    c.map_err.ensures.cases c.in_err-first.was in
+    let error = err_from_is_err_and c.from_residual.result c.from_residual.ensures.1 in
+    rw (error.1, error.2, failed.2)
+    (failed-at (g.H.Session.law w) _ _ _ failed.0 (rw failed.1 at (c.first.ensures.may_fail) w so)
+    refl (rw failed.1 at c.first.ensures.counted))
 
-pub returns-in-Ok-encode_into-clause-outcome : goal.returns-in-Ok-encode_into-clause-outcome
-returns-in-Ok-encode_into-clause-outcome g c =
-    let said : c.as_slice.result.now
-    ≡ encoded
-    (g.H.Handler.law.says (g.H.Handler.state c.args.handler.now) (event_meant c.args.event)) =
-    c.as_slice.ensures.value ∙ c.in-Ok-encode_into.ensures.bytes ∙ ap encoded c.in-Ok.ensures.says
-    in
-    answered _ _ _ _ c.in-Ok.ensures.next c.in-Ok.ensures.quiet c.send.result
-    (rw said at c.send.ensures.nothing) (rw said at c.send.ensures.sends)
+pub returns-in_err-send_reply-clause-outcome : goal.returns-in_err-send_reply-clause-outcome
+returns-in_err-send_reply-clause-outcome g c = λ w so.
+    let first = mapped-ok c.first.result c.map_err.result c.in_ok-first.first
+    c.map_err.ensures.cases c.in_ok-first.was in
+    let error = err_from_is_err_and c.from_residual-in_err-send_reply.result
+    c.from_residual-in_err-send_reply.ensures.1 in
+    rw (error.1, error.2)
+    (first-failed (g.H.Session.law w) _ _ _ _ (rw first at (c.first.ensures.says) w so)
+    (rw first at (c.first.ensures.next) w so) (rw first at c.first.ensures.quiet) _
+    c.in_err-send_reply.ensures.sends)
+
+pub loop-reply-init : goal.loop-reply-init
+loop-reply-init g c =
+    let first = mapped-ok c.first.result c.map_err.result c.in_ok-first.first
+    c.map_err.ensures.cases c.in_ok-first.was in
+    record {
+      heard = c.first.ensures.heard;
+      in_turn = λ w so. InTurn-start (g.H.Session.law w) _ _ _ _
+          (rw first at (c.first.ensures.says) w so) (rw first at (c.first.ensures.next) w so)
+          (rw first at c.first.ensures.quiet) c.in_ok-send_reply.ensures.sends;
+    }
+
+pub returns-in_err-reply-clause-outcome : goal.returns-in_err-reply-clause-outcome
+returns-in_err-reply-clause-outcome g c = λ w so.
+    let failed = mapped-err c.further.result c.map_err-in-loop-reply.result
+    c.in_err-reply.field-0.0 c.map_err-in-loop-reply.ensures.cases c.in_err-reply.was in
+    let error = err_from_is_err_and c.from_residual-in_err-reply.result
+    c.from_residual-in_err-reply.ensures.1 in
+    let before = c.loop-reply.invariant.in_turn w (Begins-trans w _ _ so c.further.ensures.heard) in
+    rw (error.1, error.2, failed.2)
+    (InTurn-broke (g.H.Session.law w) _ _ _ before _ failed.0
+    (rw failed.1 at (c.further.ensures.may_break) w so) refl
+    (rw failed.1 at c.further.ensures.counted))
+
+pub loop-reply-preserved : goal.loop-reply-preserved
+loop-reply-preserved g c =
+    let given = mapped-ok c.further.result c.map_err-in-loop-reply.result c.in_ok-reply.field-0
+    c.map_err-in-loop-reply.ensures.cases c.in_ok-reply.was ∙ ap (λ more. Ok more) c.in-Some.is in
+    record {
+      heard = Begins-trans _ _ _ c.further.ensures.heard c.loop-reply.invariant.heard;
+      in_turn = λ w so.
+          let before = c.loop-reply.invariant.in_turn w
+          (Begins-trans w _ _ so c.further.ensures.heard) in
+          InTurn-next (g.H.Session.law w) _ _ _ before _ _
+          (rw given at (c.further.ensures.follows) w so) (rw given at c.further.ensures.quiet)
+          c.in_ok-send_reply-2.ensures.sends;
+    }
+
+pub returns-in_err-send_reply-2-clause-outcome : goal.returns-in_err-send_reply-2-clause-outcome
+returns-in_err-send_reply-2-clause-outcome g c = λ w so.
+    let given = mapped-ok c.further.result c.map_err-in-loop-reply.result c.in_ok-reply.field-0
+    c.map_err-in-loop-reply.ensures.cases c.in_ok-reply.was ∙ ap (λ more. Ok more) c.in-Some.is in
+    let error = err_from_is_err_and c.from_residual-in_err-send_reply-2.result
+    c.from_residual-in_err-send_reply-2.ensures.1 in
+    let before = c.loop-reply.invariant.in_turn w (Begins-trans w _ _ so c.further.ensures.heard) in
+    rw (error.1, error.2)
+    (InTurn-failed (g.H.Session.law w) _ _ _ before _ _
+    (rw given at (c.further.ensures.follows) w so) (rw given at c.further.ensures.quiet) _
+    c.in_err-send_reply-2.ensures.sends)
 
 pub returns-clause-outcome : goal.returns-clause-outcome
-returns-clause-outcome g c = no_memory-at _ c.in-Ok.ensures.next c.in-Ok.ensures.quiet
-    (rw c.in-Ok.ensures.says at c.in-Err-encode_into.ensures.no_memory) refl
+returns-clause-outcome g c = λ w so.
+    let given = mapped-ok c.further.result c.map_err-in-loop-reply.result c.in_ok-reply.field-0
+    c.map_err-in-loop-reply.ensures.cases c.in_ok-reply.was
+    ∙ ap (λ more. Ok more) c.in_default.is in
+    let before = c.loop-reply.invariant.in_turn w (Begins-trans w _ _ so c.further.ensures.heard) in
+    let follows = rw given at (c.further.ensures.follows) w so in
+    InTurn-end (g.H.Session.law w) _ _ _ before _ follows.0 follows.1 refl
+    (rw given at c.further.ensures.quiet)

@@ -2,13 +2,15 @@ use Rattle.std.proofs.Common.{◌∙◌, refl, sym, ap, arith}
 use Rattle.std.proofs.lemmas.Bool.{false≢true}
 use Rattle.std.proofs.lemmas.Result.{err_from_is_err_and}
 use Rattle.unftp_control_serve.specs.Decoder.{kept_length}
+use Rattle.unftp_control_serve.proofs.HeardLemmas.{Begins-trans, Begins-refl}
 use Rattle.unftp_control_serve.proofs.LineRunLemmas.{halfway-no_memory, Halfway-start, Halfway-next, no_line-answered, no_line-not_ended, no_line-all_unread, line-failed, last_line-answered, last_line-ended, last_line-unread}
 use Rattle.unftp_control_serve.proofs.engine.answer_lines.Goals as goal
 
 pub loop-event-init : goal.loop-event-init
 loop-event-init g c =
     record {
-      halfway = Halfway-start;
+      heard = Begins-refl _;
+      halfway = λ w so. Halfway-start;
       scanned = refl;
       limit = refl;
       held = refl;
@@ -20,8 +22,10 @@ loop-event-preserved g c =
     let before = c.loop-event.invariant in
     let first = rw c.in-Some.is at c.in_ok-event.ensures.takes_next in
     record {
-      halfway = Halfway-next before.halfway before.limit first
-          c.in_ok-answer_event.ensures.outcome (sym c.done.ensures ∙ c.if-done.false);
+      heard = Begins-trans _ _ _ c.in_ok-answer_event.ensures.heard before.heard;
+      halfway = λ w so. Halfway-next (before.halfway w
+          (Begins-trans w _ _ so c.in_ok-answer_event.ensures.heard)) before.limit first
+          (c.in_ok-answer_event.ensures.outcome w so) (sym (c.done.ensures w) ∙ c.if-done.false);
       scanned = omega (arith, before.scanned, c.in_ok-event.ensures.scanned);
       limit = c.in_ok-event.ensures.limit ∙ before.limit;
       held = c.in_ok-event.ensures.held ∙ before.held;
@@ -34,29 +38,33 @@ returns-in_err-answer_event-clause-outcome g c =
     let first = rw c.in-Some.is at c.in_ok-event.ensures.takes_next in
     let error = err_from_is_err_and c.from_residual-in_err-answer_event.result
     c.from_residual-in_err-answer_event.ensures.1 in
-    rw (error.1, error.2)
-    (line-failed before.halfway before.limit first c.in_err-answer_event.ensures.outcome)
+    λ w so. rw (error.1, error.2)
+    (line-failed (before.halfway w (Begins-trans w _ _ so c.in_err-answer_event.ensures.heard))
+    before.limit first (c.in_err-answer_event.ensures.outcome w so))
 
 pub returns-then-done-clause-outcome : goal.returns-then-done-clause-outcome
 returns-then-done-clause-outcome g c =
     let before = c.loop-event.invariant in
     let first = rw c.in-Some.is at c.in_ok-event.ensures.takes_next in
-    last_line-answered before.halfway before.limit first
-    c.in_ok-answer_event.ensures.outcome (sym c.done.ensures ∙ c.if-done.true)
+    λ w so. last_line-answered (before.halfway w
+    (Begins-trans w _ _ so c.in_ok-answer_event.ensures.heard)) before.limit first
+    (c.in_ok-answer_event.ensures.outcome w so) (sym (c.done.ensures w) ∙ c.if-done.true)
 
 pub returns-then-done-clause-ended : goal.returns-then-done-clause-ended
 returns-then-done-clause-ended g c =
     let before = c.loop-event.invariant in
     let first = rw c.in-Some.is at c.in_ok-event.ensures.takes_next in
-    last_line-ended before.halfway before.limit first
-    c.in_ok-answer_event.ensures.outcome (sym c.done.ensures ∙ c.if-done.true)
+    λ w so. last_line-ended (before.halfway w
+    (Begins-trans w _ _ so c.in_ok-answer_event.ensures.heard)) before.limit first
+    (c.in_ok-answer_event.ensures.outcome w so) (sym (c.done.ensures w) ∙ c.if-done.true)
 
 pub returns-then-done-clause-unread : goal.returns-then-done-clause-unread
 returns-then-done-clause-unread g c =
     let before = c.loop-event.invariant in
     let first = rw c.in-Some.is at c.in_ok-event.ensures.takes_next in
-    last_line-unread before.halfway before.limit first
-    c.in_ok-answer_event.ensures.outcome (sym c.done.ensures ∙ c.if-done.true)
+    λ w so. last_line-unread (before.halfway w
+    (Begins-trans w _ _ so c.in_ok-answer_event.ensures.heard)) before.limit first
+    (c.in_ok-answer_event.ensures.outcome w so) (sym (c.done.ensures w) ∙ c.if-done.true)
 
 pub returns-then-done-clause-unscanned : goal.returns-then-done-clause-unscanned
 returns-then-done-clause-unscanned g c =
@@ -69,17 +77,17 @@ returns-then-done-clause-kept g c = λ on. absurd (false≢true (sym on))
 pub returns-in-None-clause-outcome : goal.returns-in-None-clause-outcome
 returns-in-None-clause-outcome g c =
     let none = rw c.in-None.is at c.in_ok-event.ensures.takes_next in
-    no_line-answered c.loop-event.invariant.halfway none
+    λ w so. no_line-answered (c.loop-event.invariant.halfway w so) none
 
 pub returns-in-None-clause-ended : goal.returns-in-None-clause-ended
 returns-in-None-clause-ended g c =
     let none = rw c.in-None.is at c.in_ok-event.ensures.takes_next in
-    no_line-not_ended c.loop-event.invariant.halfway none
+    λ w so. no_line-not_ended (c.loop-event.invariant.halfway w so) none
 
 pub returns-in-None-clause-unread : goal.returns-in-None-clause-unread
 returns-in-None-clause-unread g c =
     let none = rw c.in-None.is at c.in_ok-event.ensures.takes_next in
-    no_line-all_unread c.loop-event.invariant.halfway none
+    λ w so. no_line-all_unread (c.loop-event.invariant.halfway w so) none
 
 pub returns-in-None-clause-unscanned : goal.returns-in-None-clause-unscanned
 returns-in-None-clause-unscanned g c =
@@ -97,6 +105,6 @@ returns-in-None-clause-kept g c =
 pub returns-in_err-event-clause-outcome : goal.returns-in_err-event-clause-outcome
 returns-in_err-event-clause-outcome g c =
     let error = err_from_is_err_and c.from_residual.result c.from_residual.ensures.1 in
-    rw (error.1, error.2)
-    (halfway-no_memory c.loop-event.invariant.halfway
+    λ w so. rw (error.1, error.2)
+    (halfway-no_memory (c.loop-event.invariant.halfway w so)
     (rw c.loop-event.invariant.limit at c.in_err-event.ensures.may_run_out))

@@ -1,11 +1,16 @@
 use Rattle.std.proofs.Common.{rules, ◌<◌, ◌≤◌, refl, sym, ap, ◌∙◌, length, arith}
 use Rattle.std.proofs.lemmas.Result.{err_from_is_err_and}
+use Rattle.unftp_control_serve.proofs.HeardLemmas.{Begins-trans, Begins-refl}
 use Rattle.unftp_control_serve.proofs.ServiceLemmas.{Serving-start, Serving-next, Serving-done, Serving-failed, Serving-all, Serving-read_failed, Serving-too_often}
 use Rattle.unftp_control_serve.proofs.service.serve_lines.Goals as goal
 
 pub loop-turn-init : goal.loop-turn-init
 loop-turn-init g c =
-    record { serving = Serving-start c.limited-engine.ensures; room = refl }
+    record {
+      heard = Begins-refl _;
+      serving = λ w so. Serving-start c.limited-engine.ensures;
+      room = refl;
+    }
 
 pub returns-in_err-feed-clause-err : goal.returns-in_err-feed-clause-err
 returns-in_err-feed-clause-err g c =
@@ -17,10 +22,11 @@ returns-in_err-feed-clause-err g c =
     omega (arith, c.loop-turn.invariant.room, c.read.auto.buf, cut.front_len, read.bound.0) in
     let given = rw (sym cut.front) at read.reads.0 in
     let error = err_from_is_err_and c.from_residual.result c.from_residual.ensures.1 in
+    let before = c.loop-turn.invariant.serving _ c.in_err-feed.ensures.heard in
     rw (error.1, error.2)
-    (Serving-failed _ c.loop-turn.invariant.serving c.split_at.result.0.now given
+    (Serving-failed _ before c.split_at.result.0.now given
     (rw cut.front_len read.reads.2) (some, short) read.reads.3 _ _
-    (c.in_err-feed.ensures.outcome c.loop-turn.invariant.serving.running))
+    (c.in_err-feed.ensures.outcome before.running _ (Begins-refl _)))
 
 pub loop-turn-preserved : goal.loop-turn-preserved
 loop-turn-preserved g c =
@@ -31,15 +37,18 @@ loop-turn-preserved g c =
     let short : length c.split_at.result.0.now ≤ 4096 =
     omega (arith, c.loop-turn.invariant.room, c.read.auto.buf, cut.front_len, read.bound.0) in
     let given = rw (sym cut.front) at read.reads.0 in
-    let running = c.loop-turn.invariant.serving.running in
-    let is = c.in_ok-feed.ensures.fed running in
-    let on = ap (λ engine. engine.finished) (sym is) ∙ sym c.finished-is_over.ensures
-    ∙ c.if-is_over.false in
     record {
-      serving = rw is
-          (Serving-next _ c.loop-turn.invariant.serving c.split_at.result.0.now
+      heard = Begins-trans _ _ _ c.in_ok-feed.ensures.heard c.loop-turn.invariant.heard;
+      serving = λ w so.
+          let before = c.loop-turn.invariant.serving w
+          (Begins-trans w _ _ so c.in_ok-feed.ensures.heard) in
+          let is = c.in_ok-feed.ensures.fed before.running w so in
+          let on = ap (λ engine. engine.finished) (sym is) ∙ sym c.finished-is_over.ensures
+          ∙ c.if-is_over.false in
+          rw is
+          (Serving-next _ before c.split_at.result.0.now
           given (rw cut.front_len read.reads.2) (some, short) read.reads.3 _
-          (c.in_ok-feed.ensures.outcome running) on);
+          (c.in_ok-feed.ensures.outcome before.running w so) on);
       room = omega (arith, c.loop-turn.invariant.room, c.read.auto.buf);
     }
 
@@ -52,21 +61,22 @@ returns-then-is_over-clause-ok g c =
     let short : length c.split_at.result.0.now ≤ 4096 =
     omega (arith, c.loop-turn.invariant.room, c.read.auto.buf, cut.front_len, read.bound.0) in
     let given = rw (sym cut.front) at read.reads.0 in
-    let running = c.loop-turn.invariant.serving.running in
-    let is = c.in_ok-feed.ensures.fed running in
+    let before = c.loop-turn.invariant.serving _ c.in_ok-feed.ensures.heard in
+    let is = c.in_ok-feed.ensures.fed before.running _ (Begins-refl _) in
     let done = ap (λ engine. engine.finished) (sym is) ∙ sym c.finished-is_over.ensures
     ∙ c.if-is_over.true in
-    Serving-done _ c.loop-turn.invariant.serving c.split_at.result.0.now given
+    Serving-done _ before c.split_at.result.0.now given
     (rw cut.front_len read.reads.2) (some, short) read.reads.3 _
-    (c.in_ok-feed.ensures.outcome running) (rw is at c.served_by-then-is_over.ensures) done
+    (c.in_ok-feed.ensures.outcome before.running _ (Begins-refl _))
+    (rw is at c.served_by-then-is_over.ensures) done
 
 pub returns-clause-err : goal.returns-clause-err
-returns-clause-err g c = Serving-too_often c.loop-turn.invariant.serving
+returns-clause-err g c = Serving-too_often (c.loop-turn.invariant.serving _ (Begins-refl _))
     (omega (arith, c.loop-turn-test.false))
 
 pub returns-in-Err-clause-err : goal.returns-in-Err-clause-err
 returns-in-Err-clause-err g c =
-    Serving-read_failed _ c.loop-turn.invariant.serving
+    Serving-read_failed _ (c.loop-turn.invariant.serving _ (Begins-refl _))
     c.in-Err.ensures.reads.0 c.in-Err.ensures.reads.1 c.in-Err.ensures.reads.2
 
 pub returns-then-n-eq0-clause-ok : goal.returns-then-n-eq0-clause-ok
@@ -74,7 +84,7 @@ returns-then-n-eq0-clause-ok g c =
     let room : 0 < length c.read.new.buf =
     omega (arith, c.loop-turn.invariant.room, c.read.auto.buf) in
     let read = c.in-Ok.ensures.reads in
-    Serving-all _ c.loop-turn.invariant.serving c.read.new.buf
+    Serving-all _ (c.loop-turn.invariant.serving _ (Begins-refl _)) c.read.new.buf
     c.served_by.ensures c.if-n-eq0.true read.2
     read.0 (read.1 c.if-n-eq0.true room) read.3
 

@@ -12,6 +12,7 @@ use Rattle.calling.specs.declared.conversation.Turn.{Turn}
 use Rattle.calling.specs.declared.conversation.Turn.TheVariants.{Send}
 use Rattle.calling.proofs.ExampleLemmas.{another_line, not_empty}
 use Rattle.calling.proofs.examples.conversing.talks_are_so.Goals as goal
+use Rattle.unftp_control.specs.Run.{as_session}
 
 pub returns-clause-sent_twice : goal.returns-clause-sent_twice
 returns-clause-sent_twice c = λ talk talked. omega (
@@ -46,7 +47,7 @@ pub returns-clause-no_line : goal.returns-clause-no_line
 returns-clause-no_line c = λ talk after conversed.
     let stops = conversed.ended in
     let none = none_done conversed.acts stops.turn stops.first stops.later stops.whole stops.done in
-    let answered : AllAnswered basic (first_snapshot greeter 0) [] after =
+    let answered : AllAnswered (as_session basic) (first_snapshot greeter 0) [] after =
     subst (λ acts. IsAnswered greeter acts (first_snapshot greeter 0) after Send) none.0
     (subst (IsAnswered greeter conversed.acts (first_snapshot greeter 0) after) none.1
     stops.answered) in (

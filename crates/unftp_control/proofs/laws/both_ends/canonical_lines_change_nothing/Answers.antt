@@ -10,11 +10,11 @@ returns g c = record {
   forwarded = λ line is_line. forwarded-keeps line is_line (outcome line) refl;
   same_events = λ rewrite input keeps. events-rewritten rewrite keeps input;
   within = λ rewrite limit input keeps each. events-rewritten_within rewrite keeps input limit each;
-  written = λ rewrite s input keeps.
-      ap (λ events. text_of g.H.Handler.law s (run_of g.H.Handler.law s events))
+  written = λ said rewrite s input keeps.
+      ap (λ events. text_of (g.H.Session.law said) s (run_of (g.H.Session.law said) s events))
       (events-rewritten rewrite keeps input);
-  written_within = λ rewrite limit s input keeps each.
-      ap (λ events. text_of g.H.Handler.law s (run_of g.H.Handler.law s events))
+  written_within = λ said rewrite limit s input keeps each.
+      ap (λ events. text_of (g.H.Session.law said) s (run_of (g.H.Session.law said) s events))
       (events-rewritten_within rewrite keeps input limit each);
   incomplete = λ rewrite input keeps. incomplete-rewritten rewrite keeps input;
 }

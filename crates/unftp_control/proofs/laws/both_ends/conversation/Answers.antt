@@ -1,21 +1,28 @@
-use Rattle.std.proofs.Common.{◌∙◌}
+use Rattle.std.proofs.Common.{◌∙◌, subst, sym}
 use Rattle.unftp_control_defs.specs.Run.{replies, run_for}
-use Rattle.unftp_control_defs.proofs.RunLemmas.{length-replies}
-use Rattle.unftp_control.proofs.ConversationLemmas.{events-lines, events-sent, read_all, read_so_far}
+use Rattle.unftp_control_defs.specs.Turns.{replies_by_event}
+use Rattle.unftp_control_defs.proofs.ExchangeLemmas.{length-replies_by_event}
+use Rattle.unftp_control.proofs.ActLemmas.{all_said-replies}
+use Rattle.unftp_control.proofs.ConversationLemmas.{events-lines, events-sent, read_all, read_so_far, shown_turns, shows_turns}
+use Rattle.unftp_control.specs.Conversation.{Show}
 use Rattle.unftp_control.proofs.laws.both_ends.conversation.Goals as goal
 
 pub returns : goal.returns
 returns g c = record {
   commands = events-sent;
   lines = events-lines;
-  so_far = λ limit s input steps pending later readable are whole.
-      read_so_far (replies g.H.Handler.law s (run_for limit g.H.Handler.law s input)) readable steps
-      pending are later whole;
-  all = λ limit s input steps pending readable are whole none.
-      let read = read_all (replies g.H.Handler.law s (run_for limit g.H.Handler.law s input))
-      readable steps pending are whole none in (
-        read.0,
-        read.1 ∙ length-replies g.H.Handler.law s (run_for limit g.H.Handler.law s input),
-        read.2,
+  so_far = λ said limit s input steps pending later readable are whole.
+      read_so_far (replies (g.H.Session.law said) s (run_for limit (g.H.Session.law said) s input))
+      readable steps pending are later whole;
+  all = λ said limit s input steps pending readable are whole none.
+      read_all (replies (g.H.Session.law said) s (run_for limit (g.H.Session.law said) s input))
+      readable steps pending are whole none;
+  turns = λ said limit s input read each show.
+      let law = g.H.Session.law said in
+      let run = run_for limit law s input in
+      let turns = replies_by_event law s run in
+      let said_so = subst (Show read) (sym (all_said-replies law s run)) show in (
+        shows_turns read turns each said_so,
+        shown_turns read turns each said_so ∙ length-replies_by_event law s run,
       );
 }

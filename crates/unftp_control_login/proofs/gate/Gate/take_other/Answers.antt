@@ -1,38 +1,69 @@
-use Rattle.std.proofs.Common.{rules, subst, sym, ◌∙◌, ◌&&◌, not, Option, None}
-use Rattle.unftp_control_defs.specs.Events.{FtpEvent}
-use Rattle.unftp_control_defs.specs.FtpReply.{FtpReply}
+use Rattle.std.proofs.Common.{rules, List, ap, sym, ◌∙◌}
+use Rattle.unftp_control_reply.specs.ReplyMeaning.{reply_of}
 use Rattle.unftp_control_serve.specs.EventMeaning.{event_meant}
-use Rattle.unftp_control_login.specs.HandlerCalls.{CallsMade}
+use Rattle.unftp_control_serve.specs.Writing.{Begins}
 use Rattle.unftp_control_login.specs.CallsOf.{calls_of}
-use Rattle.unftp_control_login.specs.Gate.{login_needed}
-use Rattle.unftp_control_login.proofs.CalledLemmas.{nothing-called, reply-asked}
-use Rattle.unftp_control_login.proofs.StageLemmas.{asked-nothing, own-barred}
+use Rattle.unftp_control_login.specs.GateState.{gated}
+use Rattle.unftp_control_login.specs.Login.{flushes_login}
+use Rattle.unftp_control_login.proofs.StageLemmas.{asked-nothing}
+use Rattle.unftp_control_login.proofs.GateLemmas.{barred-calls, barred-says, nobody-failed, open-calls, open-next, open-says}
 use Rattle.unftp_control_login.proofs.gate.Gate.take_other.Goals as goal
 
-pub returns-then-not-is_logged_in-clause-next : goal.returns-then-not-is_logged_in-clause-next
-returns-then-not-is_logged_in-clause-next g c = search rules
+pub returns-then-bars-clause-next : goal.returns-then-bars-clause-next
+returns-then-bars-clause-next g c = search rules
 
-pub returns-then-not-is_logged_in-clause-asked : goal.returns-then-not-is_logged_in-clause-asked
-returns-then-not-is_logged_in-clause-asked g c =
-    asked-nothing c.args.self.now.accounts.questions c.args.self.now.stage
+pub returns-then-bars-clause-says : goal.returns-then-bars-clause-says
+returns-then-bars-clause-says g c = barred-says
+    (λ (said : List g.H.Session.Said).
+    Begins said (g.H.Session.heard c.own_reply.new.self.handler))
+    g.H.Session.law (gated g.A.Accounts.accepts g.H.Session.state c.args.self.now)
+    (event_meant c.args.event) c.requires (sym c.bars.ensures ∙ c.if-bars.true) reply_of
+    c.own_reply.result c.own_reply.ensures.says
+
+pub returns-then-bars-clause-calls : goal.returns-then-bars-clause-calls
+returns-then-bars-clause-calls g c = λ w so. barred-calls
+    (λ (said : List g.H.Session.Said).
+    Begins said (g.H.Session.heard c.own_reply.new.self.handler))
+    g.H.Session.law (gated g.A.Accounts.accepts g.H.Session.state c.args.self.now)
+    (event_meant c.args.event) c.requires (sym c.bars.ensures ∙ c.if-bars.true) reply_of
+    c.own_reply.result w (calls_of g.H.Session.failures c.args.self.now.inner)
+    (calls_of g.H.Session.failures c.own_reply.new.self) c.own_reply.ensures.may_fail
+    c.own_reply.ensures.ok c.own_reply.ensures.err
+
+pub returns-clause-says : goal.returns-clause-says
+returns-clause-says g c = open-says
+    (λ (said : List g.H.Session.Said).
+    Begins said (g.H.Session.heard c.pass_on.new.self.inner.handler))
+    g.H.Session.law (gated g.A.Accounts.accepts g.H.Session.state c.args.self.now)
+    (event_meant c.args.event) c.requires (sym c.bars.ensures ∙ c.if-bars.false) reply_of
+    c.pass_on.result c.pass_on.ensures.says
+
+pub returns-clause-next : goal.returns-clause-next
+returns-clause-next g c =
+    let pass_on = c.pass_on.ensures in
+    open-next
+    (λ (said : List g.H.Session.Said).
+    Begins said (g.H.Session.heard c.pass_on.new.self.inner.handler))
+    g.H.Session.law (gated g.A.Accounts.accepts g.H.Session.state c.args.self.now)
+    (event_meant c.args.event) c.requires (sym c.bars.ensures ∙ c.if-bars.false) reply_of
+    c.pass_on.result (gated g.A.Accounts.accepts g.H.Session.state c.pass_on.new.self)
+    pass_on.next (ap (λ asked. g.A.Accounts.accepts asked.accounts) pass_on.kept.0) pass_on.stage
+    pass_on.quit pass_on.kept.1
+
+pub returns-clause-asked : goal.returns-clause-asked
+returns-clause-asked g c = ap (λ asked. asked.questions) c.pass_on.ensures.kept.0
+    ∙ asked-nothing c.args.self.now.accounts.questions c.args.self.now.stage
     (event_meant c.args.event) c.requires
 
-pub returns-then-not-is_logged_in-clause-calls : goal.returns-then-not-is_logged_in-clause-calls
-returns-then-not-is_logged_in-clause-calls g c =
-    let law = g.H.Handler.law in
-    let state = g.H.Handler.state c.args.self.now.inner.handler in
-    let calls = calls_of g.H.Handler.failures in
-    let needs = sym c.needs_login.ensures ∙ c.if-needs_login.true in
-    let member = sym c.is_logged_in.ensures ∙ c.if-not-is_logged_in.true in
-    let own = own-barred (g.A.Accounts.accepts c.args.self.now.accounts.accounts)
-    c.args.self.now.stage (event_meant c.args.event) c.requires
-    (λ i. needs i && not (member i)) in
-    let before = calls c.args.self.now.inner in
-    let after = calls c.own_reply.new.self in
-    let asked = reply-asked law state None login_needed before before after c.own_reply.result
-    (nothing-called before) c.own_reply.ensures.may_fail c.own_reply.ensures.ok
-    c.own_reply.ensures.err in
-    let Made : Option FtpEvent → Option FtpReply → Type 0 = λ passed own.
-    CallsMade law state passed own before after c.own_reply.result in
-    subst (λ (calls : Option FtpReply × Option FtpEvent). Made calls.1 calls.0)
-    (λ i. (sym own.0 i, sym own.1 i)) asked
+pub returns-clause-calls : goal.returns-clause-calls
+returns-clause-calls g c = λ w so. open-calls
+    (λ (said : List g.H.Session.Said).
+    Begins said (g.H.Session.heard c.pass_on.new.self.inner.handler))
+    g.H.Session.law (gated g.A.Accounts.accepts g.H.Session.state c.args.self.now)
+    (event_meant c.args.event) c.requires (sym c.bars.ensures ∙ c.if-bars.false) reply_of
+    c.pass_on.result w (calls_of g.H.Session.failures c.args.self.now.inner)
+    (calls_of g.H.Session.failures c.pass_on.new.self.inner) (c.pass_on.ensures.calls w so)
+
+pub returns-clause-nobody : goal.returns-clause-nobody
+returns-clause-nobody g c = nobody-failed c.args.self.now.stage c.pass_on.new.self.stage
+    (flushes_login (event_meant c.args.event)) c.pass_on.result c.pass_on.ensures.stage

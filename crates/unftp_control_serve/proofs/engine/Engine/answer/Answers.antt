@@ -1,4 +1,4 @@
-use Rattle.std.proofs.Common.{rules, ◌≡◌, false, sym, ap, ◌∙◌}
+use Rattle.std.proofs.Common.{rules, ◌≡◌, false, sym, ap, ◌∙◌, inr}
 use Rattle.unftp_control_serve.specs.Engine.{has_failed, has_finished}
 use Rattle.unftp_control_serve.proofs.EngineLemmas.{WasFed, fed-ended, fed-on}
 use Rattle.unftp_control_serve.proofs.engine.Engine.answer.Goals.{then-ended, else-ended}
@@ -13,27 +13,38 @@ returns-after-ended-clause-fed g c =
     ap (λ engine. engine.finished) c.self.view_is ∙ c.requires.1 in
     let before = c.self.invariant not_failed in
     let lines = c.in-Ok.ensures in
-    let was_fed : WasFed g.H.Handler.law (g.H.Handler.state c.args.handler.now) inside.decoder
+    λ w so.
+    let was_fed : WasFed (g.H.Session.law w) (g.H.Session.state c.args.handler.now) inside.decoder
     c.push.new.self c.answer_lines.new.decoder c.args.piece.now c.in-Ok.ended =
     record {
       push = c.in_default.ensures.ok;
       all_scanned = before.0;
-      ends = lines.ended;
-      pending = lines.unread;
+      ends = lines.ended w so;
+      pending = lines.unread w so;
       unscanned = lines.unscanned;
       same_limit = lines.limit;
       same_held = lines.held;
       scanned_once = lines.scanned_once;
     } in
     rw (sym c.self.view_is) (elim c.if-ended.branch [
-      | then-ended w ↦
-          rw (w.self-is, w.clear.ensures.cleared, c.left-self-inside.ensures)
+      | then-ended b ↦
+          rw (b.self-is, b.clear.ensures.cleared, c.left-self-inside.ensures)
           (fed-ended was_fed inside.left (has_failed inside.phase) (has_finished inside.phase)
-          w.if-ended.true)
-      | else-ended w ↦
-          w.self-is ∙ rw (not_failed, not_finished, c.left-self-inside.ensures)
-          (fed-on was_fed inside.left false false w.if-ended.false (lines.kept w.if-ended.false))
+          b.if-ended.true)
+      | else-ended b ↦
+          b.self-is ∙ rw (not_failed, not_finished, c.left-self-inside.ensures)
+          (fed-on was_fed inside.left false false b.if-ended.false (lines.kept b.if-ended.false))
     ])
 
 pub returns-in-Err-answer_lines-clause-fed : goal.returns-in-Err-answer_lines-clause-fed
 returns-in-Err-answer_lines-clause-fed g c = search rules
+
+pub returns-after-ended-clause-outcome : goal.returns-after-ended-clause-outcome
+returns-after-ended-clause-outcome g c = λ w so.
+    rw (sym c.self.view_is)
+    (rw c.in_default.ensures.ok at (c.in-Ok.ensures.outcome w so))
+
+pub returns-in-Err-answer_lines-clause-outcome : goal.returns-in-Err-answer_lines-clause-outcome
+returns-in-Err-answer_lines-clause-outcome g c = λ w so.
+    rw (sym c.self.view_is)
+    (inr (rw c.in_default.ensures.ok at (c.in-Err-answer_lines.ensures.outcome w so)))

@@ -1,0 +1,150 @@
+-- The laws of sessions with transfers.
+use Rattle.std.proofs.Common.{rules, ◌≡◌, None, ℕ, ◌+◌, ◌-◌, Bool, true, false, List, [], ◌∷◌, ◌++◌, drop, length, nat_le, take, refl, sym, ap, ◌∙◌, arith}
+use Rattle.std.specs.Prelude.{if◌then◌else◌}
+use Rattle.unftp_control_defs.specs.Bytes.{Bytes, LF}
+use Rattle.unftp_control_defs.proofs.LackLemmas.{Lacks-test, lacks}
+use Rattle.unftp_control_defs.specs.Events.{FtpEvent, Command, Refused}
+use Rattle.unftp_control_defs.specs.FtpCommand as line
+use Rattle.unftp_control_defs.specs.FtpReply.{FtpReply, CodeAndMsg, HasThreeDigits, IsPlain, Nothing}
+use Rattle.unftp_control_defs.specs.Turns.{GivesExchanges, SaysOnly, is_preliminary_reply}
+use Rattle.transferring.specs.Answers.{DataAnswer}
+use Rattle.transferring.specs.Laws.{ComesBack, Retrieves, Stores, given, received_for, TransfersNothing, state_after_event}
+use Rattle.transferring.specs.Sent.{with_sent}
+use Rattle.transferring.specs.Transfers.{Outcome, TransferState, final_reply, restart_reply, beyond_end_reply, first_reply, opening, opening_reply, receiving, sending, stored, transfer_of, transfers_law}
+use Rattle.transferring.specs.declared.transfer.Ending.{Ending}
+use Rattle.transferring.specs.declared.transfer.Ending.TheVariants.{Complete, NotOpened, Aborted, NotClosed}
+use Rattle.transferring.proofs.OutcomeLemmas.{completed, retrieve-sends, store-receives}
+
+abbrev outcome_of_retr : List DataAnswer → TransferState → Outcome
+outcome_of_retr answers s = opening (sending (drop s.offset s.file)) (drop s.used answers)
+
+abbrev outcome_of_stor : List DataAnswer → TransferState → Outcome
+outcome_of_stor answers s = opening receiving (drop s.used answers)
+
+pub retrieves : (answers : List DataAnswer) (s : TransferState) (path : Bytes)
+    → Retrieves answers s path
+retrieves answers s path =
+    let outcome : Outcome = outcome_of_retr answers s in
+    let sends = retrieve-sends (drop s.offset s.file) (drop s.used answers) in
+    record {
+      ending = outcome.ending;
+      replies = refl;
+      sent = outcome.bytes;
+      were_sent = refl;
+      beginning = sends.beginning;
+      all = λ completes. sends.all (completed outcome.ending completes);
+      kept = refl;
+    }
+
+stored-else : (offset : ℕ) (file received : Bytes) (ending : Ending) → (ending ≡ Complete → ⊥)
+    → stored offset file ending received ≡ file
+stored-else offset file received Complete not = absurd (not refl)
+stored-else offset file received NotOpened not = refl
+stored-else offset file received Aborted not = refl
+stored-else offset file received NotClosed not = refl
+
+pub stores : (answers : List DataAnswer) (s : TransferState) (path : Bytes) → Stores answers s path
+stores answers s path =
+    let outcome : Outcome = outcome_of_stor answers s in
+    let rest = drop s.used answers in
+    let used : (s.used + outcome.used) - s.used ≡ outcome.used = omega arith in
+    record {
+      ending = outcome.ending;
+      replies = refl;
+      all = λ completes. let complete = completed outcome.ending completes in
+          ap (λ ending. stored s.offset s.file ending outcome.bytes) complete
+          ∙ ap (λ bytes. take s.offset s.file ++ bytes) (store-receives rest complete
+          ∙ sym (ap (λ n. given (take n rest)) used));
+      kept = λ not. stored-else s.offset s.file outcome.bytes outcome.ending
+          (λ complete. not (ap (λ ending. opening_reply ∷ final_reply ending ∷ []) complete));
+      none_sent = refl;
+    }
+
+pub comes-back : (answers : List DataAnswer) (s : TransferState) (to from : Bytes)
+    → ComesBack answers s to from
+comes-back answers s to from = λ at_start was_stored was_retrieved.
+    let kept = stores answers s to in
+    let stored : TransferState = state_after_event answers s (Command (line.Stor to)) in
+    let back = retrieves answers stored from in
+    back.were_sent
+    ∙ ap (with_sent s.sent) (back.all was_retrieved ∙ kept.all was_stored
+    ∙ ap (λ offset. take offset s.file ++ received_for answers s to) at_start)
+
+pub transfers-nothing : (answers : List DataAnswer) (s : TransferState) (event : FtpEvent)
+    → transfer_of event ≡ None → TransfersNothing s (state_after_event answers s event)
+transfers-nothing answers s event none =
+    rw none (record { file = refl; sent = refl; used = refl })
+
+-- ---- each reply
+
+-- what holds of each first and each final reply holds of all
+module _ (P : FtpReply → Type 0) (first : (end : ℕ) (event : FtpEvent) → P (first_reply end event))
+    (final : (ending : Ending) → P (final_reply ending)) where
+  pub says-only : (answers : List DataAnswer) → SaysOnly P (transfers_law answers)
+  says-only answers s (Command (line.Retr path)) = (
+    first (length s.file) (Command (line.Retr path)),
+    (final (outcome_of_retr answers s).ending, tt),
+  )
+  says-only answers s (Command (line.Stor path)) = (
+    first (length s.file) (Command (line.Stor path)),
+    (final (outcome_of_stor answers s).ending, tt),
+  )
+  says-only answers s (Command command) = (first (length s.file) (Command command), tt)
+  says-only answers s (Refused fault) = (first (length s.file) (Refused fault), tt)
+
+-- a final reply that is sent, and that a client reads as what it is
+abbrev IsSound : FtpReply → Type 0
+IsSound reply = (reply ≡ Nothing → ⊥) × IsPlain reply
+
+sound : (code : ℕ) (text : Bytes) → HasThreeDigits code → lacks LF text ≡ true
+    → IsSound (CodeAndMsg code text)
+sound code text digits lacks = (λ is. absurd (cc), (digits, Lacks-test LF text lacks))
+
+rest-sound : (fits : Bool) → IsSound (if fits then restart_reply else beyond_end_reply)
+rest-sound true = sound 350 _ (search rules) refl
+rest-sound false = sound 501 _ (search rules) refl
+
+first-sound : (end : ℕ) (event : FtpEvent) → IsSound (first_reply end event)
+first-sound end (Command (line.Retr path)) = sound 150 _ (search rules) refl
+first-sound end (Command (line.Stor path)) = sound 150 _ (search rules) refl
+first-sound end (Command (line.Rest to)) = rest-sound (nat_le to end)
+first-sound end (Command line.TypeCode) = sound 200 _ (search rules) refl
+first-sound end (Command line.Abor) = sound 226 _ (search rules) refl
+first-sound end (Command line.Quit) = sound 221 _ (search rules) refl
+first-sound end (Command _) = sound 502 _ (search rules) refl
+first-sound end (Refused fault) = sound 500 _ (search rules) refl
+
+final-sound : (ending : Ending) → IsSound (final_reply ending)
+final-sound Complete = sound 226 _ (search rules) refl
+final-sound NotOpened = sound 425 _ (search rules) refl
+final-sound Aborted = sound 426 _ (search rules) refl
+final-sound NotClosed = sound 451 _ (search rules) refl
+
+pub all-sent : (answers : List DataAnswer)
+    → SaysOnly (λ reply. ¬ (reply ≡ Nothing)) (transfers_law answers)
+all-sent = says-only (λ reply. ¬ (reply ≡ Nothing)) (λ end event. (first-sound end event).0)
+    (λ ending. (final-sound ending).0)
+
+pub all-plain : (answers : List DataAnswer) → SaysOnly IsPlain (transfers_law answers)
+all-plain = says-only IsPlain (λ end event. (first-sound end event).1)
+    (λ ending. (final-sound ending).1)
+
+rest-final : (fits : Bool)
+    → is_preliminary_reply (if fits then restart_reply else beyond_end_reply) ≡ false
+rest-final true = refl
+rest-final false = refl
+
+final-final : (ending : Ending) → is_preliminary_reply (final_reply ending) ≡ false
+final-final Complete = refl
+final-final NotOpened = refl
+final-final Aborted = refl
+final-final NotClosed = refl
+
+pub exchanges : (answers : List DataAnswer) → GivesExchanges (transfers_law answers)
+exchanges answers s (Command (line.Retr path)) =
+    (refl, final-final (outcome_of_retr answers s).ending)
+exchanges answers s (Command (line.Stor path)) =
+    (refl, final-final (outcome_of_stor answers s).ending)
+exchanges answers s (Command (line.Rest to)) = rest-final (nat_le to (length s.file))
+exchanges answers s (Command _) = refl
+exchanges answers s (Refused fault) = refl

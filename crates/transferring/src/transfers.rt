@@ -1,0 +1,283 @@
+//! A session that transfers a file.
+ghost use Rattle.std.specs.Prelude.{◌≡◌, ◌∷◌, [], List, None, Some, IfErr, IfOk, IfSome};
+ghost use Rattle.std.specs.Io.KnownBytes.{Appends};
+ghost use Rattle.unftp_control_command.specs.CommandMeaning.{command_of};
+ghost use Rattle.unftp_control_defs.specs.Events.{Command as Meant, out_of_memory};
+ghost use Rattle.unftp_control_defs.specs.Run.{last_state, run_for, text_for};
+ghost use Rattle.unftp_control_defs.specs.Input.{input_state_of};
+ghost use Rattle.unftp_control_serve.specs.Endings.{snapshot_of};
+ghost use Rattle.unftp_control_serve.specs.Service.{ServeEnded, Serves};
+ghost use Rattle.unftp_control_reply.specs.ErrorMeaning.{fault_of};
+ghost use Rattle.unftp_control_reply.specs.ReplyMeaning.{reply_of};
+ghost use Rattle.unftp_control_serve.specs.EventMeaning.{event_meant};
+ghost use Rattle.unftp_control_serve.specs.Writing.{Begins};
+ghost use Rattle.transferring.specs.Answers.{DataAnswer};
+ghost use Rattle.transferring.specs.Transfers.{answers_of, at_start, failures_of, final_reply, first_reply, follow_up, offset_after, state_of, transfer_of, transfers_law};
+
+use crate::data::{Data, DataConnection};
+use crate::transfer::{Ending, Transfer, retrieve, store};
+use std::alloc::Global;
+use std::io::{Read, Write};
+use unftp_control_command::Command;
+use unftp_control_reply::error::ControlChanError;
+use unftp_control_reply::{Reply, ReplyCode};
+use unftp_control_serve::{Count, Event, Input, Output, ServeError, Served, Session, serve};
+
+/// Serves one file, which is held in memory: RETR sends it and STOR replaces it, whichever path
+/// they name (RFC 959, section 4.1.3), from the offset of REST on (RFC 3659, section 5). Both are
+/// answered 150 before the transfer, and 226, 425, 426 or 451 after it (RFC 959, section 5.4).
+///
+/// It fails only when out of memory. Where that is in a transfer, the data connection is left open.
+#[derive(Drop)]
+pub struct Transfers<D: DataConnection> {
+    connection: Data<D>,
+    file: Vec<u8>,
+    offset: usize,
+    pending: Option<Transfer>,
+    quit: bool,
+    failures: Count,
+}
+
+impl<D: DataConnection> Transfers<D> {
+    /// A session with this file, before the first event.
+    pub fn new(connection: D, file: Vec<u8>) -> Transfers<D>
+        ensures state { state_of D.contents result
+            ≡ at_start (D.contents connection) file.items }
+        ensures answers { answers_of result ≡ [] }
+        ensures failures { failures_of result ≡ 0 }
+    {
+        Transfers {
+            connection: Data::new(connection),
+            file,
+            offset: 0,
+            pending: None,
+            quit: false,
+            failures: Count::new(),
+        }
+    }
+
+    /// The file.
+    pub fn file(&self) -> &[u8]
+        ensures { result.now ≡ self.now.file.items }
+    {
+        self.file.as_slice()
+    }
+
+    /// The data connection.
+    pub fn connection(&self) -> &D
+        ensures { result.now ≡ self.now.connection.inner }
+    {
+        self.connection.inner()
+    }
+
+    /// Makes this transfer, and returns the reply after it. It fails only when out of memory.
+    fn answer_transfer(
+        &mut self,
+        alloc: Global,
+        transfer: Transfer,
+    ) -> Result<Reply, ControlChanError>
+        requires { self.old.pending ≡ None }
+        ensures heard { Begins (answers_of self.new) (answers_of self.old) }
+        ensures ok { IfOk result (λ reply. (answers : List DataAnswer)
+            → Begins answers (answers_of self.new)
+            → follow_up (state_of D.contents self.old) (Some transfer) answers
+            ≡ (reply_of reply, state_of D.contents self.new) ∷ []) }
+        ensures pending { self.new.pending ≡ None }
+        ensures failures { self.new.failures ≡ self.old.failures }
+        ensures err { IfErr result (λ error. fault_of error ≡ out_of_memory) }
+    {
+        let ending = self.transfer(alloc, transfer)?;
+        final_reply(alloc, ending)
+    }
+
+    /// Makes this transfer. It fails only when out of memory.
+    fn transfer(&mut self, alloc: Global, transfer: Transfer) -> Result<Ending, ControlChanError>
+        requires { self.old.pending ≡ None }
+        ensures heard { Begins (answers_of self.new) (answers_of self.old) }
+        ensures ok { IfOk result (λ ending. (answers : List DataAnswer)
+            → Begins answers (answers_of self.new)
+            → follow_up (state_of D.contents self.old) (Some transfer) answers
+            ≡ (final_reply ending, state_of D.contents self.new) ∷ []) }
+        ensures pending { self.new.pending ≡ None }
+        ensures failures { self.new.failures ≡ self.old.failures }
+        ensures err { IfErr result (λ error. fault_of error ≡ out_of_memory) }
+    {
+        let offset = self.offset;
+        self.offset = 0;
+        match transfer {
+            Transfer::Retrieve => Ok(retrieve(&mut self.connection, &self.file, offset)),
+            Transfer::Store => store(alloc, &mut self.connection, &mut self.file, offset),
+        }
+    }
+}
+
+/// Which transfer an event asks for.
+fn transfer_of(event: &Event) -> Option<Transfer>
+    ensures { result ≡ transfer_of (event_meant event.now) }
+{
+    match event {
+        Event::Command(Command::Retr { .. }) => Some(Transfer::Retrieve),
+        Event::Command(Command::Stor { .. }) => Some(Transfer::Store),
+        _ => None,
+    }
+}
+
+/// Where the next transfer begins after an event, in a file of so many bytes.
+fn offset_after(offset: usize, end: usize, event: &Event) -> usize
+    ensures { result ≡ offset_after offset end (event_meant event.now) }
+{
+    match event {
+        Event::Command(Command::Rest { offset: to }) => {
+            let to = *to as usize;
+            if to <= end { to } else { offset }
+        }
+        _ => offset,
+    }
+}
+
+/// The first reply to an event, where the file has so many bytes. It fails only when out of memory.
+fn first_reply(alloc: Global, end: usize, event: &Event) -> Result<Reply, ControlChanError>
+    ensures ok { IfOk result (λ reply. reply_of reply ≡ first_reply end (event_meant event.now)) }
+    ensures err { IfErr result (λ error. fault_of error ≡ out_of_memory) }
+{
+    match event {
+        Event::Command(command) => command_reply(alloc, end, command),
+        Event::Refused(_) => Reply::new(alloc, ReplyCode::CommandSyntaxError, "Not understood"),
+    }
+}
+
+/// The first reply to a command. It fails only when out of memory.
+fn command_reply(alloc: Global, end: usize, command: &Command) -> Result<Reply, ControlChanError>
+    ensures ok { IfOk result (λ reply.
+        reply_of reply ≡ first_reply end (Meant (command_of command.now))) }
+    ensures err { IfErr result (λ error. fault_of error ≡ out_of_memory) }
+{
+    let (code, text) = match command {
+        Command::Retr { .. } | Command::Stor { .. } => {
+            (ReplyCode::FileStatusOkay, "Opening data connection")
+        }
+        Command::Rest { offset } if *offset as usize <= end => {
+            (
+                ReplyCode::FileActionPending,
+                "Send RETR or STOR to transfer from there",
+            )
+        }
+        Command::Rest { .. } => (
+            ReplyCode::ParameterSyntaxError,
+            "Beyond the end of the file",
+        ),
+        Command::TypeCode => (ReplyCode::CommandOkay, "Always in image type"),
+        Command::Abor => (ReplyCode::ClosingDataConnection, "No transfer in progress"),
+        Command::Quit => (ReplyCode::ClosingControlConnection, "Bye"),
+        _ => (ReplyCode::CommandNotImplemented, "Not implemented"),
+    };
+    Reply::new(alloc, code, text)
+}
+
+/// The reply after a transfer. It fails only when out of memory.
+fn final_reply(alloc: Global, ending: Ending) -> Result<Reply, ControlChanError>
+    ensures ok { IfOk result (λ reply. reply_of reply ≡ final_reply ending) }
+    ensures err { IfErr result (λ error. fault_of error ≡ out_of_memory) }
+{
+    let (code, text) = match ending {
+        Ending::Complete => (ReplyCode::ClosingDataConnection, "Transfer complete"),
+        Ending::NotOpened => (
+            ReplyCode::CantOpenDataConnection,
+            "Can't open data connection",
+        ),
+        Ending::Aborted => (
+            ReplyCode::ConnectionClosed,
+            "Connection closed; transfer aborted",
+        ),
+        Ending::NotClosed => (ReplyCode::LocalError, "Data connection could not be closed"),
+    };
+    Reply::new(alloc, code, text)
+}
+
+impl<D: DataConnection> Session for Transfers<D> {
+    ghost use Rattle.transferring.specs.Answers.{DataAnswer};
+    ghost use Rattle.transferring.specs.Transfers.{TransferState, answers_of, failures_of, left_in, state_of, transfers_law};
+
+    ghost State = { TransferState };
+
+    ghost Said = { DataAnswer };
+
+    ghost state = { state_of D.contents };
+
+    ghost heard = { answers_of };
+
+    ghost law = { transfers_law };
+
+    ghost left = { left_in };
+
+    ghost failures = { failures_of };
+
+    fn first(&mut self, alloc: Global, event: Event) -> Result<Reply, ControlChanError> {
+        let end = self.file.len();
+        self.pending = transfer_of(&event);
+        self.offset = offset_after(self.offset, end, &event);
+        self.quit = event.is_quit();
+        let reply = first_reply(alloc, end, &event);
+        drop(event);
+        if reply.is_err() {
+            self.failures.raise();
+        }
+        reply
+    }
+
+    fn further(&mut self, alloc: Global) -> Result<Option<Reply>, ControlChanError> {
+        let Some(transfer) = self.pending.take() else {
+            return Ok(None);
+        };
+        let reply = self.answer_transfer(alloc, transfer);
+        match reply {
+            Ok(reply) => Ok(Some(reply)),
+            Err(error) => {
+                self.failures.raise();
+                Err(error)
+            }
+        }
+    }
+
+    fn done(&self) -> bool {
+        self.quit
+    }
+}
+
+/// Answers the lines that the reader gives, as `serve` does, with the same errors. Each transfer is
+/// over before the next line is taken, so ABOR finds none to abort, and is answered 226 (RFC 959,
+/// section 4.1.3).
+///
+/// A line may have any length: for input that is not trusted, call `serve_with_limit` with these
+/// transfers, under the same law.
+pub fn serve_transfers<R: Read, W: Write, D: DataConnection>(
+    alloc: Global,
+    reader: &mut Input<R>,
+    writer: &mut Output<W>,
+    transfers: &mut Transfers<D>,
+) -> Result<Served, ServeError>
+    // At Ok, where the bytes of the input are known: what was written, byte by byte, by all that
+    // the data connection answered; and the last state: which bytes were sent over it, and the
+    // file.
+    ensures written { IfOk result (λ served. IfSome (R.remaining reader.old.reader) (λ input.
+        Appends (W.contents writer.old.writer) (W.contents writer.new.writer)
+        (text_for None (transfers_law (answers_of transfers.new))
+        (state_of D.contents transfers.old) input))) }
+    ensures state { IfOk result (λ served. IfSome (R.remaining reader.old.reader) (λ input.
+        state_of D.contents transfers.new
+        ≡ last_state (transfers_law (answers_of transfers.new))
+        (state_of D.contents transfers.old)
+        (run_for None (transfers_law (answers_of transfers.new))
+        (state_of D.contents transfers.old) input))) }
+    // At Ok, of any reader and any writer, and at each error.
+    ensures ok { IfOk result (Serves None (transfers_law (answers_of transfers.new))
+        (snapshot_of (state_of D.contents) failures_of W.contents transfers.old writer.old)
+        (snapshot_of (state_of D.contents) failures_of W.contents transfers.new writer.new)
+        (input_state_of R.remaining reader.old) (input_state_of R.remaining reader.new)) }
+    ensures err { IfErr result (ServeEnded None (transfers_law (answers_of transfers.new))
+        (snapshot_of (state_of D.contents) failures_of W.contents transfers.old writer.old)
+        (snapshot_of (state_of D.contents) failures_of W.contents transfers.new writer.new)
+        (input_state_of R.remaining reader.old) (input_state_of R.remaining reader.new)) }
+{
+    serve(alloc, reader, writer, transfers)
+}

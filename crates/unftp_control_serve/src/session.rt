@@ -1,0 +1,104 @@
+//! What gives the replies to the events, one after the other, and the law that it keeps.
+ghost use Rattle.std.specs.Prelude.{◌≡◌, ◌+◌, ◌<◌, ℕ, List, [], IfOk, IfErr, IfSome, OnOk, OnErr};
+ghost use Rattle.unftp_control_defs.specs.Run.{SessionLaw, Follows, as_session};
+ghost use Rattle.unftp_control_reply.specs.ErrorMeaning.{fault_of};
+ghost use Rattle.unftp_control_reply.specs.ReplyMeaning.{reply_of};
+ghost use Rattle.unftp_control_serve.specs.EventMeaning.{event_meant, further_of};
+ghost use Rattle.unftp_control_serve.specs.Writing.{Begins};
+
+use crate::event::Event;
+use crate::handler::Handler;
+use std::alloc::Global;
+use unftp_control_reply::Reply;
+use unftp_control_reply::error::ControlChanError;
+
+/// Answers the events of a connection, one after the other, each with one reply or with several, as
+/// 150 and 226 to RETR (RFC 959, section 5.4). Every `Handler` is one, with one reply to each.
+///
+/// Its law states what that of a handler states, and which replies follow in a state. What comes
+/// from outside, as what a data connection answers, is heard in the calls: the law is a function of
+/// all that is heard in the session, and each call keeps it whatever is heard later.
+pub trait Session {
+    // What contracts see of it: its state, what it has heard so far, its law, a number that falls
+    // with each reply that follows, and how often it has failed.
+    ghost State: { Type 0 };
+
+    ghost Said: { Type 0 };
+
+    ghost state: { Self → State };
+
+    ghost heard: { Self → List Said };
+
+    ghost law: { List Said → SessionLaw State };
+
+    ghost left: { State → ℕ };
+
+    ghost failures: { Self → ℕ };
+
+    /// Returns the first reply to an event. An error has to be one that the law's `may_fail`
+    /// allows: it ends the connection, and the state is unspecified after it.
+    fn first(&mut self, alloc: Global, event: Event) -> Result<Reply, ControlChanError>
+        ensures heard { Begins (heard self.new) (heard self.old) }
+        ensures says { IfOk result (λ reply. (said : List Said) → Begins said (heard self.new)
+            → reply_of reply ≡ (law said).says (state self.old) (event_meant event)) }
+        ensures next { OnOk result ((said : List Said) → Begins said (heard self.new)
+            → state self.new ≡ (law said).next (state self.old) (event_meant event)) }
+        ensures quiet { OnOk result (failures self.new ≡ failures self.old) }
+        ensures may_fail { IfErr result (λ error. (said : List Said)
+            → Begins said (heard self.new)
+            → (law said).may_fail (state self.old) (event_meant event) (fault_of error)) }
+        ensures counted { OnErr result (failures self.new ≡ failures self.old + 1) };
+
+    /// Returns the next reply to the event, if there is one. It is called after each reply, once
+    /// that is written and flushed, until there is none: a transfer happens here. An error has to
+    /// be one that the law's `may_break` allows, and ends the connection too.
+    fn further(&mut self, alloc: Global) -> Result<Option<Reply>, ControlChanError>
+        ensures heard { Begins (heard self.new) (heard self.old) }
+        ensures follows { IfOk result (λ reply. (said : List Said)
+            → Begins said (heard self.new)
+            → Follows (law said) (state self.old) (further_of reply) (state self.new)) }
+        ensures fewer { IfOk result (λ reply. IfSome reply (λ _.
+            left (state self.new) < left (state self.old))) }
+        ensures quiet { OnOk result (failures self.new ≡ failures self.old) }
+        ensures may_break { IfErr result (λ error. (said : List Said)
+            → Begins said (heard self.new)
+            → (law said).may_break (state self.old) (fault_of error)) }
+        ensures counted { OnErr result (failures self.new ≡ failures self.old + 1) };
+
+    /// Whether the session ends here: it is asked after each event, once all its replies are sent,
+    /// and never before the first.
+    fn done(&self) -> bool
+        ensures { (said : List Said) → result ≡ (law said).done (state self.now) };
+}
+
+/// One reply to each event.
+impl<H: Handler> Session for H {
+    ghost State = { H.State };
+
+    ghost Said = { Unit {0} };
+
+    ghost state = { H.state };
+
+    ghost heard = { λ handler. [] };
+
+    ghost law = { λ said. as_session H.law };
+
+    ghost left = { λ state. 0 };
+
+    ghost failures = { H.failures };
+
+    #[inline(always)]
+    fn first(&mut self, alloc: Global, event: Event) -> Result<Reply, ControlChanError> {
+        self.handle(alloc, event)
+    }
+
+    #[inline(always)]
+    fn further(&mut self, _alloc: Global) -> Result<Option<Reply>, ControlChanError> {
+        Ok(None)
+    }
+
+    #[inline(always)]
+    fn done(&self) -> bool {
+        Handler::done(self)
+    }
+}
