@@ -1,5 +1,5 @@
 -- How much room the name and the value of a line's command need.
-use Rattle.std.proofs.Common.{◌≡◌, ℕ, zero, suc, ◌+◌, ◌*◌, ◌^◌, ◌<◌, ◌≤◌, Bool, true, false, cond, ◌==◌, ◌&&◌, nat_lt, List, [], ◌∷◌, ◌++◌, flat_map, length, take, drop, length-drop, length-append, ◌⊎◌, inl, inr, Option, Some, None, option_map, unwrap_or, find, Ok, Err, bytes_eq, codes, decimal, refl, ap, subst, arith, rules, IsTrue}
+use Rattle.std.proofs.Common.{◌≡◌, ℕ, zero, suc, ◌+◌, ◌*◌, ◌^◌, ◌<◌, ◌≤◌, Bool, true, false, cond, ◌==◌, ◌&&◌, nat_lt, List, [], ◌∷◌, ◌++◌, length, take, drop, length-drop, length-append, ◌⊎◌, inl, inr, Option, Some, None, option_map, unwrap_or, find, Ok, Err, bytes_eq, codes, decimal, refl, ap, subst, arith, rules, IsTrue}
 use Rattle.std.specs.Bool.{⊤}
 use Rattle.std.specs.Char.{to_ascii_uppercase}
 use Rattle.std.specs.List.{AllByRecursion, slice_index}
@@ -20,7 +20,7 @@ use Rattle.unftp_control_defs.specs.FtpCommand.{FtpCommand, User, Pass, Acct, St
 use Rattle.unftp_control_defs.specs.Outcome.{answer_by, outcome, site_answer, value_answer}
 use Rattle.unftp_control_defs.specs.Paths.{path_of}
 use Rattle.unftp_control_defs.specs.Rules.{raw, without_parameter, any_text, some_text, maybe_text, unless_empty, chosen, structures, modes, protections, options, buffer_sizes, mechanisms, auth, offset, listing, Rule, Ignores, Takes, Splits, row_of, verbs, rule_of, subcommand_answer}
-use Rattle.unftp_control_defs.specs.Values.{ValueUnit, Return, Byte, unit_bytes, unit_value, Reads, nothing, ended, ended_crlf, one_byte, divided}
+use Rattle.unftp_control_defs.specs.Values.{ReadsLater, ends_crlf, ends_lf, cr_nul, byte, Reads, nothing, ended, ended_crlf, one_byte, first_cr_nul, first_byte}
 use Rattle.unftp_control_defs.specs.Verbs.{verb_of, parameter_of, upper, is_separator}
 use Rattle.unftp_control_defs.proofs.AnswerLemmas.{passed}
 use Rattle.unftp_control_defs.proofs.PathLemmas.{path_of-keeps}
@@ -67,33 +67,23 @@ path_length text = path_of-keeps (λ path. length path ≤ length text) (omega a
     (λ front path h. omega (arith, h, length-append front (SP ∷ path))) text (omega arith)
 
 -- A value is no longer than its parameter.
-units_length : (units : List ValueUnit) → length units ≤ length (flat_map unit_bytes units)
-units_length [] = omega arith
-units_length (Return ∷ units) = omega (arith, units_length units)
-units_length (Byte b ∷ units) = omega (arith, units_length units)
+later_length : {fresh : Bool} {bytes v : Bytes} → ReadsLater fresh bytes v
+    → length v ≤ length bytes
+later_length ends_crlf = omega arith
+later_length ends_lf = omega arith
+later_length (cr_nul h) = omega (arith, later_length h)
+later_length (byte no_cr may h) = omega (arith, later_length h)
 
-unit_length : (unit : ValueUnit) → 1 ≤ length (unit_bytes unit)
-unit_length Return = omega arith
-unit_length (Byte b) = omega arith
+reads_length : {parameter v : Bytes} → Reads parameter v → length v ≤ length parameter
+reads_length nothing = omega arith
+reads_length ended = omega arith
+reads_length ended_crlf = omega arith
+reads_length (one_byte no_cr no_lf) = omega arith
+reads_length (first_cr_nul h) = omega (arith, later_length h)
+reads_length (first_byte no_lf apart h) = omega (arith, later_length h)
 
 value_length : (parameter v : Bytes) → value_of parameter ≡ Some v → length v ≤ length parameter
-value_length parameter v e = by_reads (Reads-value_of parameter v e)
-  where
-    by_reads : Reads parameter v → length v ≤ length parameter
-    by_reads (nothing p e) = omega (arith, ap length e)
-    by_reads (ended rest p e) = omega (arith, ap length e)
-    by_reads (ended_crlf p e) = omega (arith, ap length e)
-    by_reads (one_byte b no_cr no_lf p e) = omega (arith, ap length p, ap length e)
-    by_reads (divided d) =
-        let whole = simp length-append at (ap length d.whole) in
-        omega (
-          arith,
-          whole,
-          ap length d.joined,
-          length-map d.later unit_value,
-          units_length d.later,
-          unit_length d.first,
-        )
+value_length parameter v e = reads_length (Reads-value_of parameter v e)
 
 -- the room for a command
 abbrev room : FtpCommand → ℕ

@@ -1,48 +1,42 @@
 -- A text that is escaped and ended by CR LF is read back.
-use Rattle.std.proofs.Common.{◌≡◌, ◌≢◌, ℕ, true, false, [], ◌∷◌, ◌++◌, ◌⊎◌, Some, Ok, refl, ap, ◌∙◌, inl, inr, eq-eqb, ne_eqb, codes, decimal, arith}
+use Rattle.std.proofs.Common.{◌≡◌, ◌≢◌, ℕ, Bool, true, false, [], ◌∷◌, ◌++◌, ◌⊎◌, Some, Ok, refl, ap, ◌∙◌, inl, inr, ne_eqb, codes, decimal, arith}
 use Rattle.std.specs.Str.{is_utf8, chars}
 use Rattle.std.proofs.lemmas.Bool.{cases_eq}
 use Rattle.unftp_control_defs.specs.Bytes.{Bytes, LF, CR, SP, crlf, Lacks}
-use Rattle.unftp_control_defs.specs.Values.{escaped}
-use Rattle.unftp_control_defs.specs.ComputedValue.{Fresh, Plain, later_value, value_of}
+use Rattle.unftp_control_defs.specs.Values.{ReadsLater, ends_crlf, cr_nul, byte, Reads, ended_crlf, first_cr_nul, first_byte, escaped}
+use Rattle.unftp_control_defs.specs.ComputedValue.{value_of}
 use Rattle.unftp_control_defs.specs.FtpCommand.{User}
 use Rattle.unftp_control_defs.specs.Rules.{raw}
 use Rattle.unftp_control_defs.specs.Outcome.{outcome, value_answer}
 use Rattle.unftp_control_defs.proofs.LackLemmas.{Lacks-decimal}
-use Rattle.unftp_control_defs.proofs.ValueLemmas.{return_step, byte_step, first_step}
+use Rattle.unftp_control_defs.proofs.LineEndLemmas.{not_cr}
+use Rattle.unftp_control_defs.proofs.ValueLemmas.{value_of-Reads}
 
--- what is read of an escaped text and CR LF from some position on
-abbrev ReadsBack : Bytes → Type 0
-ReadsBack text = (later_value Fresh (escaped text ++ crlf) ≡ Some text)
-    × (later_value Plain (escaped text ++ crlf) ≡ Some text)
+escaped_later : {fresh : Bool} (text : Bytes) → Lacks LF text
+    → ReadsLater fresh (escaped text ++ crlf) text
+escaped_later [] h = ends_crlf
+escaped_later {fresh} (b ∷ text) h =
+    by_byte (cases_eq b CR) (escaped_later text h.1) (escaped_later text h.1)
+  where
+    by_byte : (b ≡ CR) ⊎ (b ≢ CR) → ReadsLater true (escaped text ++ crlf) text
+        → ReadsLater false (escaped text ++ crlf) text
+        → ReadsLater fresh (escaped (b ∷ text) ++ crlf) (b ∷ text)
+    by_byte (inl e) fresh_back plain_back = rw e (cr_nul fresh_back)
+    by_byte (inr ne) fresh_back plain_back =
+        rw (ne_eqb b CR ne) (byte ne (λ e. absurd (h.0 e)) plain_back)
 
-next_back : {b : ℕ} {text : Bytes} → b ≢ LF → ReadsBack text → (b ≡ CR) ⊎ (b ≡ CR → ⊥)
-    → ReadsBack (b ∷ text)
-next_back {b} {text} no_lf more (inl e) =
-    rw (eq-eqb b CR e, e) (
-      return_step true (escaped text ++ crlf) text more.0,
-      return_step false (escaped text ++ crlf) text more.0,
-    )
-next_back {b} {text} no_lf more (inr ne) =
-    rw (ne_eqb b CR ne) (
-      byte_step true (escaped text ++ crlf) ne (λ _. refl) more.1,
-      byte_step false (escaped text ++ crlf) ne (λ e. absurd (no_lf e)) more.1,
-    )
-
-escaped_later : (text : Bytes) → Lacks LF text → ReadsBack text
-escaped_later [] h = (refl, refl)
-escaped_later (b ∷ text) h = next_back h.0 (escaped_later text h.1) (cases_eq b CR)
-
-first_back : {b : ℕ} {text : Bytes} → b ≢ LF → ReadsBack text → (b ≡ CR) ⊎ (b ≡ CR → ⊥)
-    → value_of (escaped (b ∷ text) ++ crlf) ≡ Some (b ∷ text)
-first_back {b} no_lf more (inl e) = rw (eq-eqb b CR e, e, more.0)
-first_back {b} {text} no_lf more (inr ne) =
-    rw (ne_eqb b CR ne) (first_step (escaped text ++ crlf) (no_lf, λ rest e. ne cc) more.0)
+escaped_back : (text : Bytes) → Lacks LF text → Reads (escaped text ++ crlf) text
+escaped_back [] h = ended_crlf
+escaped_back (b ∷ text) h = by_byte (cases_eq b CR)
+  where
+    by_byte : (b ≡ CR) ⊎ (b ≢ CR) → Reads (escaped (b ∷ text) ++ crlf) (b ∷ text)
+    by_byte (inl e) = rw e (first_cr_nul (escaped_later text h.1))
+    by_byte (inr ne) = rw (ne_eqb b CR ne) (first_byte h.0
+        (λ rest. not_cr ne) (escaped_later text h.1))
 
 -- the value of an escaped text
 pub value_of-escaped : (text : Bytes) → Lacks LF text → value_of (escaped text ++ crlf) ≡ Some text
-value_of-escaped [] h = refl
-value_of-escaped (b ∷ text) h = first_back h.0 (escaped_later text h.1) (cases_eq b CR)
+value_of-escaped text h = value_of-Reads (escaped_back text h)
 
 -- a text without a CR needs no escape
 escaped-without_cr : (text : Bytes) → Lacks CR text → escaped text ≡ text

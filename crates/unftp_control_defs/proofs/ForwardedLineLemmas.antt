@@ -1,5 +1,5 @@
 -- The line that is forwarded for a line is one line, and is read as the line's command.
-use Rattle.std.proofs.Common.{◌≡◌, ◌≢◌, ℕ, Bool, true, false, cond, List, [], ◌∷◌, ◌++◌, map, flat_map, ◌⊎◌, Option, Some, None, Ok, bytes_eq, refl, sym, ap, subst, ◌∙◌, inl, inr, ne_eqb, eq-eqb, codes, append_assoc, arith}
+use Rattle.std.proofs.Common.{◌≡◌, ◌≢◌, ℕ, Bool, true, false, cond, [], ◌∷◌, ◌++◌, ◌⊎◌, Option, Some, None, Ok, bytes_eq, refl, sym, ap, ◌∙◌, inl, inr, ne_eqb, eq-eqb, codes, append_assoc, arith}
 use Rattle.std.specs.List.{AllByRecursion}
 use Rattle.std.specs.Str.{is_utf8}
 use Rattle.std.proofs.lemmas.Bool.{cases_eq, false≢true}
@@ -8,7 +8,7 @@ use lib.Pointwise.{bytes_decides}
 use Rattle.unftp_control_defs.specs.Bytes.{Bytes, NUL, LF, CR, SP, crlf, Lacks}
 use Rattle.unftp_control_defs.specs.Lines.{IsLine}
 use Rattle.unftp_control_defs.specs.Verbs.{is_separator, verb_of, parameter_of, upper}
-use Rattle.unftp_control_defs.specs.Values.{ValueUnit, Return, Byte, unit_bytes, unit_value, FirstUnit, LaterUnits, End, Division, Reads, nothing, ended, ended_crlf, one_byte, divided}
+use Rattle.unftp_control_defs.specs.Values.{ReadsLater, ends_crlf, ends_lf, cr_nul, byte, Reads, nothing, ended, ended_crlf, one_byte, first_cr_nul, first_byte}
 use Rattle.unftp_control_defs.specs.ComputedValue.{value_of}
 use Rattle.unftp_control_defs.specs.FtpCommand.{FtpCommand, InvalidUtf8}
 use Rattle.unftp_control_defs.specs.Rules.{Rule, Ignores, Takes, Splits, rule_of}
@@ -20,9 +20,9 @@ use Rattle.unftp_control_defs.proofs.CanonicalLineLemmas.{outcome-canonical_line
 use Rattle.unftp_control_defs.proofs.CanonicalLineEndLemmas.{IsLine-canonical_line}
 use Rattle.unftp_control_defs.proofs.CommandLineLemmas.{HasLine-outcome, HasTypedFields-outcome, uppercased_name, uppercased_utf8}
 use Rattle.unftp_control_defs.proofs.LackLemmas.{Lacks-append, Lacks-name}
-use Rattle.unftp_control_defs.proofs.LineEndLemmas.{EndsAtLf, IsLine-ends, parameter_of-ends, value_of-lacks}
+use Rattle.unftp_control_defs.proofs.LineEndLemmas.{EndsAtLf, inner, parts, not_cr, IsLine-ends, parameter_of-ends}
 use Rattle.unftp_control_defs.proofs.UpperLemmas.{bare_name, upper-IsUpperCaseName}
-use Rattle.unftp_control_defs.proofs.ValueLemmas.{Reads-value_of, value_of-Reads, first_step}
+use Rattle.unftp_control_defs.proofs.ValueLemmas.{Reads-value_of, value_of-Reads}
 use Rattle.unftp_control_defs.proofs.VerbLemmas.{parted_cut, verb_step, parameter_step}
 
 -- no end begins at a byte other than LF where no LF follows
@@ -61,100 +61,54 @@ before_end-crlf (b ∷ text) rest h =
     (no_end b (text ++ CR ∷ LF ∷ rest) h.0 (next_byte text (LF ∷ rest) h.1))
     ∙ ap (λ t. b ∷ t) (before_end-crlf text rest h.1)
 
--- The units of a value and an end.
-units_before_end : (fresh : Bool) (units : List ValueUnit) {end : Bytes} (ignored : Bytes)
-    → LaterUnits fresh units → Lacks LF (map unit_value units) → (end ≡ crlf) ⊎ (end ≡ LF ∷ [])
-    → before_end (flat_map unit_bytes units ++ (end ++ ignored)) ≡ flat_map unit_bytes units
-units_before_end fresh [] ignored are h (inl e) = rw e
-units_before_end fresh [] ignored are h (inr e) = rw e
-units_before_end fresh (Return ∷ units) {end} ignored are h e =
-    ap (λ t. CR ∷ NUL ∷ t) (units_before_end true units ignored are h.1 e)
-units_before_end fresh (Byte b ∷ units) {end} ignored are h e =
-    rw (ne_eqb b LF h.0, ne_eqb b CR are.0)
-    (ap (λ t. b ∷ t) (units_before_end false units ignored are.2 h.1 e))
-
-either_end : (later : List ValueUnit) (end : Bytes) → End later end → (end ≡ crlf) ⊎ (end ≡ LF ∷ [])
-either_end later end (inl e) = inl e
-either_end later end (inr p) = inr p.3
-
--- no LF follows the first unit
-after_first : (later : List ValueUnit) {end : Bytes} (ignored : Bytes)
-    → Lacks LF (map unit_value later)
-    → End later end → begins_with_lf (flat_map unit_bytes later ++ (end ++ ignored)) ≡ false
-after_first [] ignored h (inl e) = rw e
-after_first [] ignored h (inr p) = absurd (no_units p.0 p.1 p.2)
-  where
-    no_units : (before : List ValueUnit) (b : ℕ) → [] ≡ before ++ Byte b ∷ [] → ⊥
-    no_units [] b e = cc
-    no_units (unit ∷ before) b e = cc
-after_first (Return ∷ later) ignored h e = refl
-after_first (Byte b ∷ later) ignored h e = rw (ne_eqb b LF h.0)
-
-first_before_end : (first : ValueUnit) (later : List ValueUnit) {end : Bytes} (ignored : Bytes)
-    → LaterUnits true later → Lacks LF (unit_value first ∷ map unit_value later) → End later end
-    → before_end (unit_bytes first ++ (flat_map unit_bytes later ++ (end ++ ignored)))
-    ≡ unit_bytes first ++ flat_map unit_bytes later
-first_before_end Return later {end} ignored are h e =
-    ap (λ t. CR ∷ NUL ∷ t)
-    (units_before_end true later ignored are h.1 (either_end later end e))
-first_before_end (Byte b) later {end} ignored are h e =
-    let after : Bytes = flat_map unit_bytes later ++ (end ++ ignored) in
-    before_end-byte b after (no_end b after h.0 (after_first later ignored h.1 e))
-    ∙ ap (λ t. b ∷ t) (units_before_end true later ignored are h.1 (either_end later end e))
-
--- with CR LF for its end the first unit is the same
-same_first : (first : ValueUnit) (later : List ValueUnit) (more : Bytes)
-    → FirstUnit (unit_bytes first ++ (flat_map unit_bytes later ++ more)) first
-    → FirstUnit (unit_bytes first ++ (flat_map unit_bytes later ++ (crlf ++ []))) first
-same_first Return later more is = tt
-same_first (Byte b) [] more is = (is.0, λ rest e. cc)
-same_first (Byte b) (Return ∷ later) more is = (is.0, λ rest e. cc)
-same_first (Byte b) (Byte c ∷ later) more is =
-    (is.0, λ rest e. is.1 (flat_map unit_bytes later ++ more) (both e))
-  where
-    both : {rest : Bytes} → b ∷ c ∷ (flat_map unit_bytes later ++ (crlf ++ [])) ≡ CR ∷ NUL ∷ rest
-        → b ∷ c ∷ (flat_map unit_bytes later ++ more)
-        ≡ CR ∷ NUL ∷ (flat_map unit_bytes later ++ more)
-    both e = cc
-
-divided_kept : (parameter v : Bytes) → Lacks LF v → Division parameter v
-    → value_of (before_end parameter ++ crlf) ≡ Some v
-divided_kept parameter v h d =
-    let front : Bytes = unit_bytes d.first ++ flat_map unit_bytes d.later in
-    let units : before_end parameter ≡ front = ap before_end d.whole
-    ∙ first_before_end d.first d.later d.ignored d.are_later (subst (Lacks LF) d.joined h)
-    d.is_end in
-    let whole : before_end parameter ++ crlf ≡ unit_bytes d.first
-    ++ (flat_map unit_bytes d.later ++ (crlf ++ [])) = ap (λ t. t ++ crlf) units
-    ∙ append_assoc (unit_bytes d.first) (flat_map unit_bytes d.later) crlf in
-    let is_first = same_first d.first d.later (d.end ++ d.ignored)
-    (subst (λ p. FirstUnit p d.first) d.whole d.is_first) in
-    value_of-Reads (before_end parameter ++ crlf) v (divided (record {
-      first = d.first;
-      later = d.later;
-      end = crlf;
-      ignored = [];
-      whole = whole;
-      is_first = subst (λ p. FirstUnit p d.first) (sym whole) is_first;
-      are_later = d.are_later;
-      is_end = inl refl;
-      joined = d.joined;
-    }))
-
 -- With CR LF for its end the parameter has the same value.
+later_kept : {fresh : Bool} {bytes v : Bytes} → EndsAtLf bytes → ReadsLater fresh bytes v
+    → ReadsLater fresh (before_end bytes ++ crlf) v
+later_kept h ends_crlf = ends_crlf
+later_kept h ends_lf = ends_crlf
+later_kept h (cr_nul r) = cr_nul (later_kept h.1.1 r)
+later_kept h (byte {b} no_cr may r) =
+    rw (ne_eqb b LF (inner h r), ne_eqb b CR no_cr) (byte no_cr may (later_kept h.1 r))
+
+no_lf_first : {bytes v : Bytes} → EndsAtLf bytes → ReadsLater true bytes v
+    → begins_with_lf bytes ≡ false
+no_lf_first h ends_crlf = refl
+no_lf_first h (cr_nul r) = refl
+no_lf_first h (byte {b} no_cr may r) = rw (ne_eqb b LF (inner h r))
+
+-- the first byte stays, and a NUL after it is no other one
+same_next : {bytes v rest : Bytes} → EndsAtLf bytes → ReadsLater true bytes v
+    → before_end bytes ++ crlf ≡ NUL ∷ rest → (more : Bytes) × (bytes ≡ NUL ∷ more)
+same_next h ends_crlf e = absurd (let clash : CR ≡ NUL = cc in omega arith)
+same_next h (cr_nul r) e = absurd (let clash : CR ≡ NUL = cc in omega arith)
+same_next {rest} h (byte {b} {bytes} no_cr may r) e =
+    let f : b ∷ (before_end bytes ++ crlf) ≡ NUL ∷ rest =
+    rw (ne_eqb b LF (inner h r), ne_eqb b CR no_cr) at e in
+    let is : b ≡ NUL = cc in (bytes, ap (λ c. c ∷ bytes) is)
+
+apart_kept : {b : ℕ} {bytes v : Bytes} → EndsAtLf bytes → ReadsLater true bytes v
+    → ((rest : Bytes) → b ∷ bytes ≢ CR ∷ NUL ∷ rest) → (rest : Bytes)
+    → b ∷ (before_end bytes ++ crlf) ≢ CR ∷ NUL ∷ rest
+apart_kept h r apart rest q =
+    let both = parts q in
+    let more = same_next h r both.1 in
+    apart more.0 (λ i. both.0 i ∷ more.1 i)
+
+reads_kept : {parameter v : Bytes} → EndsAtLf parameter → Reads parameter v
+    → Reads (before_end parameter ++ crlf) v
+reads_kept h nothing = ended_crlf
+reads_kept h ended = ended_crlf
+reads_kept h ended_crlf = ended_crlf
+reads_kept h (one_byte {b} no_cr no_lf) =
+    rw (ne_eqb b LF no_lf, ne_eqb b CR no_cr) (first_byte no_lf (λ rest. not_cr no_cr) ends_crlf)
+reads_kept h (first_cr_nul r) = first_cr_nul (later_kept h.1.1 r)
+reads_kept h (first_byte {b} {bytes} no_lf apart r) =
+    rw (no_end b bytes no_lf (no_lf_first h.1 r))
+    (first_byte no_lf (apart_kept h.1 r apart) (later_kept h.1 r))
+
 value_kept : (parameter v : Bytes) → EndsAtLf parameter → value_of parameter ≡ Some v
     → value_of (before_end parameter ++ crlf) ≡ Some v
-value_kept parameter v ends h = by_reads (Reads-value_of parameter v h)
-  where
-    by_reads : Reads parameter v → value_of (before_end parameter ++ crlf) ≡ Some v
-    by_reads (nothing p e) = rw (p, e)
-    by_reads (ended rest p e) = rw (p, e)
-    by_reads (ended_crlf p e) = rw (p, e)
-    by_reads (one_byte b no_cr no_lf p e) =
-        let alone : before_end (b ∷ LF ∷ []) ≡ b ∷ [] = rw (ne_eqb b LF no_lf, ne_eqb b CR no_cr) in
-        rw (p, e) (ap (λ t. value_of (t ++ crlf)) alone
-        ∙ first_step crlf (no_lf, λ rest q. no_cr cc) refl)
-    by_reads (divided d) = divided_kept parameter v (value_of-lacks parameter v ends h) d
+value_kept parameter v ends h = value_of-Reads (reads_kept ends (Reads-value_of parameter v h))
 
 -- the parameter bytes of the line that is made
 abbrev made_parameter : Bytes → Bytes

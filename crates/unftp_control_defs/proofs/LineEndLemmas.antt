@@ -1,10 +1,10 @@
 -- In a line the one LF is the last byte. So it is in the parameter bytes, and the value has none.
-use Rattle.std.proofs.Common.{◌≡◌, ◌≢◌, ℕ, List, [], ◌∷◌, ◌++◌, map, flat_map, ◌⊎◌, Some, IsTrue, refl, sym, subst, ◌∙◌, append_assoc, inl, inr, arith}
+use Rattle.std.proofs.Common.{◌≡◌, ◌≢◌, ℕ, Bool, [], ◌∷◌, ◌++◌, ◌⊎◌, Some, IsTrue, refl, sym, subst, inl, inr, arith}
 use Rattle.std.specs.Bool.{⊤}
-use Rattle.unftp_control_defs.specs.Bytes.{Bytes, LF, Lacks}
+use Rattle.unftp_control_defs.specs.Bytes.{Bytes, NUL, LF, CR, Lacks}
 use Rattle.unftp_control_defs.specs.Lines.{IsLine}
 use Rattle.unftp_control_defs.specs.Verbs.{is_separator, verb_of, parameter_of}
-use Rattle.unftp_control_defs.specs.Values.{ValueUnit, Return, Byte, unit_bytes, unit_value, End, Division, Reads, nothing, ended, ended_crlf, one_byte, divided}
+use Rattle.unftp_control_defs.specs.Values.{ReadsLater, ends_crlf, ends_lf, cr_nul, byte, Reads, nothing, ended, ended_crlf, one_byte, first_cr_nul, first_byte}
 use Rattle.unftp_control_defs.specs.ComputedValue.{value_of}
 use Rattle.unftp_control_defs.proofs.ValueLemmas.{Reads-value_of}
 use Rattle.unftp_control_defs.proofs.VerbLemmas.{Cut-verb_of}
@@ -34,39 +34,40 @@ parameter_of-ends line h = by_whole (Cut-verb_of line).whole
     by_whole (inl p) = subst EndsAtLf (sym p.1) tt
     by_whole (inr p) = (rest_ends (verb_of line) (p.0 ∷ parameter_of line) (subst EndsAtLf p.2 h)).1
 
--- Before an end no unit is an LF.
-some_end : (bytes end : Bytes) → end ≢ [] → bytes ++ end ≢ []
-some_end [] end some e = some e
-some_end (b ∷ bytes) end some e = cc
+-- Before an end no byte is an LF.
+pub parts : {b : ℕ} {t rest : Bytes} → b ∷ t ≡ CR ∷ NUL ∷ rest → (b ≡ CR) × (t ≡ NUL ∷ rest)
+parts q = (cc, cc)
 
-units_lack : (units : List ValueUnit) (end : Bytes) → end ≢ []
-    → EndsAtLf (flat_map unit_bytes units ++ end) → Lacks LF (map unit_value units)
-units_lack [] end some h = tt
-units_lack (Return ∷ units) end some h = ((λ e. omega arith), units_lack units end some h.1.1)
-units_lack (Byte b ∷ units) end some h =
-    ((λ e. some_end (flat_map unit_bytes units) end some (h.0 e)), units_lack units end some h.1)
+pub not_cr : {b : ℕ} {t rest : Bytes} → b ≢ CR → b ∷ t ≢ CR ∷ NUL ∷ rest
+not_cr no_cr q = no_cr (parts q).0
 
-end_some : (later : List ValueUnit) (end ignored : Bytes) → End later end → end ++ ignored ≢ []
-end_some later [] ignored (inl p) e = cc
-end_some later [] ignored (inr p) e = let clash : [] ≡ LF ∷ [] = p.3 in cc
-end_some later (b ∷ end) ignored h e = cc
+pub later_some : {fresh : Bool} {bytes v : Bytes} → ReadsLater fresh bytes v → bytes ≢ []
+later_some ends_crlf e = cc
+later_some ends_lf e = cc
+later_some (cr_nul r) e = cc
+later_some (byte no_cr may r) e = cc
 
-division_lacks : (parameter v : Bytes) → EndsAtLf parameter → Division parameter v → Lacks LF v
-division_lacks parameter v h d =
-    let end : Bytes = d.end ++ d.ignored in
-    subst (Lacks LF) (sym d.joined)
-    (units_lack (d.first ∷ d.later) end (end_some d.later d.end d.ignored d.is_end)
-    (subst EndsAtLf
-    (d.whole ∙ sym (append_assoc (unit_bytes d.first) (flat_map unit_bytes d.later) end)) h))
+-- so no byte before an end is an LF
+pub inner : {b : ℕ} {fresh : Bool} {bytes v : Bytes} → EndsAtLf (b ∷ bytes) → ReadsLater fresh bytes v
+    → b ≢ LF
+inner h r e = later_some r (h.0 e)
+
+later_lacks : {fresh : Bool} {bytes v : Bytes} → EndsAtLf bytes → ReadsLater fresh bytes v
+    → Lacks LF v
+later_lacks h ends_crlf = tt
+later_lacks h ends_lf = tt
+later_lacks h (cr_nul r) = ((λ e. omega arith), later_lacks h.1.1 r)
+later_lacks h (byte no_cr may r) = (inner h r, later_lacks h.1 r)
+
+pub value_lacks : {parameter v : Bytes} → EndsAtLf parameter → Reads parameter v → Lacks LF v
+value_lacks h nothing = tt
+value_lacks h ended = tt
+value_lacks h ended_crlf = tt
+value_lacks h (one_byte no_cr no_lf) = (no_lf, tt)
+value_lacks h (first_cr_nul r) = ((λ e. omega arith), later_lacks h.1.1 r)
+value_lacks h (first_byte no_lf apart r) = (no_lf, later_lacks h.1 r)
 
 -- the value of parameter bytes whose one LF is the last
 pub value_of-lacks : (parameter v : Bytes) → EndsAtLf parameter → value_of parameter ≡ Some v
     → Lacks LF v
-value_of-lacks parameter v h e = by_reads (Reads-value_of parameter v e)
-  where
-    by_reads : Reads parameter v → Lacks LF v
-    by_reads (nothing p q) = subst (Lacks LF) (sym q) tt
-    by_reads (ended rest p q) = subst (Lacks LF) (sym q) tt
-    by_reads (ended_crlf p q) = subst (Lacks LF) (sym q) tt
-    by_reads (one_byte b no_cr no_lf p q) = subst (Lacks LF) (sym q) (no_lf, tt)
-    by_reads (divided d) = division_lacks parameter v h d
+value_of-lacks parameter v h e = value_lacks h (Reads-value_of parameter v e)

@@ -1,12 +1,17 @@
 -- The value of a parameter, computed from the left: it is the one that `Reads` relates to it.
-use Rattle.std.specs.Prelude.{ℕ, ◌==◌, ◌&&◌, if◌then◌else◌, [], ◌∷◌, Option, Some, None, option_map, bytes_eq}
+use Rattle.std.specs.Prelude.{ℕ, Bool, true, false, ◌==◌, ◌&&◌, not, if◌then◌else◌, [], ◌∷◌, Option, Some, None, option_map, bytes_eq}
 use Rattle.unftp_control_defs.specs.Bytes.{Bytes, NUL, LF, CR}
 
--- where a later byte is: directly after the first unit or a CR NUL; after a byte; after a CR
+-- where a later byte is: fresh or not, or after a CR
 pub data Context : Type 0 where
-  Fresh : Context
-  Plain : Context
+  After : Bool → Context
   Returning : Context
+
+abbrev pub Fresh : Context
+Fresh = After true
+
+abbrev pub Plain : Context
+Plain = After false
 
 -- the byte before the rest of the value, if there is one
 abbrev pub byte_then : ℕ → Option Bytes → Option Bytes
@@ -14,21 +19,19 @@ byte_then b rest = option_map (λ v. b ∷ v) rest
 
 abbrev pub later_value : Context → Bytes → Option Bytes
 later_value context [] = None
-later_value Fresh (b ∷ bytes) =
-    if b == CR then later_value Returning bytes else byte_then b (later_value Plain bytes)
-later_value Plain (b ∷ bytes) =
+later_value (After fresh) (b ∷ bytes) =
     if b == CR then later_value Returning bytes
-    else (if b == LF then Some [] else byte_then b (later_value Plain bytes))
+    else (if not fresh && (b == LF) then Some [] else byte_then b (later_value (After false) bytes))
 later_value Returning (b ∷ bytes) =
     if b == LF then Some []
-    else (if b == NUL then byte_then CR (later_value Fresh bytes) else None)
+    else (if b == NUL then byte_then CR (later_value (After true) bytes) else None)
 
--- from the first unit on
+-- from the first byte on
 abbrev pub first_value : ℕ → Bytes → Option Bytes
 first_value a [] = None
 first_value a (b ∷ bytes) = if (a == CR) && (b == NUL)
-    then byte_then CR (later_value Fresh bytes)
-    else byte_then a (later_value Fresh (b ∷ bytes))
+    then byte_then CR (later_value (After true) bytes)
+    else byte_then a (later_value (After true) (b ∷ bytes))
 
 abbrev pub value_of : Bytes → Option Bytes
 value_of [] = Some []

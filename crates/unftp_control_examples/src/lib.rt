@@ -13,4 +13,3 @@ pub mod replies;
 pub mod runs;
 pub mod turns;
 pub mod values;
-pub mod verbs;

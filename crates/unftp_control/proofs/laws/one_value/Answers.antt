@@ -3,6 +3,6 @@ use Rattle.unftp_control.proofs.laws.one_value.Goals as goal
 
 pub returns : goal.returns
 returns c = record {
-  value = λ parameter v. (value_of-Reads parameter v, Reads-value_of parameter v);
+  value = λ parameter v. (value_of-Reads, Reads-value_of parameter v);
   bad_end = λ parameter. (value_of-HasNoValue parameter, HasNoValue-value_of parameter);
 }

@@ -15,9 +15,9 @@ returns c = record {
   bare_cr_first = Reads-value_of _ _ refl;
   crlf_first = Reads-value_of _ _ refl;
   lf_after_the_first = Reads-value_of _ _ refl;
-  cut_short = λ reads. let value = value_of-Reads _ _ reads in cc;
-  cr_kept = λ reads. let value = value_of-Reads _ _ reads in cc;
-  end_kept = λ reads. let value = value_of-Reads _ _ reads in cc;
-  nul_kept = λ reads. let value = value_of-Reads _ _ reads in cc;
-  no_end = λ reads. let value = value_of-Reads _ _ reads in cc;
+  cut_short = λ reads. let value = value_of-Reads reads in cc;
+  cr_kept = λ reads. let value = value_of-Reads reads in cc;
+  end_kept = λ reads. let value = value_of-Reads reads in cc;
+  nul_kept = λ reads. let value = value_of-Reads reads in cc;
+  no_end = λ reads. let value = value_of-Reads reads in cc;
 }
