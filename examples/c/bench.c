@@ -1,7 +1,6 @@
 /*
  * Measures the calls of unftp_control.h: prints the nanoseconds that each takes, for a line or
- * a reply, the median of 50 rounds with the least and the greatest. The lines and the replies are
- * those of crates/control_bench.
+ * a reply, the median of 50 rounds with the least and the greatest.
  */
 #define _POSIX_C_SOURCE 200809L
 

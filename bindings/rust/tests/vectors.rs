@@ -124,7 +124,7 @@ fn kept(answer: &str) -> String {
 
 #[test]
 fn replies_come_step_by_step() {
-    for (words, answer) in calls("worked.tsv", &["receive", "receive_from"]) {
+    for (words, answer) in calls("worked.tsv", &["receive"]) {
         let mut decoder = ReplyDecoder::with_limit(limit(&words[0]));
         let mut parts = Vec::new();
         steps(&words[1..], |step, piece| {

@@ -9,7 +9,7 @@ use Rattle.std.proofs.lemmas.List.{append-nil, length-drop, length-map, length-t
 use Rattle.std.proofs.lemmas.List.Elements.{filter_map-append}
 use Rattle.std.proofs.lemmas.List.Folds.{concat-append}
 use Rattle.std.proofs.Math.Seq.{take-append_seam, take-append-add, drop-append_seam, drop-cons}
-use Rattle.unftp_control.specs.Acts.{Act, AreFirst, AtClient, AtServer, InOrder, IsConversation, IsUnderstood, Server, all_said, at_client, at_server, came_to_client, came_to_server, client_steps, exchanges, lines_of_client, reply_at, sent_by_client, taken_by_client, turns_to, written_by}
+use Rattle.unftp_control.specs.Acts.{Act, AreFirst, AtClient, AtServer, InOrder, IsConversation, IsUnderstood, Server, at_client, at_server, came_to_client, came_to_server, client_steps, exchanges, lines_of_client, reply_at, sent_by_client, taken_by_client, turns_to, written_by}
 use Rattle.unftp_control.specs.Bytes.{Bytes}
 use Rattle.unftp_control.specs.Canonical.{HasLine, canonical_line}
 use Rattle.unftp_control.specs.Conversation.{CanBeSent, sent}
@@ -24,8 +24,7 @@ use Rattle.unftp_control.specs.Lines.{IsLine}
 use Rattle.unftp_control.specs.ReplyDecoding.{HasError, PendingReplies, TakesNextReply, content, pushed}
 use Rattle.unftp_control.specs.Room.{LacksRoom}
 use Rattle.unftp_control.specs.ReplyReader.{HasFront}
-use Rattle.unftp_control.specs.Run.{SessionLaw, run_for, run_of, text_of}
-use Rattle.unftp_control.specs.Turns.{replies_by_event}
+use Rattle.unftp_control.specs.Run.{SessionLaw, run_for, run_of, text_of, replies_by_event, all_said}
 use Rattle.unftp_control.specs.Steps.{AreSteps, after_to, Received, Sent, Took, decoder_step, decoder_steps, lines_sent, replies_taken, reply_to, sent_by, taken_by}
 use Rattle.unftp_control.specs.TakingSteps.{AreTakingSteps, Pushed, Taken, TakesReply, TakingStep, all_pushed}
 use Rattle.unftp_control.specs.Writing.{Begins, appended_output}
@@ -37,7 +36,7 @@ use Rattle.unftp_control.specs.declared.client.SendError.{SendError}
 use Rattle.unftp_control.specs.declared.client.SendError.TheVariants.{NoLine, NotALine, OutOfMemory, TooManyCommands}
 use Rattle.unftp_control.specs.declared.read.NextReplyError.{NextReplyError}
 use Rattle.unftp_control.specs.declared.serve.ServeError.{ServeError}
-use Rattle.unftp_control.proofs.ActLemmas.{IsUnderstood-first, all_said-append, turns_first, turns_to_first, written-said}
+use Rattle.unftp_control.proofs.ActLemmas.{IsUnderstood-first, turns_first, turns_to_first, written-said}
 use Rattle.unftp_control.proofs.ClientStepLemmas.{steps-append, steps-sent, steps-taken}
 use Rattle.calling.specs.Conversing.{AreDone, Fails, HasConversed, HasTalked, IsAnswered, IsDone, IsNew, IsNotSent, IsNotTaken, IsReadBack, TakesNone, TakesOne, IsOver, first_snapshot, next_line, piece_of, server_of, turns_of}
 use Rattle.calling.specs.Pieces.{FailsAtPiece}
@@ -47,7 +46,7 @@ use Rattle.calling.specs.declared.conversation.ConverseError.{ConverseError}
 use Rattle.calling.specs.declared.conversation.ConverseError.TheVariants as error
 use Rattle.calling.specs.declared.conversation.Turn.{Turn}
 use Rattle.calling.specs.declared.conversation.Turn.TheVariants.{Send, ToServer, ToClient, Take}
-use Rattle.calling.proofs.PieceLemmas.{AnsweredSoFar}
+use Rattle.unftp_control.proofs.SoFarLemmas.{AnsweredSoFar}
 
 -- ---- a piece of some bytes
 
@@ -164,7 +163,7 @@ pub record Talks {S : Type 0} (server : Server S) (commands : List FtpCommand)
   pub to_client : c.to_client.items ≡ written_by server (came_to_server acts)
   pub at_client : came_to_client acts ≡ take c.at_client c.to_client.items
   pub taken : map reply_to c.taken.items ≡ taken_by_client acts
-  pub answered : AnsweredSoFar server.law start now (came_to_server acts) c.server
+  pub answered : AnsweredSoFar None server.law start now (came_to_server acts) c.server
 
 begins_taken : (at : ℕ) (bytes whole came : Bytes) → bytes ≡ whole → came ≡ take at bytes
     → Begins whole came
@@ -205,7 +204,7 @@ grown T limit law before after input piece items items' error had has (inl (out_
 grown T limit law before after input piece items items' error had has (inr (done, failed)) =
     let text = text_until (whole_text law before.state done failed.sent) failed.cause in (
       text,
-      sym has ∙ failed.ended.written.taken ∙ ap (λ bytes. bytes ++ text) had,
+      sym has ∙ failed.ended.given.written.taken ∙ ap (λ bytes. bytes ++ text) had,
     )
 
 -- the turn of this place, and those before and after it
@@ -305,7 +304,7 @@ module _ {c : Conversation} (within : Within c) (c' : Conversation) where
           let running : IsRunning c.server = (within.no_failure, on) in
           let text = text_of law now.state events in
           let grows : c'.to_client.items ≡ c.to_client.items ++ text =
-          sym has ∙ (answered running).written.taken ∙ ap (λ bytes. bytes ++ text) had in
+          sym has ∙ (answered running).given.written.taken ∙ ap (λ bytes. bytes ++ text) had in
           record {
             server = same_server;
             client = omega (
@@ -364,22 +363,26 @@ module _ {S : Type 0} (law : SessionLaw S) (state : S) (greeting : FtpReply)
 
   -- Before the first turn.
   none_answered : (written : Bytes) → written ≡ encoded greeting
-      → AnsweredSoFar law start (snapshot state failures (appended_output written)) [] (fresh None)
+      → AnsweredSoFar None law start (snapshot state failures (appended_output written)) []
+      (fresh None)
   none_answered written same = record {
     no_failure = refl;
-    any_length = refl;
+    limited = refl;
     finished = refl;
     incomplete = λ _. refl;
     left = refl;
+    scanned = omega arith;
     answered = record {
       ends_at = refl;
-      written = record {
-        taken = same ∙ sym (append-nil (encoded greeting));
-        known = same ∙ sym (append-nil (encoded greeting));
+      given = record {
+        written = record {
+          taken = same ∙ sym (append-nil (encoded greeting));
+          known = same ∙ sym (append-nil (encoded greeting));
+        };
+        flushed = omega arith;
+        write_failed = refl;
+        handler_failed = omega arith;
       };
-      flushed = omega arith;
-      write_failed = refl;
-      handler_failed = omega arith;
     };
   }
 
@@ -411,8 +414,8 @@ module _ {S : Type 0} (law : SessionLaw S) (state : S) (greeting : FtpReply)
     to_client = greeted ∙ sym (append-nil (encoded greeting));
     at_client = ap (λ n. take n c.to_client.items) (sym new.at_client);
     taken = ap (map reply_to) new.taken;
-    answered = subst (AnsweredSoFar law start (snapshot state failures (appended_output c.to_client.items))
-        []) (sym new.server) (none_answered c.to_client.items greeted);
+    answered = subst (AnsweredSoFar None law start
+        (snapshot state failures (appended_output c.to_client.items)) []) (sym new.server) (none_answered c.to_client.items greeted);
   }
 
   -- A command is sent.
@@ -470,9 +473,9 @@ module _ {S : Type 0} (law : SessionLaw S) (state : S) (greeting : FtpReply)
           at_client = at_client;
           taken = ap (λ (c : Conversation). map reply_to c.taken.items) rest ∙ h.taken
               ∙ sym (taken-more acts (sends ∷ []) ∙ append-nil (taken_by_client acts));
-          answered = subst (AnsweredSoFar law start now (came_to_server (acts ++ sends ∷ [])))
+          answered = subst (AnsweredSoFar None law start now (came_to_server (acts ++ sends ∷ [])))
               (sym (ap (λ (c : Conversation). c.server) rest))
-              (subst (λ input. AnsweredSoFar law start now input c.server) (sym none_came)
+              (subst (λ input. AnsweredSoFar None law start now input c.server) (sym none_came)
               h.answered);
         }
 
@@ -480,7 +483,7 @@ module _ {S : Type 0} (law : SessionLaw S) (state : S) (greeting : FtpReply)
   exact_of : (input : Bytes) (now : Snapshot S) (items : Bytes) → now.output.taken ≡ items
       → AllAnswered law start (run_for None law state input) now
       → items ≡ written_by server input
-  exact_of input now items is answered = sym is ∙ answered.written.taken
+  exact_of input now items is answered = sym is ∙ answered.given.written.taken
 
   written-more : (input piece : Bytes)
       → Begins (written_by server (input ++ piece)) (written_by server input)
@@ -490,7 +493,8 @@ module _ {S : Type 0} (law : SessionLaw S) (state : S) (greeting : FtpReply)
       let more = all_said first.0 in (
         flat_map encoded more,
         written-said server (input ++ piece)
-            ∙ ap (flat_map encoded) (ap all_said first.1 ∙ all_said-append now first.0)
+            ∙ ap (flat_map encoded) (ap all_said first.1
+            ∙ flat_map-append (λ turn. turn) now first.0)
             ∙ flat_map-append encoded (all_said now) more
             ∙ ap (λ bytes. bytes ++ flat_map encoded more) (sym (written-said server input)),
       )
@@ -510,7 +514,7 @@ module _ {S : Type 0} (law : SessionLaw S) (state : S) (greeting : FtpReply)
         → c'.at_server ≡ after_piece c.at_server c.to_server.items most
         → c' ≡ record c { server = c'.server; at_server = c'.at_server; to_client = c'.to_client }
         → now'.output.taken ≡ c'.to_client.items
-        → AnsweredSoFar law start now' (came_to_server acts ++ piece) c'.server
+        → AnsweredSoFar None law start now' (came_to_server acts ++ piece) c'.server
         → Talks server commands start now' (acts ++ brings ∷ []) left c'
     Talks-fed within client_within at rest written answered =
         let came : came_to_server (acts ++ brings ∷ []) ≡ came_to_server acts ++ piece =
@@ -553,7 +557,7 @@ module _ {S : Type 0} (law : SessionLaw S) (state : S) (greeting : FtpReply)
           at_client = at_client;
           taken = ap (λ (c : Conversation). map reply_to c.taken.items) rest ∙ h.taken
               ∙ sym (taken-more acts (brings ∷ []) ∙ append-nil (taken_by_client acts));
-          answered = subst (λ input. AnsweredSoFar law start now' input c'.server) (sym came)
+          answered = subst (λ input. AnsweredSoFar None law start now' input c'.server) (sym came)
               answered;
         }
 
@@ -612,9 +616,10 @@ module _ {S : Type 0} (law : SessionLaw S) (state : S) (greeting : FtpReply)
           at_client = at_client;
           taken = ap (λ (c : Conversation). map reply_to c.taken.items) rest ∙ h.taken
               ∙ sym (taken-more acts (receives ∷ []) ∙ append-nil (taken_by_client acts));
-          answered = subst (AnsweredSoFar law start now (came_to_server (acts ++ receives ∷ [])))
+          answered = subst
+              (AnsweredSoFar None law start now (came_to_server (acts ++ receives ∷ [])))
               (sym (ap (λ (c : Conversation). c.server) rest))
-              (subst (λ input. AnsweredSoFar law start now input c.server) (sym none_came)
+              (subst (λ input. AnsweredSoFar None law start now input c.server) (sym none_came)
               h.answered);
         }
 
@@ -645,7 +650,7 @@ module _ {S : Type 0} (law : SessionLaw S) (state : S) (greeting : FtpReply)
       at_client = h.at_client
           ∙ sym (ap (λ (c : Conversation). take c.at_client c.to_client.items) rest);
       taken = ap (map reply_to) taken ∙ h.taken;
-      answered = subst (AnsweredSoFar law start now (came_to_server acts))
+      answered = subst (AnsweredSoFar None law start now (came_to_server acts))
           (sym (ap (λ (c : Conversation). c.server) rest)) h.answered;
     }
 
@@ -687,9 +692,9 @@ module _ {S : Type 0} (law : SessionLaw S) (state : S) (greeting : FtpReply)
           taken = ap (map reply_to) taken ∙ map-append reply_to c.taken.items (reply ∷ [])
               ∙ ap (λ first. first ++ reply_to reply ∷ []) h.taken
               ∙ sym (taken-more acts (act ∷ []));
-          answered = subst (AnsweredSoFar law start now (came_to_server (acts ++ act ∷ [])))
+          answered = subst (AnsweredSoFar None law start now (came_to_server (acts ++ act ∷ [])))
               (sym (ap (λ (c : Conversation). c.server) rest))
-              (subst (λ input. AnsweredSoFar law start now input c.server) (sym none_came)
+              (subst (λ input. AnsweredSoFar None law start now input c.server) (sym none_came)
               h.answered);
         }
 
@@ -760,7 +765,7 @@ module _ {S : Type 0} (law : SessionLaw S) (state : S) (greeting : FtpReply)
         → c'.at_server ≡ after_piece c.at_server c.to_server.items most
         → c' ≡ record c { server = c'.server; at_server = c'.at_server; to_client = c'.to_client }
         → now'.output.taken ≡ c'.to_client.items
-        → AnsweredSoFar law start now'
+        → AnsweredSoFar None law start now'
         (came_to_server h.acts ++ piece_of c.at_server c.to_server.items most) c'.server
         → SoFar (turns ++ ToServer most ∷ []) left now' c'
     SoFar-fed most now' within client_within at rest written answered =

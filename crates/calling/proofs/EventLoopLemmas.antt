@@ -6,7 +6,7 @@ use Rattle.unftp_control.specs.Events.{FtpEvent, event_for}
 use Rattle.unftp_control.specs.FtpReply.{encoded}
 use Rattle.calling.specs.declared.event_loop.Turn.{Turn}
 use Rattle.calling.specs.declared.event_loop.Turn.TheVariants.{Read, GoOn, Close, StartTls}
-use Rattle.calling.specs.EventLoop.{AnswersNext, LeavesUnanswered, left_after, replies_to, turn_after}
+use Rattle.calling.specs.EventLoop.{AnswersNext, LeavesUnanswered, left_after, loop_replies, turn_after}
 
 -- once a line is taken, all pending bytes are kept
 kept_bytes-all : (pending : Pending) → pending.kept ≡ length pending.bytes
@@ -29,7 +29,7 @@ all_pending {middle = middle} taken is = is ∙ kept_bytes-all middle taken.all_
 pub AnswersNext-taken : {before middle after : Pending} {event : FtpEvent} {turn : Turn}
     {sent sent' pending pending' : Bytes} → (taken : TakesLine before event middle)
     → pending ≡ kept_bytes middle → pending' ≡ kept_bytes middle
-    → sent' ≡ sent ++ flat_map encoded (replies_to event pending)
+    → sent' ≡ sent ++ flat_map encoded (loop_replies event pending)
     → turn ≡ turn_after event pending' → after.bytes ≡ left_after turn middle.bytes
     → AnswersNext before sent turn after sent'
 AnswersNext-taken {middle = middle} {event = event} {sent = sent} taken is is' appended turn_is
@@ -39,7 +39,7 @@ AnswersNext-taken {middle = middle} {event = event} {sent = sent} taken is is' a
       takes = taken.takes;
       turn_is = turn_is ∙ ap (turn_after event) (all_pending taken is');
       left = left;
-      appended = appended ∙ ap (λ following. sent ++ flat_map encoded (replies_to event following))
+      appended = appended ∙ ap (λ following. sent ++ flat_map encoded (loop_replies event following))
           (all_pending taken is);
     }
 

@@ -15,8 +15,7 @@ use Rattle.unftp_control.specs.Lines.{IsLine}
 use Rattle.unftp_control.specs.Outcome.{outcome}
 use Rattle.unftp_control.specs.ReplyDecoding.{HasError, TakesNextReply}
 use Rattle.unftp_control.specs.ReplyReader.{IsPartial}
-use Rattle.unftp_control.specs.Run.{SessionLaw, run_for, run_of}
-use Rattle.unftp_control.specs.Turns.{replies_by_event}
+use Rattle.unftp_control.specs.Run.{SessionLaw, run_for, run_of, replies_by_event}
 use Rattle.unftp_control.specs.Steps.{Received, Sent, Took, decoder_steps, reply_to}
 use Rattle.unftp_control.specs.TakingSteps.{AreTakingSteps, TakesReply}
 use Rattle.unftp_control.specs.Writing.{Begins, appended_output}

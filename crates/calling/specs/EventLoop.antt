@@ -12,13 +12,13 @@ use Rattle.calling.specs.declared.event_loop.Turn.TheVariants.{Read, GoOn, Close
 
 -- AUTH TLS is agreed to where its line is the last of what is pending: what comes after it in clear
 -- text is not read under TLS (RFC 4217, section 4).
-abbrev pub replies_to : FtpEvent → Bytes → List FtpReply
-replies_to (Command (Retr _)) _ =
+abbrev pub loop_replies : FtpEvent → Bytes → List FtpReply
+loop_replies (Command (Retr _)) _ =
     CodeAndMsg 150 (codes "Sending data") ∷ CodeAndMsg 226 (codes "Sent") ∷ []
-replies_to (Command Quit) _ = CodeAndMsg 221 (codes "Bye") ∷ []
-replies_to (Command (Auth Tls)) [] = CodeAndMsg 234 (codes "Begin TLS") ∷ []
-replies_to (Command _) _ = CodeAndMsg 502 (codes "Not here") ∷ []
-replies_to (Refused _) _ = CodeAndMsg 500 (codes "Not understood") ∷ []
+loop_replies (Command Quit) _ = CodeAndMsg 221 (codes "Bye") ∷ []
+loop_replies (Command (Auth Tls)) [] = CodeAndMsg 234 (codes "Begin TLS") ∷ []
+loop_replies (Command _) _ = CodeAndMsg 502 (codes "Not here") ∷ []
+loop_replies (Refused _) _ = CodeAndMsg 500 (codes "Not understood") ∷ []
 
 abbrev pub turn_after : FtpEvent → Bytes → Turn
 turn_after (Command Quit) _ = Close
@@ -38,7 +38,7 @@ pub record AnswersEvent (before : Pending) (sent : Bytes) (turn : Turn) (after :
   pub takes : TakesEvent before.limit before.bytes event following
   pub turn_is : turn ≡ turn_after event following
   pub left : after.bytes ≡ left_after turn following
-  pub appended : sent' ≡ sent ++ flat_map encoded (replies_to event following)
+  pub appended : sent' ≡ sent ++ flat_map encoded (loop_replies event following)
 
 -- No line is pending, and the server reads on; or the first line is answered.
 abbrev pub AnswersNext : Pending → Bytes → Turn → Pending → Bytes → Type 0

@@ -1,5 +1,5 @@
 //! A client and a server in one process, which take the turns of a list.
-ghost use Rattle.std.specs.Prelude.{◌≡◌, ◌≤◌, ◌+◌, ◌++◌, ◌∷◌, None, Err, Ok, Some, IfErr, MatchResult, OnErr, OnOk, IsTrue, List, [], is_ok, length, map, true};
+ghost use Rattle.std.specs.Prelude.{◌≡◌, ◌≤◌, ◌+◌, ◌++◌, Err, Ok, Some, IfErr, MatchResult, OnErr, OnOk, IsTrue, List, [], is_ok, length, map, true};
 ghost use Rattle.calling.specs.Conversing.{HasConversed, IsNew, IsOver, IsReadBack, TakesNone, TakesOne, first_snapshot, piece_of, server_of, turns_of};
 ghost use Rattle.unftp_control.specs.Acts.{AreFirst, IsUnderstood, exchanges};
 ghost use Rattle.unftp_control.specs.Canonical.{HasLine, canonical_line};

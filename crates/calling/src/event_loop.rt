@@ -8,7 +8,7 @@ ghost use Rattle.unftp_control.specs.Events.{Command as CommandEvent, out_of_mem
 ghost use Rattle.unftp_control.specs.FtpReply.{CodeAndMsg, encoded};
 ghost use Rattle.unftp_control.specs.ReplyMeaning.{number_of};
 ghost use Rattle.unftp_control.specs.Writing.{Begins};
-ghost use Rattle.calling.specs.EventLoop.{AnswersNext, LeavesUnanswered, replies_to, turn_after};
+ghost use Rattle.calling.specs.EventLoop.{AnswersNext, LeavesUnanswered, loop_replies, turn_after};
 
 use std::alloc::Global;
 use unftp_control::codecs::encode_reply;
@@ -65,7 +65,7 @@ fn reply_to_command(
     out: &mut Vec<u8>,
 ) -> Result<(), ControlChanError>
     ensures ok { OnOk result (out.new.items ≡ out.old.items
-        ++ flat_map encoded (replies_to (CommandEvent (command_of command.now)) following.now)) }
+        ++ flat_map encoded (loop_replies (CommandEvent (command_of command.now)) following.now)) }
     ensures err { OnErr result (Begins out.new.items out.old.items) }
     ensures memory { IfErr result (λ error. fault_of error ≡ out_of_memory) }
 {
@@ -90,7 +90,7 @@ fn reply_to(
     out: &mut Vec<u8>,
 ) -> Result<(), ControlChanError>
     ensures ok { OnOk result (out.new.items
-        ≡ out.old.items ++ flat_map encoded (replies_to (event_meant event.now) following.now)) }
+        ≡ out.old.items ++ flat_map encoded (loop_replies (event_meant event.now) following.now)) }
     ensures err { OnErr result (Begins out.new.items out.old.items) }
     ensures memory { IfErr result (λ error. fault_of error ≡ out_of_memory) }
 {

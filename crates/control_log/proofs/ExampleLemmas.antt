@@ -10,7 +10,7 @@ use Rattle.unftp_control_defs.specs.Lines.{lines_of}
 use Rattle.unftp_control_serve.specs.Writing.{OutputState, Sent, appended_output}
 use Rattle.unftp_control_serve.specs.declared.error.ServeError.{ServeError}
 use Rattle.unftp_control_serve.specs.declared.error.ServeError.TheVariants as error
-use Rattle.control_log.specs.Log.{EndedLate, LogsAll, NoRoomForPiece, ReadFailed, StopsAt, log_of}
+use Rattle.control_log.specs.Log.{EndedLate, LogsAll, NoRoomForPiece, StopsAt, log_of}
 use Rattle.control_log.specs.States.{given_and_left}
 use Rattle.control_log.proofs.LogLemmas.{LogsAll-written, Sent-nothing}
 
@@ -34,11 +34,6 @@ no_element (first ∷ logged) line later is = cc
 pub stops_at_no_line : (before after : OutputState) (error : ServeError)
     → StopsAt None [] before after error → ⊥
 stops_at_no_line before after error stops = no_element stops.logged stops.line stops.later stops.split
-
--- what is logged of some bytes
-noop_logged : log_of None (codes "NOOP\r\n") ≡ codes "NOOP\n"
-unfolding is_utf8 chars utf8_lossy utf8_valid_len utf8_error_len lib.Utf8.encode
-noop_logged = refl
 
 noop_and_more_logged : log_of None (codes "NOOP\r\nNO") ≡ codes "NOOP\n"
 unfolding is_utf8 chars utf8_lossy utf8_valid_len utf8_error_len lib.Utf8.encode
@@ -102,18 +97,6 @@ sent_of : (pieces first : List Bytes) (text : Bytes) {before after : OutputState
 sent_of pieces first text {before} {after} sent same is = subst (λ text. Sent text before after)
     (ap (λ pieces. log_of None (concat pieces)) same ∙ is) sent
 
-pub no_room_logs : (before after : OutputState) (input input_after : InputState)
-    (v : NoRoomForPiece None before after input input_after)
-    → v.pieces ≡ codes "NOOP\r\n" ∷ [] → Sent (codes "NOOP\n") before after
-no_room_logs before after input input_after v same =
-    sent_of v.pieces (codes "NOOP\r\n" ∷ []) (codes "NOOP\n") v.sent same noop_logged
-
-pub failed_read_logs : (before after : OutputState) (input input_after : InputState)
-    (v : ReadFailed None before after input input_after)
-    → v.pieces ≡ codes "NOOP\r\nNO" ∷ [] → Sent (codes "NOOP\n") before after
-failed_read_logs before after input input_after v same =
-    sent_of v.pieces (codes "NOOP\r\nNO" ∷ []) (codes "NOOP\n") v.sent same noop_and_more_logged
-
 last_size : (pieces : List Bytes) (last : Bytes) → AllByRecursion HasPieceSize (pieces ++ last ∷ [])
     → 0 < length last
 last_size [] last sizes = sizes.0.0
@@ -149,80 +132,3 @@ pub stops_within : (before after : OutputState) (error : ServeError)
     → v.logged ≡ codes "NOOP\r\n" ∷ [] → ⊥
 stops_within before after error v =
     more_than_all (codes "NOOP\r\n") v.logged v.line v.later v.split
-
--- an output to which the log line of NOOP was sent
-noop_sent : Sent (codes "NOOP\n") (appended_output (codes "x")) (appended_output (codes "xNOOP\n"))
-noop_sent = record {
-  written = record { taken = refl; known = refl };
-  no_failure = refl;
-  flushed = omega arith;
-}
-
-first_sent : Sent (log_of None (codes "NOOP\r\n")) (appended_output (codes "x")) (appended_output (codes "xNOOP\n"))
-first_sent = subst (λ text. Sent text (appended_output (codes "x")) (appended_output (codes "xNOOP\n")))
-    (sym noop_logged) noop_sent
-
-pub whole_input : LogsAll None (appended_output (codes "x")) (appended_output (codes "xNOOP\n"))
-    (given_and_left [] (codes "NOOP\r\nNO") [] 2) (given_and_left (codes "NOOP\r\nNO") [] (8 ∷ 0 ∷ []) 2)
-whole_input = record {
-  pieces = codes "NOOP\r\nNO" ∷ [];
-  were_read = record {
-    given = record { given = refl; known = refl };
-    reads = refl;
-    sizes = ((omega arith, omega arith), tt);
-  };
-  at_end = refl;
-  sent = subst (λ text. Sent text (appended_output (codes "x")) (appended_output (codes "xNOOP\n")))
-      (sym noop_and_more_logged) noop_sent;
-  no_read_failed = refl;
-}
-
-pub second_line : EndedLate None (appended_output (codes "x")) (appended_output (codes "xNOOP\n"))
-    (given_and_left [] (codes "NOOP\r\nQUIT\r\n") [] 2) (given_and_left (codes "NOOP\r\nQUIT\r\n") [] (6 ∷ 6 ∷ []) 2) error.OutOfMemory
-second_line = record {
-  pieces = codes "NOOP\r\n" ∷ [];
-  last = codes "QUIT\r\n";
-  were_read = record {
-    given = record { given = refl; known = refl };
-    reads = refl;
-    sizes = ((omega arith, omega arith), ((omega arith, omega arith), tt));
-  };
-  stops = record {
-    logged = codes "NOOP\r\n" ∷ [];
-    line = codes "QUIT\r\n";
-    later = [];
-    split = refl;
-    between = appended_output (codes "xNOOP\n");
-    sent = first_sent;
-    fails = refl;
-  };
-  late = ([], refl);
-  no_read_failed = refl;
-}
-
-pub second_piece : NoRoomForPiece None (appended_output (codes "x")) (appended_output (codes "xNOOP\n"))
-    (given_and_left [] (codes "NOOP\r\nNO") [] 2) (given_and_left (codes "NOOP\r\nNO") [] (6 ∷ 2 ∷ []) 2)
-second_piece = record {
-  pieces = codes "NOOP\r\n" ∷ [];
-  last = codes "NO";
-  were_read = record {
-    given = record { given = refl; known = refl };
-    reads = refl;
-    sizes = ((omega arith, omega arith), ((omega arith, omega arith), tt));
-  };
-  sent = first_sent;
-  no_read_failed = refl;
-}
-
-pub failed_read : ReadFailed None (appended_output (codes "x")) (appended_output (codes "xNOOP\n"))
-    (given_and_left [] (codes "NOOP\r\nNO") [] 2) (given_and_left (codes "NOOP\r\n") (codes "NO") (6 ∷ []) 3)
-failed_read = record {
-  pieces = codes "NOOP\r\n" ∷ [];
-  were_read = record {
-    given = record { given = refl; known = refl };
-    reads = refl;
-    sizes = ((omega arith, omega arith), tt);
-  };
-  sent = first_sent;
-  read_failed = refl;
-}

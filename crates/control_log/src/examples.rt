@@ -1,31 +1,22 @@
 //! Examples of the definitions, worked out by hand: what they say at the boundary, and next to it.
 #![tactic(auto, unfolding(unftp_control_defs::proofs::Computing::at_bytes))]
 
-ghost use Rattle.std.specs.Prelude.{◌≡◌, ℕ, ◌+◌, ◌-◌, ◌^◌, ◌≤◌, ◌⊎◌, [], ◌∷◌, ◌++◌, List, None, Ok, Option, Some, codes, length};
-ghost use Rattle.std.specs.List.{concat};
-ghost use Rattle.std.specs.Io.KnownBytes.{IsAtEnd};
+ghost use Rattle.std.specs.Prelude.{◌≡◌, ℕ, ◌+◌, ◌⊎◌, [], ◌∷◌, List, None, Ok, Some, codes};
 ghost use Rattle.unftp_control_defs.specs.Bytes.{Bytes};
 ghost use Rattle.unftp_control_defs.specs.Input.{InputState};
-ghost use Rattle.unftp_control_defs.specs.Lines.{lines_of};
-ghost use Rattle.unftp_control_serve.specs.Writing.{Begins, OutputState, Sent, appended_output};
-ghost use Rattle.unftp_control_reply.specs.ErrorParts.{KindAndSource};
-ghost use Rattle.control_log.specs.Log.{EndedLate, LogEnded, Logs, LogsAll, NoRoomForPiece, ReadFailed, ReadTooOften, StopsAt, log_entries, log_entry, log_of};
+ghost use Rattle.unftp_control_serve.specs.Writing.{OutputState, appended_output};
+ghost use Rattle.unftp_control_message.specs.ErrorParts.{KindAndSource};
+ghost use Rattle.control_log.specs.Log.{EndedLate, LogEnded, Logs, LogsAll, NoRoomForPiece, ReadFailed, StopsAt, log_entries, log_entry, log_of};
 ghost use Rattle.control_log.specs.States.{given_and_left};
 
 use unftp_control_serve::ServeError;
 
 /// Each complete line has its log line and a line feed, one that is too long too.
 pub fn entries_are_written()
-    ensures entry { log_entry None (codes "noop\r\n") ≡ codes "NOOP\n" }
-    ensures within { log_entry (Some 6) (codes "NOOP\r\n") ≡ codes "NOOP\n" }
     ensures too_long { log_entry (Some 5) (codes "NOOP\r\n") ≡ codes "refused: Line too long\n" }
     ensures no_line_end { log_entry None (codes "NOOP\r\n") ≡ codes "NOOP" → ⊥ }
-    ensures none { log_entries None [] ≡ [] }
     ensures in_order { log_entries None (codes "NOOP\r\n" ∷ codes "PASS a\r\n" ∷ [])
         ≡ codes "NOOP\nPASS ***\n" }
-    ensures other_order { log_entries None (codes "NOOP\r\n" ∷ codes "PASS a\r\n" ∷ [])
-        ≡ codes "PASS ***\nNOOP\n" → ⊥ }
-    ensures input { log_of None (codes "NOOP\r\nPASS a\r\nNO") ≡ codes "NOOP\nPASS ***\n" }
     ensures incomplete { log_of None (codes "NO") ≡ [] }
     ensures line_feed { log_of None (codes "NO\n") ≡ [] → ⊥ }
 {}
@@ -34,10 +25,6 @@ pub fn entries_are_written()
 pub fn a_log_stops_so()
     ensures memory { StopsAt None (codes "NOOP\r\n" ∷ []) (appended_output (codes "x"))
         (appended_output (codes "x")) ServeError.OutOfMemory }
-    ensures nothing_written { (after : OutputState)
-        (v : StopsAt None (codes "NOOP\r\n" ∷ []) (appended_output (codes "x")) after
-        ServeError.OutOfMemory)
-        → v.logged ≡ [] → after.written ≡ Some (codes "x") }
     ensures no_line { (before after : OutputState) (error : ServeError)
         → StopsAt None [] before after error → ⊥ }
     ensures all_logged { (before after : OutputState) (error : ServeError)
@@ -48,9 +35,6 @@ pub fn a_log_stops_so()
     ensures logs { (after : OutputState)
         → Logs {T = ℕ} None (codes "NOOP\r\nNO") (appended_output (codes "x")) (Ok 1) after
         → after.written ≡ Some (codes "xNOOP\n") }
-    ensures no_log { (after : OutputState)
-        → Logs {T = ℕ} None (codes "NO") (appended_output (codes "x")) (Ok 1) after
-        → after.written ≡ Some (codes "x") }
 {}
 
 /// At the end all complete lines are logged, and the last read gave nothing: none comes after it.
@@ -59,9 +43,6 @@ pub fn all_is_logged()
         → LogsAll None (appended_output (codes "x")) after
         (given_and_left [] (codes "NOOP\r\nNO") reads 2) input
         → after.written ≡ Some (codes "xNOOP\n") }
-    ensures at_end { (before after : OutputState) (input input_after : InputState)
-        → LogsAll None before after input input_after
-        → IsAtEnd input_after.remaining × (input_after.failures ≡ input.failures) }
     ensures read_once_more { (before after : OutputState) (input input_after : InputState)
         → LogsAll None before after input input_after
         → input.reads ≡ [] → input_after.reads ≡ 4 ∷ 0 ∷ 0 ∷ [] → ⊥ }
@@ -70,44 +51,15 @@ pub fn all_is_logged()
         → input.reads ≡ [] → input_after.reads ≡ 4 ∷ [] → ⊥ }
 {}
 
-/// An input that is logged whole; one whose second line has no memory; one whose second piece has
-/// none; and one of which a read failed.
-pub fn inputs_are_logged_so()
-    ensures whole { LogsAll None (appended_output (codes "x")) (appended_output (codes "xNOOP\n"))
-        (given_and_left [] (codes "NOOP\r\nNO") [] 2)
-        (given_and_left (codes "NOOP\r\nNO") [] (8 ∷ 0 ∷ []) 2) }
-    ensures late { EndedLate None (appended_output (codes "x")) (appended_output (codes "xNOOP\n"))
-        (given_and_left [] (codes "NOOP\r\nQUIT\r\n") [] 2)
-        (given_and_left (codes "NOOP\r\nQUIT\r\n") [] (6 ∷ 6 ∷ []) 2)
-        ServeError.OutOfMemory }
-    ensures no_room { NoRoomForPiece None (appended_output (codes "x"))
-        (appended_output (codes "xNOOP\n"))
-        (given_and_left [] (codes "NOOP\r\nNO") [] 2)
-        (given_and_left (codes "NOOP\r\nNO") [] (6 ∷ 2 ∷ []) 2) }
-    ensures read_failed { ReadFailed None (appended_output (codes "x"))
-        (appended_output (codes "xNOOP\n"))
-        (given_and_left [] (codes "NOOP\r\nNO") [] 2)
-        (given_and_left (codes "NOOP\r\n") (codes "NO") (6 ∷ []) 3) }
-{}
-
 /// Which errors `run` returns, and what each one says.
 pub fn errors_of_run()
     ensures read { (before after : OutputState) (input input_after : InputState) (error : _)
         → LogEnded None before after input input_after (ServeError.Read error)
         → ReadFailed None before after input input_after }
-    ensures write { (before after : OutputState) (input input_after : InputState) (error : _)
-        → LogEnded None before after input input_after (ServeError.Write error)
-        → EndedLate None before after input input_after (ServeError.Write error) }
-    ensures write_zero { (before after : OutputState) (input input_after : InputState)
-        → LogEnded None before after input input_after ServeError.WriteZero
-        → EndedLate None before after input input_after ServeError.WriteZero }
     ensures memory { (before after : OutputState) (input input_after : InputState)
         → LogEnded None before after input input_after ServeError.OutOfMemory
         → NoRoomForPiece None before after input input_after
         ⊎ EndedLate None before after input input_after ServeError.OutOfMemory }
-    ensures many_reads { (before after : OutputState) (input input_after : InputState)
-        → LogEnded None before after input input_after ServeError.TooManyReads
-        → ReadTooOften None before after input input_after }
     ensures handler { (before after : OutputState) (input input_after : InputState)
         (error : KindAndSource)
         → LogEnded None before after input input_after (ServeError.Handler error) → ⊥ }
@@ -118,23 +70,11 @@ pub fn errors_of_run()
 /// An error comes at the first line that has one: the lines of the pieces before the last are
 /// logged.
 pub fn errors_come_in_time()
-    ensures late { (before after : OutputState) (input input_after : InputState)
-        (error : ServeError) (v : EndedLate None before after input input_after error)
-        → Begins v.stops.logged (lines_of (concat v.pieces)) }
     ensures too_late { (before after : OutputState) (input input_after : InputState)
         (error : ServeError) (v : EndedLate None before after input input_after error)
         → v.pieces ≡ codes "NOOP\r\n" ∷ [] → v.stops.logged ≡ [] → ⊥ }
-    ensures no_room { (before after : OutputState) (input input_after : InputState)
-        (v : NoRoomForPiece None before after input input_after)
-        → v.pieces ≡ codes "NOOP\r\n" ∷ [] → Sent (codes "NOOP\n") before after }
     ensures room_for_nothing { (before after : OutputState) (input input_after : InputState)
         (v : NoRoomForPiece None before after input input_after) → v.last ≡ [] → ⊥ }
-    ensures read { (before after : OutputState) (input input_after : InputState)
-        (v : ReadFailed None before after input input_after)
-        → v.pieces ≡ codes "NOOP\r\nNO" ∷ [] → Sent (codes "NOOP\n") before after }
-    ensures many { (before after : OutputState) (input input_after : InputState)
-        (v : ReadTooOften None before after input input_after)
-        → 2 ^ 64 - 1 ≤ length (concat v.pieces) }
 {}
 
 /// How often reading failed: once where that is the error, and else never.
@@ -144,11 +84,5 @@ pub fn failed_reads_are_counted()
         → input_after.failures ≡ input.failures + 1 }
     ensures late { (before after : OutputState) (input input_after : InputState)
         (error : ServeError) → EndedLate None before after input input_after error
-        → input_after.failures ≡ input.failures }
-    ensures no_room { (before after : OutputState) (input input_after : InputState)
-        → NoRoomForPiece None before after input input_after
-        → input_after.failures ≡ input.failures }
-    ensures too_often { (before after : OutputState) (input input_after : InputState)
-        → ReadTooOften None before after input input_after
         → input_after.failures ≡ input.failures }
 {}

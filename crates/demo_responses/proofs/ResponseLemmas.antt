@@ -1,8 +1,8 @@
 -- What the handler answers to the commands that it doesn't know.
 use Rattle.std.proofs.Common.{◌≡◌, refl}
-use Rattle.unftp_control_command.specs.CommandMeaning.{command_of}
-use Rattle.unftp_control_command.specs.declared.Command.{Command}
-use Rattle.unftp_control_command.specs.declared.Command.TheVariants as command
+use Rattle.unftp_control_message.specs.CommandMeaning.{command_of}
+use Rattle.unftp_control_message.specs.declared.Command.{Command}
+use Rattle.unftp_control_message.specs.declared.Command.TheVariants as command
 use Rattle.demo_responses.specs.Responses.{command_reply, not_implemented}
 
 -- a command that it doesn't know

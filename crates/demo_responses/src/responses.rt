@@ -1,18 +1,18 @@
 //! What the handler answers.
 ghost use Rattle.std.specs.Prelude.{◌≡◌, Bool, false, IfOk, IfErr, string_bytes};
-ghost use Rattle.unftp_control_command.specs.CommandMeaning.{command_of};
+ghost use Rattle.unftp_control_message.specs.CommandMeaning.{command_of};
 ghost use Rattle.unftp_control_defs.specs.Events.{out_of_memory, Refused};
 ghost use Rattle.unftp_control_defs.specs.FtpCommand.{Site as FtpSite};
-ghost use Rattle.unftp_control_reply.specs.ErrorMeaning.{fault_of};
-ghost use Rattle.unftp_control_reply.specs.ReplyMeaning.{reply_of};
+ghost use Rattle.unftp_control_message.specs.ErrorMeaning.{fault_of};
+ghost use Rattle.unftp_control_message.specs.ReplyMeaning.{reply_of};
 ghost use Rattle.unftp_control_serve.specs.EventMeaning.{event_meant};
 ghost use Rattle.demo_responses.specs.Responses.{command_reply, event_reply, not_implemented, responses_law};
 
 use std::alloc::Global;
-use unftp_control_command::Command;
 use unftp_control_commands::{Auth, Epsv, Feat, Help, Mlst, Mode, Opts, Passive, Prot, Stru};
-use unftp_control_reply::error::{ControlChanError, Source};
-use unftp_control_reply::{Reply, ReplyCode};
+use unftp_control_message::Command;
+use unftp_control_message::reply::error::{ControlChanError, Source};
+use unftp_control_message::reply::{Reply, ReplyCode};
 use unftp_control_serve::{Count, Event, Handler};
 
 /// The port that EPSV reports. It is not opened.

@@ -1,8 +1,8 @@
 -- What is answered to the commands that a match doesn't name.
 use Rattle.std.proofs.Common.{◌≡◌, refl}
-use Rattle.unftp_control_command.specs.CommandMeaning.{command_of}
-use Rattle.unftp_control_command.specs.declared.Command.{Command}
-use Rattle.unftp_control_command.specs.declared.Command.TheVariants as command
+use Rattle.unftp_control_message.specs.CommandMeaning.{command_of}
+use Rattle.unftp_control_message.specs.declared.Command.{Command}
+use Rattle.unftp_control_message.specs.declared.Command.TheVariants as command
 use Rattle.login_demo.specs.declared.session.Session.{Session}
 use Rattle.login_demo.specs.declared.tree.Directory.{Directory}
 use Rattle.login_demo.specs.Session.{command_reply, session_after, tree_reply}

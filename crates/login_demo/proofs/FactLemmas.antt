@@ -6,8 +6,8 @@ use Rattle.std.specs.Result.{IfOk}
 use Rattle.unftp_control_defs.specs.Bytes.{Bytes}
 use Rattle.unftp_control_commands.specs.Facts.{FileFacts, IsFacts, IsFactsReply, IsTimeText, facts_reply, id_fact, modify_fact, type_fact}
 use Rattle.unftp_control_defs.specs.FtpReply.{FtpReply}
-use Rattle.unftp_control_reply.specs.ReplyMeaning.{reply_of}
-use Rattle.unftp_control_reply.specs.declared.reply.Reply.{Reply}
+use Rattle.unftp_control_message.specs.ReplyMeaning.{reply_of}
+use Rattle.unftp_control_message.specs.declared.reply.reply.Reply.{Reply}
 use Rattle.unftp_control_commands.proofs.FactTextLemmas.{IsFacts-unique, IsTimeText-unique}
 use Rattle.login_demo.specs.declared.tree.File.{File}
 use Rattle.login_demo.specs.declared.tree.File.TheVariants as file

@@ -1,9 +1,9 @@
 -- Ways through directories, name by name.
-use Rattle.std.proofs.Common.{◌≡◌, ◌≢◌, ◌&&◌, map, List, [], ◌∷◌, ◌++◌, flat_map, Bool, true, false, bytes_eq, codes, refl, ap}
+use Rattle.std.proofs.Common.{◌≡◌, ◌≢◌, ◌&&◌, map, List, [], ◌∷◌, ◌++◌, Bool, true, false, bytes_eq, codes, refl, ap}
 use Rattle.std.specs.Cmp.Lexicographic.{pointwise}
 use Rattle.std.proofs.lemmas.Slice.Eq.{bytes_eq-Decides}
 use Rattle.unftp_control_defs.specs.Bytes.{Bytes}
-use Rattle.login_demo.specs.Walking.{SLASH, entered, path_text}
+use Rattle.login_demo.specs.Walking.{entered}
 
 is_false : (b : Bool) → b ≢ true → b ≡ false
 is_false true h = absurd (h refl)
@@ -18,11 +18,6 @@ pub entered-name : (names : List Bytes) {name : Bytes} → name ≢ [] → name 
     → name ≢ codes ".." → entered names name ≡ names ++ name ∷ []
 entered-name names {name} a b d =
     rw (differs name [] a, differs name (codes ".") b, differs name (codes "..") d) refl
-
-pub path_text-below : (names : List Bytes) → names ≢ []
-    → path_text names ≡ flat_map (λ name. SLASH ∷ name) names
-path_text-below [] h = absurd (h refl)
-path_text-below (name ∷ names) h = refl
 
 pub pointwise-map : {A B : Type 0} (E : B → B → Bool) (f : A → B) (xs ys : List A)
     → pointwise (λ x y. E (f x) (f y)) xs ys ≡ pointwise E (map f xs) (map f ys)

@@ -4,7 +4,7 @@ use Rattle.std.specs.Fmt.{digits}
 use Rattle.std.specs.List.{AllByRecursion, list_all}
 use Rattle.std.proofs.lemmas.Bool.{and_parts, ltb-true, leb-true}
 use Rattle.unftp_control_defs.specs.Bytes.{Bytes, LF, Lacks}
-use Rattle.unftp_control_commands.specs.Answers.{prot_reply, mode_reply, opts_reply, stru_reply}
+use Rattle.unftp_control_commands.specs.Answers.{mode_reply, opts_reply, stru_reply}
 use Rattle.unftp_control_defs.specs.Events.{FtpEvent, FaultKind, FaultSource}
 use Rattle.unftp_control_defs.specs.Events as event
 use Rattle.unftp_control_defs.specs.FtpCommand as command
@@ -133,9 +133,6 @@ IsSent-fixed (command.Mlsd x) = IsSent-test _ refl
 IsSent-fixed (command.Rnto x) = IsSent-test _ refl
 IsSent-fixed (command.Other x y) = IsSent-test _ refl
 IsSent-fixed _ = IsSent-test _ refl
-
-IsSent-prot : (param : _) → IsSent (prot_reply false param)
-IsSent-prot param = IsSent-test _ refl
 
 IsSent-mode : (m : _) → IsSent (mode_reply m)
 IsSent-mode mode.Stream = IsSent-test _ refl

@@ -6,8 +6,8 @@ ghost use Rattle.login_demo.specs.declared.session.Session.{Session as SessionVa
 use crate::session::Session;
 use crate::standing::refusal_reply;
 use std::alloc::Global;
-use unftp_control_reply::Reply;
-use unftp_control_reply::error::ControlChanError;
+use unftp_control_message::reply::Reply;
+use unftp_control_message::reply::error::ControlChanError;
 use unftp_control_serve::{Count, Event, Handler};
 
 /// Serves the tree: the session of one client.

@@ -1,9 +1,9 @@
 //! A session: where a client is, and what it is answered.
 ghost use Rattle.std.specs.Prelude.{◌≡◌, option_map, string_bytes, unwrap_or, codes, IfOk, IfErr, OnOk};
-ghost use Rattle.unftp_control_command.specs.CommandMeaning.{command_of};
-ghost use Rattle.unftp_control_reply.specs.ErrorMeaning.{fault_of};
+ghost use Rattle.unftp_control_message.specs.CommandMeaning.{command_of};
+ghost use Rattle.unftp_control_message.specs.ErrorMeaning.{fault_of};
 ghost use Rattle.unftp_control_defs.specs.Events.{out_of_memory};
-ghost use Rattle.unftp_control_reply.specs.ReplyMeaning.{reply_of};
+ghost use Rattle.unftp_control_message.specs.ReplyMeaning.{reply_of};
 ghost use Rattle.login_demo.specs.Session.{command_reply, found, moved_reply, moved_to, new_session, session_after, tree_reply};
 
 use crate::facts::{mdtm_reply, mlst_reply, pwd_reply, size_reply};
@@ -11,9 +11,9 @@ use crate::paths::walk;
 use crate::standing::standing_reply;
 use crate::tree::{Directory, Entry};
 use std::alloc::{AllocError, Global};
-use unftp_control_command::Command;
-use unftp_control_reply::error::ControlChanError;
-use unftp_control_reply::{Reply, ReplyCode};
+use unftp_control_message::Command;
+use unftp_control_message::reply::error::ControlChanError;
+use unftp_control_message::reply::{Reply, ReplyCode};
 
 /// The working directory, and whether QUIT came.
 #[derive(Clone, Copy)]

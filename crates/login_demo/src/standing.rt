@@ -1,18 +1,20 @@
 //! The replies that don't depend on the working directory.
 ghost use Rattle.std.specs.Prelude.{◌≡◌, IfOk, IfErr};
-ghost use Rattle.unftp_control_command.specs.CommandMeaning.{command_of};
-ghost use Rattle.unftp_control_reply.specs.ErrorMeaning.{fault_of, kind_meant};
+ghost use Rattle.unftp_control_message.specs.CommandMeaning.{command_of};
+ghost use Rattle.unftp_control_message.specs.ErrorMeaning.{fault_of, kind_meant};
 ghost use Rattle.unftp_control_defs.specs.Events.{Parse, out_of_memory};
 ghost use Rattle.unftp_control_defs.specs.FtpReply.{CodeAndMsg};
-ghost use Rattle.unftp_control_reply.specs.ReplyMeaning.{number_of, reply_of};
+ghost use Rattle.unftp_control_message.specs.ReplyMeaning.{number_of, reply_of};
 ghost use Rattle.login_demo.specs.Standing.{fixed_reply, refusal_code, refusal_reply, site_reply, standing_reply, unread_text};
-ghost use Rattle.unftp_control_reply.specs.ParseRefusal.{refusal_of};
+ghost use Rattle.unftp_control_message.specs.ParseRefusal.{refusal_of};
 
 use std::alloc::Global;
-use unftp_control_command::Command;
 use unftp_control_commands::{Auth, Feat, Help, Mode, Opts, Prot, Stru};
-use unftp_control_reply::error::{ControlChanError, ControlChanErrorKind, ParseErrorKind, Source};
-use unftp_control_reply::{Reply, ReplyCode};
+use unftp_control_message::Command;
+use unftp_control_message::reply::error::{
+    ControlChanError, ControlChanErrorKind, ParseErrorKind, Source,
+};
+use unftp_control_message::reply::{Reply, ReplyCode};
 
 /// The features (RFC 2389, section 3.2), MLST with its facts (RFC 3659, section 7.8).
 const FEATURES: &[&str] = &["MDTM", "MLST type*;size*;modify*;", "SIZE", "UTF8"];

@@ -10,16 +10,16 @@ use Rattle.unftp_control_defs.specs.Turns.{GivesExchanges, SaysOnly, is_prelimin
 use Rattle.transferring.specs.Answers.{DataAnswer}
 use Rattle.transferring.specs.Laws.{ComesBack, Retrieves, Stores, given, received_for, TransfersNothing, state_after_event}
 use Rattle.transferring.specs.Sent.{with_sent}
-use Rattle.transferring.specs.Transfers.{Outcome, TransferState, final_reply, restart_reply, beyond_end_reply, first_reply, opening, opening_reply, receiving, sending, stored, transfer_of, transfers_law}
+use Rattle.transferring.specs.Transfers.{Outcome, TransferState, final_reply, restart_reply, beyond_end_reply, first_reply, with_opening, opening_reply, receiving, sending, stored, transfer_of, transfers_law}
 use Rattle.transferring.specs.declared.transfer.Ending.{Ending}
 use Rattle.transferring.specs.declared.transfer.Ending.TheVariants.{Complete, NotOpened, Aborted, NotClosed}
 use Rattle.transferring.proofs.OutcomeLemmas.{completed, retrieve-sends, store-receives}
 
 abbrev outcome_of_retr : List DataAnswer → TransferState → Outcome
-outcome_of_retr answers s = opening (sending (drop s.offset s.file)) (drop s.used answers)
+outcome_of_retr answers s = with_opening (sending (drop s.offset s.file)) (drop s.used answers)
 
 abbrev outcome_of_stor : List DataAnswer → TransferState → Outcome
-outcome_of_stor answers s = opening receiving (drop s.used answers)
+outcome_of_stor answers s = with_opening receiving (drop s.used answers)
 
 pub retrieves : (answers : List DataAnswer) (s : TransferState) (path : Bytes)
     → Retrieves answers s path

@@ -6,7 +6,7 @@ use Rattle.unftp_control_defs.specs.FtpReply.{FtpReply, CodeAndMsg}
 use Rattle.unftp_control_serve.specs.Writing.{Begins}
 use Rattle.transferring.specs.Answers.{DataAnswer, Failed, Done, Took, Gave}
 use Rattle.transferring.specs.Laws.{given}
-use Rattle.transferring.specs.Transfers.{Outcome, closing, final_reply, opening, opening_reply, preceded_by, receiving, sending}
+use Rattle.transferring.specs.Transfers.{Outcome, closing, final_reply, with_opening, opening_reply, preceded_by, receiving, sending}
 use Rattle.transferring.specs.declared.transfer.Ending.{Ending}
 use Rattle.transferring.specs.declared.transfer.Ending.TheVariants.{Complete, NotOpened, Aborted, NotClosed}
 
@@ -68,7 +68,7 @@ sends (b ∷ bytes) (Gave piece ∷ answers) =
     sends-nothing (b ∷ bytes) Aborted 1 (λ is. absurd (cc))
 
 pub retrieve-sends : (bytes : Bytes) (answers : List DataAnswer)
-    → Sends bytes (opening (sending bytes) answers)
+    → Sends bytes (with_opening (sending bytes) answers)
 retrieve-sends bytes [] = sends-nothing bytes NotOpened 1 (λ is. absurd (cc))
 retrieve-sends bytes (Failed ∷ answers) = sends-nothing bytes NotOpened 1 (λ is. absurd (cc))
 retrieve-sends bytes (Done ∷ answers) = let later = sends bytes answers in
@@ -106,7 +106,7 @@ receives (Gave (b ∷ bytes) ∷ answers) complete =
     ap (λ more. (b ∷ bytes) ++ more) (receives answers complete)
     ∙ sym (ap given (take-one-more (receiving answers).used (Gave (b ∷ bytes)) answers))
 
-pub store-receives : (answers : List DataAnswer) → Receives answers (opening receiving answers)
+pub store-receives : (answers : List DataAnswer) → Receives answers (with_opening receiving answers)
 store-receives [] complete = absurd (cc)
 store-receives (Failed ∷ answers) complete = absurd (cc)
 store-receives (Done ∷ answers) complete = receives answers complete

@@ -7,10 +7,10 @@ use Rattle.unftp_control_serve.specs.Writing.{Begins}
 use Rattle.transferring.specs.Answers.{DataAnswer}
 use Rattle.transferring.specs.CameTo.{CameTo}
 use Rattle.transferring.specs.Sent.{SentBytes, with_sent}
-use Rattle.transferring.specs.Transfers.{Outcome, TransferState, after_transfer, final_reply, follow_up, opening, outcome_in, outcome_of, receiving, sending, stored}
+use Rattle.transferring.specs.Transfers.{Outcome, TransferState, after_transfer, final_reply, follow_up, with_opening, outcome_in, outcome_of, sending}
 use Rattle.transferring.specs.declared.transfer.Ending.{Ending}
 use Rattle.transferring.specs.declared.transfer.Transfer.{Transfer}
-use Rattle.transferring.specs.declared.transfer.Transfer.TheVariants.{Retrieve, Store}
+use Rattle.transferring.specs.declared.transfer.Transfer.TheVariants.{Retrieve}
 
 module _ (s : TransferState) (transfer : Transfer) {before after : List DataAnswer}
     {ending : Ending}
@@ -35,7 +35,7 @@ module _ (s : TransferState) (transfer : Transfer) {before after : List DataAnsw
 
 pub retrieved : (s : TransferState) {before after : List DataAnswer} {ending : Ending}
     {bytes : Bytes}
-    (came : CameTo (opening (sending (drop s.offset s.file))) before after ending bytes)
+    (came : CameTo (with_opening (sending (drop s.offset s.file))) before after ending bytes)
     (used : s.used ≡ length before) (sent : SentBytes) → sent ≡ with_sent s.sent bytes
     → (answers : List DataAnswer) → Begins answers after
     → follow_up s (Some Retrieve) answers ≡ (
@@ -51,23 +51,4 @@ retrieved s {before} {after} {ending} {bytes} came used sent is answers begins =
     ∙ sym (λ i. (
       final_reply ending,
       after_of (is i) (used-after s Retrieve came used answers begins i),
-    ) ∷ [])
-
-pub received_file : (s : TransferState) {before after : List DataAnswer} {ending : Ending}
-    {bytes : Bytes} (came : CameTo (opening receiving) before after ending bytes)
-    (used : s.used ≡ length before) (file : Bytes) → file ≡ stored s.offset s.file ending bytes
-    → (answers : List DataAnswer) → Begins answers after
-    → follow_up s (Some Store) answers ≡ (
-      final_reply ending,
-      record s { pending = None; offset = 0; file = file; used = length after },
-    ) ∷ []
-received_file s {before} {after} {ending} {bytes} came used file is answers begins =
-    let follow_up_of : Outcome → List (FtpReply × TransferState) =
-    λ outcome. (final_reply outcome.ending, after_transfer s Store outcome) ∷ [] in
-    let after_of : Bytes → ℕ → TransferState =
-    λ file used. record s { pending = None; offset = 0; file = file; used = used } in
-    ap follow_up_of (outcome-is s Store came used answers begins)
-    ∙ sym (λ i. (
-      final_reply ending,
-      after_of (is i) (used-after s Store came used answers begins i),
     ) ∷ [])

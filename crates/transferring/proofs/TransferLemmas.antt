@@ -3,12 +3,11 @@ use Rattle.std.proofs.Common.{◌≡◌, Option, None, Some, ℕ, zero, suc, ◌
 use Rattle.std.proofs.lemmas.List.{append-nil}
 use Rattle.std.specs.Io.KnownBytes.{append_known}
 use Rattle.unftp_control_defs.specs.Bytes.{Bytes}
-use Rattle.transferring.specs.Answers.{DataAnswer, Failed, Done, Took, Gave}
+use Rattle.transferring.specs.Answers.{DataAnswer, Done, Took, Gave}
 use Rattle.transferring.specs.CameTo.{CameTo}
 use Rattle.transferring.specs.Sent.{SentBytes, with_sent}
-use Rattle.transferring.specs.Transfers.{Outcome, closing, ends_with, opening, preceded_by, receiving, sending}
+use Rattle.transferring.specs.Transfers.{Outcome, closing, ends_with, with_opening, preceded_by, receiving, sending}
 use Rattle.transferring.specs.declared.transfer.Ending.{Ending}
-use Rattle.transferring.specs.declared.transfer.Ending.TheVariants.{Aborted}
 
 -- these bytes were transferred so far, and the rest is yet to come
 pub record Reaches (start : List DataAnswer → Outcome) (before now : List DataAnswer)
@@ -20,7 +19,7 @@ pub record Reaches (start : List DataAnswer → Outcome) (before now : List Data
       ≡ preceded_by (length answers) bytes (rest later)
 
 pub opened : (transfer : List DataAnswer → Outcome) (before now : List DataAnswer)
-    → now ≡ before ++ Done ∷ [] → Reaches (opening transfer) before now [] transfer
+    → now ≡ before ++ Done ∷ [] → Reaches (with_opening transfer) before now [] transfer
 opened transfer before now is =
     record { answers = Done ∷ []; answered = is; goes_on = λ later. refl }
 
@@ -85,16 +84,6 @@ took [] n some more later = absurd (omega (arith, some))
 took (b ∷ rest) zero some more later = absurd (omega (arith, more))
 took (b ∷ rest) (suc n) some more later = refl
 
-pub took_none : (rest : Bytes) → 0 < length rest → (later : List DataAnswer)
-    → sending rest (Took 0 ∷ later) ≡ ends_with Aborted
-took_none [] some later = absurd (omega (arith, some))
-took_none (b ∷ rest) some later = refl
-
-pub send_failed : (rest : Bytes) → 0 < length rest → (later : List DataAnswer)
-    → sending rest (Failed ∷ later) ≡ ends_with Aborted
-send_failed [] some later = absurd (omega (arith, some))
-send_failed (b ∷ rest) some later = refl
-
 pub all_sent : {now after : List DataAnswer} {ending : Ending} (rest : Bytes) → length rest ≡ 0
     → CameTo closing now after ending [] → CameTo (sending rest) now after ending []
 all_sent [] none end =
@@ -107,11 +96,6 @@ pub received : (piece : Bytes) → 0 < length piece → (later : List DataAnswer
     → receiving (Gave piece ∷ later) ≡ preceded_by 1 piece (receiving later)
 received [] some later = absurd (omega (arith, some))
 received (b ∷ piece) some later = refl
-
-pub received_none : (piece : Bytes) → length piece ≡ 0 → (later : List DataAnswer)
-    → receiving (Gave piece ∷ later) ≡ preceded_by 1 [] (closing later)
-received_none [] none later = refl
-received_none (b ∷ piece) none later = absurd (omega (arith, none))
 
 -- ---- in the loops
 
@@ -141,13 +125,13 @@ pub record Retrieving (bytes rest : Bytes) (before now : List DataAnswer)
     (sent sent' : SentBytes) : Type 0 where
   pub so_far : Bytes
   pub were_sent : sent' ≡ with_sent sent so_far
-  pub reaches : Reaches (opening (sending bytes)) before now so_far (sending rest)
+  pub reaches : Reaches (with_opening (sending bytes)) before now so_far (sending rest)
 
 -- so much was received and stored
 pub record Storing (before now : List DataAnswer) (stored stored' : Bytes) : Type 0 where
   pub so_far : Bytes
   pub were_stored : stored' ≡ stored ++ so_far
-  pub reaches : Reaches (opening receiving) before now so_far receiving
+  pub reaches : Reaches (with_opening receiving) before now so_far receiving
 
 pub none_sent : (sent sent' : SentBytes) → sent' ≡ sent → sent' ≡ with_sent sent []
 none_sent sent sent' same = same ∙ sym (with_sent-nil sent)

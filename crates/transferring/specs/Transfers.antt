@@ -52,14 +52,14 @@ receiving (Gave (b ∷ bytes) ∷ answers) = preceded_by 1 (b ∷ bytes) (receiv
 receiving _ = ends_with Aborted
 
 -- first of all it is opened.
-abbrev pub opening : (List DataAnswer → Outcome) → List DataAnswer → Outcome
-opening transfer (Done ∷ answers) = preceded_by 1 [] (transfer answers)
-opening transfer _ = ends_with NotOpened
+abbrev pub with_opening : (List DataAnswer → Outcome) → List DataAnswer → Outcome
+with_opening transfer (Done ∷ answers) = preceded_by 1 [] (transfer answers)
+with_opening transfer _ = ends_with NotOpened
 
 -- a transfer of the file from here on
 abbrev pub outcome_of : Transfer → Bytes → List DataAnswer → Outcome
-outcome_of Retrieve bytes = opening (sending bytes)
-outcome_of Store bytes = opening receiving
+outcome_of Retrieve bytes = with_opening (sending bytes)
+outcome_of Store bytes = with_opening receiving
 
 -- ---- the session
 

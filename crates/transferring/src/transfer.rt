@@ -2,15 +2,15 @@
 ghost use Rattle.std.specs.Prelude.{◌≡◌, ◌++◌, [], IfErr, IfOk, drop, take};
 ghost use Rattle.unftp_control_defs.specs.Bytes.{Bytes};
 ghost use Rattle.unftp_control_defs.specs.Events.{out_of_memory};
-ghost use Rattle.unftp_control_reply.specs.ErrorMeaning.{fault_of};
+ghost use Rattle.unftp_control_message.specs.ErrorMeaning.{fault_of};
 ghost use Rattle.unftp_control_serve.specs.Writing.{Begins};
 ghost use Rattle.transferring.specs.CameTo.{CameTo};
 ghost use Rattle.transferring.specs.Sent.{sent_over, with_sent};
-ghost use Rattle.transferring.specs.Transfers.{closing, opening, receiving, sending, stored};
+ghost use Rattle.transferring.specs.Transfers.{closing, with_opening, receiving, sending, stored};
 
 use crate::data::{Data, DataConnection};
 use std::alloc::Global;
-use unftp_control_reply::error::ControlChanError;
+use unftp_control_message::reply::error::ControlChanError;
 
 /// Which way the file goes.
 #[derive(Debug, PartialEq, Eq, Clone, Copy)]
@@ -42,7 +42,7 @@ pub fn retrieve<D: DataConnection>(connection: &mut Data<D>, file: &[u8], offset
     ensures came_to { (sent : Bytes)
         × (sent_over D.contents connection.new
         ≡ with_sent (sent_over D.contents connection.old) sent)
-        × CameTo (opening (sending (drop offset file.now)))
+        × CameTo (with_opening (sending (drop offset file.now)))
         connection.old.answers connection.new.answers result sent }
 {
     if connection.open().is_err() {
@@ -71,7 +71,7 @@ pub fn store<D: DataConnection>(
     ensures heard { Begins connection.new.answers connection.old.answers }
     ensures ok { IfOk result (λ ending. (received : Bytes)
         × (file.new.items ≡ stored offset file.old.items ending received)
-        × CameTo (opening receiving) connection.old.answers connection.new.answers
+        × CameTo (with_opening receiving) connection.old.answers connection.new.answers
         ending received) }
     ensures err { IfErr result (λ error. fault_of error ≡ out_of_memory) }
 {
@@ -94,7 +94,7 @@ fn receive<D: DataConnection>(
     ensures heard { Begins connection.new.answers connection.old.answers }
     ensures ok { IfOk result (λ ending. (received : Bytes)
         × (stored.new.items ≡ stored.old.items ++ received)
-        × CameTo (opening receiving) connection.old.answers connection.new.answers
+        × CameTo (with_opening receiving) connection.old.answers connection.new.answers
         ending received) }
     ensures err { IfErr result (λ error. fault_of error ≡ out_of_memory) }
 {

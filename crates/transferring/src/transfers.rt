@@ -1,14 +1,14 @@
 //! A session that transfers a file.
 ghost use Rattle.std.specs.Prelude.{◌≡◌, ◌∷◌, [], List, None, Some, IfErr, IfOk, IfSome};
 ghost use Rattle.std.specs.Io.KnownBytes.{Appends};
-ghost use Rattle.unftp_control_command.specs.CommandMeaning.{command_of};
+ghost use Rattle.unftp_control_message.specs.CommandMeaning.{command_of};
 ghost use Rattle.unftp_control_defs.specs.Events.{Command as Meant, out_of_memory};
 ghost use Rattle.unftp_control_defs.specs.Run.{last_state, run_for, text_for};
 ghost use Rattle.unftp_control_defs.specs.Input.{input_state_of};
 ghost use Rattle.unftp_control_serve.specs.Endings.{snapshot_of};
 ghost use Rattle.unftp_control_serve.specs.Service.{ServeEnded, Serves};
-ghost use Rattle.unftp_control_reply.specs.ErrorMeaning.{fault_of};
-ghost use Rattle.unftp_control_reply.specs.ReplyMeaning.{reply_of};
+ghost use Rattle.unftp_control_message.specs.ErrorMeaning.{fault_of};
+ghost use Rattle.unftp_control_message.specs.ReplyMeaning.{reply_of};
 ghost use Rattle.unftp_control_serve.specs.EventMeaning.{event_meant};
 ghost use Rattle.unftp_control_serve.specs.Writing.{Begins};
 ghost use Rattle.transferring.specs.Answers.{DataAnswer};
@@ -18,9 +18,9 @@ use crate::data::{Data, DataConnection};
 use crate::transfer::{Ending, Transfer, retrieve, store};
 use std::alloc::Global;
 use std::io::{Read, Write};
-use unftp_control_command::Command;
-use unftp_control_reply::error::ControlChanError;
-use unftp_control_reply::{Reply, ReplyCode};
+use unftp_control_message::Command;
+use unftp_control_message::reply::error::ControlChanError;
+use unftp_control_message::reply::{Reply, ReplyCode};
 use unftp_control_serve::{Count, Event, Input, Output, ServeError, Served, Session, serve};
 
 /// Serves one file, which is held in memory: RETR sends it and STOR replaces it, whichever path

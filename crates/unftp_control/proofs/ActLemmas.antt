@@ -11,13 +11,13 @@ use Rattle.unftp_control_defs.specs.Events.{FtpEvent, event_for, events}
 use Rattle.unftp_control_defs.specs.FtpReply.{FtpReply, encoded, reply_as_read}
 use Rattle.unftp_control_defs.specs.Lines.{IsLine, incomplete_line}
 use Rattle.unftp_control_defs.specs.ReplyReader.{HasFront}
-use Rattle.unftp_control_defs.specs.Run.{SessionLaw, after, replies, run_for, run_of, said, turn}
+use Rattle.unftp_control_defs.specs.Run.{SessionLaw, replies, run_for, run_of, turn, replies_by_event, all_said, replies_to}
 use Rattle.unftp_control_defs.specs.TakingSteps.{AreTakingSteps, TakesReply, all_taken}
 use Rattle.unftp_control_defs.proofs.LineLemmas.{events-append}
-use Rattle.unftp_control_defs.proofs.RunLemmas.{run_of-length}
+use Rattle.unftp_control_defs.proofs.RunLemmas.{at_each-append, run_of-append, run_of-first}
 use Rattle.unftp_control_defs.proofs.ExchangeLemmas.{length-replies_by_event, read-alike}
 use Rattle.unftp_control_serve.specs.Writing.{Begins}
-use Rattle.unftp_control_defs.specs.Turns.{IsExchange, cut_reads, is_preliminary_read, replies_by_event}
+use Rattle.unftp_control_defs.specs.Turns.{IsExchange, cut_reads, is_preliminary_read}
 use Rattle.unftp_control_client.specs.Exchange.{new_client}
 use Rattle.unftp_control_client.specs.Steps.{AreExchanges, AreSteps, ClientStep, ReplyTo, Received, Sent, Took, after_to, decoder_steps, is_final, is_something, lines_sent, replies_taken, sent_by, taken_by, was_owed}
 use Rattle.unftp_control_client.specs.declared.Client.{Client}
@@ -25,7 +25,7 @@ use Rattle.unftp_control_client.specs.declared.dialogue.To.{To}
 use Rattle.unftp_control_client.specs.declared.dialogue.To.TheVariants.{Greeting, Command, Nothing}
 use Rattle.unftp_control_client.proofs.ClientStepLemmas.{none_owed, steps-append, steps-exchanges, steps-taken}
 use Rattle.unftp_control.specs.Conversation.{IsReadable, Show}
-use Rattle.unftp_control.specs.Acts.{AreFirst, AtClient, AtServer, IsConversation, IsUnderstood, Server, Act, at_client, came_to_client, came_to_server, client_steps, exchanges, lines_of_client, all_said, reply_at, sent_by_client, taken_by_client, turns_to, written_by}
+use Rattle.unftp_control.specs.Acts.{AreFirst, AtClient, AtServer, IsConversation, IsUnderstood, Server, Act, at_client, came_to_client, came_to_server, client_steps, exchanges, lines_of_client, reply_at, sent_by_client, taken_by_client, turns_to, written_by}
 use Rattle.unftp_control.proofs.ConversationLemmas.{events-lines, length-cut_by, length-onto_first, read_all, read_so_far, shown_turns}
 
 -- ---- replies to the first bytes are the first replies
@@ -33,19 +33,11 @@ use Rattle.unftp_control.proofs.ConversationLemmas.{events-lines, length-cut_by,
 pub turns_first : {S : Type 0} (law : SessionLaw S) (s : S) (events more : List FtpEvent)
     → Begins (replies_by_event law s (run_of law s (events ++ more)))
     (replies_by_event law s (run_of law s events))
-turns_first law s [] more = (replies_by_event law s (run_of law s more), refl)
-turns_first law s (event ∷ events) more = by_done (law.done (after law s event))
-    (turns_first law (after law s event) events more)
-  where
-    by_done : (done : Bool) → Begins
-        (replies_by_event law (after law s event) (run_of law (after law s event) (events ++ more)))
-        (replies_by_event law (after law s event) (run_of law (after law s event) events))
-        → Begins (replies_by_event law s (event
-        ∷ (if done then [] else run_of law (after law s event) (events ++ more))))
-        (replies_by_event law s (event
-        ∷ (if done then [] else run_of law (after law s event) events)))
-    by_done true rest = ([], refl)
-    by_done false rest = (rest.0, ap (λ later. said (turn law s event) ∷ later) rest.1)
+turns_first law s events more = (
+  _,
+  ap (replies_by_event law s) (run_of-append law s events more)
+      ∙ at_each-append (replies_to law) law s (run_of law s events) _,
+)
 
 pub turns_to_first : {S : Type 0} (server : Server S) (input more : Bytes)
     → Begins (turns_to server (input ++ more)) (turns_to server input)
@@ -61,24 +53,10 @@ turns_to_first server input more =
           ∙ ap (λ (later : List (List FtpReply)). greeting ∷ later) first.1,
     )
 
-pub all_said-append : (a b : List (List FtpReply)) → all_said (a ++ b) ≡ all_said a ++ all_said b
-all_said-append [] b = refl
-all_said-append (turn ∷ a) b = ap (λ later. turn ++ later) (all_said-append a b)
-    ∙ sym (append_assoc turn (all_said a) (all_said b))
-
-pub all_said-replies : {S : Type 0} (law : SessionLaw S) (s : S) (events : List FtpEvent)
-    → all_said (replies_by_event law s events) ≡ replies law s events
-all_said-replies law s [] = refl
-all_said-replies law s (event ∷ events) =
-    ap (λ later. said (turn law s event) ++ later) (all_said-replies law (after law s event) events)
-
 -- what is written is what is said
 pub written-said : {S : Type 0} (server : Server S) (input : Bytes)
     → written_by server input ≡ flat_map encoded (all_said (turns_to server input))
-written-said server input =
-    ap (λ said. encoded server.greeting ++ flat_map encoded said)
-    (sym (all_said-replies server.law server.state
-    (run_for server.limit server.law server.state input)))
+written-said server input = refl
 
 pub all_of_first : {X : Type 0} (P : X → Type 0) (xs ys : List X) → AllByRecursion P (xs ++ ys)
     → AllByRecursion P xs
@@ -90,7 +68,7 @@ pub IsUnderstood-first : (turns more : List (List FtpReply)) → IsUnderstood (t
     → IsUnderstood turns
 IsUnderstood-first turns more all = record {
   readable = all_of_first IsReadable (all_said turns) (all_said more)
-      (subst (AllByRecursion IsReadable) (all_said-append turns more) all.readable);
+      (subst (AllByRecursion IsReadable) (flat_map-append (λ turn. turn) turns more) all.readable);
   exchanges = all_of_first IsExchange turns more all.exchanges;
 }
 
@@ -256,6 +234,8 @@ module _ {S : Type 0} (server : Server S) (limit : Option ℕ) (acts : List Act)
         (subst (AllByRecursion IsLine) lines_so talk.lines)) in
         let taken = all_taken (decoder_steps (client_steps before)) in
         let parts = cut_reads (taken ++ shown.0) in
+        let run = run_of-first server.law server.state
+        (events server.limit (came_to_server before)) in
         omega (
           arith,
           ap (λ read. length (cut_reads read)) (taken_of (client_steps before)),
@@ -263,7 +243,9 @@ module _ {S : Type 0} (server : Server S) (limit : Option ℕ) (acts : List Act)
           shown_turns (taken ++ shown.0) here here_clear.exchanges shown.1,
           length-replies_by_event server.law server.state
               (run_for server.limit server.law server.state (came_to_server before)),
-          run_of-length server.law server.state (events server.limit (came_to_server before)),
+          ap length run.1,
+          length-append (run_for server.limit server.law server.state (came_to_server before))
+              run.0,
           ap (λ input. length (events server.limit input)) sent.1,
           ap length events_of,
           length-append (events server.limit (came_to_server before))
@@ -368,7 +350,8 @@ module _ {S : Type 0} (server : Server S) (limit : Option ℕ) (acts : List Act)
       let came = (talk.in_order acts [] whole_acts).to_client in
       let first = here_first acts [] whole_acts client talk.steps in
       let now = turns_to server (came_to_server acts) in
-      let whole = ap (flat_map encoded) (ap all_said first.1 ∙ all_said-append now first.0)
+      let whole = ap (flat_map encoded) (ap all_said first.1
+      ∙ flat_map-append (λ turn. turn) now first.0)
       ∙ flat_map-append encoded (all_said now) (all_said first.0)
       ∙ ap (λ bytes. bytes ++ flat_map encoded (all_said first.0))
       (sym (written-said server (came_to_server acts)) ∙ came.1)

@@ -1,5 +1,5 @@
 -- Runs that don't end in an agreement to begin TLS.
-use Rattle.std.proofs.Common.{◌≡◌, ℕ, List, [], ◌∷◌, ◌++◌, length, ◌+◌, refl, sym, ap, ◌∙◌, arith, length-append}
+use Rattle.std.proofs.Common.{◌≡◌, List, [], ◌∷◌, ◌++◌, length, ◌+◌, refl, sym, ap, ◌∙◌}
 use Rattle.unftp_control_defs.specs.Bytes.{Bytes}
 use Rattle.unftp_control_client.specs.Steps.{ClientStep, EndsInAgreement, ReplyTo, lines_sent, replies_taken}
 use Rattle.unftp_control_client.specs.declared.dialogue.To.TheVariants.{Command}
@@ -29,7 +29,3 @@ module _ (steps : List ClientStep) (ends : EndsInAgreement steps) where
       record { to = Command (length ends.lines); reply = (234, ends.texts) } in
       sym (last-append agreement replies reply) ∙ ap (last agreement) (sym is ∙ ends.taken)
       ∙ last-append agreement ends.replies agreement
-
-  pub how_many : (n : ℕ) → length (lines_sent steps) ≡ n → length ends.lines + 1 ≡ n
-  how_many n is =
-      omega (arith, is, ap length ends.sent, length-append ends.lines (ends.line ∷ []))

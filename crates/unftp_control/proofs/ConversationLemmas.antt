@@ -20,10 +20,8 @@ use Rattle.unftp_control_defs.proofs.ExchangeLemmas.{cut-exchange, cut-read}
 use Rattle.unftp_control_defs.proofs.ForwardedLineLemmas.{IsLine-forwarded_line, outcome-forwarded_line}
 use Rattle.unftp_control_defs.proofs.LineEventLemmas.{events-canonical_line}
 use Rattle.unftp_control_defs.proofs.LineLemmas.{Lines-lines_of, events-within, lines_of-concat}
-use Rattle.unftp_control_defs.proofs.ReplyAppendLemmas.{TakesReply-append}
-use Rattle.unftp_control_defs.proofs.ReplyCasesLemmas.{front_within}
-use Rattle.unftp_control_defs.proofs.ReplyUniqueLemmas.{FrontReply-unique}
-use Rattle.unftp_control.specs.Acts.{all_said}
+use Rattle.unftp_control_defs.proofs.ReplyLemmas.{FrontReply-unique, TakesReply-append, none_of_nothing}
+use Rattle.unftp_control_defs.specs.Run.{all_said}
 use Rattle.unftp_control.specs.Conversation.{CanBeSent, IsReadable, KeepsMeaning, Show, ShowTurns, canonical_if_read, forwarded_if_read, rewritten, sent}
 use Rattle.unftp_control.proofs.ReplyStepLemmas.{AreReplies-all, AreReplies-unique, steps-replies}
 
@@ -55,10 +53,6 @@ all_plain : (replies : List FtpReply) → AllByRecursion IsReadable replies
     → AllByRecursion IsPlain replies
 all_plain [] each = tt
 all_plain (reply ∷ replies) each = (each.0.0, all_plain replies each.1)
-
-none_of_nothing : ¬ HasFront []
-none_of_nothing (code, lines, used, front) =
-    let within = front_within [] code lines used front in omega (arith, within.0, within.1)
 
 -- Replies that are taken from the first bytes are the first of those that are taken from all.
 AreReplies-append : (input more : Bytes) (taken : List (ℕ × List Bytes)) (pending : Bytes)

@@ -17,14 +17,16 @@ mod NoonLemmas
 mod ConversationLemmas
 pub mod ActLemmas
 pub use Rattle.unftp_control_defs.proofs.EncodingLemmas
-pub use Rattle.unftp_control_defs.proofs.ReplyPartLemmas
-pub use Rattle.unftp_control_defs.proofs.ReplyCasesLemmas
+pub use Rattle.unftp_control_defs.proofs.ReplyLemmas
 pub use Rattle.unftp_control_defs.proofs.LineLemmas
 pub use Rattle.unftp_control_defs.proofs.RunLemmas
 pub use Rattle.unftp_control_serve.proofs.SendLemmas
 pub use Rattle.unftp_control_serve.proofs.EndingLemmas
+pub use Rattle.unftp_control_serve.proofs.SoFarLemmas
 pub use Rattle.unftp_control_serve.proofs.HeardLemmas
 pub use Rattle.unftp_control_defs.proofs.ExchangeLemmas
 pub use Rattle.unftp_control_serve.proofs.ServiceLemmas
 pub use Rattle.unftp_control_login.proofs.MemberLemmas
 pub use Rattle.unftp_control_client.proofs.ClientStepLemmas
+mod DefinitionExampleLemmas
+mod ReadExampleLemmas

@@ -4,8 +4,7 @@ use Rattle.std.proofs.lemmas.List.{append-nil}
 use Rattle.unftp_control_defs.specs.Bytes.{Bytes}
 use Rattle.unftp_control_defs.specs.ReplyReader.{HasFront, AllReplies}
 use Rattle.unftp_control_defs.specs.TakingSteps.{TakesReply, AreReplies, TakingStep, Pushed, Taken, AreTakingSteps, all_pushed, all_taken}
-use Rattle.unftp_control_defs.proofs.ReplyUniqueLemmas.{FrontReply-unique}
-use Rattle.unftp_control_defs.proofs.ReplyAppendLemmas.{TakesReply-append}
+use Rattle.unftp_control_defs.proofs.ReplyLemmas.{FrontReply-unique, TakesReply-append}
 
 -- the replies that are taken are those of all bytes
 pub steps-replies : (before : Bytes) (steps : List (TakingStep (ℕ × List Bytes))) (after : Bytes)

@@ -9,7 +9,7 @@ use Rattle.std.specs.Str.{is_utf8, chars}
 use Rattle.std.proofs.lemmas.List.{append_cancel_left}
 use Rattle.std.specs.Str.Lossy.{utf8_lossy, utf8_valid_len, utf8_error_len}
 use Rattle.unftp_control_serve.specs.Endings.{Snapshot, Unsent, Cause, Finished, Handler, LineMemory, ReplyMemory, Write, IsCauseOf, handler_failures, AllAnswered, RunEnded, RunFailed}
-use Rattle.unftp_control_reply.specs.ErrorParts.{KindAndSource}
+use Rattle.unftp_control_message.specs.ErrorParts.{KindAndSource}
 use Rattle.unftp_control_serve.specs.Service.{AnsweredAll, NoRoomForPiece, ServesKnown}
 use Rattle.unftp_control_serve.specs.Writing.{Begins}
 use Rattle.unftp_control_serve.specs.declared.error.ServeError.TheVariants as error
@@ -21,8 +21,7 @@ use Rattle.unftp_control_defs.specs.FtpCommand.{User}
 use Rattle.unftp_control_defs.specs.FtpReply.{FtpReply, CodeAndMsg, Nothing}
 use Rattle.unftp_control_defs.specs.ReplyReader.{ReadsBack}
 use Rattle.unftp_control_defs.proofs.LackLemmas.{Lacks-test}
-use Rattle.unftp_control.specs.Snapshots.{counter, counter_to_five, noop, snapshot, snapshot_of_any_writer, two_replies}
-use Rattle.unftp_control.proofs.FirstLineLemmas.{user-may}
+use Rattle.unftp_control.specs.Snapshots.{counter, counter_to_five, noop, snapshot, two_replies}
 
 abbrev pub start : Snapshot ℕ
 start = snapshot 3 (codes "x") 1
@@ -31,17 +30,11 @@ module _ (after : Snapshot ℕ) (v : AllAnswered counter start (noop ∷ noop �
   pub all_answered-written : Appends (Some (codes "x")) after.output.written
       (codes "200 OK\r\n200 OK\r\n")
   unfolding digits
-  all_answered-written = v.written.known
+  all_answered-written = v.given.written.known
 
   pub all_answered-flushed : after.output.unflushed ≡ 0
   unfolding digits
-  all_answered-flushed = let none : after.output.unflushed ≤ 0 = v.flushed in omega arith
-
-pub any_writer-written : (after : Snapshot ℕ)
-    → AllAnswered counter (snapshot_of_any_writer 3 (codes "x") 1) (noop ∷ noop ∷ []) after
-    → after.output.taken ≡ codes "x200 OK\r\n200 OK\r\n"
-unfolding digits
-any_writer-written after v = v.written.taken
+  all_answered-flushed = let none : after.output.unflushed ≤ 0 = v.given.flushed in omega arith
 
 -- the only reply of a turn that was not sent, and the state after it
 pub unsent-first : {S : Type 0} (steps : List (FtpReply × S)) (sent : List (FtpReply × S))
@@ -58,12 +51,7 @@ pub write_failed-part : (part : Bytes) (after : Snapshot ℕ)
     Begins (codes "200 OK\r\n") part × (after.output.unflushed ≤ length part)
 unfolding digits
 write_failed-part part after v =
-    ((unsent-first _ [] (CodeAndMsg 200 (codes "OK")) 5 refl v.ends_at).0, v.flushed)
-
-pub write_failed-state : (part : Bytes) (after : Snapshot ℕ)
-    → RunEnded counter start (noop ∷ []) (noop ∷ []) [] (Write part) after → after.state ≡ 5
-write_failed-state part after v =
-    (unsent-first _ [] (CodeAndMsg 200 (codes "OK")) 5 refl v.ends_at).1
+    ((unsent-first _ [] (CodeAndMsg 200 (codes "OK")) 5 refl v.ends_at).0, v.given.flushed)
 
 abbrev between : Snapshot ℕ
 between = snapshot 0 [] 0
@@ -74,7 +62,8 @@ pub two_replies-written : (fault : Fault) (after : Snapshot ℕ)
     → Appends (Some []) after.output.written (codes "150\r\n") × (after.output.unflushed ≡ 0)
 unfolding digits
 two_replies-written fault after v =
-    let none : after.output.unflushed ≤ 0 = v.flushed in (v.written.known, omega (arith, none))
+    let none : after.output.unflushed ≤ 0 = v.given.flushed in
+    (v.given.written.known, omega (arith, none))
 
 pub two_replies-part : (part : Bytes) (after : Snapshot ℕ)
     → RunEnded two_replies between [] (noop ∷ []) ((CodeAndMsg 150 [], 1) ∷ []) (Write part) after
@@ -100,7 +89,7 @@ pub write_failed-written : (after : Snapshot ℕ)
     → RunEnded counter start (noop ∷ []) (noop ∷ []) [] (Write (codes "20")) after →
     Appends (Some (codes "x")) after.output.written (codes "200 OK\r\n20")
 unfolding digits
-write_failed-written after v = v.written.known
+write_failed-written after v = v.given.written.known
 
 -- out of memory for the second of two lines
 pub line_memory : RunFailed None counter start (codes "NOOP\r\nUSER a\r\n")
@@ -114,12 +103,14 @@ line_memory = record {
   means = tt;
   ended = record {
     ends_at = refl;
-    written = record { taken = refl; known = refl };
-    flushed = omega arith;
-    write_failed = refl;
-    handler_failed = refl;
+    given = record {
+      written = record { taken = refl; known = refl };
+      flushed = omega arith;
+      write_failed = refl;
+      handler_failed = refl;
+    };
   };
-  next_line = λ at_line. user-may;
+  next_line = λ at_line. (refl, omega arith);
 }
 
 -- a read that gave nothing is the last one
@@ -159,11 +150,6 @@ pub served-read_back : (after : Snapshot ℕ) (remaining : Option Bytes) (served
 unfolding digits
 served-read_back after remaining served v =
     v.read_back (((omega arith, omega arith), Lacks-test LF (codes "OK") refl), tt)
-
-pub served-rest : (after : Snapshot ℕ) (remaining : Option Bytes) (served : Served)
-    → ServesKnown None counter start after remaining served (codes "NOOP\r\nNO")
-    → remaining ≡ Some []
-served-rest after remaining served v = v.to_be_read ∙ ap (λ rest. Some rest) (v.at_end v.done)
 
 -- no bytes before it make it the end of the input
 another_end : (read : Bytes) → ¬ (codes "NOOP\r\nNOOP\r\nNO" ≡ read ++ codes "XX")

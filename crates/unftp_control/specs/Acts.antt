@@ -5,8 +5,8 @@ use Rattle.std.specs.List.{AllByRecursion, concat, filter_map}
 use Rattle.unftp_control_defs.specs.Bytes.{Bytes}
 use Rattle.unftp_control_defs.specs.FtpReply.{FtpReply, encoded, reply_as_read}
 use Rattle.unftp_control_defs.specs.Lines.{IsLine}
-use Rattle.unftp_control_defs.specs.Run.{SessionLaw, run_for, text_for}
-use Rattle.unftp_control_defs.specs.Turns.{IsExchange, replies_by_event}
+use Rattle.unftp_control_defs.specs.Run.{SessionLaw, all_said, replies_by_event, run_for, text_for}
+use Rattle.unftp_control_defs.specs.Turns.{IsExchange}
 use Rattle.unftp_control_defs.specs.TakingSteps.{all_pushed}
 use Rattle.unftp_control_serve.specs.Writing.{Begins}
 use Rattle.unftp_control_client.specs.Exchange.{new_client}
@@ -66,10 +66,6 @@ abbrev pub turns_to : {S : Type 0} → Server S → Bytes → List (List FtpRepl
 turns_to server input = (server.greeting ∷ [])
     ∷ replies_by_event server.law server.state
     (run_for server.limit server.law server.state input)
-
-abbrev pub all_said : List (List FtpReply) → List FtpReply
-all_said [] = []
-all_said (turn ∷ turns) = turn ++ all_said turns
 
 -- No byte comes before it was sent: what came is the beginning of what was sent until then.
 pub record InOrder {S : Type 0} (server : Server S) (acts : List Act) : Type 0 where

@@ -1,9 +1,9 @@
 //! The commands of the control connection.
 ghost use Rattle.std.specs.Prelude.{◌≡◌, ◌↔◌, IsTrue};
-ghost use Rattle.unftp_control_command.specs.CommandMeaning.{command_of};
-ghost use Rattle.unftp_control_command.specs.declared.Command.{Command as RustCommand};
+ghost use Rattle.unftp_control_message.specs.CommandMeaning.{command_of};
+ghost use Rattle.unftp_control_message.specs.declared.Command.{Command as RustCommand};
 
-pub use unftp_control_command::{AuthParam, Command, ModeParam, Opt, ProtParam, StruParam};
+pub use unftp_control_message::{AuthParam, Command, ModeParam, Opt, ProtParam, StruParam};
 
 /// `==` of commands is equality of what they mean.
 pub fn same_commands()

@@ -1,12 +1,28 @@
--- What is in an area after a text was written to it.
-use Rattle.std.proofs.Common.{◌≡◌, Bool, true, false, ◌++◌, length, take, drop, arith, append_assoc, length-append}
-use Rattle.std.specs.Prelude.{if◌then◌else◌, nat_le}
+-- What is in an area after a text was written to it, and what is reported.
+use Rattle.std.proofs.Common.{◌≡◌, ◌≢◌, ℕ, ◌-◌, ◌==◌, Bool, true, false, List, [], ◌∷◌, ◌++◌, length, take, drop, get_or, Result, Ok, Err, Vec, Global, refl, sym, ap, subst, ◌∙◌, append_assoc, length-append}
+use Rattle.std.specs.Prelude.{if◌then◌else◌, nat_le, IfOk}
 use Rattle.std.proofs.Math.Seq.{take-append_seam, drop-append_seam}
 use Rattle.std.proofs.lemmas.List.{drop-drop}
 use Rattle.unftp_control_defs.specs.Bytes.{Bytes}
-use Rattle.unftp_control_c.specs.declared.status.Status.TheVariants.{Done, NoRoom, NoLine, OutOfMemory}
+use Rattle.unftp_control_c.specs.declared.status.Status.{Status}
+use Rattle.unftp_control_c.specs.declared.status.Status.TheVariants.{Done, More, InvalidCommand, InvalidUtf8, InvalidEol, LineTooLong, OutOfMemory, NoRoom, NoLine, Malformed, UnknownCode, InvalidArgument}
 use Rattle.unftp_control_c.specs.Numbers.{status_number}
-use Rattle.unftp_control_c.specs.Areas.{Filled, filled, overwritten}
+use Rattle.unftp_control_c.specs.Areas.{Filled, Made, filled, made, overwritten, written}
+
+-- each status has a number of its own
+abbrev statuses : List Status
+statuses = More ∷ InvalidCommand ∷ InvalidUtf8 ∷ InvalidEol ∷ LineTooLong ∷ OutOfMemory ∷ NoRoom
+    ∷ NoLine ∷ Malformed ∷ UnknownCode ∷ InvalidArgument ∷ []
+
+abbrev numbered : ℕ → Status
+numbered n = if n == 0 then Done else get_or statuses (n - 101) Done
+
+numbered_back : (status : Status) → numbered (status_number status) ≡ status
+numbered_back Done = refl
+numbered_back _ = refl
+
+same_status : (a b : Status) → status_number a ≡ status_number b → a ≡ b
+same_status a b e = sym (numbered_back a) ∙ ap numbered e ∙ numbered_back b
 
 -- by whether there is room
 abbrev by_room : Bool → Bytes → Bytes → Filled
@@ -19,29 +35,52 @@ by_room room text area = if room
     else record { result = status_number NoRoom; area = area; text_length = length text }
 
 -- where it is done, the text is at the start of the area
-pub filled_done : (text area : Bytes) → (filled text area).result ≡ status_number Done
+filled_done : (text area : Bytes) → (filled text area).result ≡ status_number Done
     → take (filled text area).text_length (filled text area).area ≡ text
 filled_done text area done = go (nat_le (length text) (length area)) done
   where
     go : (room : Bool) → (by_room room text area).result ≡ status_number Done
         → take (by_room room text area).text_length (by_room room text area).area ≡ text
     go true done = take-append_seam text (drop (length text) area)
-    go false done = absurd (omega (arith, done))
+    go false done = absurd (let same = same_status NoRoom Done done in cc)
 
-pub filled_has_line : (text area : Bytes) → (filled text area).result ≡ status_number NoLine → ⊥
-filled_has_line text area none = go (nat_le (length text) (length area)) none
+-- its length is reported, whether there is room or not
+pub filled_length : (text area : Bytes) → (filled text area).text_length ≡ length text
+filled_length text area = go (nat_le (length text) (length area))
   where
-    go : (room : Bool) → (by_room room text area).result ≡ status_number NoLine → ⊥
-    go true none = omega (arith, none)
-    go false none = omega (arith, none)
+    go : (room : Bool) → (by_room room text area).text_length ≡ length text
+    go true = refl
+    go false = refl
 
-pub filled_has_memory : (text area : Bytes) → (filled text area).result ≡ status_number OutOfMemory
-    → ⊥
-filled_has_memory text area out = go (nat_le (length text) (length area)) out
+-- any other status that is reported is why there is no text
+pub why_none : (bytes : Made) (area : Bytes) (status : Status) → status ≢ Done → status ≢ NoRoom
+    → (written bytes area).result ≡ status_number status → bytes ≡ Err status
+why_none (Err why) area status not_done has_room e =
+    ap (λ status. Err status) (same_status why status e)
+why_none (Ok text) area status not_done has_room e =
+    absurd (go (nat_le (length text) (length area)) e)
   where
-    go : (room : Bool) → (by_room room text area).result ≡ status_number OutOfMemory → ⊥
-    go true out = omega (arith, out)
-    go false out = omega (arith, out)
+    go : (room : Bool) → (by_room room text area).result ≡ status_number status → ⊥
+    go true e = not_done (sym (same_status Done status e))
+    go false e = has_room (sym (same_status NoRoom status e))
+
+-- what is so of the text is so of what was written
+pub written_text : (P : Bytes → Type 0) (area : Bytes) (bytes : Made) → (bytes ≡ Err Done → ⊥)
+    → ((text : Bytes) → bytes ≡ Ok text → P text)
+    → (written bytes area).result ≡ status_number Done
+    → P (take (written bytes area).text_length (written bytes area).area)
+written_text P area (Ok text) not_done so done =
+    subst P (sym (filled_done text area done)) (so text refl)
+written_text P area (Err status) not_done so done =
+    absurd (not_done (ap (λ status. Err status) (same_status status Done done)))
+
+pub same_text : {text other : Bytes} → ◌≡◌ {A = Made} (Ok text) (Ok other) → text ≡ other
+same_text e = cc
+
+pub made_text : (P : Bytes → Type 0) (result : Result (Vec ℕ Global) Status)
+    → IfOk result (λ buf. P buf.items) → (text : Bytes) → made result ≡ Ok text → P text
+made_text P (Ok buf) so text e = subst P (same_text e) so
+made_text P (Err status) so text e = absurd (cc)
 
 -- two texts
 pub one_after_the_other : (text next area : Bytes)

@@ -1,95 +1,148 @@
 -- What a call leaves, by its result.
-use Rattle.std.proofs.Common.{◌≡◌, ◌≢◌, ℕ, ◌+◌, ◌<◌, Bool, true, false, ◌⊎◌, length, take, Option, Some, None, Ok, Err, refl, subst, inl, inr, arith}
-use Rattle.unftp_control_defs.specs.FtpCommand.{Answer, FtpCommand, Refusal, User, InvalidCommand, InvalidUtf8, InvalidEol}
-use Rattle.std.specs.Prelude.{nat_le}
+use Rattle.std.proofs.Common.{◌≡◌, ◌≢◌, ℕ, ◌+◌, ◌*◌, ◌≤◌, Bool, true, false, [], ◌∷◌, ◌++◌, length, take, drop, Some, None, Ok, Err, refl, subst, inl, inr, arith, length-append}
+use Rattle.std.specs.Prelude.{nat_le, ◌==◌, ◌&&◌, ◌||◌, if◌then◌else◌}
+use Rattle.std.proofs.lemmas.Bool.{and_parts, eqb-true, le-leb, leb-true, ltb-false}
+use Rattle.std.proofs.lemmas.List.{length-take}
+use Rattle.unftp_control_defs.specs.Bytes.{Bytes}
+use Rattle.unftp_control_defs.specs.Events.{FtpEvent, Refused, event_of, exceeds, line_too_long}
+use Rattle.unftp_control_defs.specs.FtpCommand.{Answer, FtpCommand, User, InvalidCommand, InvalidUtf8, InvalidEol}
 use Rattle.unftp_control_defs.specs.NameAndValue.{command_number}
 use Rattle.unftp_control_defs.specs.Outcome.{outcome}
-use Rattle.unftp_control_codecs.specs.LineFeed.{line_feed_from}
+use Rattle.unftp_control_defs.specs.TakingSteps.{TakesEvent}
+use Rattle.unftp_control_codecs.specs.Codec.{Codec, is_too_long}
+use Rattle.unftp_control_codecs.specs.declared.FirstLine.{FirstLine}
+use Rattle.unftp_control_codecs.specs.declared.FirstLine.TheVariants.{Incomplete, TooLong, Complete}
+use Rattle.unftp_control_codecs.proofs.FirstLineLemmas.{CountsLine, Finds}
+use Rattle.unftp_control_codecs.proofs.LineFeedLemmas.{unskipped}
+use Rattle.unftp_control_c.specs.declared.next.Connection.{Connection}
 use Rattle.unftp_control_c.specs.declared.status.Status.TheVariants.{More, NoRoom, OutOfMemory, InvalidArgument}
-use Rattle.unftp_control_c.specs.Next.{Call, Left, Leaves, answered, by_line_feed, ended, gives, incomplete, is_long, is_valid, kept, lengths_of, next_of, area_text}
-use Rattle.unftp_control_c.specs.Numbers.{refusal_status, status_number}
-use Rattle.unftp_control_c.specs.Taking.{gives_none}
+use Rattle.unftp_control_c.specs.Next.{Call, Left, Leaves, by_first_line, codec_of, first_of, given_for, given_left, gives, is_valid, kept, line_limit, next_codec, next_of, resumed, used_up, without_room}
+use Rattle.unftp_control_c.specs.Numbers.{status_number}
+use Rattle.unftp_control_c.specs.Taking.{Caller, after_piece, given_by, gives_none, is_made_again}
+use Rattle.unftp_control_c.proofs.AreaLemmas.{parts_apart}
+use Rattle.unftp_control_c.proofs.NextLemmas.{counts_of}
+use Rattle.unftp_control_c.proofs.RoomLemmas.{command_room}
 
--- what is given of a command, and of a refused line
-pub command_gives : (command : FtpCommand) → gives_none (command_number command) ≡ false
-command_gives (User name) = refl
-command_gives _ = refl
+-- what the name and the value of an event's line need
+abbrev pub lengths : FtpEvent → ℕ
+lengths event = length (given_for event).name + length (given_for event).value
 
-pub refusal_gives : (refusal : Refusal) → gives_none (status_number (refusal_status refusal))
-    ≡ false
-refusal_gives InvalidCommand = refl
-refusal_gives InvalidUtf8 = refl
-refusal_gives InvalidEol = refl
+-- the first line of a call, and its event
+pub record FirstEvent (call : Call) : Type 0 where
+  pub n : ℕ
+  pub event : FtpEvent
+  pub ends : CountsLine (codec_of call.connection) call.bytes (next_codec call) n
+  pub leaves : (area : Bytes) → next_of (record call { area = area })
+      ≡ gives (record call { area = area }) n (given_for event)
+  pub some : gives_none (given_for event).number ≡ false
+  pub small : lengths event ≤ 3 * n
+  pub limited : 1 ≤ call.connection.limit → lengths event ≤ 3 * call.connection.limit
+  pub takes : (dropped : Bytes)
+      → Finds (codec_of call.connection) dropped call.bytes (next_codec call) (first_of call)
+      → TakesEvent (line_limit call.connection.limit) (dropped ++ call.bytes) event
+      (drop n call.bytes)
 
--- the area has no room for a command's name and value
-abbrev pub without_room : Call → FtpCommand → Left
-without_room call command = record {
-  result = status_number NoRoom;
-  connection = call.connection;
-  area = call.area;
-  line = lengths_of 0 command;
-}
+abbrev pub has_room : (call : Call) → FirstEvent call → Bool
+has_room call first = let given = given_for first.event in
+    nat_le (length (given.name ++ given.value)) (length call.area)
 
--- what a call leaves, by its result
 pub data NextLeft (call : Call) (left : Left) : Type 0 where
   invalid : is_valid call.connection (length call.bytes) ≡ false → left ≡ kept call InvalidArgument
       → NextLeft call left
-  asks : line_feed_from call.bytes call.connection.offset ≡ None → left.result ≡ status_number More
-      → left ≡ incomplete call → NextLeft call left
-  gave : gives_none left.result ≡ false → 0 < left.line.used → NextLeft call left
-  no_room : (k : ℕ) (command : FtpCommand) → is_valid call.connection (length call.bytes) ≡ true
-      → line_feed_from call.bytes call.connection.offset ≡ Some k
-      → is_long call.connection (k + 1) ≡ false → outcome (take (k + 1) call.bytes) ≡ Ok command
-      → left ≡ without_room call command → NextLeft call left
+  asks : (n : ℕ) → is_valid call.connection (length call.bytes) ≡ true
+      → first_of call ≡ Incomplete n
+      → left ≡ used_up call More n (resumed call.connection (next_codec call)) → NextLeft call left
+  gave : (first : FirstEvent call) → has_room call first ≡ true
+      → left ≡ given_left call first.n (given_for first.event) → NextLeft call left
+  no_room : (first : FirstEvent call) → has_room call first ≡ false
+      → left ≡ without_room call (given_for first.event) → NextLeft call left
+  no_memory : left ≡ kept call OutOfMemory → NextLeft call left
+
+-- a line that is not too long, where there is a limit
+pub within_limit : (connection : Connection) (n : ℕ) → 1 ≤ connection.limit
+    → is_too_long (codec_of connection) n ≡ false → n ≤ connection.limit
+within_limit connection n some short = by_test (connection.limit == 0) refl
+    (unskipped (connection.skipping == 1) (exceeds (line_limit connection.limit) n) short).1
+  where
+    by_test : (test : Bool) → (connection.limit == 0) ≡ test
+        → exceeds (if test then None else Some connection.limit) n ≡ false → n ≤ connection.limit
+    by_test true e short = absurd (omega (arith, eqb-true connection.limit 0 e, some))
+    by_test false e short = omega (arith, ltb-false connection.limit n short)
+
+-- what is given of a line: neither that more is needed, nor that a call is to be made again
+command_gives : (command : FtpCommand) → gives_none (command_number command) ≡ false
+command_gives (User name) = refl
+command_gives _ = refl
+
+answer_gives : (answer : Answer) → gives_none (given_for (event_of answer)).number ≡ false
+answer_gives (Ok command) = command_gives command
+answer_gives (Err InvalidCommand) = refl
+answer_gives (Err InvalidUtf8) = refl
+answer_gives (Err InvalidEol) = refl
+
+answer_small : (line : Bytes) (answer : Answer) → outcome line ≡ answer
+    → lengths (event_of answer) ≤ 3 * length line
+answer_small line (Ok command) read = command_room line command read
+answer_small line (Err refusal) read = omega arith
 
 module _ (call : Call) where
-  abbrev feed : Option ℕ
-  feed = line_feed_from call.bytes call.connection.offset
+  left_first : (first : FirstEvent call) → (room : Bool) → has_room call first ≡ room
+      → NextLeft call (gives call first.n (given_for first.event))
+  left_first first true e = rw e (gave first e refl)
+  left_first first false e = rw e (no_room first e refl)
 
-  abbrev valid : Bool
-  valid = is_valid call.connection (length call.bytes)
+  left_found : is_valid call.connection (length call.bytes) ≡ true → (found : FirstLine)
+      → first_of call ≡ found → NextLeft call (by_first_line call found)
+  left_found ok (Incomplete n) e = asks n ok e refl
+  left_found ok (TooLong n) e = left_first (record {
+    n = n;
+    event = Refused line_too_long;
+    ends = (counts_of call ok (TooLong n) e).0;
+    leaves = λ area. rw (ok, e) refl;
+    some = refl;
+    small = omega arith;
+    limited = λ some. omega arith;
+    takes = λ dropped finds. rw e at finds;
+  }) _ refl
+  left_found ok (Complete n) e =
+      let line = take n call.bytes in
+      let counts = counts_of call ok (Complete n) e in
+      let small = answer_small line (outcome line) refl in
+      let whole = length-take n call.bytes in
+      left_first (record {
+        n = n;
+        event = event_of (outcome line);
+        ends = counts.0;
+        leaves = λ area. rw (ok, e) refl;
+        some = answer_gives (outcome line);
+        small = omega (arith, small, whole);
+        limited = λ some.
+            omega (arith, small, whole, within_limit call.connection n some counts.1);
+        takes = λ dropped finds. (rw e at finds).takes;
+      }) _ refl
 
-  left_waiting : feed ≡ None → (long : Bool) → is_long call.connection (length call.bytes + 1)
-      ≡ long → NextLeft call (incomplete call)
-  left_waiting none true e = rw e (asks none refl (rw e refl))
-  left_waiting none false e = rw e (asks none refl (rw e refl))
-
-  left_command : {k : ℕ} {command : FtpCommand} → valid ≡ true → feed ≡ Some k
-      → is_long call.connection (k + 1) ≡ false → outcome (take (k + 1) call.bytes) ≡ Ok command
-      → (room : Bool) → nat_le (length (area_text command)) (length call.area) ≡ room
-      → NextLeft call (gives call.connection call.area (k + 1) command)
-  left_command {command} ok at short read true e = rw e (gave (command_gives command) (omega arith))
-  left_command {k} {command} ok at short read false e = rw e
-      (no_room k command ok at short read refl)
-
-  left_answer : {k : ℕ} → valid ≡ true → feed ≡ Some k → is_long call.connection (k + 1) ≡ false
-      → (answer : Answer) → outcome (take (k + 1) call.bytes) ≡ answer
-      → NextLeft call (answered call (k + 1) answer)
-  left_answer ok at short (Ok command) read =
-      left_command ok at short read (nat_le (length (area_text command)) (length call.area)) refl
-  left_answer ok at short (Err refusal) read = gave (refusal_gives refusal) (omega arith)
-
-  left_line : {k : ℕ} → valid ≡ true → feed ≡ Some k → (long : Bool)
-      → is_long call.connection (k + 1) ≡ long → NextLeft call (ended call k)
-  left_line ok at true e = rw e (gave refl (omega arith))
-  left_line {k} ok at false e = rw e (left_answer ok at e (outcome (take (k + 1) call.bytes)) refl)
-
-  left_feed : valid ≡ true → (o : Option ℕ) → feed ≡ o → NextLeft call (by_line_feed call o)
-  left_feed ok None e = left_waiting e (is_long call.connection (length call.bytes + 1)) refl
-  left_feed ok (Some k) e = left_line ok e (is_long call.connection (k + 1)) refl
-
-  left_by : (ok : Bool) → valid ≡ ok → NextLeft call (next_of call)
+  left_by : (ok : Bool) → is_valid call.connection (length call.bytes) ≡ ok
+      → NextLeft call (next_of call)
   left_by false e = rw e (invalid e refl)
-  left_by true e = rw e (left_feed e feed refl)
+  left_by true e = rw e (left_found e (first_of call) refl)
 
-  next_left : NextLeft call (next_of call)
-  next_left = left_by valid refl
-
-  -- with the memory that may be missing
   pub left_so : (left : Left) → Leaves call left → NextLeft call left
-      ⊎ (left ≡ kept call OutOfMemory)
-  left_so left (inl next) = inl (rw next next_left)
-  left_so left (inr ran_out) = inr ran_out.1
+  left_so left (inl next) =
+      rw next (left_by (is_valid call.connection (length call.bytes)) refl)
+  left_so left (inr ran_out) = no_memory ran_out.1
+
+pub some_given : {call : Call} {left : Left} (first : FirstEvent call)
+    → left ≡ given_left call first.n (given_for first.event) → gives_none left.result ≡ false
+some_given first e = rw e first.some
+
+-- it is read from the area
+pub given_is : {call : Call} (first : FirstEvent call)
+    → given_by (given_left call first.n (given_for first.event)) ≡ given_for first.event ∷ []
+given_is {call} first =
+    let given = given_for first.event in
+    let parts = parts_apart given.name given.value
+    (drop (length (given.name ++ given.value)) call.area) in
+    rw (first.some, parts.0, parts.1) refl
 
 pub gives_some : (result : ℕ) → gives_none result ≡ false → (result ≢ status_number More)
     × (result ≢ status_number NoRoom) × (result ≢ status_number OutOfMemory)
@@ -98,3 +151,44 @@ gives_some result h = (
   λ e. let found = subst (λ n. gives_none n ≡ false) e h in cc,
   λ e. let found = subst (λ n. gives_none n ≡ false) e h in cc,
 )
+
+-- the next call is valid, and its codec goes on where this one is
+module _ (connection : Connection) (codec : Codec) where
+  pub valid_resumed : (n : ℕ) → codec.place ≤ n → (codec.skipping ≡ true → codec.place ≡ 0)
+      → is_valid (resumed connection codec) n ≡ true
+  valid_resumed n within at_start = by_skipping codec.skipping at_start
+    where
+      by_skipping : (skipping : Bool) → (skipping ≡ true → codec.place ≡ 0)
+          → (nat_le codec.place n && ((if skipping then 1 else 0) == 0
+          || ((if skipping then 1 else 0) == 1 && codec.place == 0))) ≡ true
+      by_skipping true start = rw (le-leb codec.place n within, start refl) refl
+      by_skipping false start = rw (le-leb codec.place n within) refl
+
+  pub skipping_resumed : (codec_of (resumed connection codec)).skipping ≡ codec.skipping
+  skipping_resumed = by_skipping codec.skipping
+    where
+      by_skipping : (skipping : Bool) → ((if skipping then 1 else 0) == 1) ≡ skipping
+      by_skipping true = refl
+      by_skipping false = refl
+
+-- a call that gives a line is not made again
+pub once_given : (result : ℕ) → gives_none result ≡ false → is_made_again result ≡ false
+once_given result h = grind (arith, h)
+
+-- the next call is valid, also with more bytes
+abbrev pub Valid : Caller → Type 0
+Valid caller = is_valid caller.connection (length caller.bytes) ≡ true
+
+pub valid_with_piece : (caller : Caller) (piece : Bytes) → Valid caller
+    → Valid (after_piece caller piece)
+valid_with_piece caller piece ok =
+    let offset = caller.connection.offset in
+    let parts = and_parts (nat_le offset (length caller.bytes)) _ ok in
+    rw (
+      le-leb offset (length (caller.bytes ++ piece)) (omega (
+        arith,
+        leb-true offset (length caller.bytes) parts.0,
+        length-append caller.bytes piece,
+      )),
+      parts.1,
+    ) refl

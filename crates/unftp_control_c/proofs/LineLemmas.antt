@@ -1,10 +1,10 @@
 -- The lines of a text, one after the other.
-use Rattle.std.proofs.Common.{◌≡◌, ◌≢◌, ℕ, ◌+◌, ◌-◌, ◌<◌, ◌==◌, false, List, [], ◌∷◌, ◌++◌, length, take, get_or, refl, sym, ap, ◌∙◌, ◌⊎◌, inl, inr, Bor, Option, Some, None, unwrap_or, take_all, arith, ne_eqb}
+use Rattle.std.proofs.Common.{◌≡◌, ◌≢◌, ℕ, ◌+◌, ◌-◌, ◌<◌, ◌==◌, false, List, [], ◌∷◌, ◌++◌, length, take, get_or, refl, sym, ap, ◌∙◌, Bor, Option, Some, None, unwrap_or, take_all, arith, ne_eqb}
 use Rattle.std.specs.Prelude.{MatchOption}
 use Rattle.std.specs.List.{All, slice_split}
 use Rattle.std.specs.Str.Lines.{strip_carriage_return}
 use Rattle.std.proofs.Math.Seq.{take-append_seam}
-use Rattle.std.proofs.lemmas.Bool.{cases_eq}
+use Rattle.std.proofs.lemmas.Bool.{cond_both, eqb-true}
 use Rattle.std.proofs.lemmas.List.{get_or_at, length_push, take_more}
 use Rattle.std.proofs.lemmas.List.Elements.{All-from_get_or}
 use Rattle.std.proofs.lemmas.List.Splits.{slice_split_none, slice_split_at, length-slice_split}
@@ -43,23 +43,17 @@ strips line front whole =
     rw (last, whole, get_or_at front CR [] 0 (length front) refl)
     (take-append_seam front (CR ∷ []))
 
-module _ (line : Bytes) (none : (front : Bytes) → line ≢ front ++ CR ∷ []) where
-  abbrev last : ℕ
-  last = length line - 1
-
-  by_last : 0 < length line → (get_or line last 0 ≡ CR) ⊎ (get_or line last 0 ≡ CR → ⊥)
-      → strip_carriage_return line ≡ line
-  by_last some (inl is) =
-      let whole : take (last + 1) line ≡ line = take_all (last + 1) line (omega arith) in
-      absurd (none (take last line) (sym whole ∙ take_more line last 0 (omega arith)
-      ∙ ap (λ x. take last line ++ x ∷ []) is))
-  by_last some (inr is_not) = rw (ne_eqb (get_or line last 0) CR is_not) refl
-
 strips_none : (line : Bytes) → ((front : Bytes) → line ≢ front ++ CR ∷ [])
     → strip_carriage_return line ≡ line
 strips_none [] none = refl
-strips_none (b ∷ rest) none = by_last (b ∷ rest) none (omega arith)
-    (cases_eq (get_or (b ∷ rest) (length (b ∷ rest) - 1) 0) CR)
+strips_none (b ∷ rest) none =
+    let line : Bytes = b ∷ rest in
+    let last : ℕ = length line - 1 in
+    let whole : take (last + 1) line ≡ line = take_all (last + 1) line (omega arith) in
+    cond_both (get_or line last 0 == CR) (take last line) line (λ found. found ≡ line)
+    (λ is. absurd (none (take last line) (sym whole ∙ take_more line last 0 (omega arith)
+    ∙ ap (λ x. take last line ++ x ∷ []) (eqb-true (get_or line last 0) CR is))))
+    (λ _. refl)
 
 pub stripped : (line : Bor Bytes) (front : Option (Bor Bytes))
     → MatchOption front ((text : Bytes) → line.now ≢ text ++ CR ∷ [])

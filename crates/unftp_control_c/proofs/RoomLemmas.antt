@@ -1,66 +1,31 @@
 -- How much room the name and the value of a line's command need.
-use Rattle.std.proofs.Common.{◌≡◌, ℕ, zero, suc, ◌+◌, ◌*◌, ◌^◌, ◌<◌, ◌≤◌, Bool, true, false, cond, ◌==◌, ◌&&◌, nat_lt, List, [], ◌∷◌, ◌++◌, length, take, drop, length-drop, length-append, ◌⊎◌, inl, inr, Option, Some, None, option_map, unwrap_or, find, Ok, Err, bytes_eq, codes, decimal, refl, ap, subst, arith, rules, IsTrue}
+use Rattle.std.proofs.Common.{◌≡◌, ℕ, suc, ◌+◌, ◌*◌, ◌^◌, ◌<◌, ◌≤◌, Bool, true, false, cond, ◌==◌, ◌&&◌, nat_lt, List, [], ◌∷◌, ◌++◌, length, length-drop, length-append, ◌⊎◌, inl, inr, Option, Some, None, unwrap_or, Ok, bytes_eq, codes, decimal, refl, ap, subst, arith, rules, IsTrue}
 use Rattle.std.specs.Bool.{⊤}
 use Rattle.std.specs.Char.{to_ascii_uppercase}
 use Rattle.std.specs.List.{AllByRecursion, slice_index}
 use Rattle.std.specs.Str.{is_utf8, all_ascii_digits}
-use Rattle.std.specs.Str.Lossy.{utf8_lossy, utf8_lossy_within, utf8_valid_len, after_first_chunk, replacement_bytes, utf8_invalid_len, utf8_error_len}
+use Rattle.std.specs.Str.Lossy.{utf8_lossy}
 use Rattle.std.specs.Str.Parse.{digits_value, without_leading_plus}
-use Rattle.std.proofs.lemmas.Bool.{cond_both, ltb-true, and_parts, eqb-false}
-use Rattle.std.proofs.lemmas.Bool.Decides.{nat_tests}
-use Rattle.std.proofs.lemmas.Grind.{common_steps}
+use Rattle.std.proofs.lemmas.Bool.{ltb-true, and_parts}
 use Rattle.std.proofs.lemmas.Fmt.{length-decimal-le}
-use Rattle.std.proofs.lemmas.List.{length-map, length-take-le}
-use Rattle.std.proofs.lemmas.Str.{utf8_valid_len_le}
+use Rattle.std.proofs.lemmas.List.{length-map}
 use Rattle.std.proofs.lemmas.Str.Parse.{digits_value_short, numerals_by_value, tells_all_ascii_digits}
 use lib.Pointwise.{bytes_decides}
 use Rattle.unftp_control_defs.specs.Bytes.{Bytes, SP}
 use Rattle.unftp_control_defs.specs.ComputedValue.{value_of}
-use Rattle.unftp_control_defs.specs.FtpCommand.{FtpCommand, User, Pass, Acct, Stat, List as Listing, Md5, Site, Other, Rest, Answer, Refusal, InvalidCommand, InvalidUtf8}
+use Rattle.unftp_control_defs.specs.FtpCommand.{FtpCommand, Stat, List as Listing, Md5, Site, Other, Rest, Answer, InvalidCommand, InvalidUtf8}
 use Rattle.unftp_control_defs.specs.Outcome.{answer_by, outcome, site_answer, value_answer}
 use Rattle.unftp_control_defs.specs.Paths.{path_of}
-use Rattle.unftp_control_defs.specs.Rules.{raw, without_parameter, any_text, some_text, maybe_text, unless_empty, chosen, structures, modes, protections, options, buffer_sizes, mechanisms, auth, offset, listing, Rule, Ignores, Takes, Splits, row_of, verbs, rule_of, subcommand_answer}
+use Rattle.unftp_control_defs.specs.Rules.{raw, without_parameter, any_text, some_text, maybe_text, unless_empty, chosen, mechanisms, auth, offset, listing, Rule, Ignores, Takes, Splits, row_of, verbs, rule_of, subcommand_answer}
 use Rattle.unftp_control_defs.specs.Values.{ReadsLater, ends_crlf, ends_lf, cr_nul, byte, Reads, nothing, ended, ended_crlf, one_byte, first_cr_nul, first_byte}
 use Rattle.unftp_control_defs.specs.Verbs.{verb_of, parameter_of, upper, is_separator}
-use Rattle.unftp_control_defs.proofs.AnswerLemmas.{passed}
+use Rattle.unftp_control_defs.proofs.AnswerLemmas.{not_refused, passed}
+use Rattle.unftp_control_defs.proofs.LossyLemmas.{length-utf8_lossy}
 use Rattle.unftp_control_defs.proofs.PathLemmas.{path_of-keeps}
+use Rattle.unftp_control_defs.proofs.RuleLemmas.{found}
 use Rattle.unftp_control_defs.proofs.ValueLemmas.{Reads-value_of}
 use Rattle.unftp_control_defs.proofs.VerbLemmas.{Cut-verb_of}
-use Rattle.unftp_control_c.specs.Next.{area_text, name_of, value_of_command}
-
--- A text is at most three times as long where its ill-formed UTF-8 is replaced.
-ill_formed_byte : (text : Bytes) → 0 < length text → 0 < utf8_invalid_len text
-unfolding utf8_error_len
-ill_formed_byte text some = grind (arith, common_steps, nat_tests)
-
-replaced_length : (n : ℕ) (text more : Bytes) → n < length text
-    → length more ≤ 3 * length (drop (n + utf8_invalid_len (drop n text)) text)
-    → length (take n text ++ (replacement_bytes ++ more)) ≤ 3 * length text
-replaced_length n text more within short =
-    let faulty : 0 < utf8_invalid_len (drop n text) =
-    ill_formed_byte (drop n text) (omega (arith, length-drop n text)) in
-    let kept : length (take n text) ≡ n = length-take-le n text (omega arith) in
-    let whole : length (take n text ++ (replacement_bytes ++ more)) ≡ n + (3 + length more) =
-    simp (length-append, kept) refl in
-    omega (arith, whole, length-drop (n + utf8_invalid_len (drop n text)) text)
-
-lossy_length_within : (k : ℕ) (text : Bytes) → length (utf8_lossy_within k text) ≤ 3 * length text
-lossy_length_within zero text = omega arith
-lossy_length_within (suc k) text =
-    let n : ℕ = utf8_valid_len text in
-    let more : Bytes = utf8_lossy_within k (after_first_chunk text) in
-    let short : length more ≤ 3 * length (after_first_chunk text) =
-    lossy_length_within k (after_first_chunk text) in
-    let le : n ≤ length text = utf8_valid_len_le text in
-    cond_both (n == length text) text (take n text ++ (replacement_bytes ++ more))
-    (λ found. length found ≤ 3 * length text) (λ _. omega arith)
-    (λ e. let apart = eqb-false n (length text) e in
-    let within : n < length text = omega (arith, le, apart) in
-    replaced_length n text more within short)
-
-lossy_length : (text : Bytes) → length (utf8_lossy text) ≤ 3 * length text
-unfolding utf8_lossy
-lossy_length text = lossy_length_within (length text) text
+use Rattle.unftp_control_c.specs.Next.{name_of, value_of_command}
 
 path_length : (text : Bytes) → length (path_of text) ≤ length text
 path_length text = path_of-keeps (λ path. length path ≤ length text) (omega arith)
@@ -87,16 +52,11 @@ value_length parameter v e = reads_length (Reads-value_of parameter v e)
 
 -- the room for a command
 abbrev room : FtpCommand → ℕ
-room command = length (area_text command)
+room command = length (name_of command ++ value_of_command command)
 
 given : (command meant : FtpCommand) (n : ℕ) → room command ≤ n
     → ◌≡◌ {A = Answer} (Ok command) (Ok meant) → room meant ≤ n
 given command meant n h e = let same : command ≡ meant = cc in subst (λ c. room c ≤ n) same h
-
-not_refused : (test : Bool) {answer : Answer} (refusal : Refusal) {command : FtpCommand}
-    → cond test (Err refusal) answer ≡ Ok command → answer ≡ Ok command
-not_refused true refusal e = cc
-not_refused false refusal e = e
 
 optional_length : (text : Bytes) → length (unwrap_or (unless_empty text) []) ≤ length text
 optional_length [] = omega arith
@@ -116,7 +76,7 @@ any_within : (command : Bytes → FtpCommand) → ((text : Bytes) → room (comm
     ≤ 9 + length text) → Within (any_text command)
 any_within command each v meant e =
     given (command (utf8_lossy v)) meant (9 + 3 * length v)
-    (omega (arith, each (utf8_lossy v), lossy_length v)) e
+    (omega (arith, each (utf8_lossy v), length-utf8_lossy v)) e
 
 none_within : (command : FtpCommand) → room command ≤ 9 → Within (without_parameter command)
 none_within command small v meant e =
@@ -134,7 +94,7 @@ maybe_within command none each [] meant e = given (command None) meant 9 none e
 maybe_within command none each (b ∷ v) meant e =
     let text : Bytes = utf8_lossy (b ∷ v) in
     given (command (Some text)) meant (9 + 3 * length (b ∷ v))
-    (omega (arith, each text, lossy_length (b ∷ v))) e
+    (omega (arith, each text, length-utf8_lossy (b ∷ v))) e
 
 chosen_within : (rows : List (Bytes × FtpCommand))
     → AllByRecursion (λ row. room row.1 ≤ 9 + 3 * length row.0) rows → Within (chosen rows)
@@ -150,21 +110,6 @@ chosen_within (row ∷ rows) each v meant e =
         given row.1 meant (9 + 3 * length v)
         (subst (λ w. room row.1 ≤ 9 + 3 * length w) same each.0) q
     by_test false t more q = more q
-
-structures_within : Within (chosen structures)
-structures_within = chosen_within structures (search rules)
-
-modes_within : Within (chosen modes)
-modes_within = chosen_within modes (search rules)
-
-protections_within : Within (chosen protections)
-protections_within = chosen_within protections (search rules)
-
-options_within : Within (chosen options)
-options_within = chosen_within options (search rules)
-
-buffer_sizes_within : Within (chosen buffer_sizes)
-buffer_sizes_within = chosen_within buffer_sizes (search rules)
 
 auth_within : Within auth
 auth_within v meant e =
@@ -200,7 +145,7 @@ offset_length text meant e =
 
 rest_within : Within (λ v. offset (utf8_lossy v))
 rest_within v meant e =
-    omega (arith, offset_length (utf8_lossy v) meant e, lossy_length v)
+    omega (arith, offset_length (utf8_lossy v) meant e, length-utf8_lossy v)
 
 stat_within : Within (λ v. Ok (Stat (unless_empty v)))
 stat_within v meant e = given (Stat (unless_empty v)) meant (9 + 3 * length v)
@@ -210,16 +155,7 @@ list_within : Within (λ v. listing (utf8_lossy v))
 list_within v meant e =
     let path : Bytes = path_of (utf8_lossy v) in
     given (Listing None (unless_empty path)) meant (9 + 3 * length v)
-    (omega (arith, optional_length path, path_length (utf8_lossy v), lossy_length v)) e
-
-user_within : Within (raw User)
-user_within = raw_within User (λ text. omega (arith, optional_length text))
-
-pass_within : Within (raw Pass)
-pass_within = raw_within Pass (λ text. omega (arith, optional_length text))
-
-acct_within : Within (raw Acct)
-acct_within = raw_within Acct (λ text. omega (arith, optional_length text))
+    (omega (arith, optional_length path, path_length (utf8_lossy v), length-utf8_lossy v)) e
 
 -- names of four bytes and of three
 four : (n : ℕ) → suc (suc (suc (suc n))) ≤ 9 + n
@@ -227,6 +163,10 @@ four n = omega arith
 
 three : (n : ℕ) → suc (suc (suc n)) ≤ 9 + n
 three n = omega arith
+
+four_optional : (text : Bytes)
+    → suc (suc (suc (suc (length (unwrap_or (unless_empty text) []))))) ≤ 9 + length text
+four_optional text = omega (arith, optional_length text)
 
 -- of SITE its names decide
 abbrev RuleWithin : Rule → Type 0
@@ -242,40 +182,17 @@ all_rows = search (
   rules,
   four,
   three,
-  user_within,
-  pass_within,
-  acct_within,
+  four_optional,
+  raw_within,
   none_within,
   some_within,
   maybe_within,
-  structures_within,
-  modes_within,
-  protections_within,
-  options_within,
-  buffer_sizes_within,
+  chosen_within,
   auth_within,
   rest_within,
   stat_within,
   list_within,
-)
-
-row_within : (name : Bytes) (rows : List (Bytes × Rule)) {rule : Rule}
-    → AllByRecursion RowWithin rows → row_of name rows ≡ Some rule
-    → (3 ≤ length name) × RuleWithin rule
-row_within name [] each e = cc
-row_within name (row ∷ rows) {rule} each e =
-    by_test (bytes_eq name row.0) refl (λ q. row_within name rows each.1 q) e
-  where
-    by_test : (test : Bool) → bytes_eq name row.0 ≡ test
-        → (row_of name rows ≡ Some rule → (3 ≤ length name) × RuleWithin rule)
-        → option_map (λ r. r.1) (cond test (Some row) (find (λ r. bytes_eq name r.0) rows))
-        ≡ Some rule
-        → (3 ≤ length name) × RuleWithin rule
-    by_test true t more q =
-        let same : name ≡ row.0 = (bytes_decides name row.0).0 t in
-        let is : row.1 ≡ rule = cc in
-        (omega (arith, each.0.0, ap length same), subst RuleWithin is each.0.1)
-    by_test false t more q = more q
+) depth 7
 
 -- what a rule makes of parameter bytes
 value_within : (answer : Bytes → Answer) (n : ℕ) → ((v : Bytes) (meant : FtpCommand)
@@ -295,14 +212,11 @@ named_within : (name : Bytes) (command : Bytes → Bytes → FtpCommand)
     → room meant ≤ length name + 3 * length v
 named_within name command each v meant e =
     given (command name (utf8_lossy v)) meant (length name + 3 * length v)
-    (omega (arith, each (utf8_lossy v), lossy_length v)) e
+    (omega (arith, each (utf8_lossy v), length-utf8_lossy v)) e
 
-site_room : (name text : Bytes) → room (Site name text) ≤ length name + length text
-site_room name text =
-    omega (arith, length-append name (unwrap_or (unless_empty text) []), optional_length text)
-
-other_room : (name text : Bytes) → room (Other name text) ≤ length name + length text
-other_room name text =
+named_room : (name text : Bytes)
+    → length (name ++ unwrap_or (unless_empty text) []) ≤ length name + length text
+named_room name text =
     omega (arith, length-append name (unwrap_or (unless_empty text) []), optional_length text)
 
 subcommand_within : (name v : Bytes) (meant : FtpCommand) → subcommand_answer name v ≡ Ok meant
@@ -316,8 +230,8 @@ subcommand_within name v meant e = by_test (bytes_eq name (codes "MD5")) refl e
         let same : name ≡ codes "MD5" = (bytes_decides name (codes "MD5")).0 t in
         let made = not_refused (length v == 0) InvalidCommand q in
         given (Md5 (utf8_lossy v)) meant (length name + 3 * length v)
-        (omega (arith, lossy_length v, ap length same)) made
-    by_test false t q = named_within name Site (site_room name) v meant q
+        (omega (arith, length-utf8_lossy v, ap length same)) made
+    by_test false t q = named_within name Site (named_room name) v meant q
 
 -- the verb and the parameter of bytes
 cut_length : (bytes : Bytes)
@@ -367,11 +281,11 @@ rule_within verb parameter meant e = by_row (row_of verb verbs) refl e
         → room meant ≤ 3 * (length verb + length parameter)
     by_row None is q =
         let short = value_within (any_text (Other verb)) (length verb)
-        (named_within verb Other (other_room verb)) parameter q in
+        (named_within verb Other (named_room verb)) parameter q in
         omega (arith, short)
     by_row (Some rule) is q =
-        let found = row_within verb verbs all_rows is in
-        by_rule rule found.0 found.1 q
+        let row = found (λ name rule. RowWithin (name, rule)) verb verbs all_rows is in
+        by_rule rule row.0 row.1 q
 
 -- the name and the value of a line's command
 pub command_room : (line : Bytes) (command : FtpCommand) → outcome line ≡ Ok command

@@ -1,18 +1,20 @@
 -- What a call of `unftp_next` is given, and what it leaves.
-use Rattle.std.specs.Prelude.{◌≡◌, ℕ, ◌+◌, ◌-◌, ◌==◌, ◌&&◌, ◌||◌, ◌⊎◌, Bool, true, false, if◌then◌else◌, [], ◌++◌, length, take, nat_le, Option, None, Some, Ok, Err, unwrap_or}
+use Rattle.std.specs.Prelude.{◌≡◌, ℕ, ◌==◌, ◌&&◌, ◌||◌, ◌⊎◌, Bool, true, if◌then◌else◌, [], ◌++◌, length, take, nat_le, Option, None, Some, unwrap_or}
 use Rattle.unftp_control_defs.specs.Bytes.{Bytes}
-use Rattle.unftp_control_defs.specs.FtpCommand.{FtpCommand, Answer}
-use Rattle.unftp_control_defs.specs.Events.{exceeds}
+use Rattle.unftp_control_defs.specs.FtpCommand.{FtpCommand}
+use Rattle.unftp_control_defs.specs.Events.{FtpEvent, Command, Refused, event_of, line_too_long}
 use Rattle.unftp_control_defs.specs.NameAndValue.{name_and_value, command_number}
 use Rattle.unftp_control_defs.specs.Outcome.{outcome}
 use Rattle.unftp_control_line_parser.specs.Memory.{MayTakeMemory}
 use Rattle.unftp_control_codecs.specs.Codec.{Codec}
-use Rattle.unftp_control_codecs.specs.LineFeed.{line_feed_from}
+use Rattle.unftp_control_codecs.specs.FirstLine.{first_line, goes_on, reset}
+use Rattle.unftp_control_codecs.specs.declared.FirstLine.{FirstLine}
+use Rattle.unftp_control_codecs.specs.declared.FirstLine.TheVariants.{Incomplete, TooLong, Complete}
 use Rattle.unftp_control_c.specs.declared.next.Connection.{Connection}
 use Rattle.unftp_control_c.specs.declared.next.Line.{Line}
 use Rattle.unftp_control_c.specs.declared.status.Status.{Status}
-use Rattle.unftp_control_c.specs.declared.status.Status.TheVariants.{More, LineTooLong, OutOfMemory, NoRoom, InvalidArgument}
-use Rattle.unftp_control_c.specs.Numbers.{status_number, refusal_status}
+use Rattle.unftp_control_c.specs.declared.status.Status.TheVariants.{More, OutOfMemory, NoRoom, InvalidArgument}
+use Rattle.unftp_control_c.specs.Numbers.{status_number, fault_status}
 use Rattle.unftp_control_c.specs.Areas.{overwritten}
 
 pub record Call : Type 0 where
@@ -48,54 +50,43 @@ codec_of connection = record {
   skipping = connection.skipping == 1;
 }
 
--- how many bytes a call scans for a line feed: those from the offset up to it, or to the end
-abbrev pub scanned_to : Option ℕ → Call → ℕ
-scanned_to None call = length call.bytes - call.connection.offset
-scanned_to (Some k) call = k + 1 - call.connection.offset
+-- the first line of the pending bytes, if it is complete
+abbrev pub first_of : Call → FirstLine
+first_of call = first_line (codec_of call.connection) call.bytes
 
+-- where the codec then is
+abbrev pub next_codec : Call → Codec
+next_codec call = goes_on (codec_of call.connection) call.bytes
+
+-- how many bytes a call scans for a line feed
 abbrev pub scans : Call → ℕ
-scans call = scanned_to (line_feed_from call.bytes call.connection.offset) call
+scans call = (next_codec call).tests
 
--- the first line, of so many bytes at least, is too long
-abbrev pub is_long : Connection → ℕ → Bool
-is_long connection n =
-    connection.skipping == 1 || exceeds (line_limit connection.limit) n
+-- the next call goes on where the codec is
+abbrev pub resumed : Connection → Codec → Connection
+resumed connection codec =
+    record connection { offset = codec.place; skipping = if codec.skipping then 1 else 0 }
 
--- where the next call goes on, and whether bytes of the first line were dropped
-abbrev pub resumed : Connection → ℕ → Bool → Connection
-resumed connection offset skipping = record {
-  limit = connection.limit;
-  offset = offset;
-  skipping = if skipping then 1 else 0;
-}
+-- it goes on at the start of a line
+abbrev pub at_next_line : Connection → Connection
+at_next_line connection = resumed connection (reset (codec_of connection))
 
 -- nothing is used up, and no name and value are given
 abbrev pub no_lengths : Line
 no_lengths = record { used = 0; name_len = 0; value_len = 0 }
 
 -- so many bytes are used up, and no name and value are given
-abbrev pub used_up : Call → Status → ℕ → ℕ → Bool → Left
-used_up call status n offset skipping = record {
+abbrev pub used_up : Call → Status → ℕ → Connection → Left
+used_up call status n connection = record {
   result = status_number status;
-  connection = resumed call.connection offset skipping;
+  connection = connection;
   area = call.area;
-  line = record { used = n; name_len = 0; value_len = 0 };
+  line = record no_lengths { used = n };
 }
 
 -- nothing changes
 abbrev pub kept : Call → Status → Left
-kept call status = record {
-  result = status_number status;
-  connection = call.connection;
-  area = call.area;
-  line = no_lengths;
-}
-
--- no line is complete: the bytes stay, or are dropped where the line is too long already
-abbrev pub incomplete : Call → Left
-incomplete call = if is_long call.connection (length call.bytes + 1)
-    then used_up call More (length call.bytes) 0 true
-    else used_up call More 0 (length call.bytes) false
+kept call status = used_up call status 0 call.connection
 
 abbrev pub name_of : FtpCommand → Bytes
 name_of command = (name_and_value command).0
@@ -104,64 +95,69 @@ name_of command = (name_and_value command).0
 abbrev pub value_of_command : FtpCommand → Bytes
 value_of_command command = unwrap_or (name_and_value command).1 []
 
--- what the area has of a command: its name, and then its value
-abbrev pub area_text : FtpCommand → Bytes
-area_text command = name_of command ++ value_of_command command
+-- what a caller is given for a line: a number, and the name and the value of a command
+pub record Given : Type 0 where
+  pub number : ℕ
+  pub name : Bytes
+  pub value : Bytes
 
--- so many bytes are used up, and these are the lengths of the command's name and value
-abbrev pub lengths_of : ℕ → FtpCommand → Line
-lengths_of n command = record {
-  used = n;
-  name_len = length (name_of command);
-  value_len = length (value_of_command command);
+-- the event of a line, as it has to be given
+abbrev pub given_for : FtpEvent → Given
+given_for (Command command) = record {
+  number = command_number command;
+  name = name_of command;
+  value = value_of_command command;
+}
+given_for (Refused fault) =
+    record { number = status_number (fault_status fault); name = []; value = [] }
+
+-- so many bytes are used up, and these are the lengths of the name and the value
+abbrev pub lengths_of : ℕ → Given → Line
+lengths_of n given =
+    record { used = n; name_len = length given.name; value_len = length given.value }
+
+-- A line of n bytes is given: its name, and then its value.
+abbrev pub given_left : Call → ℕ → Given → Left
+given_left call n given = record {
+  result = given.number;
+  connection = at_next_line call.connection;
+  area = overwritten (given.name ++ given.value) call.area;
+  line = lengths_of n given;
 }
 
--- The command of a line of n bytes, where the area has room for its text. Else nothing is used up,
--- and the area needs the two lengths.
-abbrev pub gives : Connection → Bytes → ℕ → FtpCommand → Left
-gives connection area n command = if nat_le (length (area_text command)) (length area)
-    then record {
-      result = command_number command;
-      connection = resumed connection 0 false;
-      area = overwritten (area_text command) area;
-      line = lengths_of n command;
-    }
-    else record {
-      result = status_number NoRoom;
-      connection = connection;
-      area = area;
-      line = lengths_of 0 command;
-    }
+-- Nothing is used up, and the area needs the two lengths.
+abbrev pub without_room : Call → Given → Left
+without_room call given = record (kept call NoRoom) { line = lengths_of 0 given }
 
-abbrev pub answered : Call → ℕ → Answer → Left
-answered call n (Ok command) = gives call.connection call.area n command
-answered call n (Err refusal) = used_up call (refusal_status refusal) n 0 false
+abbrev pub gives : Call → ℕ → Given → Left
+gives call n given = if nat_le (length (given.name ++ given.value)) (length call.area)
+    then given_left call n given
+    else without_room call given
 
--- the line that ends at k, whatever it holds where it is too long
-abbrev pub ended : Call → ℕ → Left
-ended call k = if is_long call.connection (k + 1)
-    then used_up call LineTooLong (k + 1) 0 false
-    else answered call (k + 1) (outcome (take (k + 1) call.bytes))
-
-abbrev pub by_line_feed : Call → Option ℕ → Left
-by_line_feed call None = incomplete call
-by_line_feed call (Some k) = ended call k
+-- Where no line is complete, the bytes stay, or are dropped where the line is too long already. A
+-- line that is too long is given as such, whatever it holds, and any other as its outcome.
+abbrev pub by_first_line : Call → FirstLine → Left
+by_first_line call (Incomplete n) =
+    used_up call More n (resumed call.connection (next_codec call))
+by_first_line call (TooLong n) = gives call n (given_for (Refused line_too_long))
+by_first_line call (Complete n) =
+    gives call n (given_for (event_of (outcome (take n call.bytes))))
 
 -- what a call leaves, where memory is there
 abbrev pub next_of : Call → Left
 next_of call = if is_valid call.connection (length call.bytes)
-    then by_line_feed call (line_feed_from call.bytes call.connection.offset)
+    then by_first_line call (first_of call)
     else kept call InvalidArgument
 
 -- a complete line that may take memory
 abbrev pub LineMayTakeMemory : Call → Type 0
-LineMayTakeMemory call = (k : ℕ) × (is_valid call.connection (length call.bytes) ≡ true)
-    × (line_feed_from call.bytes call.connection.offset ≡ Some k)
-    × (is_long call.connection (k + 1) ≡ false) × MayTakeMemory (take (k + 1) call.bytes)
+LineMayTakeMemory call = (n : ℕ) × (is_valid call.connection (length call.bytes) ≡ true)
+    × (first_of call ≡ Complete n) × MayTakeMemory (take n call.bytes)
 
 -- what is left after a complete line that is not too long
 abbrev pub LeavesLine : Call → Bytes → Left → Type 0
-LeavesLine call line left = (left ≡ answered call (length line) (outcome line))
+LeavesLine call line left =
+    (left ≡ gives call (length line) (given_for (event_of (outcome line))))
     ⊎ (MayTakeMemory line × (left ≡ kept call OutOfMemory))
 
 abbrev pub Leaves : Call → Left → Type 0

@@ -4,8 +4,8 @@ use Rattle.unftp_control_defs.specs.FtpCommand.{Refusal}
 use Rattle.unftp_control_defs.specs.FtpCommand as refusal
 use Rattle.unftp_control_defs.specs.Events.{Fault, FaultKind, FaultSource}
 use Rattle.unftp_control_defs.specs.Events as fault
-use Rattle.unftp_control_reply.specs.declared.error.parse_error.ParseErrorKind.{ParseErrorKind}
-use Rattle.unftp_control_reply.specs.declared.error.parse_error.ParseErrorKind.TheVariants as kind
+use Rattle.unftp_control_message.specs.declared.reply.error.parse_error.ParseErrorKind.{ParseErrorKind}
+use Rattle.unftp_control_message.specs.declared.reply.error.parse_error.ParseErrorKind.TheVariants as kind
 use Rattle.unftp_control_write.specs.declared.WriteCommandError.{WriteCommandError}
 use Rattle.unftp_control_write.specs.declared.WriteCommandError.TheVariants as error
 use Rattle.unftp_control_write.specs.declared.forwarding.ForwardError.{ForwardError}

@@ -2,8 +2,7 @@
 use Rattle.std.specs.Prelude.{ℕ}
 use Rattle.unftp_control_defs.specs.Bytes.{Bytes}
 use Rattle.unftp_control_defs.specs.Events.{FaultKind, FaultSource, Refused}
-use Rattle.unftp_control_c.specs.Next.{Call, Left}
-use Rattle.unftp_control_c.specs.Taking.{given_for}
+use Rattle.unftp_control_c.specs.Next.{Call, Left, given_for}
 
 -- the pending bytes, the offset, whether bytes were dropped, the limit, and the area
 abbrev pub a_call : Bytes → ℕ → ℕ → ℕ → Bytes → Call

@@ -1,13 +1,12 @@
 -- What a caller of `unftp_next` does with a connection, call after call, and what it is given.
 use Rattle.std.specs.Prelude.{◌≡◌, ℕ, ◌+◌, ◌-◌, ◌==◌, ◌||◌, ◌⊎◌, Bool, if◌then◌else◌, List, [], ◌∷◌, ◌++◌, length, take, drop}
 use Rattle.unftp_control_defs.specs.Bytes.{Bytes}
-use Rattle.unftp_control_defs.specs.Events.{FtpEvent, Command, Refused, FaultKind}
+use Rattle.unftp_control_defs.specs.Events.{FaultKind}
 use Rattle.unftp_control_defs.specs.Events as fault
-use Rattle.unftp_control_defs.specs.NameAndValue.{command_number}
 use Rattle.unftp_control_c.specs.declared.next.Connection.{Connection}
 use Rattle.unftp_control_c.specs.declared.status.Status.TheVariants.{More, OutOfMemory, NoRoom}
-use Rattle.unftp_control_c.specs.Numbers.{status_number, fault_status}
-use Rattle.unftp_control_c.specs.Next.{Call, Left, Leaves, name_of, scans, value_of_command}
+use Rattle.unftp_control_c.specs.Numbers.{status_number}
+use Rattle.unftp_control_c.specs.Next.{Call, Given, Leaves, Left, scans}
 
 -- what a caller has of a connection from call to call
 pub record Caller : Type 0 where
@@ -69,22 +68,6 @@ abbrev pub input_of : List CallerStep → Bytes
 input_of [] = []
 input_of (Received piece ∷ steps) = piece ++ input_of steps
 input_of (Called area left ∷ steps) = input_of steps
-
--- what a caller is given for a line: a number, and the name and the value of a command
-pub record Given : Type 0 where
-  pub number : ℕ
-  pub name : Bytes
-  pub value : Bytes
-
--- the event of a line, as it has to be given
-abbrev pub given_for : FtpEvent → Given
-given_for (Command command) = record {
-  number = command_number command;
-  name = name_of command;
-  value = value_of_command command;
-}
-given_for (Refused fault) =
-    record { number = status_number (fault_status fault); name = []; value = [] }
 
 -- a call with this result gives no line: it asks for more, or is made again
 abbrev pub gives_none : ℕ → Bool

@@ -5,13 +5,13 @@ ghost use Rattle.std.specs.Prelude.{◌≡◌, [], ◌∷◌, Some, None, Ok, Er
 ghost use Rattle.std.specs.List.{count_by};
 ghost use Rattle.unftp_control_defs.specs.FtpReply.{CodeAndMsg, MultiLine, encoded};
 ghost use Rattle.unftp_control_codecs.specs.LineFeed.{is_line_feed, line_feed_from};
-ghost use Rattle.unftp_control_c.specs.Areas.{filled, written};
+ghost use Rattle.unftp_control_c.specs.Areas.{filled};
 ghost use Rattle.unftp_control_c.specs.CanonicalLines.{CanonicalMayTakeMemory, IsCanonical};
 ghost use Rattle.unftp_control_c.specs.ForwardedLines.{IsForwardedLine};
 ghost use Rattle.unftp_control_c.specs.Next.{Leaves, LineMayTakeMemory, next_of, scans};
 ghost use Rattle.unftp_control_c.specs.Rows.{a_call, leaving};
 ghost use Rattle.unftp_control_c.specs.Replies.{EncodesReply, IsReplyOf, lines_reply, text_lines};
-ghost use Rattle.unftp_control_c.specs.declared.status.Status.TheVariants.{InvalidCommand, InvalidEol, InvalidUtf8, NoLine, OutOfMemory, UnknownCode};
+ghost use Rattle.unftp_control_c.specs.declared.status.Status.TheVariants.{InvalidCommand, InvalidUtf8, NoLine, OutOfMemory, UnknownCode};
 
 pub mod calls;
 
@@ -22,8 +22,6 @@ pub fn lines_are_taken()
     // of a limit of 8 bytes, the line has 8; the area has one byte more, and one less
     ensures command { next_of (a_call (codes "RETR a\r\nQ") 0 0 8 (codes "......"))
         ≡ leaving 14 8 0 0 8 (codes "RETRa.") 4 1 }
-    ensures just_enough { next_of (a_call (codes "NOOP\nQ") 0 0 0 (codes "...."))
-        ≡ leaving 10 5 0 0 0 (codes "NOOP") 4 0 }
     ensures no_room { next_of (a_call (codes "RETR a\r\nQ") 3 0 8 (codes "...."))
         ≡ leaving 107 0 3 0 8 (codes "....") 4 1 }
     ensures too_long { next_of (a_call (codes "RETR a\r\nQ") 0 0 7 (codes "....."))
@@ -39,7 +37,6 @@ pub fn bytes_are_kept()
     ensures incomplete { next_of (a_call (codes "NOOP") 2 0 5 []) ≡ leaving 101 0 4 0 5 [] 0 0 }
     ensures too_long_already { next_of (a_call (codes "NOOP") 2 0 4 [])
         ≡ leaving 101 4 0 1 4 [] 0 0 }
-    ensures offset_at_the_end { next_of (a_call [] 0 0 0 []) ≡ leaving 101 0 0 0 0 [] 0 0 }
     ensures offset_past_the_end { next_of (a_call (codes "\n") 2 0 0 [])
         ≡ leaving 111 0 2 0 0 [] 0 0 }
     ensures skipping_past_the_start { next_of (a_call (codes "a\n") 1 1 0 [])
@@ -56,21 +53,15 @@ pub fn calls_leave()
         (leaving 10 0 0 0 0 (codes "NOOP") 4 0) }
     ensures memory { Leaves (a_call (codes "USER a\n") 3 0 0 [])
         (leaving 106 0 3 0 0 [] 0 0) }
-    ensures offset_lost { ¬ Leaves (a_call (codes "USER a\n") 3 0 0 [])
-        (leaving 106 0 0 0 0 [] 0 0) }
     ensures no_memory { ¬ Leaves (a_call (codes "NOOP\n") 0 0 0 [])
         (leaving 106 0 0 0 0 [] 0 0) }
 {}
 
 /// How many bytes are scanned: from the offset up to a line feed, or to the end.
 pub fn bytes_are_scanned()
-    ensures line { scans (a_call (codes "NOOP\nQ\n") 0 0 0 []) ≡ 5 }
     ensures line_begun { scans (a_call (codes "NOOP\nQ\n") 2 0 0 []) ≡ 3 }
-    ensures line_feed { scans (a_call (codes "NOOP\nQ\n") 4 0 0 []) ≡ 1 }
-    ensures no_line { scans (a_call (codes "NOOP") 3 0 0 []) ≡ 1 }
     ensures nothing_new { scans (a_call (codes "NOOP") 4 0 0 []) ≡ 0 }
     ensures line_feed_at_the_offset { line_feed_from (codes "a\nb\n") 1 ≡ Some 1 }
-    ensures line_feed_after_it { line_feed_from (codes "a\nb\n") 2 ≡ Some 3 }
     ensures line_feed_before_it { line_feed_from (codes "a\nb") 2 ≡ None }
 {}
 
@@ -78,8 +69,6 @@ pub fn bytes_are_scanned()
 pub fn some_lines_may_take_memory()
     ensures path { LineMayTakeMemory (a_call (codes "RETR a\n") 0 0 0 []) }
     ensures no_value { ¬ LineMayTakeMemory (a_call (codes "NOOP\n") 0 0 0 []) }
-    ensures refused { ¬ LineMayTakeMemory (a_call (codes "RETR\n") 0 0 0 []) }
-    ensures no_line { ¬ LineMayTakeMemory (a_call (codes "RETR a") 0 0 0 []) }
     ensures too_long { ¬ LineMayTakeMemory (a_call (codes "RETR a\n") 0 0 6 []) }
     ensures no_such_call { ¬ LineMayTakeMemory (a_call (codes "RETR a\n") 0 2 0 []) }
 {}
@@ -88,30 +77,21 @@ pub fn some_lines_may_take_memory()
 pub fn areas_are_filled()
     ensures room { filled (codes "ab") (codes "xyz")
         ≡ record { result = 0; area = codes "abz"; text_length = 2 } }
-    ensures just_enough { filled (codes "ab") (codes "xy")
-        ≡ record { result = 0; area = codes "ab"; text_length = 2 } }
     ensures too_small { filled (codes "ab") (codes "x")
         ≡ record { result = 107; area = codes "x"; text_length = 2 } }
-    ensures none { written (Err NoLine) (codes "x")
-        ≡ record { result = 108; area = codes "x"; text_length = 0 } }
 {}
 
 /// Replies of one line and of several, and what is no code.
 pub fn replies_have_codes_and_lines()
-    ensures least_code { ¬ EncodesReply 100 [] (Err UnknownCode) }
-    ensures greatest_code { ¬ EncodesReply 599 [] (Err UnknownCode) }
     ensures two_digits { EncodesReply 99 [] (Err UnknownCode) }
     ensures sixth_kind { EncodesReply 600 [] (Err UnknownCode) }
     ensures not_encoded { ¬ EncodesReply 600 [] (Ok (codes "600\r\n")) }
     ensures code_without_a_name { EncodesReply 299 [] (Ok (codes "299\r\n")) }
     ensures not_utf8 { EncodesReply 200 (255 ∷ []) (Err InvalidUtf8) }
-    ensures utf8 { ¬ EncodesReply 200 [] (Err InvalidUtf8) }
     ensures memory { EncodesReply 200 [] (Err OutOfMemory) }
     ensures no_memory { ¬ EncodesReply 600 [] (Err OutOfMemory) }
     ensures one_line { IsReplyOf 200 (codes "a") (CodeAndMsg 200 (codes "a")) }
-    ensures empty { IsReplyOf 200 [] (CodeAndMsg 200 []) }
     ensures two_lines { IsReplyOf 200 (codes "a\n") (MultiLine 200 (codes "a" ∷ [] ∷ [])) }
-    ensures not_one_line { ¬ IsReplyOf 200 (codes "\n") (CodeAndMsg 200 (codes "\n")) }
     ensures cr_of_no_line { ¬ IsReplyOf 200 (codes "a\r\nb")
         (MultiLine 200 (codes "a\r" ∷ codes "b" ∷ [])) }
 {}
@@ -119,15 +99,9 @@ pub fn replies_have_codes_and_lines()
 /// The lines of texts: a CR directly before an LF belongs to the line's end, and no other does.
 pub fn texts_have_lines()
     ensures empty { text_lines [] ≡ [] ∷ [] }
-    ensures cr_lf { text_lines (codes "a\r\nb") ≡ codes "a" ∷ codes "b" ∷ [] }
     ensures cr_lf_at_the_end { text_lines (codes "a\r\n") ≡ codes "a" ∷ [] ∷ [] }
-    ensures empty_lines { text_lines (codes "\r\n\n") ≡ [] ∷ [] ∷ [] ∷ [] }
     ensures another_cr { text_lines (codes "a\r\r\n\rb") ≡ codes "a\r" ∷ codes "\rb" ∷ [] }
-    ensures cr_at_the_end { text_lines (codes "a\nb\r") ≡ codes "a" ∷ codes "b\r" ∷ [] }
-    ensures cr_alone { text_lines (codes "a\rb") ≡ codes "a\rb" ∷ [] }
     ensures line_feeds { count_by is_line_feed (codes "a\r\n\nb\r") ≡ 2 }
-    // n + 6, and n + 2 k + 10: each of the lines before the last begins with a digit
-    ensures room_of_a_line { length (encoded (CodeAndMsg 211 (codes "a"))) ≡ 7 }
     ensures room { length (encoded (lines_reply 211 (codes "1\n1\n1"))) ≡ 19 }
 {}
 
@@ -137,7 +111,6 @@ pub fn lines_have_canonical_lines()
     ensures other_line { ¬ IsCanonical (codes "noop\n") (Ok (codes "noop\n")) }
     ensures no_line_feed { IsCanonical (codes "NOOP") (Ok (codes "NOOP\r\n")) }
     ensures refusal { IsCanonical (codes "NOOP x\r\n") (Err InvalidCommand) }
-    ensures no_refusal { ¬ IsCanonical (codes "NOOP\r\n") (Err InvalidEol) }
     // of bytes that are no line: the name has a line feed
     ensures no_line { IsCanonical (codes "USER a\n\n") (Err NoLine) }
     ensures has_line { ¬ IsCanonical (codes "NOOP\r\n") (Err NoLine) }
@@ -148,12 +121,7 @@ pub fn lines_are_forwarded()
     ensures parameter { IsForwardedLine (codes "type a\n") (Ok (codes "TYPE a\r\n")) }
     ensures other_parameter { ¬ IsForwardedLine (codes "type a\n") (Ok (codes "TYPE I\r\n")) }
     ensures no_line_feed { IsForwardedLine (codes "TYPE A") (Err NoLine) }
-    ensures line_feed { ¬ IsForwardedLine (codes "TYPE A\n") (Err NoLine) }
     ensures refusal { IsForwardedLine (codes "NOOP x\r\n") (Err InvalidCommand) }
-    ensures no_refusal { ¬ IsForwardedLine (codes "NOOP\r\n") (Err InvalidEol) }
-    ensures memory { IsForwardedLine (codes "NOOP\r\n") (Err OutOfMemory) }
-    // a line that is refused takes none
-    ensures refused_verb { ¬ IsForwardedLine (255 ∷ codes "\r\n") (Err OutOfMemory) }
     ensures refused_value { ¬ IsForwardedLine (codes "NOOP a\r\n") (Err OutOfMemory) }
 {}
 

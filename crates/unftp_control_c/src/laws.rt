@@ -9,10 +9,10 @@ ghost use Rattle.unftp_control_defs.specs.FtpCommand.{FtpCommand, HasTypedFields
 ghost use Rattle.unftp_control_defs.specs.Lines.{IsLine};
 ghost use Rattle.unftp_control_codecs.specs.LineFeed.{is_line_feed, line_feed_from};
 ghost use Rattle.unftp_control_c.specs.Areas.{Made, written};
-ghost use Rattle.unftp_control_c.specs.Next.{Call, Leaves, Left, line_limit, scans};
+ghost use Rattle.unftp_control_c.specs.Next.{Call, Given, Leaves, Left, given_for, line_limit, scans};
 ghost use Rattle.unftp_control_c.specs.Numbers.{status_number};
 ghost use Rattle.unftp_control_c.specs.Replies.{EncodesReply};
-ghost use Rattle.unftp_control_c.specs.Taking.{AreCallerSteps, Caller, CallerStep, Given, IsNumberOf, after_call, all_given, call_of, given_for, gives_none, input_of, new_caller, scanned_by, unscanned};
+ghost use Rattle.unftp_control_c.specs.Taking.{AreCallerSteps, Caller, CallerStep, IsNumberOf, after_call, all_given, call_of, gives_none, input_of, new_caller, scanned_by, unscanned};
 ghost use Rattle.unftp_control_c.specs.declared.status.Status.TheVariants.{More, NoRoom, OutOfMemory};
 
 /// Whatever a caller receives, and whenever it calls `unftp_next`, with whatever areas: its calls

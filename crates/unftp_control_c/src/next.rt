@@ -1,16 +1,17 @@
 //! The next event of the pending bytes.
 ghost use Rattle.std.specs.Prelude.{◌≡◌, true, false, length};
 ghost use Rattle.unftp_control_defs.specs.Bytes.{Bytes};
-ghost use Rattle.unftp_control_command.specs.CommandMeaning.{command_of};
-ghost use Rattle.unftp_control_c.specs.Next.{Leaves, LeavesLine, codec_of, gives, is_valid, no_lengths, scans, used_up};
+ghost use Rattle.unftp_control_defs.specs.Events.{Command as CommandEvent};
+ghost use Rattle.unftp_control_message.specs.CommandMeaning.{command_of};
+ghost use Rattle.unftp_control_c.specs.Next.{Leaves, LeavesLine, codec_of, given_for, gives, is_valid, no_lengths, resumed, scans, used_up};
 
 use crate::areas::overwrite_both;
 use crate::status::{Status, kind_status};
 use itoa::Buffer;
 use std::alloc::Global;
 use unftp_control_codecs::{FirstLine, FtpCodec};
-use unftp_control_command::Command;
 use unftp_control_line_parser::parse;
+use unftp_control_message::Command;
 use unftp_control_write::parts::parts_of;
 
 /// What a caller keeps of a connection: `struct unftp_connection` of include/unftp_control.h.
@@ -173,7 +174,7 @@ fn report(
       area = area;
       line = line.new;
     } ≡ used_up (record { connection = connection.old; bytes = bytes; area = area }) status
-        used codec.now.place codec.now.skipping }
+        used (resumed connection.old codec.now) }
 {
     line.used = used;
     connection.offset = codec.place();
@@ -190,12 +191,13 @@ fn give(
     area: &mut [u8],
     line: &mut Line,
 ) -> u32
-    ensures { record {
+    ensures { (bytes : Bytes) → record {
       result = result;
       connection = connection.new;
       area = area.new;
       line = line.new;
-    } ≡ gives connection.old area.old taken (command_of command.now) }
+    } ≡ gives (record { connection = connection.old; bytes = bytes; area = area.old }) taken
+        (given_for (CommandEvent (command_of command.now))) }
 {
     let parts = parts_of(command);
     let mut digits = Buffer::new();

@@ -2,7 +2,7 @@
 ghost use Rattle.std.specs.Prelude.{◌≡◌};
 ghost use Rattle.unftp_control_c.specs.Numbers.{status_number, forward_status, kind_status, line_status};
 
-use unftp_control_reply::error::ParseErrorKind;
+use unftp_control_message::reply::error::ParseErrorKind;
 use unftp_control_write::{ForwardError, WriteCommandError};
 
 /// What a call reports where it gives no command.

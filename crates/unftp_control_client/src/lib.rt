@@ -2,16 +2,16 @@
 //! commands, and says to which of them each reply is.
 #![tactic(auto)]
 
-ghost use Rattle.std.specs.Prelude.{◌≡◌, ◌↔◌, ◌+◌, ◌-◌, ◌^◌, ◌≤◌, ◌++◌, ℕ, List, [], Some, None, Ok, Err, IsTrue, IfErr, IfNone, IfOk, IfSome, OnErr, OnOk, drop, length, max, take, vec_len};
-ghost use Rattle.unftp_control_command.specs.CommandMeaning.{command_of};
+ghost use Rattle.std.specs.Prelude.{◌≡◌, ◌↔◌, ◌+◌, ◌-◌, ◌^◌, ◌≤◌, ◌++◌, ℕ, List, [], Some, None, Ok, Err, IsTrue, IfErr, IfOk, IfSome, OnErr, OnOk, drop, length, max, take, vec_len};
+ghost use Rattle.unftp_control_message.specs.CommandMeaning.{command_of};
 ghost use Rattle.unftp_control_defs.specs.Bytes.{Bytes};
 ghost use Rattle.unftp_control_defs.specs.Canonical.{HasLine, canonical_line};
 ghost use Rattle.unftp_control_defs.specs.Input.{input_state_of};
 ghost use Rattle.unftp_control_defs.specs.Lines.{IsLine};
 ghost use Rattle.unftp_control_defs.specs.Outcome.{outcome};
-ghost use Rattle.unftp_control_defs.specs.ReplyLimit.{IsTooLongReply};
+ghost use Rattle.unftp_control_defs.specs.ReplyLimit.{IsTooLongReply, within_limit};
 ghost use Rattle.unftp_control_defs.specs.ReplyReader.{FrontReply, IsMalformed, IsPartial};
-ghost use Rattle.unftp_control_read.specs.ReplyDecoding.{CountsNextReply, IsReturned, TakesNextReply, content, held_after, pushed, within_limit};
+ghost use Rattle.unftp_control_read.specs.ReplyDecoding.{IsReturned, TakesNextReply, held_after, pushed};
 ghost use Rattle.unftp_control_read.specs.Receiving.{Receives};
 ghost use Rattle.unftp_control_client.specs.Dialogue.{after_line, commands_owed};
 ghost use Rattle.unftp_control_client.specs.Exchange.{IsNext, IsOtherError, MayBeginTls, new_client, only_reply};
@@ -26,8 +26,8 @@ pub use crate::dialogue::{ClientReply, To, same_client_replies};
 pub use crate::errors::SendError;
 use std::alloc::{AllocError, Global};
 use std::io::Read;
-use unftp_control_command::Command;
 use unftp_control_defs::input::Input;
+use unftp_control_message::Command;
 use unftp_control_read::{NextReplyError, ReceiveError, ReplyDecoder};
 use unftp_control_write::{is_line, write_command};
 
@@ -177,8 +177,6 @@ impl Client {
         ensures buffered { self.new.replies.buffered
             ≡ held_after self.old.replies (only_reply result) self.new.replies }
         ensures limit { self.new.replies.limit ≡ self.old.replies.limit }
-        // Each byte is scanned for a line feed at most twice.
-        ensures counts { CountsNextReply self.old.replies (only_reply result) self.new.replies }
     {
         match self.replies.next_reply()? {
             Some(reply) => Ok(Some(self.dialogue.add_reply(reply))),

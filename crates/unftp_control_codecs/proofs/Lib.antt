@@ -1,4 +1,5 @@
 pub mod LineFeedLemmas
+pub mod FirstLineLemmas
 pub mod CallLemmas
 pub mod MemoryLemmas
 pub mod EncodingLemmas

@@ -3,7 +3,7 @@ use Rattle.std.proofs.Common.{◌≡◌, Option, Some, None, Ok, Err, ap}
 use Rattle.unftp_control_defs.specs.Events.{FtpEvent, FaultKind, Command, Refused, IoError}
 use Rattle.unftp_control_codecs.specs.Decoding.{Decoded, IsOutOfMemory, parser_out_of_memory, returned_event}
 
-abbrev kind_in : Option FtpEvent → FaultKind
+abbrev pub kind_in : Option FtpEvent → FaultKind
 kind_in (Some (Refused fault)) = fault.kind
 kind_in (Some (Command command)) = IoError
 kind_in None = IoError

@@ -2,12 +2,12 @@
 ghost use Rattle.std.specs.Prelude.{◌≡◌, ◌==◌, ◌∷◌, ◌++◌, ◌+◌, ◌%◌, take, length, map, flat_map, vec_len, decimal, IsOk, MatchOption, OnErr, OnOk, if◌then◌else◌};
 ghost use Rattle.unftp_control_defs.specs.Bytes.{SP, crlf};
 ghost use Rattle.unftp_control_defs.specs.FtpReply.{Nothing, MultiLine, HasThreeDigits, encoded, padded, spaced_line};
-ghost use Rattle.unftp_control_reply.specs.ReplyMeaning.{reply_of};
+ghost use Rattle.unftp_control_message.specs.ReplyMeaning.{reply_of};
 ghost use Rattle.unftp_control_codecs.specs.Encoding.{padded_line, lines_before_last};
 
 use std::alloc::AllocError;
 use std::convert::AsStr;
-use unftp_control_reply::Reply;
+use unftp_control_message::reply::Reply;
 
 /// More bytes than a line of a reply has beside its text: the code and a sign, and CR LF.
 const ROOM_BESIDE_TEXT: usize = 16;

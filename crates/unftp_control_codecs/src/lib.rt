@@ -1,14 +1,13 @@
 //! Takes lines from the start of a buffer, and appends replies to the end of one.
 #![tactic(auto)]
 
-ghost use Rattle.std.specs.Prelude.{◌≡◌, ◌↔◌, ◌+◌, ◌-◌, ◌≤◌, if◌then◌else◌, false, None, IsTrue, ⊤, ◌++◌, length, drop, vec_len, Some, Ok, Err, MatchOption, MatchResult, IsOk, OnOk, OnErr, IfErr};
+ghost use Rattle.std.specs.Prelude.{◌≡◌, ◌+◌, ◌-◌, ◌≤◌, if◌then◌else◌, false, None, IsTrue, ⊤, ◌++◌, length, drop, vec_len, Some, Ok, Err, MatchOption, IsOk, OnOk, OnErr, IfErr};
 ghost use Rattle.unftp_control_defs.specs.Events.{out_of_memory};
 ghost use Rattle.unftp_control_defs.specs.FtpReply.{Nothing, encoded};
-ghost use Rattle.unftp_control_reply.specs.ErrorMeaning.{converted, fault_of};
-ghost use Rattle.unftp_control_reply.specs.declared.error.Source.TheVariants.{Parse};
-ghost use Rattle.unftp_control_reply.specs.ReplyMeaning.{reply_of};
+ghost use Rattle.unftp_control_message.specs.ErrorMeaning.{fault_of};
+ghost use Rattle.unftp_control_message.specs.ReplyMeaning.{reply_of};
 ghost use Rattle.unftp_control_codecs.specs.Codec.{is_too_long, new_codec};
-ghost use Rattle.unftp_control_codecs.specs.FirstLine.{first_line, goes_on};
+ghost use Rattle.unftp_control_codecs.specs.FirstLine.{first_line, goes_on, reset};
 ghost use Rattle.unftp_control_codecs.specs.Decoding.{Decodes, IsOutOfMemory};
 
 mod encoding;
@@ -20,12 +19,12 @@ pub use crate::lines::{EncodeLinesError, encode_lines, is_reply_code};
 use crate::scan::{Scan, ScanCount};
 use std::alloc::Global;
 use std::marker::Model;
-use unftp_control_command::Command;
 use unftp_control_defs::buffer::remove_front;
 use unftp_control_defs::count::Count;
 use unftp_control_line_parser::parse;
-use unftp_control_reply::Reply;
-use unftp_control_reply::error::{ControlChanError, ControlChanErrorKind, ParseErrorKind};
+use unftp_control_message::Command;
+use unftp_control_message::reply::Reply;
+use unftp_control_message::reply::error::{ControlChanError, ControlChanErrorKind, ParseErrorKind};
 
 /// Decodes the commands of a control connection, and encodes its replies.
 ///
@@ -132,12 +131,7 @@ impl FtpCodec {
     /// Forgets the line that it has begun: its scan offset is 0, and it drops no bytes. The limit
     /// and the count of scanned bytes stay.
     pub fn reset(&mut self)
-        ensures { self.new ≡ record {
-          place = 0;
-          tests = self.old.tests;
-          limit = self.old.limit;
-          skipping = false;
-        } }
+        ensures { self.new ≡ reset self.old }
     {
         (self.place, self.skipping) = (0, false);
     }
@@ -250,10 +244,8 @@ impl FtpCodec {
     /// Goes on after so many bytes without a line feed: returns how many of them are dropped, which
     /// is all of them where the line is too long already.
     fn drop_or_keep(&mut self, length: usize) -> usize
-        ensures dropped { self.new ≡ record {
+        ensures dropped { self.new ≡ record self.old {
           place = length - result;
-          tests = self.old.tests;
-          limit = self.old.limit;
           skipping = is_too_long self.old (length + 1);
         } }
         ensures all { result ≡ if is_too_long self.old (length + 1) then length else 0 }

@@ -1,5 +1,5 @@
 //! The one way by which the codec scans a byte for a line feed.
-ghost use Rattle.std.specs.Prelude.{◌≡◌, ◌+◌, ◌-◌, ◌<◌, ◌≤◌, length, take, slice_index, MatchOption};
+ghost use Rattle.std.specs.Prelude.{◌≡◌, ◌+◌, ◌-◌, ◌<◌, ◌≤◌, length, slice_index, Some, MatchOption};
 ghost use Rattle.unftp_control_codecs.specs.LineFeed.{line_feed_from};
 
 use std::marker::Model;
@@ -105,7 +105,10 @@ impl<'a, 'c> Scan<'a, 'c> {
     #[inline(always)]
     fn line_feed_among(&mut self, from: usize, count: usize) -> Option<usize>
         requires { from + count ≤ length self.old.bytes.now }
-        ensures found { result ≡ line_feed_from (take (from + count) self.old.bytes.now) from }
+        ensures found { MatchOption result
+            (line_feed_from self.old.bytes.now from
+            ≡ line_feed_from self.old.bytes.now (from + count))
+            (λ k. line_feed_from self.old.bytes.now from ≡ Some k) }
         ensures tests { MatchOption result
             (self.new.tests.now ≡ self.old.tests.now + count)
             (λ k. self.new.tests.now ≡ self.old.tests.now + (k + 1 - from)) }

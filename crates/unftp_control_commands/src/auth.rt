@@ -1,16 +1,16 @@
 //! AUTH (RFC 2228, section 3; RFC 4217, section 4).
 ghost use Rattle.std.specs.Prelude.{◌≡◌, IfOk, IfErr};
 ghost use Rattle.unftp_control_defs.specs.Events.{out_of_memory};
-ghost use Rattle.unftp_control_reply.specs.ErrorMeaning.{fault_of};
-ghost use Rattle.unftp_control_reply.specs.ReplyMeaning.{reply_of};
+ghost use Rattle.unftp_control_message.specs.ErrorMeaning.{fault_of};
+ghost use Rattle.unftp_control_message.specs.ReplyMeaning.{reply_of};
 ghost use Rattle.unftp_control_commands.specs.Answers.{auth_reply, auth_change};
 
 use crate::session::SessionChange;
 use std::alloc::Global;
 use std::marker::Model;
 use unftp_control_defs::parameters::AuthParam;
-use unftp_control_reply::error::ControlChanError;
-use unftp_control_reply::{Reply, ReplyCode};
+use unftp_control_message::reply::error::ControlChanError;
+use unftp_control_message::reply::{Reply, ReplyCode};
 
 /// AUTH with its mechanism.
 #[derive(Debug, Drop)]

@@ -2,13 +2,13 @@
 ghost use Rattle.std.specs.Prelude.{◌≡◌, ◌+◌, ◌∷◌, [], ◌<◌, ◌++◌, Option, IfOk, IfErr, OnOk, string_bytes, option_map};
 ghost use Rattle.unftp_control_defs.specs.Bytes.{Bytes};
 ghost use Rattle.unftp_control_defs.specs.Events.{out_of_memory};
-ghost use Rattle.unftp_control_reply.specs.ErrorMeaning.{fault_of};
+ghost use Rattle.unftp_control_message.specs.ErrorMeaning.{fault_of};
 ghost use Rattle.unftp_control_commands.specs.Facts.{FileFacts, IsFacts, IsModified, IsTimeText, id_fact, modify_fact, two_digits, type_fact};
 
 use jiff::Timestamp;
 use jiff::tz::Offset;
 use std::alloc::{AllocError, Global};
-use unftp_control_reply::error::ControlChanError;
+use unftp_control_message::reply::error::ControlChanError;
 
 /// What a server knows of a file. Each answer is a function of the value.
 pub trait Metadata {

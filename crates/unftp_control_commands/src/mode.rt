@@ -1,15 +1,15 @@
 //! MODE (RFC 959, section 4.1.2).
 ghost use Rattle.std.specs.Prelude.{◌≡◌, IfOk, IfErr};
 ghost use Rattle.unftp_control_defs.specs.Events.{out_of_memory};
-ghost use Rattle.unftp_control_reply.specs.ErrorMeaning.{fault_of};
-ghost use Rattle.unftp_control_reply.specs.ReplyMeaning.{reply_of};
+ghost use Rattle.unftp_control_message.specs.ErrorMeaning.{fault_of};
+ghost use Rattle.unftp_control_message.specs.ReplyMeaning.{reply_of};
 ghost use Rattle.unftp_control_commands.specs.Answers.{mode_reply};
 
 use std::alloc::Global;
 use std::marker::Model;
 use unftp_control_defs::parameters::ModeParam;
-use unftp_control_reply::error::ControlChanError;
-use unftp_control_reply::{Reply, ReplyCode};
+use unftp_control_message::reply::error::ControlChanError;
+use unftp_control_message::reply::{Reply, ReplyCode};
 
 /// MODE with its transfer mode.
 #[derive(Debug, Drop)]

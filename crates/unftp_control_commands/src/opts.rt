@@ -1,15 +1,15 @@
 //! OPTS (RFC 2389, section 4).
 ghost use Rattle.std.specs.Prelude.{◌≡◌, IfOk, IfErr};
 ghost use Rattle.unftp_control_defs.specs.Events.{out_of_memory};
-ghost use Rattle.unftp_control_reply.specs.ErrorMeaning.{fault_of};
-ghost use Rattle.unftp_control_reply.specs.ReplyMeaning.{reply_of};
+ghost use Rattle.unftp_control_message.specs.ErrorMeaning.{fault_of};
+ghost use Rattle.unftp_control_message.specs.ReplyMeaning.{reply_of};
 ghost use Rattle.unftp_control_commands.specs.Answers.{opts_reply};
 
 use std::alloc::Global;
 use std::marker::Model;
 use unftp_control_defs::parameters::Opt;
-use unftp_control_reply::error::ControlChanError;
-use unftp_control_reply::{Reply, ReplyCode};
+use unftp_control_message::reply::error::ControlChanError;
+use unftp_control_message::reply::{Reply, ReplyCode};
 
 /// OPTS with its option.
 #[derive(Debug, Drop)]

@@ -3,11 +3,11 @@ ghost use Rattle.std.specs.Prelude.{◌≡◌, ◌==◌, if◌then◌else◌, �
 ghost use Rattle.unftp_control_defs.specs.Bytes.{Bytes, NUL, LF, Lacks};
 ghost use Rattle.unftp_control_defs.specs.Events.{out_of_memory};
 ghost use Rattle.unftp_control_defs.specs.Values.{escaped};
-ghost use Rattle.unftp_control_reply.specs.ErrorMeaning.{fault_of};
+ghost use Rattle.unftp_control_message.specs.ErrorMeaning.{fault_of};
 ghost use Rattle.unftp_control_commands.specs.ReplyTexts.{HasNoFirstQuote, doubled, quoted, single_line};
 
 use std::alloc::{AllocError, Global};
-use unftp_control_reply::error::ControlChanError;
+use unftp_control_message::reply::error::ControlChanError;
 
 /// The path between double quotes, with each double quote in it doubled, as the replies to PWD and
 /// MKD have it (RFC 959, section 5.4 and appendix II). It fails only when out of memory, with the

@@ -34,7 +34,7 @@ pub passed : (test : Bool) (answer : Answer) (refusal : Refusal) (command : FtpC
 passed true answer refusal command e = (refl, e)
 passed false answer refusal command e = cc
 
-not_refused : (test : Bool) {answer : Answer} (refusal : Refusal) {command : FtpCommand}
+pub not_refused : (test : Bool) {answer : Answer} (refusal : Refusal) {command : FtpCommand}
     → cond test (Err refusal) answer ≡ Ok command → answer ≡ Ok command
 not_refused true refusal e = cc
 not_refused false refusal e = e

@@ -1,24 +1,15 @@
 -- What is written for a plain reply is read back as what it shows, whatever follows.
-use Rattle.std.proofs.Common.{◌≡◌, ◌≢◌, ℕ, ◌+◌, ◌/◌, ◌%◌, ◌^◌, ◌<◌, ◌≤◌, true, false, List, [], ◌∷◌, ◌++◌, flat_map, filter_map, drop_at, length, ◌⊎◌, Some, decimal, refl, sym, ap, subst, ◌∙◌, inl, inr, append_assoc, append-nil, arith, ne_eqb}
-use Rattle.std.specs.Fmt.{digits}
+use Rattle.std.proofs.Common.{◌≡◌, ◌≢◌, ℕ, ◌+◌, ◌/◌, ◌%◌, ◌^◌, ◌<◌, ◌≤◌, Bool, true, false, List, [], ◌∷◌, ◌++◌, flat_map, filter_map, drop_at, length, ◌⊎◌, Some, decimal, refl, sym, ap, subst, ◌∙◌, inl, inr, append_assoc, arith, ne_eqb}
 use Rattle.std.specs.Char.{is_ascii_digit}
 use Rattle.std.specs.List.{AllByRecursion}
-use Rattle.std.proofs.lemmas.Bool.{cases_Bool, and_from, le-leb}
+use Rattle.std.proofs.lemmas.Bool.{cases_Bool, true≢false}
 use Rattle.std.proofs.lemmas.Fmt.{decimal_digit, decimal_step}
 use Rattle.std.proofs.lemmas.Option.{same_Some, none-some}
 use Rattle.unftp_control_defs.specs.Bytes.{Bytes, LF, SP, DASH, crlf, Lacks}
-use Rattle.unftp_control_defs.specs.FtpReply.{FtpReply, Nothing, CodeAndMsg, MultiLine, padded, spaced_line, lines_after_code as several_bytes, encoded, lines_as_read, reply_as_read, HasThreeDigits, IsPlain}
-use Rattle.unftp_control_defs.specs.ReplyReader.{LacksCrlf, with_crlf, SpellsCode, GoesOn, IsReply, code_only, single, several, FrontReply, AllReplies, ReadsBack}
-use Rattle.unftp_control_defs.proofs.LackLemmas.{Lacks-append}
-use Rattle.unftp_control_defs.proofs.ReplyUniqueLemmas.{AllReplies-unique}
-
--- a text without LF has no CR LF
-no_crlf : (text : Bytes) → Lacks LF text → LacksCrlf text
-no_crlf [] h [] after e = cc
-no_crlf [] h (b ∷ before) after e = cc
-no_crlf (b ∷ []) h [] after e = cc
-no_crlf (b ∷ c ∷ text) h [] after e = h.1.0 cc
-no_crlf (b ∷ text) h (c ∷ before) after e = no_crlf text h.1 before after cc
+use Rattle.unftp_control_defs.specs.FtpReply.{FtpReply, Nothing, CodeAndMsg, MultiLine, padded, spaced_line, lines_after_code, encoded, lines_as_read, reply_as_read, HasThreeDigits, IsPlain}
+use Rattle.unftp_control_defs.specs.ReplyReader.{LacksCrlf, SpellsCode, GoesOn, AreLaterLines, last, goes_on, IsReply, code_only, single, several, FrontReply, AllReplies, ReadsBack}
+use Rattle.unftp_control_defs.proofs.CrlfLemmas.{LacksCrlf-Lacks}
+use Rattle.unftp_control_defs.proofs.ReplyLemmas.{AllReplies-unique, IsReply-front, digit_is_digit, lacks_code}
 
 lacks_padded : (line : Bytes) → Lacks LF line → Lacks LF (padded line)
 lacks_padded [] h = tt
@@ -28,36 +19,22 @@ lacks_padded (b ∷ line) h = by_digit (cases_Bool (is_ascii_digit b))
     by_digit (inl e) = rw e ((λ f. omega arith), h)
     by_digit (inr e) = rw e h
 
-digit_of : (a : ℕ) → a < 10 → is_ascii_digit (48 + a) ≡ true
-digit_of a h = and_from _ _ (le-leb 48 (48 + a) (omega arith)) (le-leb (48 + a) 57 (omega arith))
+-- a padded line begins with no digit
+no_digit : (line : Bytes) {b : ℕ} {rest : Bytes} → padded line ≡ b ∷ rest → is_ascii_digit b ≡ false
+no_digit [] e = absurd (cc)
+no_digit (a ∷ line) {b} {rest} e = by_digit (is_ascii_digit a) refl
+  where
+    by_digit : (test : Bool) → is_ascii_digit a ≡ test → is_ascii_digit b ≡ false
+    by_digit true f = let g : SP ∷ a ∷ line ≡ b ∷ rest = rw f at e in
+        let same : SP ≡ b = cc in ap is_ascii_digit (sym same)
+    by_digit false f = let g : a ∷ line ≡ b ∷ rest = rw f at e in
+        let same : a ≡ b = cc in ap is_ascii_digit (sym same) ∙ f
 
--- the digits of a code
-module _ (digits : Bytes) (code : ℕ) (spells : SpellsCode digits code) where
-  lacks_digits : Lacks LF digits
-  lacks_digits =
-      subst (Lacks LF) (sym spells.6)
-      ((λ e. omega arith), ((λ e. omega arith), ((λ e. omega arith), tt)))
-
-  goes_on_padded : (line : Bytes) → GoesOn digits (padded line)
-  goes_on_padded line text e = by_line line (e ∙ ap (λ d. d ++ SP ∷ text) spells.6)
-    where
-      by_line : (line : Bytes) → padded line ≡ (48 + spells.0) ∷ (48 + spells.1) ∷ (48 + spells.2) ∷
-          SP ∷ text → ⊥
-      by_line [] e = cc
-      by_line (b ∷ line) e = by_digit (cases_Bool (is_ascii_digit b))
-        where
-          by_digit : (is_ascii_digit b ≡ true) ⊎ (is_ascii_digit b ≡ false) → ⊥
-          by_digit (inl f) =
-              let g : SP ∷ b ∷ line ≡ (48 + spells.0) ∷ (48 + spells.1) ∷ (48 + spells.2) ∷ SP ∷
-              text = rw f at e in
-              let k : SP ≡ 48 + spells.0 = cc in
-              absurd (omega arith)
-          by_digit (inr f) =
-              let g : b ∷ line ≡ (48 + spells.0) ∷ (48 + spells.1) ∷ (48 + spells.2) ∷ SP ∷ text =
-              rw f at e in
-              let k : b ≡ 48 + spells.0 = cc in
-              let d : is_ascii_digit b ≡ true = ap is_ascii_digit k ∙ digit_of spells.0 spells.3 in
-              let clash : false ≡ true = sym f ∙ d in cc
+goes_on_padded : (digits : Bytes) (code : ℕ) → SpellsCode digits code → (line : Bytes)
+    → GoesOn digits (padded line)
+goes_on_padded digits code spells line text e =
+    let clash = no_digit line (e ∙ ap (λ d. d ++ SP ∷ text) spells.6) in
+    true≢false (sym (digit_is_digit spells.0 spells.3) ∙ clash)
 
 -- 100 to 999 are written as three digits
 pub decimal_spells : (code : ℕ) → HasThreeDigits code → SpellsCode (decimal code) code
@@ -79,135 +56,66 @@ decimal_spells code h =
       omega arith,
     )
 
--- the lines after the first one
-record Following (digits : Bytes) (code : ℕ) (next : Bytes) (lines : List Bytes) : Type 0 where
-  middle : List Bytes
-  last : Bytes
-  goes_on : AllByRecursion (GoesOn digits) middle
-  lack : AllByRecursion LacksCrlf (middle ++ (digits ++ SP ∷ last) ∷ [])
-  lines_are : lines_as_read (next ∷ lines) ≡ middle ++ last ∷ []
-  bytes_are : several_bytes code next lines ≡ flat_map with_crlf
-      (middle ++ (digits ++ SP ∷ last) ∷ [])
-
--- a line after the digits and a byte
-lacks_after : (digits : Bytes) {b : ℕ} (text : Bytes) → Lacks LF digits → b ≢ LF → Lacks LF text
-    → LacksCrlf (digits ++ b ∷ text)
-lacks_after digits {b} text p ne q =
-    no_crlf (digits ++ b ∷ text) (Lacks-append LF digits (b ∷ text) p (ne, q))
-
-module _ (code : ℕ) (spells : SpellsCode (decimal code) code) where
-  following : (next : Bytes) (lines : List Bytes) → Lacks LF next → AllByRecursion (Lacks LF) lines
-      → Following (decimal code) code next lines
-  following next [] h hs = record {
-    middle = [];
-    last = next;
-    goes_on = tt;
-    lack = (
-      lacks_after (decimal code) next (lacks_digits (decimal code) code spells)
-          (λ e. omega arith) h,
-      tt,
-    );
-    lines_are = refl;
-    bytes_are = sym (append_assoc (decimal code) (SP ∷ next) crlf)
-        ∙ sym (append-nil ((decimal code ++ SP ∷ next) ++ crlf));
-  }
-  following next (line ∷ lines) h hs =
-      let b = following line lines hs.0 hs.1 in
-      record {
-        middle = padded next ∷ b.middle;
-        last = b.last;
-        goes_on = (goes_on_padded (decimal code) code spells next, b.goes_on);
-        lack = (no_crlf (padded next) (lacks_padded next h), b.lack);
-        lines_are = ap (λ ls. padded next ∷ ls) b.lines_are;
-        bytes_are = ap (λ t. with_crlf (padded next) ++ t) b.bytes_are;
-      }
-
--- A reply whose bytes are some whole lines is the front of whatever they begin.
-front_from : {digits : Bytes} {code : ℕ} {whole lines : List Bytes} {bytes : Bytes} (more : Bytes)
-    → SpellsCode digits code → bytes ≡ flat_map with_crlf whole
-    → AllByRecursion LacksCrlf whole → IsReply digits whole lines
-    → FrontReply (bytes ++ more) code lines (length bytes)
-front_from {digits} {whole} more spells bytes_are lack reply = record {
-  digits = digits;
-  code_is = spells;
-  whole = whole;
-  rest = more;
-  cut = ap (λ t. t ++ more) bytes_are;
-  each = lack;
-  reply = reply;
-  length_is = ap length bytes_are;
-}
-
-module _ (code : ℕ) (three : HasThreeDigits code) (more : Bytes) where
+module _ (code : ℕ) (three : HasThreeDigits code) where
   spells : SpellsCode (decimal code) code
   spells = decimal_spells code three
 
-  -- one line after a space
-  front_single : (text : Bytes) → Lacks LF text
-      → FrontReply ((decimal code ++ spaced_line text) ++ more) code (text ∷ [])
-      (length (decimal code ++ spaced_line text))
-  front_single text h = front_from more spells (sym (append_assoc (decimal code) (SP ∷ text) crlf)
-      ∙ sym (append-nil ((decimal code ++ SP ∷ text) ++ crlf))) (
-        lacks_after (decimal code) text (lacks_digits (decimal code) code spells)
-            (λ e. omega arith) h,
-        tt,
-      )
-      (single text refl refl)
+  -- a line after the digits and a byte
+  lacks_after : {b : ℕ} (text : Bytes) → b ≢ LF → Lacks LF text
+      → LacksCrlf (decimal code ++ b ∷ text)
+  lacks_after {b} text ne h = lacks_code (b ∷ text) spells (ne, h)
 
-  front_bare : FrontReply ((decimal code ++ crlf) ++ more) code ([] ∷ [])
-      (length (decimal code ++ crlf))
-  front_bare = front_from more spells (sym (append-nil (decimal code ++ crlf)))
-      (no_crlf (decimal code) (lacks_digits (decimal code) code spells), tt)
-      (code_only refl refl)
+  later_lines : (next : Bytes) (lines : List Bytes) → Lacks LF next → AllByRecursion (Lacks LF) lines
+      → AreLaterLines (decimal code) (lines_after_code code next lines)
+      (lines_as_read (next ∷ lines))
+  later_lines next [] h hs =
+      subst (λ b. AreLaterLines (decimal code) b (next ∷ []))
+      (append_assoc (decimal code) (SP ∷ next) crlf)
+      (last (lacks_after next (λ e. omega (arith, e)) h))
+  later_lines next (line ∷ lines) h hs =
+      goes_on (LacksCrlf-Lacks (padded next) (lacks_padded next h))
+      (goes_on_padded (decimal code) code spells next) (later_lines line lines hs.0 hs.1)
 
-  front_several : (line next : Bytes) (lines : List Bytes)
-      → AllByRecursion (Lacks LF) (line ∷ next ∷ lines)
-      → FrontReply (encoded (MultiLine code (line ∷ next ∷ lines)) ++ more) code
-      (lines_as_read (line ∷ next ∷ lines))
-      (length (encoded (MultiLine code (line ∷ next ∷ lines))))
-  front_several line next lines h =
-      let b = following code spells next lines h.1.0 h.1.1 in
-      front_from more spells
-      (ap (λ t. decimal code ++ DASH ∷ ((padded line ++ crlf) ++ t)) b.bytes_are
-      ∙ sym (append_assoc (decimal code) (DASH ∷ (padded line ++ crlf))
-      (flat_map with_crlf (b.middle ++ (decimal code ++ SP ∷ b.last) ∷ [])))
-      ∙ ap (λ t. t ++ flat_map with_crlf (b.middle ++ (decimal code ++ SP ∷ b.last) ∷ []))
-      (sym (append_assoc (decimal code) (DASH ∷ padded line) crlf))) (
-        lacks_after (decimal code) (padded line) (lacks_digits (decimal code) code spells)
-            (λ e. omega arith) (lacks_padded line h.0),
-        b.lack,
-      )
-      (several (padded line) b.last b.middle b.goes_on refl
-      (ap (λ ls. padded line ∷ ls) b.lines_are))
+  one_line : (text : Bytes) → Lacks LF text
+      → IsReply (decimal code ++ spaced_line text) code (text ∷ [])
+  one_line text h = subst (λ b. IsReply b code (text ∷ []))
+      (append_assoc (decimal code) (SP ∷ text) crlf)
+      (single spells (lacks_after text (λ e. omega (arith, e)) h))
 
-  front_message : (text : Bytes) → Lacks LF text
-      → FrontReply (encoded (CodeAndMsg code text) ++ more) code (text ∷ [])
-      (length (encoded (CodeAndMsg code text)))
-  front_message [] h = front_bare
-  front_message (b ∷ text) h = rw (ne_eqb (length (b ∷ text)) 0 (λ e. omega arith))
-      (front_single (b ∷ text) h)
+  message : (text : Bytes) → Lacks LF text → IsReply (encoded (CodeAndMsg code text)) code (text ∷ [])
+  message [] h = code_only spells
+  message (b ∷ text) h = rw (ne_eqb (length (b ∷ text)) 0 (λ e. omega (arith, e)))
+      (one_line (b ∷ text) h)
 
-  front_lines : (lines : List Bytes) → AllByRecursion (Lacks LF) lines
-      → FrontReply (encoded (MultiLine code lines) ++ more) code (lines_as_read lines)
-      (length (encoded (MultiLine code lines)))
-  front_lines [] h = front_single [] tt
-  front_lines (line ∷ []) h = front_single line h.0
-  front_lines (line ∷ next ∷ lines) h = front_several line next lines h
+  some_lines : (lines : List Bytes) → AllByRecursion (Lacks LF) lines
+      → IsReply (encoded (MultiLine code lines)) code (lines_as_read lines)
+  some_lines [] h = one_line [] tt
+  some_lines (line ∷ []) h = one_line line h.0
+  some_lines (line ∷ next ∷ lines) h =
+      subst (λ b. IsReply b code (lines_as_read (line ∷ next ∷ lines)))
+      (append_assoc (decimal code ++ DASH ∷ padded line) crlf (lines_after_code code next lines)
+      ∙ append_assoc (decimal code) (DASH ∷ padded line) (crlf ++ lines_after_code code next lines)
+      ∙ ap (λ t. decimal code ++ DASH ∷ t)
+      (sym (append_assoc (padded line) crlf (lines_after_code code next lines))))
+      (several spells (lacks_after (padded line) (λ e. omega (arith, e)) (lacks_padded line h.0))
+      (later_lines next lines h.1.0 h.1.1))
 
--- The bytes of a plain reply that writes any are one front, and what it shows is read, whatever
--- follows.
+-- The bytes of a plain reply that writes any are one reply, and what it shows is read.
+IsReply-encoded : (reply : FtpReply) → IsPlain reply → {code : ℕ} {lines : List Bytes}
+    → reply_as_read reply ≡ Some (code, lines) → IsReply (encoded reply) code lines
+IsReply-encoded Nothing h {code} {lines} e = absurd (none-some (code, lines) e)
+IsReply-encoded (CodeAndMsg n text) h {code} {lines} e =
+    subst (λ (q : ℕ × List Bytes). IsReply (encoded (CodeAndMsg n text)) q.0 q.1)
+    (same_Some (n, text ∷ []) (code, lines) e) (message n h.0 text h.1)
+IsReply-encoded (MultiLine n ls) h {code} {lines} e =
+    subst (λ (q : ℕ × List Bytes). IsReply (encoded (MultiLine n ls)) q.0 q.1)
+    (same_Some (n, lines_as_read ls) (code, lines) e) (some_lines n h.0 ls h.1)
+
+-- So it is the front, whatever follows.
 pub FrontReply-encoded : (reply : FtpReply) (more : Bytes) → IsPlain reply
     → {code : ℕ} {lines : List Bytes} → reply_as_read reply ≡ Some (code, lines)
     → FrontReply (encoded reply ++ more) code lines (length (encoded reply))
-FrontReply-encoded Nothing more h {code} {lines} e = absurd (none-some (code, lines) e)
-FrontReply-encoded (CodeAndMsg n text) more h {code} {lines} e =
-    let p = same_Some (n, text ∷ []) (code, lines) e in
-    subst (λ (q : ℕ × List Bytes). FrontReply (encoded (CodeAndMsg n text) ++ more) q.0 q.1
-    (length (encoded (CodeAndMsg n text)))) p (front_message n h.0 more text h.1)
-FrontReply-encoded (MultiLine n ls) more h {code} {lines} e =
-    let p = same_Some (n, lines_as_read ls) (code, lines) e in
-    subst (λ (q : ℕ × List Bytes). FrontReply (encoded (MultiLine n ls) ++ more) q.0 q.1
-    (length (encoded (MultiLine n ls)))) p (front_lines n h.0 more ls h.1)
+FrontReply-encoded reply more h e = IsReply-front (IsReply-encoded reply h e) more
 
 -- So the bytes of plain replies in a row are read as what they show, and as nothing else
 -- (`AllReplies-unique`).

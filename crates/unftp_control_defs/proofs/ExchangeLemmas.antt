@@ -4,8 +4,8 @@ use Rattle.std.specs.List.{AllByRecursion, onto_first}
 use Rattle.unftp_control_defs.specs.Bytes.{Bytes}
 use Rattle.unftp_control_defs.specs.Events.{FtpEvent}
 use Rattle.unftp_control_defs.specs.FtpReply.{FtpReply, Nothing, CodeAndMsg, MultiLine, lines_as_read, reply_as_read}
-use Rattle.unftp_control_defs.specs.Run.{SessionLaw, after, replies, said, turn}
-use Rattle.unftp_control_defs.specs.Turns.{GivesExchanges, IsExchangeBy, SaysOnly, cut_after_final, cut_by, cut_reads, is_preliminary_read, is_preliminary_reply, replies_by_event}
+use Rattle.unftp_control_defs.specs.Run.{SessionLaw, after, replies, said, turn, replies_by_event}
+use Rattle.unftp_control_defs.specs.Turns.{GivesExchanges, IsExchangeBy, SaysOnly, cut_after_final, cut_by, cut_reads, is_preliminary_read, is_preliminary_reply}
 
 module _ {A : Type 0} (preliminary : A → Bool) where
   -- an exchange is one part, whatever follows it
@@ -15,6 +15,11 @@ module _ {A : Type 0} (preliminary : A → Bool) where
   cut-exchange (reply ∷ []) more is = rw is refl
   cut-exchange (reply ∷ (next ∷ later)) more is =
       rw (is.0) (ap (onto_first reply) (cut-exchange (next ∷ later) more is.1))
+
+pub all-append : {X : Type 0} (P : X → Type 0) (a b : List X) → AllByRecursion P a
+    → AllByRecursion P b → AllByRecursion P (a ++ b)
+all-append P [] b p q = q
+all-append P (x ∷ a) b p q = (p.0, all-append P a b p.1 q)
 
 module _ {S : Type 0} (law : SessionLaw S) where
   -- a client that cuts the replies after each final one has those to each event apart
@@ -32,11 +37,6 @@ module _ {S : Type 0} (law : SessionLaw S) where
   length-replies_by_event s (event ∷ events) =
       let later = length-replies_by_event (after law s event) events in
       omega (arith, later)
-
-  all-append : (P : FtpReply → Type 0) (a b : List FtpReply) → AllByRecursion P a
-      → AllByRecursion P b → AllByRecursion P (a ++ b)
-  all-append P [] b p q = q
-  all-append P (reply ∷ a) b p q = (p.0, all-append P a b p.1 q)
 
   -- what holds of each reply to each event holds of all
   pub replies-all : (P : FtpReply → Type 0) → SaysOnly P law → (s : S) (events : List FtpEvent)

@@ -1,14 +1,15 @@
 -- Texts without a byte stay so: joined, cut, escaped, in decimals, or with ill-formed UTF-8
 -- replaced.
-use Rattle.std.proofs.Common.{◌≡◌, ◌≢◌, ◌<◌, ◌+◌, ◌/◌, ◌%◌, nat_lt, ◌==◌, ◌&&◌, ℕ, zero, suc, Bool, true, false, not, [], ◌∷◌, ◌++◌, length, take, drop, ◌⊎◌, sym, ap, ◌∙◌, inl, inr, arith, eq-eqb, ne_eqb}
+use Rattle.std.proofs.Common.{◌≡◌, ◌≢◌, ◌<◌, ◌+◌, ◌/◌, ◌%◌, nat_lt, ◌==◌, ◌&&◌, ℕ, zero, suc, Bool, true, false, not, [], ◌∷◌, ◌++◌, take, drop, ◌⊎◌, sym, ap, ◌∙◌, inl, inr, arith, eq-eqb, ne_eqb}
 use Rattle.std.specs.Fmt.{decimal, digits, digits_onto, digit_glyph}
-use Rattle.std.specs.Str.Lossy.{utf8_lossy, utf8_lossy_within, utf8_valid_len, after_first_chunk, replacement_bytes, utf8_invalid_len}
+use Rattle.std.specs.Str.Lossy.{utf8_lossy, utf8_valid_len, replacement_bytes, utf8_invalid_len}
 use Rattle.std.proofs.lemmas.Bool.{cases_eq, cond_both, and_parts, not-true, false≢true, eqb-false}
 use Rattle.unftp_control_defs.specs.Bytes.{Bytes, LF, CR, SP, Lacks}
 use Rattle.unftp_control_defs.specs.Verbs.{is_separator}
 use Rattle.unftp_control_defs.specs.Values.{escaped}
 use Rattle.unftp_control_defs.specs.Paths.{path_of}
 use Rattle.unftp_control_defs.specs.Canonical.{IsUpperCaseName}
+use Rattle.unftp_control_defs.proofs.LossyLemmas.{utf8_lossy-keeps}
 use Rattle.unftp_control_defs.proofs.PathLemmas.{path_of-keeps}
 
 -- a test for texts that are written out
@@ -26,7 +27,7 @@ pub Lacks-append : (b : ℕ) (text more : Bytes) → Lacks b text → Lacks b mo
 Lacks-append b [] more h g = g
 Lacks-append b (a ∷ text) more h g = (h.0, Lacks-append b text more h.1 g)
 
-Lacks-take : (b n : ℕ) (text : Bytes) → Lacks b text → Lacks b (take n text)
+pub Lacks-take : (b n : ℕ) (text : Bytes) → Lacks b text → Lacks b (take n text)
 Lacks-take b zero text h = tt
 Lacks-take b (suc n) [] h = tt
 Lacks-take b (suc n) (a ∷ text) h = (h.0, Lacks-take b n text h.1)
@@ -47,22 +48,21 @@ Lacks-escaped [] h = tt
 Lacks-escaped (b ∷ text) h = escaped_byte b text h.0 (Lacks-escaped text h.1) (cases_eq b CR)
 
 -- U+FFFD has no LF
-lossy_within : (k : ℕ) (text : Bytes) → Lacks LF text → Lacks LF (utf8_lossy_within k text)
-lossy_within zero text h = h
-lossy_within (suc k) text h =
-    let n : ℕ = utf8_valid_len text in
-    let more : Bytes = utf8_lossy_within k (after_first_chunk text) in
-    let lacks_more : Lacks LF more =
-    lossy_within k (after_first_chunk text)
-    (Lacks-drop LF (n + utf8_invalid_len (drop n text)) text h) in
-    cond_both (n == length text) text (take n text ++ (replacement_bytes ++ more)) (Lacks LF)
-    (λ _. h)
-    (λ _. Lacks-append LF (take n text) (replacement_bytes ++ more) (Lacks-take LF n text h)
-    ((λ e. omega arith), ((λ e. omega arith), ((λ e. omega arith), lacks_more))))
-
 pub Lacks-utf8_lossy : (text : Bytes) → Lacks LF text → Lacks LF (utf8_lossy text)
-unfolding utf8_lossy
-Lacks-utf8_lossy text h = lossy_within (length text) text h
+Lacks-utf8_lossy text = utf8_lossy-keeps (λ text found. Lacks LF text → Lacks LF found)
+    (λ text utf8 h. h)
+    (λ text more less lacks_more h.
+    let n : ℕ = utf8_valid_len text in
+    Lacks-append LF (take n text) (replacement_bytes ++ more) (Lacks-take LF n text h) (
+      (λ e. omega arith),
+      (
+        (λ e. omega arith),
+        (
+          (λ e. omega arith),
+          lacks_more (Lacks-drop LF (n + utf8_invalid_len (drop n text)) text h),
+        ),
+      ),
+    )) text
 
 lacks_after_space : (front path : Bytes) → Lacks LF (front ++ SP ∷ path) → Lacks LF path
 lacks_after_space [] path h = h.1

@@ -6,10 +6,8 @@ pub mod ValueLemmas
 pub mod PathLemmas
 pub mod RunLemmas
 pub mod ExchangeLemmas
-pub mod ReplyUniqueLemmas
-pub mod ReplyPartLemmas
-pub mod ReplyCasesLemmas
-pub mod ReplyAppendLemmas
+pub mod CrlfLemmas
+pub mod ReplyLemmas
 pub mod ReplyLimitLemmas
 pub mod EncodingLemmas
 pub mod UpperLemmas

@@ -154,11 +154,7 @@ events-append limit bytes more =
     ap (map (event_for limit)) (lines_of-append bytes more)
     ∙ map-append (event_for limit) (lines_of bytes) (lines_of (incomplete_line bytes ++ more))
 
--- the first line, and bytes without one
-pub events-line : (limit : Option ℕ) (body more : Bytes) → Lacks LF body →
-    events limit (body ++ LF ∷ more) ≡ event_for limit (body ++ LF ∷ []) ∷ events limit more
-events-line limit body more h = ap (map (event_for limit)) (lines_of-line body more h)
-
+-- bytes without a line
 pub events-incomplete : (limit : Option ℕ) (incomplete : Bytes) → Lacks LF incomplete
     → events limit incomplete ≡ []
 events-incomplete limit incomplete h = ap (map (event_for limit)) (lines_of-incomplete incomplete h)

@@ -1,63 +1,87 @@
 -- Replies and a limit on their length.
-use Rattle.std.proofs.Common.{◌≡◌, ◌↔◌, ℕ, zero, suc, ◌<◌, ◌≤◌, Option, None, Some, List, [], ◌∷◌, ◌++◌, flat_map, length, take, drop, refl, sym, ap, subst, ◌∙◌, ⊎_elim, append_assoc, length-append, arith}
+use Rattle.std.proofs.Common.{◌≡◌, ◌↔◌, ℕ, ◌+◌, ◌-◌, ◌<◌, ◌≤◌, Option, None, Some, List, [], ◌∷◌, ◌++◌, length, take, drop, refl, sym, ap, subst, ◌∙◌, ⊎_elim, append_assoc, append-nil, length-append, arith}
+use Rattle.std.specs.Prelude.{IfSome}
+use Rattle.std.proofs.Math.Seq.{take-append-add}
 use Rattle.std.proofs.lemmas.Bool.{cases_lt}
-use Rattle.std.proofs.lemmas.List.{take-append-drop, take-append-le, length-take-le}
-use Rattle.unftp_control_defs.specs.Bytes.{Bytes, CR, LF, crlf}
-use Rattle.unftp_control_defs.specs.ReplyReader.{LacksCrlf, with_crlf, FrontReply, HasFront, Opens, IsMalformed, IsPartial}
-use Rattle.unftp_control_defs.specs.ReplyLimit.{IsTooLongReply}
-use Rattle.unftp_control_defs.proofs.ReplyUniqueLemmas.{first_crlf, FrontReply-unique}
-use Rattle.unftp_control_defs.proofs.ReplyCasesLemmas.{front_within, front_is_formed}
-use Rattle.unftp_control_defs.proofs.ReplyAppendLemmas.{FrontReply-append, IsMalformed-append}
+use Rattle.std.proofs.lemmas.List.{take-append-drop, take-append-le, length-take}
+use Rattle.unftp_control_defs.specs.Bytes.{Bytes}
+use Rattle.unftp_control_defs.specs.ReplyReader.{LacksCrlf, with_crlf, FrontReply, Opens, IsMalformed, IsPartial}
+use Rattle.unftp_control_defs.specs.ReplyLimit.{within_limit, IsTooLongReply}
+use Rattle.unftp_control_defs.specs.ComputedReply.{Cuts, cuts_of}
+use Rattle.unftp_control_defs.proofs.CrlfLemmas.{cuts_of-with_crlf}
+use Rattle.unftp_control_defs.proofs.ReplyLemmas.{FrontReply-append, IsMalformed-append, front_within, front_is_formed, FrontReply-unique, IsReply-front}
 
--- The first n bytes.
+-- ---- the bytes that a reply may have
 
-take_after : (n : ℕ) (first rest : Bytes) → length first ≤ n
-    → (more : Bytes) × (take n (first ++ rest) ≡ first ++ more)
-take_after n [] rest within = (take n rest, refl)
-take_after zero (b ∷ first) rest within = absurd (omega (arith, within))
-take_after (suc n) (b ∷ first) rest within =
-    let more = take_after n first rest (omega (arith, within)) in
-    (more.0, ap (λ bytes. b ∷ bytes) more.1)
+take_past : (n : ℕ) (front rest : Bytes) → length front ≤ n
+    → take n (front ++ rest) ≡ front ++ take (n - length front) rest
+take_past n front rest within = let same : n ≡ length front + (n - length front) = omega arith in
+    ap (λ n. take n (front ++ rest)) same ∙ take-append-add front rest (n - length front)
 
--- a reply that is within them
-pub FrontReply-take : (n : ℕ) {bytes : Bytes} {code : ℕ} {lines : List Bytes} {used : ℕ}
-    → FrontReply bytes code lines used → used ≤ n → FrontReply (take n bytes) code lines used
-FrontReply-take n f within =
-    let whole = flat_map with_crlf f.whole in
-    let first = take_after n whole f.rest (omega (arith, f.length_is, within)) in
-    record {
-      digits = f.digits;
-      code_is = f.code_is;
-      whole = f.whole;
-      rest = first.0;
-      cut = ap (take n) f.cut ∙ first.1;
-      each = f.each;
-      reply = f.reply;
-      length_is = f.length_is;
-    }
+-- the bytes after them
+abbrev past_limit : Option ℕ → Bytes → Bytes
+past_limit None bytes = []
+past_limit (Some limit) bytes = drop limit bytes
 
--- what they begin with, all bytes begin with
-FrontReply-from_take : (n : ℕ) {bytes : Bytes} {code : ℕ} {lines : List Bytes} {used : ℕ}
-    → FrontReply (take n bytes) code lines used → FrontReply bytes code lines used
-FrontReply-from_take n {bytes} {code} {lines} {used} f =
-    subst (λ b. FrontReply b code lines used) (take-append-drop n bytes)
-    (FrontReply-append (take n bytes) (drop n bytes) code lines used f)
+pub limit_apart : (limit : Option ℕ) (bytes : Bytes)
+    → within_limit limit bytes ++ past_limit limit bytes ≡ bytes
+limit_apart None bytes = append-nil bytes
+limit_apart (Some limit) bytes = take-append-drop limit bytes
 
-HasFront-from_take : (n : ℕ) (bytes : Bytes) → HasFront (take n bytes) → HasFront bytes
-HasFront-from_take n bytes h = (h.0, h.1, h.2, FrontReply-from_take n h.3)
+module _ (limit : Option ℕ) (bytes : Bytes) where
+  pub length-within : length (within_limit limit bytes) ≤ length bytes
+  length-within = omega (
+    arith,
+    ap length (limit_apart limit bytes),
+    length-append (within_limit limit bytes) (past_limit limit bytes),
+  )
 
-IsMalformed-from_take : (n : ℕ) (bytes : Bytes) → IsMalformed (take n bytes) → IsMalformed bytes
-IsMalformed-from_take n bytes m =
-    subst IsMalformed (take-append-drop n bytes)
-    (IsMalformed-append (take n bytes) (drop n bytes) m)
+  pub FrontReply-within : {code : ℕ} {lines : List Bytes} {used : ℕ}
+      → FrontReply (within_limit limit bytes) code lines used
+      ↔ (FrontReply bytes code lines used × IfSome limit (λ limit. used ≤ limit))
+  FrontReply-within {code} {lines} {used} = (
+    (λ f. (
+      subst (λ b. FrontReply b code lines used) (limit_apart limit bytes)
+          (FrontReply-append (within_limit limit bytes) (past_limit limit bytes) code lines used f),
+      short limit f,
+    )),
+    (λ f. within limit f.0 f.1),
+  )
+    where
+      short : (limit : Option ℕ) → FrontReply (within_limit limit bytes) code lines used
+          → IfSome limit (λ limit. used ≤ limit)
+      short None f = tt
+      short (Some limit) f = omega (
+        arith,
+        (front_within (take limit bytes) code lines used f).1,
+        length-take limit bytes,
+      )
 
-pub IsPartial-take : (n : ℕ) (bytes : Bytes) → IsPartial bytes → IsPartial (take n bytes)
-IsPartial-take n bytes partial = (
-  (λ (h : HasFront (take n bytes)). partial.0 (HasFront-from_take n bytes h)),
-  (λ (h : IsMalformed (take n bytes)). partial.1 (IsMalformed-from_take n bytes h)),
-)
+      within : (limit : Option ℕ) → FrontReply bytes code lines used
+          → IfSome limit (λ limit. used ≤ limit)
+          → FrontReply (within_limit limit bytes) code lines used
+      within None f h = f
+      within (Some limit) f h =
+          record {
+            front = f.front;
+            rest = take (limit - length f.front) f.rest;
+            cut = ap (take limit) f.cut
+                ∙ take_past limit f.front f.rest (omega (arith, h, f.length_is));
+            reply = f.reply;
+            length_is = f.length_is;
+          }
 
--- Bytes that are too long.
+  pub IsMalformed-within : IsMalformed (within_limit limit bytes) → IsMalformed bytes
+  IsMalformed-within m = subst IsMalformed (limit_apart limit bytes)
+      (IsMalformed-append (within_limit limit bytes) (past_limit limit bytes) m)
+
+  pub IsPartial-within : IsPartial bytes → IsPartial (within_limit limit bytes)
+  IsPartial-within partial = (
+    (λ (code, lines, used, f). partial.0 (code, lines, used, (FrontReply-within.0 f).0)),
+    (λ m. partial.1 (IsMalformed-within m)),
+  )
+
+-- ---- bytes that are too long
 
 pub IsTooLongReply-append : (limit : Option ℕ) (bytes more : Bytes)
     → IsTooLongReply limit bytes → IsTooLongReply limit (bytes ++ more)
@@ -67,97 +91,92 @@ IsTooLongReply-append (Some limit) bytes more h = (
   subst IsPartial (sym (take-append-le limit bytes more h.0)) h.1,
 )
 
--- bytes that begin with a reply
+-- bytes that begin with a reply, or with a line that opens none
+too_long_front : (limit : ℕ) (front rest : Bytes) → ((more : Bytes) → ¬ IsPartial (front ++ more))
+    → (limit < length front → IsPartial (take limit (front ++ rest)))
+    → IsTooLongReply (Some limit) (front ++ rest) ↔ (limit < length front)
+too_long_front limit front rest whole part = (
+  (λ h. ⊎_elim
+      (λ (less : limit < length front). less)
+      (λ (within : length front ≤ limit).
+      absurd (whole (take (limit - length front) rest)
+      (subst IsPartial (take_past limit front rest within) h.1)))
+      (cases_lt limit (length front))),
+  (λ less. (omega (arith, less, length-append front rest), part less)),
+)
+
 pub IsTooLongReply-front : (limit : ℕ) {bytes : Bytes} {code : ℕ} {lines : List Bytes} {used : ℕ}
     → FrontReply bytes code lines used → IsTooLongReply (Some limit) bytes ↔ (limit < used)
-IsTooLongReply-front limit {bytes} {code} {lines} {used} f = (longer, too_long)
+IsTooLongReply-front limit {bytes} {code} {lines} {used} f =
+    rw (f.cut, f.length_is) (too_long_front limit f.front f.rest whole part)
   where
-    longer : IsTooLongReply (Some limit) bytes → limit < used
-    longer h = ⊎_elim
-        (λ (less : limit < used). less)
-        (λ (within : used ≤ limit).
-        let front = FrontReply-take limit f within in
-        absurd (h.1.0 (code, lines, used, front)))
-        (cases_lt limit used)
+    whole : (more : Bytes) → ¬ IsPartial (f.front ++ more)
+    whole more partial = partial.0 (code, lines, length f.front, IsReply-front f.reply more)
 
-    too_long : limit < used → IsTooLongReply (Some limit) bytes
-    too_long less = (enough, (no_front, formed))
-      where
-        enough : limit ≤ length bytes
-        enough = omega (arith, less, (front_within bytes code lines used f).1)
-
-        no_front : ¬ HasFront (take limit bytes)
-        no_front h =
-            let other = FrontReply-from_take limit h.3 in
-            let same = (FrontReply-unique f other).2 in
-            let within = (front_within (take limit bytes) h.0 h.1 h.2 h.3).1 in
-            omega (arith, less, same, within, length-take-le limit bytes enough)
-
-        formed : ¬ IsMalformed (take limit bytes)
-        formed h =
-            front_is_formed bytes (code, lines, used, f) (IsMalformed-from_take limit bytes h)
+    part : limit < length f.front → IsPartial (take limit (f.front ++ f.rest))
+    part less = (
+      (λ (m, ks, taken, g).
+          let both = (FrontReply-within (Some limit) (f.front ++ f.rest)).0 g in
+          omega (
+            arith,
+            less,
+            (FrontReply-unique (IsReply-front f.reply f.rest) both.0).2,
+            both.1,
+          )),
+      (λ m. front_is_formed (f.front ++ f.rest)
+          (code, lines, length f.front, IsReply-front f.reply f.rest)
+          (IsMalformed-within (Some limit) (f.front ++ f.rest) m)),
+    )
 
 -- bytes that are a part of a reply
 pub IsTooLongReply-partial : (limit : ℕ) (bytes : Bytes)
     → IsPartial bytes → IsTooLongReply (Some limit) bytes ↔ (limit ≤ length bytes)
-IsTooLongReply-partial limit bytes partial = (
-  (λ (h : IsTooLongReply (Some limit) bytes). h.0),
-  (λ (enough : limit ≤ length bytes). (enough, IsPartial-take limit bytes partial)),
-)
-
--- where the first bytes are malformed, their first line is that of all bytes
-same_line : (n : ℕ) {first : Bytes} (rest : Bytes) → LacksCrlf first
-    → (m : IsMalformed (take n (with_crlf first ++ rest))) → first ≡ m.first
-same_line n {first} rest is_line m =
-    (first_crlf first m.first is_line m.is_line (sym (append_assoc first crlf rest) ∙ cut)).0
-  where
-    after : Bytes
-    after = drop n (with_crlf first ++ rest)
-
-    cut : with_crlf first ++ rest ≡ m.first ++ CR ∷ LF ∷ (m.rest ++ after)
-    cut = sym (take-append-drop n (with_crlf first ++ rest)) ∙ ap (λ b. b ++ after) m.cut
-        ∙ append_assoc m.first (CR ∷ LF ∷ m.rest) after
+IsTooLongReply-partial limit bytes partial =
+    ((λ h. h.0), (λ enough. (enough, IsPartial-within (Some limit) bytes partial)))
 
 -- bytes whose first line opens no reply
 pub IsTooLongReply-malformed : (limit : ℕ) (first rest : Bytes) → LacksCrlf first → ¬ Opens first
     → IsTooLongReply (Some limit) (with_crlf first ++ rest) ↔ (limit < length (with_crlf first))
-IsTooLongReply-malformed limit first rest is_line opens_none = (longer, too_long)
+IsTooLongReply-malformed limit first rest is_line opens_none =
+    too_long_front limit (with_crlf first) rest (λ more partial. partial.1 (malformed more)) part
   where
     bytes : Bytes
     bytes = with_crlf first ++ rest
 
-    malformed : (some more : Bytes) → some ≡ with_crlf first ++ more → IsMalformed some
-    malformed some more e = record {
+    malformed : (more : Bytes) → IsMalformed (with_crlf first ++ more)
+    malformed more = record {
       first = first;
       rest = more;
-      cut = e ∙ append_assoc first crlf more;
+      cut = refl;
       is_line = is_line;
       opens_none = opens_none;
     }
 
-    longer : IsTooLongReply (Some limit) bytes → limit < length (with_crlf first)
-    longer h = ⊎_elim
-        (λ (less : limit < length (with_crlf first)). less)
-        (λ (within : length (with_crlf first) ≤ limit).
-        let more = take_after limit (with_crlf first) rest within in
-        absurd (h.1.1 (malformed _ more.0 more.1)))
-        (cases_lt limit (length (with_crlf first)))
-
-    too_long : limit < length (with_crlf first) → IsTooLongReply (Some limit) bytes
-    too_long less = (enough, (no_front, formed))
+    part : limit < length (with_crlf first) → IsPartial (take limit bytes)
+    part less = (
+      (λ (m, ks, taken, g). front_is_formed bytes
+          (m, ks, taken, ((FrontReply-within (Some limit) bytes).0 g).0) (malformed rest)),
+      no_line,
+    )
       where
-        enough : limit ≤ length bytes
-        enough = omega (arith, less, length-append (with_crlf first) rest)
-
-        no_front : ¬ HasFront (take limit bytes)
-        no_front h =
-            front_is_formed bytes (HasFront-from_take limit bytes h) (malformed bytes rest refl)
-
-        -- it has the whole first line, which is longer
-        formed : ¬ IsMalformed (take limit bytes)
-        formed h =
-            let same = ap length (same_line limit rest is_line h) in
-            let line = length-append first crlf in
-            let held = length-append h.first (CR ∷ LF ∷ h.rest) in
-            let taken = length-take-le limit bytes enough in
-            omega (arith, less, line, same, ap length h.cut, held, taken)
+        -- it would be the first line of all bytes, which is longer
+        no_line : ¬ IsMalformed (take limit bytes)
+        no_line m =
+            let after = drop limit bytes in
+            let cut : bytes ≡ with_crlf m.first ++ (m.rest ++ after) =
+            sym (take-append-drop limit bytes) ∙ ap (λ b. b ++ after) m.cut
+            ∙ append_assoc (with_crlf m.first) m.rest after in
+            let same : ◌≡◌ {A = Cuts} ((first, rest) ∷ cuts_of rest)
+            ((m.first, m.rest ++ after) ∷ cuts_of (m.rest ++ after)) =
+            sym (cuts_of-with_crlf first rest is_line) ∙ ap cuts_of cut
+            ∙ cuts_of-with_crlf m.first (m.rest ++ after) m.is_line in
+            let cuts : (first, rest) ≡ (m.first, m.rest ++ after) = cc in
+            let line : first ≡ m.first = ap (λ (cut : Bytes × Bytes). cut.0) cuts in
+            omega (
+              arith,
+              less,
+              ap (λ l. length (with_crlf l)) line,
+              ap length m.cut,
+              length-append (with_crlf m.first) m.rest,
+              length-take limit bytes,
+            )

@@ -1,5 +1,6 @@
 -- The rule of each verb gives sound commands, of a value without LF.
-use Rattle.std.proofs.Common.{◌≡◌, true, false, Bool, cond, List, [], ◌∷◌, Option, Some, None, option_map, unwrap_or, find, bytes_eq, refl, subst}
+use Rattle.std.proofs.Common.{◌≡◌, true, false, Bool, cond, List, [], ◌∷◌, Option, Some, None, option_map, unwrap_or, find, bytes_eq, refl, sym, subst}
+use lib.Pointwise.{bytes_decides}
 use Rattle.std.specs.Bool.{⊤}
 use Rattle.std.specs.List.{AllByRecursion}
 use Rattle.std.specs.Str.{IsUtf8}
@@ -48,18 +49,21 @@ all_rules = search (
   list_gives,
 )
 
--- the row that is found
-found : {A : Type 0} (P : A → Type 0) (name : Bytes) (rows : List (Bytes × A)) {x : A}
-    → AllByRecursion (λ row. P row.1) rows → row_of name rows ≡ Some x → P x
+-- the row that is found, with its name
+pub found : {A : Type 0} (P : Bytes → A → Type 0) (name : Bytes) (rows : List (Bytes × A)) {x : A}
+    → AllByRecursion (λ row. P row.0 row.1) rows → row_of name rows ≡ Some x → P name x
 found P name [] each e = cc
 found P name (row ∷ rows) {x} each e =
-    by_test (bytes_eq name row.0) (λ q. found P name rows each.1 q) e
+    by_test (bytes_eq name row.0) refl (λ q. found P name rows each.1 q) e
   where
-    by_test : (test : Bool) → (row_of name rows ≡ Some x → P x)
+    by_test : (test : Bool) → bytes_eq name row.0 ≡ test → (row_of name rows ≡ Some x → P name x)
         → option_map (λ r. r.1) (cond test (Some row) (find (λ r. bytes_eq name r.0) rows)) ≡ Some x
-        → P x
-    by_test true more q = let same : row.1 ≡ x = cc in subst P same each.0
-    by_test false more q = more q
+        → P name x
+    by_test true t more q =
+        let same : row.1 ≡ x = cc in
+        subst (P name) same
+        (subst (λ n. P n row.1) (sym ((bytes_decides name row.0).0 t)) each.0)
+    by_test false t more q = more q
 
 -- the rule of a verb in upper case
 pub rule_gives : (verb : Bytes) → IsUpperCaseName verb → IsUtf8 verb → RuleGives (rule_of verb)
@@ -68,4 +72,4 @@ rule_gives verb is_name is_text = by_row (row_of verb verbs) refl
     by_row : (row : Option Rule) → row_of verb verbs ≡ row
         → RuleGives (unwrap_or row (Takes (any_text (Other verb))))
     by_row None none = any_gives (Other verb) (λ text h utf8. ((is_name, none, h), (is_text, utf8)))
-    by_row (Some rule) is = found RuleGives verb verbs all_rules is
+    by_row (Some rule) is = found (λ name. RuleGives) verb verbs all_rules is

@@ -1,15 +1,17 @@
 -- Runs over events and inputs that are put together.
-use Rattle.std.proofs.Common.{◌≡◌, ◌≤◌, ℕ, zero, suc, Bool, true, false, ◌||◌, ◌+◌, List, [], ◌∷◌, ◌++◌, Option, length, map, flat_map, take, drop, refl, sym, ap, ◌∙◌, arith, append_assoc, length-append}
+use Rattle.std.proofs.Common.{◌≡◌, ◌≤◌, ℕ, zero, suc, Bool, true, false, ◌||◌, ◌+◌, List, [], ◌∷◌, ◌++◌, Option, length, map, flat_map, drop, refl, sym, ap, ◌∙◌, arith, append_assoc, length-append}
 use Rattle.std.specs.Prelude.{if◌then◌else◌}
-use Rattle.std.specs.List.{AllByRecursion, concat}
+use Rattle.std.specs.List.{concat}
 use Rattle.std.proofs.lemmas.List.{append-nil, drop-append-le, drop_all, length-map}
 use Rattle.std.proofs.lemmas.List.Folds.{concat-append}
+use Rattle.std.proofs.Math.Bool.{or_assoc}
 use Rattle.std.proofs.Math.Seq.{drop-append-add}
+use Rattle.std.proofs.lemmas.Grind.{flat_map-append}
 use Rattle.unftp_control_defs.specs.Bytes.{Bytes, LF, Lacks}
 use Rattle.unftp_control_defs.specs.Events.{FtpEvent, event_for, events}
 use Rattle.unftp_control_defs.specs.FtpReply.{FtpReply, encoded}
 use Rattle.unftp_control_defs.specs.Lines.{IsLine, lines_of, incomplete_line}
-use Rattle.unftp_control_defs.specs.Run.{run_for, ends_for, after_lines, unread, after_end, SessionLaw, turn, said, state_after, after, run_of, ends, replies, last_state, text_of}
+use Rattle.unftp_control_defs.specs.Run.{run_for, ends_for, after_lines, unread, after_end, SessionLaw, all_said, at_each, replies_by_event, replies_to, state_after, after, run_of, ends, replies, last_state, text_of}
 use Rattle.unftp_control_defs.specs.Pieces.{replies_in_turn}
 use Rattle.unftp_control_defs.proofs.LineLemmas.{Lines-lines_of, lines_of-append, lines_of-incomplete, incomplete_line-append, incomplete_line-incomplete, line_first, events-append, events-incomplete}
 
@@ -19,52 +21,62 @@ last_state-append law s [] more = refl
 last_state-append law s (event ∷ events) more = last_state-append law (after law s event) events
     more
 
-flat_map-append : (a b : List FtpReply) → flat_map encoded (a ++ b) ≡ flat_map encoded a
-    ++ flat_map encoded b
-flat_map-append [] b = refl
-flat_map-append (reply ∷ a) b = ap (λ text. encoded reply ++ text) (flat_map-append a b)
-    ∙ sym (append_assoc (encoded reply) (flat_map encoded a) (flat_map encoded b))
+pub at_each-append : {S R : Type 0} (f : S → FtpEvent → R) (law : SessionLaw S) (s : S)
+    (events more : List FtpEvent) → at_each f law s (events ++ more)
+    ≡ at_each f law s events ++ at_each f law (last_state law s events) more
+at_each-append f law s [] more = refl
+at_each-append f law s (event ∷ events) more =
+    ap (λ later. f s event ∷ later) (at_each-append f law (after law s event) events more)
 
 pub replies-append : {S : Type 0} (law : SessionLaw S) (s : S) (events more : List FtpEvent) →
     replies law s (events ++ more) ≡ replies law s events ++ replies law (last_state law s events)
     more
-replies-append law s [] more = refl
-replies-append law s (event ∷ events) more =
-    ap (λ later. said (turn law s event) ++ later)
-    (replies-append law (after law s event) events more)
-    ∙ sym (append_assoc (said (turn law s event)) (replies law (after law s event) events)
-    (replies law (last_state law (after law s event) events) more))
+replies-append law s events more = ap all_said (at_each-append (replies_to law) law s events more)
+    ∙ flat_map-append (λ turn. turn) (replies_by_event law s events) _
 
 pub text_of-append : {S : Type 0} (law : SessionLaw S) (s : S) (events more : List FtpEvent) →
     text_of law s (events ++ more) ≡ text_of law s events ++ text_of law (last_state law s events)
     more
 text_of-append law s events more = ap (flat_map encoded) (replies-append law s events more)
-    ∙ flat_map-append (replies law s events) (replies law (last_state law s events) more)
-
-pub said-append : {S : Type 0} (a b : List (FtpReply × S)) → said (a ++ b) ≡ said a ++ said b
-said-append [] b = refl
-said-append (step ∷ a) b = ap (λ replies. step.0 ∷ replies) (said-append a b)
+    ∙ flat_map-append encoded (replies law s events) _
 
 pub state_after-append : {S : Type 0} (s : S) (a b : List (FtpReply × S))
     → state_after s (a ++ b) ≡ state_after (state_after s a) b
 state_after-append s [] b = refl
 state_after-append s (step ∷ a) b = state_after-append step.1 a b
 
--- each event has at least one reply
-pub length-replies : {S : Type 0} (law : SessionLaw S) (s : S) (events : List FtpEvent)
-    → length events ≤ length (replies law s events)
-length-replies law s [] = omega arith
-length-replies law s (event ∷ events) =
-    let more = length-replies law (after law s event) events in
-    let both = length-append (said (law.more (law.next s event)))
-    (replies law (after law s event) events) in
-    omega (arith, more, both)
+-- the lines and the bytes after all lines of the first bytes
+pub drop_lines-append : (limit : Option ℕ) (bytes more : Bytes) (later : List FtpEvent)
+    → drop (length (events limit bytes ++ later)) (lines_of (bytes ++ more))
+    ≡ drop (length later) (lines_of (incomplete_line bytes ++ more))
+drop_lines-append limit bytes more later =
+    let count : length (events limit bytes ++ later) ≡ length (lines_of bytes) + length later =
+    length-append (events limit bytes) later
+    ∙ ap (λ n. n + length later) (length-map (lines_of bytes) (event_for limit)) in
+    rw (count, lines_of-append bytes more)
+    (drop-append-add (lines_of bytes) (lines_of (incomplete_line bytes ++ more)) (length later))
 
--- what holds of every reply holds of these
-said-all : {S : Type 0} (P : FtpReply → Type 0) (steps : List (FtpReply × S))
-    → ((step : FtpReply × S) → P step.0) → AllByRecursion P (said steps)
-said-all P [] each = tt
-said-all P (step ∷ steps) each = (each step, said-all P steps each)
+after_lines-append : (limit : Option ℕ) (bytes more : Bytes) (later : List FtpEvent)
+    → after_lines (length (events limit bytes ++ later)) (bytes ++ more)
+    ≡ after_lines (length later) (incomplete_line bytes ++ more)
+after_lines-append limit bytes more later =
+    rw (drop_lines-append limit bytes more later, incomplete_line-append bytes more) refl
+
+-- after not more than these
+after_lines-more : (n : ℕ) (input more : Bytes) → n ≤ length (lines_of input)
+    → after_lines n (input ++ more) ≡ after_lines n input ++ more
+after_lines-more n input more few =
+    let left : Bytes = concat (drop n (lines_of input)) in
+    let next : List Bytes = lines_of (incomplete_line input ++ more) in
+    rw (
+      lines_of-append input more,
+      drop-append-le n (lines_of input) next few,
+      concat-append (drop n (lines_of input)) next,
+      incomplete_line-append input more,
+    )
+    (append_assoc left (concat next) (incomplete_line (incomplete_line input ++ more))
+    ∙ ap (λ bytes. left ++ bytes) (sym (Lines-lines_of (incomplete_line input ++ more)).whole)
+    ∙ sym (append_assoc left (incomplete_line input) more))
 
 module _ {S : Type 0} (law : SessionLaw S) where
   -- one event first, after which the handler is done or goes on
@@ -92,72 +104,41 @@ module _ {S : Type 0} (law : SessionLaw S) where
       (run_of-on s event events on.0).0
       ∙ ap (λ later. event ∷ later) (run_of-all (after law s event) events on.1)
 
-  pub run_of-append : (s : S) (events more : List FtpEvent) → ends law s events ≡ false →
-      (run_of law s (events ++ more) ≡ events ++ run_of law (last_state law s events) more)
-      × (ends law s (events ++ more) ≡ ends law (last_state law s events) more)
-  run_of-append s [] more h = (refl, refl)
-  run_of-append s (event ∷ events) more h =
-      let on = on-first (law.done (after law s event)) (ends law (after law s event) events) h in
-      let first = run_of-on s event (events ++ more) on.0 in
-      let later = run_of-append (after law s event) events more on.1 in
-      (first.0 ∙ ap (λ later. event ∷ later) later.0, first.1 ∙ later.1)
+  -- more events come into the run where it goes on
+  pub run_of-append : (s : S) (events more : List FtpEvent) → run_of law s (events ++ more)
+      ≡ run_of law s events
+      ++ (if ends law s events then [] else run_of law (last_state law s events) more)
+  run_of-append s [] more = refl
+  run_of-append s (event ∷ events) more = ap (λ later. event ∷ later)
+      (by_done (law.done (after law s event)) (ends law (after law s event) events) _ _ _
+      (run_of-append (after law s event) events more))
+    where
+      by_done : (done ended : Bool) (all run later : List FtpEvent)
+          → all ≡ run ++ (if ended then [] else later) → (if done then [] else all)
+          ≡ (if done then [] else run) ++ (if (done || ended) then [] else later)
+      by_done true ended all run later same = refl
+      by_done false ended all run later same = same
 
-  -- one that ended takes none of them
-  ended-first : (s : S) (event : FtpEvent) (events more : List FtpEvent)
-      → ends law s (event ∷ events) ≡ true →
-      (ends law (after law s event) events ≡ true
-      → (run_of law (after law s event) (events ++ more) ≡ run_of law (after law s event) events)
-      × (ends law (after law s event) (events ++ more) ≡ true)) →
-      (done : Bool) → law.done (after law s event) ≡ done →
-      (run_of law s (event ∷ (events ++ more)) ≡ run_of law s (event ∷ events))
-      × (ends law s (event ∷ (events ++ more)) ≡ true)
-  ended-first s event events more h later true done =
-      let both = run_of-done s event (events ++ more) done in
-      (both.0 ∙ sym (run_of-done s event events done).0, both.1)
-  ended-first s event events more h later false on =
-      let first = run_of-on s event events on in
-      let both = run_of-on s event (events ++ more) on in
-      let rest = later (sym first.1 ∙ h) in
-      (both.0 ∙ ap (λ run. event ∷ run) rest.0 ∙ sym first.0, both.1 ∙ rest.1)
-
-  pub run_of-ended : (s : S) (events more : List FtpEvent) → ends law s events ≡ true →
-      (run_of law s (events ++ more) ≡ run_of law s events) × (ends law s (events ++ more) ≡ true)
-  run_of-ended s [] more h = absurd (cc)
-  run_of-ended s (event ∷ events) more h =
-      ended-first s event events more h (λ later. run_of-ended (after law s event) events more
-      later)
-      (law.done (after law s event)) refl
-
-  -- a run has no more events than there are
-  length-first : (s : S) (event : FtpEvent) (events : List FtpEvent)
-      → length (run_of law (after law s event) events) ≤ length events →
-      (done : Bool) → law.done (after law s event) ≡ done
-      → length (run_of law s (event ∷ events)) ≤ length (event ∷ events)
-  length-first s event events later true done =
-      omega (arith, ap length (run_of-done s event events done).0)
-  length-first s event events later false on =
-      omega (arith, ap length (run_of-on s event events on).0, later)
-
-  pub run_of-length : (s : S) (events : List FtpEvent)
-      → length (run_of law s events) ≤ length events
-  run_of-length s [] = omega arith
-  run_of-length s (event ∷ events) =
-      length-first s event events (run_of-length (after law s event) events)
-      (law.done (after law s event)) refl
+  pub ends-append : (s : S) (events more : List FtpEvent) → ends law s (events ++ more)
+      ≡ (ends law s events || ends law (last_state law s events) more)
+  ends-append s [] more = refl
+  ends-append s (event ∷ events) more =
+      ap (λ later. law.done (after law s event) || later)
+      (ends-append (after law s event) events more) ∙ sym (or_assoc (law.done (after law s event))
+      (ends law (after law s event) events) _)
 
   -- a run has the first of the events
-  taken-first : (done : Bool) {event : FtpEvent} (events : List FtpEvent) {run : List FtpEvent}
-      → take (length run) events ≡ run
-      → take (length (event ∷ (if done then [] else run))) (event ∷ events)
-      ≡ event ∷ (if done then [] else run)
-  taken-first true events taken = refl
-  taken-first false {event} events taken = ap (λ later. event ∷ later) taken
-
-  pub run_of-taken : (s : S) (events : List FtpEvent) → take (length (run_of law s events)) events
-      ≡ run_of law s events
-  run_of-taken s [] = refl
-  run_of-taken s (event ∷ events) =
-      taken-first (law.done (after law s event)) events (run_of-taken (after law s event) events)
+  pub run_of-first : (s : S) (events : List FtpEvent)
+      → (later : List FtpEvent) × (events ≡ run_of law s events ++ later)
+  run_of-first s [] = ([], refl)
+  run_of-first s (event ∷ events) = by_done (law.done (after law s event)) _
+      (run_of-first (after law s event) events)
+    where
+      by_done : (done : Bool) (run : List FtpEvent)
+          → (later : List FtpEvent) × (events ≡ run ++ later) → (later : List FtpEvent)
+          × (event ∷ events ≡ event ∷ (if done then [] else run) ++ later)
+      by_done true run first = (events, refl)
+      by_done false run first = (first.0, ap (λ later. event ∷ later) first.1)
 
   -- a handler that is never done takes all events
   pub never_ends : ((s : S) → law.done s ≡ false) → (s : S) (events : List FtpEvent)
@@ -168,53 +149,22 @@ module _ {S : Type 0} (law : SessionLaw S) where
 
   -- Inputs, with a limit or without one.
   module _ (limit : Option ℕ) where
-    -- one line first
-    module _ (s s' : S) (line more : Bytes) (is_line : IsLine line)
-        (next : s' ≡ after law s (event_for limit line)) where
-      first_event : events limit (line ++ more) ≡ event_for limit line ∷ events limit more
-      first_event = ap (map (event_for limit)) (line_first line more is_line).0
-
-      pub ended-line : law.done s' ≡ true → (ends_for limit law s (line ++ more) ≡ true)
-          × (unread limit law s (line ++ more) ≡ more)
-          × (run_for limit law s (line ++ more) ≡ event_for limit line ∷ [])
-      ended-line done =
-          let both = run_of-done s (event_for limit line) (events limit more)
-          (ap law.done (sym next) ∙ done) in
-          let run : run_for limit law s (line ++ more) ≡ event_for limit line ∷ [] =
-          ap (run_of law s) first_event ∙ both.0 in (
-            ap (ends law s) first_event ∙ both.1,
-            ap (λ taken. concat (drop (length taken) (lines_of (line ++ more))) ++ incomplete_line
-                (line ++ more)) run
-                ∙ ap (λ lines. concat (drop 1 lines) ++ incomplete_line (line ++ more))
-                (line_first line more is_line).0
-                ∙ ap (λ incomplete. concat (lines_of more) ++ incomplete)
-                (line_first line more is_line).1
-                ∙ sym (Lines-lines_of more).whole,
-            run,
-          )
-
-      pub on-line : law.done s' ≡ false
-          → (ends_for limit law s (line ++ more) ≡ ends_for limit law s' more)
-          × (unread limit law s (line ++ more) ≡ unread limit law s' more)
-          × (run_for limit law s (line ++ more) ≡ event_for limit line ∷ run_for limit law s' more)
-      on-line on =
-          let both = run_of-on s (event_for limit line) (events limit more)
-          (ap law.done (sym next) ∙ on) in
-          let run : run_for limit law s (line ++ more) ≡ event_for limit line ∷ run_for limit law s'
-          more =
-          ap (run_of law s) first_event ∙ both.0
-          ∙ ap (λ z. event_for limit line ∷ run_for limit law z more) (sym next) in (
-            ap (ends law s) first_event ∙ both.1 ∙ ap (λ z. ends_for limit law z more) (sym next),
-            ap (λ taken. concat (drop (length taken) (lines_of (line ++ more))) ++ incomplete_line
-                (line ++ more)) run
-                ∙ ap (λ lines. concat
-                (drop (length (event_for limit line ∷ run_for limit law s' more)) lines)
-                ++ incomplete_line (line ++ more)) (line_first line more is_line).0
-                ∙ ap (λ incomplete. concat
-                (drop (length (run_for limit law s' more)) (lines_of more)) ++ incomplete)
-                (line_first line more is_line).1,
-            run,
-          )
+    -- One line first, whose event leaves the handler done.
+    pub line-done : (s : S) (line more : Bytes) → IsLine line
+        → law.done (after law s (event_for limit line)) ≡ true
+        → (run_for limit law s (line ++ more) ≡ event_for limit line ∷ [])
+        × (ends_for limit law s (line ++ more) ≡ true)
+        × (unread limit law s (line ++ more) ≡ more)
+    line-done s line more is_line done =
+        let lines = line_first line more is_line in
+        let both = run_of-done s (event_for limit line) (events limit more) done in
+        let run = ap (λ lines. run_of law s (map (event_for limit) lines)) lines.0 ∙ both.0 in (
+          run,
+          ap (λ lines. ends law s (map (event_for limit) lines)) lines.0 ∙ both.1,
+          ap (λ run. after_lines (length run) (line ++ more)) run
+              ∙ (λ i. concat (drop 1 (lines.0 i)) ++ lines.1 i)
+              ∙ sym (Lines-lines_of more).whole,
+        )
 
     pub unread-incomplete : (s : S) (incomplete : Bytes) → Lacks LF incomplete
         → unread limit law s incomplete ≡ incomplete
@@ -233,78 +183,65 @@ module _ {S : Type 0} (law : SessionLaw S) where
         ap (λ lines. concat lines ++ incomplete_line input)
         (drop_all (length (run_for limit law s input)) (lines_of input) (omega (arith, all)))
 
+    pub after_end-on : (s : S) (input : Bytes) → ends_for limit law s input ≡ false
+        → after_end limit law s input ≡ []
+    after_end-on s input on = ap (λ ended. if ended then unread limit law s input else []) on
+
     module _ (s : S) (input more : Bytes) where
+      abbrev goes_on : S
+      goes_on = last_state law s (events limit input)
+
       pub run-append : ends_for limit law s input ≡ false →
-          (run_for limit law s (input ++ more) ≡ events limit input ++ run_for limit law
-          (last_state law s (events limit input)) (incomplete_line input ++ more))
-          × (ends_for limit law s (input ++ more) ≡ ends_for limit law
-          (last_state law s (events limit input)) (incomplete_line input ++ more))
+          (run_for limit law s (input ++ more)
+          ≡ events limit input ++ run_for limit law goes_on (incomplete_line input ++ more))
+          × (ends_for limit law s (input ++ more)
+          ≡ ends_for limit law goes_on (incomplete_line input ++ more))
       run-append on =
-          let both =
-          run_of-append s (events limit input) (events limit (incomplete_line input ++ more)) on
-          in (
-            ap (run_of law s) (events-append limit input more) ∙ both.0,
-            ap (ends law s) (events-append limit input more) ∙ both.1,
+          let all = run_of-all s (events limit input) on in (
+            ap (run_of law s) (events-append limit input more)
+                ∙ run_of-append s (events limit input) _ ∙ rw (on, all) refl,
+            ap (ends law s) (events-append limit input more)
+                ∙ ends-append s (events limit input) _ ∙ rw on refl,
           )
 
       pub unread-append : ends_for limit law s input ≡ false →
-          unread limit law s (input ++ more) ≡ unread limit law
-          (last_state law s (events limit input)) (incomplete_line input ++ more)
+          unread limit law s (input ++ more)
+          ≡ unread limit law goes_on (incomplete_line input ++ more)
       unread-append on =
-          let later : List FtpEvent = run_for limit law (last_state law s (events limit input))
-          (incomplete_line input ++ more) in
-          let taken : length (run_for limit law s (input ++ more))
-          ≡ length (lines_of input) + length later =
-          ap length (run-append on).0 ∙ length-append (events limit input) later
-          ∙ ap (λ n. n + length later) (length-map (lines_of input) (event_for limit)) in
-          ap (λ n. concat (drop n (lines_of (input ++ more))) ++ incomplete_line (input ++ more))
-          taken
-          ∙ ap (λ lines. concat (drop (length (lines_of input) + length later) lines)
-          ++ incomplete_line (input ++ more)) (lines_of-append input more)
-          ∙ ap (λ lines. concat lines ++ incomplete_line (input ++ more))
-          (drop-append-add (lines_of input) (lines_of (incomplete_line input ++ more))
-          (length later))
-          ∙ ap (λ incomplete. concat
-          (drop (length later) (lines_of (incomplete_line input ++ more))) ++ incomplete)
-          (incomplete_line-append input more)
+          ap (λ run. after_lines (length run) (input ++ more)) (run-append on).0
+          ∙ after_lines-append limit input more _
 
       -- one that ended takes none of them
       pub run-ended : ends_for limit law s input ≡ true →
           (run_for limit law s (input ++ more) ≡ run_for limit law s input)
           × (ends_for limit law s (input ++ more) ≡ true)
-      run-ended ended =
-          let both =
-          run_of-ended s (events limit input) (events limit (incomplete_line input ++ more))
-          ended in (
-            ap (run_of law s) (events-append limit input more) ∙ both.0,
-            ap (ends law s) (events-append limit input more) ∙ both.1,
-          )
+      run-ended ended = (
+        ap (run_of law s) (events-append limit input more)
+            ∙ run_of-append s (events limit input) _ ∙ rw ended (append-nil _),
+        ap (ends law s) (events-append limit input more)
+            ∙ ends-append s (events limit input) _ ∙ rw ended refl,
+      )
 
       pub unread-ended : ends_for limit law s input ≡ true → unread limit law s (input ++ more)
           ≡ unread limit law s input ++ more
       unread-ended ended =
           let run : List FtpEvent = run_for limit law s input in
-          let few : length run ≤ length (lines_of input) =
-          omega (
+          let first = run_of-first s (events limit input) in
+          ap (λ run. after_lines (length run) (input ++ more)) (run-ended ended).0
+          ∙ after_lines-more (length run) input more (omega (
             arith,
-            run_of-length s (events limit input),
+            ap length first.1,
+            length-append run first.0,
             length-map (lines_of input) (event_for limit),
-          ) in
-          let left : Bytes = concat (drop (length run) (lines_of input)) in
-          let next : List Bytes = lines_of (incomplete_line input ++ more) in
-          ap (λ taken. concat (drop (length taken) (lines_of (input ++ more))) ++ incomplete_line
-          (input ++ more)) (run-ended ended).0
-          ∙ ap (λ lines. concat (drop (length run) lines) ++ incomplete_line (input ++ more))
-          (lines_of-append input more)
-          ∙ ap (λ lines. concat lines ++ incomplete_line (input ++ more))
-          (drop-append-le (length run) (lines_of input) next few)
-          ∙ ap (λ bytes. bytes ++ incomplete_line (input ++ more))
-          (concat-append (drop (length run) (lines_of input)) next)
-          ∙ append_assoc left (concat next) (incomplete_line (input ++ more))
-          ∙ ap (λ incomplete. left ++ (concat next ++ incomplete))
-          (incomplete_line-append input more)
-          ∙ ap (λ bytes. left ++ bytes) (sym (Lines-lines_of (incomplete_line input ++ more)).whole)
-          ∙ sym (append_assoc left (incomplete_line input) more)
+          ))
+
+      pub after_end-ended : ends_for limit law s input ≡ true
+          → after_end limit law s (input ++ more) ≡ after_end limit law s input ++ more
+      after_end-ended ended =
+          ap (λ ended. if ended then unread limit law s (input ++ more) else [])
+          (run-ended ended).1
+          ∙ unread-ended ended
+          ∙ ap (λ ended. (if ended then unread limit law s input else []) ++ more) (sym ended)
 
     -- the replies of pieces: those of the first one, and later ones where the run goes on
     in_turn-first : (s : S) (first more : Bytes) {later : List FtpReply} →

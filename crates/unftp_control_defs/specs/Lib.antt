@@ -15,6 +15,7 @@ pub mod Canonical
 pub mod Forwarded
 pub mod FtpReply
 pub mod ReplyReader
+pub mod ComputedReply
 pub mod ReplyLimit
 pub mod TakingSteps
 pub mod Events

@@ -1,13 +1,14 @@
 -- Replies as a client reads them (RFC 959, section 4.2). A line of only three digits is a reply
 -- too, whose text is empty.
-use Rattle.std.specs.Prelude.{◌≡◌, ◌≢◌, ℕ, ◌<◌, ◌+◌, ◌*◌, List, [], ◌∷◌, ◌++◌, length, drop, flat_map, filter_map}
-use Rattle.std.specs.List.{AllByRecursion}
+use Rattle.std.specs.Prelude.{◌≡◌, ◌≢◌, ℕ, ◌<◌, ◌+◌, ◌*◌, ⊤, List, [], ◌∷◌, ◌++◌, length, drop, filter_map}
 use Rattle.unftp_control_defs.specs.Bytes.{Bytes, CR, LF, SP, DASH, crlf}
 use Rattle.unftp_control_defs.specs.FtpReply.{FtpReply, reply_as_read}
 
 -- there is no CR LF in the text
 abbrev pub LacksCrlf : Bytes → Type 0
-LacksCrlf text = (before after : Bytes) → text ≢ before ++ CR ∷ LF ∷ after
+LacksCrlf [] = ⊤
+LacksCrlf (a ∷ []) = ⊤
+LacksCrlf (a ∷ b ∷ text) = (a ≡ CR → b ≢ LF) × LacksCrlf (b ∷ text)
 
 abbrev pub with_crlf : Bytes → Bytes
 with_crlf line = line ++ crlf
@@ -21,27 +22,32 @@ SpellsCode digits code = (a : ℕ) × (b : ℕ) × (c : ℕ) × (a < 10) × (b <
 abbrev pub GoesOn : Bytes → Bytes → Type 0
 GoesOn digits line = (text : Bytes) → line ≢ digits ++ SP ∷ text
 
--- Whole lines, without their CR LF, that are one reply, with the lines that are read from it: just
--- the digits; or the digits, a space and a text; or the digits, a dash and a text, lines that don't
--- begin with the digits and a space, and one that does.
-pub data IsReply (digits : Bytes) (whole lines : List Bytes) : Type 0 where
-  code_only : whole ≡ digits ∷ [] → lines ≡ [] ∷ [] → IsReply digits whole lines
-  single : (text : Bytes) → whole ≡ (digits ++ SP ∷ text) ∷ [] → lines ≡ text ∷ []
-      → IsReply digits whole lines
-  several : (text last : Bytes) (middle : List Bytes) → AllByRecursion (GoesOn digits) middle
-      → whole ≡ (digits ++ DASH ∷ text) ∷ (middle ++ (digits ++ SP ∷ last) ∷ [])
-      → lines ≡ text ∷ (middle ++ last ∷ []) → IsReply digits whole lines
+-- The bytes are the later lines of a reply of several, and are read as these: lines that don't
+-- begin with the digits and a space, and then one that does.
+pub data AreLaterLines (digits : Bytes) : Bytes → List Bytes → Type 0 where
+  last : {text : Bytes} → LacksCrlf (digits ++ SP ∷ text)
+      → AreLaterLines digits (with_crlf (digits ++ SP ∷ text)) (text ∷ [])
+  goes_on : {line bytes : Bytes} {lines : List Bytes} → LacksCrlf line → GoesOn digits line
+      → AreLaterLines digits bytes lines → AreLaterLines digits (with_crlf line ++ bytes) (line ∷ lines)
 
--- The bytes, cut at each CR LF, begin with a reply, which takes `used` of them.
+-- The bytes are one reply of this code, and are read as these lines: just the digits; or the digits,
+-- a space and a text; or the digits, a dash and a text, and later lines.
+pub data IsReply : Bytes → ℕ → List Bytes → Type 0 where
+  code_only : {digits : Bytes} {code : ℕ} → SpellsCode digits code
+      → IsReply (with_crlf digits) code ([] ∷ [])
+  single : {digits text : Bytes} {code : ℕ} → SpellsCode digits code
+      → LacksCrlf (digits ++ SP ∷ text) → IsReply (with_crlf (digits ++ SP ∷ text)) code (text ∷ [])
+  several : {digits text bytes : Bytes} {code : ℕ} {lines : List Bytes} → SpellsCode digits code
+      → LacksCrlf (digits ++ DASH ∷ text) → AreLaterLines digits bytes lines
+      → IsReply (with_crlf (digits ++ DASH ∷ text) ++ bytes) code (text ∷ lines)
+
+-- The bytes begin with a reply, which takes `used` of them.
 pub record FrontReply (bytes : Bytes) (code : ℕ) (lines : List Bytes) (used : ℕ) : Type 0 where
-  pub digits : Bytes
-  pub code_is : SpellsCode digits code
-  pub whole : List Bytes
+  pub front : Bytes
   pub rest : Bytes
-  pub cut : bytes ≡ flat_map with_crlf whole ++ rest
-  pub each : AllByRecursion LacksCrlf whole
-  pub reply : IsReply digits whole lines
-  pub length_is : used ≡ length (flat_map with_crlf whole)
+  pub cut : bytes ≡ front ++ rest
+  pub reply : IsReply front code lines
+  pub length_is : used ≡ length front
 
 -- the bytes begin with a reply
 abbrev pub HasFront : Bytes → Type 0
@@ -49,14 +55,13 @@ HasFront bytes = (code : ℕ) × (lines : List Bytes) × (used : ℕ) × FrontRe
 
 -- some reply begins with the line
 abbrev pub Opens : Bytes → Type 0
-Opens line = (digits : Bytes) × (code : ℕ) × (others : List Bytes) × (lines : List Bytes)
-    × SpellsCode digits code × IsReply digits (line ∷ others) lines
+Opens line = (following : Bytes) × HasFront (with_crlf line ++ following)
 
 -- the bytes begin with a whole line that no reply begins with
 pub record IsMalformed (bytes : Bytes) : Type 0 where
   pub first : Bytes
   pub rest : Bytes
-  pub cut : bytes ≡ first ++ CR ∷ LF ∷ rest
+  pub cut : bytes ≡ with_crlf first ++ rest
   pub is_line : LacksCrlf first
   pub opens_none : ¬ Opens first
 

@@ -70,11 +70,25 @@ abbrev pub ends : {S : Type 0} → SessionLaw S → S → List FtpEvent → Bool
 ends law s [] = false
 ends law s (event ∷ events) = law.done (after law s event) || ends law (after law s event) events
 
--- the replies to the events, and the last state
-abbrev pub replies : {S : Type 0} → SessionLaw S → S → List FtpEvent → List FtpReply
-replies law s [] = []
-replies law s (event ∷ events) = said (turn law s event) ++ replies law (after law s event) events
+-- what is so of each event and the state before it, whether or not the handler is done
+abbrev pub at_each : {S R : Type 0} → (S → FtpEvent → R) → SessionLaw S → S → List FtpEvent → List R
+at_each f law s [] = []
+at_each f law s (event ∷ events) = f s event ∷ at_each f law (after law s event) events
 
+-- the replies to an event, those to each of some, and all of these
+abbrev pub replies_to : {S : Type 0} → SessionLaw S → S → FtpEvent → List FtpReply
+replies_to law s event = said (turn law s event)
+
+abbrev pub replies_by_event : {S : Type 0} → SessionLaw S → S → List FtpEvent → List (List FtpReply)
+replies_by_event law s events = at_each (replies_to law) law s events
+
+abbrev pub all_said : List (List FtpReply) → List FtpReply
+all_said turns = flat_map (λ turn. turn) turns
+
+abbrev pub replies : {S : Type 0} → SessionLaw S → S → List FtpEvent → List FtpReply
+replies law s events = all_said (replies_by_event law s events)
+
+-- the state after the events
 abbrev pub last_state : {S : Type 0} → SessionLaw S → S → List FtpEvent → S
 last_state law s [] = s
 last_state law s (event ∷ events) = last_state law (after law s event) events

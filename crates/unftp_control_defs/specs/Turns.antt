@@ -5,7 +5,7 @@ use Rattle.std.specs.List.{AllByRecursion, onto_first}
 use Rattle.unftp_control_defs.specs.Bytes.{Bytes}
 use Rattle.unftp_control_defs.specs.Events.{FtpEvent}
 use Rattle.unftp_control_defs.specs.FtpReply.{FtpReply, Nothing, CodeAndMsg, MultiLine}
-use Rattle.unftp_control_defs.specs.Run.{SessionLaw, after, said, turn}
+use Rattle.unftp_control_defs.specs.Run.{SessionLaw, replies_to}
 
 -- The code is 1yz: another reply to the same command follows.
 abbrev pub is_preliminary : ℕ → Bool
@@ -43,16 +43,10 @@ cut_after_final replies = cut_by is_preliminary_reply replies
 abbrev pub cut_reads : List (ℕ × List Bytes) → List (List (ℕ × List Bytes))
 cut_reads read = cut_by is_preliminary_read read
 
--- the replies to each event of a run
-abbrev pub replies_by_event : {S : Type 0} → SessionLaw S → S → List FtpEvent → List (List FtpReply)
-replies_by_event law s [] = []
-replies_by_event law s (event ∷ events) =
-    said (turn law s event) ∷ replies_by_event law (after law s event) events
-
 -- The replies to each event are an exchange.
 abbrev pub GivesExchanges : {S : Type 0} → SessionLaw S → Type 0
-GivesExchanges {S = S} law = (s : S) (event : FtpEvent) → IsExchange (said (turn law s event))
+GivesExchanges {S = S} law = (s : S) (event : FtpEvent) → IsExchange (replies_to law s event)
 
 -- This holds of each reply to each event.
 abbrev pub SaysOnly : {S : Type 0} → (FtpReply → Type 0) → SessionLaw S → Type 0
-SaysOnly {S = S} P law = (s : S) (event : FtpEvent) → AllByRecursion P (said (turn law s event))
+SaysOnly {S = S} P law = (s : S) (event : FtpEvent) → AllByRecursion P (replies_to law s event)

@@ -12,8 +12,8 @@ use Rattle.unftp_control_defs.specs.Rules.{Rule, row_of, verbs, any_text, some_t
 use Rattle.unftp_control_defs.specs.Paths.{path_of}
 use Rattle.unftp_control_defs.specs.Outcome.{answer_by, value_answer, outcome}
 use Rattle.unftp_control_defs.proofs.LossyLemmas.{kept-utf8_lossy}
-use Rattle.unftp_control_reply.specs.declared.error.parse_error.ParseErrorKind.{ParseErrorKind}
-use Rattle.unftp_control_reply.specs.declared.error.parse_error.ParseErrorKind.TheVariants as kind
+use Rattle.unftp_control_message.specs.declared.reply.error.parse_error.ParseErrorKind.{ParseErrorKind}
+use Rattle.unftp_control_message.specs.declared.reply.error.parse_error.ParseErrorKind.TheVariants as kind
 use Rattle.unftp_control_line_parser.specs.declared.rule.TextCommand.{TextCommand}
 use Rattle.unftp_control_line_parser.specs.declared.rule.TextCommand.TheVariants as text
 use Rattle.unftp_control_line_parser.specs.declared.rule.PathCommand.{PathCommand}
@@ -58,10 +58,6 @@ some_lossy (b ∷ v) some = longer (utf8_lossy (b ∷ v)) (kept-utf8_lossy (b �
     longer : (t : Bytes) → t ≢ [] → 0 < length t
     longer [] ne = absurd (ne (λ i. []))
     longer (c ∷ t) ne = omega arith
-
-pub some_maybe : (v : Bytes) → 0 < length v → 0 < maybe_len (unless_empty v)
-some_maybe [] some = absurd (omega arith)
-some_maybe (b ∷ v) some = omega arith
 
 pub some_maybe_lossy : (v : Bytes) → 0 < length v
     → 0 < maybe_len (option_map utf8_lossy (unless_empty v))

@@ -18,9 +18,9 @@ use Rattle.unftp_control_defs.specs.Rules.{Rule, row_of, verbs, any_text, some_t
 use Rattle.unftp_control_defs.specs.Outcome.{site_answer, value_answer, answer_by, outcome}
 use Rattle.unftp_control_line_parser.specs.Values.{RefusesEmpty}
 use Rattle.unftp_control_line_parser.specs.ParseAnswer.{Refuses, Returns}
-use Rattle.unftp_control_command.specs.declared.Command.{Command}
-use Rattle.unftp_control_reply.specs.declared.error.parse_error.ParseErrorKind.{ParseErrorKind}
-use Rattle.unftp_control_reply.specs.declared.error.parse_error.ParseErrorKind.TheVariants as kind
+use Rattle.unftp_control_message.specs.declared.Command.{Command}
+use Rattle.unftp_control_message.specs.declared.reply.error.parse_error.ParseErrorKind.{ParseErrorKind}
+use Rattle.unftp_control_message.specs.declared.reply.error.parse_error.ParseErrorKind.TheVariants as kind
 
 -- each verb is of bytes below 97, so a word that is one in upper case is ASCII
 abbrev is_low : Bytes → Bool

@@ -6,8 +6,8 @@ use Rattle.std.proofs.lemmas.Bool.{and_parts, false≢true, false_from_ne_true}
 use Rattle.unftp_control_defs.specs.Bytes.{Bytes, NUL, LF, CR, Lacks}
 use Rattle.unftp_control_defs.specs.ComputedValue.{Fresh, later_value, byte_then, value_of}
 use Rattle.unftp_control_line_parser.specs.Values.{unescaped, begins_with_cr_nul, IsWhole, IsLaterLen, IsContinued}
-use Rattle.unftp_control_line_parser.proofs.RunLemmas.{option_nil, option_joined}
-use Rattle.unftp_control_line_parser.proofs.SentLemmas.{part_value, unescaped_lacking, whole_append, whole_first, whole_nil, whole_part}
+use Rattle.unftp_control_line_parser.proofs.RunLemmas.{option_joined}
+use Rattle.unftp_control_line_parser.proofs.SentLemmas.{part_value, unescaped_lacking, whole_append, whole_first, whole_part}
 
 -- what begins with CR NUL
 cr_nul_continued : (bytes : Bytes) → begins_with_cr_nul bytes ≡ true
@@ -31,14 +31,6 @@ pub record IsSeen (bytes : Bytes) (n : ℕ) (rest : Bytes) : Type 0 where
   pub whole : IsWhole (take n bytes)
   pub goes_on : later_value Fresh bytes
       ≡ option_map (λ w. unescaped (take n bytes) ++ w) (later_value Fresh rest)
-
-pub seen_none : (bytes : Bytes) → IsSeen bytes 0 bytes
-seen_none bytes = record {
-  within = omega arith;
-  is_rest = refl;
-  whole = whole_nil;
-  goes_on = option_nil (later_value Fresh bytes);
-}
 
 pub seen_more : {bytes rest part further : Bytes} {n : ℕ} → IsSeen bytes n rest
     → IsContinued rest part further → IsSeen bytes (n + (length part + 1)) further
@@ -97,11 +89,6 @@ seen_last {bytes} {rest} {part} {n} s is taken lacks = record {
     whole : take (n + length part) bytes ≡ take n bytes ++ part
     whole = take-add n (length part) bytes ∙ ap (λ t. take n bytes ++ t)
         (ap (take (length part)) (sym s.is_rest) ∙ sym taken)
-
-pub seen_no_value : {bytes rest : Bytes} {n : ℕ} → IsSeen bytes n rest
-    → later_value Fresh rest ≡ None → later_value Fresh bytes ≡ None
-seen_no_value {bytes} {rest} {n} s is = s.goes_on
-    ∙ ap (option_map (λ w. unescaped (take n bytes) ++ w)) is
 
 -- a CR NUL by itself
 pub seen_returned : {bytes rest : Bytes} {n : ℕ} → IsSeen bytes n rest

@@ -27,12 +27,6 @@ returned_apart front more h =
     ∙ unescaped_front front (CR ∷ NUL ∷ more) h
     ∙ sym (append_assoc front (CR ∷ []) (unescaped more))
 
-pub whole_nil : IsWhole []
-whole_nil = record { apart = λ more. refl }
-
-pub whole_cr_nul : IsWhole (CR ∷ NUL ∷ [])
-whole_cr_nul = record { apart = λ more. refl }
-
 pub whole_append : {a b : Bytes} → IsWhole a → IsWhole b → IsWhole (a ++ b)
 whole_append {a} {b} w v = record {
   apart = λ more. ap unescaped (append_assoc a b more) ∙ w.apart (b ++ more)

@@ -1,10 +1,10 @@
 -- What an answer of the parser means for a line.
 use Rattle.std.specs.Prelude.{◌≡◌, ⊤, Result, Ok, Err}
 use Rattle.unftp_control_defs.specs.FtpCommand.{InvalidCommand, InvalidUtf8, InvalidEol, Answer}
-use Rattle.unftp_control_command.specs.declared.Command.{Command}
-use Rattle.unftp_control_command.specs.CommandMeaning.{command_of}
-use Rattle.unftp_control_reply.specs.declared.error.parse_error.ParseErrorKind.{ParseErrorKind}
-use Rattle.unftp_control_reply.specs.declared.error.parse_error.ParseErrorKind.TheVariants as kind
+use Rattle.unftp_control_message.specs.declared.Command.{Command}
+use Rattle.unftp_control_message.specs.CommandMeaning.{command_of}
+use Rattle.unftp_control_message.specs.declared.reply.error.parse_error.ParseErrorKind.{ParseErrorKind}
+use Rattle.unftp_control_message.specs.declared.reply.error.parse_error.ParseErrorKind.TheVariants as kind
 
 -- the answer is that refusal; running out of memory refuses no line
 abbrev pub Refuses : Answer → ParseErrorKind → Type 0

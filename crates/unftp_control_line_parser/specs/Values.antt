@@ -3,8 +3,8 @@ use Rattle.std.specs.Prelude.{◌≡◌, ℕ, ◌<◌, ◌≤◌, ◌==◌, ◌|
 use Rattle.std.specs.Str.Lossy.{utf8_lossy}
 use Rattle.unftp_control_defs.specs.Bytes.{Bytes, CR, LF, NUL, Lacks}
 use Rattle.unftp_control_defs.specs.ComputedValue.{Context, later_value, Fresh, Plain}
-use Rattle.unftp_control_reply.specs.declared.error.parse_error.ParseErrorKind.{ParseErrorKind}
-use Rattle.unftp_control_reply.specs.declared.error.parse_error.ParseErrorKind.TheVariants as kind
+use Rattle.unftp_control_message.specs.declared.reply.error.parse_error.ParseErrorKind.{ParseErrorKind}
+use Rattle.unftp_control_message.specs.declared.reply.error.parse_error.ParseErrorKind.TheVariants as kind
 use Rattle.unftp_control_line_parser.specs.declared.value.Run.{Run}
 use Rattle.unftp_control_line_parser.specs.declared.value.Run.TheVariants.{Last, Continued, InvalidEnd}
 use Rattle.unftp_control_line_parser.specs.declared.value.Value.{Value}

@@ -9,5 +9,7 @@ mod value;
 mod verb;
 
 pub use parser::{parse, split};
-pub use unftp_control_reply::error::{ParseError, ParseErrorKind, Result, same_parse_errors};
+pub use unftp_control_message::reply::error::{
+    ParseError, ParseErrorKind, Result, same_parse_errors,
+};
 pub use verb::{is_verb, keeps_parameter};

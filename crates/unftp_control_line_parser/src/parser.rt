@@ -1,7 +1,7 @@
 //! A line's verb and parameter, and the command that they are.
 ghost use Rattle.std.specs.Prelude.{◌≡◌, ◌≤◌, length, IfOk};
 ghost use Rattle.std.specs.List.{position_or_len};
-ghost use Rattle.unftp_control_command.specs.CommandMeaning.{command_of};
+ghost use Rattle.unftp_control_message.specs.CommandMeaning.{command_of};
 ghost use Rattle.unftp_control_defs.specs.Canonical.{HasLine};
 ghost use Rattle.unftp_control_defs.specs.Lines.{IsLine};
 ghost use Rattle.unftp_control_defs.specs.Verbs.{is_separator, parameter_of, upper, verb_of};
@@ -23,8 +23,8 @@ use memchr::memchr3;
 use std::alloc::Global;
 use std::result;
 use std::str::from_utf8;
-use unftp_control_command::Command;
-use unftp_control_reply::error::{ParseErrorKind, Result};
+use unftp_control_message::Command;
+use unftp_control_message::reply::error::{ParseErrorKind, Result};
 
 type Answer = result::Result<Command, ParseErrorKind>;
 

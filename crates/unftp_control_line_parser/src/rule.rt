@@ -1,11 +1,11 @@
 //! What a verb does with its parameter, and the commands that the verbs give.
 ghost use Rattle.std.specs.Prelude.{◌≡◌, option_map, string_bytes};
-ghost use Rattle.unftp_control_command.specs.CommandMeaning.{command_of};
+ghost use Rattle.unftp_control_message.specs.CommandMeaning.{command_of};
 ghost use Rattle.unftp_control_line_parser.specs.Meaning.{path_command, raw_command, text_command, unit_command};
 
 use bytes::Bytes;
-use unftp_control_command::Command;
-use unftp_control_command::password::Password;
+use unftp_control_message::Command;
+use unftp_control_message::password::Password;
 
 /// What a verb does with the bytes of its parameter.
 #[derive(Clone, Copy)]

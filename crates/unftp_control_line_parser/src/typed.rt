@@ -9,8 +9,8 @@ ghost use Rattle.unftp_control_line_parser.specs.Values.{unescaped};
 use crate::rule::TypedCommand;
 use crate::value::unescaped_len;
 use std::str::from_utf8;
-use unftp_control_command::{AuthParam, Command, ModeParam, Opt, ProtParam, StruParam};
-use unftp_control_reply::error::ParseErrorKind;
+use unftp_control_message::reply::error::ParseErrorKind;
+use unftp_control_message::{AuthParam, Command, ModeParam, Opt, ProtParam, StruParam};
 
 type Answer = Result<Command, ParseErrorKind>;
 

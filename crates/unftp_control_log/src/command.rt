@@ -1,6 +1,6 @@
 //! What a log shows of a command.
 ghost use Rattle.std.specs.Prelude.{◌≡◌, Some, option_map};
-ghost use Rattle.unftp_control_command.specs.CommandMeaning.{command_of};
+ghost use Rattle.unftp_control_message.specs.CommandMeaning.{command_of};
 ghost use Rattle.unftp_control_defs.specs.Rules.{row_of};
 ghost use Rattle.unftp_control_log.specs.LogLine.{Verb, asterisks, is_listed, site_words, visible_command, visible_other, visible_site};
 ghost use Rattle.unftp_control_log.specs.Meaning.{meant};
@@ -8,7 +8,7 @@ ghost use Rattle.unftp_control_write.specs.Parts.{bytes_of};
 
 use crate::visible::Visible;
 use crate::words::{is_listed, shows_arguments};
-use unftp_control_command::Command;
+use unftp_control_message::Command;
 use unftp_control_write::parts::{Parts, Value, parts_of};
 
 /// What a log shows in place of what it hides.

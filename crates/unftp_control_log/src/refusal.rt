@@ -2,13 +2,13 @@
 ghost use Rattle.std.specs.Prelude.{◌≡◌, option_map, string_bytes, IfOk};
 ghost use Rattle.unftp_control_log.specs.LogLine.{RefusedLine, kind_reason, listed_verb, reason};
 ghost use Rattle.unftp_control_log.specs.Meaning.{meant};
-ghost use Rattle.unftp_control_reply.specs.ErrorMeaning.{fault_of, kind_meant};
+ghost use Rattle.unftp_control_message.specs.ErrorMeaning.{fault_of, kind_meant};
 
 use crate::visible::Visible;
 use crate::words::is_listed;
 use std::alloc::{AllocError, Global};
 use unftp_control_line_parser::split;
-use unftp_control_reply::error::{ControlChanError, ControlChanErrorKind, Source};
+use unftp_control_message::reply::error::{ControlChanError, ControlChanErrorKind, Source};
 
 /// The verb of the line in upper case, where it is listed.
 fn listed_verb(alloc: Global, line: &[u8]) -> Result<Option<Vec<u8>>, AllocError>

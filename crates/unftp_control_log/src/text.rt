@@ -1,6 +1,5 @@
 //! The text of a log line.
-ghost use Rattle.std.specs.Prelude.{◌≡◌, ◌∷◌, ◌++◌, option_map, take, vec_len, OnErr, OnOk};
-ghost use Rattle.unftp_control_defs.specs.Bytes.{SP};
+ghost use Rattle.std.specs.Prelude.{◌≡◌, ◌++◌, option_map, take, vec_len, OnErr, OnOk};
 ghost use Rattle.unftp_control_log.specs.LogLine.{shown, visible_text};
 ghost use Rattle.unftp_control_log.specs.Meaning.{meant};
 ghost use Rattle.unftp_control_write.specs.Parts.{bytes_of, spaced_part};

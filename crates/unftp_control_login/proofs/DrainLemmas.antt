@@ -1,31 +1,21 @@
 -- In the loop that drops the replies of a handler.
-use Rattle.std.proofs.Common.{◌≡◌, List, [], ◌∷◌, ◌++◌, None, refl, sym, ap, ◌∙◌, append_assoc, subst, inl, inr, ◌⊎◌}
+use Rattle.std.proofs.Common.{◌≡◌, List, [], ◌∷◌, ◌++◌, map, None, refl, sym, ap, ◌∙◌, append_assoc, subst, inl, inr, ◌⊎◌}
 use Rattle.std.proofs.lemmas.Bool.{false≢true}
-use Rattle.std.proofs.lemmas.List.{append-nil}
+use Rattle.std.proofs.lemmas.List.{append-nil, map-append}
 use Rattle.std.specs.Prelude.{Result, Ok, Err, OnOk}
 use Rattle.unftp_control_defs.specs.Events.{Fault, FtpEvent}
 use Rattle.unftp_control_defs.specs.FtpReply.{FtpReply}
 use Rattle.unftp_control_defs.specs.Run.{SessionLaw, state_after, turn}
 use Rattle.unftp_control_defs.proofs.RunLemmas.{state_after-append}
-use Rattle.unftp_control_reply.specs.ErrorMeaning.{fault_of}
-use Rattle.unftp_control_reply.specs.declared.error.ControlChanError.{ControlChanError}
+use Rattle.unftp_control_message.specs.ErrorMeaning.{fault_of}
+use Rattle.unftp_control_message.specs.declared.reply.error.ControlChanError.{ControlChanError}
 use Rattle.unftp_control_login.specs.CallsOf.{DrainsAll}
-use Rattle.unftp_control_login.specs.HandlerCalls.{AsksFurther, BreaksIn, Call, CallState, Called, CallsMade, Dropped, First, Further, HandlerFailed, Passes, ReplyRefused, asks_for}
-use Rattle.unftp_control_login.proofs.CalledLemmas.{called-then, failed-then, nothing-called}
+use Rattle.unftp_control_login.specs.HandlerCalls.{AsksFurther, BreaksIn, Call, CallState, Called, CallsMade, Dropped, First, Further, HandlerFailed, ReplyRefused, asks_for}
+use Rattle.unftp_control_login.proofs.CalledLemmas.{called-then}
 
 -- one call for each reply
 abbrev pub asked : {A : Type 0} → List A → List Call
-asked [] = []
-asked (step ∷ steps) = AsksFurther ∷ asked steps
-
-asked-once_more : {A : Type 0} (steps : List A) → asked steps ++ AsksFurther ∷ [] ≡ asks_for steps
-asked-once_more [] = refl
-asked-once_more (step ∷ steps) = ap (λ calls. AsksFurther ∷ calls) (asked-once_more steps)
-
-asked-next : {A : Type 0} (steps : List A) (next : A)
-    → asked steps ++ AsksFurther ∷ [] ≡ asked (steps ++ next ∷ [])
-asked-next [] next = refl
-asked-next (step ∷ steps) next = ap (λ calls. AsksFurther ∷ calls) (asked-next steps next)
+asked steps = map (λ _. AsksFurther) steps
 
 -- some of the replies that follow were given, and others follow now
 pub record Draining {S : Type 0} (law : SessionLaw S) (s now : S) (before between : CallState)
@@ -36,10 +26,6 @@ pub record Draining {S : Type 0} (law : SessionLaw S) (s now : S) (before betwee
   pub called : Called before between (asked given) 0 0
 
 module _ {S : Type 0} (law : SessionLaw S) (s : S) (before : CallState) where
-  pub Draining-start : Draining law s s before before
-  Draining-start =
-      record { given = []; split = refl; state = refl; called = nothing-called before }
-
   module _ (now : S) (between : CallState) (so_far : Draining law s now before between) where
     once_more : {after : CallState} → Called between after (AsksFurther ∷ []) 0 0
         → Called before after (asked so_far.given ++ AsksFurther ∷ []) 0 0
@@ -54,7 +40,8 @@ module _ {S : Type 0} (law : SessionLaw S) (s : S) (before : CallState) where
           ∙ sym (append_assoc so_far.given ((reply, next) ∷ []) (law.more next));
       state = sym (state_after-append s so_far.given ((reply, next) ∷ []));
       called = subst (λ calls. Called before after calls 0 0)
-          (asked-next so_far.given (reply, next)) (once_more called);
+          (sym (map-append (λ _. AsksFurther) so_far.given ((reply, next) ∷ [])))
+          (once_more called);
     }
 
     pub Draining-end : (next : S) {after : CallState}
@@ -65,7 +52,7 @@ module _ {S : Type 0} (law : SessionLaw S) (s : S) (before : CallState) where
         ∙ ap (λ more. so_far.given ++ more) none ∙ append-nil so_far.given) in (
           same ∙ so_far.state ∙ ap (state_after s) all,
           subst (λ calls. Called before after calls 0 0)
-              (asked-once_more so_far.given ∙ ap asks_for all) (once_more called),
+              (ap asks_for all) (once_more called),
         )
 
     pub Draining-broke : {after : CallState} (fault : Fault)
@@ -79,32 +66,40 @@ module _ {S : Type 0} (law : SessionLaw S) (s : S) (before : CallState) where
         split = so_far.split;
         breaks = subst (λ s. law.may_break s fault) so_far.state failed.1.1;
       },
-      subst (λ calls. Called before after calls 0 1) (asked-once_more so_far.given)
-          (failed-then so_far.called
-          (subst (λ calls. Called between after calls 0 1) failed.1.0 failed.2)),
+      called-then so_far.called
+          (subst (λ calls. Called between after calls 0 1) failed.1.0 failed.2),
     )
     Draining-broke fault (inr refused) = absurd (false≢true refused.0)
 
 -- An event is received, and then all replies to it are asked for.
-module _ {S : Type 0} (law : SessionLaw S) (s : S) (event : FtpEvent)
-    (before between after : CallState) where
-  pub told-failed : (fault : Fault) → HandlerFailed law s (First event) None before between fault
-      ⊎ ReplyRefused law s (First event) None before between fault
-      → HandlerFailed law s (Dropped event) None before between fault
-      ⊎ ReplyRefused law s (Dropped event) None before between fault
-  told-failed fault (inl failed) = inl (failed.0, inl failed.1, failed.2)
-  told-failed fault (inr refused) = absurd (false≢true refused.0)
+module _ {S T : Type 0} {law : SessionLaw S} {s : S} {event : FtpEvent}
+    {before between : CallState} where
+  pub told-failed : {error : ControlChanError}
+      → CallsMade law s (First event) None before between {T = T} (Err error)
+      → (U : Type 0) → CallsMade law s (Dropped event) None before between {T = U} (Err error)
+  told-failed {error} calls U = by_cause calls.made where
+    by_cause : HandlerFailed law s (First event) None before between (fault_of error)
+        ⊎ ReplyRefused law s (First event) None before between (fault_of error)
+        → CallsMade law s (Dropped event) None before between {T = U} (Err error)
+    by_cause (inl failed) = record { made = inl (failed.0, inl failed.1, failed.2) }
+    by_cause (inr refused) = absurd (false≢true refused.0)
 
-  pub told : {T : Type 0} (result : Result T ControlChanError) (next s' : S)
-      → next ≡ law.next s event → Called before between (Passes event ∷ []) 0 0
+  pub told : {U : Type 0} {after : CallState} {result : Result T ControlChanError} {reply : U}
+      {next : S} (s' : S) → next ≡ law.next s event
+      → CallsMade law s (First event) None before between (Ok reply)
       → DrainsAll law next s' between after result
       → CallsMade law s (Dropped event) None before after result
-  told (Ok value) next s' is one drains = called-then one
-      (subst (λ next. Called between after (asks_for (law.more next)) 0 0) is drains.1)
-  told (Err error) next s' is one drains =
-      let broke = subst (λ next. (breaks : BreaksIn law next (fault_of error))
-      × Called between after (asks_for breaks.given) 0 1) is drains in
-      inl (_, inr (broke.0, refl), failed-then one broke.1)
+  told {after = after} {result} {next = next} s' is one drains = by_result result drains where
+    by_result : (result : Result T ControlChanError) → DrainsAll law next s' between after result
+        → CallsMade law s (Dropped event) None before after result
+    by_result (Ok value) drains = record {
+      made = called-then one.made
+          (subst (λ next. Called between after (asks_for (law.more next)) 0 0) is drains.1);
+    }
+    by_result (Err error) drains =
+        let broke = subst (λ next. (breaks : BreaksIn law next (fault_of error))
+        × Called between after (asks_for breaks.given) 0 1) is drains in
+        record { made = inl (_, inr (broke.0, refl), called-then one.made broke.1) }
 
 pub told-next : {S T W : Type 0} (So : W → Type 0) (law : W → SessionLaw S) (s : S)
     (event : FtpEvent) (next s' : S) (between after : CallState)

@@ -1,14 +1,14 @@
 -- What the examples need beside computation.
-use Rattle.std.proofs.Common.{◌≡◌, inl, inr, ◌<◌, ℕ, true, false, List, [], ◌∷◌, ◌++◌, length, filter_map, take, flat_map, None, refl, sym, ap, subst, ◌∙◌, arith, codes, length-append}
+use Rattle.std.proofs.Common.{◌≡◌, inl, inr, ◌<◌, ℕ, true, false, List, [], ◌∷◌, ◌++◌, length, filter_map, take, None, refl, sym, ap, subst, ◌∙◌, arith, codes}
 use Rattle.std.specs.Prelude.{bytes_eq}
 use Rattle.std.specs.Fmt.{digits}
 use Rattle.std.specs.Str.{is_utf8, chars}
 use Rattle.std.proofs.lemmas.Bool.{false≢true}
-use Rattle.unftp_control_defs.specs.Bytes.{Bytes, LF, crlf}
+use Rattle.unftp_control_defs.specs.Bytes.{Bytes, LF}
 use Rattle.unftp_control_defs.specs.FtpCommand.{Noop, Pwd}
 use Rattle.unftp_control_defs.specs.FtpReply.{FtpReply, CodeAndMsg, reply_as_read}
 use Rattle.unftp_control_defs.specs.Events.{FtpEvent, Command, events}
-use Rattle.unftp_control_defs.specs.ReplyReader.{AllReplies, IsReply, ReadsBack, code_only, single, several, with_crlf}
+use Rattle.unftp_control_defs.specs.ReplyReader.{ReadsBack}
 use Rattle.unftp_control_defs.specs.Run.{last_state, run_of}
 use Rattle.unftp_control_defs.specs.Turns.{cut_reads}
 use Rattle.unftp_control_defs.proofs.EncodingLemmas.{ReadsBack-encoded}
@@ -20,7 +20,7 @@ use Rattle.unftp_control_serve.specs.declared.error.ServeError.TheVariants as er
 use Rattle.unftp_control_login.specs.Login.{Accounts, GaveName, IsLoggedIn}
 use Rattle.unftp_control_login.specs.Gate.{is_logged_in}
 use Rattle.unftp_control_login.specs.Promises.{AfterLogin, AllLookAlike, AtEachPlace, DifferInPasswords, FailsAlike, LooksAlike, MembersAlone, SendsPlainExchanges, ServesMembersAlone}
-use Rattle.unftp_control_login.specs.Examples.{anna, anna_and_ben, ben, counting, here, only_anna, opened, pass, secret, silent, transferring, user, wrong}
+use Rattle.unftp_control_login.specs.Examples.{anna, anna_and_ben, ben, counting, here, only_anna, pass, secret, silent, transferring, user, wrong}
 use Rattle.unftp_control_defs.proofs.LineEventLemmas.{events-canonical_line}
 use Rattle.unftp_control_login.proofs.StageLemmas.{stage_after_all, GaveName-stage, IsLoggedIn-stage}
 
@@ -108,10 +108,12 @@ no_memory = record {
   ended = record {
     ends_at =
         record { reply = here; later = []; split = refl; so = λ none. absurd (cc) };
-    written = record { taken = refl; known = tt };
-    flushed = omega arith;
-    write_failed = refl;
-    handler_failed = refl;
+    given = record {
+      written = record { taken = refl; known = tt };
+      flushed = omega arith;
+      write_failed = refl;
+      handler_failed = refl;
+    };
   };
   next_line = λ at_line. absurd (cc);
 }
@@ -172,31 +174,8 @@ anyone-served-in-bytes =
     none-served (codes "257 here\r\n") (here ∷ []) (257, codes "here" ∷ []) [] served_reply refl
     (omega arith)
 
-opened_replies : ReadsBack (codes "150 opened\r\n530 no\r\n")
-    (opened ∷ CodeAndMsg 530 (codes "no") ∷ [])
-unfolding digits
-opened_replies = ReadsBack-encoded (opened ∷ CodeAndMsg 530 (codes "no") ∷ []) (
-  ((omega arith, omega arith), Lacks-test LF (codes "opened") refl),
-  (((omega arith, omega arith), Lacks-test LF (codes "no") refl), tt),
-)
-
-pub anyone-opened-in-bytes : ¬ MembersAlone None only_anna (codes "PWD\r\n")
-    (codes "150 opened\r\n530 no\r\n")
-anyone-opened-in-bytes = none-served (codes "150 opened\r\n530 no\r\n")
-    (opened ∷ CodeAndMsg 530 (codes "no") ∷ []) (150, codes "opened" ∷ [])
-    ((530, codes "no" ∷ []) ∷ []) opened_replies refl (omega arith)
-
 pub not-plain : ¬ SendsPlainExchanges silent
 not-plain h = (h.1 0 (Command Pwd)).0
-
-pub both-plain : SendsPlainExchanges transferring
-both-plain = (
-  λ s event. (refl, refl),
-  λ s event. (
-    ((omega arith, omega arith), Lacks-test LF (codes "opened") refl),
-    (((omega arith, omega arith), Lacks-test LF (codes "here") refl), tt),
-  ),
-)
 
 refused_reply : ReadsBack (codes "530 no\r\n") (CodeAndMsg 530 (codes "no") ∷ [])
 unfolding digits
@@ -220,26 +199,3 @@ no-event h =
     let read = h.no_other ((530, codes "no" ∷ []) ∷ []) refused_reply.0 in
     subst (λ read. AtEachPlace (AfterLogin only_anna) []
     (take (length (cut_reads read)) []) (cut_reads read)) (sym read) h.alone
-
--- bytes that are no replies
-whole_lines : (whole : List Bytes) (rest digits : Bytes) (lines : List Bytes)
-    → codes "x" ≡ flat_map with_crlf whole ++ rest → ¬ IsReply digits whole lines
-whole_lines [] rest digits lines cut (code_only one shown) = absurd (cc)
-whole_lines [] rest digits lines cut (single text one shown) = absurd (cc)
-whole_lines [] rest digits lines cut (several text last middle goes_on many shown) = absurd (cc)
-whole_lines (line ∷ whole) rest digits lines cut reply =
-    let long = ap length cut in
-    omega (
-      arith,
-      long,
-      length-append (with_crlf line ++ flat_map with_crlf whole) rest,
-      length-append (with_crlf line) (flat_map with_crlf whole),
-      length-append line crlf,
-    )
-
-pub garbage : ¬ MembersAlone None only_anna (codes "PWD\r\n") (codes "x")
-garbage h = by_read h.read h.replies where
-  by_read : (read : List (ℕ × List Bytes)) → ¬ AllReplies (codes "x") read
-  by_read [] all = absurd (cc)
-  by_read (reply ∷ read) (used, front, all) =
-      whole_lines front.whole front.rest front.digits reply.1 front.cut front.reply

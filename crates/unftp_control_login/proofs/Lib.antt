@@ -5,9 +5,9 @@ mod GateLemmas
 mod LimitedLemmas
 mod LimitStepLemmas
 pub mod StageLemmas
+pub mod StagedLemmas
 pub mod MemberLemmas
 pub mod AlikeLemmas
-mod AccountLemmas
 pub mod LimitLemmas
 mod ExampleLemmas
 mod CallExampleLemmas

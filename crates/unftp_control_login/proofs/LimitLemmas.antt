@@ -5,10 +5,9 @@ use Rattle.std.proofs.lemmas.List.{append-nil}
 use Rattle.unftp_control_defs.specs.Events.{FtpEvent, Command}
 use Rattle.unftp_control_defs.specs.FtpCommand.{Quit}
 use Rattle.unftp_control_defs.specs.FtpReply.{FtpReply}
-use Rattle.unftp_control_defs.specs.Run.{SessionLaw, after, turn}
+use Rattle.unftp_control_defs.specs.Run.{SessionLaw, after, turn, replies_to}
 use Rattle.unftp_control_login.specs.Gate.{Gated, gated_law}
 use Rattle.unftp_control_login.specs.LoginLimit.{EndsWith, Limited, failed_in_run, is_failed_login, is_pass, limited_law, too_many}
-use Rattle.unftp_control_login.specs.Promises.{replies_to}
 use Rattle.unftp_control_login.proofs.LimitStepLemmas.{limited-counted, limited-last, limited-unchanged, unchanged-inner}
 use Rattle.unftp_control_login.proofs.StageLemmas.{gate-after}
 

@@ -7,7 +7,6 @@ use Rattle.unftp_control_defs.specs.FtpReply.{FtpReply, is_positive}
 use Rattle.unftp_control_defs.specs.Run.{said, state_after}
 use Rattle.unftp_control_defs.specs.Turns.{IsExchange, is_preliminary_reply}
 use Rattle.unftp_control_login.specs.LoginLimit.{Limited, has_failure, is_failure, limited_steps, too_many}
-use Rattle.unftp_control_login.specs.Promises.{IsSentPlain, NoFailure}
 
 abbrev Steps : Type 0 → Type 0
 Steps S = List (FtpReply × S)
@@ -61,41 +60,16 @@ by_cases P left at_pass failure step steps cases =
         subst (λ few. P ((cond few too_many step.0, at_event (left - 1) false few step.1)
         ∷ cond few [] (limited_steps (left - 1) false steps))) (sym is) (failed refl refl is)
 
--- what holds of each state of the handler holds of that after its replies
-pub limited-kept : {S : Type 0} (Q : S → Type 0) (left : ℕ) (at_pass : Bool) (steps : Steps S)
-    (s : Limited S) → Q s.inner → AllByRecursion (λ step. Q step.1) steps
-    → Q (state_after s (limited_steps left at_pass steps)).inner
-limited-kept Q left at_pass [] s q each = q
-limited-kept Q left at_pass (step ∷ steps) s q each =
-    by_cases (λ steps. Q (state_after s steps).inner)
+-- what holds of each reply of the handler, and of the last one, holds after the limit
+pub limited-all : {S : Type 0} (P : FtpReply → Type 0) (left : ℕ) (at_pass : Bool)
+    (steps : Steps S) → P too_many → AllByRecursion P (said steps)
+    → AllByRecursion P (said (limited_steps left at_pass steps))
+limited-all P left at_pass [] own each = tt
+limited-all P left at_pass (step ∷ steps) own each =
+    by_cases (λ steps. AllByRecursion P (said steps))
     left at_pass (is_failure step.0) step steps (record {
-      other = λ none. limited-kept Q left at_pass steps _ each.0 each.1;
-      failed = λ at_pass failure more. limited-kept Q (left - 1) false steps _ each.0 each.1;
-      last = λ at_pass failure few. each.0;
-    })
-
--- where a reply that reports no failure needs a reason, it does so after the limit
-pub limited-served : {S : Type 0} (Q : Type 0) (left : ℕ) (at_pass : Bool) (steps : Steps S)
-    → AllByRecursion (λ reply. NoFailure reply → Q) (said steps)
-    → AllByRecursion (λ reply. NoFailure reply → Q) (said (limited_steps left at_pass steps))
-limited-served Q left at_pass [] each = tt
-limited-served Q left at_pass (step ∷ steps) each =
-    by_cases (λ steps. AllByRecursion (λ reply. NoFailure reply → Q) (said steps))
-    left at_pass (is_failure step.0) step steps (record {
-      other = λ none. (each.0, limited-served Q left at_pass steps each.1);
-      failed = λ at_pass failure more. (each.0, limited-served Q (left - 1) false steps each.1);
-      last = λ at_pass failure few. ((λ low. absurd (omega (arith, low))), tt);
-    })
-
-pub limited-plain : {S : Type 0} (left : ℕ) (at_pass : Bool) (steps : Steps S)
-    → IsSentPlain too_many → AllByRecursion IsSentPlain (said steps)
-    → AllByRecursion IsSentPlain (said (limited_steps left at_pass steps))
-limited-plain left at_pass [] own each = tt
-limited-plain left at_pass (step ∷ steps) own each =
-    by_cases (λ steps. AllByRecursion IsSentPlain (said steps))
-    left at_pass (is_failure step.0) step steps (record {
-      other = λ none. (each.0, limited-plain left at_pass steps own each.1);
-      failed = λ at_pass failure more. (each.0, limited-plain (left - 1) false steps own each.1);
+      other = λ none. (each.0, limited-all P left at_pass steps own each.1);
+      failed = λ at_pass failure more. (each.0, limited-all P (left - 1) false steps own each.1);
       last = λ at_pass failure few. (own, tt);
     })
 

@@ -1,27 +1,29 @@
 -- Who is served: only who has logged in.
 use Rattle.std.proofs.Common.{◌≡◌, ◌<◌, ◌≤◌, ℕ, Bool, true, false, not, ◌&&◌, cond, IsTrue, List, [], ◌∷◌, ◌++◌, length, filter_map, map, take, Option, Some, unwrap_or, ◌⊎◌, inl, inr, refl, sym, ap, ◌∙◌, subst, arith, codes}
 use Rattle.std.specs.List.{AllByRecursion}
+use Rattle.std.specs.Option.{IfSome}
 use Rattle.std.proofs.lemmas.List.{length-map}
-use Rattle.std.proofs.lemmas.Option.{same_Some}
+use Rattle.std.proofs.Math.Seq.{take-append_seam}
 use Rattle.unftp_control_defs.specs.Bytes.{Bytes, LF}
 use Rattle.unftp_control_defs.specs.FtpCommand.{User, Pass}
 use Rattle.unftp_control_defs.specs.Events.{FtpEvent, Command, events}
-use Rattle.unftp_control_defs.specs.FtpReply.{FtpReply, Nothing, CodeAndMsg, MultiLine, IsPlain, lines_as_read, reply_as_read}
-use Rattle.unftp_control_defs.specs.Run.{SessionLaw, after, last_state, replies, run_for, said, state_after, text_for, turn}
-use Rattle.unftp_control_defs.specs.Turns.{IsExchange, cut_reads, replies_by_event}
+use Rattle.unftp_control_defs.specs.FtpReply.{FtpReply, Nothing, CodeAndMsg, MultiLine, IsPlain, reply_as_read}
+use Rattle.unftp_control_defs.specs.Run.{SessionLaw, after, last_state, replies, run_for, said, state_after, text_for, turn, replies_by_event, replies_to}
+use Rattle.unftp_control_defs.specs.Turns.{IsExchange, cut_reads}
 use Rattle.unftp_control_defs.proofs.EncodingLemmas.{ReadsBack-encoded}
 use Rattle.unftp_control_defs.proofs.ExchangeLemmas.{cut-read, cut-replies, length-replies_by_event, replies-all}
 use Rattle.unftp_control_defs.proofs.LackLemmas.{lacks, Lacks-test}
-use Rattle.unftp_control_defs.proofs.RunLemmas.{last_state-append, run_of-taken}
+use Rattle.unftp_control_defs.proofs.RunLemmas.{last_state-append, run_of-first}
 use Rattle.unftp_control_login.specs.declared.stage.Stage.{Stage}
 use Rattle.unftp_control_login.specs.declared.stage.Stage.TheVariants.{NoName, Named}
 use Rattle.unftp_control_login.specs.HandlerCalls.{state_then}
 use Rattle.unftp_control_login.specs.Login.{Accounts, GaveName, IsLoggedIn, is_login, needs_login}
 use Rattle.unftp_control_login.specs.Gate.{Gated, closed, gated_law, is_barred, is_logged_in, logged_in, login_needed, name_needed, not_accepted, passed_steps, password_needed, password_reply, wanted}
 use Rattle.unftp_control_login.specs.LoginLimit.{Limited, is_pass, limited_law, limited_to}
-use Rattle.unftp_control_login.specs.Promises.{AfterLogin, AtEachPlace, IsSentPlain, IsTurnedAway, LearnsName, MembersAlone, NoFailure, ReachesHandler, SendsPlainExchanges, ServesMembersAlone, replies_to}
-use Rattle.unftp_control_login.proofs.LimitStepLemmas.{limited-exchange, limited-kept, limited-plain, limited-served}
-use Rattle.unftp_control_login.proofs.StageLemmas.{Follows, IsLoggedIn-stage, GaveName-stage, accepts-stays, begins, by_test, follows, follows-turn, gate-after, holds-last, logged_in-reason, logged_in-stage, needs-other, own-barred, own-open, stage_after_all, stage-follows}
+use Rattle.unftp_control_login.specs.Promises.{AfterLogin, AtEachPlace, IsSentPlain, IsTurnedAway, LearnsName, MembersAlone, NoFailure, ReachesHandler, SendsPlainExchanges, ServesMembersAlone}
+use Rattle.unftp_control_login.proofs.LimitStepLemmas.{limited-all, limited-exchange}
+use Rattle.unftp_control_login.proofs.StageLemmas.{IsLoggedIn-stage, GaveName-stage, by_test, gate-after, logged_in-stage, needs-other, own-barred, own-open, stage_after_all}
+use Rattle.unftp_control_login.proofs.StagedLemmas.{gate_at, gate_staged, last-at, limit_staged}
 
 all-of : {X : Type 0} (P : X → Type 0) (xs : List X) → ((x : X) → P x) → AllByRecursion P xs
 all-of P [] each = tt
@@ -68,9 +70,13 @@ module _ {S : Type 0} (law : SessionLaw S) (accepts : Accounts) (inner : S) wher
   abbrev after_all : List FtpEvent → Gated S
   after_all before = last_state (gated_law law) (closed accepts inner) before
 
+  state-is : (before : List FtpEvent) → (base : Gated S)
+      × (after_all before ≡ gate_at law accepts (stage_after_all accepts NoName before) base)
+  state-is before = last-at (gate_staged law) accepts NoName (closed accepts inner) before
+
   stage-is : (before : List FtpEvent)
       → (after_all before).stage ≡ stage_after_all accepts NoName before
-  stage-is before = stage-follows law (closed accepts inner) before
+  stage-is before = ap (λ (s : Gated S). s.stage) (state-is before).1
 
   gated_at : (before : List FtpEvent) (event : FtpEvent) → IsTrue (needs_login event)
       → (member : Bool) → is_logged_in (after_all before).stage ≡ member
@@ -114,8 +120,10 @@ module _ {S : Type 0} (law : SessionLaw S) (accepts : Accounts) (inner : S) wher
       → accepts name password ≡ true → LearnsName law accepts inner before name password
   name-learned before name password named accepted =
       let s = after_all before in
-      (λ i. state_then law s.inner (wanted (accepts-stays law (closed accepts inner) before i)
-      ((stage-is before ∙ GaveName-stage accepts name before named) i) (Command (Pass password))))
+      let is = (state-is before).1 in
+      (λ i. state_then law s.inner (wanted (is i).accepts (is i).stage (Command (Pass password))))
+      ∙ ap (λ stage. state_then law s.inner (wanted accepts stage (Command (Pass password))))
+      (GaveName-stage accepts name before named)
       ∙ rw (accepted) refl
 
 -- Who is served, at a state that follows from the events.
@@ -124,15 +132,16 @@ Serves accepts before law s event =
     AllByRecursion (λ reply. NoFailure reply → IsLoggedIn accepts before) (replies_to law s event)
 
 serves-members : {S : Type 0} (law : SessionLaw S) (accepts : Accounts) (before : List FtpEvent)
-    (s : Gated S) (event : FtpEvent) → Follows accepts before s → IsTrue (needs_login event)
-    → Serves accepts before (gated_law law) s event
-serves-members law accepts before s event h needs =
+    (s : Gated S) (event : FtpEvent) → s.stage ≡ stage_after_all accepts NoName before
+    → IsTrue (needs_login event) → Serves accepts before (gated_law law) s event
+serves-members law accepts before s event same needs =
     by_member (is_logged_in s.stage) refl
   where
     by_member : (member : Bool) → is_logged_in s.stage ≡ member
         → Serves accepts before (gated_law law) s event
     by_member true e = all-of (λ reply. NoFailure reply → IsLoggedIn accepts before)
-        (replies_to (gated_law law) s event) (λ reply ok. logged_in-reason s.stage h.reason e)
+        (replies_to (gated_law law) s event)
+        (λ reply ok. logged_in-stage accepts before (ap is_logged_in (sym same) ∙ e))
     by_member false e = subst
         (AllByRecursion (λ reply. NoFailure reply → IsLoggedIn accepts before))
         (sym (barred-turn law s event (needs-other event needs) (λ i. needs i && not (e i))).0)
@@ -141,31 +150,21 @@ serves-members law accepts before s event h needs =
 pub gate_serves-members : {S : Type 0} (law : SessionLaw S) (accepts : Accounts) (inner : S)
     → ServesMembersAlone accepts (gated_law law) (closed accepts inner)
 gate_serves-members law accepts inner before event needs =
-    serves-members law accepts before _ event
-    (holds-last (gated_law law) (Follows accepts) (follows law accepts) [] (closed accepts inner)
-    before (begins accepts inner)) needs
+    serves-members law accepts before (last_state (gated_law law) (closed accepts inner) before)
+    event (stage-is law accepts inner before) needs
 
 -- the same after a limit
-pub limit-follows : {S : Type 0} (law : SessionLaw S) (accepts : Accounts) (past : List FtpEvent)
-    (s : Limited (Gated S)) (event : FtpEvent) → Follows accepts past s.inner
-    → Follows accepts (past ++ event ∷ []) (after (limited_law (gated_law law)) s event).inner
-limit-follows law accepts past s event h =
-    let all = follows-turn law accepts past s.inner event h in
-    let steps = turn (gated_law law) s.inner event in
-    limited-kept (Follows accepts (past ++ event ∷ [])) s.left (is_pass event) steps
-    (record s { inner = (gated_law law).next s.inner event }) all.0 all
-
 pub limit_serves-members : {S : Type 0} (law : SessionLaw S) (accepts : Accounts) (left : ℕ)
     (inner : S) → ServesMembersAlone accepts (limited_law (gated_law law))
     (limited_to left (closed accepts inner))
 limit_serves-members law accepts left inner before event needs =
-    let limited = limited_law (gated_law law) in
-    let s = last_state limited (limited_to left (closed accepts inner)) before in
-    limited-served (IsLoggedIn accepts before) s.left (is_pass event)
-    (turn (gated_law law) s.inner event)
+    let start : Limited (Gated _) = limited_to left (closed accepts inner) in
+    let s = last_state (limited_law (gated_law law)) start before in
+    limited-all (λ reply. NoFailure reply → IsLoggedIn accepts before) s.left (is_pass event)
+    (turn (gated_law law) s.inner event) (λ low. absurd (omega (arith, low)))
     (serves-members law accepts before s.inner event
-    (holds-last limited (λ past s. Follows accepts past s.inner) (limit-follows law accepts) []
-    (limited_to left (closed accepts inner)) before (begins accepts inner)) needs)
+    (ap (λ (s : Limited (Gated _)). s.inner.stage)
+    (last-at (limit_staged law) accepts NoName start before).1) needs)
 
 -- Plain replies.
 plain : (code : ℕ) (text : Bytes) → 100 ≤ code → code < 1000 → lacks LF text ≡ true
@@ -228,7 +227,7 @@ pub limit-plain : {S : Type 0} (law : SessionLaw S) → SendsPlainExchanges law
 limit-plain law (exchanges, sends) = (
   λ s event. limited-exchange s.left (is_pass event) (turn law s.inner event)
       (exchanges s.inner event),
-  λ s event. limited-plain s.left (is_pass event) (turn law s.inner event)
+  λ s event. limited-all IsSentPlain s.left (is_pass event) (turn law s.inner event)
       (plain 421 (codes "Too many failed logins, closing control connection") (omega arith)
       (omega arith) refl) (sends s.inner event),
 )
@@ -244,16 +243,6 @@ IsPlain-sent : (reply : FtpReply) → IsSentPlain reply → IsPlain reply
 IsPlain-sent Nothing h = absurd h
 IsPlain-sent (CodeAndMsg code text) h = h
 IsPlain-sent (MultiLine code lines) h = h
-
-NoFailure-read : (reply : FtpReply) {code : ℕ} {lines : List Bytes}
-    → reply_as_read reply ≡ Some (code, lines) → code < 400 → NoFailure reply
-NoFailure-read Nothing e low = tt
-NoFailure-read (CodeAndMsg said text) {code} {lines} e low =
-    subst (λ (read : ℕ × List Bytes). read.0 < 400)
-    (sym (same_Some (said, text ∷ []) (code, lines) e)) low
-NoFailure-read (MultiLine said texts) {code} {lines} e low =
-    subst (λ (read : ℕ × List Bytes). read.0 < 400)
-    (sym (same_Some (said, lines_as_read texts) (code, lines) e)) low
 
 -- each is read
 all-read : (replies : List FtpReply) → AllByRecursion IsSentPlain replies
@@ -280,7 +269,7 @@ after-part Q (reply ∷ replies) [] is each = absurd (cc)
 after-part Q (reply ∷ replies) (one ∷ read) is each =
     let first : Some one ≡ reply_as_read reply = cc in
     let later : map Some read ≡ map reply_as_read replies = cc in (
-      λ low. each.0 (NoFailure-read reply (sym first) low),
+      λ low. each.0 (subst (λ shown. IfSome shown (λ read. read.0 < 400)) first low),
       after-part Q replies read later each.1,
     )
 
@@ -323,7 +312,8 @@ module _ {S : Type 0} (law : SessionLaw S) (first : S) (accepts : Accounts)
       ∙ length-map (replies_by_event law first run) (map reply_as_read)
       ∙ length-replies_by_event law first run in
       let same : take (length (cut_reads read)) (events limit input) ≡ run =
-      ap (λ n. take n (events limit input)) as_many ∙ run_of-taken law first (events limit input) in
+      let begins = run_of-first law first (events limit input) in
+      (λ i. take (as_many i) (begins.1 i)) ∙ take-append_seam run begins.0 in
       record {
         read = read;
         replies = reads.0;

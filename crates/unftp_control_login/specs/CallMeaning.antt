@@ -1,6 +1,6 @@
 -- Which call a note is of.
 use Rattle.unftp_control_defs.specs.FtpReply.{CodeAndMsg}
-use Rattle.unftp_control_reply.specs.ReplyMeaning.{number_of}
+use Rattle.unftp_control_message.specs.ReplyMeaning.{number_of}
 use Rattle.unftp_control_serve.specs.EventMeaning.{event_meant}
 use Rattle.unftp_control_login.specs.HandlerCalls.{Asks, AsksFurther, Call, Makes, Passes}
 use Rattle.unftp_control_login.specs.declared.calls.Note.{Note}

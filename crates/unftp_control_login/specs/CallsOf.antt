@@ -1,8 +1,8 @@
 -- What contracts see of the calls of a gate or a limit.
 use Rattle.std.specs.Prelude.{◌≡◌, ℕ, Result, MatchResult}
 use Rattle.unftp_control_defs.specs.Run.{SessionLaw, state_after}
-use Rattle.unftp_control_reply.specs.ErrorMeaning.{fault_of}
-use Rattle.unftp_control_reply.specs.declared.error.ControlChanError.{ControlChanError}
+use Rattle.unftp_control_message.specs.ErrorMeaning.{fault_of}
+use Rattle.unftp_control_message.specs.declared.reply.error.ControlChanError.{ControlChanError}
 use Rattle.unftp_control_login.specs.HandlerCalls.{BreaksIn, CallState, Called, asks_for}
 use Rattle.unftp_control_login.specs.declared.inner.Inner.{Inner}
 

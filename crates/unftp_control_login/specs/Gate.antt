@@ -1,14 +1,14 @@
 -- A login gate before a handler: what it answers itself, and what it passes on to the handler.
-use Rattle.std.specs.Prelude.{◌≡◌, List, [], ◌∷◌, map, Bool, true, false, IsTrue, if◌then◌else◌, ◌&&◌, ◌||◌, not, Option, Some, None, IsSome, unwrap_or, ◌⊎◌, codes}
+use Rattle.std.specs.Prelude.{List, [], ◌∷◌, map, Bool, true, false, if◌then◌else◌, ◌&&◌, ◌||◌, not, Option, Some, None, unwrap_or, codes}
 use Rattle.unftp_control_defs.specs.Bytes.{Bytes}
 use Rattle.unftp_control_defs.specs.FtpCommand.{User, Pass}
-use Rattle.unftp_control_defs.specs.Events.{FtpEvent, Command, is_quit, out_of_memory}
+use Rattle.unftp_control_defs.specs.Events.{FtpEvent, Command, is_quit}
 use Rattle.unftp_control_defs.specs.FtpReply.{FtpReply, CodeAndMsg}
 use Rattle.unftp_control_defs.specs.Run.{SessionLaw}
 use Rattle.unftp_control_login.specs.declared.stage.Stage.{Stage}
 use Rattle.unftp_control_login.specs.declared.stage.Stage.TheVariants.{NoName, Named, LoggedIn}
 use Rattle.unftp_control_login.specs.Login.{Accounts, flushes_login, is_login, needs_login}
-use Rattle.unftp_control_login.specs.HandlerCalls.{Asks, Call, Dropped, First, MayFailAt, NoReply, Wanted, state_then}
+use Rattle.unftp_control_login.specs.HandlerCalls.{Asks, Call, Dropped, First, Further, MayFailWith, NoReply, Wanted, state_then}
 
 -- its replies (RFC 959, section 5.4)
 abbrev pub password_needed : FtpReply
@@ -106,11 +106,10 @@ gated_law law = record {
     inner = state_then law s.inner (wanted s.accepts s.stage event);
   };
   more = λ s. if s.passed then passed_steps s (law.more s.inner) else [];
-  -- memory runs out for a reply of its own, or the handler fails
-  may_fail = λ s event fault.
-      (IsSome (own_reply s.accepts s.stage event) × (fault ≡ out_of_memory))
-      ⊎ MayFailAt law s.inner (wanted s.accepts s.stage event) fault;
-  may_break = λ s fault. IsTrue s.passed × law.may_break s.inner fault;
+  may_fail = λ s event fault. MayFailWith law s.inner (wanted s.accepts s.stage event)
+      (own_reply s.accepts s.stage event) fault;
+  may_break = λ s fault.
+      MayFailWith law s.inner (if s.passed then Further else NoReply) None fault;
   done = λ s. s.quit || law.done s.inner;
 }
 

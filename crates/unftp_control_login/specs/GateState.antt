@@ -2,7 +2,7 @@
 use Rattle.std.specs.Prelude.{ℕ, if◌then◌else◌, None, Result}
 use Rattle.unftp_control_defs.specs.Events.{FtpEvent}
 use Rattle.unftp_control_defs.specs.Run.{SessionLaw}
-use Rattle.unftp_control_reply.specs.declared.error.ControlChanError.{ControlChanError}
+use Rattle.unftp_control_message.specs.declared.reply.error.ControlChanError.{ControlChanError}
 use Rattle.unftp_control_login.specs.Login.{Accounts}
 use Rattle.unftp_control_login.specs.HandlerCalls.{CallsMade, Further, NoReply}
 use Rattle.unftp_control_login.specs.CallsOf.{calls_of}

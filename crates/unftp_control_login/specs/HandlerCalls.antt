@@ -1,12 +1,12 @@
 -- What a gate and a limit call: the accounts, the handler after them, and memory for replies of
 -- their own.
-use Rattle.std.specs.Prelude.{◌≡◌, ℕ, ◌+◌, List, [], ◌∷◌, ◌++◌, take, Option, Some, None, IsSome, ◌⊎◌, Result, MatchResult}
+use Rattle.std.specs.Prelude.{◌≡◌, ℕ, ◌+◌, List, [], ◌∷◌, ◌++◌, map, take, Option, Some, None, IsSome, ◌⊎◌, Result, MatchResult}
 use Rattle.unftp_control_defs.specs.Bytes.{Bytes}
 use Rattle.unftp_control_defs.specs.Events.{Fault, FtpEvent, out_of_memory}
 use Rattle.unftp_control_defs.specs.FtpReply.{FtpReply}
 use Rattle.unftp_control_defs.specs.Run.{SessionLaw, after, state_after}
-use Rattle.unftp_control_reply.specs.ErrorMeaning.{fault_of}
-use Rattle.unftp_control_reply.specs.declared.error.ControlChanError.{ControlChanError}
+use Rattle.unftp_control_message.specs.ErrorMeaning.{fault_of}
+use Rattle.unftp_control_message.specs.declared.reply.error.ControlChanError.{ControlChanError}
 
 -- The accounts are asked whether the second, a password, is that of the first, a name; the handler
 -- receives an event; it is asked for the next of the replies that follow; memory is asked for a
@@ -19,8 +19,7 @@ pub data Call : Type 0 where
 
 -- The handler is asked for each of these replies that follow, and once more: then there is none.
 abbrev pub asks_for : {A : Type 0} → List A → List Call
-asks_for [] = AsksFurther ∷ []
-asks_for (step ∷ steps) = AsksFurther ∷ asks_for steps
+asks_for steps = map (λ _. AsksFurther) steps ++ AsksFurther ∷ []
 
 -- Memory is asked for a reply of one's own, if there is one, after other calls.
 abbrev pub and_makes : List Call → Option FtpReply → List Call
@@ -70,6 +69,10 @@ module _ {S : Type 0} (law : SessionLaw S) (s : S) where
   abbrev pub MayFailAt : Wanted → Fault → Type 0
   MayFailAt wanted fault = (made : List Call) × FailsAfter wanted made fault
 
+  -- or memory runs out for `own`, if it is a reply
+  abbrev pub MayFailWith : Wanted → Option FtpReply → Fault → Type 0
+  MayFailWith wanted own fault = (IsSome own × (fault ≡ out_of_memory)) ⊎ MayFailAt wanted fault
+
 -- The calls so far, how often memory was refused, and how often the handler has failed.
 pub record CallState : Type 0 where
   pub calls : List Call
@@ -100,6 +103,13 @@ module _ {S : Type 0} (law : SessionLaw S) (s : S) (wanted : Wanted) (own : Opti
       × Called before after (and_makes (calls_to law s wanted) own) 1 0
 
   -- what was called, by the result
-  abbrev pub CallsMade : {T : Type 0} → Result T ControlChanError → Type 0
-  CallsMade result = MatchResult result (λ _. AllCalled)
-      (λ error. HandlerFailed (fault_of error) ⊎ ReplyRefused (fault_of error))
+  pub record CallsMade {T : Type 0} (result : Result T ControlChanError) : Type 0 where
+    pub made : MatchResult result (λ _. AllCalled)
+        (λ error. HandlerFailed (fault_of error) ⊎ ReplyRefused (fault_of error))
+
+-- Memory was asked for this reply, if it is one, and an error comes only where it was refused.
+pub record OwnMade {T : Type 0} (own : Option FtpReply) (before after : CallState)
+    (result : Result T ControlChanError) : Type 0 where
+  pub made : MatchResult result (λ _. Called before after (and_makes [] own) 0 0)
+      (λ error. IsSome own × (fault_of error ≡ out_of_memory)
+      × Called before after (and_makes [] own) 1 0)

@@ -1,11 +1,9 @@
 -- What contracts see of a limit, and of its calls.
-use Rattle.std.specs.Prelude.{◌≡◌, ℕ, [], if◌then◌else◌, Option, None, IsSome, Result, MatchResult}
-use Rattle.unftp_control_defs.specs.Events.{FtpEvent, out_of_memory}
-use Rattle.unftp_control_defs.specs.FtpReply.{FtpReply}
+use Rattle.std.specs.Prelude.{ℕ, if◌then◌else◌, None, Result}
+use Rattle.unftp_control_defs.specs.Events.{FtpEvent}
 use Rattle.unftp_control_defs.specs.Run.{SessionLaw}
-use Rattle.unftp_control_reply.specs.ErrorMeaning.{fault_of}
-use Rattle.unftp_control_reply.specs.declared.error.ControlChanError.{ControlChanError}
-use Rattle.unftp_control_login.specs.HandlerCalls.{Called, CallsMade, First, Further, NoReply, and_makes}
+use Rattle.unftp_control_message.specs.declared.reply.error.ControlChanError.{ControlChanError}
+use Rattle.unftp_control_login.specs.HandlerCalls.{CallsMade, First, Further, NoReply}
 use Rattle.unftp_control_login.specs.CallsOf.{calls_of}
 use Rattle.unftp_control_login.specs.LoginLimit.{Limited, is_pass, last_of, last_reply}
 use Rattle.unftp_control_login.specs.declared.inner.Inner.{Inner}
@@ -34,11 +32,3 @@ LimitAsked failures law s before after = CallsMade law s.inner
     (if s.ended then NoReply else Further)
     (if s.ended then None else last_of s.left s.at_pass (law.more s.inner))
     (calls_of failures before) (calls_of failures after)
-
--- Memory was asked for this reply, if it is one, and an error comes only where it was refused.
-abbrev pub OwnMade : {H T : Type 0} → (H → ℕ) → Option FtpReply → Inner H → Inner H
-    → Result T ControlChanError → Type 0
-OwnMade failures own before after result = MatchResult result
-    (λ _. Called (calls_of failures before) (calls_of failures after) (and_makes [] own) 0 0)
-    (λ error. IsSome own × (fault_of error ≡ out_of_memory)
-    × Called (calls_of failures before) (calls_of failures after) (and_makes [] own) 1 0)

@@ -1,10 +1,11 @@
 -- A limit on the failed logins of a session, before any handler.
-use Rattle.std.specs.Prelude.{◌≡◌, ℕ, ◌+◌, ◌-◌, ◌==◌, nat_le, Bool, true, false, ◌&&◌, ◌||◌, not, if◌then◌else◌, IsTrue, List, [], ◌∷◌, ◌++◌, Option, Some, None, IsSome, ◌⊎◌, codes}
+use Rattle.std.specs.Prelude.{◌≡◌, ℕ, ◌+◌, ◌-◌, ◌==◌, nat_le, Bool, true, false, ◌&&◌, ◌||◌, not, if◌then◌else◌, IsTrue, List, [], ◌∷◌, ◌++◌, Option, Some, None, codes}
 use Rattle.unftp_control_defs.specs.FtpCommand.{Pass}
-use Rattle.unftp_control_defs.specs.Events.{FtpEvent, Command, out_of_memory}
+use Rattle.unftp_control_defs.specs.Events.{FtpEvent, Command}
 use Rattle.unftp_control_defs.specs.FtpReply.{FtpReply, CodeAndMsg, is_positive}
-use Rattle.unftp_control_defs.specs.Run.{SessionLaw, ends, replies, run_of}
-use Rattle.unftp_control_defs.specs.Turns.{is_preliminary_reply, replies_by_event}
+use Rattle.unftp_control_defs.specs.Run.{SessionLaw, ends, replies, run_of, replies_by_event}
+use Rattle.unftp_control_defs.specs.Turns.{is_preliminary_reply}
+use Rattle.unftp_control_login.specs.HandlerCalls.{First, Further, MayFailWith, NoReply}
 
 abbrev pub is_pass : FtpEvent → Bool
 is_pass (Command (Pass password)) = true
@@ -93,12 +94,10 @@ limited_law law = record {
   next = λ s event. limited_state s.left (is_pass event) (law.says s.inner event)
       (law.next s.inner event);
   more = λ s. if s.ended then [] else limited_steps s.left s.at_pass (law.more s.inner);
-  -- the handler fails, or memory runs out for the last reply
-  may_fail = λ s event fault. law.may_fail s.inner event fault
-      ⊎ (IsSome (last_reply s.left (is_pass event) (law.says s.inner event))
-      × (fault ≡ out_of_memory));
-  may_break = λ s fault. (s.ended ≡ false) × (law.may_break s.inner fault
-      ⊎ (IsSome (last_of s.left s.at_pass (law.more s.inner)) × (fault ≡ out_of_memory)));
+  may_fail = λ s event fault. MayFailWith law s.inner (First event)
+      (last_reply s.left (is_pass event) (law.says s.inner event)) fault;
+  may_break = λ s fault. MayFailWith law s.inner (if s.ended then NoReply else Further)
+      (if s.ended then None else last_of s.left s.at_pass (law.more s.inner)) fault;
   done = λ s. (s.left == 0) || law.done s.inner;
 }
 

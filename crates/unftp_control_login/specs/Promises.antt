@@ -1,14 +1,15 @@
 -- What a login gate promises of all inputs.
 use Rattle.std.specs.Prelude.{◌≡◌, ℕ, ◌<◌, ⊤, ◌⊎◌, false, IsTrue, length, take, List, [], ◌∷◌, ◌++◌, Option}
 use Rattle.std.specs.List.{AllByRecursion}
+use Rattle.std.specs.Option.{IfSome}
 use Rattle.unftp_control_defs.specs.Bytes.{Bytes, LF, Lacks}
 use Rattle.unftp_control_defs.specs.Canonical.{canonical_line}
 use Rattle.unftp_control_defs.specs.FtpCommand.{User, Pass}
 use Rattle.unftp_control_defs.specs.Events.{FtpEvent, Command, event_for, exceeds, events}
-use Rattle.unftp_control_defs.specs.FtpReply.{FtpReply, Nothing, CodeAndMsg, MultiLine, IsPlain}
-use Rattle.unftp_control_defs.specs.Lines.{lines_of}
+use Rattle.unftp_control_defs.specs.FtpReply.{FtpReply, Nothing, IsPlain, reply_as_read}
+use Rattle.unftp_control_defs.specs.Lines.{incomplete_line, lines_of}
 use Rattle.unftp_control_defs.specs.ReplyReader.{AllReplies}
-use Rattle.unftp_control_defs.specs.Run.{SessionLaw, after, last_state, run_for, said, turn}
+use Rattle.unftp_control_defs.specs.Run.{SessionLaw, after, at_each, last_state, replies_to, run_for, text_for}
 use Rattle.unftp_control_defs.specs.Turns.{GivesExchanges, SaysOnly, cut_reads}
 use Rattle.unftp_control_serve.specs.Endings.{Snapshot, RunFailed}
 use Rattle.unftp_control_serve.specs.declared.error.ServeError.{ServeError}
@@ -16,10 +17,6 @@ use Rattle.unftp_control_login.specs.Login.{Accounts, GaveName, IsLoggedIn, need
 use Rattle.unftp_control_login.specs.HandlerCalls.{Call, Dropped, First, Further, NoReply, Passes, Wanted, and_makes, asks_for}
 use Rattle.unftp_control_login.specs.Gate.{Gated, closed, gated_law, login_needed, own_reply, wanted}
 use Rattle.unftp_control_login.specs.LoginLimit.{Limited, is_pass, last_reply}
-
--- all replies to an event
-abbrev pub replies_to : {S : Type 0} → SessionLaw S → S → FtpEvent → List FtpReply
-replies_to law s event = said (turn law s event)
 
 -- The event after these has one reply, which is 530, and the handler doesn't receive it.
 abbrev pub IsTurnedAway : {S : Type 0} → SessionLaw S → Accounts → S → List FtpEvent → FtpEvent
@@ -47,9 +44,7 @@ LearnsName law accepts inner before name password =
 
 -- 4yz and 5yz report a failure (RFC 959, section 4.2.1).
 abbrev pub NoFailure : FtpReply → Type 0
-NoFailure Nothing = ⊤
-NoFailure (CodeAndMsg code text) = code < 400
-NoFailure (MultiLine code lines) = code < 400
+NoFailure reply = IfSome (reply_as_read reply) (λ read. read.0 < 400)
 
 -- Whatever came before: a reply that reports no failure, to an event that needs a login, comes only
 -- after a login.
@@ -126,11 +121,6 @@ FailsAlike {S = S} limit law s input other =
     → RunFailed limit law before input after error done
     → (others : List FtpEvent) × RunFailed limit law before other after error others
 
--- Of each event of a run and the state before it.
-abbrev pub at_each : {S R : Type 0} → (S → FtpEvent → R) → SessionLaw S → S → List FtpEvent → List R
-at_each f law s [] = []
-at_each f law s (event ∷ events) = f s event ∷ at_each f law (after law s event) events
-
 -- What a handler is called for at an event of which this is wanted: it receives it, and is asked
 -- for each reply that follows.
 abbrev pub handler_calls : {S : Type 0} → SessionLaw S → S → Wanted → List Call
@@ -155,12 +145,17 @@ abbrev pub calls_for : {S : Type 0} → Option ℕ → (S → FtpEvent → List 
     → Bytes → List (List Call)
 calls_for limit calls law s input = at_each calls law s (run_for limit law s input)
 
--- Both answer alike to all that these events may ask: whether a password is that of the name that
--- was given before it.
+-- Both answer alike to what the event after these may ask: whether a password is that of the name
+-- that was given before it.
+abbrev pub AnswersAlike : Accounts → Accounts → List FtpEvent → FtpEvent → Type 0
+AnswersAlike accepts other before (Command (Pass password)) =
+    (name : Bytes) → GaveName name before → accepts name password ≡ other name password
+AnswersAlike accepts other before event = ⊤
+
+-- to all that these events may ask
 abbrev pub AnswerAlike : Accounts → Accounts → List FtpEvent → Type 0
-AnswerAlike accepts other events = (before after : List FtpEvent) (name password : Bytes)
-    → events ≡ before ++ Command (Pass password) ∷ after → GaveName name before
-    → accepts name password ≡ other name password
+AnswerAlike accepts other events =
+    AtEachPlace (λ before event _. AnswersAlike accepts other before event) [] events events
 
 -- the line is within the limit
 abbrev pub Fits : Option ℕ → Bytes → Type 0
@@ -182,3 +177,48 @@ pub record IsRefusedLogin (limit : Option ℕ) (accepts : Accounts) (name passwo
   pub name_sent : Lacks LF name × Fits limit (canonical_line (User name))
   pub password_sent : PasswordFits limit password
   pub refused : accepts name password ≡ false
+
+-- What is promised of a handler from some state on.
+module _ {S : Type 0} (limit : Option ℕ) (accepts : Accounts) (law : SessionLaw S) (s : S) where
+  -- Two inputs whose events look alike have one output,
+  abbrev pub PasswordsStayHidden : Type 0
+  PasswordsStayHidden = (input other : Bytes)
+      → AllLookAlike accepts (events limit input) (events limit other)
+      → text_for limit law s input ≡ text_for limit law s other
+
+  -- and make the same calls,
+  abbrev pub CallsHidePasswords : (S → FtpEvent → List Call) → Type 0
+  CallsHidePasswords calls = (input other : Bytes)
+      → AllLookAlike accepts (events limit input) (events limit other)
+      → calls_for limit calls law s input ≡ calls_for limit calls law s other
+
+  -- and where all other lines are the same, their errors too.
+  abbrev pub ErrorsHidePasswords : Type 0
+  ErrorsHidePasswords = (input other : Bytes)
+      → AllLookAlike accepts (events limit input) (events limit other)
+      → DifferInPasswords limit input other → FailsAlike limit law s input other
+
+  -- Two passwords that the accounts answer alike for the name that was given have one output.
+  abbrev pub RefusedPasswordsLookAlike : Type 0
+  RefusedPasswordsLookAlike = (before after password other : Bytes) → incomplete_line before ≡ []
+      → PasswordFits limit password → PasswordFits limit other
+      → AnsweredAlike accepts (events limit before) password other
+      → text_for limit law s (before ++ (pass_line password ++ after))
+      ≡ text_for limit law s (before ++ (pass_line other ++ after))
+
+  -- Two refused logins have one output.
+  abbrev pub RefusedLoginsLookAlike : Type 0
+  RefusedLoginsLookAlike = (before after name password other another : Bytes)
+      → incomplete_line before ≡ [] → IsRefusedLogin limit accepts name password
+      → IsRefusedLogin limit accepts other another
+      → text_for limit law s (before ++ (login_lines name password ++ after))
+      ≡ text_for limit law s (before ++ (login_lines other another ++ after))
+
+-- An input about which both accounts answer alike has one output, and makes the same calls: from a
+-- state with the first, and from one with the second.
+abbrev pub AccountsStayHidden : {S : Type 0} → Option ℕ → Accounts → Accounts
+    → (S → FtpEvent → List Call) → SessionLaw S → S → S → Type 0
+AccountsStayHidden limit accepts other calls law s t = (input : Bytes)
+    → AnswerAlike accepts other (events limit input)
+    → (text_for limit law s input ≡ text_for limit law t input)
+    × (calls_for limit calls law s input ≡ calls_for limit calls law t input)

@@ -5,7 +5,7 @@ ghost use Rattle.unftp_control_login.specs.CallMeaning.{call_of};
 
 use std::marker::Model;
 use std::mem::size_of;
-use unftp_control_reply::ReplyCode;
+use unftp_control_message::reply::ReplyCode;
 use unftp_control_serve::Event;
 
 const _: () = prove!(size_of::<Calls>() == 0);

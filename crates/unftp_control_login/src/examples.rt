@@ -1,21 +1,21 @@
 //! Sessions worked out by hand: what the definitions of a login say of them.
-ghost use Rattle.std.specs.Prelude.{◌≡◌, ℕ, ◌++◌, not, true, false, [], ◌∷◌, None, Some, codes};
+ghost use Rattle.std.specs.Prelude.{◌≡◌, ◌++◌, not, true, false, [], ◌∷◌, None, Some, codes};
 ghost use Rattle.std.specs.List.{list_all};
 ghost use Rattle.unftp_control_defs.specs.FtpCommand.{User, Pass, Acct, Syst, Stat, TypeCode, Stru, Mode, Help, Noop, Pasv, Epsv, Port, Retr, Stor, Appe, List, Nlst, Mlst, Mlsd, Feat, Pwd, Cwd, Cdup, Opts, Dele, Rmd, Quit, Mkd, Allo, Abor, Stou, Rnfr, Rnto, Auth, Ccc, Pbsz, Prot, Size, Rest, Mdtm, Md5, Site, Other};
 ghost use Rattle.unftp_control_defs.specs.Events.{Command, Refused, line_too_long, out_of_memory};
 ghost use Rattle.unftp_control_defs.specs.FtpReply.{Nothing, CodeAndMsg, MultiLine};
-ghost use Rattle.unftp_control_defs.specs.Run.{last_state, replies};
+ghost use Rattle.unftp_control_defs.specs.Run.{last_state, replies, at_each};
 ghost use Rattle.unftp_control_defs.specs.declared.parameters.AuthParam.TheVariants.{Tls};
 ghost use Rattle.unftp_control_defs.specs.declared.parameters.ModeParam.TheVariants.{Stream};
 ghost use Rattle.unftp_control_defs.specs.declared.parameters.Opt.TheVariants.{Utf8};
 ghost use Rattle.unftp_control_defs.specs.declared.parameters.ProtParam.TheVariants.{Private};
 ghost use Rattle.unftp_control_defs.specs.declared.parameters.StruParam.TheVariants.{File};
-ghost use Rattle.unftp_control_login.specs.Login.{GaveName, HasLoggedIn, IsLoggedIn, flushes_login, is_login, needs_login};
+ghost use Rattle.unftp_control_login.specs.Login.{GaveName, HasLoggedIn, IsLoggedIn, flushes_login, needs_login};
 ghost use Rattle.unftp_control_login.specs.declared.stage.Stage.TheVariants.{LoggedIn, Named, NoName};
 ghost use Rattle.unftp_control_login.specs.HandlerCalls.{AllCalled, Asks, AsksFurther, Dropped, First, HandlerFailed, Makes, NoReply, Passes, ReplyRefused};
 ghost use Rattle.unftp_control_login.specs.Gate.{closed, gated_law, logged_in, login_needed, name_needed, not_accepted, password_needed, questions};
 ghost use Rattle.unftp_control_login.specs.LoginLimit.{EndsWith, failed_in_run, limited_law, limited_to, too_many};
-ghost use Rattle.unftp_control_login.specs.Promises.{AllLookAlike, AnswerAlike, DifferInPasswords, PasswordFits, FailsAlike, IsRefusedLogin, IsSentPlain, IsTurnedAway, LearnsName, LooksAlike, MembersAlone, NoFailure, ReachesHandler, SendsPlainExchanges, ServesMembersAlone, at_each, calls_for, gate_calls, limit_calls, login_lines};
+ghost use Rattle.unftp_control_login.specs.Promises.{AllLookAlike, AnswerAlike, DifferInPasswords, PasswordFits, FailsAlike, IsRefusedLogin, IsSentPlain, IsTurnedAway, LearnsName, LooksAlike, MembersAlone, NoFailure, ReachesHandler, SendsPlainExchanges, ServesMembersAlone, gate_calls, limit_calls};
 ghost use Rattle.unftp_control_login.specs.Examples.{anna, anna_and_ben, ben, counting, here, login, only_anna, opened, pass, refusing, secret, silent, so_far, transferring, user, wrong};
 
 /// Which events need a login, and which undo one.
@@ -30,8 +30,6 @@ pub fn logins_are_needed()
         (User [] ∷ Pass [] ∷ Quit ∷ Auth Tls ∷ Pbsz ∷ Prot Private ∷ Feat ∷ Help ∷ Noop ∷ Syst ∷ [])
         ≡ true }
     ensures refused { needs_login (Refused line_too_long) ≡ false }
-    ensures halves { (is_login (user anna) ≡ true) × (is_login (pass secret) ≡ true)
-        × (is_login (Command Noop) ≡ false) }
     ensures flushed { (flushes_login (user anna) ≡ true)
         × (flushes_login (Command (Auth Tls)) ≡ true) × (flushes_login (pass wrong) ≡ false) }
 {}
@@ -41,13 +39,11 @@ pub fn a_client_logs_in()
     ensures member { HasLoggedIn only_anna anna
         (user anna ∷ Command Noop ∷ pass secret ∷ Command Pwd ∷ pass wrong ∷ []) }
     ensures nothing_sent { IsLoggedIn only_anna [] → ⊥ }
-    ensures name_only { IsLoggedIn only_anna (user anna ∷ []) → ⊥ }
     ensures wrong_password { IsLoggedIn only_anna (user anna ∷ pass wrong ∷ []) → ⊥ }
     ensures other_name { IsLoggedIn only_anna (user wrong ∷ pass secret ∷ []) → ⊥ }
     // a refused password has used up the name
     ensures second_password { IsLoggedIn only_anna (user anna ∷ pass wrong ∷ pass secret ∷ []) → ⊥ }
     ensures another_user { IsLoggedIn only_anna (login ++ user wrong ∷ []) → ⊥ }
-    ensures after_auth { IsLoggedIn only_anna (login ++ Command (Auth Tls) ∷ []) → ⊥ }
     ensures name_given { GaveName anna (user wrong ∷ user anna ∷ Command Noop ∷ []) }
     ensures name_changed { GaveName anna (user anna ∷ user wrong ∷ []) → ⊥ }
 {}
@@ -61,9 +57,6 @@ pub fn a_gate_answers()
         ∷ password_needed ∷ logged_in ∷ here ∷ name_needed ∷ password_needed ∷ login_needed ∷ [] }
     ensures received { (last_state (gated_law counting) (closed only_anna 0)
         (Command Pwd ∷ Command Noop ∷ user anna ∷ pass wrong ∷ [])).inner ≡ 1 }
-    ensures name { (last_state (gated_law counting) (closed only_anna 0) login).inner ≡ 1 }
-    ensures goes_on { (gated_law counting).done
-        (last_state (gated_law counting) (closed only_anna 0) login) ≡ false }
     ensures quit { (gated_law counting).done
         (last_state (gated_law counting) (closed only_anna 0) (Command Quit ∷ [])) ≡ true }
     ensures handler_done { (gated_law counting).done (closed only_anna 9) ≡ true }
@@ -76,9 +69,7 @@ pub fn follow_ups_pass()
         ≡ login_needed ∷ password_needed ∷ logged_in ∷ opened ∷ here ∷ [] }
     ensures dropped { (last_state (gated_law transferring) (closed only_anna []) login).inner ≡ [] }
     ensures turned_away { IsTurnedAway transferring only_anna [] [] (Command Pwd) }
-    ensures reaches { ReachesHandler transferring only_anna [] login (Command Pwd) }
     ensures served { ServesMembersAlone only_anna transferring [] → ⊥ }
-    ensures plain { SendsPlainExchanges transferring }
     ensures limited { replies (limited_law transferring) (limited_to 2 [])
         (Command Noop ∷ pass wrong ∷ []) ≡ opened ∷ here ∷ opened ∷ here ∷ [] }
 {}
@@ -86,13 +77,10 @@ pub fn follow_ups_pass()
 /// What the accounts are asked: only about a password, of the name before it, and once.
 pub fn accounts_are_asked()
     ensures asked { questions (Named anna) (pass secret) ≡ Asks anna secret ∷ [] }
-    ensures another_user { questions (Named anna) (pass secret) ≡ Asks ben secret ∷ [] → ⊥ }
     ensures twice { questions (Named anna) (pass wrong)
         ≡ Asks anna wrong ∷ Asks anna (wrong ++ codes "!") ∷ [] → ⊥ }
     ensures no_name { (questions NoName (pass secret) ≡ [])
         × (questions LoggedIn (pass secret) ≡ []) }
-    ensures other_events { (questions (Named anna) (user ben) ≡ [])
-        × (questions (Named anna) (Command Noop) ≡ []) }
 {}
 
 /// What a gate and a limit call: the handler receives an event once, and is then asked for each
@@ -103,28 +91,21 @@ pub fn calls_are_made()
     ensures login { gate_calls counting (last_state (gated_law counting) (closed only_anna 0)
         (user anna ∷ [])) (pass secret)
         ≡ Passes (user anna) ∷ AsksFurther ∷ Makes logged_in ∷ [] }
-    ensures stranger { gate_calls counting (closed only_anna 0) (Command Pwd)
-        ≡ Makes login_needed ∷ [] }
     ensures anyone { gate_calls counting (closed only_anna 0) (Command Noop)
         ≡ Passes (Command Noop) ∷ AsksFurther ∷ [] }
     ensures follow_ups { gate_calls transferring (closed only_anna []) (Command Noop)
         ≡ Passes (Command Noop) ∷ AsksFurther ∷ AsksFurther ∷ [] }
     ensures last { limit_calls counting (limited_to 1 (closed only_anna 0)) (pass wrong)
         ≡ Makes name_needed ∷ Makes too_many ∷ [] }
-    ensures not_last { limit_calls counting (limited_to 2 (closed only_anna 0)) (pass wrong)
-        ≡ Makes name_needed ∷ [] }
     ensures run { at_each (gate_calls counting) (gated_law counting) (closed only_anna 0)
         (user anna ∷ pass wrong ∷ [])
         ≡ (Makes password_needed ∷ []) ∷ (Makes not_accepted ∷ []) ∷ [] }
-    ensures input { calls_for None (gate_calls counting) (gated_law counting) (closed only_anna 0)
-        (codes "NOOP\r\n") ≡ (Passes (Command Noop) ∷ AsksFurther ∷ []) ∷ [] }
 {}
 
 /// Accounts that give one session: those that differ only in another user's password.
 pub fn accounts_answer_alike()
     ensures alike { AnswerAlike only_anna anna_and_ben (user anna ∷ pass wrong ∷ []) }
     ensures asked { AnswerAlike only_anna anna_and_ben (user ben ∷ pass wrong ∷ []) → ⊥ }
-    ensures nothing_asked { AnswerAlike only_anna anna_and_ben (pass wrong ∷ user ben ∷ []) }
 {}
 
 /// Why a call fails: the handler failed, and nothing was called after it; or memory was refused.
@@ -141,14 +122,10 @@ pub fn calls_fail()
         (so_far (Passes (Command Noop) ∷ []) 0 1) out_of_memory }
     ensures went_on { HandlerFailed counting 0 (First (Command Noop)) (Some here) (so_far [] 0 0)
         (so_far (Passes (Command Noop) ∷ Makes here ∷ []) 0 1) out_of_memory → ⊥ }
-    ensures broke { HandlerFailed transferring [] (Dropped (Command Noop)) None (so_far [] 0 0)
-        (so_far (Passes (Command Noop) ∷ AsksFurther ∷ AsksFurther ∷ []) 0 1) out_of_memory }
     ensures refused { ReplyRefused counting 0 NoReply (Some here) (so_far [] 0 0)
         (so_far (Makes here ∷ []) 1 0) out_of_memory }
     ensures not_refused { ReplyRefused counting 0 NoReply (Some here) (so_far [] 0 0)
         (so_far (Makes here ∷ []) 0 0) out_of_memory → ⊥ }
-    ensures not_asked { ReplyRefused counting 0 NoReply None (so_far [] 0 0)
-        (so_far [] 1 0) out_of_memory → ⊥ }
 {}
 
 /// Who is turned away, and who reaches the handler.
@@ -164,20 +141,14 @@ pub fn events_are_gated()
 /// What serving only members means, of events and of bytes.
 pub fn members_are_served()
     ensures no_failure { NoFailure (CodeAndMsg 399 []) × NoFailure Nothing }
-    ensures preliminary { NoFailure (CodeAndMsg 150 []) }
     ensures failure { NoFailure (CodeAndMsg 400 []) → ⊥ }
-    ensures failure_of_lines { NoFailure (MultiLine 530 []) → ⊥ }
     ensures anyone_served { ServesMembersAlone only_anna counting 0 → ⊥ }
     ensures anyone_served_in_bytes { MembersAlone None only_anna (codes "PWD\r\n")
         (codes "257 here\r\n") → ⊥ }
-    ensures anyone_opened { MembersAlone None only_anna (codes "PWD\r\n")
-        (codes "150 opened\r\n530 no\r\n") → ⊥ }
     ensures stranger { MembersAlone None only_anna (codes "PWD\r\n") (codes "530 no\r\n") }
-    ensures garbage { MembersAlone None only_anna (codes "PWD\r\n") (codes "x") → ⊥ }
     ensures no_event { MembersAlone None only_anna [] (codes "530 no\r\n") → ⊥ }
     ensures plain { IsSentPlain (CodeAndMsg 100 (codes "x")) × SendsPlainExchanges counting }
     ensures nothing_sent { SendsPlainExchanges silent → ⊥ }
-    ensures short_code { IsSentPlain (CodeAndMsg 99 []) → ⊥ }
     ensures line_feed { IsSentPlain (MultiLine 200 (codes "a\n" ∷ [])) → ⊥ }
 {}
 
@@ -189,28 +160,23 @@ pub fn refused_logins()
     ensures refused { IsRefusedLogin None only_anna anna wrong
         × IsRefusedLogin None only_anna wrong secret }
     ensures accepted { IsRefusedLogin None only_anna anna secret → ⊥ }
-    ensures lines { login_lines anna secret ≡ codes "USER anna\r\nPASS secret\r\n" }
 {}
 
 /// Which passwords look alike: after a name, those that are both refused for it, though one is that
 /// of another user.
 pub fn passwords_look_alike()
     ensures alike { LooksAlike only_anna (user anna ∷ []) (pass wrong) (pass (codes "other")) }
-    ensures another_user { LooksAlike anna_and_ben (user anna ∷ []) (pass wrong)
-        (pass (codes "other")) }
     ensures his_own { LooksAlike anna_and_ben (user ben ∷ []) (pass wrong)
         (pass (codes "other")) → ⊥ }
     ensures told_apart { LooksAlike only_anna (user anna ∷ []) (pass wrong) (pass secret) → ⊥ }
     ensures no_name { LooksAlike only_anna [] (pass wrong) (pass secret) }
     ensures other_events { LooksAlike only_anna [] (Command Noop) (Command Quit) → ⊥ }
-    ensures same_events { LooksAlike only_anna [] (Command Noop) (Command Noop) }
     ensures each { AllLookAlike anna_and_ben (user anna ∷ pass wrong ∷ Command Noop ∷ [])
         (user anna ∷ pass (codes "other") ∷ Command Noop ∷ []) }
     ensures one_more { AllLookAlike only_anna (Command Noop ∷ []) [] → ⊥ }
     ensures same_lines { DifferInPasswords None (codes "NOOP\r\nPASS a\r\n")
         (codes "NOOP\r\nPASS b\r\n") }
     ensures other_lines { DifferInPasswords None (codes "TYPE a\r\n") (codes "TYPE i\r\n") → ⊥ }
-    ensures fails { FailsAlike None counting 0 (codes "NOOP\r\n") (codes "NOOP\r\n") }
     ensures never_fails { FailsAlike None counting 0 (codes "NOOP\r\n") [] → ⊥ }
 {}
 
@@ -222,18 +188,14 @@ pub fn a_limit_counts()
     ensures count { failed_in_run (limited_law (gated_law counting))
         (limited_to 2 (closed only_anna 0))
         (pass wrong ∷ user anna ∷ pass secret ∷ pass wrong ∷ pass wrong ∷ []) ≡ 2 }
-    ensures goes_on { (limited_law counting).done (limited_to 1 0) ≡ false }
     ensures done { ((limited_law counting).done (limited_to 0 0) ≡ true)
         × ((limited_law counting).done (limited_to 1 9) ≡ true) }
     ensures last { EndsWith too_many (limited_law (gated_law counting))
         (limited_to 1 (closed only_anna 0)) (Command Noop ∷ pass wrong ∷ Command Noop ∷ []) }
     ensures not_last { EndsWith too_many (limited_law (gated_law counting))
         (limited_to 2 (closed only_anna 0)) (pass wrong ∷ []) → ⊥ }
-    ensures not_ended { EndsWith here counting 0 (Command Noop ∷ []) → ⊥ }
     ensures preliminary { replies (limited_law refusing) (limited_to 2 [])
         (pass wrong ∷ Command Noop ∷ pass wrong ∷ [])
         ≡ opened ∷ not_accepted ∷ not_accepted ∷ opened ∷ not_accepted ∷ not_accepted ∷ opened
         ∷ too_many ∷ [] }
-    ensures count_once { failed_in_run (limited_law refusing) (limited_to 2 [])
-        (pass wrong ∷ Command Noop ∷ []) ≡ 1 }
 {}

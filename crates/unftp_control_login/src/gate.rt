@@ -4,10 +4,10 @@ ghost use Rattle.unftp_control_defs.specs.Events.{is_quit};
 ghost use Rattle.unftp_control_defs.specs.Events as event;
 ghost use Rattle.unftp_control_defs.specs.FtpCommand.{Pass, User};
 ghost use Rattle.unftp_control_defs.specs.Run.{Follows, after};
-ghost use Rattle.unftp_control_reply.specs.ErrorMeaning.{fault_of};
+ghost use Rattle.unftp_control_message.specs.ErrorMeaning.{fault_of};
 ghost use Rattle.unftp_control_serve.specs.EventMeaning.{event_meant, further_of};
 ghost use Rattle.unftp_control_serve.specs.Writing.{Begins};
-ghost use Rattle.unftp_control_reply.specs.ReplyMeaning.{reply_of};
+ghost use Rattle.unftp_control_message.specs.ReplyMeaning.{reply_of};
 ghost use Rattle.unftp_control_login.specs.Login.{flushes_login, is_login, needs_login};
 ghost use Rattle.unftp_control_login.specs.HandlerCalls.{CallsMade, Dropped, First};
 ghost use Rattle.unftp_control_login.specs.CallsOf.{calls_of};
@@ -21,9 +21,9 @@ use crate::stage::Stage;
 use bytes::Bytes;
 use std::alloc::Global;
 use std::mem;
-use unftp_control_command::Command;
-use unftp_control_reply::error::ControlChanError;
-use unftp_control_reply::{Reply, ReplyCode};
+use unftp_control_message::Command;
+use unftp_control_message::reply::error::ControlChanError;
+use unftp_control_message::reply::{Reply, ReplyCode};
 use unftp_control_serve::{Event, Session};
 
 /// Takes names and passwords, and passes on to its handler what is allowed (RFC 959,

@@ -1,21 +1,19 @@
 //! The one way by which the handler after another one is called, and by which that other one asks
 //! memory for a reply.
-ghost use Rattle.std.specs.Prelude.{◌≡◌, ◌<◌, [], ◌∷◌, List, None, IfOk, IfErr, IfSome, OnOk, OnErr};
-ghost use Rattle.unftp_control_defs.specs.Events.{out_of_memory};
+ghost use Rattle.std.specs.Prelude.{◌≡◌, ◌<◌, [], List, None, Some, IfOk, IfSome, OnOk};
 ghost use Rattle.unftp_control_defs.specs.FtpReply.{CodeAndMsg};
 ghost use Rattle.unftp_control_defs.specs.Run.{Follows, after};
-ghost use Rattle.unftp_control_reply.specs.ErrorMeaning.{fault_of};
-ghost use Rattle.unftp_control_reply.specs.ReplyMeaning.{number_of, reply_of};
+ghost use Rattle.unftp_control_message.specs.ReplyMeaning.{number_of, reply_of};
 ghost use Rattle.unftp_control_serve.specs.EventMeaning.{event_meant, further_of};
 ghost use Rattle.unftp_control_serve.specs.Writing.{Begins};
-ghost use Rattle.unftp_control_login.specs.HandlerCalls.{Called, CallsMade, Dropped, First, Further, Makes};
+ghost use Rattle.unftp_control_login.specs.HandlerCalls.{CallsMade, Dropped, First, Further, OwnMade};
 ghost use Rattle.unftp_control_login.specs.CallsOf.{DrainsAll, calls_of};
 
 use crate::calls::{Calls, Note};
 use std::alloc::Global;
 use unftp_control_defs::count::Count;
-use unftp_control_reply::error::ControlChanError;
-use unftp_control_reply::{Reply, ReplyCode};
+use unftp_control_message::reply::error::ControlChanError;
+use unftp_control_message::reply::{Reply, ReplyCode};
 use unftp_control_serve::{Event, Session};
 
 /// The handler after another one. It is private, and each event that it receives is recorded, and
@@ -112,14 +110,9 @@ impl<H: Session> Inner<H> {
     ) -> Result<Reply, ControlChanError>
         ensures says { IfOk result (λ reply.
             reply_of reply ≡ CodeAndMsg (number_of code) text.now) }
-        ensures may_fail { IfErr result (λ error. fault_of error ≡ out_of_memory) }
         ensures handler { self.new.handler ≡ self.old.handler }
-        ensures ok { OnOk result (Called (calls_of H.failures self.old)
-            (calls_of H.failures self.new)
-            (Makes (CodeAndMsg (number_of code) text.now) ∷ []) 0 0) }
-        ensures err { OnErr result (Called (calls_of H.failures self.old)
-            (calls_of H.failures self.new)
-            (Makes (CodeAndMsg (number_of code) text.now) ∷ []) 1 0) }
+        ensures made { OwnMade (Some (CodeAndMsg (number_of code) text.now))
+            (calls_of H.failures self.old) (calls_of H.failures self.new) result }
     {
         self.calls.push(&Note::Makes { code, text });
         let reply = Reply::new(alloc, code, text);

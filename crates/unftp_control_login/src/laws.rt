@@ -1,15 +1,14 @@
 //! What a login gate and a limit promise of all inputs, each the contract of a function that does
 //! nothing.
-ghost use Rattle.std.specs.Prelude.{◌≡◌, ◌<◌, ◌≤◌, ◌++◌, ◌⊎◌, ℕ, [], true, false, List, Option, IsTrue};
+ghost use Rattle.std.specs.Prelude.{◌≡◌, ◌<◌, ◌≤◌, ◌⊎◌, ℕ, true, false, List, Option, IsTrue};
 ghost use Rattle.unftp_control_defs.specs.Bytes.{Bytes};
-ghost use Rattle.unftp_control_defs.specs.Events.{FtpEvent, Command, events};
+ghost use Rattle.unftp_control_defs.specs.Events.{FtpEvent, Command};
 ghost use Rattle.unftp_control_defs.specs.FtpCommand.{Quit};
-ghost use Rattle.unftp_control_defs.specs.Run.{after, text_for};
-ghost use Rattle.unftp_control_defs.specs.Lines.{incomplete_line};
+ghost use Rattle.unftp_control_defs.specs.Run.{after, replies_to, text_for};
 ghost use Rattle.unftp_control_login.specs.Login.{Accounts, GaveName, IsLoggedIn, is_login, needs_login};
 ghost use Rattle.unftp_control_login.specs.Gate.{Gated, closed, gated_law};
 ghost use Rattle.unftp_control_login.specs.LoginLimit.{EndsWith, Limited, failed_in_run, is_failed_login, limited_law, limited_to, too_many};
-ghost use Rattle.unftp_control_login.specs.Promises.{AllLookAlike, AnswerAlike, AnsweredAlike, DifferInPasswords, PasswordFits, FailsAlike, IsRefusedLogin, IsTurnedAway, LearnsName, MembersAlone, ReachesHandler, SendsPlainExchanges, ServesMembersAlone, calls_for, gate_calls, limit_calls, login_lines, pass_line, replies_to};
+ghost use Rattle.unftp_control_login.specs.Promises.{AccountsStayHidden, CallsHidePasswords, ErrorsHidePasswords, IsTurnedAway, LearnsName, MembersAlone, PasswordsStayHidden, ReachesHandler, RefusedLoginsLookAlike, RefusedPasswordsLookAlike, SendsPlainExchanges, ServesMembersAlone, gate_calls, limit_calls};
 
 use unftp_control_serve::Session;
 
@@ -68,19 +67,12 @@ pub fn members_alone_are_served_in_bytes<H: Session>()
 /// The output reveals about a password only whether it was accepted: two inputs whose events differ
 /// in passwords that the accounts answer alike, for the name that was given, have one output.
 pub fn passwords_stay_hidden<H: Session>()
-    ensures gate { (said : List H.Said)
-        (limit : Option ℕ) (accepts : Accounts) (inner : H.State) (input other : Bytes)
-        → AllLookAlike accepts (events limit input) (events limit other)
-        → text_for limit (gated_law (H.law said)) (closed accepts inner) input
-        ≡ text_for limit (gated_law (H.law said)) (closed accepts inner) other }
+    ensures gate { (said : List H.Said) (limit : Option ℕ) (accepts : Accounts) (inner : H.State)
+        → PasswordsStayHidden limit accepts (gated_law (H.law said)) (closed accepts inner) }
     ensures limit { (said : List H.Said)
         (limit : Option ℕ) (accepts : Accounts) (left : ℕ) (inner : H.State)
-        (input other : Bytes)
-        → AllLookAlike accepts (events limit input) (events limit other)
-        → text_for limit (limited_law (gated_law (H.law said)))
-        (limited_to left (closed accepts inner)) input
-        ≡ text_for limit (limited_law (gated_law (H.law said)))
-        (limited_to left (closed accepts inner)) other }
+        → PasswordsStayHidden limit accepts (limited_law (gated_law (H.law said)))
+        (limited_to left (closed accepts inner)) }
 {}
 
 /// Nor does an error reveal more, where the inputs differ only in lines that give passwords:
@@ -89,33 +81,19 @@ pub fn passwords_stay_hidden<H: Session>()
 /// handler receives the same, and memory is asked for the same replies. They fail where one of
 /// these calls fails, and only there (`calls` of their `first` and `further`).
 pub fn errors_hide_passwords<H: Session>()
-    ensures gate { (said : List H.Said)
-        (limit : Option ℕ) (accepts : Accounts) (inner : H.State) (input other : Bytes)
-        → AllLookAlike accepts (events limit input) (events limit other)
-        → DifferInPasswords limit input other
-        → FailsAlike limit (gated_law (H.law said)) (closed accepts inner) input other }
+    ensures gate { (said : List H.Said) (limit : Option ℕ) (accepts : Accounts) (inner : H.State)
+        → ErrorsHidePasswords limit accepts (gated_law (H.law said)) (closed accepts inner) }
     ensures limit { (said : List H.Said)
         (limit : Option ℕ) (accepts : Accounts) (left : ℕ) (inner : H.State)
-        (input other : Bytes)
-        → AllLookAlike accepts (events limit input) (events limit other)
-        → DifferInPasswords limit input other
-        → FailsAlike limit (limited_law (gated_law (H.law said)))
-        (limited_to left (closed accepts inner)) input other }
-    ensures calls { (said : List H.Said)
-        (limit : Option ℕ) (accepts : Accounts) (inner : H.State) (input other : Bytes)
-        → AllLookAlike accepts (events limit input) (events limit other)
-        → calls_for limit (gate_calls (H.law said)) (gated_law (H.law said))
-        (closed accepts inner) input
-        ≡ calls_for limit (gate_calls (H.law said)) (gated_law (H.law said))
-        (closed accepts inner) other }
+        → ErrorsHidePasswords limit accepts (limited_law (gated_law (H.law said)))
+        (limited_to left (closed accepts inner)) }
+    ensures calls { (said : List H.Said) (limit : Option ℕ) (accepts : Accounts) (inner : H.State)
+        → CallsHidePasswords limit accepts (gated_law (H.law said)) (closed accepts inner)
+        (gate_calls (H.law said)) }
     ensures calls_in_limit { (said : List H.Said)
         (limit : Option ℕ) (accepts : Accounts) (left : ℕ) (inner : H.State)
-        (input other : Bytes)
-        → AllLookAlike accepts (events limit input) (events limit other)
-        → calls_for limit (limit_calls (H.law said)) (limited_law (gated_law (H.law said)))
-        (limited_to left (closed accepts inner)) input
-        ≡ calls_for limit (limit_calls (H.law said)) (limited_law (gated_law (H.law said)))
-        (limited_to left (closed accepts inner)) other }
+        → CallsHidePasswords limit accepts (limited_law (gated_law (H.law said)))
+        (limited_to left (closed accepts inner)) (limit_calls (H.law said)) }
 {}
 
 /// What is written and called depends on the accounts only by their answers to what the session may
@@ -124,67 +102,35 @@ pub fn errors_hide_passwords<H: Session>()
 /// another password.
 pub fn accounts_stay_hidden<H: Session>()
     ensures gate { (said : List H.Said)
-        (limit : Option ℕ) (accepts other : Accounts) (inner : H.State) (input : Bytes)
-        → AnswerAlike accepts other (events limit input)
-        → (text_for limit (gated_law (H.law said)) (closed accepts inner) input
-        ≡ text_for limit (gated_law (H.law said)) (closed other inner) input)
-        × (calls_for limit (gate_calls (H.law said)) (gated_law (H.law said))
-        (closed accepts inner) input
-        ≡ calls_for limit (gate_calls (H.law said)) (gated_law (H.law said))
-        (closed other inner) input) }
+        (limit : Option ℕ) (accepts other : Accounts) (inner : H.State)
+        → AccountsStayHidden limit accepts other (gate_calls (H.law said)) (gated_law (H.law said))
+        (closed accepts inner) (closed other inner) }
     ensures limit { (said : List H.Said)
         (limit : Option ℕ) (accepts other : Accounts) (left : ℕ) (inner : H.State)
-        (input : Bytes) → AnswerAlike accepts other (events limit input)
-        → (text_for limit (limited_law (gated_law (H.law said)))
-        (limited_to left (closed accepts inner)) input
-        ≡ text_for limit (limited_law (gated_law (H.law said)))
-        (limited_to left (closed other inner)) input)
-        × (calls_for limit (limit_calls (H.law said)) (limited_law (gated_law (H.law said)))
-        (limited_to left (closed accepts inner)) input
-        ≡ calls_for limit (limit_calls (H.law said)) (limited_law (gated_law (H.law said)))
-        (limited_to left (closed other inner)) input) }
+        → AccountsStayHidden limit accepts other (limit_calls (H.law said))
+        (limited_law (gated_law (H.law said))) (limited_to left (closed accepts inner))
+        (limited_to left (closed other inner)) }
 {}
 
 /// In bytes: two passwords that the accounts answer alike for the name that was given, in lines of
 /// PASS within the limit, give one output. So a wrong password gives what another user's gives.
 pub fn refused_passwords_look_alike<H: Session>()
     ensures gate { (said : List H.Said) (limit : Option ℕ) (accepts : Accounts) (inner : H.State)
-        (before after password other : Bytes) → incomplete_line before ≡ []
-        → PasswordFits limit password → PasswordFits limit other
-        → AnsweredAlike accepts (events limit before) password other
-        → text_for limit (gated_law (H.law said)) (closed accepts inner)
-        (before ++ (pass_line password ++ after))
-        ≡ text_for limit (gated_law (H.law said)) (closed accepts inner)
-        (before ++ (pass_line other ++ after)) }
+        → RefusedPasswordsLookAlike limit accepts (gated_law (H.law said)) (closed accepts inner) }
     ensures limit { (said : List H.Said)
         (limit : Option ℕ) (accepts : Accounts) (left : ℕ) (inner : H.State)
-        (before after password other : Bytes) → incomplete_line before ≡ []
-        → PasswordFits limit password → PasswordFits limit other
-        → AnsweredAlike accepts (events limit before) password other
-        → text_for limit (limited_law (gated_law (H.law said)))
-        (limited_to left (closed accepts inner)) (before ++ (pass_line password ++ after))
-        ≡ text_for limit (limited_law (gated_law (H.law said)))
-        (limited_to left (closed accepts inner)) (before ++ (pass_line other ++ after)) }
+        → RefusedPasswordsLookAlike limit accepts (limited_law (gated_law (H.law said)))
+        (limited_to left (closed accepts inner)) }
 {}
 
 /// A login that is refused gives the same output whether its name is known or not.
 pub fn refused_logins_look_alike<H: Session>()
     ensures gate { (said : List H.Said) (limit : Option ℕ) (accepts : Accounts) (inner : H.State)
-        (before after name password other another : Bytes) → incomplete_line before ≡ []
-        → IsRefusedLogin limit accepts name password → IsRefusedLogin limit accepts other another
-        → text_for limit (gated_law (H.law said)) (closed accepts inner)
-        (before ++ (login_lines name password ++ after))
-        ≡ text_for limit (gated_law (H.law said)) (closed accepts inner)
-        (before ++ (login_lines other another ++ after)) }
+        → RefusedLoginsLookAlike limit accepts (gated_law (H.law said)) (closed accepts inner) }
     ensures limit { (said : List H.Said)
         (limit : Option ℕ) (accepts : Accounts) (left : ℕ) (inner : H.State)
-        (before after name password other another : Bytes) → incomplete_line before ≡ []
-        → IsRefusedLogin limit accepts name password → IsRefusedLogin limit accepts other another
-        → text_for limit (limited_law (gated_law (H.law said)))
-        (limited_to left (closed accepts inner)) (before ++ (login_lines name password ++ after))
-        ≡ text_for limit (limited_law (gated_law (H.law said)))
-        (limited_to left (closed accepts inner))
-        (before ++ (login_lines other another ++ after)) }
+        → RefusedLoginsLookAlike limit accepts (limited_law (gated_law (H.law said)))
+        (limited_to left (closed accepts inner)) }
 {}
 
 /// In a session no more logins fail than the limit allows, and the last that may fail is answered

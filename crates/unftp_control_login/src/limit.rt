@@ -1,19 +1,21 @@
 //! A limit on the failed logins of a session.
-ghost use Rattle.std.specs.Prelude.{◌≡◌, ◌+◌, ◌<◌, ◌≤◌, ◌&&◌, if◌then◌else◌, false, List, IfOk, IfErr, IfSome, OnOk, OnErr};
+ghost use Rattle.std.specs.Prelude.{◌≡◌, ◌+◌, ◌<◌, ◌≤◌, ◌&&◌, false, List, IfOk, IfErr, IfSome, OnOk, OnErr};
 ghost use Rattle.unftp_control_defs.specs.Run.{Follows};
 ghost use Rattle.unftp_control_defs.specs.Turns.{is_preliminary_reply};
-ghost use Rattle.unftp_control_reply.specs.ErrorMeaning.{fault_of};
-ghost use Rattle.unftp_control_reply.specs.ReplyMeaning.{reply_of};
+ghost use Rattle.unftp_control_message.specs.ErrorMeaning.{fault_of};
+ghost use Rattle.unftp_control_message.specs.ReplyMeaning.{reply_of};
 ghost use Rattle.unftp_control_serve.specs.EventMeaning.{event_meant, further_of};
 ghost use Rattle.unftp_control_serve.specs.Writing.{Begins};
-ghost use Rattle.unftp_control_login.specs.LoginLimit.{Limited, fails, is_failure, is_last, is_pass, last_reply, limited_law, limited_reply, limited_state};
-ghost use Rattle.unftp_control_login.specs.LimitState.{LimitAsked, LimitCalled, OwnMade, limited};
+ghost use Rattle.unftp_control_login.specs.LoginLimit.{Limited, is_failure, is_pass, last_reply, limited_law, limited_reply, limited_state};
+ghost use Rattle.unftp_control_login.specs.LimitState.{LimitAsked, LimitCalled, limited};
+ghost use Rattle.unftp_control_login.specs.HandlerCalls.{OwnMade};
+ghost use Rattle.unftp_control_login.specs.CallsOf.{calls_of};
 
 use crate::inner::Inner;
 use std::alloc::Global;
-use unftp_control_command::Command;
-use unftp_control_reply::error::ControlChanError;
-use unftp_control_reply::{Reply, ReplyCode};
+use unftp_control_message::Command;
+use unftp_control_message::reply::error::ControlChanError;
+use unftp_control_message::reply::{Reply, ReplyCode};
 use unftp_control_serve::{Event, Session};
 
 /// Passes each event on to its handler, and counts the logins that fail: each PASS of which a reply
@@ -55,8 +57,8 @@ impl<H: Session> LoginLimit<H> {
         ensures next { OnOk result (limited H.state self.new ≡ limited_state self.old.left
             self.old.at_pass (reply_of reply) (H.state self.old.inner.handler)) }
         ensures handler { self.new.inner.handler ≡ self.old.inner.handler }
-        ensures made { OwnMade H.failures (last_reply self.old.left self.old.at_pass
-            (reply_of reply)) self.old.inner self.new.inner result }
+        ensures made { OwnMade (last_reply self.old.left self.old.at_pass (reply_of reply))
+            (calls_of H.failures self.old.inner) (calls_of H.failures self.new.inner) result }
     {
         if !self.at_pass || !is_failure(&reply) {
             self.ended = false;

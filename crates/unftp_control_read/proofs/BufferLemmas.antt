@@ -15,30 +15,24 @@ grown_by (Ok _) old {len} {end} count is e h =
     h ∙ (λ i. take_all end old (omega arith) i ++ replicate (n i) 0)
 grown_by (Err _) old count is e h = tt
 
--- a buffer that has grown by zeros, and its front up to them
-pub record HasGrown (old zeros grown front : Bytes) (len all : ℕ) : Type 0 where
-  pub grown_is : grown ≡ old ++ zeros
-  pub len_is : len ≡ length old
-  pub all_is : all ≡ length grown
-  pub front_is : front ≡ take len grown
-
--- where a reader wrote the first n bytes of the room that it got
-pub read_part : {old zeros grown front : Bytes} {len all : ℕ}
-    → HasGrown old zeros grown front len all → (room tail : Bytes) (n : ℕ)
+-- where a reader wrote the first n bytes of the zeros that a buffer has grown by
+pub read_part : (old zeros room tail : Bytes) {grown front : Bytes} {len all : ℕ} (n : ℕ)
+    → grown ≡ old ++ zeros → len ≡ length old → all ≡ length grown → front ≡ take len grown
     → length room ≡ length zeros
     → take (len + n) (take all ((front ++ room) ++ tail)) ≡ old ++ take n room
-read_part {old} {zeros} {front = front} {len = len} {all = all} h room tail n long =
-    let same : front ≡ old = h.front_is ∙ ap (take len) h.grown_is
-    ∙ take_at old zeros len (sym h.len_is) in
+read_part old zeros room tail {grown} {front} {len} {all} n grown_is len_is all_is front_is long =
+    let same : front ≡ old = front_is ∙ ap (take len) grown_is ∙ take_at old zeros len (sym len_is)
+    in
     ap (take (len + n))
     (take_at (front ++ room) tail all
     (omega (
       arith,
-      h.all_is,
-      ap length h.grown_is,
+      all_is,
+      ap length grown_is,
       length-append old zeros,
       ap length same,
       length-append front room,
+      long,
     )))
-    ∙ (λ i. take (h.len_is i + n) (same i ++ room))
+    ∙ (λ i. take (len_is i + n) (same i ++ room))
     ∙ take-append-add old room n

@@ -1,14 +1,13 @@
--- The lines that a loop has copied.
-use Rattle.std.proofs.Common.{◌≡◌, ℕ, List, [], ◌∷◌, ◌++◌, ◌-◌, map, flat_map, length, Vec, Global, sym, append-nil, length-append, take_at, ap, ◌∙◌, arith}
+-- The lines that are copied.
+use Rattle.std.proofs.Common.{◌≡◌, ℕ, Option, List, [], ◌∷◌, ◌++◌, map, take, Vec, Global, sym, ap, ◌∙◌}
 use Rattle.std.proofs.lemmas.List.{map-append}
-use Rattle.std.specs.List.{AllByRecursion}
-use Rattle.unftp_control_defs.specs.Bytes.{Bytes}
-use Rattle.unftp_control_defs.specs.ReplyReader.{LacksCrlf, with_crlf}
-use Rattle.unftp_control_defs.proofs.ReplyCasesLemmas.{lacks_nil}
-use Rattle.unftp_control_read.specs.Reading.{contents, Holds, middle_of, scanned_lines, scanned_to_copy}
-use Rattle.unftp_control_read.specs.declared.finding.Texts.{Texts}
-use Rattle.unftp_control_read.specs.declared.finding.Texts.TheVariants as text
-use Rattle.unftp_control_read.proofs.LineLemmas.{lines_unique}
+use Rattle.unftp_control_defs.specs.Bytes.{Bytes, SP}
+use Rattle.unftp_control_defs.specs.ReplyReader.{LacksCrlf, with_crlf, GoesOn, FrontReply}
+use Rattle.unftp_control_defs.specs.ComputedReply.{Opening, One, Several, opening, cuts_of, last_text, later_by, later_lines, Whole, Partial, front_after, front_by}
+use Rattle.unftp_control_defs.proofs.CrlfLemmas.{cuts_of-none}
+use Rattle.unftp_control_defs.proofs.ReplyLemmas.{front_of-FrontReply, front_of-line, last_text-of, last_text-none}
+use Rattle.unftp_control_read.specs.Reading.{contents}
+use Rattle.unftp_control_read.proofs.SearchLemmas.{front_after-more, later_lines-cut}
 
 pub contents_more : (lines more : Vec (Vec ℕ Global) Global) (line : Vec ℕ Global) {bytes : Bytes}
     → more.items ≡ lines.items ++ line ∷ [] → line.items ≡ bytes
@@ -18,36 +17,68 @@ contents_more lines more line e f =
     ∙ map-append (λ (v : Vec ℕ Global). v.items) lines.items (line ∷ [])
     ∙ ap (λ b. contents lines ++ b ∷ []) f
 
--- the lines are the first one and the lines of the middle up to the rest
-pub record Copied (first middle rest : Bytes) (lines : List Bytes) : Type 0 where
-  pub between : List Bytes
-  pub lines_are : lines ≡ first ∷ between
-  pub cut : middle ≡ flat_map with_crlf between ++ rest
-  pub each : AllByRecursion LacksCrlf between
+-- the lines so far, and what is read of the rest, are what is read of these bytes
+abbrev pub Copied : Bytes → Bytes → Bytes → Bytes → List Bytes → Type 0
+Copied digits first bytes rest copied = (opened : ℕ)
+    → front_after opened (first ∷ []) (later_lines digits (cuts_of bytes))
+    ≡ front_after opened copied (later_lines digits (cuts_of rest))
 
-pub copied_all : {first middle rest : Bytes} (last : Bytes) {lines more : List Bytes}
-    (between : List Bytes)
-    → Copied first middle rest lines → LacksCrlf rest → more ≡ lines ++ last ∷ []
-    → AllByRecursion LacksCrlf between → middle ≡ flat_map with_crlf between
-    → more ≡ first ∷ (between ++ last ∷ [])
-copied_all {first} {rest} last between h lacks e each whole =
-    let same : h.between ≡ between =
-    lines_unique h.between between h.each each lacks lacks_nil
-    (sym h.cut ∙ whole ∙ sym (append-nil (flat_map with_crlf between))) in
-    e ∙ ap (λ (l : List Bytes). l ++ last ∷ []) h.lines_are
-    ∙ ap (λ (l : List Bytes). first ∷ (l ++ last ∷ [])) same
+module _ (digits first bytes rest : Bytes) (copied : List Bytes)
+    (h : Copied digits first bytes rest copied) where
+  -- the rest has no whole line
+  pub copied_none : LacksCrlf rest → (opened code : ℕ) (lines : List Bytes) (end : Bytes)
+      → front_after opened (first ∷ []) (later_lines digits (cuts_of bytes)) ≡ Whole code lines end
+      → ⊥
+  copied_none lacks opened code lines end e =
+      let clash : Partial ≡ Whole code lines end =
+      sym (h opened ∙ ap (λ cuts. front_after opened copied (later_lines digits cuts))
+      (cuts_of-none rest lacks)) ∙ e in cc
 
--- ---- the bytes that copying scans
+  module _ (line after : Bytes) (cut : rest ≡ with_crlf line ++ after) (is_line : LacksCrlf line)
+    where
+      at_line : (code : ℕ) {text : Option Bytes} → last_text digits line ≡ text
+          → front_after code (first ∷ []) (later_lines digits (cuts_of bytes)) ≡ front_after code
+          copied (later_by text (line, after) (later_lines digits (cuts_of after)))
+      at_line code is = h code ∙ ap (front_after code copied) (later_lines-cut digits line after cut is_line
+          ∙ ap (λ text. later_by text (line, after) (later_lines digits (cuts_of after))) is)
 
-between_only : (first last : Bytes) (between : List Bytes)
-    → scanned_lines (first ∷ (between ++ last ∷ [])) ≡ between
-between_only first last between =
-    take_at between (last ∷ []) (length (first ∷ (between ++ last ∷ [])) - 2)
-    (omega (arith, length-append between (last ∷ [])))
+      pub copied_last : (last : Bytes) → line ≡ digits ++ SP ∷ last → {more : List Bytes}
+          → more ≡ copied ++ last ∷ [] → (opened code : ℕ) (lines : List Bytes) (end : Bytes)
+          → front_after opened (first ∷ []) (later_lines digits (cuts_of bytes)) ≡ Whole code lines end
+          → more ≡ lines
+      copied_last last is more_is opened code lines end e =
+          let same : Whole opened (copied ++ last ∷ []) after ≡ Whole code lines end =
+          sym (at_line opened (ap (last_text digits) is ∙ last_text-of digits last)) ∙ e in
+          let whole : copied ++ last ∷ [] ≡ lines = cc in more_is ∙ whole
 
-pub scanned_length : (texts : Texts) {lines copied : List Bytes} → Holds texts lines
-    → copied ≡ lines → scanned_to_copy copied ≡ length (middle_of texts)
-scanned_length (text.One one) h e = ap scanned_to_copy (e ∙ h)
-scanned_length (text.Several first middle last) h e =
-    ap scanned_to_copy (e ∙ h.3) ∙ ap (λ ls. length (flat_map with_crlf ls))
-    (between_only first.now last.now h.0) ∙ ap length (sym h.1)
+      pub copied_more : GoesOn digits line → {more : List Bytes} → more ≡ copied ++ line ∷ []
+          → Copied digits first bytes after more
+      copied_more goes is code = at_line code (last_text-none digits line goes)
+          ∙ front_after-more code copied line (later_lines digits (cuts_of after))
+          ∙ ap (λ lines. front_after code lines (later_lines digits (cuts_of after))) (sym is)
+
+-- ---- the whole reply
+
+pub first_copied : (line after : Bytes) {bytes : Bytes} → bytes ≡ with_crlf line ++ after
+    → LacksCrlf line → {o : Opening} → opening line ≡ o → {code : ℕ} {lines : List Bytes} {used : ℕ}
+    → (f : FrontReply bytes code lines used)
+    → front_by o (take 3 line) after (cuts_of after) ≡ Whole code lines f.rest
+first_copied line after cut is_line is f =
+    ap (λ o. front_by o (take 3 line) after (cuts_of after)) (sym is)
+    ∙ sym (front_of-line line after cut is_line) ∙ front_of-FrontReply f
+
+module _ (line after : Bytes) {bytes : Bytes} (cut : bytes ≡ with_crlf line ++ after)
+    (is_line : LacksCrlf line) where
+  pub one_copied : {m : ℕ} {text : Bytes} → opening line ≡ One m text → {code : ℕ}
+      {lines : List Bytes} {used : ℕ} → FrontReply bytes code lines used → text ∷ [] ≡ lines
+  one_copied {m} {text} is {code} {lines} f =
+      let same : Whole m (text ∷ []) after ≡ Whole code lines f.rest =
+      first_copied line after cut is_line is f in cc
+
+  pub several_copied : {digits : Bytes} → digits ≡ take 3 line → {m : ℕ} {first : Bytes}
+      → opening line ≡ Several m first → {code : ℕ} {lines : List Bytes} {used : ℕ}
+      → (f : FrontReply bytes code lines used)
+      → front_after m (first ∷ []) (later_lines digits (cuts_of after)) ≡ Whole code lines f.rest
+  several_copied same {m} {first} is f =
+      ap (λ digits. front_after m (first ∷ []) (later_lines digits (cuts_of after))) same
+      ∙ first_copied line after cut is_line is f

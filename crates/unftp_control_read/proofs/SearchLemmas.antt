@@ -1,370 +1,155 @@
 -- A search for the reply at the start that goes on where it stopped.
-use Rattle.std.proofs.Common.{◌≡◌, ℕ, ◌+◌, ◌-◌, ◌≤◌, Option, Some, None, List, [], ◌∷◌, ◌++◌, ◌⊎◌, inl, inr, flat_map, length, take, drop, refl, sym, ap, subst, ◌∙◌, append_assoc, length-append, take_at, drop_at, arith}
-use Rattle.std.proofs.Math.Seq.{take-length}
-use Rattle.std.proofs.lemmas.List.{take-append-le, take-append-drop}
-use Rattle.std.specs.List.{AllByRecursion}
-use Rattle.unftp_control_defs.specs.Bytes.{Bytes, CR, LF, SP, DASH, crlf}
-use Rattle.unftp_control_defs.specs.ReplyReader.{LacksCrlf, with_crlf, SpellsCode, GoesOn, FrontReply, Opens, IsPartial, IsMalformed}
-use Rattle.unftp_control_defs.proofs.ReplyUniqueLemmas.{code_length, line_apart}
-use Rattle.unftp_control_defs.proofs.ReplyPartLemmas.{IsEnded, IsPart, part_is_partial}
-use Rattle.unftp_control_defs.proofs.ReplyCasesLemmas.{lacks_nil}
-use Rattle.unftp_control_read.specs.Search.{scan_offset, EndsAt, Counts, IsOpenReply, IsBegun, IsSearched, IsAtLine}
-use Rattle.unftp_control_read.specs.declared.search.Opened.{Opened}
+use Rattle.std.proofs.Common.{◌≡◌, ℕ, suc, ◌-◌, ◌≤◌, Option, Some, None, List, [], ◌∷◌, ◌++◌, length, take, drop, refl, sym, ap, subst, ◌∙◌, append_assoc, append-nil, length-append, drop_at, arith, option_map}
+use Rattle.std.proofs.lemmas.List.{take-append-le, take-append-drop, drop-append-le, get_or_append_left}
+use Rattle.unftp_control_defs.specs.Bytes.{Bytes, SP, crlf}
+use Rattle.unftp_control_defs.specs.ReplyReader.{LacksCrlf, with_crlf, GoesOn, FrontReply, IsPartial, IsMalformed}
+use Rattle.unftp_control_defs.specs.ComputedReply.{Opening, Nothing, One, Several, opening, cuts_of, last_text, later_by, later_lines, Whole, front_after, front_by, front_at, front_of}
+use Rattle.unftp_control_defs.proofs.CrlfLemmas.{cuts_of-with_crlf, cuts_of-none}
+use Rattle.unftp_control_defs.proofs.ReplyLemmas.{last_text-of, last_text-none, FrontReply-front_of, IsMalformed-front_of, IsPartial-front_of, front_of-line, front_within}
+use Rattle.unftp_control_read.specs.Reading.{ReturnsFound}
+use Rattle.unftp_control_read.specs.Search.{LacksCrlfUpTo, IsBegun, IsSearched, IsAtLine}
+use Rattle.unftp_control_read.specs.declared.FoundReply.TheVariants as found
 use Rattle.unftp_control_read.specs.declared.search.Search.{Search}
-use Rattle.unftp_control_read.specs.declared.search.Step.TheVariants.{Ends}
-use Rattle.unftp_control_read.specs.declared.finding.Finding.{Finding}
-use Rattle.unftp_control_read.specs.declared.finding.Finding.TheVariants as find
-use Rattle.unftp_control_read.proofs.LineLemmas.{all_snoc, one_more}
-use Rattle.unftp_control_read.proofs.FindingLemmas.{one_found, several_found}
 
 -- ---- how far it has come
 
 pub nothing_searched : (bytes : Bytes)
     → IsSearched bytes (record { opened = None; line = 0; searched = 0 })
-nothing_searched bytes =
-    record {
-      lines = [];
-      rest = bytes;
-      cut = refl;
-      each = tt;
-      begun = refl;
-      line_is = refl;
-      within = omega arith;
-      lacks = lacks_nil;
-    }
+nothing_searched bytes = record {
+  line_within = omega arith;
+  begun = refl;
+  within = omega arith;
+  lacks = λ k less. absurd (omega (arith, less));
+}
 
 -- more bytes at the end change nothing
-pub still_searched : (bytes piece : Bytes) (s : Search) → IsSearched bytes s
-    → IsSearched (bytes ++ piece) s
-still_searched bytes piece s h = record {
-  lines = h.lines;
-  rest = h.rest ++ piece;
-  cut = ap (λ b. b ++ piece) h.cut ∙ append_assoc (flat_map with_crlf h.lines) h.rest piece;
-  each = h.each;
-  begun = h.begun;
-  line_is = h.line_is;
-  within = omega (arith, h.within, length-append h.rest piece);
-  lacks = subst LacksCrlf (sym (take-append-le s.searched h.rest piece h.within)) h.lacks;
-}
-
-rest_is : (bytes : Bytes) (s : Search) → (h : IsSearched bytes s) → drop s.line bytes ≡ h.rest
-rest_is bytes s h = ap (drop s.line) h.cut ∙ drop_at (flat_map with_crlf h.lines) h.rest s.line
-    (sym h.line_is)
-
--- where the line begins, and how much of it is searched
-pub rest_searched : {bytes rest : Bytes} {s : Search} → IsSearched bytes s
-    → rest ≡ drop s.line bytes
-    → (s.searched ≤ length rest) × LacksCrlf (take s.searched rest)
-rest_searched {bytes} {rest} {s} h e =
-    let same : h.rest ≡ rest = sym (rest_is bytes s h) ∙ sym e in (
-      subst (λ r. s.searched ≤ length r) same h.within,
-      subst (λ r. LacksCrlf (take s.searched r)) same h.lacks,
+begun-append : (bytes piece : Bytes) (opened : Option ℕ) (rest : Bytes) → IsBegun bytes opened rest
+    → IsBegun (bytes ++ piece) opened (rest ++ piece)
+begun-append bytes piece None rest h = ap (λ b. b ++ piece) h
+begun-append bytes piece (Some code) rest (three, lines, front) =
+    let same : take 3 (bytes ++ piece) ≡ take 3 bytes = take-append-le 3 bytes piece three
+    in (
+      omega (arith, three, length-append bytes piece),
+      lines,
+      λ more. ap front_of (append_assoc bytes piece more) ∙ front (piece ++ more)
+          ∙ (λ i. front_after code lines
+          (later_lines (sym same i) (cuts_of (sym (append_assoc rest piece more) i)))),
     )
 
--- one more line
-pub line_at_rest : {bytes rest line after : Bytes} {s : Search} → IsSearched bytes s
-    → rest ≡ drop s.line bytes → rest ≡ line ++ CR ∷ LF ∷ after → LacksCrlf line
-    → IsAtLine bytes s.opened s.line line after
-line_at_rest {bytes} {s} h is cut is_line = record {
-  lines = h.lines;
-  cut = h.cut ∙ ap (λ b. flat_map with_crlf h.lines ++ b) (sym (rest_is bytes s h) ∙ sym is ∙ cut);
-  each = h.each;
-  begun = h.begun;
-  at_is = h.line_is;
-  is_line = is_line;
-}
+pub still_searched : (bytes piece : Bytes) (s : Search) → IsSearched bytes s
+    → IsSearched (bytes ++ piece) s
+still_searched bytes piece s h =
+    let rest : drop s.line (bytes ++ piece) ≡ drop s.line bytes ++ piece =
+    drop-append-le s.line bytes piece h.line_within in
+    record {
+      line_within = omega (arith, h.line_within, length-append bytes piece);
+      begun = subst (IsBegun (bytes ++ piece) s.opened) (sym rest)
+          (begun-append bytes piece s.opened (drop s.line bytes) h.begun);
+      within = omega (arith, h.within, ap length rest, length-append (drop s.line bytes) piece);
+      lacks = subst (LacksCrlfUpTo s.searched) (sym rest) (λ k less is_cr is_lf. h.lacks k less
+          (sym (get_or_append_left (drop s.line bytes) piece 0 k (omega (arith, less, h.within)))
+          ∙ is_cr)
+          (sym (get_or_append_left (drop s.line bytes) piece 0 (suc k) (omega (arith, less, h.within)))
+          ∙ is_lf));
+    }
 
 -- the whole rest
-pub all_searched : {bytes rest : Bytes} {s : Search} → IsSearched bytes s → rest ≡ drop s.line bytes
-    → LacksCrlf rest
-    → IsSearched bytes (record s { searched = length rest }) × IsPartial bytes
-all_searched {bytes} {rest} {s} h is lacks = (
-  record {
-    lines = h.lines;
-    rest = h.rest;
-    cut = h.cut;
-    each = h.each;
-    begun = h.begun;
-    line_is = h.line_is;
-    within = omega (arith, ap length same);
-    lacks =
-        subst LacksCrlf whole lacks;
-  },
-  part_is_partial bytes (part s.opened h.begun),
-)
-  where
-    same : rest ≡ h.rest
-    same = is ∙ rest_is bytes s h
-
-    whole : rest ≡ take (length rest) h.rest
-    whole = same ∙ sym (take-length h.rest) ∙ ap (λ n. take n h.rest) (ap length (sym same))
-
-    part : (opened : Option Opened) → IsBegun opened h.lines → IsPart bytes
-    part None none =
-        inl (subst LacksCrlf
-        (same ∙ sym (h.cut ∙ ap (λ (ls : List Bytes). flat_map with_crlf ls ++ h.rest) none)) lacks)
-    part (Some opened) o = inr (record {
-      digits = o.digits;
-      code = opened.code;
-      code_is = o.code_is;
-      text = o.text;
-      middle = o.middle;
-      rest = h.rest;
-      cut = h.cut ∙ ap (λ (ls : List Bytes). flat_map with_crlf ls ++ h.rest) o.lines_are;
-      each = subst (AllByRecursion LacksCrlf) o.lines_are h.each;
-      goes_on = o.goes_on;
-      unended = subst LacksCrlf same lacks;
-    })
+pub all_searched : (bytes : Bytes) (opened : Option ℕ) (rest : Bytes) → IsBegun bytes opened rest
+    → LacksCrlf rest → IsPartial bytes
+all_searched bytes None rest h lacks =
+    IsPartial-front_of bytes (ap front_at (ap cuts_of (sym h) ∙ cuts_of-none _ lacks))
+all_searched bytes (Some code) rest h lacks = IsPartial-front_of bytes
+    (ap front_of (sym (append-nil bytes)) ∙ h.2 []
+    ∙ ap (λ cuts. front_after code h.1 (later_lines (take 3 bytes) cuts))
+    (ap cuts_of (append-nil rest) ∙ cuts_of-none rest lacks))
 
 -- where the bytes after a line begin
-pub after_is_drop : (bytes : Bytes) {rest : Bytes} (line : Bytes) {after : Bytes} (at : ℕ)
-    → rest ≡ drop at bytes
-    → rest ≡ line ++ CR ∷ LF ∷ after → after ≡ drop (length bytes - length after) bytes
-after_is_drop bytes line {after} at is cut =
-    let whole : bytes ≡ (take at bytes ++ (line ++ CR ∷ LF ∷ [])) ++ after =
-    sym (take-append-drop at bytes)
-    ∙ ap (λ b. take at bytes ++ b) (sym is ∙ cut ∙ sym (append_assoc line (CR ∷ LF ∷ []) after))
-    ∙ sym (append_assoc (take at bytes) (line ++ CR ∷ LF ∷ []) after) in
+pub after_is_drop : (bytes : Bytes) (line : Bytes) {after : Bytes} (at : ℕ)
+    → drop at bytes ≡ with_crlf line ++ after
+    → after ≡ drop (length bytes - length after) bytes
+after_is_drop bytes line {after} at cut =
+    let front = take at bytes ++ with_crlf line in
+    let whole : bytes ≡ front ++ after = sym (take-append-drop at bytes)
+    ∙ ap (λ b. take at bytes ++ b) cut
+    ∙ sym (append_assoc (take at bytes) (with_crlf line) after) in
     sym (ap (drop (length bytes - length after)) whole
-    ∙ drop_at (take at bytes ++ (line ++ CR ∷ LF ∷ [])) after (length bytes - length after)
-    (omega (
-      arith,
-      ap length whole,
-      length-append (take at bytes ++ (line ++ CR ∷ LF ∷ []))
-          after,
-    )))
+    ∙ drop_at front after (length bytes - length after)
+    (omega (arith, ap length whole, length-append front after)))
 
 -- ---- what a line does
 
--- one more line is searched
-past : {bytes : Bytes} {opened : Option Opened} {at : ℕ} {line after : Bytes} {more : Opened}
-    → (h : IsAtLine bytes opened at line after) → IsOpenReply more (h.lines ++ line ∷ [])
-    → IsSearched bytes
-    (record { opened = Some more; line = length bytes - length after; searched = 0 })
-past {bytes} {line} {after} h begun =
-    let whole : bytes ≡ flat_map with_crlf (h.lines ++ line ∷ []) ++ after =
-    h.cut ∙ one_more h.lines line after in
-    record {
-      lines = h.lines ++ line ∷ [];
-      rest = after;
-      cut = whole;
-      each = all_snoc LacksCrlf h.lines h.each h.is_line;
-      begun = begun;
-      line_is =
-          omega (
-            arith,
-            ap length whole,
-            length-append (flat_map with_crlf (h.lines ++ line ∷ []))
-                after,
-          );
-      within = omega arith;
-      lacks = lacks_nil;
-    }
+found_whole : {bytes : Bytes} {code used : ℕ} {lines : List Bytes}
+    → FrontReply bytes code lines used → ReturnsFound bytes (found.Whole code used)
+found_whole {bytes} {code} {used} {lines} front =
+    let within = front_within bytes code lines used front in ((lines, front), within.0, within.1)
 
-first_cut : {bytes : Bytes} {at : ℕ} {line after : Bytes} → (h : IsAtLine bytes None at line after)
-    → bytes ≡ line ++ CR ∷ LF ∷ after
-first_cut {line} {after} h =
-    h.cut ∙ ap (λ (ls : List Bytes). flat_map with_crlf ls ++ (line ++ CR ∷ LF ∷ after)) h.begun
+-- the first line
+module _ {bytes line after : Bytes} (h : IsAtLine bytes None line after) where
+  cut : bytes ≡ with_crlf line ++ after
+  cut = sym h.begun ∙ h.cut
 
-pub first_malformed : {bytes : Bytes} {at : ℕ} {line after : Bytes}
-    → IsAtLine bytes None at line after → ¬ Opens line → IsMalformed bytes
-first_malformed {line} {after} h none =
-    record {
-      first = line;
-      rest = after;
-      cut = first_cut h;
-      is_line = h.is_line;
-      opens_none = none;
-    }
+  first : {o : Opening} → opening line ≡ o
+      → front_of bytes ≡ front_by o (take 3 line) after (cuts_of after)
+  first is = front_of-line line after cut h.is_line
+      ∙ ap (λ o. front_by o (take 3 line) after (cuts_of after)) is
 
-pub first_alone : {bytes : Bytes} {at : ℕ} {line after digits text : Bytes} {code : ℕ}
-    → IsAtLine bytes None at line after → SpellsCode digits code
-    → ((line ≡ digits) × (text ≡ [])) ⊎ (line ≡ digits ++ SP ∷ text)
-    → FrontReply bytes code (text ∷ []) (length bytes - length after)
-first_alone {after = after} h spells kind =
-    one_found after spells (first_cut h) h.is_line kind
+  pub first_malformed : opening line ≡ Nothing → IsMalformed bytes
+  first_malformed is = IsMalformed-front_of bytes (first is)
 
-pub first_opens : {bytes : Bytes} {at : ℕ} {line after digits : Bytes} (text : Bytes) {code : ℕ}
-    → IsAtLine bytes None at line after → SpellsCode digits code → line ≡ digits ++ DASH ∷ text
-    → IsSearched bytes
-    (record {
-      opened = Some (record { code = code; second = length bytes - length after });
-      line = length bytes - length after;
-      searched = 0;
-    })
-first_opens {line} {after} {digits} text h spells is =
-    past h
-    (record {
-      digits = digits;
-      code_is = spells;
-      text = text;
-      middle = [];
-      lines_are = ap (λ (ls : List Bytes). ls ++ line ∷ []) h.begun ∙ ap (λ l. l ∷ []) is;
-      goes_on = tt;
-      second_is =
-          omega (
-            arith,
-            ap length (first_cut h),
-            length-append line (CR ∷ LF ∷ after),
-            ap length is,
-            length-append (digits ++ DASH ∷ text) crlf,
-          );
-    })
+  pub first_whole : {code : ℕ} {text : Bytes} → opening line ≡ One code text
+      → ReturnsFound bytes (found.Whole code (length bytes - length after))
+  first_whole is = found_whole (FrontReply-front_of (first is))
 
--- the parts of the first line and those between
-module _ (bytes : Bytes) (opened : Opened) (at : ℕ) (line after : Bytes)
-    (h : IsAtLine bytes (Some opened) at line after) where
-  -- the first line begins the bytes
-  open_cut : bytes ≡ (h.begun.digits ++ DASH ∷ h.begun.text) ++ CR ∷ LF ∷
-      (flat_map with_crlf h.begun.middle ++ (line ++ CR ∷ LF ∷ after))
-  open_cut = h.cut ∙ ap (λ (ls : List Bytes). flat_map with_crlf ls ++ (line ++ CR ∷ LF ∷ after))
-      h.begun.lines_are
-      ∙ line_apart (h.begun.digits ++ DASH ∷ h.begun.text) h.begun.middle (line ++ CR ∷ LF ∷ after)
-
-  pub digits_are : take 3 bytes ≡ h.begun.digits
-  digits_are =
-      ap (take 3)
-      (open_cut ∙ append_assoc h.begun.digits (DASH ∷ h.begun.text)
-      (CR ∷ LF ∷ (flat_map with_crlf h.begun.middle ++ (line ++ CR ∷ LF ∷ after))))
-      ∙ take_at h.begun.digits _ 3 (code_length h.begun.digits opened.code h.begun.code_is)
-
-  pub line_goes_on : (digits : Bytes) → digits ≡ take 3 bytes → GoesOn digits line
-      → IsSearched bytes
-      (record { opened = Some opened; line = length bytes - length after; searched = 0 })
-  line_goes_on digits is goes = past h (record {
-    digits = h.begun.digits;
-    code_is = h.begun.code_is;
-    text = h.begun.text;
-    middle = h.begun.middle ++ line ∷ [];
-    lines_are = ap (λ (ls : List Bytes). ls ++ line ∷ []) h.begun.lines_are;
-    goes_on = all_snoc (GoesOn h.begun.digits) h.begun.middle h.begun.goes_on
-        (subst (λ d. GoesOn d line) (is ∙ digits_are) goes);
-    second_is = h.begun.second_is;
-  })
-
-  -- the numbers
-  pub opened_within : (6 ≤ opened.second) × (opened.second ≤ at) × (at ≤ length bytes)
-  opened_within = (
-    omega (
-      arith,
-      h.begun.second_is,
-      length-append (h.begun.digits ++ DASH ∷ h.begun.text) crlf,
-      length-append h.begun.digits (DASH ∷ h.begun.text),
-      code_length h.begun.digits opened.code h.begun.code_is,
-    ),
-    omega (
-      arith,
-      h.begun.second_is,
-      h.at_is,
-      ap (λ (ls : List Bytes). length (flat_map with_crlf ls)) h.begun.lines_are,
-      length-append (with_crlf (h.begun.digits ++ DASH ∷ h.begun.text))
-          (flat_map with_crlf h.begun.middle),
-    ),
-    omega (
-      arith,
-      h.at_is,
-      ap length h.cut,
-      length-append (flat_map with_crlf h.lines)
-          (line ++ CR ∷ LF ∷ after),
-    ),
-  )
-
-  -- the texts, as parts of the bytes
-  first_is : take (opened.second - 2 - 4) (drop 4 bytes) ≡ h.begun.text
-  first_is =
-      let digits = h.begun.digits in
-      let text = h.begun.text in
-      let more = CR ∷ LF ∷ (flat_map with_crlf h.begun.middle ++ (line ++ CR ∷ LF ∷ after)) in
-      let three : length digits ≡ 3 = code_length digits opened.code h.begun.code_is in
-      let whole : bytes ≡ (digits ++ DASH ∷ []) ++ (text ++ more) =
-      open_cut ∙ append_assoc digits (DASH ∷ text) more
-      ∙ sym (append_assoc digits (DASH ∷ []) (text ++ more)) in
-      let front : drop 4 bytes ≡ text ++ more = ap (drop 4) whole
-      ∙ drop_at (digits ++ DASH ∷ []) (text ++ more) 4
-      (omega (arith, three, length-append digits (DASH ∷ []))) in
-      ap (take (opened.second - 2 - 4)) front
-      ∙ take_at text more (opened.second - 2 - 4)
-      (omega (
-        arith,
-        h.begun.second_is,
-        three,
-        length-append (digits ++ DASH ∷ text) crlf,
-        length-append digits (DASH ∷ text),
-      ))
-
-  middle_is : take (at - opened.second) (drop opened.second bytes)
-      ≡ flat_map with_crlf h.begun.middle
-  middle_is =
-      let first = h.begun.digits ++ DASH ∷ h.begun.text in
-      let rest = line ++ CR ∷ LF ∷ after in
-      let whole : bytes ≡ with_crlf first ++ (flat_map with_crlf h.begun.middle ++ rest) =
-      h.cut ∙ ap (λ (ls : List Bytes). flat_map with_crlf ls ++ rest) h.begun.lines_are
-      ∙ append_assoc (with_crlf first) (flat_map with_crlf h.begun.middle) rest in
-      let front : drop opened.second bytes ≡ flat_map with_crlf h.begun.middle ++ rest =
-      ap (drop opened.second) whole
-      ∙ drop_at (with_crlf first) (flat_map with_crlf h.begun.middle ++ rest) opened.second
-      (sym h.begun.second_is) in
-      ap (take (at - opened.second)) front
-      ∙ take_at (flat_map with_crlf h.begun.middle) rest (at - opened.second)
-      (omega (
-        arith,
-        h.at_is,
-        h.begun.second_is,
-        ap (λ (ls : List Bytes). length (flat_map with_crlf ls)) h.begun.lines_are,
-        length-append (with_crlf first) (flat_map with_crlf h.begun.middle),
-      ))
-
-  pub line_ends : (digits last : Bytes) → digits ≡ take 3 bytes → line ≡ digits ++ SP ∷ last
-      → (lines : List Bytes)
-      × ((between : List Bytes)
-      × (take (at - opened.second) (drop opened.second bytes) ≡ flat_map with_crlf between)
-      × AllByRecursion LacksCrlf between
-      × (lines ≡ take (opened.second - 2 - 4) (drop 4 bytes) ∷ (between ++ last ∷ [])))
-      × FrontReply bytes opened.code lines (length bytes - length after)
-  line_ends digits last is ends =
-      let ends' : line ≡ h.begun.digits ++ SP ∷ last =
-      ends ∙ ap (λ d. d ++ SP ∷ last) (is ∙ digits_are) in
-      let each = subst (AllByRecursion LacksCrlf) h.begun.lines_are h.each in
-      let ended : IsEnded h.begun.digits
-      (flat_map with_crlf h.begun.middle ++ (line ++ CR ∷ LF ∷ after)) = record {
-        middle = h.begun.middle;
-        last = last;
-        rest = after;
-        cut = one_more h.begun.middle line after
-            ∙ ap (λ l. flat_map with_crlf (h.begun.middle ++ l ∷ []) ++ after) ends';
-        each = all_snoc LacksCrlf h.begun.middle each.1 (subst LacksCrlf ends' h.is_line);
-        goes_on = h.begun.goes_on;
-      } in
-      let found = several_found h.begun.code_is open_cut each.0
-      refl (ended, refl, refl, refl) in (
-        found.0,
-        (
-          found.1.0,
-          middle_is ∙ found.1.1,
-          found.1.2,
-          found.1.3
-              ∙ ap (λ t. t ∷ (found.1.0 ++ last ∷ [])) (sym first_is),
-        ),
-        found.2,
+  pub first_begins : {code : ℕ} {text : Bytes} → opening line ≡ Several code text
+      → 3 ≤ length line → IsBegun bytes (Some code) after
+  first_begins {code} {text} is three =
+      let same : take 3 bytes ≡ take 3 line = ap (take 3) (cut ∙ append_assoc line crlf after)
+      ∙ take-append-le 3 line (crlf ++ after) three in (
+        omega (arith, three, ap length cut, length-append (with_crlf line) after, length-append line crlf),
+        text ∷ [],
+        λ more. front_of-line line (after ++ more)
+            (ap (λ b. b ++ more) cut ∙ append_assoc (with_crlf line) after more) h.is_line
+            ∙ (λ i. front_by (is i) (sym same i) (after ++ more) (cuts_of (after ++ more))),
       )
 
--- the scan offset is within the bytes
-pub offset_within : (bytes : Bytes) (s : Search) → IsSearched bytes s → scan_offset s ≤ length bytes
-offset_within bytes s h =
-    omega (
-      arith,
-      h.line_is,
-      h.within,
-      ap length h.cut,
-      length-append (flat_map with_crlf h.lines) h.rest,
-    )
+-- one line after the first
+pub later_lines-cut : (digits line after : Bytes) {rest : Bytes} → rest ≡ with_crlf line ++ after
+    → LacksCrlf line → later_lines digits (cuts_of rest)
+    ≡ later_by (last_text digits line) (line, after) (later_lines digits (cuts_of after))
+later_lines-cut digits line after cut is_line =
+    ap (later_lines digits) (ap cuts_of cut ∙ cuts_of-with_crlf line after is_line)
 
--- what is scanned up to a line's end
-pub ends_counted : (bytes : Bytes) (tests : ℕ) (s : Search) (finding : Finding) (tests' end : ℕ)
-    (s' : Search) → EndsAt end (Ends finding) → tests' + scan_offset s ≡ tests + end
-    → end ≤ length bytes
-    → Counts bytes tests s finding tests' s'
-ends_counted bytes tests s (find.Whole code texts used) tests' end s' h e within =
-    (omega (arith, h.0, e), omega (arith, h.0, h.1))
-ends_counted bytes tests s find.Partial tests' end s' h e within = absurd h
-ends_counted bytes tests s find.Malformed tests' end s' h e within = omega (arith, e, within)
+pub front_after-more : (code : ℕ) (lines : List Bytes) (line : Bytes) (o : Option (List Bytes × Bytes))
+    → front_after code lines (option_map (λ read. (line ∷ read.0, read.1)) o)
+    ≡ front_after code (lines ++ line ∷ []) o
+front_after-more code lines line None = refl
+front_after-more code lines line (Some read) =
+    ap (λ read-lines. Whole code read-lines read.1) (sym (append_assoc lines (line ∷ []) read.0))
+
+module _ {bytes : Bytes} {code : ℕ} {line after : Bytes}
+    (h : IsAtLine bytes (Some code) line after) where
+  abbrev later : Bytes → Option (List Bytes × Bytes)
+  later more = later_lines (take 3 bytes) (cuts_of (after ++ more))
+
+  at_line : {text : Option Bytes} (more : Bytes) → last_text (take 3 bytes) line ≡ text
+      → front_of (bytes ++ more)
+      ≡ front_after code h.begun.1 (later_by text (line, after ++ more) (later more))
+  at_line more is = h.begun.2 more
+      ∙ ap (front_after code h.begun.1) (later_lines-cut (take 3 bytes) line (after ++ more)
+      (ap (λ r. r ++ more) h.cut ∙ append_assoc (with_crlf line) after more) h.is_line)
+      ∙ ap (λ text. front_after code h.begun.1 (later_by text (line, after ++ more) (later more))) is
+
+  pub line_goes_on : GoesOn (take 3 bytes) line → IsBegun bytes (Some code) after
+  line_goes_on goes = (
+    h.begun.0,
+    h.begun.1 ++ line ∷ [],
+    λ more. at_line more (last_text-none (take 3 bytes) line goes)
+        ∙ front_after-more code h.begun.1 line (later more),
+  )
+
+  pub line_ends : (last : Bytes) → line ≡ take 3 bytes ++ SP ∷ last
+      → ReturnsFound bytes (found.Whole code (length bytes - length after))
+  line_ends last is = found_whole (FrontReply-front_of
+      (ap front_of (sym (append-nil bytes))
+      ∙ at_line [] (ap (last_text (take 3 bytes)) is ∙ last_text-of (take 3 bytes) last)
+      ∙ ap (Whole code (h.begun.1 ++ last ∷ [])) (append-nil after)))

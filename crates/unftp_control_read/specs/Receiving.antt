@@ -1,12 +1,12 @@
 -- Replies that are read from a reader.
-use Rattle.std.specs.Prelude.{◌≡◌, ℕ, ◌+◌, ◌*◌, ◌≤◌, ◌⊎◌, List, Option, None, Ok, Err, Result, MatchOption, MatchResult, OnOk, OnErr, [], ◌∷◌, ◌++◌, length}
+use Rattle.std.specs.Prelude.{◌≡◌, ℕ, ◌+◌, ◌≤◌, ◌⊎◌, List, Option, None, Ok, Err, Result, MatchOption, MatchResult, [], ◌∷◌, ◌++◌, length}
 use Rattle.std.specs.List.{concat}
 use Rattle.std.specs.Io.KnownBytes.{IsAtEnd}
 use Rattle.unftp_control_defs.specs.Bytes.{Bytes}
 use Rattle.unftp_control_defs.specs.Input.{InputState, HasRead, WereRead}
 use Rattle.unftp_control_defs.specs.ReplyReader.{HasFront, IsMalformed}
-use Rattle.unftp_control_defs.specs.ReplyLimit.{IsTooLongReply}
-use Rattle.unftp_control_read.specs.ReplyDecoding.{HasNoReply, IsShortPart, NextReply, PendingReplies, TakesFirst, appended, content, copy_scans, within_limit}
+use Rattle.unftp_control_defs.specs.ReplyLimit.{IsTooLongReply, within_limit}
+use Rattle.unftp_control_read.specs.ReplyDecoding.{HasNoReply, IsShortPart, NextReply, PendingReplies, TakesFirst, appended, content}
 use Rattle.unftp_control_read.specs.declared.errors.NextReplyError.{NextReplyError}
 use Rattle.unftp_control_read.specs.declared.errors.NextReplyError.TheVariants as next
 use Rattle.unftp_control_read.specs.declared.errors.ReceiveError.{ReceiveError}
@@ -89,18 +89,5 @@ pub record Receives (before : PendingReplies) (input : InputState)
       (λ reply. TakesFirst (appended before (concat pieces)) (content reply) after))
       (λ error. HasFailure before.limit (before.bytes ++ concat pieces) error
       × (after.bytes ≡ before.bytes ++ concat pieces))
-  -- how many bytes were scanned then: those that were not scanned before, with those that were
-  -- read, and at a reply those that its copying scans
-  pub counted : MatchResult result
-      (λ _. after.tests + after.unscanned
-      ≡ before.tests + before.unscanned + length (concat pieces) + copy_scans result)
-      (λ _. after.tests
-      ≤ before.tests + before.unscanned + length (concat pieces) + length after.bytes)
-  -- and each byte at most twice, of which so many are pending
-  pub twice : OnOk result
-      (after.tests + after.unscanned + length after.bytes
-      ≤ before.tests + before.unscanned + length before.bytes + 2 * length (concat pieces))
-  pub unscanned : OnErr result
-      (after.unscanned ≤ before.unscanned + length (concat pieces))
   -- and it was read only where it had to be
   pub needed : IsNeeded before pieces

@@ -1,12 +1,12 @@
 -- The pending bytes of a reply decoder.
-use Rattle.std.specs.Prelude.{◌≡◌, ℕ, ◌+◌, ◌-◌, ◌<◌, ◌≤◌, List, [], ◌++◌, length, take, drop, Option, Some, None, Result, Ok, Err, MatchResult, MatchOption, IfSome, OnOk, OnErr}
+use Rattle.std.specs.Prelude.{◌≡◌, ℕ, ◌+◌, ◌<◌, ◌≤◌, List, [], ◌++◌, length, drop, Option, Some, None, Result, Ok, Err, MatchResult, MatchOption, IfSome}
 use Rattle.unftp_control_defs.specs.Bytes.{Bytes}
 use Rattle.unftp_control_defs.specs.Buffer.{held_after_piece}
 use Rattle.unftp_control_defs.specs.ReplyReader.{HasFront, IsMalformed, IsPartial}
-use Rattle.unftp_control_defs.specs.ReplyLimit.{IsTooLongReply}
+use Rattle.unftp_control_defs.specs.ReplyLimit.{IsTooLongReply, within_limit}
 use Rattle.unftp_control_defs.specs.TakingSteps.{TakesReply}
-use Rattle.unftp_control_read.specs.Reading.{contents, scanned_to_copy}
-use Rattle.unftp_control_read.specs.Search.{IsSearched, scan_offset}
+use Rattle.unftp_control_read.specs.Reading.{contents}
+use Rattle.unftp_control_read.specs.Search.{IsSearched}
 use Rattle.unftp_control_read.specs.declared.search.Search.{Search}
 use Rattle.unftp_control_read.specs.declared.ReadReplyError.{ReadReplyError}
 use Rattle.unftp_control_read.specs.declared.ReadReplyError.TheVariants as refusal
@@ -17,11 +17,6 @@ use Rattle.unftp_control_read.specs.declared.errors.NextReplyError.TheVariants.{
 -- the code and the lines, whatever their capacity
 abbrev pub content : ReceivedReply → ℕ × List Bytes
 content reply = (reply.code, contents reply.lines)
-
--- the bytes that a reply may have: the first `limit` ones, or all
-abbrev pub within_limit : Option ℕ → Bytes → Bytes
-within_limit None bytes = bytes
-within_limit (Some limit) bytes = take limit bytes
 
 -- What holds of a decoder: the pending bytes begin at `start`, and the search has come so far in
 -- them.
@@ -35,90 +30,55 @@ pub record PendingReplies : Type 0 where
   pub bytes : Bytes
   -- the most bytes that a reply may have
   pub limit : Option ℕ
-  -- how many bytes were scanned for a line feed since the decoder was made, and how many of the
-  -- pending bytes have not been
-  pub tests : ℕ
-  pub unscanned : ℕ
   -- how many bytes the buffer holds, with those of the replies that are taken
   pub buffered : ℕ
 
 -- no bytes so far
 abbrev pub no_bytes : Option ℕ → PendingReplies
-no_bytes limit = record {
-  bytes = [];
-  limit = limit;
-  tests = 0;
-  unscanned = 0;
-  buffered = 0;
-}
+no_bytes limit = record { bytes = []; limit = limit; buffered = 0 }
 
--- of these bytes, which the search scanned up to its scan offset
-abbrev pub pending_replies : Option ℕ → Search → ℕ → Bytes → ℕ → PendingReplies
-pending_replies limit search tests bytes buffered = record {
-  bytes = bytes;
-  limit = limit;
-  tests = tests;
-  unscanned = length bytes - scan_offset search;
-  buffered = buffered;
-}
+-- these bytes, in a buffer that holds so many
+abbrev pub pending_replies : Option ℕ → Bytes → ℕ → PendingReplies
+pending_replies limit bytes buffered =
+    record { bytes = bytes; limit = limit; buffered = buffered }
 
 -- The replies that were taken have left the buffer.
 abbrev pub settled : PendingReplies → PendingReplies
-settled pending = record {
-  bytes = pending.bytes;
-  limit = pending.limit;
-  tests = pending.tests;
-  unscanned = pending.unscanned;
-  buffered = length pending.bytes;
-}
+settled pending = record pending { buffered = length pending.bytes }
 
 -- A piece comes after them, in the buffer too.
 abbrev pub appended : PendingReplies → Bytes → PendingReplies
-appended pending piece = record {
+appended pending piece = record pending {
   bytes = pending.bytes ++ piece;
-  limit = pending.limit;
-  tests = pending.tests;
-  unscanned = pending.unscanned + length piece;
   buffered = pending.buffered + length piece;
 }
 
 -- A piece comes after them, and the replies that were taken may leave the buffer.
 abbrev pub pushed : PendingReplies → Bytes → PendingReplies
-pushed pending piece = record {
+pushed pending piece = record pending {
   bytes = pending.bytes ++ piece;
-  limit = pending.limit;
-  tests = pending.tests;
-  unscanned = pending.unscanned + length piece;
   buffered = held_after_piece pending.buffered (length pending.bytes) (length piece);
 }
 
 -- The pending bytes have left the buffer too.
 abbrev pub cleared : PendingReplies → PendingReplies
-cleared pending = record {
-  bytes = [];
-  limit = pending.limit;
-  tests = pending.tests;
-  unscanned = 0;
-  buffered = 0;
-}
+cleared pending = record pending { bytes = []; buffered = 0 }
 
 -- a part of a reply, shorter than a reply may be
 abbrev pub IsShortPart : Option ℕ → Bytes → Type 0
 IsShortPart limit bytes = IsPartial bytes × IfSome limit (λ limit. length bytes < limit)
 
--- There is only a part of a reply, shorter than a reply may be, and all bytes are scanned.
+-- There is only a part of a reply, shorter than a reply may be.
 pub record HasNoReply (before after : PendingReplies) : Type 0 where
   pub partial : IsPartial before.bytes
   pub same : after.bytes ≡ before.bytes
-  pub all_scanned : after.unscanned ≡ 0
   pub short : IfSome before.limit (λ limit. length after.bytes < limit)
 
--- The first reply is taken away: it is not too long. No byte after it is scanned.
+-- The first reply is taken away: it is not too long.
 pub record TakesFirst (before : PendingReplies) (reply : ℕ × List Bytes)
     (after : PendingReplies) : Type 0 where
   pub takes : TakesReply before.bytes reply after.bytes
   pub within : IfSome before.limit (λ limit. takes.used ≤ limit)
-  pub none_scanned : after.unscanned ≡ length after.bytes
 
 -- what an error means for the pending bytes: memory is asked for only where a complete reply is
 -- there
@@ -143,25 +103,6 @@ abbrev pub IsReturned : ℕ → List Bytes → NextReply NextReplyError → Type
 IsReturned code lines result = MatchResult result
     (λ next. MatchOption next ⊥ (λ reply. content reply ≡ (code, lines)))
     (λ error. error ≡ OutOfMemory)
-
--- how many bytes were scanned to copy the lines of the reply, if any
-abbrev pub copy_scans : {E : Type 0} → NextReply E → ℕ
-copy_scans (Ok (Some reply)) = scanned_to_copy (contents reply.lines)
-copy_scans (Ok None) = 0
-copy_scans (Err _) = 0
-
--- How many bytes were scanned then: all that were not scanned before, and at a reply those that its
--- copying scans, so each byte at most twice; at an error at most those, and all once more.
-pub record CountsNextReply (before : PendingReplies) (result : NextReply NextReplyError)
-    (after : PendingReplies) : Type 0 where
-  pub exact : OnOk result
-      (after.tests + after.unscanned ≡ before.tests + before.unscanned + copy_scans result)
-  pub twice : OnOk result
-      (after.tests + after.unscanned + length after.bytes
-      ≤ before.tests + before.unscanned + length before.bytes)
-  pub error : OnErr result (after.tests ≤ before.tests + before.unscanned + length before.bytes)
-  pub unscanned : OnErr result (after.unscanned ≤ before.unscanned)
-  pub never_fewer : before.tests ≤ after.tests
 
 -- how many bytes the buffer holds then: the pending ones only, where there is no reply
 abbrev pub held_after : {E : Type 0} → PendingReplies → NextReply E → PendingReplies → ℕ

@@ -1,34 +1,28 @@
 //! Copies the lines of a reply.
-ghost use Rattle.std.specs.Prelude.{◌≡◌, ◌≤◌, ◌+◌, ◌∷◌, [], ◌++◌, List, flat_map, length, IfOk, OnOk};
-ghost use Rattle.std.specs.List.{AllByRecursion};
+ghost use Rattle.std.specs.Prelude.{◌≡◌, ◌∷◌, [], ℕ, List, IfOk};
 ghost use Rattle.unftp_control_defs.specs.Bytes.{Bytes};
-ghost use Rattle.unftp_control_defs.specs.ReplyReader.{LacksCrlf, with_crlf};
-ghost use Rattle.unftp_control_read.specs.Reading.{contents, Holds, middle_of};
+ghost use Rattle.unftp_control_defs.specs.ComputedReply.{Whole, cuts_of, front_after, later_lines};
+ghost use Rattle.unftp_control_defs.specs.ReplyReader.{FrontReply};
+ghost use Rattle.unftp_control_read.specs.Reading.{contents};
 
-use crate::finding::Texts;
-use crate::lines::next_line;
+use crate::lines::{last_text, next_line};
+use crate::opening::{AfterCode, opening_of};
 use std::alloc::{AllocError, Global};
-use unftp_control_defs::count::Count;
 
-/// The lines that the texts are. Those between the first and the last are scanned for their ends.
-pub(crate) fn copy_lines(
-    alloc: Global,
-    texts: Texts<'_>,
-    tests: &mut Count,
-) -> Result<Vec<Vec<u8>>, AllocError>
-    ensures copied { IfOk result (λ copied.
-        (lines : List Bytes) → Holds texts.entry lines → contents copied ≡ lines) }
-    ensures tests { OnOk result (tests.new ≡ tests.old + length (middle_of texts.entry)) }
-    ensures no_more { tests.new ≤ tests.old + length (middle_of texts.entry) }
-    ensures never_fewer { tests.old ≤ tests.new }
+/// The lines of the reply at the start, which is there.
+pub(crate) fn copy_lines(alloc: Global, bytes: &[u8]) -> Result<Vec<Vec<u8>>, AllocError>
+    ensures { IfOk result (λ copied. (code : ℕ) (lines : List Bytes) (used : ℕ)
+        → FrontReply bytes.now code lines used → contents copied ≡ lines) }
 {
-    match texts {
-        Texts::One(text) => copy_one(alloc, text),
-        Texts::Several {
-            first,
-            middle,
-            last,
-        } => copy_several(alloc, first, middle, last, tests),
+    let Some((line, after)) = next_line(bytes, 0) else {
+        return Ok(Vec::new(alloc));
+    };
+    let Some(opening) = opening_of(line) else {
+        return Ok(Vec::new(alloc));
+    };
+    match opening.kind {
+        AfterCode::One(text) => copy_one(alloc, text),
+        AfterCode::Several(first) => copy_several(alloc, first, opening.digits, after),
     }
 }
 
@@ -41,27 +35,26 @@ fn copy_one(alloc: Global, text: &[u8]) -> Result<Vec<Vec<u8>>, AllocError>
     Ok(lines)
 }
 
-/// The first line, those between and the last.
+/// The first line and the later ones, which these bytes begin with.
 fn copy_several(
     alloc: Global,
     first: &[u8],
-    middle: &[u8],
-    last: &[u8],
-    tests: &mut Count,
+    digits: &[u8],
+    bytes: &[u8],
 ) -> Result<Vec<Vec<u8>>, AllocError>
-    ensures copied { IfOk result (λ copied. (between : List Bytes)
-        → AllByRecursion LacksCrlf between → middle.now ≡ flat_map with_crlf between
-        → contents copied ≡ first.now ∷ (between ++ last.now ∷ [])) }
-    ensures tests { OnOk result (tests.new ≡ tests.old + length middle.now) }
-    ensures no_more { tests.new ≤ tests.old + length middle.now }
-    ensures never_fewer { tests.old ≤ tests.new }
+    ensures { IfOk result (λ copied. (opened code : ℕ) (lines : List Bytes) (rest : Bytes)
+        → front_after opened (first.now ∷ []) (later_lines digits.now (cuts_of bytes.now))
+        ≡ Whole code lines rest → contents copied ≡ lines) }
 {
     let mut lines = copy_one(alloc, first)?;
-    let mut rest = middle;
-    while let Some((line, after)) = next_line(rest, 0, tests) {
+    let mut rest = bytes;
+    while let Some((line, after)) = next_line(rest, 0) {
+        if let Some(last) = last_text(digits, line) {
+            lines.push(Vec::from_slice(alloc, last)?)?;
+            return Ok(lines);
+        }
         lines.push(Vec::from_slice(alloc, line)?)?;
         rest = after;
     }
-    lines.push(Vec::from_slice(alloc, last)?)?;
     Ok(lines)
 }

@@ -1,10 +1,10 @@
 //! The pending bytes, and the replies that they begin with.
-ghost use Rattle.std.specs.Prelude.{◌≡◌, ◌<◌, ◌≤◌, ◌+◌, ℕ, List, [], None, Some, OnOk, OnErr, IfSome, IsTrue, false, length};
+ghost use Rattle.std.specs.Prelude.{◌≡◌, ◌<◌, ◌≤◌, ℕ, List, None, Some, OnOk, OnErr, IfSome, IsTrue, false, length, []};
 ghost use Rattle.unftp_control_defs.specs.Bytes.{Bytes};
 ghost use Rattle.unftp_control_defs.specs.Input.{input_state_of};
 ghost use Rattle.unftp_control_defs.specs.ReplyReader.{FrontReply, IsPartial, IsMalformed};
-ghost use Rattle.unftp_control_defs.specs.ReplyLimit.{IsTooLongReply};
-ghost use Rattle.unftp_control_read.specs.ReplyDecoding.{IsReturned, TakesNextReply, CountsNextReply, cleared, copy_scans, held_after, no_bytes, settled, pushed, within_limit};
+ghost use Rattle.unftp_control_defs.specs.ReplyLimit.{IsTooLongReply, within_limit};
+ghost use Rattle.unftp_control_read.specs.ReplyDecoding.{IsReturned, TakesNextReply, cleared, held_after, no_bytes, settled, pushed};
 ghost use Rattle.unftp_control_read.specs.Receiving.{AppendsPending};
 
 use crate::errors::{NextReplyError, ReceiveError};
@@ -16,7 +16,6 @@ use std::alloc::{AllocError, Global};
 use std::io::Read;
 use std::marker::Model;
 use unftp_control_defs::buffer::PendingBytes;
-use unftp_control_defs::count::Count;
 use unftp_control_defs::input::Input;
 
 /// Cuts replies from an input that comes in pieces: for a client with an event loop of its own. A
@@ -29,7 +28,6 @@ pub struct ReplyDecoder {
     buffer: PendingBytes,
     limit: Option<usize>,
     search: Search,
-    tests: Count,
 }
 
 impl Model for ReplyDecoder {
@@ -39,7 +37,7 @@ impl Model for ReplyDecoder {
 
     ghost Value = { PendingReplies };
 
-    ghost view = { λ decoder. pending_replies decoder.limit decoder.search decoder.tests
+    ghost view = { λ decoder. pending_replies decoder.limit
         (pending_in decoder.buffer) (length decoder.buffer.bytes.items) };
 
     ghost invariant = { λ decoder. IsReplyDecoder decoder.limit decoder.search
@@ -56,7 +54,6 @@ impl ReplyDecoder {
             buffer: PendingBytes::new(alloc),
             limit: None,
             search: Search::new(),
-            tests: Count::new(),
         }
     }
 
@@ -70,7 +67,6 @@ impl ReplyDecoder {
             buffer: PendingBytes::new(alloc),
             limit: Some(limit),
             search: Search::new(),
-            tests: Count::new(),
         }
     }
 
@@ -80,13 +76,6 @@ impl ReplyDecoder {
         ensures { result.now ≡ self.now.bytes }
     {
         self.buffer.pending()
-    }
-
-    /// How many bytes were scanned for a line feed. Only contracts see it.
-    pub fn tests(&self) -> Count
-        ensures { result ≡ self.now.tests }
-    {
-        self.tests.same()
     }
 
     /// Appends a piece to the pending bytes. When out of memory, nothing changes; it never is for
@@ -123,16 +112,6 @@ impl ReplyDecoder {
             → result ≡ Err NextReplyError.TooLong }
         ensures buffered { self.new.buffered ≡ held_after self.old result self.new }
         ensures limit { self.new.limit ≡ self.old.limit }
-        ensures tests { OnOk result (self.new.tests + self.new.unscanned
-            ≡ self.old.tests + self.old.unscanned + copy_scans result) }
-        // Each byte is scanned at most twice: by the search, and where its reply is copied.
-        ensures twice { OnOk result
-            (self.new.tests + self.new.unscanned + length self.new.bytes
-            ≤ self.old.tests + self.old.unscanned + length self.old.bytes) }
-        ensures error { OnErr result
-            (self.new.tests ≤ self.old.tests + self.old.unscanned + length self.old.bytes) }
-        ensures unscanned { OnErr result (self.new.unscanned ≤ self.old.unscanned) }
-        ensures never_fewer { self.old.tests ≤ self.new.tests }
     {
         let reply = self.take_next()?;
         if reply.is_none() {
@@ -144,24 +123,12 @@ impl ReplyDecoder {
     /// Takes the first reply, whose bytes stay in the buffer.
     fn take_next(&mut self) -> Result<Option<ReceivedReply>, NextReplyError>
         ensures takes_next { TakesNextReply self.old result self.new }
-        ensures whole { (code : ℕ) (lines : List Bytes) (used : ℕ)
-            → FrontReply self.old.bytes code lines used
-            → IfSome self.old.limit (λ limit. used ≤ limit)
-            → IsReturned code lines result }
-        ensures partial { IsPartial self.old.bytes
-            → ¬ IsTooLongReply self.old.limit self.old.bytes
-            → result ≡ Ok None }
-        ensures malformed { IsMalformed (within_limit self.old.limit self.old.bytes)
-            → result ≡ Err NextReplyError.Malformed }
-        ensures too_long { IsTooLongReply self.old.limit self.old.bytes
-            → result ≡ Err NextReplyError.TooLong }
         ensures buffered { self.new.buffered ≡ self.old.buffered }
         ensures limit { self.new.limit ≡ self.old.limit }
-        ensures counts { CountsNextReply self.old result self.new }
     {
         let alloc = *self.buffer.bytes.allocator();
         let searched = first_bytes(self.buffer.pending(), self.limit);
-        match read_front(alloc, &mut self.search, searched, &mut self.tests)? {
+        match read_front(alloc, &mut self.search, searched)? {
             Front::Whole { code, lines, used } => {
                 self.buffer.start += used;
                 self.search = Search::new();

@@ -2,18 +2,17 @@
 //! other from bytes that come in pieces.
 #![tactic(auto)]
 
-ghost use Rattle.std.specs.Prelude.{◌≡◌, ◌↔◌, ◌+◌, ◌*◌, ◌≤◌, ℕ, List, length, IsTrue, IfOk, IfErr, MatchResult};
+ghost use Rattle.std.specs.Prelude.{◌≡◌, ◌↔◌, ℕ, List, IsTrue, IfOk, IfErr, MatchResult};
 ghost use Rattle.unftp_control_defs.specs.Bytes.{Bytes};
 ghost use Rattle.unftp_control_defs.specs.ReplyReader.{FrontReply, IsPartial, IsMalformed};
-ghost use Rattle.unftp_control_read.specs.Reading.{ReturnsFront, ReturnsRefusal, ReturnsFound, IsWhole, IsFound, IsWithin, front_of};
-ghost use Rattle.unftp_control_read.specs.Search.{CountsFront, IsSearched, scan_offset};
+ghost use Rattle.unftp_control_read.specs.Reading.{ReturnsFront, ReturnsRefusal, ReturnsFound, IsWhole, IsFound, IsWithin, front_meant};
+ghost use Rattle.unftp_control_read.specs.Search.{IsSearched};
 ghost use Rattle.unftp_control_read.specs.declared.Front.{Front as RustFront};
 ghost use Rattle.unftp_control_read.specs.declared.FoundReply.{FoundReply as RustFound};
 
 mod copying;
 mod decoder;
 mod errors;
-mod finding;
 mod lines;
 mod opening;
 mod receiving;
@@ -23,13 +22,11 @@ mod search;
 use crate::copying::copy_lines;
 pub use crate::decoder::ReplyDecoder;
 pub use crate::errors::{NextReplyError, ReceiveError};
-use crate::finding::Finding;
 pub use crate::receiving::known_input_is_received;
 pub use crate::reply::{ReceivedReply, same_received_replies};
 use crate::search::Search;
 use std::alloc::Global;
 use thiserror::Error;
-pub use unftp_control_defs::count::Count;
 pub use unftp_control_defs::input::Input;
 
 /// What some bytes begin with.
@@ -79,7 +76,7 @@ pub fn read_reply(alloc: Global, bytes: &[u8]) -> Result<Front, ReadReplyError>
     ensures partial { IsPartial bytes.now → result ≡ Ok Front.Partial }
     ensures malformed { IsMalformed bytes.now → result ≡ Err ReadReplyError.Malformed }
 {
-    read_front(alloc, &mut Search::new(), bytes, &mut Count::new())
+    read_front(alloc, &mut Search::new(), bytes)
 }
 
 /// What `read_reply` returns, by a search that may have begun when there were fewer bytes.
@@ -87,32 +84,20 @@ pub(crate) fn read_front(
     alloc: Global,
     search: &mut Search,
     bytes: &[u8],
-    tests: &mut Count,
 ) -> Result<Front, ReadReplyError>
     requires { IsSearched bytes.now search.old }
     ensures searched { IsSearched bytes.now search.new }
-    ensures counts { IfOk result
-        (λ front. CountsFront bytes.now tests.old search.old front tests.new search.new) }
-    ensures no_more { tests.new + scan_offset search.old ≤ tests.old + 2 * length bytes.now }
-    ensures never_fewer { tests.old ≤ tests.new }
-    ensures never_back { scan_offset search.old ≤ scan_offset search.new }
     ensures front { IfOk result (λ front. ReturnsFront bytes.now front) }
     ensures refusal { IfErr result (λ refusal. ReturnsRefusal bytes.now refusal) }
-    ensures whole { (code : ℕ) (lines : List Bytes) (used : ℕ)
-        → FrontReply bytes.now code lines used
-        → MatchResult result (λ front. IsWhole code lines used front) (λ refusal.
-        refusal ≡ ReadReplyError.OutOfMemory) }
     ensures within { IfOk result (λ front. IsWithin bytes.now front) }
-    ensures partial { IsPartial bytes.now → result ≡ Ok Front.Partial }
-    ensures malformed { IsMalformed bytes.now → result ≡ Err ReadReplyError.Malformed }
 {
-    match search.find_front(bytes, tests) {
-        Finding::Whole { code, texts, used } => match copy_lines(alloc, texts, tests) {
+    match search.find_front(bytes) {
+        FoundReply::Whole { code, used } => match copy_lines(alloc, bytes) {
             Ok(lines) => Ok(Front::Whole { code, lines, used }),
             Err(_) => Err(ReadReplyError::OutOfMemory),
         },
-        Finding::Partial => Ok(Front::Partial),
-        Finding::Malformed => Err(ReadReplyError::Malformed),
+        FoundReply::Partial => Ok(Front::Partial),
+        FoundReply::Malformed => Err(ReadReplyError::Malformed),
     }
 }
 
@@ -142,17 +127,13 @@ pub fn find_reply(bytes: &[u8]) -> FoundReply
     ensures partial { IsPartial bytes.now → result ≡ FoundReply.Partial }
     ensures malformed { IsMalformed bytes.now → result ≡ FoundReply.Malformed }
 {
-    match Search::new().find_front(bytes, &mut Count::new()) {
-        Finding::Whole { code, used, .. } => FoundReply::Whole { code, used },
-        Finding::Partial => FoundReply::Partial,
-        Finding::Malformed => FoundReply::Malformed,
-    }
+    Search::new().find_front(bytes)
 }
 
 /// Two fronts are equal exactly where their contents are.
 pub fn same_fronts()
     ensures { (a b : RustFront)
-        → IsTrue (⟦<Front as PartialEq>⟧.eq a b) ↔ (front_of a ≡ front_of b) }
+        → IsTrue (⟦<Front as PartialEq>⟧.eq a b) ↔ (front_meant a ≡ front_meant b) }
 {}
 
 /// `==` of what is found is equality, and a clone is equal.

@@ -1,28 +1,20 @@
 //! The first line of a reply.
-ghost use Rattle.std.specs.Prelude.{◌≡◌, ◌≢◌, ℕ, ◌+◌, ◌<◌, IfSome, IfNone};
-ghost use Rattle.unftp_control_defs.specs.ReplyReader.{SpellsCode, Opens};
-ghost use Rattle.unftp_control_read.specs.Reading.{IsOpening};
-
-/// The number that a digit spells.
-fn digit_of(byte: u8) -> Option<u16>
-    ensures some { IfSome result (λ digit. (digit < 10) × (byte ≡ 48 + digit)) }
-    ensures none { IfNone result ((digit : ℕ) → digit < 10 → byte ≢ 48 + digit) }
-{
-    match byte {
-        b'0'..=b'9' => Some(u16::from(byte - b'0')),
-        _ => None,
-    }
-}
+ghost use Rattle.std.specs.Prelude.{◌≡◌, ◌≤◌, length, take, MatchOption};
+ghost use Rattle.unftp_control_defs.specs.ComputedReply.{Nothing, code_of, opening};
+ghost use Rattle.unftp_control_read.specs.Reading.{opened_by};
 
 /// The number that three digits spell.
 fn code_of(digits: &[u8]) -> Option<u16>
-    ensures some { IfSome result (λ code. SpellsCode digits.now code) }
-    ensures none { IfNone result ((code : ℕ) → ¬ SpellsCode digits.now code) }
+    ensures { result ≡ code_of digits.now }
 {
-    let [hundreds, tens, units] = digits else {
+    let [a, b, c] = digits else {
         return None;
     };
-    Some(digit_of(*hundreds)? * 100 + digit_of(*tens)? * 10 + digit_of(*units)?)
+    if a.is_ascii_digit() && b.is_ascii_digit() && c.is_ascii_digit() {
+        Some(u16::from(*a - b'0') * 100 + u16::from(*b - b'0') * 10 + u16::from(*c - b'0'))
+    } else {
+        None
+    }
 }
 
 /// What follows the code: the one text, after a space or empty if nothing follows, or the first of
@@ -45,9 +37,9 @@ pub(crate) struct Opening<'a> {
 
 /// How the line opens a reply.
 pub(crate) fn opening_of(line: &[u8]) -> Option<Opening<'_>>
-    ensures some { IfSome result (λ opening.
-        IsOpening line.now opening.code opening.digits.now opening.kind) }
-    ensures none { IfNone result (¬ Opens line.now) }
+    ensures { MatchOption result (opening line.now ≡ Nothing) (λ opened. (3 ≤ length line.now)
+        × (opened.digits.now ≡ take 3 line.now)
+        × (opening line.now ≡ opened_by opened.code opened.kind)) }
 {
     let (digits, after) = line.split_at_checked(3)?;
     let code = code_of(digits)?;

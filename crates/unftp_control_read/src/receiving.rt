@@ -1,13 +1,11 @@
 //! Replies from a reader.
-ghost use Rattle.std.specs.Prelude.{◌≡◌, ◌+◌, ◌*◌, ◌≤◌, ℕ, None, Ok, Some, Option, List, length, max, ◌++◌, replicate, IfSome, OnOk, OnErr};
-ghost use Rattle.std.specs.List.{concat};
+ghost use Rattle.std.specs.Prelude.{◌≡◌, ◌+◌, ◌≤◌, None, Ok, Some, length, max, ◌++◌, replicate, IfSome, OnOk, OnErr};
 ghost use Rattle.unftp_control_defs.specs.Bytes.{Bytes};
 ghost use Rattle.unftp_control_defs.specs.Input.{InputState, input_state_of};
 ghost use Rattle.unftp_control_defs.specs.ReplyReader.{IsPartial};
 ghost use Rattle.unftp_control_defs.specs.TakingSteps.{TakesReply};
-ghost use Rattle.unftp_control_read.specs.ReplyDecoding.{NextReply, PendingReplies, content};
+ghost use Rattle.unftp_control_read.specs.ReplyDecoding.{PendingReplies, content};
 ghost use Rattle.unftp_control_read.specs.Receiving.{AppendsPiece, Receives};
-ghost use Rattle.unftp_control_read.specs.declared.errors.ReceiveError.{ReceiveError as Failure};
 ghost use Rattle.unftp_control_read.specs.declared.reply.ReceivedReply.{ReceivedReply as Reply};
 
 use crate::decoder::ReplyDecoder;
@@ -77,7 +75,6 @@ impl ReplyDecoder {
             length self.new.bytes ≤ max (length self.old.bytes) (limit + 4095)) }
         ensures buffered { IfSome self.old.limit (λ limit.
             self.new.buffered ≤ max self.old.buffered (limit + 4095)) }
-        ensures never_fewer { self.old.tests ≤ self.new.tests }
     {
         for _turn in 0..u64::MAX {
             if let Some(reply) = self.next_reply()? {
@@ -108,10 +105,4 @@ pub fn known_input_is_received()
         → Receives before input (Ok None) after input_after
         → IfSome input.remaining (λ bytes. IsPartial (before.bytes ++ bytes)
         × (after.bytes ≡ before.bytes ++ bytes)) }
-    // Each byte is scanned at most twice: by the search, and where its reply is copied.
-    ensures tests { (before after : PendingReplies) (input input_after : InputState)
-        (next : Option Reply) → Receives before input (Ok next) after input_after
-        → IfSome input.remaining (λ bytes. IfSome input_after.remaining (λ left.
-        after.tests + after.unscanned + length after.bytes + 2 * length left
-        ≤ before.tests + before.unscanned + length before.bytes + 2 * length bytes)) }
 {}

@@ -1,42 +1,77 @@
 -- What comes of events that are put together.
-use Rattle.std.proofs.Common.{◌≡◌, ℕ, ◌≤◌, ◌+◌, false, length, flat_map, List, [], ◌∷◌, ◌++◌, Option, Ok, refl, sym, ◌∙◌, ap, subst, arith, append_assoc}
+use Rattle.std.proofs.Common.{◌≡◌, ℕ, ◌+◌, false, flat_map, List, [], ◌∷◌, ◌++◌, Option, refl, sym, ◌∙◌, ap, subst, arith, append_assoc}
 use Rattle.std.proofs.lemmas.List.{append-nil}
 use Rattle.unftp_control_defs.specs.Bytes.{Bytes}
 use Rattle.unftp_control_defs.specs.Events.{FtpEvent, events}
-use Rattle.unftp_control_defs.specs.FtpReply.{FtpReply, Nothing, encoded}
+use Rattle.unftp_control_defs.specs.FtpReply.{FtpReply, encoded}
 use Rattle.unftp_control_defs.specs.Lines.{incomplete_line}
-use Rattle.unftp_control_defs.specs.Run.{SessionLaw, after_lines, ends_for, last_state, run_for, said, state_after, text_of, turn}
-use Rattle.unftp_control_defs.proofs.RunLemmas.{last_state-append, run-append, state_after-append, text_of-append}
-use Rattle.unftp_control_reply.specs.ErrorParts.{KindAndSource}
-use Rattle.unftp_control_reply.specs.ErrorMeaning.{fault_of}
-use Rattle.unftp_control_serve.specs.Writing.{CutShort, Flushed, HasWritten, ReplyFailed, SendsReply, Sent}
-use Rattle.unftp_control_serve.specs.Decoder.{MayRunOut}
-use Rattle.unftp_control_serve.specs.Endings.{Snapshot, Cause, Finished, Write, Handler, LineMemory, ReplyMemory, IsCauseOf, EndsAt, AllAnswered, EventFailed, RunEnded, RunFailed, part_written, text_until, whole_text}
+use Rattle.unftp_control_defs.specs.Run.{SessionLaw, ends_for, last_state, run_for, said, state_after, text_of, turn, unread}
+use Rattle.unftp_control_defs.proofs.RunLemmas.{drop_lines-append, last_state-append, run-append, state_after-append, text_of-append, unread-append}
+use Rattle.unftp_control_defs.proofs.LineLemmas.{events-append}
+use Rattle.unftp_control_message.specs.ErrorParts.{KindAndSource}
+use Rattle.unftp_control_message.specs.ErrorMeaning.{fault_of}
+use Rattle.unftp_control_serve.specs.Writing.{CutShort, ReplyFailed, Sent}
+use Rattle.unftp_control_serve.specs.Endings.{Snapshot, Cause, Finished, Write, Handler, LineMemory, ReplyMemory, IsCauseOf, EndsAt, AllAnswered, EventFailed, FirstMayRunOut, HasGiven, RunEnded, RunFailed, handler_failures, part_written, text_until, whole_text, write_failures}
 use Rattle.unftp_control_serve.specs.declared.error.ServeError.{ServeError}
 use Rattle.unftp_control_serve.specs.declared.error.ServeError.TheVariants as error
-use Rattle.unftp_control_serve.proofs.AfterLinesLemmas.{after_lines-append}
 use Rattle.unftp_control_serve.proofs.SendLemmas.{HasWritten-nothing, HasWritten-then, Flushed-then}
 
-module _ {S : Type 0} (law : SessionLaw S) where
-  pub AllAnswered-nothing : (m : Snapshot S) → AllAnswered law m [] m
-  AllAnswered-nothing m = record {
-    ends_at = refl;
+-- What is given one after the other.
+module _ {S : Type 0} where
+  pub HasGiven-nothing : (m : Snapshot S) → HasGiven [] Finished m m
+  HasGiven-nothing m = record {
     written = HasWritten-nothing m.output;
     flushed = omega arith;
     write_failed = omega arith;
     handler_failed = omega arith;
   }
 
+  -- nothing is written
+  pub HasGiven-silent : {n k : Snapshot S} (cause : Cause) → write_failures cause ≡ 0
+      → k.output ≡ n.output → k.failures ≡ n.failures + handler_failures cause
+      → HasGiven [] cause n k
+  HasGiven-silent (Write part) none same counted = absurd (omega (arith, none))
+  HasGiven-silent {n} cause none same counted = record {
+    written = rw same (HasWritten-nothing n.output);
+    flushed = rw same (omega arith);
+    write_failed = rw same (omega arith);
+    handler_failed = counted;
+  }
+
+  module _ {m n k : Snapshot S} {text : Bytes} {cause : Cause}
+      (first : HasGiven text Finished m n) where
+    HasGiven-then : (more : Bytes) → HasGiven more cause n k → HasGiven (text ++ more) cause m k
+    HasGiven-then more later = record {
+      written = rw (until-then cause) (HasWritten-then first.written later.written);
+      flushed = Flushed-then text more (part_written cause) m.output.unflushed n.output.unflushed
+          k.output.unflushed first.flushed later.flushed;
+      write_failed = omega (arith, first.write_failed, later.write_failed);
+      handler_failed = omega (arith, first.handler_failed, later.handler_failed);
+    }
+      where
+        until-then : (cause : Cause) → text_until (text ++ more) cause
+            ≡ text ++ text_until more cause
+        until-then (Write part) = append_assoc text more part
+        until-then cause = refl
+
+    HasGiven-end : HasGiven [] cause n k → HasGiven text cause m k
+    HasGiven-end later =
+        subst (λ text. HasGiven text cause m k) (append-nil text) (HasGiven-then [] later)
+
+module _ {S : Type 0} (law : SessionLaw S) where
+  pub AllAnswered-nothing : (m : Snapshot S) → AllAnswered law m [] m
+  AllAnswered-nothing m = record { ends_at = refl; given = HasGiven-nothing m }
+
   -- after events that were all answered
   module _ {m n : Snapshot S} {es : List FtpEvent} (all : AllAnswered law m es n) where
+    last-then : (fs : List FtpEvent) → last_state law m.state (es ++ fs) ≡ last_state law n.state fs
+    last-then fs = last_state-append law m.state es fs
+        ∙ ap (λ s. last_state law s fs) (sym all.ends_at)
+
     text-then : (fs : List FtpEvent) → text_of law m.state (es ++ fs) ≡ text_of law m.state es
         ++ text_of law n.state fs
     text-then fs = text_of-append law m.state es fs
         ∙ ap (λ s. text_of law m.state es ++ text_of law s fs) (sym all.ends_at)
-
-    last-then : (fs : List FtpEvent) → last_state law m.state (es ++ fs) ≡ last_state law n.state fs
-    last-then fs = last_state-append law m.state es fs
-        ∙ ap (λ s. last_state law s fs) (sym all.ends_at)
 
     whole-then : (fs : List FtpEvent) (sent : List (FtpReply × S)) →
         whole_text law m.state (es ++ fs) sent ≡ text_of law m.state es ++ whole_text law n.state fs
@@ -47,90 +82,33 @@ module _ {S : Type 0} (law : SessionLaw S) where
         ∙ append_assoc (text_of law m.state es) (text_of law n.state fs)
         (flat_map encoded (said (step ∷ steps)))
 
-    text_until-then : (fs : List FtpEvent) (sent : List (FtpReply × S)) (cause : Cause) →
-        text_until (whole_text law m.state (es ++ fs) sent) cause
-        ≡ text_of law m.state es ++ text_until
-        (whole_text law n.state fs sent) cause
-    text_until-then fs sent (Write part) = ap (λ text. text ++ part) (whole-then fs sent)
-        ∙ append_assoc (text_of law m.state es) (whole_text law n.state fs sent) part
-    text_until-then fs sent Finished = whole-then fs sent
-    text_until-then fs sent (Handler fault) = whole-then fs sent
-    text_until-then fs sent LineMemory = whole-then fs sent
-    text_until-then fs sent ReplyMemory = whole-then fs sent
-
     pub RunEnded-then : {k : Snapshot S} (fs later : List FtpEvent) (sent : List (FtpReply × S))
         (cause : Cause) → RunEnded law n fs later sent cause k
         → RunEnded law m (es ++ fs) later sent cause k
-    RunEnded-then {k} fs later sent cause v = record {
+    RunEnded-then fs later sent cause v = record {
       ends_at = rw (last-then fs) v.ends_at;
-      written = rw (text_until-then fs sent cause)
-          (HasWritten-then all.written v.written);
-      flushed = rw (whole-then fs sent)
-          (Flushed-then (text_of law m.state es) (whole_text law n.state fs sent)
-          (part_written cause)
-          m.output.unflushed n.output.unflushed k.output.unflushed all.flushed v.flushed);
-      write_failed = omega (arith, v.write_failed, all.write_failed);
-      handler_failed = omega (arith, v.handler_failed, all.handler_failed);
-    }
-
-    -- over an input that goes on after the bytes of these events
-    pub RunFailed-then : {k : Snapshot S} (limit : Option ℕ) (bytes more : Bytes)
-        {done : List FtpEvent} {error : ServeError} → es ≡ events limit bytes
-        → ends_for limit law m.state bytes ≡ false
-        → RunFailed limit law n (incomplete_line bytes ++ more) k error done
-        → RunFailed limit law m (bytes ++ more) k error (es ++ done)
-    RunFailed-then limit bytes more {done} is on v = record {
-      later = v.later;
-      split =
-          (run-append law limit m.state bytes more on).0
-          ∙ ap (λ events. events ++ run_for limit law (last_state law m.state events)
-          (incomplete_line bytes ++ more)) (sym is)
-          ∙ ap (λ s. es ++ run_for limit law s (incomplete_line bytes ++ more)) (sym all.ends_at)
-          ∙ ap (λ z. es ++ z) v.split ∙ sym (append_assoc es done v.later);
-      sent = v.sent;
-      cause = v.cause;
-      means = v.means;
-      ended = RunEnded-then done v.later v.sent v.cause v.ended;
-      next_line =
-          λ at_line. subst (MayRunOut limit)
-          (sym (ap (λ events. after_lines (length (events ++ done)) (bytes ++ more)) is
-          ∙ after_lines-append limit bytes more done)) (v.next_line at_line);
+      given = rw (whole-then fs sent)
+          (HasGiven-then all.given (whole_text law n.state fs sent) v.given);
     }
 
   -- with more events after it
   ends_at-more : (e : FtpEvent) (more : List FtpEvent) (cause : Cause) (s : S)
       (sent : List (FtpReply × S)) (s' : S) → EndsAt law cause s (e ∷ []) sent s'
       → EndsAt law cause s (e ∷ more) sent s'
-  ends_at-more e more Finished s sent s' h = absurd h
-  ends_at-more e more (Write part) s sent s' h = h
   ends_at-more e more (Handler fault) s [] s' h = h
   ends_at-more e more (Handler fault) s (step ∷ steps) s' h = h
   ends_at-more e more LineMemory s [] s' h = h
-  ends_at-more e more LineMemory s (step ∷ steps) s' h = absurd h
-  ends_at-more e more ReplyMemory s sent s' h = h
+  ends_at-more e more LineMemory s (step ∷ steps) s' h = h
+  ends_at-more e more cause s sent s' h = h
 
   -- at one event, of which these replies were sent, and those of `later` were not
   pub record Replying (m : Snapshot S) (e : FtpEvent) (n : Snapshot S)
       (sent later : List (FtpReply × S)) : Type 0 where
     pub split : turn law m.state e ≡ sent ++ later
-    pub written : HasWritten m.output n.output (flat_map encoded (said sent))
-    pub flushed : Flushed (flat_map encoded (said sent)) [] m.output.unflushed n.output.unflushed
-    pub write_failed : n.output.failures ≡ m.output.failures
-    pub handler_failed : n.failures ≡ m.failures
+    pub given : HasGiven (flat_map encoded (said sent)) Finished m n
 
-  pub Replying-start : (m : Snapshot S) (e : FtpEvent) → Replying m e m [] (turn law m.state e)
-  Replying-start m e = record {
-    split = refl;
-    written = HasWritten-nothing m.output;
-    flushed = omega arith;
-    write_failed = refl;
-    handler_failed = refl;
-  }
-
-  whole_sent : (s : S) (sent : List (FtpReply × S))
-      → whole_text law s [] sent ≡ flat_map encoded (said sent)
-  whole_sent s [] = refl
-  whole_sent s (step ∷ steps) = refl
+  Replying-start : (m : Snapshot S) (e : FtpEvent) → Replying m e m [] (turn law m.state e)
+  Replying-start m e = record { split = refl; given = HasGiven-nothing m }
 
   sent-more : (sent : List (FtpReply × S)) (step : FtpReply × S)
       → flat_map encoded (said (sent ++ step ∷ [])) ≡ flat_map encoded (said sent) ++ encoded step.0
@@ -138,108 +116,74 @@ module _ {S : Type 0} (law : SessionLaw S) where
   sent-more (first ∷ sent) step = ap (λ text. encoded first.0 ++ text) (sent-more sent step)
       ∙ sym (append_assoc (encoded first.0) (flat_map encoded (said sent)) (encoded step.0))
 
+  -- it failed after them
+  failed-after : {m n k : Snapshot S} {e : FtpEvent} (sent : List (FtpReply × S)) (cause : Cause)
+      (error : ServeError) → IsCauseOf cause error → ¬ (cause ≡ LineMemory)
+      → EndsAt law cause m.state (e ∷ []) sent k.state
+      → HasGiven (flat_map encoded (said sent)) Finished m n → HasGiven [] cause n k
+      → EventFailed law m e k error
+  failed-after {m} {k = k} sent cause error means has_line ends first later = record {
+    sent = sent;
+    cause = cause;
+    means = means;
+    has_line = has_line;
+    ended = record {
+      ends_at = ends;
+      given = subst (λ text. HasGiven text cause m k) (whole_sent sent) (HasGiven-end first later);
+    };
+  }
+    where
+      whole_sent : (sent : List (FtpReply × S))
+          → flat_map encoded (said sent) ≡ whole_text law m.state [] sent
+      whole_sent [] = refl
+      whole_sent (step ∷ steps) = refl
+
   pub failed-at : (m n : Snapshot S) (e : FtpEvent) (failed : KindAndSource)
       → law.may_fail m.state e (fault_of failed)
       → n.output ≡ m.output → n.failures ≡ m.failures + 1 →
       EventFailed law m e n (error.Handler failed)
-  failed-at m n e failed may same failures = record {
-    sent = [];
-    cause = Handler (fault_of failed);
-    means = refl;
-    has_line = λ at_line. absurd (cc);
-    ended = record {
-      ends_at = may;
-      written = rw same (HasWritten-nothing m.output);
-      flushed = rw same (omega arith);
-      write_failed = rw same (omega arith);
-      handler_failed = failures;
-    };
-  }
+  failed-at m n e failed may same failures =
+      failed-after [] (Handler (fault_of failed)) (error.Handler failed) refl
+      (λ at_line. absurd (cc)) may (HasGiven-nothing m)
+      (HasGiven-silent (Handler (fault_of failed)) refl same failures)
 
-  module _ (m n : Snapshot S) (e : FtpEvent) (sent : List (FtpReply × S)) where
-    -- the next reply is given, and then it is sent or it isn't
-    module _ (later : List (FtpReply × S)) (reply : FtpReply) (k : Snapshot S)
-        (so_far : Replying m e n sent ((reply, k.state) ∷ later))
-        (quiet : k.failures ≡ n.failures) where
-      Replying-more : Sent (encoded reply) n.output k.output
-          → Replying m e k (sent ++ (reply, k.state) ∷ []) later
-      Replying-more v = record {
-        split = so_far.split ∙ sym (append_assoc sent ((reply, k.state) ∷ []) later);
-        written = rw (sent-more sent (reply, k.state))
-            (HasWritten-then so_far.written v.written);
-        flushed = rw (sent-more sent (reply, k.state))
-            (Flushed-then (flat_map encoded (said sent)) (encoded reply) [] m.output.unflushed
-            n.output.unflushed k.output.unflushed so_far.flushed v.flushed);
-        write_failed = v.no_failure ∙ so_far.write_failed;
-        handler_failed = quiet ∙ so_far.handler_failed;
-      }
+  -- the next reply is given, and then it is sent or it isn't
+  module _ (m n : Snapshot S) (e : FtpEvent) (sent later : List (FtpReply × S)) (reply : FtpReply)
+      (k : Snapshot S) (so_far : Replying m e n sent ((reply, k.state) ∷ later))
+      (quiet : k.failures ≡ n.failures) where
+    Replying-more : Sent (encoded reply) n.output k.output
+        → Replying m e k (sent ++ (reply, k.state) ∷ []) later
+    Replying-more v = record {
+      split = so_far.split ∙ sym (append_assoc sent ((reply, k.state) ∷ []) later);
+      given = rw (sent-more sent (reply, k.state)) (HasGiven-then so_far.given (encoded reply)
+          (record {
+            written = v.written;
+            flushed = v.flushed;
+            write_failed = omega (arith, v.no_failure);
+            handler_failed = omega (arith, quiet);
+          }));
+    }
 
-      broke-at : (error : ServeError)
-          → ((v : CutShort (encoded reply) n.output k.output) → IsCauseOf (Write v.part) error) →
-          CutShort (encoded reply) n.output k.output
-          → EventFailed law m e k error
-      broke-at error means v = record {
-        sent = sent;
-        cause = Write v.part;
-        means = means v;
-        has_line = λ at_line. absurd (cc);
-        ended = record {
-          ends_at = record {
-            reply = reply;
-            later = later;
-            split = so_far.split;
-            so = v.begins;
-          };
-          written = rw (whole_sent m.state sent)
-              (HasWritten-then so_far.written v.written);
-          flushed = rw (whole_sent m.state sent)
-              (cut_flushed (flat_map encoded (said sent)) v.part m.output.unflushed
-              n.output.unflushed
-              k.output.unflushed so_far.flushed v.unflushed);
-          write_failed = omega (arith, v.failure, so_far.write_failed);
-          handler_failed = omega (arith, quiet, so_far.handler_failed);
-        };
-      }
-        where
-          cut_flushed : (text part : Bytes) (t u v : ℕ) → Flushed text [] t u
-              → v ≤ u + length part → Flushed text part t v
-          cut_flushed [] part t u v p q = omega arith
-          cut_flushed (b ∷ text) part t u v p q = omega arith
+    broke-at : (error : ServeError) (v : CutShort (encoded reply) n.output k.output)
+        → IsCauseOf (Write v.part) error → EventFailed law m e k error
+    broke-at error v means = failed-after sent (Write v.part) error means (λ at_line. absurd (cc))
+        (record { reply = reply; later = later; split = so_far.split; so = v.begins }) so_far.given
+        (record {
+          written = v.written;
+          flushed = v.unflushed;
+          write_failed = v.failure;
+          handler_failed = omega (arith, quiet);
+        })
 
-      no_memory-at : ¬ (reply ≡ Nothing) → k.output ≡ n.output
-          → EventFailed law m e k error.OutOfMemory
-      no_memory-at some same = record {
-        sent = sent;
-        cause = ReplyMemory;
-        means = tt;
-        has_line = λ at_line. absurd (cc);
-        ended = record {
-          ends_at = record {
-            reply = reply;
-            later = later;
-            split = so_far.split;
-            so = some;
-          };
-          written = rw (whole_sent m.state sent, same) so_far.written;
-          flushed = rw (whole_sent m.state sent, same) so_far.flushed;
-          write_failed = rw same (omega (arith, so_far.write_failed));
-          handler_failed = omega (arith, quiet, so_far.handler_failed);
-        };
-      }
-
-      pub reply-sent : SendsReply {T = Unit {0}} (Ok tt) reply n.output k.output
-          → Replying m e k (sent ++ (reply, k.state) ∷ []) later
-      reply-sent v = Replying-more v
-
-      pub reply-failed : (error : ServeError) → ReplyFailed error reply n.output k.output
-          → EventFailed law m e k error
-      reply-failed (error.Read x) v = absurd v
-      reply-failed (error.Write x) v = broke-at (error.Write x) (λ v. tt) v
-      reply-failed error.WriteZero v = broke-at error.WriteZero (λ v. tt) v
-      reply-failed (error.Handler x) v = absurd v
-      reply-failed error.OutOfMemory v = no_memory-at v.1 v.0
-      reply-failed error.Stopped v = absurd v
-      reply-failed error.TooManyReads v = absurd v
+    pub reply-failed : (error : ServeError) → ReplyFailed error reply n.output k.output
+        → EventFailed law m e k error
+    reply-failed (error.Write x) v = broke-at (error.Write x) v tt
+    reply-failed error.WriteZero v = broke-at error.WriteZero v tt
+    reply-failed error.OutOfMemory v = failed-after sent ReplyMemory error.OutOfMemory tt
+        (λ at_line. absurd (cc))
+        (record { reply = reply; later = later; split = so_far.split; so = v.1 }) so_far.given
+        (HasGiven-silent ReplyMemory refl v.0 (omega (arith, quiet)))
+    reply-failed error v = absurd v
 
   -- within a turn, of which some replies were sent, and the others follow
   pub record InTurn (m : Snapshot S) (e : FtpEvent) (n : Snapshot S) : Type 0 where
@@ -302,22 +246,13 @@ module _ {S : Type 0} (law : SessionLaw S) where
           → law.may_break n.state (fault_of failed) → k.output ≡ n.output
           → k.failures ≡ n.failures + 1
           → EventFailed law m e k (error.Handler failed)
-      InTurn-broke k failed may same failures = record {
-        sent = so_far.first ∷ so_far.sent;
-        cause = Handler (fault_of failed);
-        means = refl;
-        has_line = λ at_line. absurd (cc);
-        ended = record {
-          ends_at = (
+      InTurn-broke k failed may same failures =
+          failed-after (so_far.first ∷ so_far.sent) (Handler (fault_of failed))
+          (error.Handler failed) refl (λ at_line. absurd (cc)) (
             (law.more n.state, so_far.replying.split),
             subst (λ s. law.may_break s (fault_of failed)) so_far.state may,
-          );
-          written = rw same so_far.replying.written;
-          flushed = rw same so_far.replying.flushed;
-          write_failed = rw same (omega (arith, so_far.replying.write_failed));
-          handler_failed = omega (arith, failures, so_far.replying.handler_failed);
-        };
-      }
+          ) so_far.replying.given
+          (HasGiven-silent (Handler (fault_of failed)) refl same failures)
 
       pub InTurn-end : (k : Snapshot S) → law.more n.state ≡ [] → k.state ≡ n.state
           → k.output ≡ n.output → k.failures ≡ n.failures → AllAnswered law m (e ∷ []) k
@@ -330,46 +265,68 @@ module _ {S : Type 0} (law : SessionLaw S) where
           ∙ ap said all) in
           record {
             ends_at = state ∙ so_far.state ∙ ap (state_after m.state) (sym all);
-            written = rw (whole, same) so_far.replying.written;
-            flushed = rw (whole, same) so_far.replying.flushed;
-            write_failed = rw same (omega (arith, so_far.replying.write_failed));
-            handler_failed = omega (arith, quiet, so_far.replying.handler_failed);
+            given = rw whole (HasGiven-end so_far.replying.given
+                (HasGiven-silent Finished refl same (omega (arith, quiet))));
           }
 
-  -- in a loop over events: these are answered, and those are left
-  pub record Answering (m : Snapshot S) (es : List FtpEvent) (n : Snapshot S)
-      (done left : List FtpEvent) : Type 0 where
-    pub split : es ≡ done ++ left
-    pub all : AllAnswered law m done n
+  -- at one event it failed, which others follow
+  pub EventFailed-more : {n k : Snapshot S} {e : FtpEvent} (later : List FtpEvent)
+      {error : ServeError} (failed : EventFailed law n e k error)
+      → RunEnded law n [] (e ∷ later) failed.sent failed.cause k
+  EventFailed-more {n} {k} {e} later failed = record {
+    ends_at = ends_at-more e later failed.cause n.state failed.sent k.state failed.ended.ends_at;
+    given = failed.ended.given;
+  }
 
-  module _ {m n : Snapshot S} {es done : List FtpEvent} where
-    pub Answering-next : {k : Snapshot S} {e : FtpEvent} {left left' : List FtpEvent}
-        → Answering m es n done left → left ≡ e ∷ left' → AllAnswered law n (e ∷ []) k →
-        Answering m es k (done ++ e ∷ []) left'
-    Answering-next {k} {e} {left' = left'} t p w = record {
-      split = t.split ∙ ap (λ z. done ++ z) p ∙ sym (append_assoc done (e ∷ []) left');
-      all = RunEnded-then t.all (e ∷ []) [] [] Finished w;
-    }
+-- All lines of these bytes were answered, and the run goes on after them.
+pub record GoneOn (limit : Option ℕ) {S : Type 0} (law : SessionLaw S) (m n : Snapshot S)
+    (sent : Bytes) : Type 0 where
+  pub goes_on : ends_for limit law m.state sent ≡ false
+  pub answered : AllAnswered law m (events limit sent) n
 
-    pub Answering-end : (left : List FtpEvent) → Answering m es n done left → left ≡ []
-        → AllAnswered law m es n
-    Answering-end left t p =
-        let q : done ≡ es = sym (t.split ∙ ap (λ z. done ++ z) p ∙ append-nil done) in
-        subst (λ z. AllAnswered law m z n) q t.all
+module _ {limit : Option ℕ} {S : Type 0} {law : SessionLaw S} {m n : Snapshot S} {sent : Bytes}
+    (so_far : GoneOn limit law m n sent) (more : Bytes) where
+  -- more bytes, after the incomplete line
+  abbrev rest : Bytes
+  rest = incomplete_line sent ++ more
 
-    -- at the next event it failed
-    pub Answering-failed : {k : Snapshot S} {e : FtpEvent} {left : List FtpEvent}
-        (later : List FtpEvent) {error : ServeError} → Answering m es n done left
-        → (failed : EventFailed law n e k error)
-        → RunEnded law m done (e ∷ later) failed.sent failed.cause k
-    Answering-failed {k} {e} later t failed =
-        let more : RunEnded law n [] (e ∷ later) failed.sent failed.cause k = record {
-          ends_at = ends_at-more e later failed.cause n.state failed.sent k.state
-              failed.ended.ends_at;
-          written = failed.ended.written;
-          flushed = failed.ended.flushed;
-          write_failed = failed.ended.write_failed;
-          handler_failed = failed.ended.handler_failed;
-        } in
-        subst (λ done. RunEnded law m done (e ∷ later) failed.sent failed.cause k) (append-nil done)
-        (RunEnded-then t.all [] (e ∷ later) failed.sent failed.cause more)
+  pub GoneOn-run : run_for limit law m.state (sent ++ more)
+      ≡ events limit sent ++ run_for limit law n.state rest
+  GoneOn-run = (run-append law limit m.state sent more so_far.goes_on).0
+      ∙ ap (λ s. events limit sent ++ run_for limit law s rest) (sym so_far.answered.ends_at)
+
+  pub GoneOn-ends : ends_for limit law m.state (sent ++ more) ≡ ends_for limit law n.state rest
+  GoneOn-ends = (run-append law limit m.state sent more so_far.goes_on).1
+      ∙ ap (λ s. ends_for limit law s rest) (sym so_far.answered.ends_at)
+
+  pub GoneOn-unread : unread limit law m.state (sent ++ more) ≡ unread limit law n.state rest
+  GoneOn-unread = unread-append law limit m.state sent more so_far.goes_on
+      ∙ ap (λ s. unread limit law s rest) (sym so_far.answered.ends_at)
+
+  pub GoneOn-all : {k : Snapshot S} → AllAnswered law n (run_for limit law n.state rest) k
+      → AllAnswered law m (run_for limit law m.state (sent ++ more)) k
+  GoneOn-all all = rw GoneOn-run
+      (RunEnded-then law so_far.answered (run_for limit law n.state rest) [] [] Finished all)
+
+  pub GoneOn-then : {k : Snapshot S} → GoneOn limit law n k rest
+      → GoneOn limit law m k (sent ++ more)
+  GoneOn-then then = record {
+    goes_on = GoneOn-ends ∙ then.goes_on;
+    answered = rw (events-append limit sent more)
+        (RunEnded-then law so_far.answered (events limit rest) [] [] Finished then.answered);
+  }
+
+  pub GoneOn-failed : {k : Snapshot S} {done : List FtpEvent} {error : ServeError}
+      → RunFailed limit law n rest k error done
+      → RunFailed limit law m (sent ++ more) k error (events limit sent ++ done)
+  GoneOn-failed {done = done} v = record {
+    later = v.later;
+    split = GoneOn-run ∙ ap (λ run. events limit sent ++ run) v.split
+        ∙ sym (append_assoc (events limit sent) done v.later);
+    sent = v.sent;
+    cause = v.cause;
+    means = v.means;
+    ended = RunEnded-then law so_far.answered done v.later v.sent v.cause v.ended;
+    next_line = λ at_line. subst (FirstMayRunOut limit)
+        (sym (drop_lines-append limit sent more done)) (v.next_line at_line);
+  }

@@ -1,5 +1,5 @@
 -- An engine after a piece.
-use Rattle.std.proofs.Common.{◌≡◌, ℕ, ◌≤◌, max, ◌+◌, ◌-◌, Bool, true, false, ltb, [], Option, Some, length, refl, sym, ap, ◌∙◌, arith}
+use Rattle.std.proofs.Common.{◌++◌, ◌≡◌, ℕ, ◌≤◌, ◌+◌, ◌-◌, Bool, true, false, ltb, [], Option, Some, length, refl, sym, ap, ◌∙◌, arith}
 use Rattle.std.specs.Prelude.{if◌then◌else◌}
 use Rattle.std.proofs.lemmas.Bool.{ltb-false}
 use Rattle.unftp_control_defs.specs.Bytes.{Bytes}
@@ -8,7 +8,7 @@ use Rattle.unftp_control_defs.specs.Lines.{incomplete_line}
 use Rattle.unftp_control_defs.specs.Run.{SessionLaw, ends_for, unread}
 use Rattle.unftp_control_defs.proofs.RunLemmas.{unread-on}
 use Rattle.unftp_control_serve.specs.Decoder.{Pending, cleared, kept_length, pushed, saturating_u64}
-use Rattle.unftp_control_serve.specs.Engine.{EngineState, after_end_with, bytes_with, ends_with, fed, pending_with, unread_with}
+use Rattle.unftp_control_serve.specs.Engine.{EngineState, after_end_with, bytes_with, ends_with, fed, pending_with}
 
 -- what is kept of an incomplete line is within the limit
 pub kept_within : (limit : ℕ) (incomplete : Bytes) → kept_length (Some limit) incomplete ≤ limit
@@ -40,51 +40,27 @@ engine_of pending left failed finished = record {
   held = pending.held;
 }
 
--- A piece was pushed to `d`, which made it `p`, and the lines of the run were taken, which made it
--- `q`.
-pub record WasFed {S : Type 0} (law : SessionLaw S) (s : S) (d p q : Pending) (piece : Bytes)
+-- A piece was pushed to `d`, and the lines of the run were taken, which made it `q`.
+pub record WasFed {S : Type 0} (law : SessionLaw S) (s : S) (d q : Pending) (piece : Bytes)
     (ended : Bool) : Type 0 where
-  pub push : p ≡ pushed d piece
   pub all_scanned : d.unscanned ≡ 0
-  pub ends : ended ≡ ends_for p.limit law s p.bytes
-  pub pending : q.bytes ≡ unread p.limit law s p.bytes
+  pub ends : ended ≡ ends_for d.limit law s (d.bytes ++ piece)
+  pub pending : q.bytes ≡ unread d.limit law s (d.bytes ++ piece)
   pub unscanned : q.unscanned ≡ (if ended then length q.bytes else 0)
-  pub same_limit : q.limit ≡ p.limit
-  pub same_held : q.held ≡ p.held
-  pub scanned_once : q.scanned + q.unscanned ≡ p.scanned + p.unscanned
+  pub same_limit : q.limit ≡ d.limit
+  pub same_held : q.held ≡ (pushed d piece).held
+  pub scanned_once : q.scanned + q.unscanned
+      ≡ (pushed d piece).scanned + (pushed d piece).unscanned
 
-module _ {S : Type 0} {law : SessionLaw S} {s : S} {d p q : Pending} {piece : Bytes} {ended : Bool}
-    (h : WasFed law s d p q piece ended) (left : ℕ) (failed finished : Bool) where
-  open h use {push, all_scanned, ends, pending, unscanned, same_limit, same_held, scanned_once}
+module _ {S : Type 0} {law : SessionLaw S} {s : S} {d q : Pending} {piece : Bytes} {ended : Bool}
+    (h : WasFed law s d q piece ended) (left : ℕ) (failed finished : Bool) where
+  open h use {all_scanned, ends, pending, unscanned, same_limit, same_held, scanned_once}
 
   abbrev engine : EngineState
   engine = engine_of d left failed finished
 
-  ends_so : ended ≡ ends_with engine law s piece
-  ends_so = ends ∙ ap (λ pending. ends_for pending.limit law s pending.bytes) push
-
-  unread_so : q.bytes ≡ unread_with engine law s piece
-  unread_so = pending ∙ ap (λ pending. unread pending.limit law s pending.bytes) push
-
   after_end_so : after_end_with engine law s piece ≡ (if ended then q.bytes else [])
-  after_end_so = ap (λ end. if end then unread_with engine law s piece else []) (sym ends_so)
-      ∙ ap (λ bytes. if ended then bytes else []) (sym unread_so)
-
-  limit_so : q.limit ≡ engine.limit
-  limit_so = same_limit ∙ ap (λ pending. pending.limit) push
-
-  held_so : q.held ≡ max engine.held (engine.buffered + length piece)
-  held_so = same_held ∙ ap (λ pending. pending.held) push
-
-  scanned_so : q.scanned + q.unscanned ≡ engine.scanned + length piece
-  scanned_so =
-      omega (
-        arith,
-        scanned_once,
-        all_scanned,
-        ap (λ pending. pending.scanned) push,
-        ap (λ pending. pending.unscanned) push,
-      )
+  after_end_so = λ i. if (sym ends i) then (sym pending i) else []
 
   -- its parts, one by one
   fed-so : {incomplete : Bytes} {finished : Bool} {buffered : ℕ}
@@ -106,33 +82,35 @@ module _ {S : Type 0} {law : SessionLaw S} {s : S} {d p q : Pending} {piece : By
   fed-so incomplete_is finished_is once kept =
       let scanned_is : q.scanned ≡ engine.scanned + length piece - length
       (after_end_with engine law s piece) = omega (arith, once) in
-      rw (kept, incomplete_is, unread_so, finished_is ∙ ends_so, scanned_is, limit_so, held_so) refl
+      rw (kept, incomplete_is, pending, finished_is ∙ ends, scanned_is, same_limit, same_held) refl
 
   pub fed-ended : ended ≡ true → engine_of (cleared q) (saturating_u64 (length q.bytes)) false true
       ≡ fed law s engine piece
   fed-ended is =
       fed-so (ap (λ end. if end then [] else incomplete_line (bytes_with engine piece))
-      (sym is ∙ ends_so)) (sym is)
+      (sym is ∙ ends)) (sym is)
       (omega (
         arith,
-        scanned_so,
+        scanned_once,
+        all_scanned,
         unscanned ∙ ap (λ end. if end then length q.bytes else 0) is,
         ap length (after_end_so ∙ ap (λ end. if end then q.bytes else []) is),
       ))
       (sym (nothing_kept engine.limit))
 
-  pub fed-on : ended ≡ false → q.buffered ≡ kept_length p.limit q.bytes
+  pub fed-on : ended ≡ false → q.buffered ≡ kept_length d.limit q.bytes
       → engine_of q (saturating_u64 (length q.bytes)) false false ≡ fed law s engine piece
   fed-on is kept =
-      let on : ends_with engine law s piece ≡ false = sym ends_so ∙ is in
+      let on : ends_with engine law s piece ≡ false = sym ends ∙ is in
       fed-so
-      (unread_so ∙ unread-on law engine.limit s (bytes_with engine piece) on
+      (pending ∙ unread-on law engine.limit s (bytes_with engine piece) on
       ∙ ap (λ end. if end then [] else incomplete_line (bytes_with engine piece)) (sym on))
       (sym is)
       (omega (
         arith,
-        scanned_so,
+        scanned_once,
+        all_scanned,
         unscanned ∙ ap (λ end. if end then length q.bytes else 0) is,
         ap length (after_end_so ∙ ap (λ end. if end then q.bytes else []) is),
       ))
-      (kept ∙ ap (λ pending. kept_length pending.limit q.bytes) push)
+      kept

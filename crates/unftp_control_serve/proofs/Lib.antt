@@ -3,8 +3,8 @@ mod MappedLemmas
 pub mod DecoderLemmas
 pub mod EventLineLemmas
 pub mod SendLemmas
-mod AfterLinesLemmas
 pub mod EndingLemmas
 mod EngineLemmas
 mod LineRunLemmas
+pub mod SoFarLemmas
 pub mod ServiceLemmas

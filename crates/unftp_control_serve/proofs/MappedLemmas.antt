@@ -1,7 +1,7 @@
 -- A result whose error was made one of the handler.
 use Rattle.std.proofs.Common.{◌≡◌, Result, Ok, Err, refl, subst}
 use Rattle.std.specs.Result.{IsErrAnd, MatchResult}
-use Rattle.unftp_control_reply.specs.ErrorParts.{KindAndSource}
+use Rattle.unftp_control_message.specs.ErrorParts.{KindAndSource}
 use Rattle.unftp_control_serve.specs.declared.error.ServeError.{ServeError}
 use Rattle.unftp_control_serve.specs.declared.error.ServeError.TheVariants as error
 

@@ -1,5 +1,5 @@
 -- The pending bytes of a decoder.
-use Rattle.std.specs.Prelude.{◌≡◌, ℕ, ◌+◌, ◌-◌, ◌^◌, ◌≤◌, Bool, true, false, if◌then◌else◌, [], ◌++◌, length, min, max, take, drop, Option, Some, None, Result, Ok, Err, MatchResult, MatchOption, IfSome, option_map}
+use Rattle.std.specs.Prelude.{◌≡◌, ℕ, ◌+◌, ◌-◌, ◌^◌, ◌≤◌, Bool, false, if◌then◌else◌, [], ◌++◌, length, min, max, take, drop, Option, Some, None, Result, Ok, Err, MatchResult, MatchOption, IfSome, option_map}
 use Rattle.unftp_control_defs.specs.Bytes.{Bytes, LF, Lacks}
 use Rattle.unftp_control_defs.specs.Buffer.{held_after_piece}
 use Rattle.unftp_control_defs.specs.Events.{FtpEvent, exceeds}
@@ -7,7 +7,9 @@ use Rattle.unftp_control_defs.specs.Lines.{IsLine}
 use Rattle.unftp_control_line_parser.specs.Memory.{MayTakeMemory}
 use Rattle.unftp_control_defs.specs.TakingSteps.{TakesEvent}
 use Rattle.unftp_control_codecs.specs.Codec.{Codec}
-use Rattle.unftp_control_codecs.specs.Decoding.{Decoded, IsOutOfMemory, IfTooLong, returned_event}
+use Rattle.unftp_control_codecs.specs.Decoding.{Decoded, IsOutOfMemory, returned_event}
+pub use Rattle.unftp_control_codecs.specs.FirstLine.{kept_length}
+use Rattle.unftp_control_codecs.specs.FirstLine.{IsDropped, IsScannedWithin}
 use Rattle.unftp_control_serve.specs.declared.event.Event.{Event}
 use Rattle.unftp_control_serve.specs.EventMeaning.{event_meant, refuses_length}
 
@@ -15,24 +17,7 @@ use Rattle.unftp_control_serve.specs.EventMeaning.{event_meant, refuses_length}
 abbrev pub saturating_u64 : ℕ → ℕ
 saturating_u64 n = min n (2 ^ 64 - 1)
 
--- how many bytes of an incomplete line are kept: none of one that is too long already
-abbrev pub kept_length : Option ℕ → Bytes → ℕ
-kept_length limit incomplete =
-    if exceeds limit (length incomplete + 1) then 0 else length incomplete
-
--- there is no line feed before the codec's scan offset, which is within the bytes
-abbrev pub IsScannedWithin : Codec → Bytes → Type 0
-IsScannedWithin codec bytes = (codec.place ≤ length bytes) × Lacks LF (take codec.place bytes)
-
--- The bytes that were dropped begin a line that is too long; while the codec is not skipping, there
--- are none.
-pub record IsDropped (codec : Codec) (dropped : Bytes) : Type 0 where
-  pub unended : Lacks LF dropped
-  pub too_long : IfTooLong codec.skipping
-      (exceeds codec.limit (length dropped + 1) ≡ true)
-      (dropped ≡ [])
-
--- those, after the codec took some bytes and is skipping, or is not
+-- the bytes that were dropped, after the codec took some and is skipping, or is not
 abbrev pub dropped_after : Bool → Bytes → Bytes → Bytes
 dropped_after skipping dropped bytes = if skipping then dropped ++ bytes else []
 
@@ -97,25 +82,14 @@ kept_bytes pending = drop (length pending.bytes - pending.kept) pending.bytes
 
 -- The lines that were taken have left the buffer.
 abbrev pub settled : Pending → Pending
-settled pending = record {
-  bytes = pending.bytes;
-  kept = pending.kept;
-  limit = pending.limit;
-  line = [];
-  scanned = pending.scanned;
-  unscanned = pending.unscanned;
-  buffered = pending.kept;
-  held = pending.held;
-}
+settled pending = record pending { line = []; buffered = pending.kept }
 
 -- A piece comes after them.
 abbrev pub pushed : Pending → Bytes → Pending
-pushed pending piece = record {
+pushed pending piece = record pending {
   bytes = pending.bytes ++ piece;
   kept = pending.kept + length piece;
-  limit = pending.limit;
   line = [];
-  scanned = pending.scanned;
   unscanned = pending.unscanned + length piece;
   buffered = held_after_piece pending.buffered pending.kept (length piece);
   held = max pending.held (pending.buffered + length piece);
@@ -123,16 +97,8 @@ pushed pending piece = record {
 
 -- The pending bytes have left the buffer too.
 abbrev pub cleared : Pending → Pending
-cleared pending = record {
-  bytes = [];
-  kept = 0;
-  limit = pending.limit;
-  line = [];
-  scanned = pending.scanned;
-  unscanned = 0;
-  buffered = 0;
-  held = pending.held;
-}
+cleared pending =
+    record pending { bytes = []; kept = 0; line = []; unscanned = 0; buffered = 0 }
 
 -- There is no line, and all bytes are scanned; none are kept of a line that is too long.
 pub record HasNoLine (before after : Pending) : Type 0 where

@@ -1,12 +1,13 @@
 -- How a run ended: which of its events were answered, why no more were, and what was written and
 -- flushed.
-use Rattle.std.specs.Prelude.{◌≡◌, ⊤, ℕ, ◌+◌, ◌⊎◌, List, [], ◌∷◌, ◌++◌, flat_map, length, Option, Result, Err, MatchResult}
+use Rattle.std.specs.Prelude.{◌≡◌, ⊤, ℕ, ◌+◌, ◌⊎◌, false, drop, List, [], ◌∷◌, ◌++◌, flat_map, length, Option, Result, Err, MatchResult}
 use Rattle.unftp_control_defs.specs.Bytes.{Bytes}
-use Rattle.unftp_control_defs.specs.Events.{Fault, FtpEvent}
+use Rattle.unftp_control_defs.specs.Events.{Fault, FtpEvent, exceeds}
 use Rattle.unftp_control_defs.specs.FtpReply.{FtpReply, Nothing, encoded}
-use Rattle.unftp_control_defs.specs.Run.{SessionLaw, after_lines, last_state, run_for, said, state_after, text_of, turn}
-use Rattle.unftp_control_reply.specs.ErrorMeaning.{fault_of}
-use Rattle.unftp_control_serve.specs.Decoder.{MayRunOut}
+use Rattle.unftp_control_defs.specs.Lines.{lines_of}
+use Rattle.unftp_control_defs.specs.Run.{SessionLaw, last_state, run_for, said, state_after, text_of, turn}
+use Rattle.unftp_control_line_parser.specs.Memory.{MayTakeMemory}
+use Rattle.unftp_control_message.specs.ErrorMeaning.{fault_of}
 use Rattle.unftp_control_serve.specs.Writing.{OutputState, output_state_of, Begins, Flushed, HasWritten}
 use Rattle.unftp_control_serve.specs.declared.output.Output.{Output}
 use Rattle.unftp_control_serve.specs.declared.error.ServeError.{ServeError}
@@ -40,14 +41,17 @@ pub data Cause : Type 0 where
   LineMemory : Cause
   ReplyMemory : Cause
 
--- which errors each of them is returned as
+-- which of them each error may mean
+abbrev pub MayMean : ServeError → Cause → Type 0
+MayMean (error.Write _) (Write _) = ⊤
+MayMean error.WriteZero (Write _) = ⊤
+MayMean (error.Handler failed) (Handler fault) = fault ≡ fault_of failed
+MayMean error.OutOfMemory LineMemory = ⊤
+MayMean error.OutOfMemory ReplyMemory = ⊤
+MayMean _ _ = ⊥
+
 abbrev pub IsCauseOf : Cause → ServeError → Type 0
-IsCauseOf (Write _) (error.Write _) = ⊤
-IsCauseOf (Write _) error.WriteZero = ⊤
-IsCauseOf (Handler fault) (error.Handler failed) = fault ≡ fault_of failed
-IsCauseOf LineMemory error.OutOfMemory = ⊤
-IsCauseOf ReplyMemory error.OutOfMemory = ⊤
-IsCauseOf _ _ = ⊥
+IsCauseOf cause error = MayMean error cause
 
 -- The first reply of a turn that was not sent, after those that were: this is so of it, and it
 -- leaves this state.
@@ -98,18 +102,22 @@ abbrev pub handler_failures : Cause → ℕ
 handler_failures (Handler _) = 1
 handler_failures _ = 0
 
+-- This text was written and flushed, and after it the part of the next reply that the cause says;
+-- the failures were counted that it is.
+pub record HasGiven {S : Type 0} (text : Bytes) (cause : Cause) (before after : Snapshot S)
+    : Type 0 where
+  pub written : HasWritten before.output after.output (text_until text cause)
+  pub flushed : Flushed text (part_written cause) before.output.unflushed after.output.unflushed
+  pub write_failed : after.output.failures ≡ before.output.failures + write_failures cause
+  pub handler_failed : after.failures ≡ before.failures + handler_failures cause
+
 -- A run ended for this cause, after all replies to the events `done`, and the replies `sent` to the
 -- first of `later`; the others were not sent.
 pub record RunEnded {S : Type 0} (law : SessionLaw S) (before : Snapshot S)
     (done later : List FtpEvent) (sent : List (FtpReply × S)) (cause : Cause) (after : Snapshot S)
     : Type 0 where
   pub ends_at : EndsAt law cause (last_state law before.state done) later sent after.state
-  pub written : HasWritten before.output after.output
-      (text_until (whole_text law before.state done sent) cause)
-  pub flushed : Flushed (whole_text law before.state done sent) (part_written cause)
-      before.output.unflushed after.output.unflushed
-  pub write_failed : after.output.failures ≡ before.output.failures + write_failures cause
-  pub handler_failed : after.failures ≡ before.failures + handler_failures cause
+  pub given : HasGiven (whole_text law before.state done sent) cause before after
 
 -- It ended because all events were answered.
 abbrev pub AllAnswered : {S : Type 0} → SessionLaw S → Snapshot S → List FtpEvent → Snapshot S
@@ -131,6 +139,11 @@ EventOutcome law before event after result = MatchResult result
     (λ _. AllAnswered law before (event ∷ []) after)
     (λ failure. EventFailed law before event after failure)
 
+-- The first of these lines is within the limit, and its command may take memory.
+abbrev pub FirstMayRunOut : Option ℕ → List Bytes → Type 0
+FirstMayRunOut limit [] = ⊥
+FirstMayRunOut limit (line ∷ lines) = (exceeds limit (length line) ≡ false) × MayTakeMemory line
+
 -- The run over an input ended with this error, after all replies to its events `done`, and the
 -- replies `sent` to the next. Where memory ran out for the command of a line, it is the line after
 -- those of these events.
@@ -143,7 +156,7 @@ pub record RunFailed (limit : Option ℕ) {S : Type 0} (law : SessionLaw S) (bef
   pub cause : Cause
   pub means : IsCauseOf cause error
   pub ended : RunEnded law before done later sent cause after
-  pub next_line : cause ≡ LineMemory → MayRunOut limit (after_lines (length done) input)
+  pub next_line : cause ≡ LineMemory → FirstMayRunOut limit (drop (length done) (lines_of input))
 
 abbrev pub RunOutcome : {S T : Type 0} → Option ℕ → SessionLaw S → Snapshot S → Bytes → Snapshot S
     → Result T ServeError → Type 0

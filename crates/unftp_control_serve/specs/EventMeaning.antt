@@ -1,11 +1,11 @@
 -- What an event means.
 use Rattle.std.specs.Prelude.{Bool, true, false, Option, None, Some}
 use Rattle.unftp_control_defs.specs.Events.{FaultKind, FtpEvent, Command, LineTooLong, Refused}
-use Rattle.unftp_control_command.specs.CommandMeaning.{command_of}
+use Rattle.unftp_control_message.specs.CommandMeaning.{command_of}
 use Rattle.unftp_control_defs.specs.FtpReply.{FtpReply}
-use Rattle.unftp_control_reply.specs.ErrorMeaning.{fault_of}
-use Rattle.unftp_control_reply.specs.ReplyMeaning.{reply_of}
-use Rattle.unftp_control_reply.specs.declared.Reply.{Reply}
+use Rattle.unftp_control_message.specs.ErrorMeaning.{fault_of}
+use Rattle.unftp_control_message.specs.ReplyMeaning.{reply_of}
+use Rattle.unftp_control_message.specs.declared.reply.Reply.{Reply}
 use Rattle.unftp_control_serve.specs.declared.event.Event.{Event}
 use Rattle.unftp_control_serve.specs.declared.event.Event.TheVariants as event
 

@@ -7,10 +7,10 @@ use crate::skipped::Skipped;
 use std::alloc::{AllocError, Global};
 use std::marker::Model;
 use unftp_control_codecs::FtpCodec;
-use unftp_control_command::Command;
 use unftp_control_defs::buffer::PendingBytes;
 use unftp_control_defs::count::Count;
-use unftp_control_reply::error::{ControlChanError, ControlChanErrorKind};
+use unftp_control_message::Command;
+use unftp_control_message::reply::error::{ControlChanError, ControlChanErrorKind};
 
 /// Cuts an input that comes in pieces into lines, and returns the event of each: for a server with
 /// an event loop of its own. A piece is pushed, and events are taken until there is none; between

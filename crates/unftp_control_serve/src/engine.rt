@@ -1,8 +1,8 @@
 //! The engine: lines in, replies out.
-ghost use Rattle.std.specs.Prelude.{◌≡◌, ◌≤◌, ◌+◌, [], List, max, None, Some, IfSome, IfOk, OnOk, OnErr, IsErrOf, IsTrue, MatchResult, is_ok, if◌then◌else◌, true, false, length};
+ghost use Rattle.std.specs.Prelude.{◌≡◌, ◌≤◌, ◌+◌, List, max, None, Some, IfSome, IfOk, OnOk, OnErr, IsErrOf, IsTrue, MatchResult, is_ok, if◌then◌else◌, true, false, length};
 ghost use Rattle.unftp_control_defs.specs.FtpReply.{Nothing, encoded};
 ghost use Rattle.unftp_control_defs.specs.Run.{ends_for, unread};
-ghost use Rattle.unftp_control_reply.specs.ReplyMeaning.{reply_of};
+ghost use Rattle.unftp_control_message.specs.ReplyMeaning.{reply_of};
 ghost use Rattle.unftp_control_serve.specs.Endings.{EventOutcome, OnWrite, PieceOutcome, RunOutcome, snapshot_with};
 ghost use Rattle.unftp_control_serve.specs.Decoder.{kept_length};
 ghost use Rattle.unftp_control_serve.specs.EventMeaning.{event_meant};
@@ -18,8 +18,8 @@ use std::alloc::Global;
 use std::marker::Model;
 use unftp_control_codecs::encode_reply;
 use unftp_control_defs::count::Count;
-use unftp_control_reply::Reply;
-use unftp_control_reply::error::ControlChanError;
+use unftp_control_message::reply::Reply;
+use unftp_control_message::reply::error::ControlChanError;
 
 /// Encodes the reply into a buffer that is used again.
 fn encode_into(reply: &Reply, reply_bytes: &mut Vec<u8>) -> Result<(), ControlChanError>

@@ -2,7 +2,7 @@
 use std::alloc::AllocError;
 use std::error::Error;
 use std::{fmt, io};
-use unftp_control_reply::error::ControlChanError;
+use unftp_control_message::reply::error::ControlChanError;
 
 /// Why serving ended before the input did.
 #[derive(Debug, Drop)]

@@ -3,8 +3,8 @@ ghost use Rattle.std.specs.Prelude.{◌≡◌};
 ghost use Rattle.unftp_control_defs.specs.Events.{is_quit};
 ghost use Rattle.unftp_control_serve.specs.EventMeaning.{event_meant, refuses_length};
 
-use unftp_control_command::Command;
-use unftp_control_reply::error::{ControlChanError, ControlChanErrorKind};
+use unftp_control_message::Command;
+use unftp_control_message::reply::error::{ControlChanError, ControlChanErrorKind};
 
 /// A line, read: its command, or why it is none.
 #[derive(Debug, Drop)]

@@ -1,14 +1,14 @@
 //! What answers the events, and the law that it keeps.
 ghost use Rattle.std.specs.Prelude.{◌≡◌, ◌+◌, ℕ, IfOk, IfErr, OnOk, OnErr};
 ghost use Rattle.unftp_control_defs.specs.Run.{Law};
-ghost use Rattle.unftp_control_reply.specs.ErrorMeaning.{fault_of};
-ghost use Rattle.unftp_control_reply.specs.ReplyMeaning.{reply_of};
+ghost use Rattle.unftp_control_message.specs.ErrorMeaning.{fault_of};
+ghost use Rattle.unftp_control_message.specs.ReplyMeaning.{reply_of};
 ghost use Rattle.unftp_control_serve.specs.EventMeaning.{event_meant};
 
 use crate::event::Event;
 use std::alloc::Global;
-use unftp_control_reply::Reply;
-use unftp_control_reply::error::ControlChanError;
+use unftp_control_message::reply::Reply;
+use unftp_control_message::reply::error::ControlChanError;
 
 /// Answers the events of a connection, one after the other, each with one reply. What gives several
 /// replies to an event is a `Session`.

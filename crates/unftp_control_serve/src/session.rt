@@ -1,16 +1,16 @@
 //! What gives the replies to the events, one after the other, and the law that it keeps.
 ghost use Rattle.std.specs.Prelude.{◌≡◌, ◌+◌, ◌<◌, ℕ, List, [], IfOk, IfErr, IfSome, OnOk, OnErr};
 ghost use Rattle.unftp_control_defs.specs.Run.{SessionLaw, Follows, as_session};
-ghost use Rattle.unftp_control_reply.specs.ErrorMeaning.{fault_of};
-ghost use Rattle.unftp_control_reply.specs.ReplyMeaning.{reply_of};
+ghost use Rattle.unftp_control_message.specs.ErrorMeaning.{fault_of};
+ghost use Rattle.unftp_control_message.specs.ReplyMeaning.{reply_of};
 ghost use Rattle.unftp_control_serve.specs.EventMeaning.{event_meant, further_of};
 ghost use Rattle.unftp_control_serve.specs.Writing.{Begins};
 
 use crate::event::Event;
 use crate::handler::Handler;
 use std::alloc::Global;
-use unftp_control_reply::Reply;
-use unftp_control_reply::error::ControlChanError;
+use unftp_control_message::reply::Reply;
+use unftp_control_message::reply::error::ControlChanError;
 
 /// Answers the events of a connection, one after the other, each with one reply or with several, as
 /// 150 and 226 to RETR (RFC 959, section 5.4). Every `Handler` is one, with one reply to each.

@@ -1,4 +1,4 @@
-//! What `?` makes of another error: `tools/failed_allocations` sees that it takes no memory.
+//! What `?` makes of another error: `tools/checks/failed_allocations` sees that it takes no memory.
 ghost use Rattle.std.specs.Prelude.{◌≡◌, IfErr};
 ghost use Rattle.unftp_control.specs.ErrorMeaning.{converted};
 

@@ -13,8 +13,8 @@ use Rattle.unftp_control_defs.specs.Canonical.{canonical_line}
 use Rattle.unftp_control_defs.specs.Forwarded.{before_end, keeps_parameter, with_parameter}
 use Rattle.unftp_control_defs.proofs.LineEndLemmas.{IsLine-ends}
 use Rattle.unftp_control_defs.proofs.ForwardedLineLemmas.{before_end-crlf, before_end-lf, cut-before_end, IsLine-forwarded_line, outcome-forwarded_line}
-use Rattle.unftp_control_reply.specs.declared.error.parse_error.ParseErrorKind.{ParseErrorKind}
-use Rattle.unftp_control_reply.specs.declared.error.parse_error.ParseErrorKind.TheVariants as kind
+use Rattle.unftp_control_message.specs.declared.reply.error.parse_error.ParseErrorKind.{ParseErrorKind}
+use Rattle.unftp_control_message.specs.declared.reply.error.parse_error.ParseErrorKind.TheVariants as kind
 use Rattle.unftp_control_line_parser.specs.Memory.{AnswerMayTakeMemory, IfOutOfMemory, MayTakeMemory}
 use Rattle.unftp_control_line_parser.specs.ParseAnswer.{Refuses}
 use Rattle.unftp_control_write.specs.Forwarding.{IsForwarded, IsForwardError, forward_error}

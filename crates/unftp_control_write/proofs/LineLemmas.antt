@@ -14,9 +14,9 @@ use Rattle.unftp_control_defs.specs.declared.parameters.StruParam.TheVariants.{F
 use Rattle.unftp_control_defs.specs.NameAndValue.{name_and_value}
 use Rattle.unftp_control_defs.specs.Canonical.{HasLine, IsNonEmptyText, IsOptionalText, canonical_body, with_optional}
 use Rattle.unftp_control_defs.proofs.LackLemmas.{Lacks-decimal, Lacks-test}
-use Rattle.unftp_control_command.specs.CommandMeaning.{command_of}
-use Rattle.unftp_control_command.specs.declared.Command.{Command}
-use Rattle.unftp_control_command.specs.declared.Command.TheVariants as rust
+use Rattle.unftp_control_message.specs.CommandMeaning.{command_of}
+use Rattle.unftp_control_message.specs.declared.Command.{Command}
+use Rattle.unftp_control_message.specs.declared.Command.TheVariants as rust
 use Rattle.unftp_control_write.specs.declared.line.Line.{Line}
 use Rattle.unftp_control_write.specs.declared.parts.Parts.{Parts}
 use Rattle.unftp_control_write.specs.Parts.{IsParts, ReturnsLine, bytes_of, line_body}

@@ -5,9 +5,9 @@ use Rattle.unftp_control_defs.specs.Lines.{IsLine}
 use Rattle.unftp_control_defs.specs.FtpCommand.{FtpCommand, Refusal}
 use Rattle.unftp_control_defs.specs.Outcome.{outcome}
 use Rattle.unftp_control_defs.specs.Forwarded.{forwarded_line}
-use Rattle.unftp_control_reply.specs.ParseRefusal.{refusal_of}
-use Rattle.unftp_control_reply.specs.declared.error.parse_error.ParseErrorKind.{ParseErrorKind}
-use Rattle.unftp_control_reply.specs.declared.error.parse_error.ParseErrorKind.TheVariants as parse
+use Rattle.unftp_control_message.specs.ParseRefusal.{refusal_of}
+use Rattle.unftp_control_message.specs.declared.reply.error.parse_error.ParseErrorKind.{ParseErrorKind}
+use Rattle.unftp_control_message.specs.declared.reply.error.parse_error.ParseErrorKind.TheVariants as parse
 use Rattle.unftp_control_write.specs.declared.forwarding.ForwardError.{ForwardError}
 use Rattle.unftp_control_write.specs.declared.forwarding.ForwardError.TheVariants.{NotALine, Refused, OutOfMemory}
 

@@ -1,6 +1,6 @@
 //! The lines of commands, and which commands have none.
 ghost use Rattle.std.specs.Prelude.{◌≡◌, ◌≢◌, ◌↔◌, None, IsTrue, codes, option_map, string_bytes};
-ghost use Rattle.unftp_control_command.specs.CommandMeaning.{command_of};
+ghost use Rattle.unftp_control_message.specs.CommandMeaning.{command_of};
 ghost use Rattle.unftp_control_defs.specs.Canonical.{HasLine, IsNonEmptyText, IsOptionalText, IsUpperCaseName, canonical_body, site_body, with_optional};
 ghost use Rattle.unftp_control_defs.specs.FtpCommand.{HasTypedFields, List as Listing};
 ghost use Rattle.unftp_control_defs.specs.Rules.{row_of, verbs};
@@ -9,8 +9,8 @@ ghost use Rattle.unftp_control_write.specs.Parts.{ReturnsLine, bytes_of, is_name
 use crate::line::Line;
 use crate::parts::{Parts, Value, parts_of};
 use itoa::Buffer;
-use unftp_control_command::Command;
 use unftp_control_line_parser::is_verb;
+use unftp_control_message::Command;
 
 /// The line of the command, or none where no line gives the command.
 pub(crate) fn line_of(command: &Command) -> Option<Line<'_>>

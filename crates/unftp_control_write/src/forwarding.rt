@@ -1,6 +1,6 @@
 //! The line that a proxy sends to a server for a client's line.
 ghost use Rattle.std.specs.Prelude.{◌≡◌, ◌↔◌, ◌++◌, if◌then◌else◌, Err, IfErr, IsTrue, MatchOption, OnErr, OnOk, take, vec_len};
-ghost use Rattle.unftp_control_command.specs.CommandMeaning.{command_of};
+ghost use Rattle.unftp_control_message.specs.CommandMeaning.{command_of};
 ghost use Rattle.unftp_control_defs.specs.Bytes.{LF, Lacks, crlf};
 ghost use Rattle.unftp_control_defs.specs.Canonical.{canonical_line};
 ghost use Rattle.unftp_control_defs.specs.Forwarded.{before_end, keeps_parameter, with_parameter};
@@ -11,8 +11,8 @@ ghost use Rattle.unftp_control_write.specs.Forwarding.{IsForwardError, IsForward
 use crate::write_command;
 use std::alloc::{AllocError, Global};
 use thiserror::Error;
-use unftp_control_command::Command;
 use unftp_control_line_parser::{ParseError, ParseErrorKind, keeps_parameter, parse, split};
+use unftp_control_message::Command;
 
 /// More bytes than a line has beside its verb and its parameter: a space, and CR LF.
 const ROOM_BESIDE_PARAMETER: usize = 3;

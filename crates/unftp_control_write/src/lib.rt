@@ -3,7 +3,7 @@
 #![tactic(auto)]
 
 ghost use Rattle.std.specs.Prelude.{◌≡◌, ◌++◌, Ok, Err, OnOk, OnErr, IfErr};
-ghost use Rattle.unftp_control_command.specs.CommandMeaning.{command_of};
+ghost use Rattle.unftp_control_message.specs.CommandMeaning.{command_of};
 ghost use Rattle.unftp_control_defs.specs.Canonical.{HasLine, canonical_line};
 ghost use Rattle.unftp_control_defs.specs.Lines.{IsLine};
 ghost use Rattle.unftp_control_defs.specs.Outcome.{outcome};
@@ -17,7 +17,7 @@ pub mod parts;
 use crate::canonical::line_of;
 pub use forwarding::{ForwardError, forward, is_line};
 use thiserror::Error;
-use unftp_control_command::Command;
+use unftp_control_message::Command;
 
 /// Why no line is written.
 #[derive(Debug, Drop, Error)]

@@ -1,6 +1,6 @@
 //! A command as a number, a name and a value.
 ghost use Rattle.std.specs.Prelude.{◌≡◌, [], None, Some, decimal, option_map, string_bytes, unwrap_or};
-ghost use Rattle.unftp_control_command.specs.CommandMeaning.{command_of};
+ghost use Rattle.unftp_control_message.specs.CommandMeaning.{command_of};
 ghost use Rattle.unftp_control_defs.specs.FtpCommand.{HasTypedFields};
 ghost use Rattle.unftp_control_defs.specs.NameAndValue.{mechanism, mode_letter, protection_letter, setting, structure_letter};
 ghost use Rattle.unftp_control_defs.specs.Rules.{unless_empty};
@@ -8,7 +8,7 @@ ghost use Rattle.unftp_control_write.specs.Parts.{IsParts, Says, bytes_of};
 
 use bytes::Bytes;
 use itoa::Buffer;
-use unftp_control_command::{AuthParam, Command, ModeParam, Opt, ProtParam, StruParam};
+use unftp_control_message::{AuthParam, Command, ModeParam, Opt, ProtParam, StruParam};
 
 /// The value of a command's parameter.
 #[derive(Drop)]

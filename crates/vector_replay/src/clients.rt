@@ -1,9 +1,12 @@
 //! The calls of a client.
-use crate::answers::{Answers, once_more};
+use crate::answers::Answers;
+use crate::reading::{next_reply_of, put_no_reply};
+use crate::steps::Taker;
 use crate::words::{CaseError, Words, read_bytes};
+use std::alloc::AllocError;
 use unftp_control_client::{Client, ClientReply, To};
-use unftp_control_command::Command;
 use unftp_control_line_parser::{ParseErrorKind, parse};
+use unftp_control_message::Command;
 use unftp_control_read::NextReplyError;
 
 /// What a client does.
@@ -59,46 +62,34 @@ fn put_taken(taken: ClientReply, answers: &mut Answers) {
     drop(taken);
 }
 
-/// The next reply; once more where memory ran out.
-fn next_reply(
-    client: &mut Client,
-    answers: &mut Answers,
-) -> Result<Option<ClientReply>, NextReplyError> {
-    match client.next_reply() {
-        Err(NextReplyError::OutOfMemory) => {
-            answers.out_of_memory();
-            client.next_reply()
-        }
-        taken => taken,
+impl Taker for Client {
+    fn push(&mut self, piece: &[u8]) -> Result<(), AllocError> {
+        self.receive(piece)
     }
-}
 
-/// Writes the next reply; whether there is one. Why there is none is written too.
-fn put_next(client: &mut Client, answers: &mut Answers) -> bool {
-    let error = match next_reply(client, answers) {
-        Ok(Some(taken)) => {
-            put_taken(taken, answers);
-            return true;
-        }
-        Ok(None) => return false,
-        Err(NextReplyError::Malformed) => "malformed | ",
-        Err(NextReplyError::TooLong) => "too-long | ",
-        Err(NextReplyError::OutOfMemory) => "failed | ",
-    };
-    answers.put(error);
-    false
-}
-
-/// Receives a piece, and writes each reply that is complete.
-fn receive(client: &mut Client, piece: &[u8], answers: &mut Answers) {
-    if once_more!(answers, client.receive(piece)).is_none() {
-        answers.put("failed | ");
+    fn pending(&self) -> usize {
+        Client::pending(self).len()
     }
-    // a reply has bytes, so the last call finds none
-    for _ in 0..=client.pending().len() {
-        if !put_next(client, answers) {
-            break;
+
+    fn take(&mut self, answers: &mut Answers) -> bool {
+        match next_reply_of!(self, answers) {
+            Ok(Some(taken)) => {
+                put_taken(taken, answers);
+                return true;
+            }
+            Ok(None) => {}
+            Err(error) => put_no_reply(&error, answers),
         }
+        false
+    }
+
+    /// A client keeps what it received.
+    fn clear(&mut self) {}
+
+    fn put_left(&self, answers: &mut Answers) {
+        let (owed, left) = (self.owed(), Taker::pending(self));
+        answers.put(format_args!("owed={owed} left={left}"));
+        answers.put_unless(!self.tls_agreed(), " tls");
     }
 }
 
@@ -107,7 +98,11 @@ fn make_act(client: &mut Client, act: &Act, out: &mut Vec<u8>, answers: &mut Ans
     let sent = match act {
         Act::Send(line) => client.send_line(line.as_slice(), out),
         Act::Command(command) => client.send(command, out),
-        Act::Receive(piece) => return receive(client, piece.as_slice(), answers),
+        Act::Receive(piece) => {
+            client.feed(piece.as_slice(), answers);
+            client.take_all(answers);
+            return;
+        }
     };
     answers.put_unless(sent.is_ok(), "not sent | ");
 }
@@ -127,7 +122,6 @@ pub fn answer_client(words: &mut Words<'_>, answers: &mut Answers) -> Result<(),
     for step in acts.as_slice() {
         make_act(&mut client, step, &mut out, answers);
     }
-    answers.put(format_args!("owed={} left={}", client.owed(), client.pending().len()));
-    answers.put_unless(!client.tls_agreed(), " tls");
+    client.put_left(answers);
     Ok(())
 }

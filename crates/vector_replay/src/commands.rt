@@ -5,15 +5,15 @@ use crate::shown::Quoted;
 use crate::words::{CaseError, Words, read_number, read_text};
 use jiff::Timestamp;
 use std::alloc::Global;
-use unftp_control_command::Command;
-use unftp_control_command::password::Password;
 use unftp_control_commands::{
     Auth, Epsv, Feat, Help, Metadata, Mlst, Mode, Opts, Passive, Prot, SessionChange, Stru,
     format_facts, make_epsv_reply, quoted_path, single_line_text,
 };
 use unftp_control_line_parser::parse;
-use unftp_control_reply::Reply;
-use unftp_control_reply::error::ControlChanError;
+use unftp_control_message::Command;
+use unftp_control_message::password::Password;
+use unftp_control_message::reply::Reply;
+use unftp_control_message::reply::error::ControlChanError;
 
 /// How many bytes a reply may have without taking memory for them.
 const ROOM: usize = 1024;
@@ -302,52 +302,6 @@ pub fn answer_reply(words: &mut Words<'_>, answers: &mut Answers) -> Result<(), 
     let settings = Settings::read(words)?;
     answers.begin();
     put_reply_to(words.alloc, &request, &settings, &mut buf, answers);
-    Ok(())
-}
-
-/// How many lines a case may give.
-const MOST_LINES: usize = 8;
-
-/// FEAT or HELP with these lines.
-fn reply_with(alloc: Global, is_help: bool, lines: &[&str]) -> Result<Reply, ControlChanError> {
-    if is_help {
-        Help.reply_with(alloc, lines)
-    } else {
-        Feat.reply_with(alloc, lines)
-    }
-}
-
-/// Writes the reply to FEAT or HELP with these lines.
-fn put_reply_with(
-    alloc: Global,
-    is_help: bool,
-    texts: &[String],
-    buf: &mut Vec<u8>,
-    answers: &mut Answers,
-) {
-    let mut lines = [""; MOST_LINES];
-    let count = texts.len().min(MOST_LINES);
-    for i in 0..count {
-        lines[i] = texts[i].as_str();
-    }
-    let lines = &lines[..count];
-    let made = once_more!(answers, reply_with(alloc, is_help, lines));
-    put_made(made, buf, answers);
-}
-
-/// `feat_with LINE..` or `help_with LINE..`
-pub fn answer_reply_with(
-    is_help: bool,
-    words: &mut Words<'_>,
-    answers: &mut Answers,
-) -> Result<(), CaseError> {
-    let mut buf = Vec::with_capacity(words.alloc, ROOM)?;
-    let texts = words.texts()?;
-    if texts.len() > MOST_LINES {
-        return Err(CaseError::NoCase);
-    }
-    answers.begin();
-    put_reply_with(words.alloc, is_help, texts.as_slice(), &mut buf, answers);
     Ok(())
 }
 

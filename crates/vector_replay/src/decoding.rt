@@ -3,11 +3,12 @@ ghost use Rattle.std.specs.Prelude.{◌≤◌, ◌+◌, vec_len};
 
 use crate::answers::Answers;
 use crate::shown::Shown;
+use crate::steps::{Taker, make_steps, read_later_steps, read_steps, room_for};
 use crate::words::{CaseError, Words};
-use std::alloc::Global;
+use std::alloc::{AllocError, Global};
 use unftp_control_codecs::FtpCodec;
-use unftp_control_command::Command;
-use unftp_control_reply::error::{ControlChanError, ControlChanErrorKind, Source};
+use unftp_control_message::Command;
+use unftp_control_message::reply::error::{ControlChanError, ControlChanErrorKind, Source};
 
 /// What `decode` returns.
 type Decoded = Result<Option<Command>, ControlChanError>;
@@ -31,24 +32,19 @@ pub fn put_refusal(error: &ControlChanError, answers: &mut Answers) {
 
 /// Writes a command that was decoded, or the refusal of a line; `false` where no line is complete.
 fn put_decoded(decoded: Decoded, answers: &mut Answers) -> bool {
-    match decoded {
-        Ok(None) => false,
-        Ok(Some(command)) => {
-            answers.put(format_args!("ok {}", Shown(&command)));
-            drop(command);
-            true
-        }
-        Err(error) => {
-            put_refusal(&error, answers);
-            drop(error);
-            true
-        }
+    match &decoded {
+        Ok(None) => return false,
+        Ok(Some(command)) => answers.put(format_args!("ok {}", Shown(command))),
+        Err(error) => put_refusal(error, answers),
     }
+    drop(decoded);
+    true
 }
 
 /// A codec and its buffer.
 #[derive(Drop)]
 pub struct Decoding {
+    alloc: Global,
     codec: FtpCodec,
     buf: Vec<u8>,
     ghost within: { codec.place ≤ vec_len buf },
@@ -56,40 +52,44 @@ pub struct Decoding {
 
 impl Decoding {
     /// A new codec and its buffer.
-    pub fn of(buf: Vec<u8>) -> Decoding {
+    pub fn of(alloc: Global, buf: Vec<u8>) -> Decoding {
         Decoding {
+            alloc,
             codec: FtpCodec::new(),
             buf,
         }
     }
 
-    /// Whether no byte is left.
-    pub fn is_empty(&self) -> bool {
-        self.buf.is_empty()
-    }
-
     /// What `decode` returns; once more where memory ran out.
-    pub fn next_command(&mut self, alloc: Global, answers: &mut Answers) -> Decoded {
-        let decoded = self.codec.decode(alloc, &mut self.buf);
+    pub fn next_command(&mut self, answers: &mut Answers) -> Decoded {
+        let decoded = self.codec.decode(self.alloc, &mut self.buf);
         if !is_out_of_memory(&decoded) {
             return decoded;
         }
         drop(decoded);
         answers.out_of_memory();
-        self.codec.decode(alloc, &mut self.buf)
+        self.codec.decode(self.alloc, &mut self.buf)
+    }
+}
+
+impl Taker for Decoding {
+    fn push(&mut self, piece: &[u8]) -> Result<(), AllocError> {
+        self.buf.extend_from_slice(piece)
     }
 
-    /// Writes what `decode` makes of each line that is complete, and how many bytes are left.
-    fn put_commands(&mut self, alloc: Global, answers: &mut Answers) {
-        // a line has at least one byte, so the last call finds none
-        for _ in 0..=self.buf.len() {
-            let decoded = self.next_command(alloc, answers);
-            if !put_decoded(decoded, answers) {
-                break;
-            }
-            answers.put(" | ");
-        }
-        self.put_left(answers);
+    fn pending(&self) -> usize {
+        self.buf.len()
+    }
+
+    fn take(&mut self, answers: &mut Answers) -> bool {
+        let is_line = put_decoded(self.next_command(answers), answers);
+        answers.put_unless(!is_line, " | ");
+        is_line
+    }
+
+    fn clear(&mut self) {
+        self.codec = FtpCodec::new();
+        self.buf.clear();
     }
 
     /// Writes how many bytes are left; also the scan offset, where it isn't at their end, and
@@ -104,131 +104,109 @@ impl Decoding {
     }
 }
 
-/// How many bytes the pieces have.
-fn room_for(pieces: &[Vec<u8>]) -> usize {
-    let mut room: usize = 0;
-    for piece in pieces {
-        room = room.saturating_add(piece.len());
-    }
-    room
-}
-
-/// Writes what is decoded of each piece and what was left before it.
-fn put_pieces(alloc: Global, mut decoding: Decoding, pieces: &[Vec<u8>], answers: &mut Answers) {
-    let mut separator = "";
-    for piece in pieces {
-        if decoding.buf.extend_from_slice(piece.as_slice()).is_err() {
-            answers.put("out of memory");
-            return;
-        }
-        answers.put(separator);
-        decoding.put_commands(alloc, answers);
-        separator = " | ";
-    }
-}
-
-/// `decode LIMIT PIECE..`
+/// `decode LIMIT STEP..`
 pub fn answer_decode(words: &mut Words<'_>, answers: &mut Answers) -> Result<(), CaseError> {
     let codec = match words.limit()? {
         Some(limit) => FtpCodec::with_limit(limit),
         None => FtpCodec::new(),
     };
-    let pieces = words.pieces()?;
-    let buf = Vec::with_capacity(words.alloc, room_for(pieces.as_slice()))?;
+    let steps = read_steps(words)?;
+    let mut decoding = Decoding {
+        alloc: words.alloc,
+        codec,
+        buf: Vec::with_capacity(words.alloc, room_for(steps.as_slice()))?,
+    };
     answers.begin();
-    put_pieces(
-        words.alloc,
-        Decoding { codec, buf },
-        pieces.as_slice(),
-        answers,
-    );
+    make_steps(&mut decoding, steps.as_slice(), answers);
     Ok(())
 }
 
 /// A codec, and bytes whose first ones are taken.
 #[derive(Drop)]
 struct Slicing {
+    alloc: Global,
     codec: FtpCodec,
     bytes: Vec<u8>,
     start: usize,
+    /// How many bytes the last call took that found no line.
+    dropped: usize,
     ghost within: { start + codec.place ≤ vec_len bytes },
 }
 
 impl Slicing {
     /// What `decode_slice` returns of the bytes that are left; once more where memory ran out.
-    fn next_command(&mut self, alloc: Global, answers: &mut Answers) -> (usize, Decoded) {
+    fn next_command(&mut self, answers: &mut Answers) -> (usize, Decoded) {
         let (_, rest) = self.bytes.as_slice().split_at(self.start);
-        let (taken, decoded) = self.codec.decode_slice(alloc, rest);
+        let (taken, decoded) = self.codec.decode_slice(self.alloc, rest);
         if !is_out_of_memory(&decoded) {
             self.start += taken;
             return (taken, decoded);
         }
         drop(decoded);
         answers.out_of_memory();
-        let (taken, decoded) = self.codec.decode_slice(alloc, rest);
+        let (taken, decoded) = self.codec.decode_slice(self.alloc, rest);
         self.start += taken;
         (taken, decoded)
     }
 
-    /// Writes what `decode_slice` returns, and what the codec is then; whether there was a line.
-    fn put_command(&mut self, alloc: Global, answers: &mut Answers) -> bool {
-        let (taken, decoded) = self.next_command(alloc, answers);
-        let is_line = put_decoded(decoded, answers);
-        answers.put_unless(is_line, "none");
+    /// Writes how many bytes a call took, and what the codec is then.
+    fn put_taken(&self, taken: usize, answers: &mut Answers) {
         let place = self.codec.place();
         answers.put(format_args!(" taken={taken} place={place}"));
         answers.put_unless(!self.codec.skipping(), " skipping");
-        is_line
-    }
-
-    /// Writes this of each line that is complete, and of the end.
-    fn put_commands(&mut self, alloc: Global, answers: &mut Answers) {
-        // a line has at least one byte, so the last call finds none
-        for _ in 0..=self.bytes.len() {
-            if !self.put_command(alloc, answers) {
-                break;
-            }
-            answers.put(" | ");
-        }
     }
 }
 
-impl Slicing {
-    /// A codec with this limit, and its scan offset in the first piece, which goes into the buffer.
-    fn read(words: &mut Words<'_>) -> Result<Slicing, CaseError> {
-        let limit = words.limit()?;
-        let place = words.number()?;
-        let bytes = words.bytes()?;
-        if place > bytes.len() {
-            return Err(CaseError::NoCase);
-        }
-        Ok(Slicing {
-            codec: FtpCodec::resume(limit, place, false),
-            bytes,
-            start: 0,
-        })
+impl Taker for Slicing {
+    fn push(&mut self, piece: &[u8]) -> Result<(), AllocError> {
+        self.bytes.extend_from_slice(piece)
     }
-}
 
-/// Writes what is decoded of the first piece, and of each later one at the end of what is left.
-fn put_slices(alloc: Global, mut slicing: Slicing, later: &[Vec<u8>], answers: &mut Answers) {
-    slicing.put_commands(alloc, answers);
-    for piece in later {
-        if slicing.bytes.extend_from_slice(piece.as_slice()).is_err() {
-            answers.put("out of memory");
-            return;
+    fn pending(&self) -> usize {
+        self.bytes.len()
+    }
+
+    fn take(&mut self, answers: &mut Answers) -> bool {
+        let (taken, decoded) = self.next_command(answers);
+        if !put_decoded(decoded, answers) {
+            self.dropped = taken;
+            return false;
         }
+        self.put_taken(taken, answers);
         answers.put(" | ");
-        slicing.put_commands(alloc, answers);
+        true
+    }
+
+    fn clear(&mut self) {
+        self.codec = FtpCodec::new();
+        self.bytes.clear();
+        self.start = 0;
+    }
+
+    fn put_left(&self, answers: &mut Answers) {
+        answers.put("none");
+        self.put_taken(self.dropped, answers);
     }
 }
 
-/// `decode_slice LIMIT PLACE PIECE..`
+/// `decode_slice LIMIT PLACE PIECE STEP..`
 pub fn answer_decode_slice(words: &mut Words<'_>, answers: &mut Answers) -> Result<(), CaseError> {
-    let mut slicing = Slicing::read(words)?;
-    let later = words.pieces()?;
-    slicing.bytes.reserve(room_for(later.as_slice()))?;
+    let limit = words.limit()?;
+    let place = words.number()?;
+    let bytes = words.bytes()?;
+    if place > bytes.len() {
+        return Err(CaseError::NoCase);
+    }
+    let steps = read_later_steps(words)?;
+    let mut slicing = Slicing {
+        alloc: words.alloc,
+        codec: FtpCodec::resume(limit, place, false),
+        bytes,
+        start: 0,
+        dropped: 0,
+    };
+    slicing.bytes.reserve(room_for(steps.as_slice()))?;
     answers.begin();
-    put_slices(words.alloc, slicing, later.as_slice(), answers);
+    make_steps(&mut slicing, steps.as_slice(), answers);
     Ok(())
 }

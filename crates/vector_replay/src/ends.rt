@@ -1,107 +1,15 @@
 //! How the calls of a session end.
 use crate::streams::INTERRUPTED;
-use std::fmt;
 use std::fmt::{Display, Formatter, Write};
 use std::io::ErrorKind;
-use unftp_control_line_parser::ParseErrorKind;
-use unftp_control_reply::error::{ControlChanError, ControlChanErrorKind, Source};
+use std::{fmt, io};
+use unftp_control_message::reply::error::{ControlChanError, ControlChanErrorKind, Source};
 use unftp_control_serve::{ServeError, Served};
 
-/// What a call returned.
-#[derive(Clone, Copy)]
-pub enum Outcome {
-    Ok,
-    /// A read failed, with the system's error of this number, or another.
-    Read(Option<i32>),
-    /// A write or a flush did.
-    Write(Option<i32>),
-    WriteZero,
-    /// The handler failed, with an error of this kind and source.
-    Handler(&'static str, &'static str),
-    /// Memory ran out in the handler.
-    HandlerOutOfMemory,
-    /// Memory ran out elsewhere.
-    OutOfMemory,
-    Stopped,
-    TooManyReads,
-}
-
-/// The name of the source of a handler's error.
-fn source_name(source: &Source) -> &'static str {
-    match source {
-        Source::None => "none",
-        Source::Parse(error) => match error.kind() {
-            ParseErrorKind::InvalidCommand => "InvalidCommand",
-            ParseErrorKind::InvalidUtf8 => "InvalidUtf8",
-            ParseErrorKind::InvalidEol => "InvalidEol",
-            ParseErrorKind::OutOfMemory => "OutOfMemory",
-        },
-        Source::Utf8(_) => "Utf8",
-        Source::Io(error) if error.kind() == ErrorKind::TimedOut => "TimedOut",
-        Source::Io(_) => "Io",
-    }
-}
-
-/// What a handler's error is.
-fn handler_outcome(error: &ControlChanError) -> Outcome {
-    let source = source_name(error.source());
-    match error.kind() {
-        ControlChanErrorKind::OutOfMemory => Outcome::HandlerOutOfMemory,
-        ControlChanErrorKind::IoError => Outcome::Handler("IoError", source),
-        ControlChanErrorKind::Utf8Error => Outcome::Handler("Utf8Error", source),
-        ControlChanErrorKind::InvalidCommand => Outcome::Handler("InvalidCommand", source),
-        ControlChanErrorKind::IllegalState => Outcome::Handler("IllegalState", source),
-        ControlChanErrorKind::LineTooLong => Outcome::Handler("LineTooLong", source),
-        _ => Outcome::Handler("another", source),
-    }
-}
-
-impl From<ServeError> for Outcome {
-    fn from(error: ServeError) -> Outcome {
-        let outcome = match &error {
-            ServeError::Read(error) => Outcome::Read(error.raw_os_error()),
-            ServeError::Write(error) => Outcome::Write(error.raw_os_error()),
-            ServeError::WriteZero => Outcome::WriteZero,
-            ServeError::Handler(error) => handler_outcome(error),
-            ServeError::OutOfMemory => Outcome::OutOfMemory,
-            ServeError::Stopped => Outcome::Stopped,
-            ServeError::TooManyReads => Outcome::TooManyReads,
-        };
-        drop(error);
-        outcome
-    }
-}
-
-/// Writes which call of a stream failed, and with which error of the system, where that is not
-/// `INTERRUPTED`.
-fn put_failure<W: Write>(call: &str, error: Option<i32>, f: &mut Formatter<W>) -> fmt::Result {
-    match error {
-        Some(number) if number == INTERRUPTED => f.write_str(call),
-        Some(number) => write!(f, "{call} {number}"),
-        None => write!(f, "{call} another"),
-    }
-}
-
-impl Display for Outcome {
-    fn fmt<W: Write>(&self, f: &mut Formatter<W>) -> fmt::Result {
-        f.write_str(match self {
-            Outcome::Ok => "ok",
-            Outcome::Read(error) => return put_failure("read", *error, f),
-            Outcome::Write(error) => return put_failure("write", *error, f),
-            Outcome::WriteZero => "write-zero",
-            Outcome::Handler(kind, source) => return write!(f, "handler {kind} {source}"),
-            Outcome::HandlerOutOfMemory => "handler-out-of-memory",
-            Outcome::OutOfMemory => "out-of-memory",
-            Outcome::Stopped => "stopped",
-            Outcome::TooManyReads => "too-many-reads",
-        })
-    }
-}
-
 /// How a call ended.
-#[derive(Clone, Copy)]
+#[derive(Drop)]
 pub struct End {
-    outcome: Outcome,
+    error: Option<ServeError>,
     /// How many bytes are left, where that is known.
     left: Option<u64>,
     /// Whether the handler has ended the session.
@@ -113,12 +21,12 @@ impl End {
     pub fn of_serve(answer: Result<Served, ServeError>) -> End {
         match answer {
             Ok(served) => End {
-                outcome: Outcome::Ok,
+                error: None,
                 left: Some(served.left),
                 is_done: served.done,
             },
             Err(error) => End {
-                outcome: error.into(),
+                error: Some(error),
                 left: None,
                 is_done: false,
             },
@@ -127,12 +35,8 @@ impl End {
 
     /// How `feed` ended, after which so many bytes are left and the engine is finished or not.
     pub fn of_feed(answer: Result<(), ServeError>, left: u64, is_done: bool) -> End {
-        let outcome = match answer {
-            Ok(()) => Outcome::Ok,
-            Err(error) => error.into(),
-        };
         End {
-            outcome,
+            error: answer.err(),
             left: Some(left),
             is_done,
         }
@@ -140,16 +44,60 @@ impl End {
 
     /// Whether memory ran out.
     pub fn is_out_of_memory(&self) -> bool {
-        matches!(
-            self.outcome,
-            Outcome::HandlerOutOfMemory | Outcome::OutOfMemory
-        )
+        match &self.error {
+            Some(ServeError::Handler(error)) => is_lack_of_memory(error),
+            error => matches!(error, Some(ServeError::OutOfMemory)),
+        }
     }
+}
+
+/// Whether memory ran out in the handler.
+fn is_lack_of_memory(error: &ControlChanError) -> bool {
+    *error.kind() == ControlChanErrorKind::OutOfMemory
+}
+
+/// Writes which call of a stream failed, and with which error of the system, where that is not
+/// `INTERRUPTED`.
+fn put_failure<W: Write>(call: &str, error: &io::Error, f: &mut Formatter<W>) -> fmt::Result {
+    match error.raw_os_error() {
+        Some(number) if number == INTERRUPTED => f.write_str(call),
+        Some(number) => write!(f, "{call} {number}"),
+        None => write!(f, "{call} another"),
+    }
+}
+
+/// Writes the kind of a handler's error, and its source.
+fn put_handler<W: Write>(error: &ControlChanError, f: &mut Formatter<W>) -> fmt::Result {
+    if is_lack_of_memory(error) {
+        return f.write_str("handler-out-of-memory");
+    }
+    write!(f, "handler {:?} ", error.kind())?;
+    match error.source() {
+        Source::None => f.write_str("none"),
+        Source::Parse(error) => write!(f, "{:?}", error.kind()),
+        Source::Utf8(_) => f.write_str("Utf8"),
+        Source::Io(error) if error.kind() == ErrorKind::TimedOut => f.write_str("TimedOut"),
+        Source::Io(_) => f.write_str("Io"),
+    }
+}
+
+/// Writes how a call ended.
+fn put_end<W: Write>(error: &Option<ServeError>, f: &mut Formatter<W>) -> fmt::Result {
+    f.write_str(match error {
+        None => "ok",
+        Some(ServeError::Read(error)) => return put_failure("read", error, f),
+        Some(ServeError::Write(error)) => return put_failure("write", error, f),
+        Some(ServeError::WriteZero) => "write-zero",
+        Some(ServeError::Handler(error)) => return put_handler(error, f),
+        Some(ServeError::OutOfMemory) => "out-of-memory",
+        Some(ServeError::Stopped) => "stopped",
+        Some(ServeError::TooManyReads) => "too-many-reads",
+    })
 }
 
 impl Display for End {
     fn fmt<W: Write>(&self, f: &mut Formatter<W>) -> fmt::Result {
-        Display::fmt(&self.outcome, f)?;
+        put_end(&self.error, f)?;
         if let Some(left) = self.left {
             write!(f, " left={left}")?;
         }

@@ -1,8 +1,8 @@
 //! The handlers of sessions.
-ghost use Rattle.std.specs.Prelude.{◌≡◌, ◌⊎◌, Bool, false, codes};
-ghost use Rattle.demo_responses.specs.Responses.{responses_law};
+ghost use Rattle.std.specs.Prelude.{◌≡◌, ◌⊎◌};
 ghost use Rattle.unftp_control_defs.specs.Events.{Io, IoError, IllegalState, Refused, out_of_memory};
 ghost use Rattle.unftp_control_defs.specs.FtpReply.{CodeAndMsg, Nothing};
+ghost use Rattle.std.specs.Prelude.{false, codes};
 
 use crate::answers::Answers;
 use crate::shown::Shown;
@@ -10,81 +10,77 @@ use demo_responses::Responses;
 use std::alloc::Global;
 use std::io;
 use std::io::ErrorKind;
-use unftp_control_reply::error::{ControlChanError, ControlChanErrorKind};
-use unftp_control_reply::{Reply, ReplyCode};
-use unftp_control_serve::{Count, Event, Handler};
+use unftp_control_message::reply::error::{ControlChanError, ControlChanErrorKind};
+use unftp_control_message::reply::{Reply, ReplyCode};
+use unftp_control_serve::{Count, Event, Handler, Session};
 
 /// A handler that is tried from its start.
-pub trait Tried: Drop {
+pub trait Tried: Session + Drop {
     /// A new one. Of the events, counted from 1, it fails at this one if it is a handler that
     /// fails; where it transfers, its data connection fails at this one of its calls.
     fn start(alloc: Global, fails_at: u32) -> Self;
-
-    /// How many events it has taken.
-    fn taken(&self) -> u32;
 
     /// Writes the last event, or what was transferred, if it keeps that.
     fn put_last(&self, _answers: &mut Answers) {}
 }
 
-/// The handler of `control_demo`.
+/// Counts the events that a handler takes.
 #[derive(Drop)]
-pub struct Demo {
-    taken: u32,
-    responses: Responses,
+pub struct Counting<H> {
+    pub handler: H,
+    pub taken: u32,
 }
 
-impl Tried for Demo {
-    fn start(_alloc: Global, _fails_at: u32) -> Demo {
-        Demo {
-            taken: 0,
-            responses: Responses::new(),
-        }
-    }
+impl<H: Session + Drop> Session for Counting<H> {
+    ghost State = { H.State };
 
-    fn taken(&self) -> u32 {
-        self.taken
-    }
-}
+    ghost Said = { H.Said };
 
-impl Handler for Demo {
-    ghost State = { Bool };
+    ghost state = { λ counting. H.state counting.handler };
 
-    ghost state = { λ demo. demo.responses.quit };
+    ghost heard = { λ counting. H.heard counting.handler };
 
-    ghost law = { responses_law };
+    ghost law = { H.law };
 
-    ghost failures = { λ demo. demo.responses.failures };
+    ghost left = { H.left };
 
-    fn handle(&mut self, alloc: Global, event: Event) -> Result<Reply, ControlChanError> {
+    ghost failures = { λ counting. H.failures counting.handler };
+
+    fn first(&mut self, alloc: Global, event: Event) -> Result<Reply, ControlChanError> {
         self.taken = self.taken.saturating_add(1);
-        self.responses.handle(alloc, event)
+        self.handler.first(alloc, event)
+    }
+
+    fn further(&mut self, alloc: Global) -> Result<Option<Reply>, ControlChanError> {
+        self.handler.further(alloc)
     }
 
     fn done(&self) -> bool {
-        self.responses.done()
+        self.handler.done()
+    }
+}
+
+/// The handler of `control_demo`.
+impl Tried for Responses {
+    fn start(_alloc: Global, _fails_at: u32) -> Responses {
+        Responses::new()
     }
 }
 
 /// Says `200 OK` to each event, and fails at one of them.
 #[derive(Drop)]
 pub struct Okay {
-    taken: u32,
-    fails_at: u32,
+    /// The event at which it fails, counted from 1 that is the next; 0 for none.
+    fails_in: u32,
     failures: Count,
 }
 
 impl Tried for Okay {
     fn start(_alloc: Global, fails_at: u32) -> Okay {
         Okay {
-            taken: 0,
-            fails_at,
+            fails_in: fails_at,
             failures: Count::new(),
         }
-    }
-
-    fn taken(&self) -> u32 {
-        self.taken
     }
 }
 
@@ -104,12 +100,12 @@ impl Handler for Okay {
 
     fn handle(&mut self, alloc: Global, event: Event) -> Result<Reply, ControlChanError> {
         drop(event);
-        self.taken = self.taken.saturating_add(1);
-        let answer = if self.taken == self.fails_at {
+        let answer = if self.fails_in == 1 {
             Err(ControlChanError::new(ControlChanErrorKind::IllegalState))
         } else {
             Reply::new(alloc, ReplyCode::CommandOkay, "OK")
         };
+        self.fails_in = self.fails_in.saturating_sub(1);
         if answer.is_err() {
             self.failures.raise();
         }
@@ -124,7 +120,6 @@ impl Handler for Okay {
 /// Answers nothing, and keeps the last event.
 #[derive(Drop)]
 pub struct Silent {
-    taken: u32,
     last: Option<Event>,
     failures: Count,
 }
@@ -132,14 +127,9 @@ pub struct Silent {
 impl Tried for Silent {
     fn start(_alloc: Global, _fails_at: u32) -> Silent {
         Silent {
-            taken: 0,
             last: None,
             failures: Count::new(),
         }
-    }
-
-    fn taken(&self) -> u32 {
-        self.taken
     }
 
     fn put_last(&self, answers: &mut Answers) {
@@ -170,7 +160,6 @@ impl Handler for Silent {
     ghost failures = { λ silent. silent.failures };
 
     fn handle(&mut self, _alloc: Global, event: Event) -> Result<Reply, ControlChanError> {
-        self.taken = self.taken.saturating_add(1);
         drop(self.last.replace(event));
         Ok(Reply::None)
     }
@@ -182,21 +171,11 @@ impl Handler for Silent {
 
 /// Fails at a refused line with the line's own error, and at a command with one of the system's.
 #[derive(Drop)]
-pub struct EchoError {
-    taken: u32,
-    failures: Count,
-}
+pub struct EchoError(Count);
 
 impl Tried for EchoError {
     fn start(_alloc: Global, _fails_at: u32) -> EchoError {
-        EchoError {
-            taken: 0,
-            failures: Count::new(),
-        }
-    }
-
-    fn taken(&self) -> u32 {
-        self.taken
+        EchoError(Count::new())
     }
 }
 
@@ -213,11 +192,10 @@ impl Handler for EchoError {
       done = λ _. false;
     } };
 
-    ghost failures = { λ echo. echo.failures };
+    ghost failures = { λ echo. echo.0 };
 
     fn handle(&mut self, _alloc: Global, event: Event) -> Result<Reply, ControlChanError> {
-        self.taken = self.taken.saturating_add(1);
-        self.failures.raise();
+        self.0.raise();
         match event {
             Event::Refused(error) => Err(error),
             Event::Command(command) => {

@@ -6,9 +6,9 @@ use crate::shown::{Quoted, Shown};
 use crate::words::{CaseError, Words, read_bytes, read_shared};
 use crate::writing::put_canonical;
 use std::alloc::Global;
-use unftp_control_command::Command;
-use unftp_control_command::password::Password;
 use unftp_control_line_parser::{ParseError, ParseErrorKind, is_verb, parse};
+use unftp_control_message::Command;
+use unftp_control_message::password::Password;
 
 /// Whether memory ran out.
 fn is_out_of_memory(read: &Result<Command, ParseError>) -> bool {

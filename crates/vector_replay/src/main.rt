@@ -69,12 +69,9 @@ fn answer_reply_call(
         "says" => replies::answer_says(words, answers),
         "code" => replies::answer_code(words, answers),
         "read" => lines::answer_bytes(BytesCall::Read, words, answers),
-        "receive" => reading::answer_receive(false, words, answers),
-        "receive_from" => reading::answer_receive(true, words, answers),
+        "receive" => reading::answer_receive(words, answers),
         "client" => clients::answer_client(words, answers),
         "reply" => commands::answer_reply(words, answers),
-        "feat_with" => commands::answer_reply_with(false, words, answers),
-        "help_with" => commands::answer_reply_with(true, words, answers),
         call => answer_text_call(call, words, answers),
     }
 }

@@ -1,12 +1,10 @@
 //! Calls that read replies.
 use crate::answers::Answers;
 use crate::shown::Quoted;
-use crate::steps::{Action, Step, read_steps};
+use crate::steps::{Taker, make_steps, read_steps};
 use crate::words::{CaseError, Words};
-use std::alloc::Global;
-use unftp_control_read::{
-    Front, Input, ReadReplyError, ReceiveError, ReceivedReply, ReplyDecoder, read_reply,
-};
+use std::alloc::{AllocError, Global};
+use unftp_control_read::{Front, NextReplyError, ReadReplyError, ReplyDecoder, read_reply};
 
 /// Writes the code of a reply and its lines.
 fn put_reply(code: u16, lines: &[Vec<u8>], answers: &mut Answers) {
@@ -60,116 +58,69 @@ pub fn put_fronts(alloc: Global, stream: &[u8], answers: &mut Answers) {
     }
 }
 
-/// What a call of the decoder returns.
-type Received = Result<Option<ReceivedReply>, ReceiveError>;
-
-/// Writes a reply that was received; whether it is one. Why there is none is written too.
-fn put_received(received: Received, answers: &mut Answers) -> bool {
-    let error = match received {
-        Ok(Some(reply)) => {
-            put_reply(reply.code, reply.lines.as_slice(), answers);
-            answers.put(" | ");
-            return true;
-        }
-        Ok(None) => return false,
-        Err(ReceiveError::Malformed) => "malformed | ",
-        Err(ReceiveError::TooLong) => "too-long | ",
-        Err(_) => "failed | ",
-    };
-    answers.put(error);
-    false
+/// Writes why no reply is taken.
+pub fn put_no_reply(error: &NextReplyError, answers: &mut Answers) {
+    answers.put(match error {
+        NextReplyError::Malformed => "malformed | ",
+        NextReplyError::TooLong => "too-long | ",
+        NextReplyError::OutOfMemory => "failed | ",
+    });
 }
 
-/// What the next call returns, of a decoder that reads or doesn't.
-fn receive(decoder: &mut ReplyDecoder, is_reading: bool, reader: &mut Input<&[u8]>) -> Received {
-    if is_reading {
-        return decoder.read_reply(reader);
-    }
-    Ok(decoder.next_reply()?)
-}
-
-/// What the next call returns; once more where memory ran out.
-fn receive_reply(
-    decoder: &mut ReplyDecoder,
-    is_reading: bool,
-    reader: &mut Input<&[u8]>,
-    answers: &mut Answers,
-) -> Received {
-    match receive(decoder, is_reading, reader) {
-        Err(ReceiveError::OutOfMemory) => {
-            answers.out_of_memory();
-            receive(decoder, is_reading, reader)
-        }
-        received => received,
-    }
-}
-
-/// Pushes a piece; once more where memory ran out.
-fn push(decoder: &mut ReplyDecoder, piece: &[u8], answers: &mut Answers) {
-    if decoder.push(piece).is_err() {
-        answers.out_of_memory();
-        if decoder.push(piece).is_err() {
-            answers.put("out of memory | ");
-        }
-    }
-}
-
-/// Takes as many replies as there are, and writes them.
-fn take_replies(decoder: &mut ReplyDecoder, is_reading: bool, piece: &[u8], answers: &mut Answers) {
-    let mut reader = Input::new(piece);
-    let most = decoder.pending().len().saturating_add(piece.len());
-    // a reply has bytes, so the last call finds none
-    for _ in 0..=most {
-        let received = receive_reply(decoder, is_reading, &mut reader, answers);
-        if !put_received(received, answers) {
-            break;
-        }
-    }
-}
-
-/// Makes a step.
-fn make_step(decoder: &mut ReplyDecoder, is_reading: bool, step: &Step, answers: &mut Answers) {
-    let piece = step.piece.as_slice();
-    match step.action {
-        Action::Feed => {
-            if !is_reading {
-                push(decoder, piece, answers);
+/// What the call returns; once more where memory ran out.
+macro_rules! next_reply_of {
+    ($decoder:expr, $answers:expr) => {
+        match $decoder.next_reply() {
+            Err(NextReplyError::OutOfMemory) => {
+                $answers.out_of_memory();
+                $decoder.next_reply()
             }
-            take_replies(decoder, is_reading, piece, answers);
+            taken => taken,
         }
-        Action::Push => push(decoder, piece, answers),
-        Action::Next => {
-            let mut no_more = Input::new(b"".as_slice());
-            let received = receive_reply(decoder, is_reading, &mut no_more, answers);
-            put_received(received, answers);
+    };
+}
+
+pub(crate) use next_reply_of;
+
+impl Taker for ReplyDecoder {
+    fn push(&mut self, piece: &[u8]) -> Result<(), AllocError> {
+        ReplyDecoder::push(self, piece)
+    }
+
+    fn pending(&self) -> usize {
+        ReplyDecoder::pending(self).len()
+    }
+
+    fn take(&mut self, answers: &mut Answers) -> bool {
+        match next_reply_of!(self, answers) {
+            Ok(Some(reply)) => {
+                put_reply(reply.code, reply.lines.as_slice(), answers);
+                answers.put(" | ");
+                return true;
+            }
+            Ok(None) => {}
+            Err(error) => put_no_reply(&error, answers),
         }
-        Action::Clear => decoder.clear(),
+        false
+    }
+
+    fn clear(&mut self) {
+        ReplyDecoder::clear(self);
+    }
+
+    fn put_left(&self, answers: &mut Answers) {
+        answers.put(format_args!("left={}", Taker::pending(self)));
     }
 }
 
-/// Makes all steps.
-fn make_steps(decoder: &mut ReplyDecoder, is_reading: bool, steps: &[Step], answers: &mut Answers) {
-    let mut separator = "";
-    for step in steps {
-        answers.put(separator);
-        make_step(decoder, is_reading, step, answers);
-        answers.put(format_args!("left={}", decoder.pending().len()));
-        separator = " | ";
-    }
-}
-
-/// `receive LIMIT STEP..`, or `receive_from LIMIT STEP..`, which reads.
-pub fn answer_receive(
-    is_reading: bool,
-    words: &mut Words<'_>,
-    answers: &mut Answers,
-) -> Result<(), CaseError> {
+/// `receive LIMIT STEP..`
+pub fn answer_receive(words: &mut Words<'_>, answers: &mut Answers) -> Result<(), CaseError> {
     let mut decoder = match words.limit()? {
         Some(limit) => ReplyDecoder::with_limit(words.alloc, limit),
         None => ReplyDecoder::new(words.alloc),
     };
     let steps = read_steps(words)?;
     answers.begin();
-    make_steps(&mut decoder, is_reading, steps.as_slice(), answers);
+    make_steps(&mut decoder, steps.as_slice(), answers);
     Ok(())
 }

@@ -5,8 +5,8 @@ use crate::shown::Quoted;
 use crate::words::{CaseError, Words, read_number, read_text};
 use std::alloc::Global;
 use unftp_control_codecs::{EncodeLinesError, encode_lines, encode_reply};
-use unftp_control_reply::error::ControlChanError;
-use unftp_control_reply::{Reply, ReplyCode};
+use unftp_control_message::reply::error::ControlChanError;
+use unftp_control_message::reply::{Reply, ReplyCode};
 
 /// The code that the next word is the number of.
 fn read_code(words: &mut Words<'_>) -> Result<ReplyCode, CaseError> {

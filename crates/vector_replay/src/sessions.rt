@@ -1,13 +1,15 @@
 //! Sessions: `serve` and `feed` over streams and handlers that may fail.
 use crate::answers::Answers;
 use crate::ends::End;
-use crate::handlers::{Demo, EchoError, Okay, Silent, Tried};
+use crate::handlers::{Counting, EchoError, Okay, Silent, Tried};
 use crate::settings::{Answering, Settings};
 use crate::shown::Quoted;
 use crate::streams::{Pieces, Room};
-use crate::transfers::Transferring;
+use crate::transfers::Wire;
 use crate::words::{CaseError, Words, read_bytes};
+use demo_responses::Responses;
 use std::alloc::Global;
+use transferring::Transfers;
 use unftp_control_serve::{Engine, Input, Output, Session, Sink, serve, serve_with_limit};
 
 /// How many bytes of replies are written before the writer's buffer grows.
@@ -226,19 +228,27 @@ impl SessionCase {
         answers.put(format_args!(" reads={} unread={}", run.reads, Quoted(unread)));
     }
 
+    /// A handler that has taken nothing.
+    fn start<H: Tried>(&self) -> Counting<H> {
+        Counting {
+            handler: H::start(self.alloc, self.settings.fails_at),
+            taken: 0,
+        }
+    }
+
     /// Answers a session by this handler. Where memory ran out, it is made again from the start.
-    fn answer_by<H: Session + Tried>(&self, run: &mut Run, room: Room, answers: &mut Answers) {
-        let mut handler = H::start(self.alloc, self.settings.fails_at);
+    fn answer_by<H: Tried>(&self, run: &mut Run, room: Room, answers: &mut Answers) {
+        let mut handler = self.start::<H>();
         let mut room = self.run(&mut handler, room, run);
         if run.is_out_of_memory {
             answers.out_of_memory_after(run.ends.as_slice(), room.held.as_slice());
             run.restart();
-            handler = H::start(self.alloc, self.settings.fails_at);
+            handler = self.start::<H>();
             room = self.run(&mut handler, self.restart(room), run);
         }
         put_written(&room, run, answers);
-        answers.put(format_args!("taken={}", handler.taken()));
-        handler.put_last(answers);
+        answers.put(format_args!("taken={}", handler.taken));
+        handler.handler.put_last(answers);
         self.put_read(run, answers);
     }
 
@@ -248,11 +258,11 @@ impl SessionCase {
         let room = self.new_room()?;
         answers.begin();
         match self.settings.handler {
-            Answering::Demo => self.answer_by::<Demo>(&mut run, room, answers),
+            Answering::Demo => self.answer_by::<Responses>(&mut run, room, answers),
             Answering::Okay => self.answer_by::<Okay>(&mut run, room, answers),
             Answering::Silent => self.answer_by::<Silent>(&mut run, room, answers),
             Answering::EchoError => self.answer_by::<EchoError>(&mut run, room, answers),
-            Answering::Transfers => self.answer_by::<Transferring>(&mut run, room, answers),
+            Answering::Transfers => self.answer_by::<Transfers<Wire>>(&mut run, room, answers),
         }
         Ok(())
     }

@@ -1,7 +1,7 @@
 //! Commands as the vector files write them.
 use std::fmt;
 use std::fmt::{Debug, Display, Formatter, Write};
-use unftp_control_command::{Command, Opt};
+use unftp_control_message::{Command, Opt};
 
 /// Bytes between double quotes, in ASCII: what is printable as it is, and all else escaped.
 #[derive(Clone, Copy)]

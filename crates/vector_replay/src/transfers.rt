@@ -1,7 +1,5 @@
 //! A handler that transfers a file over a data connection that fails when it is asked to.
 ghost use Rattle.std.specs.Prelude.{None};
-ghost use Rattle.transferring.specs.Transfers.{TransferState, left_in, state_of, transfers_law};
-ghost use Rattle.transferring.specs.Answers.{DataAnswer};
 
 use crate::answers::Answers;
 use crate::handlers::Tried;
@@ -10,9 +8,6 @@ use crate::streams::INTERRUPTED;
 use std::alloc::Global;
 use std::io;
 use transferring::{DataConnection, Transfers};
-use unftp_control_reply::Reply;
-use unftp_control_reply::error::ControlChanError;
-use unftp_control_serve::{Event, Session};
 
 /// What it gives at each transfer to the server.
 const GIVEN: &[u8] = b"stored";
@@ -95,57 +90,14 @@ impl DataConnection for Wire {
     }
 }
 
-/// Transfers a file, which is empty at first, and counts the events.
-#[derive(Drop)]
-pub struct Transferring {
-    taken: u32,
-    transfers: Transfers<Wire>,
-}
-
-impl Tried for Transferring {
-    fn start(alloc: Global, fails_at: u32) -> Transferring {
-        Transferring {
-            taken: 0,
-            transfers: Transfers::new(Wire::new(fails_at), Vec::new(alloc)),
-        }
-    }
-
-    fn taken(&self) -> u32 {
-        self.taken
+/// Transfers a file, which is empty at first.
+impl Tried for Transfers<Wire> {
+    fn start(alloc: Global, fails_at: u32) -> Transfers<Wire> {
+        Transfers::new(Wire::new(fails_at), Vec::new(alloc))
     }
 
     fn put_last(&self, answers: &mut Answers) {
-        let sent = Quoted(self.transfers.connection().taken());
-        let file = Quoted(self.transfers.file());
+        let (sent, file) = (Quoted(self.connection().taken()), Quoted(self.file()));
         answers.put(format_args!(" sent={sent} file={file}"));
-    }
-}
-
-impl Session for Transferring {
-    ghost State = { TransferState };
-
-    ghost Said = { DataAnswer };
-
-    ghost state = { λ t. state_of (λ _. None) t.transfers };
-
-    ghost heard = { λ t. t.transfers.connection.answers };
-
-    ghost law = { transfers_law };
-
-    ghost left = { left_in };
-
-    ghost failures = { λ t. t.transfers.failures };
-
-    fn first(&mut self, alloc: Global, event: Event) -> Result<Reply, ControlChanError> {
-        self.taken = self.taken.saturating_add(1);
-        self.transfers.first(alloc, event)
-    }
-
-    fn further(&mut self, alloc: Global) -> Result<Option<Reply>, ControlChanError> {
-        self.transfers.further(alloc)
-    }
-
-    fn done(&self) -> bool {
-        self.transfers.done()
     }
 }

@@ -3,10 +3,11 @@ use crate::answers::Answers;
 use crate::decoding::Decoding;
 use crate::lines::{put_refused, read_line};
 use crate::shown::{Quoted, Shown};
+use crate::steps::Taker;
 use crate::words::{CaseError, Words, read_bytes, read_shared, read_text};
 use bytes::Bytes;
 use std::alloc::Global;
-use unftp_control_command::Command;
+use unftp_control_message::Command;
 use unftp_control_write::{ForwardError, WriteCommandError, forward, write_command};
 
 /// Appends the line of the command, once more where memory ran out; whether there is one.
@@ -122,15 +123,15 @@ pub fn answer_write(words: &mut Words<'_>, answers: &mut Answers) -> Result<(), 
 
 /// Writes what a new codec reads the line as, and whether it is another command or leaves bytes.
 fn put_read_back(alloc: Global, command: Command, line: Vec<u8>, answers: &mut Answers) {
-    let mut decoding = Decoding::of(line);
-    let decoded = decoding.next_command(alloc, answers);
+    let mut decoding = Decoding::of(alloc, line);
+    let decoded = decoding.next_command(answers);
     let is_same = matches!(&decoded, Ok(Some(other)) if *other == command);
     drop(command);
     if let Ok(Some(other)) = &decoded {
         answers.put(format_args!("ok {}", Shown(other)));
     }
     drop(decoded);
-    answers.put_unless(is_same && decoding.is_empty(), " unequal");
+    answers.put_unless(is_same && decoding.pending() == 0, " unequal");
 }
 
 /// Writes what the command's line is read as, and the line.

@@ -2,7 +2,7 @@
 #![tactic(auto, unfolding(crate::proofs::Computing::at_bytes))]
 
 ghost use Rattle.std.specs.Prelude.{◌≡◌, Bool, List, [], ◌∷◌, Ok, Err, false, true, codes, vec_capacity, vec_len};
-ghost use Rattle.calling.specs.Conversing.{AreDone, Fails, HasConversed, HasTalked, IsDone, IsNew, IsNotSent, IsNotTaken, IsOver, StopsAt, TakesOne, first_snapshot, next_line, piece_of, turns_of};
+ghost use Rattle.calling.specs.Conversing.{AreDone, Fails, HasConversed, HasTalked, IsDone, IsNew, IsNotSent, IsNotTaken, IsOver, StopsAt, first_snapshot, piece_of, turns_of};
 ghost use Rattle.calling.specs.Basic.{basic};
 ghost use Rattle.calling.specs.ExampleTalks.{greeter, noop, sends_noop, sends_quit};
 ghost use Rattle.calling.specs.declared.conversation.Conversation.{Conversation as RustConversation};
@@ -22,22 +22,15 @@ use unftp_control::serve::ServeError;
 /// What is done at a turn: the next line is sent once, or the next piece comes, of bytes that were
 /// sent, or the next reply is taken, if a whole one is there.
 pub fn turns_are_done_so()
-    ensures first_command { IsDone greeter (Noop ∷ Quit ∷ []) [] Turn.Send (sends_noop ∷ []) }
     ensures second_command { IsDone greeter (Noop ∷ Quit ∷ []) (sends_noop ∷ []) Turn.Send
         (sends_quit ∷ []) }
     ensures none_left { IsDone greeter (Noop ∷ []) (sends_noop ∷ []) Turn.Send [] }
     ensures sent_twice { ¬ IsDone greeter (Noop ∷ Quit ∷ []) (sends_noop ∷ []) Turn.Send
         (sends_noop ∷ []) }
-    ensures both_at_once { ¬ IsDone greeter (Noop ∷ Quit ∷ []) [] Turn.Send
-        (sends_noop ∷ sends_quit ∷ []) }
     ensures piece { IsDone greeter [] (sends_noop ∷ []) (Turn.ToServer 2)
         (AtServer (codes "NO") ∷ []) }
-    ensures rest { IsDone greeter [] (sends_noop ∷ AtServer (codes "NO") ∷ []) (Turn.ToServer 9)
-        (AtServer (codes "OP\r\n") ∷ []) }
     ensures all_in_one_piece { ¬ IsDone greeter [] (sends_noop ∷ []) (Turn.ToServer 2)
         (AtServer noop ∷ []) }
-    ensures greeting { IsDone greeter [] [] (Turn.ToClient 3)
-        (AtClient (Received (codes "220")) ∷ []) }
     ensures reply { IsDone greeter [] (sends_noop ∷ AtServer noop ∷ []) (Turn.ToClient 7)
         (AtClient (Received (codes "220\r\n20")) ∷ []) }
     ensures no_line_came { ¬ IsDone greeter [] (sends_noop ∷ []) (Turn.ToClient 7)
@@ -47,19 +40,14 @@ pub fn turns_are_done_so()
     ensures none_there { IsDone greeter [] (AtClient (Received (codes "22")) ∷ []) Turn.Take [] }
     ensures not_taken { ¬ IsDone greeter [] (AtClient (Received (codes "220\r\n")) ∷ []) Turn.Take
         [] }
-    ensures another_act { ¬ IsDone greeter [] [] Turn.Take (AtServer [] ∷ []) }
     ensures two { AreDone greeter (Noop ∷ []) [] (Turn.Send ∷ Turn.ToServer 2 ∷ [])
         (sends_noop ∷ AtServer (codes "NO") ∷ []) }
     ensures one_left_out { ¬ AreDone greeter (Noop ∷ []) [] (Turn.Send ∷ Turn.ToServer 2 ∷ [])
         (sends_noop ∷ []) }
-    ensures more_than_told { ¬ AreDone greeter (Noop ∷ []) [] [] (sends_noop ∷ []) }
 {}
 
 /// Lines, pieces, and what the server says.
 pub fn parts_are_so()
-    ensures line { next_line (Noop ∷ Quit ∷ []) ≡ sends_noop ∷ [] }
-    ensures no_line { next_line [] ≡ [] }
-    ensures piece { piece_of 2 (codes "NOOP") 1 ≡ codes "O" }
     ensures long_piece { piece_of 2 (codes "NOOP") 9 ≡ codes "OP" }
     ensures no_piece { piece_of 4 (codes "NOOP") 9 ≡ [] }
     ensures turns { turns_of (as_session basic) false (CodeAndMsg 220 [])
@@ -72,9 +60,6 @@ pub fn parts_are_so()
 pub fn turns_fail_so()
     ensures no_line { IsNotSent (Retr [] ∷ []) 0 SendError.NoLine }
     ensures has_line { ¬ IsNotSent (Noop ∷ []) 0 SendError.NoLine }
-    ensures memory { IsNotSent (Noop ∷ []) 0 SendError.OutOfMemory }
-    ensures no_line_memory { ¬ IsNotSent (Retr [] ∷ []) 0 SendError.OutOfMemory }
-    ensures none_left { ¬ IsNotSent [] 0 SendError.NoLine }
     ensures another_call { (c : RustConversation) (start after : Snapshot Bool)
         → ¬ Fails greeter [] [] c start after Turn.Take (ConverseError.Serve ServeError.Stopped) }
     ensures piece { (c : RustConversation) (start after : Snapshot Bool)
@@ -83,9 +68,6 @@ pub fn turns_fail_so()
     ensures no_piece { (c : RustConversation) (start after : Snapshot Bool)
         → c.at_client ≡ 5 → c.to_client.items ≡ codes "220\r\n"
         → ¬ Fails greeter [] [] c start after (Turn.ToClient 9) ConverseError.OutOfMemory }
-    ensures too_long { (c : RustConversation) (start after : Snapshot Bool)
-        → ¬ Fails greeter [] [] c start after Turn.Take
-        (ConverseError.Reply NextReplyError.TooLong) }
     ensures no_room { (c : RustConversation) (start after : Snapshot Bool)
         → vec_len c.taken ≡ 2 → vec_capacity c.taken ≡ 2
         → Fails greeter [] [] c start after Turn.Take ConverseError.OutOfMemory }
@@ -102,19 +84,12 @@ pub fn turns_fail_so()
 pub fn talks_are_so()
     ensures sent_twice { (c : RustConversation)
         → ¬ HasTalked greeter (Noop ∷ []) (sends_noop ∷ sends_noop ∷ []) c }
-    ensures another_command { (c : RustConversation)
-        → ¬ HasTalked greeter (Quit ∷ []) (sends_noop ∷ []) c }
     ensures line_lost { (c : RustConversation) → c.to_server.items ≡ []
         → ¬ HasTalked greeter (Noop ∷ []) (sends_noop ∷ []) c }
     ensures piece_not_counted { (c : RustConversation) → c.at_server ≡ 0
         → ¬ HasTalked greeter (Noop ∷ []) (sends_noop ∷ AtServer (codes "N") ∷ []) c }
-    ensures greeting_lost { (c : RustConversation) → c.to_client.items ≡ []
-        → ¬ HasTalked greeter [] [] c }
     ensures reply_lost { (taken : ReplyTo) (c : RustConversation) → c.taken.items ≡ []
         → ¬ HasTalked greeter [] (AtClient (Took taken) ∷ []) c }
-    ensures conversed { (c : RustConversation) (start after : Snapshot Bool)
-        → HasConversed greeter (Noop ∷ []) (Turn.Send ∷ []) c start after (Ok tt)
-        → c.to_server.items ≡ noop }
     ensures answered { (c : RustConversation) (after : Snapshot Bool)
         → HasConversed greeter (Noop ∷ []) (Turn.Send ∷ Turn.ToServer 6 ∷ []) c
         (first_snapshot greeter 0) after (Ok tt)
@@ -125,17 +100,12 @@ pub fn talks_are_so()
         → HasConversed greeter (Retr [] ∷ []) (Turn.Send ∷ []) c (first_snapshot greeter 0) after
         (Err (ConverseError.Send SendError.NoLine))
         → (c.taken.items ≡ []) × (after.state ≡ false) × (after.failures ≡ 0) }
-    ensures one_taken { (before after : RustConversation) → TakesOne before after
-        → after.at_server ≡ before.at_server }
 {}
 
 /// Conversations that are new, and that are over.
 pub fn ends_are_so()
     ensures a_byte_came { (c : RustConversation) → c.at_server ≡ 1 → ¬ IsNew c }
-    ensures greeted { (c : RustConversation) → c.at_client ≡ 1 → ¬ IsNew c }
-    ensures sent { (c : RustConversation) → c.client.dialogue.sent ≡ 1 → ¬ IsNew c }
     ensures finished { (c : RustConversation) → c.server.failed ≡ true → ¬ IsNew c }
-    ensures line { (c : RustConversation) → c.to_server.items ≡ noop → ¬ IsNew c }
     ensures not_sent { (c : RustConversation) → c.client.dialogue.sent ≡ 0
         → ¬ IsOver (Noop ∷ []) c }
     ensures not_carried { (c : RustConversation) → c.to_server.items ≡ noop → c.at_server ≡ 5

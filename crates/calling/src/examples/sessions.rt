@@ -1,7 +1,7 @@
 //! Examples of what whole sessions, pieces, event loops and readers of replies come to.
 #![tactic(auto, unfolding(crate::proofs::Computing::at_bytes))]
 
-ghost use Rattle.std.specs.Prelude.{◌≡◌, ℕ, Bool, List, [], ◌∷◌, ◌++◌, Option, Some, None, Ok, Err, codes, false, length};
+ghost use Rattle.std.specs.Prelude.{◌≡◌, ℕ, Bool, List, [], ◌∷◌, ◌++◌, Some, None, Ok, Err, codes, false};
 ghost use Rattle.std.specs.Io.KnownBytes.{Appends, IsAtEnd};
 ghost use Rattle.calling.specs.Basic.{basic};
 ghost use Rattle.calling.specs.EventLoop.{AnswersNext};
@@ -11,11 +11,11 @@ ghost use Rattle.calling.specs.Pieces.{AnswersPieces, FailsAtPiece, HasNoRoom};
 ghost use Rattle.calling.specs.Sessions.{SessionEnded, at_start, unused_input};
 ghost use Rattle.unftp_control.specs.Bytes.{Bytes};
 ghost use Rattle.unftp_control.specs.Decoder.{Pending, no_bytes as no_lines, pushed as lines_pushed};
-ghost use Rattle.unftp_control.specs.Endings.{AllAnswered, Snapshot};
+ghost use Rattle.unftp_control.specs.Endings.{Snapshot};
 ghost use Rattle.unftp_control.specs.Input.{InputState};
 ghost use Rattle.unftp_control.specs.ReplyDecoding.{PendingReplies, TakesFirst, appended};
 ghost use Rattle.unftp_control.specs.Receiving.{HasFailure};
-ghost use Rattle.unftp_control.specs.Service.{AnsweredAll, ReadFailed};
+ghost use Rattle.unftp_control.specs.Service.{ReadFailed};
 ghost use Rattle.unftp_control.specs.declared.serve.Served.{Served};
 ghost use Rattle.unftp_control.specs.declared.serve.ServeError.{ServeError as RustError};
 ghost use Rattle.unftp_control.specs.declared.read.ReceiveError.{ReceiveError as RustFailure};
@@ -37,11 +37,6 @@ pub fn sessions_end_so()
         input
         (Ok served)
         → input.given ≡ codes "NOOP\r\nNO" → after.output.taken ≡ codes "200 OK\r" → ⊥ }
-    ensures ok { (after : Snapshot Bool) (input : InputState) (served : Served)
-        → SessionEnded None (as_session basic) (before_session 0) after (unused_input None) input
-        (Ok served)
-        → AnsweredAll None (as_session basic) (before_session 0) after (unused_input None) input
-        served }
     ensures read { (after : Snapshot Bool) (input : InputState) (error : _)
         → SessionEnded None (as_session basic) (before_session 0) after (unused_input None) input
         (Err (ServeError.Read error))
@@ -58,15 +53,8 @@ pub fn pieces_end_so()
         (codes "NOOP\r" ∷ codes "\nNO" ∷ []) after
         (Ok 2)
         → Appends (Some (codes "x")) after.output.written (codes "200 OK\r\n") }
-    ensures failed { (after : Snapshot Bool) (error : RustError)
-        → AnswersPieces {T = ℕ} (as_session basic) (before_session 0) (codes "NO" ∷ []) after
-        (Err error)
-        → FailsAtPiece (as_session basic) (before_session 0) (codes "NO" ∷ []) after error }
     ensures no_piece { (after : Snapshot Bool) (error : RustError)
         → ¬ FailsAtPiece (as_session basic) (before_session 0) [] after error }
-    ensures one_of_them { (pieces : List Bytes) (after : Snapshot Bool) (error : RustError)
-        (failed : FailsAtPiece (as_session basic) (before_session 0) pieces after error)
-        → pieces ≡ failed.first ++ failed.last ∷ failed.later }
     ensures no_room { (after : Snapshot Bool)
         → HasNoRoom (as_session basic) (before_session 0) (codes "NOOP\r\n") (codes "P") after
         ServeError.OutOfMemory
@@ -84,15 +72,11 @@ pub fn turns_of_a_loop_are_so()
     ensures read { (after : Pending) (sent' : Bytes) → AnswersNext
         (lines_pushed (no_lines None) (codes "QU")) (codes "x") Turn.Read after sent'
         → sent' ≡ codes "x" }
-    ensures no_line { (after : Pending) (sent' : Bytes) → ¬ AnswersNext
-        (lines_pushed (no_lines None) (codes "QU")) (codes "x") Turn.Close after sent' }
     ensures line { (after : Pending) (sent' : Bytes) → ¬ AnswersNext
         (lines_pushed (no_lines None) (codes "QUIT\r\n")) (codes "x") Turn.Read after sent' }
     ensures closed { (after : Pending) (sent' : Bytes) → AnswersNext
         (lines_pushed (no_lines None) (codes "QUIT\r\nNO")) (codes "x") Turn.Close after sent'
         → (after.bytes ≡ []) × (sent' ≡ codes "x221 Bye\r\n") }
-    ensures another_turn { (after : Pending) (sent' : Bytes) → ¬ AnswersNext
-        (lines_pushed (no_lines None) (codes "QUIT\r\n")) (codes "x") Turn.GoOn after sent' }
 {}
 
 /// What is received of a reply, of the end of the input, and at an error.

@@ -1,10 +1,9 @@
 //! Sessions: what commands say in a directory, and where they lead.
-ghost use Rattle.std.specs.Prelude.{◌≡◌, ◌++◌, true, false, [], Some, None, codes};
-ghost use Rattle.unftp_control_defs.specs.Events.{Refused, InvalidCommand, NoSource, out_of_memory};
-ghost use Rattle.unftp_control_defs.specs.FtpCommand.{Cdup, Cwd, Mdtm, Mlst, Noop, Pass, Pwd, Quit, Size, User};
+ghost use Rattle.std.specs.Prelude.{◌≡◌, ◌++◌, true, false, Some, None, codes};
+ghost use Rattle.unftp_control_defs.specs.Events.{InvalidCommand, NoSource, out_of_memory};
+ghost use Rattle.unftp_control_defs.specs.FtpCommand.{Cwd, Quit};
 ghost use Rattle.unftp_control_defs.specs.FtpReply.{CodeAndMsg};
 ghost use Rattle.unftp_control_defs.specs.Run.{as_session, text_for};
-ghost use Rattle.login_demo.specs.Facts.{mdtm_reply, mlst_reply, pwd_reply, size_reply};
 ghost use Rattle.login_demo.specs.Session.{command_reply, files_law, found, new_session, session_after};
 
 use crate::session::Session;
@@ -12,15 +11,8 @@ use crate::tree::{Directory, Entry, File};
 
 /// What paths lead to.
 pub fn paths_are_found_so()
-    ensures name { found Directory.Root (codes "pub") ≡ Some (Entry.Directory Directory.Pub) }
     ensures same_name { found Directory.Pub (codes "pub") ≡ None }
-    ensures absolute { found Directory.Notes (codes "/pub")
-        ≡ Some (Entry.Directory Directory.Pub) }
     ensures parent { found Directory.Pub (codes "..") ≡ Some (Entry.Directory Directory.Root) }
-    ensures above_the_root { found Directory.Root (codes "../..")
-        ≡ Some (Entry.Directory Directory.Root) }
-    ensures file { found Directory.Quoted (codes "../notes/today.txt")
-        ≡ Some (Entry.File File.Today) }
     ensures slash_after_a_file { found Directory.Pub (codes "readme.txt/")
         ≡ Some (Entry.File File.Readme) }
 {}
@@ -31,27 +23,6 @@ pub fn moves_are_answered_so()
         ≡ CodeAndMsg 250 (codes "Directory changed") }
     ensures file { command_reply Directory.Pub (Cwd (codes "readme.txt"))
         ≡ CodeAndMsg 550 (codes "No such directory") }
-    ensures none { command_reply Directory.Pub (Cwd (codes "pub"))
-        ≡ CodeAndMsg 550 (codes "No such directory") }
-    ensures root { command_reply Directory.Root Cdup
-        ≡ CodeAndMsg 250 (codes "Directory changed") }
-{}
-
-/// What is said in a directory.
-pub fn directories_have_replies()
-    ensures shown { command_reply Directory.Notes Pwd ≡ pwd_reply Directory.Notes }
-    ensures itself { command_reply Directory.Notes (Mlst None)
-        ≡ mlst_reply (Some (Entry.Directory Directory.Notes)) }
-    ensures path { command_reply Directory.Notes (Mlst (Some (codes "..")))
-        ≡ mlst_reply (Some (Entry.Directory Directory.Pub)) }
-    ensures size { command_reply Directory.Pub (Size (codes "readme.txt"))
-        ≡ size_reply (Some (Entry.File File.Readme)) }
-    ensures time { command_reply Directory.Pub (Mdtm (codes "notes/today.txt"))
-        ≡ mdtm_reply (Some (Entry.File File.Today)) }
-    ensures login { command_reply Directory.Pub (User (codes "anna"))
-        ≡ CodeAndMsg 230 (codes "Logged in") }
-    ensures end { command_reply Directory.Pub Quit ≡ CodeAndMsg 221 (codes "Goodbye") }
-    ensures other { command_reply Directory.Pub Noop ≡ CodeAndMsg 200 (codes "OK") }
 {}
 
 /// Where a session is after a command.
@@ -62,17 +33,9 @@ pub fn sessions_go_on_so()
     ensures file { (over : _)
         → session_after (record { directory = Directory.Pub; is_over = over })
         (Cwd (codes "readme.txt")) ≡ record { directory = Directory.Pub; is_over = over } }
-    ensures parent { (over : _)
-        → session_after (record { directory = Directory.Notes; is_over = over }) Cdup
-        ≡ record { directory = Directory.Pub; is_over = over } }
-    ensures login { (over : _)
-        → session_after (record { directory = Directory.Notes; is_over = over }) (User [])
-        ≡ record { directory = Directory.Root; is_over = over } }
-    ensures password { (session : _) → session_after session (Pass []) ≡ session }
     ensures end { (over : _)
         → session_after (record { directory = Directory.Notes; is_over = over }) Quit
         ≡ record { directory = Directory.Notes; is_over = true } }
-    ensures refused { (session : _) → files_law.next session (Refused out_of_memory) ≡ session }
 {}
 
 /// When it is done, and with which faults it may fail.

@@ -4,6 +4,7 @@
 pub mod both_ends;
 pub mod client;
 pub mod decoding;
+pub mod definitions;
 pub mod engine;
 pub mod lines;
 pub mod memory;

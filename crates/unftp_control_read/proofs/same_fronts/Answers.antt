@@ -1,14 +1,14 @@
 -- What the derived `==` of fronts answers, against what they hold.
 use Rattle.std.proofs.Common.{◌≡◌, ◌↔◌, IsTrue, refl, eq-eqb, eqb-true}
 use Rattle.std.proofs.lemmas.Bool.{false≢true, and_parts, and_from}
-use Rattle.unftp_control_read.specs.Reading.{front_of, whole, contents}
+use Rattle.unftp_control_read.specs.Reading.{front_meant, whole, contents}
 use Rattle.unftp_control_read.specs.declared.Front.{Front}
 use Rattle.unftp_control_read.specs.declared.Front.TheVariants.{Whole, Partial}
 use Rattle.unftp_control_read.specs.contracts.FrontPartialEq.TheImpl.{ghosts as of_Front}
 use Rattle.unftp_control_read.proofs.SameLemmas.{same_lines}
 use Rattle.unftp_control_read.proofs.same_fronts.Goals as goal
 
-same : (a b : Front) → IsTrue (of_Front.eq a b) ↔ (front_of a ≡ front_of b)
+same : (a b : Front) → IsTrue (of_Front.eq a b) ↔ (front_meant a ≡ front_meant b)
 same (Whole m ks u) (Whole n ls v) = (
   λ e.
       let parts = and_parts _ _ e in

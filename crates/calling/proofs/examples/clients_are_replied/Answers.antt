@@ -7,7 +7,6 @@ use Rattle.unftp_control.specs.FtpCommand.{Answer, InvalidCommand, Noop, Refusal
 use Rattle.unftp_control.specs.Outcome.{outcome}
 use Rattle.unftp_control.proofs.LineLemmas.{Lines-lines_of}
 use Rattle.calling.specs.Forwarding.{IsReplyInPlace, not_a_line, refused, out_of_memory}
-use Rattle.calling.proofs.ExampleLemmas.{lines_of-IsLine}
 use Rattle.calling.proofs.examples.clients_are_replied.Goals as goal
 
 -- the third byte of a reply, in which these differ
@@ -49,8 +48,6 @@ unfolding is_utf8 chars utf8_lossy utf8_valid_len utf8_error_len lib.Utf8.encode
 returns c = record {
   refused = refused InvalidCommand refl refl;
   command = replied;
-  no_lf = not_a_line (λ line. let all = lines_of-IsLine line in cc) refl;
   memory = out_of_memory refl refl;
   no_memory = no_memory;
-  other_reply = other;
 }

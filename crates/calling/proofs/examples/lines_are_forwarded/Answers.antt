@@ -1,7 +1,7 @@
 use Rattle.std.proofs.Common.{codes, refl}
 use Rattle.std.specs.Str.{is_utf8, chars}
 use Rattle.std.specs.Str.Lossy.{utf8_lossy, utf8_valid_len, utf8_error_len}
-use Rattle.unftp_control.specs.FtpCommand.{Cwd, TypeCode}
+use Rattle.unftp_control.specs.FtpCommand.{Cwd}
 use Rattle.unftp_control.proofs.LineLemmas.{Lines-lines_of}
 use Rattle.calling.proofs.examples.lines_are_forwarded.Goals as goal
 
@@ -12,15 +12,5 @@ returns-clause-canonical c = record {
   means = refl;
   appended = refl;
   is_line = (Lines-lines_of (codes "CWD a\r\n")).each.0;
-  read_back = refl;
-}
-
-pub returns-clause-parameter : goal.returns-clause-parameter
-unfolding is_utf8 chars utf8_lossy utf8_valid_len utf8_error_len lib.Utf8.encode
-returns-clause-parameter c = record {
-  command = TypeCode;
-  means = refl;
-  appended = refl;
-  is_line = (Lines-lines_of (codes "TYPE a\r\n")).each.0;
   read_back = refl;
 }

@@ -1,9 +1,8 @@
-use Rattle.std.proofs.Common.{◌∷◌, ◌++◌, ◌≡◌, false, true, Ok, Err, codes, refl}
+use Rattle.std.proofs.Common.{◌≡◌, false, true, Ok, Err, codes, refl}
 use Rattle.std.specs.Str.{is_utf8, chars}
 use Rattle.std.specs.Str.Lossy.{utf8_lossy, utf8_valid_len, utf8_error_len}
-use Rattle.unftp_control.specs.FtpCommand.{InvalidCommand, InvalidEol, InvalidUtf8, Retr, User}
+use Rattle.unftp_control.specs.FtpCommand.{InvalidCommand, Retr}
 use Rattle.unftp_control.specs.Outcome.{outcome}
-use Rattle.unftp_control.proofs.LineLemmas.{Lines-lines_of}
 use Rattle.calling.proofs.ExampleLemmas.{lines_of-IsLine}
 use Rattle.calling.proofs.examples.lines_are_refused.Goals as goal
 
@@ -15,13 +14,7 @@ returns c = record {
   empty_path = (InvalidCommand, refl, refl);
   other_refusal = λ refused. let is : outcome (codes "RETR\r\n") ≡ Err InvalidCommand = refl in
       let named = refused.1 in let not = refused.2 in cc;
-  not_utf8 = (InvalidUtf8, refl, refl);
-  cr_nul = λ refused. let is : outcome (codes "USER a\r" ++ 0 ∷ codes "\r\n")
-      ≡ Ok (User (codes "a\r")) = refl in let not = refused.2 in cc;
-  bare_cr = (InvalidEol, refl, refl);
-  crlf = λ not. not (Lines-lines_of (codes "NOOP\r\n")).each.0;
   no_lf = λ line. let all = lines_of-IsLine line in cc;
-  two_lines = λ line. let all = lines_of-IsLine line in cc;
   memory = refl;
   no_memory = λ is_text. let not : false ≡ true = is_text in cc;
   refused_memory = λ line refused. let named = refused.1 in cc;

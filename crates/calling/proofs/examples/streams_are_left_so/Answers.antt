@@ -7,9 +7,7 @@ pub returns : goal.returns
 returns c = record {
   begins = (asked.0, asked.2);
   read_on = λ ends. absurd (omega (arith, ap length (sym ends.1 ∙ asked-before.2)));
-  not_asked = λ ends. false≢true (sym not_asked.0 ∙ ends.0);
   never_asked = inl not_asked.0;
-  some_read = inr (λ none. absurd (omega (arith, ap length (sym none ∙ asked-before.2))));
   none_read = λ ends. elim ends [
     | inl never ↦ false≢true (sym never ∙ asked.0)
     | inr more ↦ more asked.2

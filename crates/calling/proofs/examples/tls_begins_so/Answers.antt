@@ -1,5 +1,5 @@
 use Rattle.std.proofs.Common.{refl}
-use Rattle.calling.proofs.TlsLemmas.{asked, asked-before, begins-by, not_asked, read_on}
+use Rattle.calling.proofs.TlsLemmas.{asked, asked-before, begins-by, read_on}
 use Rattle.calling.proofs.examples.tls_begins_so.Goals as goal
 
 pub returns : goal.returns
@@ -7,6 +7,5 @@ returns c = record {
   at_the_end = λ before after input input_after begins v is. begins-by v is refl asked;
   before_others =
       λ before after input input_after begins v is. begins-by v is refl asked-before;
-  not_asked = λ before after input input_after begins v is. begins-by v is refl not_asked;
   read_on = read_on;
 }

@@ -36,7 +36,7 @@ returns-clause-written g c =
     let whole : take c.loop-piece.piece-index c.args.pieces.now ≡ c.args.pieces.now =
     take_all c.loop-piece.piece-index c.args.pieces.now (omega (arith, c.loop-piece-test.false)) in
     let all = rw whole at (c.loop-piece.invariant _ (Begins-refl _)) in
-    all.answered.written
+    all.answered.given.written
 
 pub returns-clause-left : goal.returns-clause-left
 returns-clause-left g c =

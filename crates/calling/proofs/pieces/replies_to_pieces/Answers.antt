@@ -37,7 +37,7 @@ returns-clause-replies g c =
     let whole : take c.loop-piece.piece-index c.args.pieces.now ≡ c.args.pieces.now =
     take_all c.loop-piece.piece-index c.args.pieces.now (omega (arith, c.loop-piece-test.false)) in
     let all = rw whole at (c.loop-piece.invariant _ (Begins-refl _)) in
-    all.answered.written.taken
+    all.answered.given.written.taken
 
 pub returns-clause-answered : goal.returns-clause-answered
 returns-clause-answered g c =

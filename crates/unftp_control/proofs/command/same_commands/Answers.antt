@@ -9,9 +9,9 @@ use Rattle.std.proofs.lemmas.Slice.Eq.{bytes_eq-Decides}
 use denote.Enum.Bare.{Bare, sameb, same_true, true_same}
 use denote.Enum.Declared.{Declared}
 use Rattle.unftp_control_defs.specs.FtpCommand as spec
-use Rattle.unftp_control_defs.specs.FtpCommand.{FtpCommand}
-use Rattle.unftp_control_command.specs.CommandMeaning.{command_of}
-use Rattle.unftp_control_command.specs.declared.Command.TheVariants as rust
+use Rattle.unftp_control_defs.specs.NameAndValue.{command_number}
+use Rattle.unftp_control_message.specs.CommandMeaning.{command_of}
+use Rattle.unftp_control_message.specs.declared.Command.TheVariants as rust
 use Rattle.unftp_control_defs.specs.declared.parameters.Opt.{Opt}
 use Rattle.unftp_control_defs.specs.declared.parameters.Opt.TheVariants.{Utf8}
 use Rattle.unftp_control_defs.specs.contracts.parameters.OptPartialEq.TheImpl.{ghosts as of_Opt}
@@ -55,55 +55,6 @@ path-Decides : (a b : Option (String Global)) →
 path-Decides None None = same
 path-Decides (Some s) (Some t) = field (λ x. Some x) (text-Decides s t) (λ e. cc)
 path-Decides _ _ = (λ h. absurd (false≢true h), λ e. cc)
-
--- a number for each variant, no two alike
-abbrev variant : FtpCommand → ℕ
-variant command = elim command [
-  | spec.User _ ↦ 0
-  | spec.Pass _ ↦ 1
-  | spec.Acct _ ↦ 2
-  | spec.Syst ↦ 3
-  | spec.Stat _ ↦ 4
-  | spec.TypeCode ↦ 5
-  | spec.Stru _ ↦ 6
-  | spec.Mode _ ↦ 7
-  | spec.Help ↦ 8
-  | spec.Noop ↦ 9
-  | spec.Pasv ↦ 10
-  | spec.Epsv ↦ 11
-  | spec.Port _ ↦ 12
-  | spec.Retr _ ↦ 13
-  | spec.Stor _ ↦ 14
-  | spec.Appe _ ↦ 15
-  | spec.List _ _ ↦ 16
-  | spec.Nlst _ ↦ 17
-  | spec.Mlst _ ↦ 18
-  | spec.Mlsd _ ↦ 19
-  | spec.Feat ↦ 20
-  | spec.Pwd ↦ 21
-  | spec.Cwd _ ↦ 22
-  | spec.Cdup ↦ 23
-  | spec.Opts _ ↦ 24
-  | spec.Dele _ ↦ 25
-  | spec.Rmd _ ↦ 26
-  | spec.Quit ↦ 27
-  | spec.Mkd _ ↦ 28
-  | spec.Allo ↦ 29
-  | spec.Abor ↦ 30
-  | spec.Stou ↦ 31
-  | spec.Rnfr _ ↦ 32
-  | spec.Rnto _ ↦ 33
-  | spec.Auth _ ↦ 34
-  | spec.Ccc ↦ 35
-  | spec.Pbsz ↦ 36
-  | spec.Prot _ ↦ 37
-  | spec.Size _ ↦ 38
-  | spec.Rest _ ↦ 39
-  | spec.Mdtm _ ↦ 40
-  | spec.Md5 _ ↦ 41
-  | spec.Site _ _ ↦ 42
-  | spec.Other _ _ ↦ 43
-]
 
 pub returns : goal.returns
 returns c (rust.User s) (rust.User t) = field spec.User (bytes_eq-Decides s t) (λ e. cc)
@@ -159,5 +110,5 @@ returns c (rust.Other s u) (rust.Other t w) =
     fields spec.Other (text-Decides s t) (text-Decides u w) (λ e. (cc, cc))
 returns c a b = (
   λ h. absurd (false≢true h),
-  λ e. absurd (true≢false (ap (λ x. variant x == variant (command_of a)) e)),
+  λ e. absurd (true≢false (ap (λ x. command_number x == command_number (command_of a)) e)),
 )

@@ -1,6 +1,5 @@
 use Rattle.unftp_control_defs.specs.Events.{events}
-use Rattle.unftp_control_defs.proofs.RunLemmas.{never_ends, run_of-all, unread-on}
-use Rattle.unftp_control.proofs.RunEndLemmas.{after_end-on}
+use Rattle.unftp_control_defs.proofs.RunLemmas.{after_end-on, never_ends, run_of-all, unread-on}
 use Rattle.unftp_control.proofs.laws.never_done.Goals as goal
 
 pub returns : goal.returns

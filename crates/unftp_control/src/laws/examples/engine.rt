@@ -1,22 +1,18 @@
 //! Snapshots worked out by hand: what the definitions of the clauses of `feed` say of
 //! them.
-ghost use Rattle.std.specs.Prelude.{◌≡◌, ◌+◌, ◌^◌, ◌-◌, ◌≤◌, ℕ, true, false, [], ◌∷◌, None, Some, Ok, Err, length, codes};
+ghost use Rattle.std.specs.Prelude.{◌≡◌, ◌+◌, ◌≤◌, ℕ, true, false, [], ◌∷◌, None, Some, Ok, Err, length, codes};
 ghost use Rattle.std.specs.Io.KnownBytes.{Appends};
 ghost use Rattle.unftp_control_defs.specs.Bytes.{Bytes};
-ghost use Rattle.unftp_control_defs.specs.Events.{Fault, Command, Refused, line_too_long, out_of_memory};
+ghost use Rattle.unftp_control_defs.specs.Events.{Fault, Command, out_of_memory};
 ghost use Rattle.unftp_control_defs.specs.FtpCommand.{User};
 ghost use Rattle.unftp_control_defs.specs.FtpReply.{CodeAndMsg};
-ghost use Rattle.unftp_control_defs.specs.Run.{run_for};
-ghost use Rattle.unftp_control_reply.specs.ErrorMeaning.{fault_of};
-ghost use Rattle.unftp_control_reply.specs.ErrorParts.{KindAndSource};
-ghost use Rattle.unftp_control_serve.specs.Endings.{Snapshot, Finished, Write, Handler, LineMemory, ReplyMemory, IsCauseOf, AllAnswered, EventFailed, RunEnded, RunFailed, NoRoom, OnWrite, OnMemory};
-ghost use Rattle.unftp_control_serve.specs.Decoder.{kept_length, saturating_u64};
-ghost use Rattle.unftp_control_serve.specs.Engine.{EngineState, FailedAfter, bytes_with, fed, has_failed, has_finished, more_left};
-ghost use Rattle.unftp_control.specs.Snapshots.{counter, counter_to_five, noop, silent, snapshot, snapshot_of_any_writer, two_replies, waiting};
+ghost use Rattle.unftp_control_message.specs.ErrorMeaning.{fault_of};
+ghost use Rattle.unftp_control_message.specs.ErrorParts.{KindAndSource};
+ghost use Rattle.unftp_control_serve.specs.Endings.{Snapshot, Finished, Write, Handler, LineMemory, ReplyMemory, IsCauseOf, AllAnswered, EventFailed, RunEnded, RunFailed, NoRoom, OnWrite};
+ghost use Rattle.unftp_control_serve.specs.Engine.{EngineState, FailedAfter, fed};
+ghost use Rattle.unftp_control.specs.Snapshots.{counter, counter_to_five, noop, silent, snapshot, two_replies, waiting};
 ghost use Rattle.unftp_control_serve.specs.declared.engine.Phase.TheVariants as phase;
-ghost use Rattle.unftp_control_serve.specs.Writing.{Begins, Flushed, OneFlush, OneWrite, OutputState, Sends, appended_state_of};
-ghost use Rattle.std.specs.declared.vec.Vec.{Vec};
-ghost use Rattle.std.specs.declared.alloc.Global.{Global};
+ghost use Rattle.unftp_control_serve.specs.Writing.{Begins, Flushed, OneFlush, OneWrite, OutputState, Sends};
 
 use unftp_control_serve::ServeError;
 
@@ -28,15 +24,9 @@ pub fn all_events_are_answered()
     ensures written { (after : Snapshot ℕ)
         → AllAnswered counter (snapshot 3 (codes "x") 1) (noop ∷ noop ∷ []) after
         → Appends (Some (codes "x")) after.output.written (codes "200 OK\r\n200 OK\r\n") }
-    ensures any_writer { (after : Snapshot ℕ)
-        → AllAnswered counter (snapshot_of_any_writer 3 (codes "x") 1) (noop ∷ noop ∷ []) after
-        → after.output.taken ≡ codes "x200 OK\r\n200 OK\r\n" }
     ensures flushed { (after : Snapshot ℕ)
         → AllAnswered counter (snapshot 3 (codes "x") 1) (noop ∷ noop ∷ []) after
         → after.output.unflushed ≡ 0 }
-    ensures quiet { (after : Snapshot ℕ)
-        → AllAnswered counter (snapshot 3 (codes "x") 1) (noop ∷ noop ∷ []) after
-        → (after.output.failures ≡ 0) × (after.failures ≡ 0) }
     ensures none_left { (after : Snapshot ℕ)
         → RunEnded counter (snapshot 3 (codes "x") 1) [] (noop ∷ []) [] Finished after → ⊥ }
 {}
@@ -54,11 +44,6 @@ pub fn writes_are_recorded_so()
     ensures took_nothing { (before after : OutputState)
         → OneWrite {E = ℕ} (Ok 0) (codes "200 OK\r\n") before after
         → before.failures ≡ 1 → after.failures ≡ 2 }
-    ensures forgotten { (before after : OutputState)
-        → OneWrite {E = ℕ} (Ok 2) (codes "200 OK\r\n") before after
-        → before.taken ≡ codes "x" → after.taken ≡ codes "x2" → ⊥ }
-    ensures flushed { (before after : OutputState) → OneFlush {T = ℕ} {E = ℕ} (Ok 0) before after
-        → before.taken ≡ codes "x" → (after.taken ≡ codes "x") × (after.unflushed ≡ 0) }
     ensures not_flushed { (before after : OutputState)
         → OneFlush {T = ℕ} {E = ℕ} (Err 5) before after
         → before.unflushed ≡ 1 → after.unflushed ≡ 0 → ⊥ }
@@ -75,12 +60,6 @@ pub fn a_write_failed_at_a_reply()
         (Write (codes "20"))
         after
         → Appends (Some (codes "x")) after.output.written (codes "200 OK\r\n20") }
-    ensures state { (part : Bytes) (after : Snapshot ℕ)
-        → RunEnded counter (snapshot 3 (codes "x") 1) (noop ∷ []) (noop ∷ []) [] (Write part) after
-        → after.state ≡ 5 }
-    ensures failed { (part : Bytes) (after : Snapshot ℕ)
-        → RunEnded counter (snapshot 3 (codes "x") 1) (noop ∷ []) (noop ∷ []) [] (Write part) after
-        → (after.output.failures ≡ 1) × (after.failures ≡ 0) }
     ensures no_event { (part : Bytes) (after : Snapshot ℕ)
         → RunEnded counter (snapshot 3 (codes "x") 1) (noop ∷ []) [] [] (Write part) after → ⊥ }
 {}
@@ -90,9 +69,6 @@ pub fn the_handler_failed_at_an_event()
     ensures fault { (fault : Fault) (after : Snapshot ℕ)
         → RunEnded counter (snapshot 3 (codes "x") 1) [] (noop ∷ []) [] (Handler fault) after
         → fault ≡ out_of_memory }
-    ensures written { (fault : Fault) (after : Snapshot ℕ)
-        → RunEnded counter (snapshot 3 (codes "x") 1) [] (noop ∷ []) [] (Handler fault) after
-        → Appends (Some (codes "x")) after.output.written [] × (after.output.unflushed ≤ 1) }
     ensures failed { (fault : Fault) (after : Snapshot ℕ)
         → RunEnded counter (snapshot 3 (codes "x") 1) [] (noop ∷ []) [] (Handler fault) after
         → (after.failures ≡ 1) × (after.output.failures ≡ 0) }
@@ -103,9 +79,6 @@ pub fn the_handler_failed_at_an_event()
 /// It stopped between the replies to one event: the first was written and flushed. `two_replies`
 /// answers 150 and then 226.
 pub fn stopped_within_a_turn()
-    ensures fault { (fault : Fault) (after : Snapshot ℕ)
-        → RunEnded two_replies (snapshot 0 [] 0) [] (noop ∷ []) ((CodeAndMsg 150 [], 1) ∷ [])
-        (Handler fault) after → fault ≡ out_of_memory }
     ensures written { (fault : Fault) (after : Snapshot ℕ)
         → RunEnded two_replies (snapshot 0 [] 0) [] (noop ∷ []) ((CodeAndMsg 150 [], 1) ∷ [])
         (Handler fault) after
@@ -136,9 +109,6 @@ pub fn memory_ran_out()
         → (after.state ≡ 4) × Appends (Some (codes "x")) after.output.written [] }
     ensures no_reply { (after : Snapshot ℕ)
         → RunEnded silent (snapshot 3 (codes "x") 1) [] (noop ∷ []) [] ReplyMemory after → ⊥ }
-    ensures quiet { (after : Snapshot ℕ)
-        → RunEnded counter (snapshot 3 (codes "x") 1) [] (noop ∷ []) [] ReplyMemory after
-        → (after.output.failures ≡ 0) × (after.failures ≡ 0) }
 {}
 
 /// Memory ran out for the command of a line: it is the next line of the input, which may take some.
@@ -147,9 +117,6 @@ pub fn memory_ran_out_for_a_line()
         (snapshot 4 (codes "x200 OK\r\n") 0) ServeError.OutOfMemory (noop ∷ []) }
     ensures no_field { (before after : Snapshot ℕ)
         (v : RunFailed None counter before (codes "NOOP\r\nUSER a\r\n") after
-        ServeError.OutOfMemory []) → v.cause ≡ LineMemory → ⊥ }
-    ensures ill_formed { (before after : Snapshot ℕ)
-        (v : RunFailed None counter before (255 ∷ codes "\r\nSITE a\r\n") after
         ServeError.OutOfMemory []) → v.cause ≡ LineMemory → ⊥ }
     ensures too_long { (before after : Snapshot ℕ)
         (v : RunFailed (Some 7) counter before (codes "USER a\r\n") after
@@ -164,14 +131,10 @@ pub fn an_event_fails()
     ensures handler { (before after : Snapshot ℕ) (error : KindAndSource)
         → EventFailed counter before noop after (ServeError.Handler error)
         → after.failures ≡ before.failures + 1 }
-    ensures run { (before after : Snapshot ℕ) (error : KindAndSource)
-        → RunFailed None counter before (codes "NOOP\r\n") after (ServeError.Handler error) []
-        → after.failures ≡ before.failures + 1 }
 {}
 
 /// What may be unflushed, and what a text begins with.
 pub fn flushes_and_beginnings()
-    ensures no_text { (unflushed : ℕ) → Flushed [] (codes "ab") 1 unflushed → unflushed ≤ 3 }
     ensures a_text { (unflushed : ℕ) → Flushed (codes "x") (codes "ab") 1 unflushed
         → unflushed ≤ 2 }
     ensures other_bytes { Begins (codes "ab") (codes "b") → ⊥ }
@@ -202,14 +165,6 @@ pub fn an_engine_is_fed()
     } }
     ensures at_the_limit { (fed counter 3 (waiting (Some 5)) (codes "OP")).buffered ≡ 4 }
     ensures over_the_limit { (fed counter 3 (waiting (Some 4)) (codes "OP")).buffered ≡ 0 }
-    ensures too_long { run_for (Some 5) counter 3 (bytes_with (waiting (Some 5)) (codes "OP\r\nP"))
-        ≡ Refused line_too_long ∷ [] }
-    ensures more_left { (more_left (waiting None) (codes "OP")).left ≡ 4 }
-    ensures phases { (has_failed phase.Failed ≡ true) × (has_failed phase.Finished ≡ false)
-        × (has_finished phase.Finished ≡ true) × (has_finished phase.Running ≡ false) }
-    ensures kept { (kept_length None (codes "NOOP") ≡ 4) × (kept_length (Some 5) (codes "NOOP") ≡ 4)
-        × (kept_length (Some 4) (codes "NOOP") ≡ 0) }
-    ensures saturating_u64 { (saturating_u64 5 ≡ 5) × (saturating_u64 (2 ^ 64) ≡ 2 ^ 64 - 1) }
 {}
 
 /// What an error leaves of it; and there is no lack of memory for no piece, and no other error
@@ -222,26 +177,19 @@ pub fn an_engine_fails()
         → ⊥ }
     ensures other_error { (before after : Snapshot ℕ)
         → NoRoom ServeError.WriteZero (codes "OP") before after → ⊥ }
-    ensures same { (before after : Snapshot ℕ)
-        → NoRoom ServeError.OutOfMemory (codes "OP") before after → after ≡ before }
 {}
 
 /// Which errors mean which cause.
 pub fn errors_of_feed()
-    ensures write { (part : Bytes) (error : _) → IsCauseOf (Write part) (ServeError.Write error) }
     ensures write_zero { (part : Bytes) → IsCauseOf (Write part) ServeError.WriteZero }
     ensures handler { (fault : Fault) (error : KindAndSource)
         → IsCauseOf (Handler fault) (ServeError.Handler error) → fault ≡ fault_of error }
     ensures memory { IsCauseOf LineMemory ServeError.OutOfMemory
         × IsCauseOf ReplyMemory ServeError.OutOfMemory }
     ensures finished { IsCauseOf Finished ServeError.OutOfMemory → ⊥ }
-    ensures another { (part : Bytes) → IsCauseOf (Write part) ServeError.OutOfMemory → ⊥ }
     ensures stopped { IsCauseOf LineMemory ServeError.Stopped → ⊥ }
-    ensures reads { (error : _) → IsCauseOf ReplyMemory (ServeError.Read error) → ⊥ }
     // the clauses on a sink promise what they say at these errors
     ensures on_write { (error : _) → OnWrite {T = ℕ} (Err (ServeError.Write error)) ⊥ → ⊥ }
-    ensures on_write_zero { OnWrite {T = ℕ} (Err ServeError.WriteZero) ⊥ → ⊥ }
-    ensures on_memory { OnMemory {T = ℕ} (Err ServeError.OutOfMemory) ⊥ → ⊥ }
 {}
 
 /// What each error of a sending means: the writer failed, or nothing was written.
@@ -249,18 +197,8 @@ pub fn sendings_fail()
     ensures write { (before after : OutputState) (error : _)
         → Sends {T = ℕ} (Err (ServeError.Write error)) (codes "x") before after
         → after.failures ≡ before.failures + 1 }
-    ensures write_zero { (before after : OutputState)
-        → Sends {T = ℕ} (Err ServeError.WriteZero) (codes "x") before after
-        → after.failures ≡ before.failures + 1 }
     ensures memory { (before after : OutputState)
         → Sends {T = ℕ} (Err ServeError.OutOfMemory) (codes "x") before after → after ≡ before }
     ensures stopped { (before after : OutputState)
         → Sends {T = ℕ} (Err ServeError.Stopped) (codes "x") before after → ⊥ }
-{}
-
-/// What replies are appended to: its bytes are those that were written.
-pub fn replies_are_appended()
-    ensures written { (bytes : Vec ℕ Global)
-        → (appended_state_of bytes).written ≡ Some bytes.items }
-    ensures quiet { (bytes : Vec ℕ Global) → (appended_state_of bytes).failures ≡ 0 }
 {}

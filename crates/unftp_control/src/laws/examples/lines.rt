@@ -1,7 +1,7 @@
 //! Lines of events worked out by hand, and which events refuse a line for its length.
 ghost use Rattle.std.specs.Prelude.{◌≡◌, [], None, Ok, Some, codes, false, true};
-ghost use Rattle.unftp_control_defs.specs.Events.{Command, Refused, line_too_long, out_of_memory, refusal_fault};
-ghost use Rattle.unftp_control_defs.specs.FtpCommand.{InvalidCommand, Noop, TypeCode};
+ghost use Rattle.unftp_control_defs.specs.Events.{Command, Refused, line_too_long, refusal_fault};
+ghost use Rattle.unftp_control_defs.specs.FtpCommand.{InvalidCommand, TypeCode};
 ghost use Rattle.unftp_control_serve.specs.Decoder.{line_after, no_bytes, pushed};
 ghost use Rattle.unftp_control_serve.specs.EventMeaning.{event_meant, refuses_length};
 ghost use Rattle.unftp_control_serve.specs.declared.event.Event.{Event};
@@ -10,8 +10,6 @@ ghost use Rattle.unftp_control_serve.specs.declared.event.Event.{Event};
 pub fn events_say_that_a_line_is_too_long()
     ensures too_long { refuses_length (Refused line_too_long) ≡ true }
     ensures other_refusal { refuses_length (Refused (refusal_fault InvalidCommand)) ≡ false }
-    ensures no_memory { refuses_length (Refused out_of_memory) ≡ false }
-    ensures command { refuses_length (Command Noop) ≡ false }
 {}
 
 /// The line of an event is what was taken of the pending bytes, with its line feed.
@@ -22,6 +20,4 @@ pub fn a_line_is_returned()
     ensures too_long { (event : Event) → event_meant event ≡ Refused line_too_long
         → line_after {E = Unit {0}} (pushed (no_bytes (Some 7)) (codes "TYPE A\r\nNO"))
         (Ok (Some event)) (pushed (no_bytes (Some 7)) (codes "NO")) ≡ [] }
-    ensures no_event { line_after {E = Unit {0}} (pushed (no_bytes None) (codes "TYPE A"))
-        (Ok None) (pushed (no_bytes None) (codes "TYPE A")) ≡ [] }
 {}

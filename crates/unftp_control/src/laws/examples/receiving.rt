@@ -8,35 +8,26 @@ ghost use Rattle.unftp_control_read.specs.declared.errors.ReceiveError.TheVarian
 /// Nothing was read, or only a part of a reply was there before the last piece.
 pub fn these_reads_are_needed()
     ensures none { IsNeeded (appended (no_bytes None) (codes "211 a\r\n")) [] }
-    ensures first { IsNeeded (no_bytes None) (codes "211 a\r\n" ∷ []) }
     ensures line_end { IsNeeded (appended (no_bytes None) (codes "211 a\r")) (codes "\n2" ∷ []) }
     ensures limit { IsNeeded (appended (no_bytes (Some 7)) (codes "211 a\r")) (codes "\n" ∷ []) }
-    ensures second { IsNeeded (no_bytes None) (codes "211 a\r" ∷ codes "\n2" ∷ []) }
 {}
 
 /// A reply was there already, or as many bytes as it may have.
 pub fn these_reads_are_not_needed()
     ensures whole { ¬ IsNeeded (appended (no_bytes None) (codes "211 a\r\n")) (codes "2" ∷ []) }
     ensures long { ¬ IsNeeded (appended (no_bytes (Some 6)) (codes "211 a\r")) (codes "\n" ∷ []) }
-    ensures one_more { ¬ IsNeeded (no_bytes None) (codes "211 a\r\n" ∷ codes "2" ∷ []) }
 {}
 
 /// What an error means for the pending bytes.
 pub fn these_failures_are_so()
     ensures read { (error : IoError) → HasFailure None (codes "211 a\r") (Read error) }
-    ensures read_below_the_limit { (error : IoError)
-        → HasFailure (Some 7) (codes "211 a\r") (Read error) }
     ensures read_at_the_limit { (error : IoError)
         → ¬ HasFailure (Some 6) (codes "211 a\r") (Read error) }
-    ensures read_after_a_reply { (error : IoError)
-        → ¬ HasFailure None (codes "211 a\r\n") (Read error) }
     ensures memory_for_a_reply { HasFailure None (codes "211 a\r\n") OutOfMemory }
-    ensures memory_for_a_read { HasFailure None (codes "211 a\r") OutOfMemory }
     ensures no_memory { ¬ HasFailure (Some 6) (codes "211 a\r") OutOfMemory }
     ensures too_long { HasFailure (Some 6) (codes "211 a\r") TooLong }
     ensures not_too_long { ¬ HasFailure (Some 7) (codes "211 a\r") TooLong }
     ensures malformed { HasFailure None (codes "a\r\n") Malformed }
     ensures not_malformed { ¬ HasFailure None (codes "211 a\r\n") Malformed }
-    ensures beyond_the_limit { ¬ HasFailure (Some 2) (codes "a\r\n") Malformed }
     ensures never { ¬ HasFailure None (codes "211 a\r") TooManyReads }
 {}

@@ -1,5 +1,5 @@
 //! Snapshots worked out by hand: what the definitions of the clauses of `serve` say of them.
-ghost use Rattle.std.specs.Prelude.{◌≡◌, ◌+◌, ◌-◌, ◌^◌, ◌<◌, ◌≤◌, ◌⊎◌, ℕ, true, false, [], ◌∷◌, ◌++◌, IsSomeAnd, List, None, Option, Some, length, codes};
+ghost use Rattle.std.specs.Prelude.{◌≡◌, ◌+◌, ◌⊎◌, ℕ, true, false, [], ◌∷◌, List, None, Option, Some, codes};
 ghost use Rattle.std.specs.List.{concat};
 ghost use Rattle.std.specs.Io.KnownBytes.{Appends, IsAtEnd};
 ghost use Rattle.unftp_control_defs.specs.Bytes.{Bytes};
@@ -7,11 +7,10 @@ ghost use Rattle.unftp_control_defs.specs.Events.{events};
 ghost use Rattle.unftp_control_defs.specs.FtpReply.{CodeAndMsg};
 ghost use Rattle.unftp_control_defs.specs.Input.{InputState};
 ghost use Rattle.unftp_control_defs.specs.ReplyReader.{ReadsBack};
-ghost use Rattle.unftp_control_reply.specs.ErrorParts.{KindAndSource};
 ghost use Rattle.unftp_control_serve.specs.Endings.{Snapshot, AllAnswered};
 ghost use Rattle.unftp_control.specs.RunEnd.{EndsAfter, EndsNowhere};
 ghost use Rattle.unftp_control.specs.Snapshots.{counter, counter_to_five, noop, snapshot, snapshot_of_any_writer};
-ghost use Rattle.unftp_control_serve.specs.Service.{AnsweredAll, EndsInLast, EndedLate, NoRoomForPiece, ReadFailed, ReadTooOften, ServeEnded, Serves, ServesKnown, most_held};
+ghost use Rattle.unftp_control_serve.specs.Service.{AnsweredAll, EndsInLast, EndedLate, NoRoomForPiece, ReadFailed, ServeEnded, Serves, ServesKnown, most_held};
 ghost use Rattle.unftp_control_serve.specs.Writing.{Begins};
 ghost use Rattle.unftp_control_serve.specs.declared.service.Served.{Served};
 
@@ -22,26 +21,10 @@ pub fn errors_of_serve()
     ensures read { (before after : Snapshot ℕ) (input input_after : InputState) (error : _)
         → ServeEnded None counter before after input input_after (ServeError.Read error)
         → ReadFailed None counter before after input input_after }
-    ensures write { (before after : Snapshot ℕ) (input input_after : InputState) (error : _)
-        → ServeEnded None counter before after input input_after (ServeError.Write error)
-        → EndedLate None counter before after input input_after (ServeError.Write error) }
-    ensures write_zero { (before after : Snapshot ℕ) (input input_after : InputState)
-        → ServeEnded None counter before after input input_after ServeError.WriteZero
-        → EndedLate None counter before after input input_after ServeError.WriteZero }
-    ensures handler { (before after : Snapshot ℕ) (input input_after : InputState)
-        (error : KindAndSource)
-        → ServeEnded None counter before after input input_after (ServeError.Handler error)
-        → EndedLate None counter before after input input_after (ServeError.Handler error) }
     ensures memory { (before after : Snapshot ℕ) (input input_after : InputState)
         → ServeEnded None counter before after input input_after ServeError.OutOfMemory
         → NoRoomForPiece None counter before after input input_after
         ⊎ EndedLate None counter before after input input_after ServeError.OutOfMemory }
-    ensures many_reads { (before after : Snapshot ℕ) (input input_after : InputState)
-        → ServeEnded None counter before after input input_after ServeError.TooManyReads
-        → ReadTooOften None counter before after input input_after }
-    ensures many { (before after : Snapshot ℕ) (input input_after : InputState)
-        (v : ReadTooOften None counter before after input input_after)
-        → 2 ^ 64 - 1 ≤ length (concat v.pieces) }
     ensures stopped { (before after : Snapshot ℕ) (input input_after : InputState)
         → ServeEnded None counter before after input input_after ServeError.Stopped → ⊥ }
     // the lines that were read before the last piece are answered
@@ -61,15 +44,6 @@ pub fn failed_reads_are_counted()
     ensures late { (before after : Snapshot ℕ) (input input_after : InputState) (error : ServeError)
         → EndedLate None counter before after input input_after error
         → input_after.failures ≡ input.failures }
-    ensures no_room { (before after : Snapshot ℕ) (input input_after : InputState)
-        → NoRoomForPiece None counter before after input input_after
-        → input_after.failures ≡ input.failures }
-    ensures too_often { (before after : Snapshot ℕ) (input input_after : InputState)
-        → ReadTooOften None counter before after input input_after
-        → input_after.failures ≡ input.failures }
-    ensures ok { (before after : Snapshot ℕ) (input input_after : InputState) (served : Served)
-        → AnsweredAll None counter before after input input_after served
-        → input_after.failures ≡ input.failures }
 {}
 
 /// An input without its last line feed that was served whole.
@@ -83,10 +57,6 @@ pub fn an_input_is_served()
         → ServesKnown None counter (snapshot 3 (codes "x") 1) after remaining served
         (codes "NOOP\r\nNO")
         → ReadsBack (codes "200 OK\r\n") (CodeAndMsg 200 (codes "OK") ∷ []) }
-    ensures rest { (after : Snapshot ℕ) (remaining : Option Bytes) (served : Served)
-        → ServesKnown None counter (snapshot 3 (codes "x") 1) after remaining served
-        (codes "NOOP\r\nNO")
-        → remaining ≡ Some [] }
     ensures any_reader { (before after : Snapshot ℕ) (input : InputState) (served : Served)
         → served.done ≡ false
         → AnsweredAll None counter before after
@@ -98,10 +68,6 @@ pub fn an_input_is_served()
         }) input served
         → AllAnswered counter before (noop ∷ []) after × IsAtEnd input.remaining
         × (input.failures ≡ 2) }
-    ensures read_to_the_end { (before after : Snapshot ℕ) (input input_after : InputState)
-        (served : Served) → served.done ≡ false
-        → AnsweredAll None counter before after input input_after served
-        → (reads : List ℕ) × (input_after.reads ≡ reads ++ 0 ∷ []) }
     // a read that gave nothing is the last one
     ensures read_no_more { (before after : Snapshot ℕ) (input input_after : InputState)
         (served : Served) → AnsweredAll None counter before after input input_after served
@@ -131,7 +97,6 @@ pub fn any_stream_is_served()
 /// Where a run ends: at the fifth event, and nowhere where there are fewer.
 pub fn a_run_ends_so()
     ensures nowhere { EndsNowhere counter_to_five 3 (noop ∷ []) }
-    ensures somewhere { EndsNowhere counter_to_five 3 (noop ∷ noop ∷ noop ∷ []) → ⊥ }
     ensures after { EndsAfter counter_to_five 3 (noop ∷ noop ∷ noop ∷ []) (noop ∷ []) noop }
     ensures not_before { EndsAfter counter_to_five 3 (noop ∷ noop ∷ noop ∷ []) [] noop → ⊥ }
     ensures not_later { EndsAfter counter_to_five 3 (noop ∷ noop ∷ noop ∷ []) (noop ∷ noop ∷ [])
@@ -148,10 +113,6 @@ pub fn a_session_is_ended()
     ensures other_rest { (before after : Snapshot ℕ) (served : Served)
         → ServesKnown None counter_to_five before after (Some (codes "XX")) served
         (codes "NOOP\r\nNOOP\r\nNO") → ⊥ }
-    ensures not_read { (after : Snapshot ℕ) (served : Served) (remaining : Option Bytes)
-        → ServesKnown None counter_to_five (snapshot 4 (codes "x") 1) after remaining served
-        (codes "NOOP\r\nNO")
-        → served.left ≡ 0 → remaining ≡ Some (codes "NO") }
     ensures going_on { (after : Snapshot ℕ) (input input_after : InputState) (served : Served)
         (all : AnsweredAll None counter_to_five (snapshot 4 (codes "x") 0) after input input_after
         served)
@@ -164,9 +125,7 @@ pub fn a_session_is_ended()
 
 /// What is held of pieces: of a line that is too long nothing is kept after its piece.
 pub fn pieces_are_held_so()
-    ensures nothing { most_held (Some 6) [] [] ≡ 0 }
     ensures limited { most_held (Some 6) [] (codes "NOOP" ∷ codes " XY" ∷ codes "Z\n" ∷ []) ≡ 7 }
     ensures at_the_limit { most_held (Some 8) [] (codes "NOOP" ∷ codes " XY" ∷ codes "\n" ∷ [])
         ≡ 8 }
-    ensures no_limit { most_held None [] (codes "NOOP" ∷ codes " XY" ∷ codes "Z\n" ∷ []) ≡ 9 }
 {}

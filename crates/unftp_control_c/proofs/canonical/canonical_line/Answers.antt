@@ -1,5 +1,5 @@
 use Rattle.std.proofs.Common.{Err, refl, sym, ap, subst, ◌∙◌}
-use Rattle.unftp_control_command.specs.CommandMeaning.{command_of}
+use Rattle.unftp_control_message.specs.CommandMeaning.{command_of}
 use Rattle.unftp_control_defs.specs.Canonical.{canonical_line}
 use Rattle.unftp_control_defs.proofs.CommandLineLemmas.{HasLine-outcome}
 use Rattle.unftp_control_c.specs.Numbers.{kind_status}

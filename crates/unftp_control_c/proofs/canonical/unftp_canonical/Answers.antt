@@ -1,21 +1,27 @@
-use Rattle.std.proofs.Common.{sym, ap, ◌∙◌}
-use Rattle.unftp_control_c.proofs.CanonicalLineLemmas.{never_no_line, canonical_back, memory_taken}
+use Rattle.std.proofs.Common.{◌≡◌, sym, ap, subst, ◌∙◌}
+use Rattle.unftp_control_defs.specs.Outcome.{outcome}
+use Rattle.unftp_control_c.specs.declared.status.Status.TheVariants.{NoLine, OutOfMemory}
+use Rattle.unftp_control_c.specs.CanonicalLines.{IsCanonical}
+use Rattle.unftp_control_c.proofs.AreaLemmas.{made_text, why_none, written_text}
+use Rattle.unftp_control_c.proofs.CanonicalLineLemmas.{has_line, not_done}
 use Rattle.unftp_control_c.proofs.canonical.unftp_canonical.Goals as goal
 
 pub returns-clause-has_line : goal.returns-clause-has_line
-returns-clause-has_line c = λ is_line none. never_no_line c.args.out.now
-    c.canonical_line.ensures.canonical is_line (sym (ap (λ filled. filled.result) c.write.ensures)
-    ∙ none)
+returns-clause-has_line c = λ is_line none.
+    let why = why_none _ c.args.out.now NoLine (λ e. cc) (λ e. cc)
+    (sym (ap (λ filled. filled.result) c.write.ensures) ∙ none) in
+    has_line (subst (IsCanonical c.args.line.now) why c.canonical_line.ensures.canonical) is_line
 
 pub returns-clause-memory : goal.returns-clause-memory
-returns-clause-memory c =
-    λ out. memory_taken c.args.out.now _ c.canonical_line.ensures.canonical
-    c.canonical_line.ensures.memory (sym (ap (λ filled. filled.result) c.write.ensures) ∙ out)
+returns-clause-memory c = λ out. c.canonical_line.ensures.memory
+    (why_none _ c.args.out.now OutOfMemory (λ e. cc) (λ e. cc)
+    (sym (ap (λ filled. filled.result) c.write.ensures) ∙ out))
 
 pub returns-clause-read_back : goal.returns-clause-read_back
 returns-clause-read_back c = λ done.
     let left = c.write.ensures in
     rw (ap (λ filled. filled.text_length) left, ap (λ filled. filled.area) left)
-    (canonical_back c.args.out.now c.canonical_line.result
-    c.canonical_line.ensures.canonical c.canonical_line.ensures.read_back
-    (sym (ap (λ filled. filled.result) left) ∙ done))
+    (written_text (λ text. outcome text ≡ outcome c.args.line.now) c.args.out.now _
+    (λ e. not_done (subst (IsCanonical c.args.line.now) e c.canonical_line.ensures.canonical))
+    (made_text (λ text. outcome text ≡ outcome c.args.line.now) c.canonical_line.result
+    c.canonical_line.ensures.read_back) (sym (ap (λ filled. filled.result) left) ∙ done))

@@ -4,4 +4,4 @@ use Rattle.unftp_control_c.proofs.examples.calls_leave.Goals as goal
 
 pub returns-clause-memory : goal.returns-clause-memory
 unfolding is_utf8 chars lib.Utf8.encode
-returns-clause-memory c = inr ((6, refl, refl, refl, search rules), refl)
+returns-clause-memory c = inr ((7, refl, refl, search rules), refl)

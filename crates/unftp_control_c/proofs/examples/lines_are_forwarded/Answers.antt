@@ -1,14 +1,16 @@
-use Rattle.std.proofs.Common.{◌≡◌, ℕ, true, false, Ok, Err, codes, [], ◌∷◌, refl, ap, ◌∙◌, arith}
+use Rattle.std.proofs.Common.{◌≡◌, ℕ, Ok, Err, codes, [], ◌∷◌, refl, ap, ◌∙◌, arith}
+use Rattle.std.proofs.lemmas.Bool.{false≢true}
 use Rattle.std.specs.Str.{is_utf8, chars}
 use Rattle.std.specs.Str.Lossy.{utf8_lossy, utf8_valid_len, utf8_error_len}
-use Rattle.unftp_control_defs.specs.FtpCommand.{FtpCommand, Noop, TypeCode, InvalidCommand, InvalidUtf8, InvalidEol}
+use Rattle.unftp_control_defs.specs.FtpCommand.{FtpCommand, Noop, TypeCode, InvalidCommand}
 use Rattle.unftp_control_defs.specs.Bytes.{Bytes}
 use Rattle.unftp_control_defs.specs.Forwarded.{forwarded_line}
 use Rattle.unftp_control_defs.specs.Outcome.{outcome}
-use Rattle.unftp_control_defs.proofs.LineLemmas.{Lines-lines_of, line_first}
+use Rattle.unftp_control_defs.proofs.LineLemmas.{line_first}
 use Rattle.unftp_control_c.specs.ForwardedLines.{IsForwardedLine, forwarded, not_a_line, refused, out_of_memory}
 use Rattle.unftp_control_c.specs.Areas.{Made}
 use Rattle.unftp_control_c.specs.declared.status.Status.TheVariants as status
+use Rattle.unftp_control_c.proofs.ForwardedLineLemmas.{has_command}
 use Rattle.unftp_control_c.proofs.examples.lines_are_forwarded.Goals as goal
 
 -- the sixth byte of a line, in which these differ
@@ -34,14 +36,6 @@ other_parameter (not_a_line not e) = cc
 other_parameter (refused refusal read e) = cc
 other_parameter (out_of_memory has_command e) = cc
 
-line_feed : IsForwardedLine (codes "TYPE A\n") (Err status.NoLine) → ⊥
-line_feed (forwarded command read e) = cc
-line_feed (not_a_line not e) = not (Lines-lines_of (codes "TYPE A\n")).each.0
-line_feed (refused InvalidCommand read e) = cc
-line_feed (refused InvalidUtf8 read e) = cc
-line_feed (refused InvalidEol read e) = cc
-line_feed (out_of_memory has_command e) = cc
-
 no_refusal : IsForwardedLine (codes "NOOP\r\n") (Err status.InvalidEol) → ⊥
 unfolding is_utf8 chars utf8_lossy utf8_valid_len utf8_error_len lib.Utf8.encode
 no_refusal (forwarded command read e) = cc
@@ -49,34 +43,12 @@ no_refusal (not_a_line not e) = cc
 no_refusal (refused refusal read e) = let is : outcome (codes "NOOP\r\n") ≡ Ok Noop = refl in cc
 no_refusal (out_of_memory has_command e) = cc
 
-no_memory : IsForwardedLine (255 ∷ codes "\r\n") (Err status.OutOfMemory) → ⊥
-unfolding is_utf8 chars utf8_lossy utf8_valid_len utf8_error_len lib.Utf8.encode
-no_memory (forwarded command read e) = cc
-no_memory (not_a_line not e) = cc
-no_memory (refused InvalidCommand read e) = cc
-no_memory (refused InvalidUtf8 read e) = cc
-no_memory (refused InvalidEol read e) = cc
-no_memory (out_of_memory has_command e) = let not : false ≡ true = has_command in cc
-
-no_value : IsForwardedLine (codes "NOOP a\r\n") (Err status.OutOfMemory) → ⊥
-unfolding is_utf8 chars utf8_lossy utf8_valid_len utf8_error_len lib.Utf8.encode
-no_value (forwarded command read e) = cc
-no_value (not_a_line not e) = cc
-no_value (refused InvalidCommand read e) = cc
-no_value (refused InvalidUtf8 read e) = cc
-no_value (refused InvalidEol read e) = cc
-no_value (out_of_memory has_command e) = let not : false ≡ true = has_command in cc
-
 pub returns : goal.returns
 unfolding is_utf8 chars utf8_lossy utf8_valid_len utf8_error_len lib.Utf8.encode
 returns c = record {
   parameter = forwarded TypeCode refl refl;
   other_parameter = other_parameter;
   no_line_feed = not_a_line (λ line. let all = (line_first (codes "TYPE A") [] line).0 in cc) refl;
-  line_feed = line_feed;
   refusal = refused InvalidCommand refl refl;
-  no_refusal = no_refusal;
-  memory = out_of_memory refl refl;
-  refused_verb = no_memory;
-  refused_value = no_value;
+  refused_value = λ is. false≢true (has_command is);
 }

@@ -1,5 +1,6 @@
 use Rattle.std.proofs.Common.{inl, sym, ◌∙◌}
-use Rattle.unftp_control_c.proofs.NextLemmas.{call_with, complete_left, incomplete_left, too_long_left}
+use Rattle.unftp_control_codecs.specs.declared.FirstLine.TheVariants.{Incomplete}
+use Rattle.unftp_control_c.proofs.NextLemmas.{call_with, complete_left, found_left, too_long_left}
 use Rattle.unftp_control_c.proofs.next.take_first.Goals as goal
 
 pub returns-in-Incomplete-clause-leaves : goal.returns-in-Incomplete-clause-leaves
@@ -7,7 +8,7 @@ returns-in-Incomplete-clause-leaves c =
     let call = call_with c.args.connection.now c.args.bytes.now c.args.area.now in
     inl (c.report.ensures call.bytes call.area
     ∙ rw (c.in-Incomplete.ensures.codec, c.requires.codec)
-    (sym (incomplete_left call c.requires.valid c.in-Incomplete.dropped
+    (sym (found_left call c.requires.valid (Incomplete c.in-Incomplete.dropped)
     (rw c.requires.codec at c.in-Incomplete.ensures.found))))
 
 pub returns-in-TooLong-clause-leaves : goal.returns-in-TooLong-clause-leaves

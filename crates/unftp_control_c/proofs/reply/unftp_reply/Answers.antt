@@ -1,9 +1,9 @@
-use Rattle.std.proofs.Common.{Ok, Err, refl, sym, ap, subst, ◌∙◌}
+use Rattle.std.proofs.Common.{Ok, Err, refl, sym, subst}
 use Rattle.std.proofs.lemmas.Bool.{false≢true}
 use Rattle.unftp_control_defs.specs.Bytes.{LF, Lacks}
 use Rattle.unftp_control_defs.specs.FtpReply.{CodeAndMsg, encoded}
 use Rattle.unftp_control_c.specs.declared.status.Status.TheVariants.{InvalidUtf8, UnknownCode}
-use Rattle.unftp_control_c.specs.Areas.{Made, made}
+use Rattle.unftp_control_c.specs.Areas.{made}
 use Rattle.unftp_control_c.specs.Replies.{not_utf8, unknown_code}
 use Rattle.unftp_control_c.proofs.ReplyLemmas.{line_encodes, lines_encode, reads_back}
 use Rattle.unftp_control_c.proofs.reply.unftp_reply.Goals as goal
@@ -31,16 +31,8 @@ returns-then-is_one_line-clause-writes c =
     )
 
 pub returns-then-is_one_line-clause-read_back : goal.returns-then-is_one_line-clause-read_back
-returns-then-is_one_line-clause-read_back c = λ done.
-    let code = c.if-not-is_reply_code.ensures.0 refl in
-    let text = c.in-Ok.ensures.cases in
-    let one = subst (Lacks LF) text.0 (c.if-is_one_line.ensures.0 refl) in
-    let left = c.write_line.ensures in
-    let bytes : Made = Ok (encoded (CodeAndMsg c.args.code c.args.text.now)) in
-    rw (ap (λ filled. filled.text_length) left, ap (λ filled. filled.area) left, text.0)
-    (reads_back c.args.out.now
-    (line_encodes code text.1 one)
-    (rw (← text.0) (sym (ap (λ filled. filled.result) left) ∙ done)))
+returns-then-is_one_line-clause-read_back c =
+    reads_back _ _ _ _ (returns-then-is_one_line-clause-writes c)
 
 pub returns-clause-writes : goal.returns-clause-writes
 returns-clause-writes c =
@@ -55,15 +47,4 @@ returns-clause-writes c =
     )
 
 pub returns-clause-read_back : goal.returns-clause-read_back
-returns-clause-read_back c = λ done.
-    let code = c.if-not-is_reply_code.ensures.0 refl in
-    let text = c.in-Ok.ensures.cases in
-    let several = λ (one : Lacks LF c.args.text.now). false≢true
-    (c.if-is_one_line.ensures.1 (subst (Lacks LF) (sym text.0) one)) in
-    let left = c.write-2.ensures in
-    rw (ap (λ filled. filled.text_length) left, ap (λ filled. filled.area) left)
-    (reads_back c.args.out.now
-    (lines_encode c.encoded_lines.result text.0 code text.1 several
-    c.encoded_lines.ensures.ok
-    c.encoded_lines.ensures.err)
-    (sym (ap (λ filled. filled.result) left) ∙ done))
+returns-clause-read_back c = reads_back _ _ _ _ (returns-clause-writes c)

@@ -1,5 +1,5 @@
 use Rattle.std.proofs.Common.{rules}
-use Rattle.unftp_control_command.specs.CommandMeaning.{command_of}
+use Rattle.unftp_control_message.specs.CommandMeaning.{command_of}
 use Rattle.unftp_control_defs.proofs.CommandLineLemmas.{HasLine-outcome}
 use Rattle.unftp_control_line_parser.proofs.parser.parse.Goals as goal
 

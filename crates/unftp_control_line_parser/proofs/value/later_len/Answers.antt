@@ -1,9 +1,6 @@
 use Rattle.std.proofs.Common.{◌+◌, sym, subst, ◌∙◌}
-use Rattle.unftp_control_line_parser.proofs.SeenLemmas.{IsSeen, seen_none, seen_more, seen_returned, seen_last}
+use Rattle.unftp_control_line_parser.proofs.SeenLemmas.{IsSeen, seen_more, seen_returned, seen_last}
 use Rattle.unftp_control_line_parser.proofs.value.later_len.Goals as goal
-
-pub parts-init : goal.parts-init
-parts-init c = seen_none c.args.bytes.now
 
 pub parts-preserved-then-begins_with_cr_nul : goal.parts-preserved-then-begins_with_cr_nul
 parts-preserved-then-begins_with_cr_nul c =

@@ -1,4 +1,4 @@
-use Rattle.std.proofs.Common.{rules, ◌∙◌, sym}
+use Rattle.std.proofs.Common.{◌∙◌, sym}
 use Rattle.std.proofs.lemmas.Bool.{false≢true}
 use Rattle.unftp_control_line_parser.proofs.SeenLemmas.{front_value, front_whole}
 use Rattle.unftp_control_line_parser.proofs.value.parameter_value.Goals as goal
@@ -9,9 +9,6 @@ escaped_value-requires-in-Continued-clause-whole c =
     front_whole c.args.parameter.now
     (sym c.begins_with_cr_nul.ensures ∙ c.if-begins_with_cr_nul.false)
     (rw c.split_at.ensures.back at c.in-Continued.ensures)
-
-pub returns-in-Last : goal.returns-in-Last
-returns-in-Last c = search rules
 
 pub returns-in-Continued : goal.returns-in-Continued
 returns-in-Continued c =

@@ -11,9 +11,6 @@ returns-in_default c = c.in_ok-extend_from_slice.ensures.items
     (sym (unescaped_lacking c.parts.rest.now (lacks_all c.parts.rest.now c.in_default.ensures)))
     ∙ sym c.parts.invariant.value
 
-pub overflow_add-end : goal.overflow_add-end
-overflow_add-end c = omega (arith, c.in-Some.ensures.0.high, c.parts.invariant.within)
-
 pub parts-preserved : goal.parts-preserved
 parts-preserved c =
     let e = c.in-Some.ensures in
@@ -35,12 +32,6 @@ parts-preserved c =
           ∙ (λ i. taken i ++ unescaped (left i));
       within = omega (arith, short, c.parts.invariant.within);
     }
-
-pub parts-smaller : goal.parts-smaller
-parts-smaller c =
-    let e = c.in-Some.ensures in
-    rest_short c.parts.rest.now c.split_at-else-begins_with_cr_nul.result.1.now c.after_nul-rest.result.now
-    c.in-Some.end e.0.high c.split_at-else-begins_with_cr_nul.ensures.back c.after_nul-rest.ensures
 
 pub parts-preserved-then-begins_with_cr_nul : goal.parts-preserved-then-begins_with_cr_nul
 parts-preserved-then-begins_with_cr_nul c =

@@ -1,7 +1,6 @@
 use Rattle.std.proofs.Common.{[], ◌∷◌, ◌++◌, refl}
-use Rattle.unftp_control_defs.specs.FtpCommand.{Auth, Noop, Pwd}
+use Rattle.unftp_control_defs.specs.FtpCommand.{Noop, Pwd}
 use Rattle.unftp_control_defs.specs.Events.{Command}
-use Rattle.unftp_control_defs.specs.declared.parameters.AuthParam.TheVariants.{Tls}
 use Rattle.unftp_control_login.specs.Examples.{anna, login, only_anna, pass, secret, user, wrong}
 use Rattle.unftp_control_login.proofs.ExampleLemmas.{not-logged-in, name-changed}
 use Rattle.unftp_control_login.proofs.examples.a_client_logs_in.Goals as goal
@@ -20,9 +19,6 @@ returns-clause-member c = record {
 pub returns-clause-nothing_sent : goal.returns-clause-nothing_sent
 returns-clause-nothing_sent c = not-logged-in only_anna [] refl
 
-pub returns-clause-name_only : goal.returns-clause-name_only
-returns-clause-name_only c = not-logged-in only_anna (user anna ∷ []) refl
-
 pub returns-clause-wrong_password : goal.returns-clause-wrong_password
 returns-clause-wrong_password c = not-logged-in only_anna (user anna ∷ pass wrong ∷ []) refl
 
@@ -35,9 +31,6 @@ returns-clause-second_password c =
 
 pub returns-clause-another_user : goal.returns-clause-another_user
 returns-clause-another_user c = not-logged-in only_anna (login ++ user wrong ∷ []) refl
-
-pub returns-clause-after_auth : goal.returns-clause-after_auth
-returns-clause-after_auth c = not-logged-in only_anna (login ++ Command (Auth Tls) ∷ []) refl
 
 pub returns-clause-name_given : goal.returns-clause-name_given
 returns-clause-name_given c =

@@ -1,4 +1,4 @@
-use Rattle.unftp_control_login.proofs.ExampleLemmas.{anyone-opened-in-bytes, anyone-served, anyone-served-in-bytes, garbage, no-event, not-plain, stranger}
+use Rattle.unftp_control_login.proofs.ExampleLemmas.{anyone-served, anyone-served-in-bytes, no-event, not-plain, stranger}
 use Rattle.unftp_control_login.proofs.examples.members_are_served.Goals as goal
 
 pub returns-clause-anyone_served : goal.returns-clause-anyone_served
@@ -13,11 +13,5 @@ returns-clause-stranger c = stranger
 pub returns-clause-nothing_sent : goal.returns-clause-nothing_sent
 returns-clause-nothing_sent c = not-plain
 
-pub returns-clause-garbage : goal.returns-clause-garbage
-returns-clause-garbage c = garbage
-
 pub returns-clause-no_event : goal.returns-clause-no_event
 returns-clause-no_event c = no-event
-
-pub returns-clause-anyone_opened : goal.returns-clause-anyone_opened
-returns-clause-anyone_opened c = anyone-opened-in-bytes

@@ -1,11 +1,8 @@
-use Rattle.unftp_control_login.proofs.ExampleLemmas.{alike, another_user, his_own, apart, no_name, each, same_lines, fails, never_fails}
+use Rattle.unftp_control_login.proofs.ExampleLemmas.{alike, his_own, apart, no_name, each, same_lines, never_fails}
 use Rattle.unftp_control_login.proofs.examples.passwords_look_alike.Goals as goal
 
 pub returns-clause-alike : goal.returns-clause-alike
 returns-clause-alike c = alike
-
-pub returns-clause-another_user : goal.returns-clause-another_user
-returns-clause-another_user c = another_user
 
 pub returns-clause-his_own : goal.returns-clause-his_own
 returns-clause-his_own c = his_own
@@ -21,9 +18,6 @@ returns-clause-each c = each
 
 pub returns-clause-same_lines : goal.returns-clause-same_lines
 returns-clause-same_lines c = same_lines
-
-pub returns-clause-fails : goal.returns-clause-fails
-returns-clause-fails c = fails
 
 pub returns-clause-never_fails : goal.returns-clause-never_fails
 returns-clause-never_fails c = never_fails

@@ -11,12 +11,10 @@ returns-in_err-strip_prefix-clause-none c =
     (λ text. strip_prefix_is Decides-eqb c.args.line.now c.args.digits.now None
     c.in_err-strip_prefix.ensures.cases (SP ∷ text))
 
-pub returns : goal.returns
-returns c =
+pub returns-clause-found : goal.returns-clause-found
+returns-clause-found c =
     let first = strip_prefix_is Decides-eqb c.args.line.now c.args.digits.now
     (Some c.in_ok-strip_prefix.field-0) c.in_ok-strip_prefix.ensures.cases in
-    let second = strip_prefix_is Decides-eqb c.in_ok-strip_prefix.field-0.now
-    (SP ∷ []) c.strip_prefix-2.result c.strip_prefix-2.ensures.cases in
-    let text = after_digits c.args.digits.now c.in_ok-strip_prefix.field-0.now
-    c.strip_prefix-2.result first second in
-    record { found = text.0; none = text.1 }
+    after_digits c.args.digits.now c.in_ok-strip_prefix.field-0.now c.strip_prefix-2.result first
+    (strip_prefix_is Decides-eqb c.in_ok-strip_prefix.field-0.now (SP ∷ []) c.strip_prefix-2.result
+    c.strip_prefix-2.ensures.cases)

@@ -1,7 +1,7 @@
 use Rattle.std.proofs.Common.{ℕ, take, length, replicate, sym, ap, ◌≡◌, ◌<◌, ◌∙◌, arith, length-append}
 use Rattle.std.proofs.lemmas.List.{length-replicate}
 use Rattle.unftp_control_read.specs.declared.receiving.TheConstants.{PIECE}
-use Rattle.unftp_control_read.proofs.BufferLemmas.{HasGrown, read_part}
+use Rattle.unftp_control_read.proofs.BufferLemmas.{read_part}
 use Rattle.unftp_control_read.proofs.receiving.read_after.Goals as goal
 
 pub returns-in-Ok : goal.returns-in-Ok
@@ -22,16 +22,10 @@ returns-in-Ok g c =
       c.len-len.ensures,
       old.ok.0,
     ) in
-    let grew : HasGrown old.items (replicate {A = ℕ} PIECE 0) grown.items _ c.len-len.result _ =
-    record {
-      grown_is = items;
-      len_is = c.len-len.ensures ∙ old.ok.0;
-      all_is = grown.ok.0;
-      front_is = front;
-    } in
     let some : 0 < length {A = ℕ} c.read.new.buf = omega (arith, long) in (
       take c.in-Ok.n c.read.new.buf,
-      c.truncate.ensures.items ∙ read_part grew c.read.new.buf _ c.in-Ok.n long,
+      c.truncate.ensures.items ∙ read_part old.items (replicate {A = ℕ} PIECE 0) c.read.new.buf _
+          c.in-Ok.n items (c.len-len.ensures ∙ old.ok.0) grown.ok.0 front long,
       sym c.in-Ok.ensures.bound.1,
       omega (arith, c.in-Ok.ensures.bound, long, length-replicate {A = ℕ} PIECE 0),
       c.in-Ok.ensures.reads.0,

@@ -1,22 +1,16 @@
-use Rattle.std.proofs.Common.{[], ◌∷◌, refl, subst}
-use Rattle.unftp_control_read.specs.Reading.{IsAfterCode}
-use Rattle.unftp_control_read.proofs.SearchLemmas.{first_alone, first_opens}
+use Rattle.std.proofs.Common.{◌∙◌, ap}
+use Rattle.unftp_control_read.specs.Reading.{opened_by}
+use Rattle.unftp_control_read.proofs.SearchLemmas.{first_malformed, first_whole, first_begins}
 use Rattle.unftp_control_read.proofs.search.pass_first.Goals as goal
 
-pub returns-in-One-clause-steps : goal.returns-in-One-clause-steps
-returns-in-One-clause-steps c =
-    let line = c.args.line.now in
-    let opening = c.in-Some.opening in
-    let kind = subst (IsAfterCode line opening.digits.now) c.in-One.is c.in-Some.ensures.some.1 in (
-      c.in-One.text.now ∷ [],
-      refl,
-      first_alone c.requires c.in-Some.ensures.some.0 kind,
-    )
+pub returns-in_default : goal.returns-in_default
+returns-in_default c = first_malformed c.requires c.in_default.ensures
 
-pub returns-in-Several-clause-steps : goal.returns-in-Several-clause-steps
-returns-in-Several-clause-steps c =
-    let line = c.args.line.now in
-    let opening = c.in-Some.opening in
-    let kind = subst (IsAfterCode line opening.digits.now) c.in-Several.is c.in-Some.ensures.some.1
-    in
-    first_opens c.in-Several.field-0.now c.requires c.in-Some.ensures.some.0 kind
+pub returns-in-One : goal.returns-in-One
+returns-in-One c =
+    first_whole c.requires (c.in-Some.ensures.2 ∙ ap (opened_by c.in-Some.opening.code) c.in-One.is)
+
+pub returns-in-Several : goal.returns-in-Several
+returns-in-Several c = first_begins c.requires
+    (c.in-Some.ensures.2 ∙ ap (opened_by c.in-Some.opening.code) c.in-Several.is)
+    c.in-Some.ensures.0

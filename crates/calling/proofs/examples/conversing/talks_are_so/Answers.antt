@@ -10,7 +10,7 @@ use Rattle.calling.specs.Conversing.{AreDone, IsAnswered, first_snapshot}
 use Rattle.calling.specs.ExampleTalks.{greeter}
 use Rattle.calling.specs.declared.conversation.Turn.{Turn}
 use Rattle.calling.specs.declared.conversation.Turn.TheVariants.{Send}
-use Rattle.calling.proofs.ExampleLemmas.{another_line, not_empty}
+use Rattle.calling.proofs.ExampleLemmas.{not_empty}
 use Rattle.calling.proofs.examples.conversing.talks_are_so.Goals as goal
 use Rattle.unftp_control.specs.Run.{as_session}
 
@@ -22,10 +22,6 @@ returns-clause-sent_twice c = λ talk talked. omega (
   ap length talked.first.1,
   length-append talked.sent talked.first.0,
 )
-
-pub returns-clause-another_command : goal.returns-clause-another_command
-returns-clause-another_command c =
-    λ talk talked. another_line talked.sent talked.first.0 talked.first.1 talked.lines
 
 pub returns-clause-none_fails : goal.returns-clause-none_fails
 returns-clause-none_fails c = λ talk start after error conversed.
@@ -54,5 +50,5 @@ returns-clause-no_line c = λ talk after conversed.
       none_mapped reply_to talk.taken.items
           (conversed.talked.taken ∙ ap taken_by_client none.0),
       answered.ends_at,
-      answered.handler_failed,
+      answered.given.handler_failed,
     )

@@ -5,11 +5,3 @@ use Rattle.login_demo.proofs.examples.replies.entries_are_shown_so.Goals as goal
 pub returns-clause-file : goal.returns-clause-file
 unfolding digits
 returns-clause-file c = refl
-
-pub returns-clause-empty_file : goal.returns-clause-empty_file
-unfolding digits
-returns-clause-empty_file c = refl
-
-pub returns-clause-size : goal.returns-clause-size
-unfolding digits
-returns-clause-size c = refl

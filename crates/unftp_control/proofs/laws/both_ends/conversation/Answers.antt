@@ -1,10 +1,7 @@
-use Rattle.std.proofs.Common.{◌∙◌, subst, sym}
-use Rattle.unftp_control_defs.specs.Run.{replies, run_for}
-use Rattle.unftp_control_defs.specs.Turns.{replies_by_event}
+use Rattle.std.proofs.Common.{◌∙◌}
+use Rattle.unftp_control_defs.specs.Run.{replies, run_for, replies_by_event}
 use Rattle.unftp_control_defs.proofs.ExchangeLemmas.{length-replies_by_event}
-use Rattle.unftp_control.proofs.ActLemmas.{all_said-replies}
 use Rattle.unftp_control.proofs.ConversationLemmas.{events-lines, events-sent, read_all, read_so_far, shown_turns, shows_turns}
-use Rattle.unftp_control.specs.Conversation.{Show}
 use Rattle.unftp_control.proofs.laws.both_ends.conversation.Goals as goal
 
 pub returns : goal.returns
@@ -20,9 +17,8 @@ returns g c = record {
   turns = λ said limit s input read each show.
       let law = g.H.Session.law said in
       let run = run_for limit law s input in
-      let turns = replies_by_event law s run in
-      let said_so = subst (Show read) (sym (all_said-replies law s run)) show in (
-        shows_turns read turns each said_so,
-        shown_turns read turns each said_so ∙ length-replies_by_event law s run,
+      let turns = replies_by_event law s run in (
+        shows_turns read turns each show,
+        shown_turns read turns each show ∙ length-replies_by_event law s run,
       );
 }

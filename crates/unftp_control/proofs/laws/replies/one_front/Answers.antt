@@ -1,5 +1,4 @@
-use Rattle.unftp_control_defs.proofs.ReplyUniqueLemmas.{FrontReply-unique}
-use Rattle.unftp_control_defs.proofs.ReplyCasesLemmas.{front_within}
+use Rattle.unftp_control_defs.proofs.ReplyLemmas.{FrontReply-unique, front_within}
 use Rattle.unftp_control.proofs.laws.replies.one_front.Goals as goal
 
 pub returns : goal.returns

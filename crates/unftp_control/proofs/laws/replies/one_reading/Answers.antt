@@ -1,4 +1,4 @@
-use Rattle.unftp_control_defs.proofs.ReplyCasesLemmas.{some_reading, front_is_formed}
+use Rattle.unftp_control_defs.proofs.ReplyLemmas.{some_reading, front_is_formed}
 use Rattle.unftp_control.proofs.laws.replies.one_reading.Goals as goal
 
 pub returns : goal.returns

@@ -1,39 +1,31 @@
-use Rattle.std.proofs.Common.{List, None, refl}
-use Rattle.unftp_control_serve.specs.Writing.{Begins}
+use Rattle.std.proofs.Common.{cond, None, refl, subst, sym}
+use Rattle.std.proofs.lemmas.Result.{IfOk-weaker}
+use Rattle.unftp_control_serve.specs.EventMeaning.{further_of}
 use Rattle.unftp_control_serve.proofs.HeardLemmas.{Begins-refl}
 use Rattle.unftp_control_login.specs.CallsOf.{calls_of}
-use Rattle.unftp_control_login.specs.HandlerCalls.{Further}
+use Rattle.unftp_control_login.specs.HandlerCalls.{CallsMade, Further, NoReply}
 use Rattle.unftp_control_login.specs.GateState.{gated}
-use Rattle.unftp_control_login.proofs.CalledLemmas.{further-breaks, made-counted, made-quiet}
-use Rattle.unftp_control_login.proofs.GateLemmas.{breaks-passed, further-passed}
+use Rattle.unftp_control_login.proofs.CalledLemmas.{made-counted, made-fails, made-quiet}
+use Rattle.unftp_control_login.proofs.GateLemmas.{passes-on}
 use Rattle.unftp_control_login.proofs.gate.GateSession.further.Goals as goal
 
 pub returns-clause-follows : goal.returns-clause-follows
-returns-clause-follows g c = further-passed
-    (λ (said : List g.H.Session.Said). Begins said (g.H.Session.heard c.further.new.self.handler))
-    g.H.Session.law (gated g.A.Accounts.accepts g.H.Session.state c.args.self.now) _
-    c.if-not-self.false c.further.result refl c.further.ensures.follows
+returns-clause-follows g c = IfOk-weaker c.further.result _ _ (λ more follows w so.
+    passes-on (g.H.Session.law w) (gated g.A.Accounts.accepts g.H.Session.state c.args.self.now)
+    (further_of more) c.if-not-self.false refl (follows w so)) c.further.ensures.follows
+
+pub returns-clause-calls : goal.returns-clause-calls
+returns-clause-calls g c = λ w so. subst (λ passed. CallsMade (g.H.Session.law w)
+    (g.H.Session.state c.args.self.now.inner.handler) (cond passed Further NoReply) None
+    (calls_of g.H.Session.failures c.args.self.now.inner)
+    (calls_of g.H.Session.failures c.further.new.self) c.further.result)
+    (sym c.if-not-self.false) (c.further.ensures.calls w so)
 
 pub returns-clause-quiet : goal.returns-clause-quiet
-returns-clause-quiet g c =
-    made-quiet (g.H.Session.law (g.H.Session.heard c.further.new.self.handler))
-    (g.H.Session.state c.args.self.now.inner.handler) Further None
-    (calls_of g.H.Session.failures c.args.self.now.inner)
-    (calls_of g.H.Session.failures c.further.new.self) c.further.result
-    (c.further.ensures.calls _ (Begins-refl _))
+returns-clause-quiet g c = made-quiet (c.further.ensures.calls _ (Begins-refl _))
 
 pub returns-clause-may_break : goal.returns-clause-may_break
-returns-clause-may_break g c =
-    let So = λ (said : List g.H.Session.Said).
-    Begins said (g.H.Session.heard c.further.new.self.handler) in
-    let s = gated g.A.Accounts.accepts g.H.Session.state c.args.self.now in
-    breaks-passed So g.H.Session.law s s c.if-not-self.false c.further.result
-    (further-breaks So g.H.Session.law s.inner _ _ c.further.result c.further.ensures.calls)
+returns-clause-may_break g c = made-fails (returns-clause-calls g c)
 
 pub returns-clause-counted : goal.returns-clause-counted
-returns-clause-counted g c =
-    made-counted (g.H.Session.law (g.H.Session.heard c.further.new.self.handler))
-    (g.H.Session.state c.args.self.now.inner.handler) Further None
-    (calls_of g.H.Session.failures c.args.self.now.inner)
-    (calls_of g.H.Session.failures c.further.new.self) c.further.result
-    (c.further.ensures.calls _ (Begins-refl _))
+returns-clause-counted g c = made-counted (c.further.ensures.calls _ (Begins-refl _))

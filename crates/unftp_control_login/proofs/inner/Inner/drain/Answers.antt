@@ -7,9 +7,11 @@ pub returns-in_err-reply-clause-drains : goal.returns-in_err-reply-clause-drains
 returns-in_err-reply-clause-drains g c = λ w so.
     let before = c.loop-reply.invariant.draining w
     (Begins-trans w _ _ so c.in_err-reply.ensures.heard) in
+    let calls = c.in_err-reply.ensures.calls w so in
     let error = err_from_is_err_and c.from_residual.result c.from_residual.ensures.1 in
     rw (error.1, error.2)
-    (Draining-broke (g.H.Session.law w) _ _ _ _ before _ (c.in_err-reply.ensures.calls w so))
+    (Draining-broke (g.H.Session.law w) _ _ _ _ before _
+    (calls.made))
 
 pub loop-reply-preserved : goal.loop-reply-preserved
 loop-reply-preserved g c = record {
@@ -18,8 +20,8 @@ loop-reply-preserved g c = record {
       let before = c.loop-reply.invariant.draining w
       (Begins-trans w _ _ so c.in_ok-reply.ensures.heard) in
       let follows = rw c.in-Some.is at (c.in_ok-reply.ensures.follows w so) in
-      Draining-next (g.H.Session.law w) _ _ _ _ before _ _ follows
-      (c.in_ok-reply.ensures.calls w so);
+      let calls = c.in_ok-reply.ensures.calls w so in
+      Draining-next (g.H.Session.law w) _ _ _ _ before _ _ follows calls.made;
 }
 
 pub returns-clause-drains : goal.returns-clause-drains
@@ -27,5 +29,5 @@ returns-clause-drains g c = λ w so.
     let before = c.loop-reply.invariant.draining w
     (Begins-trans w _ _ so c.in_ok-reply.ensures.heard) in
     let follows = rw c.in_default.is at (c.in_ok-reply.ensures.follows w so) in
-    Draining-end (g.H.Session.law w) _ _ _ _ before _ follows.0 follows.1
-    (c.in_ok-reply.ensures.calls w so)
+    let calls = c.in_ok-reply.ensures.calls w so in
+    Draining-end (g.H.Session.law w) _ _ _ _ before _ follows.0 follows.1 calls.made

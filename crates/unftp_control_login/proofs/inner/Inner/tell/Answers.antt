@@ -3,16 +3,13 @@ use Rattle.std.proofs.Common.{List}
 use Rattle.unftp_control_serve.specs.EventMeaning.{event_meant}
 use Rattle.unftp_control_serve.specs.Writing.{Begins}
 use Rattle.unftp_control_serve.proofs.HeardLemmas.{Begins-trans}
-use Rattle.unftp_control_login.specs.CallsOf.{calls_of}
 use Rattle.unftp_control_login.proofs.DrainLemmas.{told, told-failed, told-next}
 use Rattle.unftp_control_login.proofs.inner.Inner.tell.Goals as goal
 
 pub returns-in_err-pass_on-clause-calls : goal.returns-in_err-pass_on-clause-calls
 returns-in_err-pass_on-clause-calls g c = λ w so.
     let error = err_from_is_err_and c.from_residual.result c.from_residual.ensures.1 in
-    rw (error.1, error.2)
-    (told-failed (g.H.Session.law w) _ (event_meant c.args.event) _ _
-    (calls_of g.H.Session.failures c.pass_on.new.self) _ (c.in_err-pass_on.ensures.calls w so))
+    rw (error.1, error.2) (told-failed (c.in_err-pass_on.ensures.calls w so) _)
 
 pub returns-clause-next : goal.returns-clause-next
 returns-clause-next g c = told-next
@@ -24,6 +21,5 @@ returns-clause-next g c = told-next
 pub returns-clause-calls : goal.returns-clause-calls
 returns-clause-calls g c = λ w so.
     let heard = Begins-trans w _ _ so c.drain.ensures.heard in
-    told (g.H.Session.law w) _ (event_meant c.args.event) _ _ _ c.drain.result _ _
-    (c.in_ok-pass_on.ensures.next w heard) (c.in_ok-pass_on.ensures.calls w heard)
+    told _ (c.in_ok-pass_on.ensures.next w heard) (c.in_ok-pass_on.ensures.calls w heard)
     (c.drain.ensures.drains w so)

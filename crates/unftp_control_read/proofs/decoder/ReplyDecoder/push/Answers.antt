@@ -1,12 +1,6 @@
-use Rattle.unftp_control_read.proofs.DecoderLemmas.{decoder_more, view_more}
+use Rattle.unftp_control_read.proofs.DecoderLemmas.{decoder_more}
 use Rattle.unftp_control_read.proofs.decoder.ReplyDecoder.push.Goals as goal
 
 pub invariant_of-self-2 : goal.invariant_of-self-2
 invariant_of-self-2 c =
     decoder_more c.self.invariant _ _ _ c.in_ok-push.ensures.within c.in_ok-push.ensures.ok
-
-pub returns-clause-ok : goal.returns-clause-ok
-returns-clause-ok c =
-    rw (← c.self.view_is)
-    (view_more c.self.invariant _ _ _ c.in_ok-push.ensures.within c.in_ok-push.ensures.ok
-    c.self.inside.tests c.in_ok-push.ensures.held)

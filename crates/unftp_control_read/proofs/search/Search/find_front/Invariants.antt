@@ -1,13 +1,11 @@
-use Rattle.std.proofs.Common.{◌≡◌, ◌≤◌, ◌+◌, length, drop}
-use Rattle.unftp_control_read.specs.Search.{IsSearched, scan_offset}
+use Rattle.std.proofs.Common.{◌≡◌, length, drop}
+use Rattle.unftp_control_read.specs.Search.{IsSearched}
 use Rattle.unftp_control_read.proofs.search.Search.find_front.Given as goal
 
 abbrev pub invariant-loop-line : goal.invariant-loop-line
 invariant-loop-line l = record {
   searched : IsSearched l.bytes l.self;
   rest : l.rest ≡ drop l.self.line l.bytes;
-  ahead : scan_offset l.initial.self ≤ scan_offset l.self;
-  tests : l.tests + scan_offset l.initial.self ≡ l.initial.tests + scan_offset l.self;
 }
 
 abbrev pub decreases-loop-line : goal.decreases-loop-line

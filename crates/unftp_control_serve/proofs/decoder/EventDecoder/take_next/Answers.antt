@@ -5,31 +5,31 @@ use Rattle.unftp_control_serve.proofs.decoder.EventDecoder.take_next.Goals as go
 pub invariant_of-self : goal.invariant_of-self
 invariant_of-self c =
     rw c.line_length-self-inside.ensures
-    (decoder-after _ _ _ _ _ _ _ _ _ _ _ _ _ c.self.invariant c.pending-pending.ensures c.split_at.ensures.front
-    c.go_on.ensures c.skipping.ensures.skipping
+    (decoder-after _ _ _ _ _ _ _ _ _ _ _ _ _ _ c.self.invariant c.pending-pending.ensures
+    c.split_at.ensures.front c.go_on.ensures c.skipping.ensures.skipping
     c.decode_slice-taken.ensures.limit c.decode_slice-taken.ensures.within
-    c.decode_slice-taken.ensures.decodes c.event_from-event.result)
+    c.decode_slice-taken.ensures.decodes c.event_from-event.ensures)
 
 pub returns-clause-takes_next : goal.returns-clause-takes_next
 returns-clause-takes_next c =
     rw (sym c.self.view_is)
-    (takes_next-after _ _ _ _ _ _ _ _ _ _ _ _ _ c.self.invariant c.pending-pending.ensures
+    (takes_next-after _ _ _ _ _ _ _ _ _ _ _ _ _ _ c.self.invariant c.pending-pending.ensures
     c.split_at.ensures.front c.go_on.ensures c.skipping.ensures.skipping
     c.decode_slice-taken.ensures.limit c.decode_slice-taken.ensures.within
-    c.decode_slice-taken.ensures.decodes _ c.event_from-event.result c.event_from-event.ensures)
+    c.decode_slice-taken.ensures.decodes c.event_from-event.ensures _)
 
 pub returns-clause-may_run_out : goal.returns-clause-may_run_out
 returns-clause-may_run_out c =
     rw (sym c.self.view_is)
-    (runs_out-after _ _ _ _ _ _ _ _ _ _ _ _ _ c.self.invariant c.pending-pending.ensures c.split_at.ensures.front
-    c.go_on.ensures c.skipping.ensures.skipping
+    (runs_out-after _ _ _ _ _ _ _ _ _ _ _ _ _ _ c.self.invariant c.pending-pending.ensures
+    c.split_at.ensures.front c.go_on.ensures c.skipping.ensures.skipping
     c.decode_slice-taken.ensures.limit c.decode_slice-taken.ensures.within
-    c.decode_slice-taken.ensures.decodes c.event_from-event.result c.event_from-event.ensures)
+    c.decode_slice-taken.ensures.decodes c.event_from-event.ensures)
 
 pub returns-clause-line : goal.returns-clause-line
 returns-clause-line c =
     rw (sym c.self.view_is, c.line_length-self-inside.ensures)
-    (line-after _ _ _ _ _ _ _ _ _ _ _ _ _ c.self.invariant c.pending-pending.ensures c.split_at.ensures.front
-    c.go_on.ensures c.skipping.ensures.skipping
+    (line-after _ _ _ _ _ _ _ _ _ _ _ _ _ _ c.self.invariant c.pending-pending.ensures
+    c.split_at.ensures.front c.go_on.ensures c.skipping.ensures.skipping
     c.decode_slice-taken.ensures.limit c.decode_slice-taken.ensures.within
-    c.decode_slice-taken.ensures.decodes c.event_from-event.result c.event_from-event.ensures)
+    c.decode_slice-taken.ensures.decodes c.event_from-event.ensures)

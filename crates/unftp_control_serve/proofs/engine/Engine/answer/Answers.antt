@@ -13,18 +13,18 @@ returns-after-ended-clause-fed g c =
     ap (λ engine. engine.finished) c.self.view_is ∙ c.requires.1 in
     let before = c.self.invariant not_failed in
     let lines = c.in-Ok.ensures in
+    let pushed = c.in_default.ensures.ok in
     λ w so.
     let was_fed : WasFed (g.H.Session.law w) (g.H.Session.state c.args.handler.now) inside.decoder
-    c.push.new.self c.answer_lines.new.decoder c.args.piece.now c.in-Ok.ended =
+    c.answer_lines.new.decoder c.args.piece.now c.in-Ok.ended =
     record {
-      push = c.in_default.ensures.ok;
       all_scanned = before.0;
-      ends = lines.ended w so;
-      pending = lines.unread w so;
+      ends = rw pushed at (lines.ended w so);
+      pending = rw pushed at (lines.unread w so);
       unscanned = lines.unscanned;
-      same_limit = lines.limit;
-      same_held = lines.held;
-      scanned_once = lines.scanned_once;
+      same_limit = rw pushed at lines.limit;
+      same_held = rw pushed at lines.held;
+      scanned_once = rw pushed at lines.scanned_once;
     } in
     rw (sym c.self.view_is) (elim c.if-ended.branch [
       | then-ended b ↦
@@ -33,7 +33,8 @@ returns-after-ended-clause-fed g c =
           b.if-ended.true)
       | else-ended b ↦
           b.self-is ∙ rw (not_failed, not_finished, c.left-self-inside.ensures)
-          (fed-on was_fed inside.left false false b.if-ended.false (lines.kept b.if-ended.false))
+          (fed-on was_fed inside.left false false b.if-ended.false
+          (rw pushed at (lines.kept b.if-ended.false)))
     ])
 
 pub returns-in-Err-answer_lines-clause-fed : goal.returns-in-Err-answer_lines-clause-fed

@@ -12,10 +12,6 @@ pub returns-clause-all : goal.returns-clause-all
 unfolding is_utf8 chars lib.Utf8.encode digits
 returns-clause-all c = record { to_server = ([], refl); to_client = ([], refl) }
 
-pub returns-clause-greeting : goal.returns-clause-greeting
-unfolding digits
-returns-clause-greeting c = record { to_server = ([], refl); to_client = ([], refl) }
-
 first_acts : List Act
 first_acts = AtClient (Sent noop) ∷ AtServer (codes "NO") ∷ []
 

@@ -1,4 +1,4 @@
-use Rattle.unftp_control.proofs.SnapshotLemmas.{write_failed-part, write_failed-state, write_failed-written}
+use Rattle.unftp_control.proofs.SnapshotLemmas.{write_failed-part, write_failed-written}
 use Rattle.unftp_control.proofs.laws.examples.engine.a_write_failed_at_a_reply.Goals as goal
 
 pub returns-clause-part : goal.returns-clause-part
@@ -6,6 +6,3 @@ returns-clause-part c = write_failed-part
 
 pub returns-clause-written : goal.returns-clause-written
 returns-clause-written c = write_failed-written
-
-pub returns-clause-state : goal.returns-clause-state
-returns-clause-state c = write_failed-state

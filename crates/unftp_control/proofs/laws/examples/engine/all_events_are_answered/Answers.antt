@@ -1,4 +1,4 @@
-use Rattle.unftp_control.proofs.SnapshotLemmas.{all_answered-written, all_answered-flushed, any_writer-written}
+use Rattle.unftp_control.proofs.SnapshotLemmas.{all_answered-written, all_answered-flushed}
 use Rattle.unftp_control.proofs.laws.examples.engine.all_events_are_answered.Goals as goal
 
 pub returns-clause-written : goal.returns-clause-written
@@ -6,6 +6,3 @@ returns-clause-written c = all_answered-written
 
 pub returns-clause-flushed : goal.returns-clause-flushed
 returns-clause-flushed c = all_answered-flushed
-
-pub returns-clause-any_writer : goal.returns-clause-any_writer
-returns-clause-any_writer c = any_writer-written

@@ -6,8 +6,4 @@ returns-clause-line c = λ before after error v at_line. v.has_line at_line
 
 pub returns-clause-handler : goal.returns-clause-handler
 returns-clause-handler c =
-    λ before after error v. handler-counted _ _ _ v.cause v.means v.ended.handler_failed
-
-pub returns-clause-run : goal.returns-clause-run
-returns-clause-run c =
-    λ before after error v. handler-counted _ _ _ v.cause v.means v.ended.handler_failed
+    λ before after error v. handler-counted _ _ _ v.cause v.means v.ended.given.handler_failed

@@ -5,5 +5,4 @@ pub returns : goal.returns
 returns c = record {
   whole = λ event is. rw is refl;
   too_long = λ event is. rw is refl;
-  no_event = refl;
 }

@@ -8,8 +8,5 @@ unfolding is_utf8 chars utf8_lossy utf8_valid_len utf8_error_len lib.Utf8.encode
 returns c = record {
   field = omega arith;
   empty_password = omega arith;
-  path = omega arith;
-  subcommand = omega arith;
   other_verb = omega arith;
-  no_verb = omega arith;
 }

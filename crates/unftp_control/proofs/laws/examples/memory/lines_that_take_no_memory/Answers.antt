@@ -6,14 +6,8 @@ use Rattle.unftp_control.proofs.laws.examples.memory.lines_that_take_no_memory.G
 pub returns : goal.returns
 unfolding is_utf8 chars utf8_lossy utf8_valid_len utf8_error_len lib.Utf8.encode
 returns c = record {
-  no_value = λ takes. omega (arith, takes);
-  lower_case = λ takes. omega (arith, takes);
-  ignored_value = λ takes. omega (arith, takes);
   ignored_end = λ takes. omega (arith, takes);
   empty_field = λ takes. omega (arith, takes);
   no_path = λ takes. omega (arith, takes);
-  choice = λ takes. omega (arith, takes);
-  number = λ takes. omega (arith, takes);
   no_subcommand = λ takes. omega (arith, takes);
-  nothing = λ takes. omega (arith, takes);
 }

@@ -5,10 +5,6 @@ use Rattle.unftp_control.proofs.laws.examples.memory.refused_lines_take_no_memor
 pub returns : goal.returns
 unfolding is_utf8 chars utf8_lossy utf8_valid_len utf8_error_len lib.Utf8.encode
 returns c = record {
-  value = λ takes. takes;
-  no_value = λ takes. takes;
   end = λ takes. takes;
-  end_after_cr_nul = λ takes. takes;
   verb = λ takes. takes;
-  subcommand = λ takes. takes;
 }

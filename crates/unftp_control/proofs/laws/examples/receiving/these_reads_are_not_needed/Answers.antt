@@ -1,5 +1,5 @@
-use Rattle.unftp_control.proofs.NeededLemmas.{after_a_reply, at_the_limit, after_a_piece}
+use Rattle.unftp_control.proofs.NeededLemmas.{after_a_reply, at_the_limit}
 use Rattle.unftp_control.proofs.laws.examples.receiving.these_reads_are_not_needed.Goals as goal
 
 pub returns : goal.returns
-returns c = record { whole = after_a_reply; long = at_the_limit; one_more = after_a_piece }
+returns c = record { whole = after_a_reply; long = at_the_limit }

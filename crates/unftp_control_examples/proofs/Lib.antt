@@ -1,2 +1,0 @@
-mod ExampleLemmas
-mod ReadExampleLemmas

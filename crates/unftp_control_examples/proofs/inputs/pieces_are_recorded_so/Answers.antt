@@ -1,5 +1,0 @@
-use Rattle.std.proofs.Common.{[], ◌∷◌, refl}
-use Rattle.unftp_control_examples.proofs.inputs.pieces_are_recorded_so.Goals as goal
-
-pub returns-clause-ended : goal.returns-clause-ended
-returns-clause-ended c = record { none_left = tt; reads = 2 ∷ []; none_given = refl }

@@ -1,0 +1,5 @@
+pub mod CommandMeaning
+pub mod ErrorParts
+pub mod ErrorMeaning
+pub mod ParseRefusal
+pub mod ReplyMeaning

@@ -1,0 +1,290 @@
+//! What both ends of a control connection say: the commands of a client, the replies of a server,
+//! and the errors that a caller gets.
+#![tactic(auto)]
+
+ghost use Rattle.std.specs.Prelude.{◌≡◌, IfOk};
+ghost use Rattle.unftp_control_message.specs.CommandMeaning.{command_of};
+
+pub mod password;
+pub mod reply;
+
+use bytes::Bytes;
+use password::Password;
+use std::alloc::{AllocError, Global};
+use std::fmt;
+pub use unftp_control_defs::parameters::{AuthParam, ModeParam, Opt, ProtParam, StruParam};
+
+/// A command that a client sends on the control connection. `parse` fills a `String` with the bytes
+/// of the value, each ill-formed part of UTF-8 replaced by U+FFFD, and `Bytes` with the bytes as
+/// they are; CR NUL is one CR in both (RFC 854).
+#[derive(Debug, Drop, PartialEq, Eq)]
+pub enum Command {
+    /// USER: who logs in (RFC 959, section 4.1.1).
+    User {
+        /// The name as the client sent it, in no particular encoding; it may be empty.
+        username: Bytes,
+    },
+    /// PASS: the password (RFC 959, section 4.1.1).
+    Pass {
+        /// The password as the client sent it; it may be empty.
+        password: Password,
+    },
+    /// ACCT: the account (RFC 959, section 4.1.1).
+    Acct {
+        /// The account as the client sent it; it may be empty.
+        account: Bytes,
+    },
+    /// SYST: asks for the operating system (RFC 959, section 4.1.3). Its parameter is ignored.
+    Syst,
+    /// STAT: asks for the status of the server, or of a path (RFC 959, section 4.1.3).
+    Stat {
+        /// The path as the client sent it; never an empty one.
+        path: Option<Bytes>,
+    },
+    /// TYPE: the representation of files (RFC 959, section 4.1.2). Its parameter is ignored.
+    TypeCode,
+    /// STRU: the structure of files (RFC 959, section 4.1.2).
+    Stru {
+        /// The structure.
+        structure: StruParam,
+    },
+    /// MODE: the transfer mode (RFC 959, section 4.1.2).
+    Mode {
+        /// The mode.
+        mode: ModeParam,
+    },
+    /// HELP: asks for help on the server (RFC 959, section 4.1.3). Its parameter is ignored.
+    Help,
+    /// NOOP: do nothing (RFC 959, section 4.1.3).
+    Noop,
+    /// PASV: listen for the data connection (RFC 959, section 4.1.2).
+    Pasv,
+    /// EPSV: listen for the data connection, over IPv4 or IPv6 (RFC 2428, section 3). Its parameter
+    /// is ignored.
+    Epsv,
+    /// PORT: connect to the client for data (RFC 959, section 4.1.2).
+    Port {
+        /// The address and port as the client wrote them; not empty.
+        addr: String,
+    },
+    /// RETR: send a file (RFC 959, section 4.1.3).
+    Retr {
+        /// The file; not empty.
+        path: String,
+    },
+    /// STOR: store a file (RFC 959, section 4.1.3).
+    Stor {
+        /// The file; not empty.
+        path: String,
+    },
+    /// APPE: append to a file (RFC 959, section 4.1.3).
+    Appe {
+        /// The file; not empty.
+        path: String,
+    },
+    /// LIST: list a directory for people (RFC 959, section 4.1.3).
+    List {
+        /// None in a command from `parse`, which drops option words.
+        options: Option<String>,
+        /// What to list; in a command from `parse` not empty.
+        path: Option<String>,
+    },
+    /// NLST: list the names in a directory (RFC 959, section 4.1.3).
+    Nlst {
+        /// What to list; never an empty path.
+        path: Option<String>,
+    },
+    /// MLST: asks for the facts of a path (RFC 3659, section 7).
+    Mlst {
+        /// The path; never an empty one.
+        path: Option<String>,
+    },
+    /// MLSD: list a directory with facts (RFC 3659, section 7).
+    Mlsd {
+        /// The directory; never an empty path.
+        path: Option<String>,
+    },
+    /// FEAT: list the features beyond RFC 959 (RFC 2389, section 3).
+    Feat,
+    /// PWD or XPWD: asks for the working directory (RFC 959, section 4.1.3; RFC 1123, section
+    /// 4.1.3.1).
+    Pwd,
+    /// CWD or XCWD: change the working directory (RFC 959, section 4.1.1; RFC 1123, section
+    /// 4.1.3.1).
+    Cwd {
+        /// The directory; not empty.
+        path: String,
+    },
+    /// CDUP: go to the parent directory (RFC 959, section 4.1.1).
+    Cdup,
+    /// OPTS: set an option (RFC 2389, section 4).
+    Opts {
+        /// The option.
+        option: Opt,
+    },
+    /// DELE: delete a file (RFC 959, section 4.1.3).
+    Dele {
+        /// The file; not empty.
+        path: String,
+    },
+    /// RMD: remove a directory (RFC 959, section 4.1.3).
+    Rmd {
+        /// The directory; not empty.
+        path: String,
+    },
+    /// QUIT or BYE: end the session (RFC 959, section 4.1.1).
+    Quit,
+    /// MKD or XMKD: make a directory (RFC 959, section 4.1.3; RFC 1123, section 4.1.3.1).
+    Mkd {
+        /// The directory; not empty.
+        path: String,
+    },
+    /// ALLO: reserve room (RFC 959, section 4.1.3). Its parameter is ignored.
+    Allo {},
+    /// ABOR: end the transfer that is under way (RFC 959, section 4.1.3).
+    Abor,
+    /// STOU: store under a name that the server chooses (RFC 959, section 4.1.3).
+    Stou,
+    /// RNFR: which file is renamed (RFC 959, section 4.1.3).
+    Rnfr {
+        /// The file; not empty.
+        file: String,
+    },
+    /// RNTO: what it is renamed to (RFC 959, section 4.1.3).
+    Rnto {
+        /// The new name; not empty.
+        file: String,
+    },
+    /// AUTH: protect the control connection (RFC 2228, section 3; RFC 4217, section 4).
+    Auth {
+        /// The mechanism.
+        protocol: AuthParam,
+    },
+    /// CCC: go on without protection of the control connection (RFC 2228, section 3).
+    Ccc,
+    /// PBSZ: the size of protected buffers, always 0 (RFC 2228, section 3; RFC 4217, section 9).
+    Pbsz {},
+    /// PROT: the protection of the data connection (RFC 2228, section 3).
+    Prot {
+        /// The level.
+        param: ProtParam,
+    },
+    /// SIZE: asks for the size of a file (RFC 3659, section 4).
+    Size {
+        /// The file; not empty.
+        file: String,
+    },
+    /// REST: where the next transfer begins (RFC 3659, section 5).
+    Rest {
+        /// The offset in bytes.
+        offset: u64,
+    },
+    /// MDTM: asks when a file was modified (RFC 3659, section 3).
+    Mdtm {
+        /// The file; not empty.
+        file: String,
+    },
+    /// SITE MD5: asks for the MD5 sum of a file; of no RFC.
+    Md5 {
+        /// The file; not empty.
+        file: String,
+    },
+    /// SITE with any other subcommand (RFC 959, section 4.1.3).
+    Site {
+        /// The subcommand, its ASCII letters in upper case; it may be empty.
+        command: String,
+        /// What follows the subcommand; it may be empty.
+        arguments: String,
+    },
+    /// A verb of no other variant.
+    Other {
+        /// The verb, its ASCII letters in upper case; it may be empty.
+        command_name: String,
+        /// What follows the verb; it may be empty.
+        arguments: String,
+    },
+}
+
+/// Clones a command by the fields of each variant.
+macro_rules! clone_of {
+    ($command:expr, $($variant:ident $({ $($field:ident),* })?),* $(,)?) => {
+        match $command {
+            $(Command::$variant $({ $($field),* })? =>
+                Ok(Command::$variant $({ $($field: $field.clone()?),* })?),)*
+        }
+    };
+}
+
+impl Command {
+    /// A command that means the same, or `AllocError` when out of memory, which leaves this one as
+    /// it is.
+    pub fn clone(&self, _alloc: Global) -> Result<Command, AllocError>
+        ensures { IfOk result (λ command. command_of command ≡ command_of self.now) }
+    {
+        // each field has its own allocator
+        clone_of! {
+            self,
+            User { username },
+            Pass { password },
+            Acct { account },
+            Syst,
+            Stat { path },
+            TypeCode,
+            Stru { structure },
+            Mode { mode },
+            Help,
+            Noop,
+            Pasv,
+            Epsv,
+            Port { addr },
+            Retr { path },
+            Stor { path },
+            Appe { path },
+            List { options, path },
+            Nlst { path },
+            Mlst { path },
+            Mlsd { path },
+            Feat,
+            Pwd,
+            Cwd { path },
+            Cdup,
+            Opts { option },
+            Dele { path },
+            Rmd { path },
+            Quit,
+            Mkd { path },
+            Allo {},
+            Abor,
+            Stou,
+            Rnfr { file },
+            Rnto { file },
+            Auth { protocol },
+            Ccc,
+            Pbsz {},
+            Prot { param },
+            Size { file },
+            Rest { offset },
+            Mdtm { file },
+            Md5 { file },
+            Site { command, arguments },
+            Other { command_name, arguments },
+        }
+    }
+}
+
+/// What Debug writes; of PASS one text under all flags, which shows neither the password's bytes
+/// nor their length.
+impl fmt::Display for Command {
+    ghost use Rattle.unftp_control_message.specs.CommandMeaning.{displayed};
+
+    ghost output = { displayed };
+
+    ghost styled_output = { λ command _. displayed command };
+
+    fn fmt<W: fmt::Write>(&self, f: &mut fmt::Formatter<W>) -> fmt::Result {
+        match self {
+            Command::Pass { .. } => f.write_str("Pass { password: Password { bytes: ******* } }"),
+            command => fmt::Debug::fmt(command, f),
+        }
+    }
+}

@@ -1,4 +1,0 @@
-pub mod ErrorParts
-pub mod ErrorMeaning
-pub mod ParseRefusal
-pub mod ReplyMeaning

@@ -1,0 +1,115 @@
+-- What an engine has answered of what it was fed.
+use Rattle.std.proofs.Common.{◌≡◌, ℕ, ◌+◌, true, false, List, [], ◌++◌, Option, length, refl, sym, ap, subst, ◌∙◌, arith, length-append}
+use Rattle.std.specs.Prelude.{if◌then◌else◌}
+use Rattle.unftp_control_defs.specs.Bytes.{Bytes}
+use Rattle.unftp_control_defs.specs.Events.{FtpEvent, events}
+use Rattle.unftp_control_defs.specs.Lines.{incomplete_line}
+use Rattle.unftp_control_defs.specs.Run.{SessionLaw, after_end, ends_for, run_for, unread}
+use Rattle.unftp_control_defs.proofs.LineLemmas.{incomplete_line-append}
+use Rattle.unftp_control_defs.proofs.RunLemmas.{after_end-ended, after_end-on, after_end-within, run_of-all, run-ended, unread-ended}
+use Rattle.unftp_control_serve.specs.Decoder.{saturating_u64}
+use Rattle.unftp_control_serve.specs.Endings.{AllAnswered, RunFailed, Snapshot}
+use Rattle.unftp_control_serve.specs.Engine.{EngineState, bytes_with, fed, fresh, more_left}
+use Rattle.unftp_control_serve.specs.declared.error.ServeError.{ServeError}
+use Rattle.unftp_control_serve.proofs.EndingLemmas.{AllAnswered-nothing, GoneOn, GoneOn-all, GoneOn-ends, GoneOn-failed, GoneOn-unread}
+
+-- the run over what was sent is answered, up to its end
+pub record AnsweredSoFar {S : Type 0} (limit : Option ℕ) (law : SessionLaw S) (m n : Snapshot S)
+    (sent : Bytes) (engine : EngineState) : Type 0 where
+  pub no_failure : engine.failed ≡ false
+  pub limited : engine.limit ≡ limit
+  pub finished : engine.finished ≡ ends_for limit law m.state sent
+  pub incomplete : engine.finished ≡ false → engine.incomplete ≡ incomplete_line sent
+  pub left : engine.left ≡ saturating_u64 (length (unread limit law m.state sent))
+  pub scanned : engine.scanned + length (after_end limit law m.state sent) ≡ length sent
+  pub answered : AllAnswered law m (run_for limit law m.state sent) n
+
+pub AnsweredSoFar-start : {S : Type 0} (limit : Option ℕ) (law : SessionLaw S) (m : Snapshot S)
+    → AnsweredSoFar limit law m m [] (fresh limit)
+AnsweredSoFar-start limit law m = record {
+  no_failure = refl;
+  limited = refl;
+  finished = refl;
+  incomplete = λ _. refl;
+  left = refl;
+  scanned = omega arith;
+  answered = AllAnswered-nothing law m;
+}
+
+module _ {limit : Option ℕ} {S : Type 0} {law : SessionLaw S} {m n : Snapshot S} {sent : Bytes}
+    {engine : EngineState} (so_far : AnsweredSoFar limit law m n sent engine) where
+  -- while the run goes on
+  module _ (on : engine.finished ≡ false) where
+    pub gone_on : GoneOn limit law m n sent
+    gone_on =
+        let goes_on : ends_for limit law m.state sent ≡ false = sym so_far.finished ∙ on in
+        record {
+          goes_on = goes_on;
+          answered = subst (λ run. AllAnswered law m run n)
+              (run_of-all law m.state (events limit sent) goes_on) so_far.answered;
+        }
+
+    module _ (piece : Bytes) where
+      pub AnsweredSoFar-on : {k : Snapshot S}
+          → AllAnswered law n (run_for engine.limit law n.state (bytes_with engine piece)) k
+          → AnsweredSoFar limit law m k (sent ++ piece) (fed law n.state engine piece)
+      AnsweredSoFar-on all =
+          let same_ends = GoneOn-ends gone_on piece in
+          let same_unread = GoneOn-unread gone_on piece in
+          let same_end : after_end limit law m.state (sent ++ piece)
+          ≡ after_end limit law n.state (incomplete_line sent ++ piece) =
+          λ i. if same_ends i then same_unread i else [] in
+          rw (so_far.limited, so_far.incomplete on) (record {
+            no_failure = refl;
+            limited = refl;
+            finished = sym same_ends;
+            incomplete = λ now. ap (λ ended. if ended then []
+                else incomplete_line (incomplete_line sent ++ piece)) now
+                ∙ sym (incomplete_line-append sent piece);
+            left = ap (λ bytes. saturating_u64 (length bytes)) (sym same_unread);
+            scanned = omega (
+              arith,
+              so_far.scanned,
+              ap length (after_end-on law limit m.state sent gone_on.goes_on),
+              ap length same_end,
+              length-append sent piece,
+              after_end-within law limit m.state (sent ++ piece),
+            );
+            answered = GoneOn-all gone_on piece
+                (rw (so_far.limited, so_far.incomplete on) at all);
+          })
+
+      pub RunFailed-on : {k : Snapshot S} {error : ServeError} {done : List FtpEvent}
+          → RunFailed engine.limit law n (bytes_with engine piece) k error done
+          → RunFailed limit law m (sent ++ piece) k error (events limit sent ++ done)
+      RunFailed-on failed = GoneOn-failed gone_on piece
+          (rw (so_far.limited, so_far.incomplete on) at failed)
+
+  -- a piece after the end
+  pub AnsweredSoFar-ended : engine.finished ≡ true → (piece : Bytes)
+      → AnsweredSoFar limit law m n (sent ++ piece) (more_left engine piece)
+  AnsweredSoFar-ended done piece =
+      let ended : ends_for limit law m.state sent ≡ true = sym so_far.finished ∙ done in
+      let more = run-ended law limit m.state sent piece ended in
+      let longer = unread-ended law limit m.state sent piece ended in
+      let longer_end = after_end-ended law limit m.state sent piece ended in
+      record {
+        no_failure = so_far.no_failure;
+        limited = so_far.limited;
+        finished = done ∙ sym more.1;
+        incomplete = λ on. absurd (cc);
+        left = omega (
+          arith,
+          so_far.left,
+          ap length longer,
+          length-append (unread limit law m.state sent) piece,
+        );
+        scanned = omega (
+          arith,
+          so_far.scanned,
+          ap length longer_end,
+          length-append (after_end limit law m.state sent) piece,
+          length-append sent piece,
+        );
+        answered = rw more.0 so_far.answered;
+      }

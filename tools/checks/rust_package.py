@@ -1,0 +1,364 @@
+#!/usr/bin/env python3
+"""Makes the checks of tools/checks/rust_package that are no test of the package itself, most of them on its server.
+
+usage: tools/checks/rust_package.py codes              the package's codes of replies are the header's
+       tools/checks/rust_package.py words              the names that its Debug texts show are those that a log shows
+       tools/checks/rust_package.py memory PRELOAD REPLAY     the answer at each failed allocation: PRELOAD is tools/checks/fail_allocation.c
+       tools/checks/rust_package.py version REPLAY     each call over a library of another version, 9.9.9
+       tools/checks/rust_package.py arguments SERVER..      addresses, and what is no argument, of each of these servers
+       tools/checks/rust_package.py descriptors SERVER..    a client for which no descriptor is left, of each
+       tools/checks/rust_package.py session SERVER     lines in pieces, bad ones among them
+       tools/checks/rust_package.py urgent SERVER      an ABOR whose end is urgent data
+       tools/checks/rust_package.py late SERVER        the last reply, whatever is sent after QUIT
+       tools/checks/rust_package.py idle SERVER        clients that send too little
+       tools/checks/rust_package.py limit SERVER       more connections than may be open
+       tools/checks/rust_package.py stop SERVER        sessions that are open at a signal
+       tools/checks/rust_package.py speed SERVER [COUNT [CONNECTIONS]]  NOOPs a second
+
+The last line says what was compared; the status is 0 where all is right.
+"""
+
+import os
+import pathlib
+import re
+import signal
+import socket
+import subprocess
+import sys
+import tempfile
+import threading
+import time
+
+from started_server import (GREETING, HOST, PATIENCE, StartedServer, Wrong, has_ipv6, processor_time, receive, run_check, send_pieces, wants,
+                            without_descriptors)
+
+TOP = pathlib.Path(__file__).resolve().parents[2]
+LINE_LIMIT = 8192
+
+OK = b"200 OK\r\n"
+BYE = b"221 Bye\r\n"
+MISSING = b"502 Not implemented\r\n"
+
+
+def started(program, *arguments):
+    """The server on a port that the system chooses."""
+    return StartedServer([program, "0", *map(str, arguments)])
+
+
+def check_codes():
+    """The names and numbers of enum unftp_code, and those of ReplyCode."""
+    found = [
+        dict(re.findall(pattern, (TOP / path).read_text(encoding="utf-8"), re.M))
+        for path, pattern in [
+            ("include/unftp_control.h", r"^    UNFTP_CODE_(\w+) = (\d+)"),
+            ("bindings/rust/src/code.rs", r'^    (\w+) = (\d+) "'),
+        ]
+    ]
+    wants("code.rs beside the header", set(found[1].items()) ^ set(found[0].items()), set())
+    wants("whether there are codes", len(found[0]) > 0, True)
+    return f"{len(found[0])} codes"
+
+
+def words_between(path, begin, end, pattern):
+    """What the pattern finds in a file from one text up to another."""
+    text = (TOP / path).read_text(encoding="utf-8")
+    if begin not in text:
+        raise Wrong(f"{path} has no {begin!r}")
+    return re.findall(pattern, text.split(begin, 1)[1].split(end, 1)[0])
+
+
+def check_words():
+    """The tables of shown.rs are those of LogLine.antt."""
+    log, shown = "crates/unftp_control_log/specs/LogLine.antt", "bindings/rust/src/shown.rs"
+    verbs = words_between(log, "\nfurther_verbs =", "[]", r'codes "(\w+)"')
+    subcommands = words_between(log, "\nsite_words =", "[]", r'codes "(\w+)", (true|false)')
+    for name, wanted in [
+        ("VERBS", verbs),
+        ("PLAIN_SUBCOMMANDS", [name for name, plain in subcommands if plain == "true"]),
+        ("OTHER_SUBCOMMANDS", [name for name, plain in subcommands if plain == "false"]),
+    ]:
+        wants(name, sorted(words_between(shown, f"const {name}:", ";\n", r'"(\w+)"')), sorted(wanted))
+        wants(f"whether there are {name}", len(wanted) > 0, True)
+    return f"{len(verbs)} verbs and {len(subcommands)} subcommands of SITE"
+
+
+CASE, ANSWER = 'parse\t"RETR a\\r\\0b\\r\\n"\n', 'ok Retr path="a\\rb"\n'
+
+
+def check_memory(preload, program):
+    """Each allocation that fails is no matter, or ends the program by an error of the package or by Rust itself."""
+    errors, ended, number = 0, 0, 1
+    while number < 1000:
+        environment = os.environ | {"LD_PRELOAD": preload, "FAIL_AT": str(number), "RUST_BACKTRACE": "0"}
+        run = subprocess.run([program], input=CASE, env=environment, capture_output=True, text=True, timeout=PATIENCE)
+        if run.stderr == "replay: out of memory\n":
+            errors += 1
+        elif "memory allocation of" in run.stderr:
+            ended += 1
+        else:
+            wants(f"at allocation {number}", (run.returncode, run.stdout), (0, ANSWER))
+            if errors:
+                break
+        number += 1
+    wants("whether an allocation of the library failed", errors > 1, True)
+    return f"{errors} times out of memory, and {ended} times in Rust itself"
+
+
+CALLS = ['parse\t"NOOP\\r\\n"', 'encode\tmsg\t200\t"OK"', 'read\t"220 a\\r\\n"', 'canonical\t"NOOP\\r\\n"', 'forward\t"NOOP\\r\\n"']
+
+
+def check_version(program):
+    """Each call ends before it is made."""
+    for case in CALLS:
+        run = subprocess.run([program], input=case + "\n", capture_output=True, text=True, timeout=PATIENCE)
+        said = "linked with a library of version 9.9.9, and needs 0.1.0 or later, and before 0.2.0" in run.stderr
+        wants(f"{case} ends with", (run.returncode, run.stdout, said), (101, "", True))
+    return f"{len(CALLS)} calls"
+
+
+def wants_usage(program, *words):
+    """These words are no arguments: a line says what are, and the status is 2."""
+    run = subprocess.run([program, *words], capture_output=True, text=True, timeout=PATIENCE)
+    wants(f"with {words}", (run.returncode, run.stdout, run.stderr.count("\n")), (2, "", 1))
+    wants(f"the usage with {words}", run.stderr.startswith(f"usage: {pathlib.Path(program).name} "), True)
+
+
+def check_arguments(*programs):
+    """All that are servers take a port. That of server.rs may have an address before it."""
+    for program in programs:
+        for word in ["70000", "-1", "port", "", "65536", "0x50"]:
+            wants_usage(program, word)
+    for words in [["0", "x"], ["0", "1", "-1"], ["0", "1", "1", "1"], ["0", "4294967296"], ["[::1]"], ["::1"], ["127.0.0.256:0"]]:
+        wants_usage(programs[0], *words)
+    addresses = ["127.0.0.2"] + (["::1"] if has_ipv6() else [])
+    for address in addresses:
+        with StartedServer([programs[0], f"[{address}]:0" if ":" in address else f"{address}:0"]) as server:
+            with socket.create_connection((address, server.port), PATIENCE) as connection:
+                wants(f"the greeting at {address}", receive(connection, len(GREETING)), GREETING)
+    taken = subprocess.run([programs[0], "192.0.2.1:0"], capture_output=True, text=True, timeout=PATIENCE)
+    wants("an address of another machine", (taken.returncode, taken.stderr[:20]), (1, "server: 192.0.2.1:0:"))
+    return f"it listens on {' and '.join(addresses)}"
+
+
+def check_waiting(program):
+    """While no descriptor is left for a client, it waits, and the server takes hardly a processor. Then it is served."""
+    named = ["sh", "-c", 'echo $$ >&2; exec "$@"', "sh", program, "0"]  # the process that sh was is the server
+    with tempfile.TemporaryFile() as said, StartedServer(named, said) as server, server.greeted() as beside:
+        said.seek(0)
+        pid = int(said.readline())
+        with without_descriptors(pid):
+            taken = processor_time(pid)
+            waiting = server.connect()
+            waiting.settimeout(1)
+            try:
+                raise Wrong(f"a client has {waiting.recv(1)!r} where no descriptor is left")
+            except TimeoutError:
+                pass
+            beside.sendall(b"NOOP\r\n")
+            wants("the reply beside it", receive(beside, len(OK)), OK)
+            taken = processor_time(pid) - taken
+        with waiting:
+            waiting.settimeout(PATIENCE)
+            wants("the greeting", receive(waiting, len(GREETING)), GREETING)
+    wants("whether a second without descriptors took less than a quarter of a processor", taken < 0.25, True)
+
+
+def check_descriptors(*programs):
+    for program in programs:
+        check_waiting(program)
+    return f"a client of each of {len(programs)} servers waits"
+
+
+SESSION = [
+    (b"pwd\r\n", b"530 Not logged in\r\n"),
+    (b"PASS secret\r\n", b"503 USER comes first\r\n"),
+    (b"user anna\n", b"331 Password required\r\n"),
+    (b"PASS secr\xff\r\0\r\n", b"230 Logged in\r\n"),
+    (b"NOOP x\r\n", b"500 invalid command\r\n"),
+    (b"NOOP\r\n", OK),
+    (b"\xff\r\n", b"500 non-UTF-8 character in command\r\n"),
+    (b"RETR a\rb\r\n", b"500 invalid end of line\r\n"),
+    (b"XPWD\r\n", b'257 "/" is the directory\r\n'),
+    (b"x" * LINE_LIMIT + b"\r\n", b"500 line too long\r\n"),
+    (b"RETR " + b"x" * (LINE_LIMIT - 7) + b"\r\n", MISSING),
+    (b"x" * 100_000 + b"\n", b"500 line too long\r\n"),
+    (b"TYPE A\r\n", OK),
+    (b"SYST\r\n", b"215 UNIX Type: L8\r\n"),
+    (b"FEAT\r\n", b"211-Features:\r\n UTF8\r\n211 End\r\n"),
+    (b"\r\n", MISSING),
+    (b"SITE CHMOD 644 a\r\n", MISSING),
+    (b"BYE\r\n", BYE),
+]
+
+
+def check_session(program):
+    lines = b"".join(line for line, _ in SESSION)
+    replies = GREETING + b"".join(reply for _, reply in SESSION)
+    with started(program) as server:
+        for size in [None, len(lines), 4096, 1000, 61]:
+            with server.connect() as connection:
+                sender = threading.Thread(target=send_pieces, args=(connection, lines, size), daemon=True)
+                sender.start()
+                wants(f"the session in pieces of {size}", receive(connection), replies)
+                sender.join()
+        short = [(line, reply) for line, reply in SESSION if len(line) < 100]
+        with server.greeted() as connection:
+            # each byte by itself, and its reply before the next line
+            for line, reply in short:
+                send_pieces(connection, line, 1)
+                wants(f"the reply to {line!r}", receive(connection, len(reply)), reply)
+            wants("the end after QUIT", receive(connection), b"")
+        with server.greeted() as connection:
+            connection.sendall(b"NOOP\r\nQUI")
+            connection.shutdown(socket.SHUT_WR)
+            wants("a session that ends within a line", receive(connection), OK)
+    return f"{len(SESSION)} lines in pieces of 6 kinds"
+
+
+def check_urgent(program):
+    with started(program) as server, server.greeted() as connection:
+        for _ in range(20):
+            connection.send(b"ABOR\r\n", socket.MSG_OOB)
+            wants("the reply to an urgent ABOR", receive(connection, len(MISSING)), MISSING)
+            connection.sendall(b"NOOP\r\n")
+            wants("the reply to NOOP after it", receive(connection, len(OK)), OK)
+    return "20 urgent commands answered"
+
+
+def check_late(program):
+    with started(program) as server:
+        for _ in range(20):
+            with server.connect() as connection:
+                connection.sendall(b"QUIT\r\n" + b"NOOP\r\n" * 10_000)
+                wants("what comes before the end", receive(connection), GREETING + BYE)
+    return "20 sessions ended by their last reply"
+
+
+def check_idle(program):
+    late, idle = b"421 Idle too long\r\n", 2
+    with started(program, idle) as server:
+        begun = time.monotonic()
+        with server.greeted() as silent, server.greeted() as slow, server.greeted() as busy:
+            while time.monotonic() < begun + 2 * idle:
+                busy.sendall(b"NOOP\r\n")
+                wants("a client that is not idle", receive(busy, len(OK)), OK)
+                if time.monotonic() < begun + idle / 2:
+                    slow.sendall(b"N")
+                time.sleep(0.2)
+            wants("a client that sends a part of a line", receive(slow), late)
+            wants("a client that sends nothing", receive(silent), late)
+    return "3 clients"
+
+
+def check_limit(program):
+    full = b"421 Too many connections\r\n"
+    with started(program, PATIENCE, 2) as server:
+        with server.greeted() as first, server.greeted():
+            with server.connect() as third:
+                wants("the third connection", receive(third), full)
+            first.sendall(b"NOOP\r\nQUIT\r\n")
+            wants("the first connection beside it", receive(first), OK + BYE)
+        deadline = time.monotonic() + PATIENCE
+        while time.monotonic() < deadline:
+            with server.connect() as another:
+                if receive(another, len(GREETING)) == GREETING:
+                    return "3 connections, and another in the place of the first"
+    raise Wrong("no connection is taken in the place of one that ended")
+
+
+def check_stop(program):
+    for number in [signal.SIGINT, signal.SIGTERM]:
+        with started(program) as server, server.greeted() as idle, server.greeted() as busy:
+            busy.sendall(b"NOOP\r\nNO")
+            wants("a reply before the signal", receive(busy, len(OK)), OK)
+            server.process.send_signal(number)
+            for connection in [idle, busy]:
+                wants("the last reply", receive(connection), b"421 Stopping\r\n")
+                connection.close()
+            wants("the status", server.process.wait(PATIENCE), 0)
+    return "2 sessions ended at each of 2 signals"
+
+
+def codes(text, mark=""):
+    """The codes of the replies that a client shows."""
+    return re.findall(rf"^{mark}([1-5][0-9][0-9])(?=[ :])", text, re.MULTILINE)
+
+
+def run_client(arguments, typed=""):
+    with tempfile.TemporaryDirectory() as home:
+        environment = {"HOME": home, "NCFTPDIR": home, "LC_ALL": "C", "TERM": "dumb", "PATH": os.environ["PATH"]}
+        run = subprocess.run(arguments, input=typed, env=environment, cwd=home, capture_output=True, text=True, timeout=PATIENCE)
+    return run.stdout, run.stderr
+
+
+def talk_by_curl(port):
+    _, err = run_client(["curl", "-q", "-sS", "-v", "-I", "-Q", "NOOP", "-Q", "QUIT", "-u", "anna:secret", f"ftp://{HOST}:{port}/"])
+    return codes(err, "< ")
+
+
+def talk_by_lftp(port):
+    typed = f"set ftp:ssl-allow no\nopen -u anna,secret -p {port} {HOST}\nquote NOOP\nclose\n"
+    _, err = run_client(["lftp", "--norc", "-d"], typed)
+    return codes(err, "<--- ")
+
+
+def talk_by_ncftp(port):
+    out, _ = run_client(["ncftp"], f"debug 1\nopen -u anna -p secret -P {port} {HOST}\nquote NOOP\nquit\n")
+    return codes(out)
+
+
+def talk_by_tnftp(port):
+    out, _ = run_client(["tnftp", "-n", "-v", "-i"], f"open {HOST} {port}\nuser anna secret\nquote NOOP\nquit\n")
+    return codes(out)
+
+
+TALKS = {"curl": talk_by_curl, "lftp": talk_by_lftp, "ncftp": talk_by_ncftp, "tnftp": talk_by_tnftp}
+
+
+def check_client(talk, program):
+    """A real client logs in to the server, sends NOOP, and quits."""
+    with started(program) as server:
+        found = talk(server.port)
+    logged_in = found.index("230") if "230" in found else -1
+    if found[:1] != ["220"] or logged_in < 0 or "200" not in found[logged_in:] or found[-1:] != ["221"]:
+        raise Wrong(f"the client has the replies {found}")
+    return f"{len(found)} replies"
+
+
+def check_speed(program, count="100000", connections="4"):
+    """Each connection sends all of its lines while it reads."""
+    lines, replies = b"NOOP\r\n" * int(count), int(count) * len(OK)
+    with started(program) as server:
+        sockets = [server.connect() for _ in range(int(connections))]
+        for each in sockets:
+            each.recv(4096)  # the greeting
+        begun = time.monotonic()
+        threads = [threading.Thread(target=each.sendall, args=(lines,), daemon=True) for each in sockets]
+        threads += [threading.Thread(target=receive, args=(each, replies), daemon=True) for each in sockets]
+        for thread in threads:
+            thread.start()
+        for thread in threads:
+            thread.join()
+        taken = time.monotonic() - begun
+    return f"{int(count) * len(sockets) / taken:,.0f} NOOPs a second in {connections} connections"
+
+
+CHECKS = {
+    "codes": check_codes,
+    "words": check_words,
+    "memory": check_memory,
+    "version": check_version,
+    "arguments": check_arguments,
+    "descriptors": check_descriptors,
+    "session": check_session,
+    "urgent": check_urgent,
+    "late": check_late,
+    "idle": check_idle,
+    "limit": check_limit,
+    "stop": check_stop,
+    "speed": check_speed,
+}
+
+
+if __name__ == "__main__":
+    sys.exit(run_check(CHECKS, __doc__))
