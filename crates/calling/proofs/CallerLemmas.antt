@@ -1,9 +1,6 @@
 -- What callers make of the answers of the library.
-use Rattle.std.proofs.Common.{◌≡◌, ℕ, Bool, true, false, arith, [], ◌∷◌, ◌++◌, ◌==◌, ◌&&◌, length, Option, Some, ◌∙◌, Result, Ok, Err, refl, sym, ap, subst, eqb-true, List}
+use Rattle.std.proofs.Common.{◌≡◌, ℕ, Bool, true, false, [], ◌∷◌, ◌++◌, ◌==◌, ◌&&◌, Option, Some, ◌∙◌, Ok, refl, sym, ap, subst, eqb-true, List}
 use Rattle.std.specs.List.{concat, AllByRecursion}
-use Rattle.std.specs.Prelude.{IfErr, IfOk, MatchResult}
-use Rattle.std.proofs.lemmas.Bool.{false≢true}
-use Rattle.unftp_control.specs.Bytes.{Bytes}
 use Rattle.unftp_control.specs.Dialogue.{agrees, is_place, next_to}
 use Rattle.unftp_control.specs.Exchange.{IsNext, MayBeginTls}
 use Rattle.unftp_control.specs.Input.{InputState}
@@ -13,35 +10,25 @@ use Rattle.unftp_control.specs.TakingSteps.{TakesReply}
 use Rattle.unftp_control.specs.declared.client.Client.{Client}
 use Rattle.unftp_control.specs.declared.client.ClientReply.{ClientReply}
 use Rattle.unftp_control.specs.declared.client.To.{To}
-use Rattle.unftp_control.specs.declared.client.To.TheVariants.{Greeting, Command, Nothing}
+use Rattle.unftp_control.specs.declared.client.To.TheVariants.{Command, Nothing}
 use Rattle.unftp_control.specs.declared.read.ReceiveError.{ReceiveError}
 use Rattle.calling.specs.NextCode.{ReadsAgreement}
 use Rattle.unftp_control.specs.FtpReply.{FtpReply, Nothing, CodeAndMsg, MultiLine, IsPlain}
 use Rattle.unftp_control.specs.Promises.{IsSentPlain}
 
-pub MatchResult-both : {T E : Type 0} (result : Result T E) (P : T → Type 0) (Q : E → Type 0)
-    → IfOk result P → IfErr result Q → MatchResult result P Q
-MatchResult-both (Ok value) P Q ok err = ok
-MatchResult-both (Err error) P Q ok err = err
-
--- nothing is pending where the test says so
-pub none_pending : {is_none : Bool} {pending bytes : Bytes} → is_none ≡ true
-    → is_none ≡ (length pending == 0) → pending ≡ bytes → bytes ≡ []
-none_pending {pending = []} holds is same = sym same
-none_pending {pending = b ∷ pending} holds is same =
-    let apart : (length (b ∷ pending) == 0) ≡ false = search arith in
-    absurd (false≢true (sym apart ∙ sym is ∙ holds))
+-- two facts, so that a tactic rewrites both
+pub both : {A B : Type 0} → A → B → A × B
+both a b = (a, b)
 
 -- where the client agrees to TLS, the reply that it took is a 234, and nothing was read after it
 agrees-code : (to : To) (asked : Option ℕ) (code : ℕ) → agrees to asked code ≡ true → code ≡ 234
-agrees-code Greeting asked code e = absurd (cc)
 agrees-code (Command place) asked code e =
     eqb-true code 234 (first (code == 234) (is_place place asked) e)
   where
     first : (a b : Bool) → (a && b) ≡ true → a ≡ true
     first true b e = refl
     first false b e = absurd (cc)
-agrees-code Nothing asked code e = absurd (cc)
+agrees-code _ asked code e = absurd (cc)
 
 pub agreement-read : (before after : Client) (input input' : InputState) (taken : ClientReply)
     → Receives before.replies input (Ok (Some taken.reply)) after.replies input'

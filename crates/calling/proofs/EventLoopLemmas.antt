@@ -5,7 +5,7 @@ use Rattle.unftp_control.specs.Decoder.{MayRunOut, Pending, StaysPending, TakesL
 use Rattle.unftp_control.specs.Events.{FtpEvent, event_for}
 use Rattle.unftp_control.specs.FtpReply.{encoded}
 use Rattle.calling.specs.declared.event_loop.Turn.{Turn}
-use Rattle.calling.specs.declared.event_loop.Turn.TheVariants.{Read, GoOn, Close, StartTls}
+use Rattle.calling.specs.declared.event_loop.Turn.TheVariants.{Close}
 use Rattle.calling.specs.EventLoop.{AnswersNext, LeavesUnanswered, left_after, loop_replies, turn_after}
 
 -- once a line is taken, all pending bytes are kept
@@ -17,10 +17,8 @@ kept_bytes-all pending all =
 
 pub left_after-on : (turn : Turn) {following : Bytes} → (turn ≡ Close → ⊥)
     → left_after turn following ≡ following
-left_after-on Read on = refl
-left_after-on GoOn on = refl
 left_after-on Close on = absurd (on refl)
-left_after-on StartTls on = refl
+left_after-on _ on = refl
 
 all_pending : {before middle : Pending} {event : FtpEvent} {pending : Bytes}
     → TakesLine before event middle → pending ≡ kept_bytes middle → pending ≡ middle.bytes
@@ -44,10 +42,10 @@ AnswersNext-taken {middle = middle} {event = event} {sent = sent} taken is is' a
     }
 
 -- out of memory for the command of a line
-pub LeavesUnanswered-kept : {before after : Pending} {sent : Bytes}
+pub left_unanswered : {before after : Pending} {sent : Bytes}
     → MayRunOut before.limit before.bytes
     → StaysPending before after → LeavesUnanswered before sent after sent
-LeavesUnanswered-kept {before} may stays = record {
+left_unanswered {before} may stays = record {
   event = event_for before.limit may.line;
   following = may.after;
   is_first = record { line = may.line; is_line = may.is_line; whole = may.whole; meaning = refl };

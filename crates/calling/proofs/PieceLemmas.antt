@@ -1,9 +1,10 @@
 -- The pieces that an engine was fed.
-use Rattle.std.proofs.Common.{◌≡◌, ℕ, ◌+◌, ◌<◌, inl, inr, Bool, true, false, List, [], ◌∷◌, ◌++◌, Bor, None, Result, Err, zero, suc, length, map, take, drop, get_or, refl, ap, ◌∙◌, arith}
+use Rattle.std.proofs.Common.{◌≡◌, ℕ, ◌+◌, ◌<◌, inl, inr, Bool, true, false, List, [], ◌∷◌, ◌++◌, Bor, None, Result, Err, suc, length, map, take, drop, get_or, refl, ap, ◌∙◌}
 use Rattle.std.specs.Prelude.{IsTrue, is_ok}
 use Rattle.std.specs.List.{concat}
+use Rattle.std.proofs.Math.Seq.{split_at}
 use Rattle.std.proofs.lemmas.Bool.{false≢true}
-use Rattle.std.proofs.lemmas.List.{append-nil, map-append, take_more}
+use Rattle.std.proofs.lemmas.List.{append-nil, map-append, map_more}
 use Rattle.std.proofs.lemmas.List.Folds.{concat-append}
 use Rattle.unftp_control.specs.Bytes.{Bytes}
 use Rattle.unftp_control.specs.Events.{events}
@@ -75,20 +76,10 @@ pub sent-more : (pieces : List (Bor Bytes)) (i : ℕ) (d : Bor Bytes) → i < le
     concat (map (λ piece. piece.now) (take (i + 1) pieces))
     ≡ concat (map (λ piece. piece.now) (take i pieces)) ++ (get_or pieces i d).now
 sent-more pieces i d within =
-    let last : List (Bor Bytes) = get_or pieces i d ∷ [] in
-    ap (λ more. concat (map (λ piece. piece.now) more)) (take_more pieces i d within)
-    ∙ ap concat (map-append (λ piece. piece.now) (take i pieces) last)
-    ∙ concat-append (map (λ piece. piece.now) (take i pieces)) (map (λ piece. piece.now) last)
+    ap concat (map_more (λ piece. piece.now) pieces i d within)
+    ∙ concat-append (map (λ piece. piece.now) (take i pieces)) ((get_or pieces i d).now ∷ [])
     ∙ ap (λ end. concat (map (λ piece. piece.now) (take i pieces)) ++ end)
     (append-nil (get_or pieces i d).now)
-
-pieces-split : (pieces : List (Bor Bytes)) (i : ℕ) (d : Bor Bytes) → i < length pieces →
-    map (λ piece. piece.now) pieces ≡ map (λ piece. piece.now) (take i pieces)
-    ++ (get_or pieces i d).now ∷ map (λ piece. piece.now) (drop (suc i) pieces)
-pieces-split [] i d within = absurd (omega (arith, within))
-pieces-split (piece ∷ pieces) zero d within = refl
-pieces-split (piece ∷ pieces) (suc i) d within =
-    ap (λ z. piece.now ∷ z) (pieces-split pieces i d (omega (arith, within)))
 
 pub ComesAfter-at : (pieces : List (Bor Bytes)) (i : ℕ) (d : Bor Bytes) → i < length pieces
     → ComesAfter (concat (map (λ piece. piece.now) (take i pieces))) (get_or pieces i d).now
@@ -96,6 +87,7 @@ pub ComesAfter-at : (pieces : List (Bor Bytes)) (i : ℕ) (d : Bor Bytes) → i 
 ComesAfter-at pieces i d within = record {
   first = map (λ piece. piece.now) (take i pieces);
   later = map (λ piece. piece.now) (drop (suc i) pieces);
-  whole = pieces-split pieces i d within;
+  whole = ap (map (λ piece. piece.now)) (split_at pieces i d within)
+      ∙ map-append (λ piece. piece.now) (take i pieces) (get_or pieces i d ∷ drop (suc i) pieces);
   same = refl;
 }

@@ -1,6 +1,6 @@
 -- A client and a server in one process, which take the turns of a list, and what they understand of
 -- each other (RFC 959, sections 4.2 and 5.4).
-use Rattle.std.specs.Prelude.{◌≡◌, ◌≤◌, ◌<◌, ℕ, suc, List, [], ◌∷◌, ◌++◌, drop, take, length, map, option_to_list, Result, Ok, Option, None, MatchResult, vec_capacity, vec_len}
+use Rattle.std.specs.Prelude.{◌≡◌, ◌≤◌, ◌<◌, ◌+◌, ℕ, suc, List, [], ◌∷◌, ◌++◌, drop, take, length, map, Result, Ok, None, MatchResult, vec_capacity, vec_len}
 use Rattle.std.specs.List.{AllByRecursion, filter_map}
 use Rattle.unftp_control.specs.Acts.{Act, AtClient, AtServer, IsConversation, Server, at_server, came_to_client, came_to_server, client_steps, lines_of_client, sent_by_client, taken_by_client, written_by}
 use Rattle.unftp_control.specs.Bytes.{Bytes}
@@ -8,19 +8,18 @@ use Rattle.unftp_control.specs.Canonical.{HasLine, canonical_line}
 use Rattle.unftp_control.specs.Endings.{AllAnswered, Snapshot}
 use Rattle.unftp_control.specs.Engine.{fresh}
 use Rattle.unftp_control.specs.Events.{Command}
-use Rattle.unftp_control.specs.Exchange.{IsNext, IsOtherError, new_client, only_reply}
+use Rattle.unftp_control.specs.Exchange.{IsOtherError, new_client}
 use Rattle.unftp_control.specs.FtpCommand.{FtpCommand}
 use Rattle.unftp_control.specs.FtpReply.{FtpReply, encoded}
 use Rattle.unftp_control.specs.Lines.{IsLine}
 use Rattle.unftp_control.specs.Outcome.{outcome}
-use Rattle.unftp_control.specs.ReplyDecoding.{HasError, TakesNextReply}
+use Rattle.unftp_control.specs.ReplyDecoding.{HasError}
 use Rattle.unftp_control.specs.ReplyReader.{IsPartial}
 use Rattle.unftp_control.specs.Run.{SessionLaw, run_for, run_of, replies_by_event}
-use Rattle.unftp_control.specs.Steps.{Received, Sent, Took, decoder_steps, reply_to}
+use Rattle.unftp_control.specs.Steps.{ClientStep, IsStep, Received, Sent, Took, decoder_steps, reply_to}
 use Rattle.unftp_control.specs.TakingSteps.{AreTakingSteps, TakesReply}
 use Rattle.unftp_control.specs.Writing.{Begins, appended_output}
-use Rattle.unftp_control.specs.declared.client.ClientReply.{ClientReply}
-use Rattle.unftp_control.specs.declared.read.NextReplyError.{NextReplyError}
+use Rattle.unftp_control.specs.declared.client.Client.{Client}
 use Rattle.unftp_control.specs.declared.client.SendError.{SendError}
 use Rattle.unftp_control.specs.declared.client.SendError.TheVariants.{NoLine}
 use Rattle.calling.specs.Pieces.{FailsAtPiece}
@@ -72,12 +71,11 @@ abbrev pub next_line : List FtpCommand → List Act
 next_line [] = []
 next_line (command ∷ commands) = AtClient (Sent (canonical_line command)) ∷ []
 
--- The next reply is taken, if a whole one is there.
-abbrev pub IsTaken : List Act → List Act → Type 0
-IsTaken before [] = (pending : Bytes) × IsPartial pending
-    × AreTakingSteps TakesReply [] (decoder_steps (client_steps before)) pending
-IsTaken before (AtClient (Took taken) ∷ []) = Unit {0}
-IsTaken before _ = ⊥
+-- The next reply is taken, if the pending bytes begin with a whole one.
+abbrev pub IsNextTaken : Bytes → List Act → Type 0
+IsNextTaken pending [] = IsPartial pending
+IsNextTaken pending (AtClient (Took taken) ∷ []) = Unit {0}
+IsNextTaken pending _ = ⊥
 
 -- After what was done before, this is done at the turn.
 abbrev pub IsDone : {S : Type 0} → Server S → List FtpCommand → List Act → Turn → List Act
@@ -88,7 +86,8 @@ IsDone server commands before (ToServer most) done = done ≡ AtServer (piece_of
     (length (came_to_server before)) (sent_by_client before) most) ∷ []
 IsDone server commands before (ToClient most) done = done ≡ AtClient (Received (piece_of
     (length (came_to_client before)) (written_by server (came_to_server before)) most)) ∷ []
-IsDone server commands before Take done = IsTaken before done
+IsDone server commands before Take done = (pending : Bytes) × IsNextTaken pending done
+    × AreTakingSteps TakesReply [] (decoder_steps (client_steps before)) pending
 
 -- and these acts at turns one after the other
 abbrev pub AreDone : {S : Type 0} → Server S → List FtpCommand → List Act → List Turn → List Act
@@ -98,46 +97,46 @@ AreDone server commands before (turn ∷ turns) acts = (done : List Act)
     × IsDone server commands before turn done
     × AreDone server commands (before ++ done) turns acts
 
--- a reply is taken, or there is none
-pub record TakesOne (before after : Conversation) : Type 0 where
-  pub next : Option ClientReply
-  pub bytes : TakesNextReply before.client.replies (only_reply {E = NextReplyError} (Ok next))
-      after.client.replies
+-- The client takes this step, if there is one.
+abbrev pub TakesStep : Client → List ClientStep → Client → Type 0
+TakesStep before [] after = (after.dialogue ≡ before.dialogue)
+    × (after.replies.bytes ≡ before.replies.bytes)
+TakesStep before (step ∷ []) after = IsStep before step after
+TakesStep before _ after = ⊥
+
+-- What this act changes, if there is one: the client takes its step, and what is sent, comes and is
+-- taken is one line, piece or reply more.
+pub record Changes (acts : List Act) (before after : Conversation) : Type 0 where
+  pub few : length acts ≤ 1
+  pub client : TakesStep before.client (client_steps acts) after.client
   pub limit : after.client.replies.limit ≡ before.client.replies.limit
-  pub dialogue : IsNext {E = NextReplyError} before.client.dialogue (Ok next) after.client.dialogue
-  pub taken : after.taken.items ≡ before.taken.items ++ option_to_list next
-  pub rest : after ≡ record before { client = after.client; taken = after.taken }
+  pub to_server : after.to_server.items ≡ before.to_server.items ++ sent_by_client acts
+  pub at_server : after.at_server ≡ before.at_server + length (came_to_server acts)
+  pub at_client : after.at_client ≡ before.at_client + length (came_to_client acts)
+  pub taken : map reply_to after.taken.items
+      ≡ map reply_to before.taken.items ++ taken_by_client acts
 
--- Why it is not taken: the pending bytes are no reply, or there is no memory for it, or for one
--- more.
-abbrev pub IsNotTaken : Conversation → Conversation → ConverseError → Type 0
-IsNotTaken before after (error.Reply why) =
-    HasError before.client.replies.limit before.client.replies.bytes why
-IsNotTaken before after error.OutOfMemory = vec_capacity after.taken < suc (vec_len after.taken)
-IsNotTaken before after _ = ⊥
-
-pub record TakesNone (before after : Conversation) (why : ConverseError) : Type 0 where
-  pub bytes : after.client.replies.bytes ≡ before.client.replies.bytes
-  pub dialogue : after.client.dialogue ≡ before.client.dialogue
-  pub taken : after.taken.items ≡ before.taken.items
-  pub rest : after ≡ record before { client = after.client; taken = after.taken }
-  pub because : IsNotTaken before after why
+-- The server does nothing.
+pub record HasSameServer (before after : Conversation) : Type 0 where
+  pub server : after.server ≡ before.server
+  pub to_client : after.to_client ≡ before.to_client
 
 -- ---- what is so then
 
 -- These acts were done: the lines are those of the first commands, each was sent once and is owed
--- one reply, and no piece came before it was sent.
+-- one reply, and so many bytes came of those that were sent.
 pub record HasTalked {S : Type 0} (server : Server S) (commands : List FtpCommand)
     (acts : List Act) (c : Conversation) : Type 0 where
   pub talk : IsConversation server None acts c.client
+  pub any_length : c.client.replies.limit ≡ None
   pub sent : List FtpCommand
   pub first : Begins commands sent
   pub lines : lines_of_client acts ≡ map canonical_line sent
   pub read_back : AllByRecursion IsReadBack sent
   pub to_server : c.to_server.items ≡ sent_by_client acts
-  pub at_server : came_to_server acts ≡ take c.at_server c.to_server.items
+  pub at_server : c.at_server ≡ length (came_to_server acts)
   pub to_client : Begins c.to_client.items (written_by server (came_to_server acts))
-  pub at_client : came_to_client acts ≡ take c.at_client (written_by server (came_to_server acts))
+  pub at_client : c.at_client ≡ length (came_to_client acts)
   pub taken : map reply_to c.taken.items ≡ taken_by_client acts
 
 -- Why the next of these commands is not sent.
@@ -146,8 +145,14 @@ IsNotSent [] sent why = ⊥
 IsNotSent (command ∷ commands) sent why = (¬ HasLine command → why ≡ NoLine)
     × (HasLine command → IsOtherError sent (Unit {0}) why)
 
+-- Why no reply is taken: the pending bytes are none, or there is no memory for it, or for one more.
+abbrev pub IsNotTaken : Conversation → ConverseError → Type 0
+IsNotTaken c (error.Reply why) = HasError c.client.replies.limit c.client.replies.bytes why
+IsNotTaken c error.OutOfMemory = vec_capacity c.taken < suc (vec_len c.taken)
+IsNotTaken c _ = ⊥
+
 -- Why the turn fails: the command is not sent; the server stops at the piece; there is no memory
--- for the piece; or the pending bytes are no reply, or there is no memory for it.
+-- for the piece; or no reply is taken.
 abbrev pub Fails : {S : Type 0} → Server S → List FtpCommand → List Act → Conversation
     → Snapshot S → Snapshot S → Turn → ConverseError → Type 0
 Fails server commands acts c start after Send (error.Send why) = IsNotSent
@@ -157,10 +162,7 @@ Fails server commands acts c start after (ToServer most) (error.Serve why) =
     ++ piece_of c.at_server c.to_server.items most ∷ []) after why
 Fails server commands acts c start after (ToClient most) error.OutOfMemory =
     ¬ (piece_of c.at_client c.to_client.items most ≡ [])
-Fails server commands acts c start after Take (error.Reply why) =
-    HasError None c.client.replies.bytes why
-Fails server commands acts c start after Take error.OutOfMemory =
-    vec_capacity c.taken < suc (vec_len c.taken)
+Fails server commands acts c start after Take error = IsNotTaken c error
 Fails _ _ _ _ _ _ _ _ = ⊥
 
 -- What the handler has taken and said when this turn failed: all that came, but where the server

@@ -1,17 +1,13 @@
 //! A client and a server in one process, which take the turns of a list.
-ghost use Rattle.std.specs.Prelude.{◌≡◌, ◌≤◌, ◌+◌, ◌++◌, Err, Ok, Some, IfErr, MatchResult, OnErr, OnOk, IsTrue, List, [], is_ok, length, map, true};
-ghost use Rattle.calling.specs.Conversing.{HasConversed, IsNew, IsOver, IsReadBack, TakesNone, TakesOne, first_snapshot, piece_of, server_of, turns_of};
-ghost use Rattle.unftp_control.specs.Acts.{AreFirst, IsUnderstood, exchanges};
-ghost use Rattle.unftp_control.specs.Canonical.{HasLine, canonical_line};
+ghost use Rattle.std.specs.Prelude.{◌≡◌, ◌∷◌, IfErr, OnErr, OnOk, IsTrue, List, [], Some, is_ok, map, true};
+ghost use Rattle.calling.specs.Conversing.{Changes, HasConversed, HasSameServer, IsNew, IsNextTaken, IsNotSent, IsNotTaken, IsOver, IsReadBack, first_snapshot, piece_of, server_of, turns_of};
+ghost use Rattle.unftp_control.specs.Acts.{Act, AreFirst, AtClient, AtServer, IsUnderstood, exchanges};
+ghost use Rattle.unftp_control.specs.Canonical.{canonical_line};
 ghost use Rattle.unftp_control.specs.CommandMeaning.{command_of};
-ghost use Rattle.unftp_control.specs.Dialogue.{after_line};
 ghost use Rattle.unftp_control.specs.Endings.{PieceOutcome, snapshot_with};
 ghost use Rattle.unftp_control.specs.Engine.{IsRunning, bytes_with, fed, more_left};
-ghost use Rattle.unftp_control.specs.Exchange.{IsOtherError};
 ghost use Rattle.unftp_control.specs.FtpReply.{FtpReply, encoded};
-ghost use Rattle.unftp_control.specs.ReplyDecoding.{pushed};
-ghost use Rattle.unftp_control.specs.Room.{LacksRoom};
-ghost use Rattle.unftp_control.specs.Steps.{reply_to};
+ghost use Rattle.unftp_control.specs.Steps.{Received, Sent, reply_to};
 ghost use Rattle.unftp_control.specs.Writing.{Begins, appended_state_of};
 ghost use Rattle.unftp_control.specs.declared.client.To.TheVariants.{Greeting};
 
@@ -127,10 +123,9 @@ pub struct Conversation {
 
 /// The next piece of the bytes, of which so many came, and of at most so many.
 fn next_piece(bytes: &[u8], at: usize, most: usize) -> &[u8]
-    requires { at ≤ length bytes.now }
     ensures { result.now ≡ piece_of at bytes.now most }
 {
-    let (_, rest) = bytes.split_at(at);
+    let (_, rest) = bytes.split_at(at.min(bytes.len()));
     let (piece, _) = rest.split_at(most.min(rest.len()));
     piece
 }
@@ -155,22 +150,13 @@ impl Conversation {
 
     /// The client sends the command.
     fn send(&mut self, command: &Command) -> Result<(), SendError>
-        ensures client { OnOk result (self.new.client ≡ record self.old.client {
-          dialogue = after_line (canonical_line (command_of command.now)) self.old.client.dialogue;
-        }) }
-        ensures line { OnOk result (self.new.to_server.items
-            ≡ self.old.to_server.items ++ canonical_line (command_of command.now)) }
+        ensures sent { OnOk result (Changes
+            (AtClient (Sent (canonical_line (command_of command.now))) ∷ []) self.old self.new) }
         ensures read_back { OnOk result (IsReadBack (command_of command.now)) }
-        ensures rest { self.new ≡ record self.old {
-          client = self.new.client;
-          to_server = self.new.to_server;
-        } }
-        ensures err { OnErr result (self.new.client ≡ self.old.client) }
-        ensures items { OnErr result (self.new.to_server.items ≡ self.old.to_server.items) }
-        ensures no_line { ¬ HasLine (command_of command.now) → result ≡ Err SendError.NoLine }
-        ensures has_line { HasLine (command_of command.now) → IfErr result (λ why.
-            IsOtherError self.old.client.dialogue.sent
-            (LacksRoom self.old.to_server (canonical_line (command_of command.now))) why) }
+        ensures not_sent { OnErr result (Changes [] self.old self.new) }
+        ensures why { IfErr result (λ why.
+            IsNotSent (command_of command.now ∷ []) self.new.client.dialogue.sent why) }
+        ensures server { HasSameServer self.old self.new }
     {
         self.client.send(command, &mut self.to_server)?;
         Ok(())
@@ -182,7 +168,10 @@ impl Conversation {
         most: usize,
         handler: &mut H,
     ) -> Result<(), ServeError>
-        requires { self.old.at_server ≤ length self.old.to_server.items }
+        ensures came { OnOk result (Changes (AtServer
+            (piece_of self.old.at_server self.old.to_server.items most) ∷ []) self.old self.new) }
+        ensures not_come { OnErr result (Changes [] self.old self.new) }
+        ensures grows { Begins self.new.to_client.items self.old.to_client.items }
         ensures heard { Begins (H.heard handler.new) (H.heard handler.old) }
         ensures outcome { IsRunning self.old.server → (said : List H.Said)
             → Begins said (H.heard handler.new)
@@ -201,14 +190,6 @@ impl Conversation {
             × (handler.new ≡ handler.old) × (self.new.to_client ≡ self.old.to_client)
             × (self.new.server ≡ more_left self.old.server
             (piece_of self.old.at_server self.old.to_server.items most)) }
-        ensures ok { OnOk result (self.new.at_server ≡ self.old.at_server
-            + length (piece_of self.old.at_server self.old.to_server.items most)) }
-        ensures err { OnErr result (self.new.at_server ≡ self.old.at_server) }
-        ensures rest { self.new ≡ record self.old {
-          server = self.new.server;
-          at_server = self.new.at_server;
-          to_client = self.new.to_client;
-        } }
     {
         let piece = next_piece(self.to_server.as_slice(), self.at_server, most);
         self.server.feed(piece, handler, &mut self.to_client)?;
@@ -218,18 +199,12 @@ impl Conversation {
 
     /// A piece comes to the client.
     fn bring_to_client(&mut self, most: usize) -> Result<(), AllocError>
-        requires { self.old.at_client ≤ length self.old.to_client.items }
-        ensures ok { OnOk result (self.new ≡ record self.old {
-          client = record self.old.client {
-            replies = pushed self.old.client.replies
-                (piece_of self.old.at_client self.old.to_client.items most);
-          };
-          at_client = self.old.at_client
-              + length (piece_of self.old.at_client self.old.to_client.items most);
-        }) }
-        ensures err { OnErr result (self.new ≡ self.old) }
+        ensures came { OnOk result (Changes (AtClient (Received
+            (piece_of self.old.at_client self.old.to_client.items most)) ∷ []) self.old self.new) }
+        ensures not_come { OnErr result (Changes [] self.old self.new) }
         ensures some { OnErr result
-            (¬ (piece_of self.old.at_client self.old.to_client.items most ≡ [])) }
+            (¬ (piece_of self.new.at_client self.new.to_client.items most ≡ [])) }
+        ensures server { HasSameServer self.old self.new }
     {
         let piece = next_piece(self.to_client.as_slice(), self.at_client, most);
         self.client.receive(piece)?;
@@ -239,9 +214,11 @@ impl Conversation {
 
     /// The client takes the next reply, if a whole one is there.
     fn take(&mut self) -> Result<(), ConverseError>
-        ensures { MatchResult result
-            (λ _. TakesOne self.old self.new)
-            (λ why. TakesNone self.old self.new why) }
+        ensures taken { OnOk result ((acts : List Act)
+            × IsNextTaken self.old.client.replies.bytes acts × Changes acts self.old self.new) }
+        ensures not_taken { OnErr result (Changes [] self.old self.new) }
+        ensures why { IfErr result (λ why. IsNotTaken self.new why) }
+        ensures server { HasSameServer self.old self.new }
     {
         // so that a reply that is taken is not lost
         self.taken.reserve(1)?;

@@ -105,6 +105,7 @@ fn reply_to(
 /// taken for commands under TLS (RFC 4217).
 ///
 /// It fails only when out of memory, and has then appended nothing.
+#[tactic(auto, using(crate::proofs::EventLoopLemmas::left_unanswered))]
 pub fn answer_next(
     alloc: Global,
     decoder: &mut EventDecoder,

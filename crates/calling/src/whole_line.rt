@@ -106,6 +106,7 @@ fn agree(modes: &mut Modes, event: &Event, asked: Asked) -> (ReplyCode, &'static
 ///
 /// It fails only when out of memory: nothing is appended then, and the modes are as before; the
 /// line stays, or is taken and not answered.
+#[tactic(auto, using(crate::proofs::EventLoopLemmas::left_unanswered))]
 pub fn answer_line(
     alloc: Global,
     decoder: &mut EventDecoder,

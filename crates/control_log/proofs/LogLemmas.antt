@@ -1,10 +1,11 @@
 -- Logs that are put together: line by line, and piece by piece.
-use Rattle.std.proofs.Common.{◌≡◌, ℕ, ◌≤◌, ◌+◌, ◌-◌, ◌^◌, List, [], ◌∷◌, ◌++◌, length, take, Option, Some, Ok, inr, refl, sym, ap, subst, ◌∙◌, arith, append_assoc, append-nil, length-append}
+use Rattle.std.proofs.Common.{◌≡◌, ℕ, ◌≤◌, ◌+◌, ◌-◌, ◌^◌, List, [], ◌∷◌, ◌++◌, length, Option, Some, Ok, inr, refl, sym, ap, subst, ◌∙◌, arith, append_assoc, append-nil, length-append}
 use Rattle.std.specs.Prelude.{if◌then◌else◌}
-use Rattle.std.specs.Io.KnownBytes.{Appends, IsAtEnd}
+use Rattle.std.specs.Io.KnownBytes.{Appends}
 use Rattle.std.proofs.KnownBytes.{Consumes-whole}
 use Rattle.std.specs.List.{concat}
 use Rattle.std.specs.Option.{IfSome}
+use Rattle.std.proofs.lemmas.List.Concat.{flat_map-append}
 use Rattle.unftp_control_defs.specs.Bytes.{Bytes, LF}
 use Rattle.unftp_control_defs.specs.Events.{event_for}
 use Rattle.unftp_control_defs.specs.Input.{InputState, HasPieceSize, HasRead, WereRead}
@@ -20,20 +21,13 @@ use Rattle.unftp_control_serve.specs.declared.error.ServeError.TheVariants as er
 use Rattle.unftp_control_serve.specs.declared.event.Event.{Event}
 use Rattle.unftp_control_serve.proofs.EventLineLemmas.{line_after-taken, refuses_length-exceeds}
 use Rattle.unftp_control_serve.proofs.SendLemmas.{HasWritten-nothing, HasWritten-then, Flushed-then}
-use Rattle.control_log.specs.Log.{EndedLate, LogEnded, LogsAll, NoRoomForPiece, ReadFailed, ReadTooOften, StopsAt, log_entries, log_entry, log_of}
-
-log_entries-append : (limit : Option ℕ) (lines more : List Bytes)
-    → log_entries limit (lines ++ more) ≡ log_entries limit lines ++ log_entries limit more
-log_entries-append limit [] more = refl
-log_entries-append limit (line ∷ lines) more =
-    ap (λ entries. log_entry limit line ++ entries) (log_entries-append limit lines more)
-    ∙ sym (append_assoc (log_entry limit line) (log_entries limit lines) (log_entries limit more))
+use Rattle.control_log.specs.Log.{EndedLate, LogEnded, LoggedSoFar, LogsAll, NoRoomForPiece, ReadTooOften, StopsAt, log_entries, log_entry, log_of}
 
 log_of-append : (limit : Option ℕ) (bytes more : Bytes)
     → log_of limit (bytes ++ more) ≡ log_of limit bytes ++ log_of limit
     (incomplete_line bytes ++ more)
 log_of-append limit bytes more = ap (log_entries limit) (lines_of-append bytes more)
-    ∙ log_entries-append limit (lines_of bytes) (lines_of (incomplete_line bytes ++ more))
+    ∙ flat_map-append (log_entry limit) (lines_of bytes) (lines_of (incomplete_line bytes ++ more))
 
 pub Sent-nothing : (output : OutputState) → Sent [] output output
 Sent-nothing output =
@@ -121,7 +115,7 @@ module _ {limit : Option ℕ} {bytes : Bytes} {before now : OutputState} where
           let entry =
           subst (λ entry. Sent entry now after) (entry_is same event first is
           ∙ sym (append-nil (log_entry limit first.takes.line))) sent in
-          let lines = log_entries-append limit so_far.logged (first.takes.line ∷ []) in
+          let lines = flat_map-append (log_entry limit) so_far.logged (first.takes.line ∷ []) in
           record {
             logged = so_far.logged ++ first.takes.line ∷ [];
             split = so_far.split ∙ ap (λ lines. so_far.logged ++ lines) next_lines
@@ -149,24 +143,23 @@ module _ {limit : Option ℕ} {bytes : Bytes} {before now : OutputState} where
 -- in the loop over the pieces: all lines that were read are logged
 pub record Logging (limit : Option ℕ) (before now : OutputState) (i j : InputState)
     (decoder : Pending) (turn : ℕ) : Type 0 where
-  pub pieces : List Bytes
-  pub were_read : WereRead i j pieces []
-  pub pending : decoder.bytes ≡ incomplete_line (concat pieces)
+  pub all : LoggedSoFar limit before now i j [] 0
+  pub pending : decoder.bytes ≡ incomplete_line (concat all.pieces)
   pub limited : decoder.limit ≡ limit
-  pub sent : Sent (log_of limit (concat pieces)) before now
-  pub turns : turn ≤ length (concat pieces)
-  pub no_read_failed : j.failures ≡ i.failures
+  pub turns : turn ≤ length (concat all.pieces)
 
 pub Logging-start : {limit : Option ℕ} {before : OutputState} {i : InputState} {decoder : Pending}
     → decoder.bytes ≡ [] → decoder.limit ≡ limit → Logging limit before before i i decoder 0
 Logging-start {before = before} {i} none limited = record {
-  pieces = [];
-  were_read = WereRead-start i;
+  all = record {
+    pieces = [];
+    were_read = WereRead-start i;
+    sent = Sent-nothing before;
+    reads_failed = omega arith;
+  };
   pending = none;
   limited = limited;
-  sent = Sent-nothing before;
   turns = omega arith;
-  no_read_failed = refl;
 }
 
 -- a line at which it failed is no error of a read
@@ -182,47 +175,39 @@ ends_by error.Stopped late = late.stops.fails
 
 module _ {limit : Option ℕ} {before now : OutputState} {i j : InputState}
     {decoder : Pending} {turn : ℕ} (so_far : Logging limit before now i j decoder turn) where
+  none_failed : j.failures ≡ i.failures
+  none_failed = omega (arith, so_far.all.reads_failed)
+
   abbrev read_so_far : Bytes
-  read_so_far = concat so_far.pieces
+  read_so_far = concat so_far.all.pieces
 
   module _ (k : InputState) where
-    -- a read failed
-    pub Logging-read_failed : HasRead j k [] → k.reads ≡ j.reads
-        → k.failures ≡ j.failures + 1 → ReadFailed limit before now i k
-    Logging-read_failed nothing reads counted = record {
-      pieces = so_far.pieces;
-      were_read = WereRead-no_more so_far.were_read [] nothing (reads ∙ sym (append-nil j.reads));
-      sent = so_far.sent;
-      read_failed = counted ∙ ap (λ n. n + 1) so_far.no_read_failed;
-    }
-
-    -- a read gave nothing
-    pub Logging-all : {count : ℕ} (piece : Bytes) → count ≡ 0 → k.reads ≡ j.reads ++ count ∷ []
-        → HasRead j k (take count piece) → IsAtEnd k.remaining
-        → k.failures ≡ j.failures → LogsAll limit before now i k
-    Logging-all piece zero reads given at_end quiet = record {
-      pieces = so_far.pieces;
-      were_read = WereRead-no_more so_far.were_read (0 ∷ []) (rw zero at given) (rw zero at reads);
-      at_end = at_end;
-      sent = so_far.sent;
-      no_read_failed = quiet ∙ so_far.no_read_failed;
+    -- a read gave nothing, or failed
+    pub Logging-nothing : (reads : List ℕ) {failed : ℕ} → HasRead j k []
+        → k.reads ≡ j.reads ++ reads → k.failures ≡ j.failures + failed
+        → LoggedSoFar limit before now i k reads failed
+    Logging-nothing reads {failed} nothing more counted = record {
+      pieces = so_far.all.pieces;
+      were_read = WereRead-no_more so_far.all.were_read reads nothing more;
+      sent = so_far.all.sent;
+      reads_failed = omega (arith, counted, so_far.all.reads_failed);
     }
 
     -- a piece was read
     module _ (piece : Bytes) (given : HasRead j k piece)
         (reads : k.reads ≡ j.reads ++ length piece ∷ []) (size : HasPieceSize piece)
         (quiet : k.failures ≡ j.failures) where
-      were_read_so : WereRead i k (so_far.pieces ++ piece ∷ []) []
-      were_read_so = WereRead-more so_far.were_read piece given reads size
+      were_read_so : WereRead i k (so_far.all.pieces ++ piece ∷ []) []
+      were_read_so = WereRead-more so_far.all.were_read piece given reads size
 
       -- there is no memory for it
       pub Logging-no_room : NoRoomForPiece limit before now i k
       Logging-no_room = record {
-        pieces = so_far.pieces;
+        pieces = so_far.all.pieces;
         last = piece;
         were_read = were_read_so;
-        sent = so_far.sent;
-        no_read_failed = quiet ∙ so_far.no_read_failed;
+        sent = so_far.all.sent;
+        no_read_failed = quiet ∙ none_failed;
       }
 
       module _ {full : Pending} (is : full ≡ pushed decoder piece) where
@@ -239,7 +224,7 @@ module _ {limit : Option ℕ} {before now : OutputState} {i j : InputState}
             ≡ log_of limit (incomplete_line read_so_far ++ piece) =
             ap (λ limit. log_of limit full.bytes) limit_is ∙ ap (log_of limit) bytes_are in
             subst (λ text. Sent text before after) (sym (log_of-append limit read_so_far piece))
-            (Sent-then so_far.sent (subst (λ text. Sent text now after) text sent))
+            (Sent-then so_far.all.sent (subst (λ text. Sent text now after) text sent))
 
         -- its lines are logged
         pub Logging-next : {emptied : Pending} {after : OutputState}
@@ -247,18 +232,20 @@ module _ {limit : Option ℕ} {before now : OutputState} {i j : InputState}
             → emptied.bytes ≡ incomplete_line full.bytes → emptied.limit ≡ full.limit
             → Logging limit before after i k emptied (turn + 1)
         Logging-next sent left kept_limit =
-            let whole = concat-more so_far.pieces piece in
+            let whole = concat-more so_far.all.pieces piece in
             record {
-              pieces = so_far.pieces ++ piece ∷ [];
-              were_read = were_read_so;
+              all = record {
+                pieces = so_far.all.pieces ++ piece ∷ [];
+                were_read = were_read_so;
+                sent = rw whole (sent_so sent);
+                reads_failed = omega (arith, quiet, so_far.all.reads_failed);
+              };
               pending = left ∙ ap incomplete_line bytes_are
                   ∙ sym (incomplete_line-append read_so_far piece)
                   ∙ sym (ap incomplete_line whole);
               limited = kept_limit ∙ limit_is;
-              sent = rw whole (sent_so sent);
               turns = rw whole
                   (omega (arith, so_far.turns, length-append read_so_far piece, size.0));
-              no_read_failed = quiet ∙ so_far.no_read_failed;
             }
 
         -- it fails at one of them
@@ -266,7 +253,7 @@ module _ {limit : Option ℕ} {before now : OutputState} {i j : InputState}
             → StopsAt full.limit (lines_of full.bytes) now after error
             → LogEnded limit before after i k error
         Logging-failed {error} {after} failed = ends_by error record {
-          pieces = so_far.pieces;
+          pieces = so_far.all.pieces;
           last = piece;
           were_read = were_read_so;
           stops = record {
@@ -283,31 +270,25 @@ module _ {limit : Option ℕ} {before now : OutputState} {i j : InputState}
             sent =
                 let text = ap (λ limit. log_entries limit failed.logged) limit_is in
                 subst (λ text. Sent text before failed.between)
-                (sym (log_entries-append limit (lines_of read_so_far) failed.logged))
-                (Sent-then so_far.sent
+                (sym (flat_map-append (log_entry limit) (lines_of read_so_far) failed.logged))
+                (Sent-then so_far.all.sent
                 (subst (λ text. Sent text now failed.between) text failed.sent));
             fails = subst (λ limit. SendFailed error (log_entry limit failed.line)
                 failed.between after) limit_is failed.fails;
           };
           late = (failed.logged, refl);
-          no_read_failed = quiet ∙ so_far.no_read_failed;
+          no_read_failed = quiet ∙ none_failed;
         }
 
   pub Logging-too_often : 2 ^ 64 - 1 ≤ turn → ReadTooOften limit before now i j
-  Logging-too_often many = record {
-    pieces = so_far.pieces;
-    were_read = so_far.were_read;
-    sent = so_far.sent;
-    many = omega (arith, many, so_far.turns);
-    no_read_failed = so_far.no_read_failed;
-  }
+  Logging-too_often many = (so_far.all, omega (arith, many, so_far.turns))
 
 -- of an input that is known
 pub LogsAll-written : {limit : Option ℕ} {before after : OutputState} {i k : InputState}
     → LogsAll limit before after i k →
     IfSome i.remaining (λ input. Appends before.written after.written (log_of limit input))
 LogsAll-written {limit} {before} {after} {i} {k} all =
-    let read = concat all.pieces in
+    let read = concat all.0.pieces in
     Consumes-whole i.remaining k.remaining read
     (λ input. Appends before.written after.written (log_of limit input))
-    all.were_read.given.known all.at_end all.sent.written.known
+    all.0.were_read.given.known all.1 all.0.sent.written.known

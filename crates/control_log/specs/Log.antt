@@ -42,13 +42,25 @@ Logs limit bytes before result after = MatchResult result
 
 -- What a log under a limit on the length of a line comes to.
 module _ (limit : Option ℕ) (before after : OutputState) (input input' : InputState) where
-  -- All lines of what was read are logged, and the reader came to its end, and gave nothing then.
-  pub record LogsAll : Type 0 where
+  -- All lines of what was read are logged. It was read in pieces, and then these reads gave nothing;
+  -- so many failed.
+  pub record LoggedSoFar (reads : List ℕ) (failed : ℕ) : Type 0 where
     pub pieces : List Bytes
-    pub were_read : WereRead input input' pieces (0 ∷ [])
-    pub at_end : IsAtEnd input'.remaining
+    pub were_read : WereRead input input' pieces reads
     pub sent : Sent (log_of limit (concat pieces)) before after
-    pub no_read_failed : input'.failures ≡ input.failures
+    pub reads_failed : input'.failures ≡ input.failures + failed
+
+  -- The reader came to its end, and gave nothing then.
+  abbrev pub LogsAll : Type 0
+  LogsAll = LoggedSoFar (0 ∷ []) 0 × IsAtEnd input'.remaining
+
+  -- The last read failed.
+  abbrev pub ReadFailed : Type 0
+  ReadFailed = LoggedSoFar [] 1
+
+  -- There were too many reads.
+  abbrev pub ReadTooOften : Type 0
+  ReadTooOften = (all : LoggedSoFar [] 0) × (2 ^ 64 - 1 ≤ length (concat all.pieces))
 
   -- It failed at a line of what was read, and all lines of the pieces before the last are logged.
   pub record EndedLate (error : ServeError) : Type 0 where
@@ -65,21 +77,6 @@ module _ (limit : Option ℕ) (before after : OutputState) (input input' : Input
     pub last : Bytes
     pub were_read : WereRead input input' (pieces ++ last ∷ []) []
     pub sent : Sent (log_of limit (concat pieces)) before after
-    pub no_read_failed : input'.failures ≡ input.failures
-
-  -- The last read failed, and all lines of what was read are logged.
-  pub record ReadFailed : Type 0 where
-    pub pieces : List Bytes
-    pub were_read : WereRead input input' pieces []
-    pub sent : Sent (log_of limit (concat pieces)) before after
-    pub read_failed : input'.failures ≡ input.failures + 1
-
-  -- There were too many reads, and all lines of what was read are logged.
-  pub record ReadTooOften : Type 0 where
-    pub pieces : List Bytes
-    pub were_read : WereRead input input' pieces []
-    pub sent : Sent (log_of limit (concat pieces)) before after
-    pub many : 2 ^ 64 - 1 ≤ length (concat pieces)
     pub no_read_failed : input'.failures ≡ input.failures
 
   -- which of them an error means

@@ -8,25 +8,16 @@ use Rattle.login_demo.specs.declared.tree.Directory.{Directory}
 use Rattle.login_demo.specs.Session.{command_reply, session_after, tree_reply}
 use Rattle.login_demo.specs.Standing.{fixed_reply, standing_reply}
 
-pub command_reply-other : (directory : Directory) (c : Command)
+pub command-other : (session : Session) (c : Command)
     → ((x : _) → c ≡ command.Cwd x → ⊥) → (c ≡ command.Cdup → ⊥)
     → ((x : _) → c ≡ command.User x → ⊥) → (c ≡ command.Quit → ⊥)
-    → command_reply directory (command_of c) ≡ tree_reply directory (command_of c)
-command_reply-other directory (command.Cwd x) cwd cdup user quit = absurd (cwd x refl)
-command_reply-other directory command.Cdup cwd cdup user quit = absurd (cdup refl)
-command_reply-other directory (command.User x) cwd cdup user quit = absurd (user x refl)
-command_reply-other directory command.Quit cwd cdup user quit = absurd (quit refl)
-command_reply-other directory _ cwd cdup user quit = refl
-
-pub session_after-other : (session : Session) (c : Command)
-    → ((x : _) → c ≡ command.Cwd x → ⊥) → (c ≡ command.Cdup → ⊥)
-    → ((x : _) → c ≡ command.User x → ⊥) → (c ≡ command.Quit → ⊥)
-    → session_after session (command_of c) ≡ session
-session_after-other session (command.Cwd x) cwd cdup user quit = absurd (cwd x refl)
-session_after-other session command.Cdup cwd cdup user quit = absurd (cdup refl)
-session_after-other session (command.User x) cwd cdup user quit = absurd (user x refl)
-session_after-other session command.Quit cwd cdup user quit = absurd (quit refl)
-session_after-other session _ cwd cdup user quit = refl
+    → (command_reply session.directory (command_of c) ≡ tree_reply session.directory (command_of c))
+    × (session_after session (command_of c) ≡ session)
+command-other session (command.Cwd x) cwd cdup user quit = absurd (cwd x refl)
+command-other session command.Cdup cwd cdup user quit = absurd (cdup refl)
+command-other session (command.User x) cwd cdup user quit = absurd (user x refl)
+command-other session command.Quit cwd cdup user quit = absurd (quit refl)
+command-other session _ cwd cdup user quit = (refl, refl)
 
 pub tree_reply-other : (directory : Directory) (c : Command)
     → (c ≡ command.Pwd → ⊥) → ((x : _) → c ≡ command.Mlst x → ⊥)

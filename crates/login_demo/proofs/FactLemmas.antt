@@ -5,7 +5,6 @@ use Rattle.std.specs.Fmt.{digits}
 use Rattle.std.specs.Result.{IfOk}
 use Rattle.unftp_control_defs.specs.Bytes.{Bytes}
 use Rattle.unftp_control_commands.specs.Facts.{FileFacts, IsFacts, IsFactsReply, IsTimeText, facts_reply, id_fact, modify_fact, type_fact}
-use Rattle.unftp_control_defs.specs.FtpReply.{FtpReply}
 use Rattle.unftp_control_message.specs.ReplyMeaning.{reply_of}
 use Rattle.unftp_control_message.specs.declared.reply.reply.Reply.{Reply}
 use Rattle.unftp_control_commands.proofs.FactTextLemmas.{IsFacts-unique, IsTimeText-unique}
@@ -34,16 +33,11 @@ pub has_time : {nanosecond : ℤ} {time : Bytes} → IsTimeText nanosecond None
 has_time {time} p q =
     let same : None ≡ Some time = IsTimeText-unique p q in cc
 
-only_reply : (file : FileFacts) {facts : Bytes} (path : Bytes) {reply : FtpReply}
-    → IsFacts file facts
-    → IsFactsReply file path reply → reply ≡ facts_reply facts path
-only_reply file path known said =
-    said.2 ∙ ap (λ f. facts_reply f path) (IsFacts-unique file said.1 known)
-
 pub only_facts_reply : {E : Type 0} (file : FileFacts) {facts path shown : Bytes}
     (answer : Result Reply E) → path ≡ shown → IsFacts file facts
     → IfOk answer (λ reply. IsFactsReply file path (reply_of reply))
     → IfOk answer (λ reply. reply_of reply ≡ facts_reply facts shown)
-only_facts_reply file {facts} {path} (Ok reply) same known said =
-    only_reply file path known said ∙ ap (facts_reply facts) same
+only_facts_reply file {facts} {path} (Ok reply) same known said = said.2
+    ∙ ap (λ facts. facts_reply facts path) (IsFacts-unique file said.1 known)
+    ∙ ap (facts_reply facts) same
 only_facts_reply file (Err error) same known said = tt

@@ -3,4 +3,3 @@ mod TimeLemmas
 mod FactLemmas
 mod CommandLemmas
 mod PlainLemmas
-mod LeadBackLemmas

@@ -1,17 +1,14 @@
 -- Ways through directories, name by name.
-use Rattle.std.proofs.Common.{◌≡◌, ◌≢◌, ◌&&◌, map, List, [], ◌∷◌, ◌++◌, Bool, true, false, bytes_eq, codes, refl, ap}
+use Rattle.std.proofs.Common.{◌≡◌, ◌≢◌, ◌&&◌, map, List, [], ◌∷◌, ◌++◌, Bool, false, bytes_eq, codes, refl, ap}
 use Rattle.std.specs.Cmp.Lexicographic.{pointwise}
+use Rattle.std.proofs.lemmas.Bool.{false_from_ne_true}
 use Rattle.std.proofs.lemmas.Slice.Eq.{bytes_eq-Decides}
 use Rattle.unftp_control_defs.specs.Bytes.{Bytes}
 use Rattle.login_demo.specs.Walking.{entered}
 
-is_false : (b : Bool) → b ≢ true → b ≡ false
-is_false true h = absurd (h refl)
-is_false false h = refl
-
 differs : (name text : Bytes) → name ≢ text → bytes_eq name text ≡ false
 differs name text h =
-    is_false (bytes_eq name text) (λ same. h ((bytes_eq-Decides name text).0 same))
+    false_from_ne_true (bytes_eq name text) (λ same. h ((bytes_eq-Decides name text).0 same))
 
 -- a name of its own leads one down
 pub entered-name : (names : List Bytes) {name : Bytes} → name ≢ [] → name ≢ codes "."

@@ -12,7 +12,7 @@ use Rattle.transferring.specs.Laws.{ComesBack, Retrieves, Stores, given, receive
 use Rattle.transferring.specs.Sent.{with_sent}
 use Rattle.transferring.specs.Transfers.{Outcome, TransferState, final_reply, restart_reply, beyond_end_reply, first_reply, with_opening, opening_reply, receiving, sending, stored, transfer_of, transfers_law}
 use Rattle.transferring.specs.declared.transfer.Ending.{Ending}
-use Rattle.transferring.specs.declared.transfer.Ending.TheVariants.{Complete, NotOpened, Aborted, NotClosed}
+use Rattle.transferring.specs.declared.transfer.Ending.TheVariants.{Complete}
 use Rattle.transferring.proofs.OutcomeLemmas.{completed, retrieve-sends, store-receives}
 
 abbrev outcome_of_retr : List DataAnswer → TransferState → Outcome
@@ -39,9 +39,7 @@ retrieves answers s path =
 stored-else : (offset : ℕ) (file received : Bytes) (ending : Ending) → (ending ≡ Complete → ⊥)
     → stored offset file ending received ≡ file
 stored-else offset file received Complete not = absurd (not refl)
-stored-else offset file received NotOpened not = refl
-stored-else offset file received Aborted not = refl
-stored-else offset file received NotClosed not = refl
+stored-else offset file received _ not = refl
 
 pub stores : (answers : List DataAnswer) (s : TransferState) (path : Bytes) → Stores answers s path
 stores answers s path =
@@ -60,9 +58,9 @@ stores answers s path =
       none_sent = refl;
     }
 
-pub comes-back : (answers : List DataAnswer) (s : TransferState) (to from : Bytes)
+pub comes_back : (answers : List DataAnswer) (s : TransferState) (to from : Bytes)
     → ComesBack answers s to from
-comes-back answers s to from = λ at_start was_stored was_retrieved.
+comes_back answers s to from = λ at_start was_stored was_retrieved.
     let kept = stores answers s to in
     let stored : TransferState = state_after_event answers s (Command (line.Stor to)) in
     let back = retrieves answers stored from in
@@ -70,9 +68,9 @@ comes-back answers s to from = λ at_start was_stored was_retrieved.
     ∙ ap (with_sent s.sent) (back.all was_retrieved ∙ kept.all was_stored
     ∙ ap (λ offset. take offset s.file ++ received_for answers s to) at_start)
 
-pub transfers-nothing : (answers : List DataAnswer) (s : TransferState) (event : FtpEvent)
+pub transfers_nothing : (answers : List DataAnswer) (s : TransferState) (event : FtpEvent)
     → transfer_of event ≡ None → TransfersNothing s (state_after_event answers s event)
-transfers-nothing answers s event none =
+transfers_nothing answers s event none =
     rw none (record { file = refl; sent = refl; used = refl })
 
 -- ---- each reply
@@ -105,28 +103,21 @@ rest-sound true = sound 350 _ (search rules) refl
 rest-sound false = sound 501 _ (search rules) refl
 
 first-sound : (end : ℕ) (event : FtpEvent) → IsSound (first_reply end event)
-first-sound end (Command (line.Retr path)) = sound 150 _ (search rules) refl
-first-sound end (Command (line.Stor path)) = sound 150 _ (search rules) refl
 first-sound end (Command (line.Rest to)) = rest-sound (nat_le to end)
-first-sound end (Command line.TypeCode) = sound 200 _ (search rules) refl
-first-sound end (Command line.Abor) = sound 226 _ (search rules) refl
-first-sound end (Command line.Quit) = sound 221 _ (search rules) refl
-first-sound end (Command _) = sound 502 _ (search rules) refl
+first-sound end (Command _) = sound _ _ (search rules) refl
 first-sound end (Refused fault) = sound 500 _ (search rules) refl
 
 final-sound : (ending : Ending) → IsSound (final_reply ending)
 final-sound Complete = sound 226 _ (search rules) refl
-final-sound NotOpened = sound 425 _ (search rules) refl
-final-sound Aborted = sound 426 _ (search rules) refl
-final-sound NotClosed = sound 451 _ (search rules) refl
+final-sound _ = sound _ _ (search rules) refl
 
-pub all-sent : (answers : List DataAnswer)
+pub all_sent : (answers : List DataAnswer)
     → SaysOnly (λ reply. ¬ (reply ≡ Nothing)) (transfers_law answers)
-all-sent = says-only (λ reply. ¬ (reply ≡ Nothing)) (λ end event. (first-sound end event).0)
+all_sent = says-only (λ reply. ¬ (reply ≡ Nothing)) (λ end event. (first-sound end event).0)
     (λ ending. (final-sound ending).0)
 
-pub all-plain : (answers : List DataAnswer) → SaysOnly IsPlain (transfers_law answers)
-all-plain = says-only IsPlain (λ end event. (first-sound end event).1)
+pub all_plain : (answers : List DataAnswer) → SaysOnly IsPlain (transfers_law answers)
+all_plain = says-only IsPlain (λ end event. (first-sound end event).1)
     (λ ending. (final-sound ending).1)
 
 rest-final : (fits : Bool)
@@ -136,9 +127,7 @@ rest-final false = refl
 
 final-final : (ending : Ending) → is_preliminary_reply (final_reply ending) ≡ false
 final-final Complete = refl
-final-final NotOpened = refl
-final-final Aborted = refl
-final-final NotClosed = refl
+final-final _ = refl
 
 pub exchanges : (answers : List DataAnswer) → GivesExchanges (transfers_law answers)
 exchanges answers s (Command (line.Retr path)) =
@@ -148,3 +137,5 @@ exchanges answers s (Command (line.Stor path)) =
 exchanges answers s (Command (line.Rest to)) = rest-final (nat_le to (length s.file))
 exchanges answers s (Command _) = refl
 exchanges answers s (Refused fault) = refl
+
+pub ruleset each_reply = (exchanges, all_sent, all_plain)

@@ -1,14 +1,14 @@
 -- What a transfer transferred, by how it ended.
-use Rattle.std.proofs.Common.{◌≡◌, ℕ, zero, suc, ◌+◌, List, [], ◌∷◌, ◌++◌, drop, take, refl, sym, ap, ◌∙◌, append_assoc, arith}
+use Rattle.std.proofs.Common.{◌≡◌, ℕ, suc, ◌+◌, List, [], ◌∷◌, ◌++◌, drop, take, refl, sym, ap, ◌∙◌, append_assoc, arith}
 use Rattle.std.proofs.lemmas.List.{take-append-drop}
 use Rattle.unftp_control_defs.specs.Bytes.{Bytes}
 use Rattle.unftp_control_defs.specs.FtpReply.{FtpReply, CodeAndMsg}
 use Rattle.unftp_control_serve.specs.Writing.{Begins}
-use Rattle.transferring.specs.Answers.{DataAnswer, Failed, Done, Took, Gave}
+use Rattle.transferring.specs.Answers.{DataAnswer, Done, Took, Gave}
 use Rattle.transferring.specs.Laws.{given}
 use Rattle.transferring.specs.Transfers.{Outcome, closing, final_reply, with_opening, opening_reply, preceded_by, receiving, sending}
 use Rattle.transferring.specs.declared.transfer.Ending.{Ending}
-use Rattle.transferring.specs.declared.transfer.Ending.TheVariants.{Complete, NotOpened, Aborted, NotClosed}
+use Rattle.transferring.specs.declared.transfer.Ending.TheVariants.{Complete, NotOpened, Aborted}
 
 -- the code of the second reply
 abbrev second_code : List FtpReply → ℕ
@@ -20,9 +20,7 @@ pub completed : (ending : Ending)
     → opening_reply ∷ final_reply ending ∷ [] ≡ opening_reply ∷ final_reply Complete ∷ []
     → ending ≡ Complete
 completed Complete is = refl
-completed NotOpened is = let codes : 425 ≡ 226 = ap second_code is in absurd (omega (arith, codes))
-completed Aborted is = let codes : 426 ≡ 226 = ap second_code is in absurd (omega (arith, codes))
-completed NotClosed is = let codes : 451 ≡ 226 = ap second_code is in absurd (omega (arith, codes))
+completed _ is = absurd (omega (arith, ap second_code is))
 
 -- ---- sending
 
@@ -37,11 +35,8 @@ sends-nothing bytes ending used not =
     record { beginning = (bytes, refl); all = λ complete. absurd (not complete) }
 
 sends-closing : (answers : List DataAnswer) → Sends [] (closing answers)
-sends-closing [] = record { beginning = ([], refl); all = λ _. refl }
-sends-closing (Failed ∷ answers) = record { beginning = ([], refl); all = λ _. refl }
 sends-closing (Done ∷ answers) = record { beginning = ([], refl); all = λ _. refl }
-sends-closing (Took n ∷ answers) = record { beginning = ([], refl); all = λ _. refl }
-sends-closing (Gave bytes ∷ answers) = record { beginning = ([], refl); all = λ _. refl }
+sends-closing _ = record { beginning = ([], refl); all = λ _. refl }
 
 sends-more : (bytes : Bytes) (n : ℕ) (outcome : Outcome) → Sends (drop n bytes) outcome
     → Sends bytes (preceded_by 1 (take n bytes) outcome)
@@ -57,24 +52,16 @@ sends-more bytes n outcome later = record {
 
 sends : (bytes : Bytes) (answers : List DataAnswer) → Sends bytes (sending bytes answers)
 sends [] answers = sends-closing answers
-sends (b ∷ bytes) [] = sends-nothing (b ∷ bytes) Aborted 1 (λ is. absurd (cc))
-sends (b ∷ bytes) (Failed ∷ answers) = sends-nothing (b ∷ bytes) Aborted 1 (λ is. absurd (cc))
-sends (b ∷ bytes) (Done ∷ answers) = sends-nothing (b ∷ bytes) Aborted 1 (λ is. absurd (cc))
-sends (b ∷ bytes) (Took zero ∷ answers) = sends-nothing (b ∷ bytes) Aborted 1 (λ is. absurd (cc))
 sends (b ∷ bytes) (Took (suc n) ∷ answers) =
     sends-more (b ∷ bytes) (suc n) (sending (drop (suc n) (b ∷ bytes)) answers)
     (sends (drop (suc n) (b ∷ bytes)) answers)
-sends (b ∷ bytes) (Gave piece ∷ answers) =
-    sends-nothing (b ∷ bytes) Aborted 1 (λ is. absurd (cc))
+sends (b ∷ bytes) _ = sends-nothing (b ∷ bytes) Aborted 1 (λ is. absurd (cc))
 
 pub retrieve-sends : (bytes : Bytes) (answers : List DataAnswer)
     → Sends bytes (with_opening (sending bytes) answers)
-retrieve-sends bytes [] = sends-nothing bytes NotOpened 1 (λ is. absurd (cc))
-retrieve-sends bytes (Failed ∷ answers) = sends-nothing bytes NotOpened 1 (λ is. absurd (cc))
 retrieve-sends bytes (Done ∷ answers) = let later = sends bytes answers in
     record { beginning = later.beginning; all = later.all }
-retrieve-sends bytes (Took n ∷ answers) = sends-nothing bytes NotOpened 1 (λ is. absurd (cc))
-retrieve-sends bytes (Gave piece ∷ answers) = sends-nothing bytes NotOpened 1 (λ is. absurd (cc))
+retrieve-sends bytes _ = sends-nothing bytes NotOpened 1 (λ is. absurd (cc))
 
 -- ---- receiving
 
@@ -89,27 +76,18 @@ take-one-more n answer answers = let one_more : n + 1 ≡ suc n = omega (arith) 
     ap (λ n. take n (answer ∷ answers)) one_more
 
 receives-closing : (answers : List DataAnswer) → Receives answers (closing answers)
-receives-closing [] complete = absurd (cc)
-receives-closing (Failed ∷ answers) complete = absurd (cc)
 receives-closing (Done ∷ answers) complete = refl
-receives-closing (Took n ∷ answers) complete = absurd (cc)
-receives-closing (Gave bytes ∷ answers) complete = absurd (cc)
+receives-closing _ complete = absurd (cc)
 
 receives : (answers : List DataAnswer) → Receives answers (receiving answers)
-receives [] complete = absurd (cc)
-receives (Failed ∷ answers) complete = absurd (cc)
-receives (Done ∷ answers) complete = absurd (cc)
-receives (Took n ∷ answers) complete = absurd (cc)
 receives (Gave [] ∷ answers) complete = receives-closing answers complete
     ∙ sym (ap given (take-one-more (closing answers).used (Gave []) answers))
 receives (Gave (b ∷ bytes) ∷ answers) complete =
     ap (λ more. (b ∷ bytes) ++ more) (receives answers complete)
     ∙ sym (ap given (take-one-more (receiving answers).used (Gave (b ∷ bytes)) answers))
+receives _ complete = absurd (cc)
 
 pub store-receives : (answers : List DataAnswer) → Receives answers (with_opening receiving answers)
-store-receives [] complete = absurd (cc)
-store-receives (Failed ∷ answers) complete = absurd (cc)
 store-receives (Done ∷ answers) complete = receives answers complete
     ∙ sym (ap given (take-one-more (receiving answers).used Done answers))
-store-receives (Took n ∷ answers) complete = absurd (cc)
-store-receives (Gave bytes ∷ answers) complete = absurd (cc)
+store-receives _ complete = absurd (cc)

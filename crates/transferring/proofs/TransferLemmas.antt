@@ -3,10 +3,10 @@ use Rattle.std.proofs.Common.{◌≡◌, Option, None, Some, ℕ, zero, suc, ◌
 use Rattle.std.proofs.lemmas.List.{append-nil}
 use Rattle.std.specs.Io.KnownBytes.{append_known}
 use Rattle.unftp_control_defs.specs.Bytes.{Bytes}
-use Rattle.transferring.specs.Answers.{DataAnswer, Done, Took, Gave}
+use Rattle.transferring.specs.Answers.{DataAnswer, Done, Took}
 use Rattle.transferring.specs.CameTo.{CameTo}
 use Rattle.transferring.specs.Sent.{SentBytes, with_sent}
-use Rattle.transferring.specs.Transfers.{Outcome, closing, ends_with, with_opening, preceded_by, receiving, sending}
+use Rattle.transferring.specs.Transfers.{Outcome, ends_with, with_opening, preceded_by, receiving, sending}
 use Rattle.transferring.specs.declared.transfer.Ending.{Ending}
 
 -- these bytes were transferred so far, and the rest is yet to come
@@ -58,24 +58,6 @@ module _ {start : List DataAnswer → Outcome} {before now : List DataAnswer} {b
         }) (sym (append_assoc bytes piece outcome.bytes));
   }
 
-  -- the rest came to its end
-  pub came : {after : List DataAnswer} {ending : Ending} {more : Bytes}
-      → CameTo rest now after ending more → CameTo start before after ending (bytes ++ more)
-  came {after} {ending} {more} end = record {
-    answers = s.answers ++ end.answers;
-    answered = end.answered ∙ ap (λ answers. answers ++ end.answers) s.answered
-        ∙ append_assoc before s.answers end.answers;
-    came_to = λ later.
-        let used : length end.answers + length s.answers ≡ length (s.answers ++ end.answers) =
-        omega (arith, length-append s.answers end.answers) in
-        let outcome_of : ℕ → Outcome =
-        λ used. record { ending = ending; used = used; bytes = bytes ++ more } in
-        ap start (append_assoc s.answers end.answers later)
-        ∙ s.goes_on (end.answers ++ later)
-        ∙ ap (preceded_by (length s.answers) bytes) (end.came_to later)
-        ∙ ap outcome_of used;
-  }
-
 -- ---- sending
 
 pub took : (rest : Bytes) (n : ℕ) → 0 < length rest → 0 < n → (later : List DataAnswer)
@@ -83,19 +65,6 @@ pub took : (rest : Bytes) (n : ℕ) → 0 < length rest → 0 < n → (later : L
 took [] n some more later = absurd (omega (arith, some))
 took (b ∷ rest) zero some more later = absurd (omega (arith, more))
 took (b ∷ rest) (suc n) some more later = refl
-
-pub all_sent : {now after : List DataAnswer} {ending : Ending} (rest : Bytes) → length rest ≡ 0
-    → CameTo closing now after ending [] → CameTo (sending rest) now after ending []
-all_sent [] none end =
-    record { answers = end.answers; answered = end.answered; came_to = end.came_to }
-all_sent (b ∷ rest) none end = absurd (omega (arith, none))
-
--- ---- receiving
-
-pub received : (piece : Bytes) → 0 < length piece → (later : List DataAnswer)
-    → receiving (Gave piece ∷ later) ≡ preceded_by 1 piece (receiving later)
-received [] some later = absurd (omega (arith, some))
-received (b ∷ piece) some later = refl
 
 -- ---- in the loops
 

@@ -10,6 +10,7 @@ ghost use Rattle.transferring.specs.Transfers.{TransferState, transfer_of, trans
 
 /// Whatever the data connection answers, each event has preliminary replies, and then one that is
 /// final (RFC 959, section 5.4); each reply is sent, and a client reads it as what it is.
+#[tactic(auto, using(crate::proofs::LawLemmas::each_reply))]
 pub fn transfers_are_exchanges()
     ensures exchanges { (answers : List DataAnswer) → GivesExchanges (transfers_law answers) }
     ensures sent { (answers : List DataAnswer)
@@ -19,6 +20,7 @@ pub fn transfers_are_exchanges()
 
 /// A RETR that is answered 226 has sent exactly the bytes of the file from the offset of REST on,
 /// in order; with another reply a beginning of them was sent.
+#[tactic(auto, using(crate::proofs::LawLemmas::retrieves))]
 pub fn all_is_sent()
     ensures { (answers : List DataAnswer) (s : TransferState) (path : Bytes)
         → Retrieves answers s path }
@@ -26,6 +28,7 @@ pub fn all_is_sent()
 
 /// A STOR that is answered 226 has stored exactly the bytes that the connection gave, after those
 /// before the offset of REST; with another reply the file is as it was.
+#[tactic(auto, using(crate::proofs::LawLemmas::stores))]
 pub fn all_is_stored()
     ensures { (answers : List DataAnswer) (s : TransferState) (path : Bytes)
         → Stores answers s path }
@@ -38,6 +41,7 @@ pub fn files_come_back()
 {}
 
 /// Any other event leaves the file as it is, and makes no call to the data connection.
+#[tactic(auto, using(crate::proofs::LawLemmas::transfers_nothing))]
 pub fn other_events_transfer_nothing()
     ensures { (answers : List DataAnswer) (s : TransferState) (event : FtpEvent)
         → transfer_of event ≡ None

@@ -38,6 +38,7 @@ pub enum Ending {
 const PIECE: usize = 4096;
 
 /// Sends the file from this offset on, over a connection that is opened before and closed after.
+#[tactic(auto, using(crate::proofs::TransferLemmas::sent_more))]
 pub fn retrieve<D: DataConnection>(connection: &mut Data<D>, file: &[u8], offset: usize) -> Ending
     ensures came_to { (sent : Bytes)
         × (sent_over D.contents connection.new

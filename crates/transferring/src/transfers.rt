@@ -1,8 +1,7 @@
 //! A session that transfers a file.
 ghost use Rattle.std.specs.Prelude.{◌≡◌, ◌∷◌, [], List, None, Some, IfErr, IfOk, IfSome};
 ghost use Rattle.std.specs.Io.KnownBytes.{Appends};
-ghost use Rattle.unftp_control_message.specs.CommandMeaning.{command_of};
-ghost use Rattle.unftp_control_defs.specs.Events.{Command as Meant, out_of_memory};
+ghost use Rattle.unftp_control_defs.specs.Events.{out_of_memory};
 ghost use Rattle.unftp_control_defs.specs.Run.{last_state, run_for, text_for};
 ghost use Rattle.unftp_control_defs.specs.Input.{input_state_of};
 ghost use Rattle.unftp_control_serve.specs.Endings.{snapshot_of};
@@ -140,36 +139,28 @@ fn first_reply(alloc: Global, end: usize, event: &Event) -> Result<Reply, Contro
     ensures ok { IfOk result (λ reply. reply_of reply ≡ first_reply end (event_meant event.now)) }
     ensures err { IfErr result (λ error. fault_of error ≡ out_of_memory) }
 {
-    match event {
-        Event::Command(command) => command_reply(alloc, end, command),
-        Event::Refused(_) => Reply::new(alloc, ReplyCode::CommandSyntaxError, "Not understood"),
-    }
-}
-
-/// The first reply to a command. It fails only when out of memory.
-fn command_reply(alloc: Global, end: usize, command: &Command) -> Result<Reply, ControlChanError>
-    ensures ok { IfOk result (λ reply.
-        reply_of reply ≡ first_reply end (Meant (command_of command.now))) }
-    ensures err { IfErr result (λ error. fault_of error ≡ out_of_memory) }
-{
-    let (code, text) = match command {
-        Command::Retr { .. } | Command::Stor { .. } => {
+    let (code, text) = match event {
+        Event::Command(Command::Retr { .. } | Command::Stor { .. }) => {
             (ReplyCode::FileStatusOkay, "Opening data connection")
         }
-        Command::Rest { offset } if *offset as usize <= end => {
+        Event::Command(Command::Rest { offset }) if *offset as usize <= end => {
             (
                 ReplyCode::FileActionPending,
                 "Send RETR or STOR to transfer from there",
             )
         }
-        Command::Rest { .. } => (
+        Event::Command(Command::Rest { .. }) => (
             ReplyCode::ParameterSyntaxError,
             "Beyond the end of the file",
         ),
-        Command::TypeCode => (ReplyCode::CommandOkay, "Always in image type"),
-        Command::Abor => (ReplyCode::ClosingDataConnection, "No transfer in progress"),
-        Command::Quit => (ReplyCode::ClosingControlConnection, "Bye"),
-        _ => (ReplyCode::CommandNotImplemented, "Not implemented"),
+        Event::Command(Command::TypeCode) => (ReplyCode::CommandOkay, "Always in image type"),
+        Event::Command(Command::Abor) => (
+            ReplyCode::ClosingDataConnection,
+            "No transfer in progress",
+        ),
+        Event::Command(Command::Quit) => (ReplyCode::ClosingControlConnection, "Bye"),
+        Event::Command(_) => (ReplyCode::CommandNotImplemented, "Not implemented"),
+        Event::Refused(_) => (ReplyCode::CommandSyntaxError, "Not understood"),
     };
     Reply::new(alloc, code, text)
 }
@@ -250,6 +241,7 @@ impl<D: DataConnection> Session for Transfers<D> {
 ///
 /// A line may have any length: for input that is not trusted, call `serve_with_limit` with these
 /// transfers, under the same law.
+#[tactic(auto, using(crate::proofs::KnownLemmas::written, crate::proofs::KnownLemmas::state))]
 pub fn serve_transfers<R: Read, W: Write, D: DataConnection>(
     alloc: Global,
     reader: &mut Input<R>,

@@ -1,7 +1,7 @@
 -- What a client takes of what a server says, whatever the order of their acts.
-use Rattle.std.proofs.Common.{◌≡◌, ◌≤◌, ℕ, suc, Bool, true, false, if◌then◌else◌, List, [], ◌∷◌, ◌++◌, flat_map, map, length, drop, get_or, Option, Some, None, refl, sym, ap, subst, ◌∙◌, arith, append_assoc, length-append}
-use Rattle.std.specs.Prelude.{not, option_map}
-use Rattle.std.specs.List.{AllByRecursion, concat, filter, onto_first}
+use Rattle.std.proofs.Common.{◌≡◌, ◌≤◌, ℕ, suc, true, false, if◌then◌else◌, List, [], ◌∷◌, ◌++◌, flat_map, map, length, drop, get_or, Option, Some, None, refl, sym, ap, subst, ◌∙◌, arith, append_assoc, length-append}
+use Rattle.std.specs.Prelude.{option_map}
+use Rattle.std.specs.List.{AllByRecursion, concat, filter}
 use Rattle.std.proofs.lemmas.Grind.{flat_map-append}
 use Rattle.std.proofs.lemmas.List.{append-nil, length-map}
 use Rattle.std.proofs.lemmas.List.Elements.{filter_map-append}
@@ -95,15 +95,6 @@ shown_first : (taken : ReplyTo) (later : List ReplyTo) (more : List (ℕ × List
     → Some taken.reply ≡ reply_as_read reply
 shown_first taken later more reply replies show = ap (λ shown. get_or shown 0 None) show
 
--- what comes after a reply that completes its exchange, and after one that doesn't
-to_next : (taken : ReplyTo) (to : To) → is_preliminary_read taken.reply ≡ false
-    → (if is_final taken then after_to to else to) ≡ after_to to
-to_next taken to final = rw final refl
-
-to_same : (taken : ReplyTo) (to : To) → is_preliminary_read taken.reply ≡ true
-    → (if is_final taken then after_to to else to) ≡ to
-to_same taken to preliminary = rw preliminary refl
-
 -- the replies of a turn, and of those after it
 numbered : (taken : List ReplyTo) (more : List (ℕ × List Bytes)) (to : To) (turn : List FtpReply)
     (turns : List (List FtpReply)) → IsExchange turn → AllByRecursion IsExchange turns
@@ -120,16 +111,16 @@ numbered (taken ∷ []) (other ∷ more) to (reply ∷ []) [] is each are show =
 numbered (taken ∷ (next ∷ later)) more to (reply ∷ []) [] is each are show = absurd (cc)
 numbered (taken ∷ later) more to (reply ∷ []) (turn ∷ turns) is each are show =
     let read = shown_first taken later more reply (turn ++ all_said turns) show in
-    let next = to_next taken to (read-alike reply taken.reply read ∙ is) in
+    let final = read-alike reply taken.reply read ∙ is in
     numbered-first taken later more to reply (exchanges (after_to to) (turn ∷ turns)) read are.0
     (numbered later more (after_to to) turn turns each.0 each.1
-    (subst (λ to. AreExchanges to later) next are.1) (ap (drop 1) show))
+    (rw final at are.1) (ap (drop 1) show))
 numbered (taken ∷ later) more to (reply ∷ (second ∷ turn)) turns is each are show =
     let read = shown_first taken later more reply ((second ∷ turn) ++ all_said turns) show in
-    let same = to_same taken to (read-alike reply taken.reply read ∙ is.0) in
+    let preliminary = read-alike reply taken.reply read ∙ is.0 in
     numbered-first taken later more to reply (exchanges to ((second ∷ turn) ∷ turns)) read are.0
     (numbered later more to (second ∷ turn) turns is.1 each
-    (subst (λ to. AreExchanges to later) same are.1) (ap (drop 1) show))
+    (rw preliminary at are.1) (ap (drop 1) show))
 
 -- ---- replies that are all owed
 
@@ -142,37 +133,17 @@ owed_all (t ∷ taken) each = rw each.0 (ap (λ later. t ∷ later) (owed_all ta
 final_owed : (taken : List ReplyTo)
     → length (filter is_final (filter was_owed taken)) ≤ length (filter is_final taken)
 final_owed [] = omega arith
-final_owed (t ∷ taken) = by_tests (was_owed t) (is_final t) refl (final_owed taken)
-  where
-    by_tests : (owed final : Bool) → is_final t ≡ final
-        → length (filter is_final (filter was_owed taken)) ≤ length (filter is_final taken)
-        → length (filter is_final (if owed then t ∷ filter was_owed taken
-        else filter was_owed taken))
-        ≤ length (if final then t ∷ filter is_final taken else filter is_final taken)
-    by_tests true true e h = rw e (omega (arith, h))
-    by_tests true false e h = rw e h
-    by_tests false true e h = omega (arith, h)
-    by_tests false false e h = h
-
-one_more : (t : ReplyTo) (final : List ReplyTo) (parts : List (List (ℕ × List Bytes)))
-    (test : Bool) → suc (length final) ≤ length parts
-    → suc (length (if not test then t ∷ final else final))
-    ≤ length (if test then onto_first t.reply parts else (t.reply ∷ []) ∷ parts)
-one_more t final parts true h = omega (arith, h, (length-onto_first t.reply parts).1)
-one_more t final parts false h = omega (arith, h)
+final_owed (t ∷ taken) = grind (arith, final_owed taken)
 
 -- each of these ended an exchange, and the next reply is of one more
 final_before : (taken : List ReplyTo) (next : ReplyTo) → suc (length (filter is_final taken))
     ≤ length (cut_reads (map (λ t. t.reply) (taken ++ next ∷ [])))
-final_before [] next = one_part (is_preliminary_read next.reply)
-  where
-    one_part : (test : Bool) → suc 0 ≤ length (if test then onto_first next.reply []
-        else (next.reply ∷ []) ∷ [])
-    one_part true = omega arith
-    one_part false = omega arith
-final_before (t ∷ taken) next =
-    one_more t (filter is_final taken) (cut_reads (map (λ t. t.reply) (taken ++ next ∷ [])))
-    (is_preliminary_read t.reply) (final_before taken next)
+final_before [] next = grind arith
+final_before (t ∷ taken) next = grind (
+  arith,
+  final_before taken next,
+  length-onto_first t.reply (cut_reads (map (λ t. t.reply) (taken ++ next ∷ []))),
+)
 
 taken_of : (steps : List ClientStep)
     → all_taken (decoder_steps steps) ≡ map (λ t. t.reply) (replies_taken steps)

@@ -1,10 +1,12 @@
 -- What a client and a server understand of each other.
-use Rattle.std.proofs.Common.{◌≡◌, ℕ, ◌≤◌, List, [], ◌∷◌, ◌++◌, flat_map, filter_map, map, length, drop, Option, Some, None, Ok, Err, refl, sym, ap, subst, ◌∙◌, arith}
-use Rattle.std.specs.Prelude.{Bool, true, false, if◌then◌else◌}
+use Rattle.std.proofs.Common.{◌≡◌, ℕ, ◌≤◌, List, [], ◌∷◌, ◌++◌, flat_map, filter_map, map, length, Option, Some, None, Ok, Err, refl, sym, ap, subst, ◌∙◌, arith}
+use Rattle.std.specs.Prelude.{Bool}
 use Rattle.std.specs.List.{AllByRecursion, concat, onto_first}
 use Rattle.std.proofs.lemmas.List.{append-nil, length-map}
 use Rattle.unftp_control_defs.specs.Bytes.{Bytes}
+use Rattle.unftp_control_defs.specs.Canonical.{canonical_line}
 use Rattle.unftp_control_defs.specs.Events.{Command, event_for, event_of, events}
+use Rattle.unftp_control_defs.specs.Forwarded.{forwarded_line}
 use Rattle.unftp_control_defs.specs.FtpCommand.{Answer, FtpCommand}
 use Rattle.unftp_control_defs.specs.FtpReply.{FtpReply, Nothing, CodeAndMsg, MultiLine, IsPlain, encoded, lines_as_read, reply_as_read}
 use Rattle.unftp_control_defs.specs.Lines.{IsLine, lines_of, incomplete_line}
@@ -20,10 +22,10 @@ use Rattle.unftp_control_defs.proofs.ExchangeLemmas.{cut-exchange, cut-read}
 use Rattle.unftp_control_defs.proofs.ForwardedLineLemmas.{IsLine-forwarded_line, outcome-forwarded_line}
 use Rattle.unftp_control_defs.proofs.LineEventLemmas.{events-canonical_line}
 use Rattle.unftp_control_defs.proofs.LineLemmas.{Lines-lines_of, events-within, lines_of-concat}
-use Rattle.unftp_control_defs.proofs.ReplyLemmas.{FrontReply-unique, TakesReply-append, none_of_nothing}
+use Rattle.unftp_control_defs.proofs.ReplyLemmas.{TakesReply-append, none_of_nothing}
 use Rattle.unftp_control_defs.specs.Run.{all_said}
-use Rattle.unftp_control.specs.Conversation.{CanBeSent, IsReadable, KeepsMeaning, Show, ShowTurns, canonical_if_read, forwarded_if_read, rewritten, sent}
-use Rattle.unftp_control.proofs.ReplyStepLemmas.{AreReplies-all, AreReplies-unique, steps-replies}
+use Rattle.unftp_control.specs.Conversation.{CanBeSent, IsReadable, KeepsMeaning, Show, ShowTurns, canonical_of, forwarded_of, rewritten, sent, written_if_read}
+use Rattle.unftp_control.proofs.ReplyStepLemmas.{AreReplies-all, AreReplies-rest, AreReplies-unique, steps-replies}
 
 -- Lines, one after the other.
 pub events-sent : (limit : Option ℕ) (commands : List FtpCommand)
@@ -64,20 +66,6 @@ AreReplies-append input more (reply ∷ taken) pending are = (
   AreReplies-append are.0 more taken pending are.2,
 )
 
-first_ones : (input : Bytes) (taken all : List (ℕ × List Bytes)) (pending : Bytes)
-    → AreReplies input taken pending → AreReplies input all []
-    → (more : List (ℕ × List Bytes)) × (taken ++ more ≡ all)
-first_ones input [] all pending h k = (all, refl)
-first_ones input (p ∷ taken) [] pending h k = absurd (none_of_nothing
-    (subst HasFront (sym k) (p.0, p.1, h.1.used, h.1.front)))
-first_ones input (p ∷ taken) (q ∷ all) pending h k =
-    let same = FrontReply-unique h.1.front k.1.front in
-    let dropped = ap (λ used. drop used input) (sym same.2) in
-    let following : k.0 ≡ h.0 = k.1.after_is ∙ dropped ∙ sym h.1.after_is in
-    let rest = first_ones h.0 taken all pending h.2
-    (subst (λ bytes. AreReplies bytes all []) following k.2) in
-    (rest.0, λ i. (same.0 i, same.1 i) ∷ rest.1 i)
-
 module _ (replies : List FtpReply) (readable : AllByRecursion IsReadable replies)
     (steps : List (TakingStep (ℕ × List Bytes))) (pending : Bytes)
     (are : AreTakingSteps TakesReply [] steps pending) where
@@ -99,8 +87,8 @@ module _ (replies : List FtpReply) (readable : AllByRecursion IsReadable replies
   read_so_far later whole =
       let from_text = subst (λ bytes. AreReplies bytes (all_taken steps) (pending ++ later)) whole
       (AreReplies-append (all_pushed steps) later (all_taken steps) pending taken_of_pushed) in
-      let first = first_ones text (all_taken steps) read (pending ++ later) from_text all_of_text in
-      (first.0, ap (map Some) first.1 ∙ all_read replies readable)
+      let rest = AreReplies-rest text (all_taken steps) read from_text all_of_text none_of_nothing in
+      (rest.0, ap (map Some) rest.1 ∙ all_read replies readable)
 
   pub read_all : all_pushed steps ≡ text → ¬ HasFront pending
       → Show (all_taken steps) replies × (pending ≡ [])
@@ -122,20 +110,16 @@ onto_first-longer : {A : Type 0} (x : A) (parts more : List (List A))
 onto_first-longer x [] more h = (length-onto_first x more).0
 onto_first-longer x (part ∷ parts) more h = omega (arith, h, (length-onto_first x more).1)
 
-longer : {A : Type 0} (x : A) (parts all : List (List A)) (test : Bool)
-    → length parts ≤ length all
-    → length (if test then onto_first x parts else (x ∷ []) ∷ parts)
-    ≤ length (if test then onto_first x all else (x ∷ []) ∷ all)
-longer x parts all true h = onto_first-longer x parts all h
-longer x parts all false h = omega (arith, h)
-
 -- more replies have no fewer parts
 pub length-cut_by : {A : Type 0} (preliminary : A → Bool) (read more : List A)
     → length (cut_by preliminary read) ≤ length (cut_by preliminary (read ++ more))
 length-cut_by preliminary [] more = omega arith
-length-cut_by preliminary (x ∷ read) more =
-    longer x (cut_by preliminary read) (cut_by preliminary (read ++ more)) (preliminary x)
-    (length-cut_by preliminary read more)
+length-cut_by preliminary (x ∷ read) more = grind (
+  arith,
+  length-cut_by preliminary read more,
+  onto_first-longer x (cut_by preliminary read) (cut_by preliminary (read ++ more))
+      (length-cut_by preliminary read more),
+)
 
 cut_turns : (turns : List (List FtpReply)) → AllByRecursion IsExchange turns
     → cut_after_final (all_said turns) ≡ turns
@@ -158,25 +142,32 @@ shown_turns read turns each show =
     ∙ length-map turns (map reply_as_read)
 
 -- Lines that are rewritten.
-pub canonical-keeps : (line : Bytes) → IsLine line → (answer : Answer) → outcome line ≡ answer
-    → IsLine (canonical_if_read line answer)
-    × (outcome (canonical_if_read line answer) ≡ outcome line)
-canonical-keeps line is_line (Ok command) means =
+module _ (write : Bytes → FtpCommand → Bytes)
+    (keeps : (line : Bytes) (command : FtpCommand) → IsLine line → outcome line ≡ Ok command
+    → IsLine (write line command) × (outcome (write line command) ≡ Ok command)) where
+  written-keeps : (line : Bytes) → IsLine line → (answer : Answer) → outcome line ≡ answer
+      → IsLine (written_if_read write line answer)
+      × (outcome (written_if_read write line answer) ≡ outcome line)
+  written-keeps line is_line (Ok command) means =
+      let kept = keeps line command is_line means in (kept.0, kept.1 ∙ sym means)
+  written-keeps line is_line (Err refusal) means = (is_line, refl)
+
+pub canonical-keeps : KeepsMeaning canonical_of
+canonical-keeps line is_line = written-keeps (λ _ command. canonical_line command)
+    (λ line command is_line means.
     let has = HasLine-outcome line command is_line means in (
       IsLine-canonical_line command has,
-      outcome-canonical_line command has (HasTypedFields-outcome line command is_line means)
-          ∙ sym means,
-    )
-canonical-keeps line is_line (Err refusal) means = (is_line, refl)
+      outcome-canonical_line command has (HasTypedFields-outcome line command is_line means),
+    ))
+    line is_line (outcome line) refl
 
-pub forwarded-keeps : (line : Bytes) → IsLine line → (answer : Answer) → outcome line ≡ answer
-    → IsLine (forwarded_if_read line answer)
-    × (outcome (forwarded_if_read line answer) ≡ outcome line)
-forwarded-keeps line is_line (Ok command) means = (
-  IsLine-forwarded_line line command is_line means,
-  outcome-forwarded_line line command is_line means ∙ sym means,
-)
-forwarded-keeps line is_line (Err refusal) means = (is_line, refl)
+pub forwarded-keeps : KeepsMeaning forwarded_of
+forwarded-keeps line is_line = written-keeps forwarded_line
+    (λ line command is_line means. (
+      IsLine-forwarded_line line command is_line means,
+      outcome-forwarded_line line command is_line means,
+    ))
+    line is_line (outcome line) refl
 
 module _ (rewrite : Bytes → Bytes) (keeps : KeepsMeaning rewrite) where
   all_lines : (lines : List Bytes) → AllByRecursion IsLine lines

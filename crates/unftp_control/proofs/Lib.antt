@@ -1,5 +1,3 @@
-mod ClientRunLemmas
-mod AgreementExampleLemmas
 mod FoldLemmas
 mod EpsvLemmas
 mod PieceLemmas
@@ -9,11 +7,6 @@ mod StepLemmas
 mod LossyTextLemmas
 mod EventStepLemmas
 mod ReplyStepLemmas
-mod SnapshotLemmas
-mod RunEndExampleLemmas
-mod FirstLineLemmas
-mod NeededLemmas
-mod NoonLemmas
 mod ConversationLemmas
 pub mod ActLemmas
 pub use Rattle.unftp_control_defs.proofs.EncodingLemmas

@@ -1,10 +1,10 @@
 -- What the examples of reading share: the reply at the start of bytes that are written out is
 -- computed.
-use Rattle.std.proofs.Common.{◌≡◌, [], ◌∷◌, ◌++◌, codes, refl, sym, ◌∙◌}
+use Rattle.std.proofs.Common.{◌≡◌, ◌++◌, sym, ◌∙◌}
 use Rattle.unftp_control_defs.specs.Bytes.{Bytes}
 use Rattle.unftp_control_defs.specs.ComputedReply.{Malformed, Whole, front_of}
-use Rattle.unftp_control_defs.specs.ReplyReader.{FrontReply, HasFront, Opens, with_crlf}
-use Rattle.unftp_control_defs.proofs.ReplyLemmas.{FrontReply-append, FrontReply-front_of, front_of-FrontReply, front_is_formed, IsMalformed-front_of}
+use Rattle.unftp_control_defs.specs.ReplyReader.{HasFront, Opens, with_crlf}
+use Rattle.unftp_control_defs.proofs.ReplyLemmas.{front_of-FrontReply, front_is_formed, IsMalformed-front_of}
 
 -- a line that opens no reply, whatever follows
 pub opens_none : (line : Bytes)
@@ -16,8 +16,3 @@ opens_none line computed (following, (code, lines, used, front)) =
 pub malformed_is_no_front : (bytes : Bytes) → front_of bytes ≡ Malformed → ¬ HasFront bytes
 malformed_is_no_front bytes computed front =
     front_is_formed bytes front (IsMalformed-front_of bytes computed)
-
--- a reply with one line of text
-pub front_of_text : (more : Bytes) → FrontReply (codes "211 a\r\n" ++ more) 211 (codes "a" ∷ []) 7
-front_of_text more =
-    FrontReply-append (codes "211 a\r\n") more 211 (codes "a" ∷ []) 7 (FrontReply-front_of refl)

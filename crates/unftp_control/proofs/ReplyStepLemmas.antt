@@ -26,22 +26,33 @@ TakesReply-front : (before : Bytes) (reply : ℕ × List Bytes) (after : Bytes)
     → TakesReply before reply after → HasFront before
 TakesReply-front before reply after taken = (reply.0, reply.1, taken.used, taken.front)
 
+-- replies that leave none at the start of what is pending go on where others end
+pub AreReplies-rest : (input : Bytes) (taken all : List (ℕ × List Bytes)) {pending end : Bytes}
+    → AreReplies input taken pending → AreReplies input all end → ¬ HasFront end
+    → (rest : List (ℕ × List Bytes)) × (taken ++ rest ≡ all) × AreReplies pending rest end
+AreReplies-rest input [] all {pending} {end} h k ended =
+    (all, refl, subst (λ bytes. AreReplies bytes all end) (sym h) k)
+AreReplies-rest input (p ∷ taken) [] h k ended =
+    absurd (ended (subst HasFront (sym k) (TakesReply-front input p h.0 h.1)))
+AreReplies-rest input (p ∷ taken) (q ∷ all) {pending} {end} h k ended =
+    let same = FrontReply-unique h.1.front k.1.front in
+    let dropped = ap (λ used. drop used input) (sym same.2) in
+    let following : k.0 ≡ h.0 = k.1.after_is ∙ dropped ∙ sym h.1.after_is in
+    let more = AreReplies-rest h.0 taken all h.2
+    (subst (λ bytes. AreReplies bytes all end) following k.2) ended in
+    (more.0, λ i. (same.0 i, same.1 i) ∷ more.1 i, more.2)
+
 pub AreReplies-unique : (input : Bytes) (replies others : List (ℕ × List Bytes)) {after end : Bytes}
     → AreReplies input replies after → ¬ HasFront after
     → AreReplies input others end → ¬ HasFront end
     → (replies ≡ others) × (after ≡ end)
-AreReplies-unique input [] [] h none k ended = (refl, h ∙ sym k)
-AreReplies-unique input [] (q ∷ others) h none k ended =
-    absurd (none (subst HasFront (sym h) (TakesReply-front input q k.0 k.1)))
-AreReplies-unique input (p ∷ replies) [] h none k ended =
-    absurd (ended (subst HasFront (sym k) (TakesReply-front input p h.0 h.1)))
-AreReplies-unique input (p ∷ replies) (q ∷ others) {after} {end} h none k ended =
-    let same = FrontReply-unique h.1.front k.1.front in
-    let dropped = ap (λ used. drop used input) (sym same.2) in
-    let following : k.0 ≡ h.0 = k.1.after_is ∙ dropped ∙ sym h.1.after_is in
-    let others_follow = subst (λ bytes. AreReplies bytes others end) following k.2 in
-    let more = AreReplies-unique h.0 replies others h.2 none others_follow ended in
-    (λ i. (same.0 i, same.1 i) ∷ more.0 i, more.1)
+AreReplies-unique input replies others {after} {end} h none k ended =
+    by_rest (AreReplies-rest input replies others h k ended)
+  where
+    by_rest : (rest : List (ℕ × List Bytes)) × (replies ++ rest ≡ others)
+        × AreReplies after rest end → (replies ≡ others) × (after ≡ end)
+    by_rest ([], same, are) = (sym (append-nil replies) ∙ same, sym are)
+    by_rest (q ∷ rest, same, are) = absurd (none (TakesReply-front after q are.0 are.1))
 
 -- where no bytes are after them they are all replies
 pub AreReplies-all : (input : Bytes) (replies : List (ℕ × List Bytes))

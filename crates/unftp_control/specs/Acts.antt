@@ -79,8 +79,8 @@ pub record IsConversation {S : Type 0} (server : Server S) (limit : Option ℕ) 
   pub lines : AllByRecursion IsLine (lines_of_client acts)
   pub in_order : (before later : List Act) → acts ≡ before ++ later → InOrder server before
 
--- The client can read back each of the replies, and tell which are to which line: those to each are
--- some preliminary ones and then a final one.
+-- The client can read back each of the replies, and knows which are to which line: those to each
+-- are some preliminary ones and then a final one.
 pub record IsUnderstood (turns : List (List FtpReply)) : Type 0 where
   pub readable : AllByRecursion IsReadable (all_said turns)
   pub exchanges : AllByRecursion IsExchange turns

@@ -43,18 +43,14 @@ abbrev pub KeepsMeaning : (Bytes → Bytes) → Type 0
 KeepsMeaning rewrite = (line : Bytes) → IsLine line
     → IsLine (rewrite line) × (outcome (rewrite line) ≡ outcome line)
 
--- a refused line as it is, and that of a command as its canonical line, or as the line that a proxy
--- forwards
-abbrev pub canonical_if_read : Bytes → Answer → Bytes
-canonical_if_read line (Ok command) = canonical_line command
-canonical_if_read line (Err refusal) = line
+-- A refused line stays as it is; that of a command is written anew, as its canonical line or as the
+-- line that a proxy forwards.
+abbrev pub written_if_read : (Bytes → FtpCommand → Bytes) → Bytes → Answer → Bytes
+written_if_read write line (Ok command) = write line command
+written_if_read write line (Err refusal) = line
 
 abbrev pub canonical_of : Bytes → Bytes
-canonical_of line = canonical_if_read line (outcome line)
-
-abbrev pub forwarded_if_read : Bytes → Answer → Bytes
-forwarded_if_read line (Ok command) = forwarded_line line command
-forwarded_if_read line (Err refusal) = line
+canonical_of line = written_if_read (λ _ command. canonical_line command) line (outcome line)
 
 abbrev pub forwarded_of : Bytes → Bytes
-forwarded_of line = forwarded_if_read line (outcome line)
+forwarded_of line = written_if_read forwarded_line line (outcome line)

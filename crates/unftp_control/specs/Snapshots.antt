@@ -19,21 +19,11 @@ counter = as_session (record {
 
 -- As the one before, but done once it has taken five events.
 abbrev pub counter_to_five : SessionLaw ℕ
-counter_to_five = as_session (record {
-  says = counter.says;
-  next = counter.next;
-  may_fail = counter.may_fail;
-  done = λ taken. taken == 5;
-})
+counter_to_five = record counter { done = λ taken. taken == 5 }
 
 -- As the first one, but it sends no reply.
 abbrev pub silent : SessionLaw ℕ
-silent = as_session (record {
-  says = λ _ _. Nothing;
-  next = counter.next;
-  may_fail = counter.may_fail;
-  done = counter.done;
-})
+silent = record counter { says = λ _ _. Nothing }
 
 -- It answers 150 to each event, and then 226. It may fail with `OutOfMemory` between them.
 abbrev pub two_replies : SessionLaw ℕ

@@ -1,6 +1,7 @@
 -- What is in an area after a text was written to it, and what is reported.
-use Rattle.std.proofs.Common.{◌≡◌, ◌≢◌, ℕ, ◌-◌, ◌==◌, Bool, true, false, List, [], ◌∷◌, ◌++◌, length, take, drop, get_or, Result, Ok, Err, Vec, Global, refl, sym, ap, subst, ◌∙◌, append_assoc, length-append}
-use Rattle.std.specs.Prelude.{if◌then◌else◌, nat_le, IfOk}
+use Rattle.std.proofs.Common.{◌≡◌, ◌≢◌, ℕ, ◌-◌, ◌==◌, if◌then◌else◌, List, [], ◌∷◌, ◌++◌, length, take, drop, get_or, Result, Ok, Err, Vec, Global, refl, sym, ap, subst, ◌∙◌, arith, append_assoc, length-append}
+use Rattle.std.specs.Prelude.{nat_le, IfOk}
+use Rattle.std.proofs.lemmas.Bool.{cond_both}
 use Rattle.std.proofs.Math.Seq.{take-append_seam, drop-append_seam}
 use Rattle.std.proofs.lemmas.List.{drop-drop}
 use Rattle.unftp_control_defs.specs.Bytes.{Bytes}
@@ -24,33 +25,17 @@ numbered_back _ = refl
 same_status : (a b : Status) → status_number a ≡ status_number b → a ≡ b
 same_status a b e = sym (numbered_back a) ∙ ap numbered e ∙ numbered_back b
 
--- by whether there is room
-abbrev by_room : Bool → Bytes → Bytes → Filled
-by_room room text area = if room
-    then record {
-      result = status_number Done;
-      area = overwritten text area;
-      text_length = length text;
-    }
-    else record { result = status_number NoRoom; area = area; text_length = length text }
-
 -- where it is done, the text is at the start of the area
 filled_done : (text area : Bytes) → (filled text area).result ≡ status_number Done
     → take (filled text area).text_length (filled text area).area ≡ text
-filled_done text area done = go (nat_le (length text) (length area)) done
-  where
-    go : (room : Bool) → (by_room room text area).result ≡ status_number Done
-        → take (by_room room text area).text_length (by_room room text area).area ≡ text
-    go true done = take-append_seam text (drop (length text) area)
-    go false done = absurd (let same = same_status NoRoom Done done in cc)
+filled_done text area = cond_both {A = Filled} (nat_le (length text) (length area)) _ _
+    (λ left. left.result ≡ status_number Done → take left.text_length left.area ≡ text)
+    (λ _ done. take-append_seam text (drop (length text) area))
+    (λ _ done. absurd (omega (arith, done)))
 
 -- its length is reported, whether there is room or not
 pub filled_length : (text area : Bytes) → (filled text area).text_length ≡ length text
-filled_length text area = go (nat_le (length text) (length area))
-  where
-    go : (room : Bool) → (by_room room text area).text_length ≡ length text
-    go true = refl
-    go false = refl
+filled_length text area = grind arith
 
 -- any other status that is reported is why there is no text
 pub why_none : (bytes : Made) (area : Bytes) (status : Status) → status ≢ Done → status ≢ NoRoom
@@ -58,11 +43,10 @@ pub why_none : (bytes : Made) (area : Bytes) (status : Status) → status ≢ Do
 why_none (Err why) area status not_done has_room e =
     ap (λ status. Err status) (same_status why status e)
 why_none (Ok text) area status not_done has_room e =
-    absurd (go (nat_le (length text) (length area)) e)
-  where
-    go : (room : Bool) → (by_room room text area).result ≡ status_number status → ⊥
-    go true e = not_done (sym (same_status Done status e))
-    go false e = has_room (sym (same_status NoRoom status e))
+    absurd (cond_both {A = Filled} (nat_le (length text) (length area)) _ _
+    (λ left. left.result ≡ status_number status → ⊥)
+    (λ _ e. not_done (sym (same_status Done status e)))
+    (λ _ e. has_room (sym (same_status NoRoom status e))) e)
 
 -- what is so of the text is so of what was written
 pub written_text : (P : Bytes → Type 0) (area : Bytes) (bytes : Made) → (bytes ≡ Err Done → ⊥)

@@ -1,7 +1,8 @@
 -- What a call leaves, by its result.
-use Rattle.std.proofs.Common.{◌≡◌, ◌≢◌, ℕ, ◌+◌, ◌*◌, ◌≤◌, Bool, true, false, [], ◌∷◌, ◌++◌, length, take, drop, Some, None, Ok, Err, refl, subst, inl, inr, arith, length-append}
+use Rattle.std.proofs.Common.{◌≡◌, ◌≢◌, ℕ, ◌*◌, ◌≤◌, Bool, true, false, [], ◌∷◌, ◌++◌, length, take, drop, Some, None, Ok, Err, refl, subst, inl, inr, arith, length-append}
 use Rattle.std.specs.Prelude.{nat_le, ◌==◌, ◌&&◌, ◌||◌, if◌then◌else◌}
-use Rattle.std.proofs.lemmas.Bool.{and_parts, eqb-true, le-leb, leb-true, ltb-false}
+use Rattle.std.proofs.lemmas.Bool.{and_parts, cond_both, eqb-true, le-leb, leb-true, ltb-false}
+use Rattle.std.proofs.lemmas.Bool.Decides.{nat_tests}
 use Rattle.std.proofs.lemmas.List.{length-take}
 use Rattle.unftp_control_defs.specs.Bytes.{Bytes}
 use Rattle.unftp_control_defs.specs.Events.{FtpEvent, Refused, event_of, exceeds, line_too_long}
@@ -21,11 +22,7 @@ use Rattle.unftp_control_c.specs.Numbers.{status_number}
 use Rattle.unftp_control_c.specs.Taking.{Caller, after_piece, given_by, gives_none, is_made_again}
 use Rattle.unftp_control_c.proofs.AreaLemmas.{parts_apart}
 use Rattle.unftp_control_c.proofs.NextLemmas.{counts_of}
-use Rattle.unftp_control_c.proofs.RoomLemmas.{command_room}
-
--- what the name and the value of an event's line need
-abbrev pub lengths : FtpEvent → ℕ
-lengths event = length (given_for event).name + length (given_for event).value
+use Rattle.unftp_control_c.proofs.RoomLemmas.{lengths, outcome_room}
 
 -- the first line of a call, and its event
 pub record FirstEvent (call : Call) : Type 0 where
@@ -46,28 +43,24 @@ abbrev pub has_room : (call : Call) → FirstEvent call → Bool
 has_room call first = let given = given_for first.event in
     nat_le (length (given.name ++ given.value)) (length call.area)
 
-pub data NextLeft (call : Call) (left : Left) : Type 0 where
-  invalid : is_valid call.connection (length call.bytes) ≡ false → left ≡ kept call InvalidArgument
-      → NextLeft call left
+-- what a call leaves: it is no call; or no line is complete; or there is one, and room for it, or
+-- none; or memory ran out
+pub data NextLeft (call : Call) : Left → Type 0 where
+  invalid : is_valid call.connection (length call.bytes) ≡ false
+      → NextLeft call (kept call InvalidArgument)
   asks : (n : ℕ) → is_valid call.connection (length call.bytes) ≡ true
       → first_of call ≡ Incomplete n
-      → left ≡ used_up call More n (resumed call.connection (next_codec call)) → NextLeft call left
+      → NextLeft call (used_up call More n (resumed call.connection (next_codec call)))
   gave : (first : FirstEvent call) → has_room call first ≡ true
-      → left ≡ given_left call first.n (given_for first.event) → NextLeft call left
+      → NextLeft call (given_left call first.n (given_for first.event))
   no_room : (first : FirstEvent call) → has_room call first ≡ false
-      → left ≡ without_room call (given_for first.event) → NextLeft call left
-  no_memory : left ≡ kept call OutOfMemory → NextLeft call left
+      → NextLeft call (without_room call (given_for first.event))
+  no_memory : NextLeft call (kept call OutOfMemory)
 
 -- a line that is not too long, where there is a limit
 pub within_limit : (connection : Connection) (n : ℕ) → 1 ≤ connection.limit
     → is_too_long (codec_of connection) n ≡ false → n ≤ connection.limit
-within_limit connection n some short = by_test (connection.limit == 0) refl
-    (unskipped (connection.skipping == 1) (exceeds (line_limit connection.limit) n) short).1
-  where
-    by_test : (test : Bool) → (connection.limit == 0) ≡ test
-        → exceeds (if test then None else Some connection.limit) n ≡ false → n ≤ connection.limit
-    by_test true e short = absurd (omega (arith, eqb-true connection.limit 0 e, some))
-    by_test false e short = omega (arith, ltb-false connection.limit n short)
+within_limit connection n some short = grind (arith, nat_tests, some, short)
 
 -- what is given of a line: neither that more is needed, nor that a call is to be made again
 command_gives : (command : FtpCommand) → gives_none (command_number command) ≡ false
@@ -80,20 +73,16 @@ answer_gives (Err InvalidCommand) = refl
 answer_gives (Err InvalidUtf8) = refl
 answer_gives (Err InvalidEol) = refl
 
-answer_small : (line : Bytes) (answer : Answer) → outcome line ≡ answer
-    → lengths (event_of answer) ≤ 3 * length line
-answer_small line (Ok command) read = command_room line command read
-answer_small line (Err refusal) read = omega arith
-
 module _ (call : Call) where
-  left_first : (first : FirstEvent call) → (room : Bool) → has_room call first ≡ room
+  left_first : (first : FirstEvent call)
       → NextLeft call (gives call first.n (given_for first.event))
-  left_first first true e = rw e (gave first e refl)
-  left_first first false e = rw e (no_room first e refl)
+  left_first first = cond_both (has_room call first)
+      (given_left call first.n (given_for first.event))
+      (without_room call (given_for first.event)) (NextLeft call) (gave first) (no_room first)
 
   left_found : is_valid call.connection (length call.bytes) ≡ true → (found : FirstLine)
       → first_of call ≡ found → NextLeft call (by_first_line call found)
-  left_found ok (Incomplete n) e = asks n ok e refl
+  left_found ok (Incomplete n) e = asks n ok e
   left_found ok (TooLong n) e = left_first (record {
     n = n;
     event = Refused line_too_long;
@@ -103,11 +92,11 @@ module _ (call : Call) where
     small = omega arith;
     limited = λ some. omega arith;
     takes = λ dropped finds. rw e at finds;
-  }) _ refl
+  })
   left_found ok (Complete n) e =
       let line = take n call.bytes in
       let counts = counts_of call ok (Complete n) e in
-      let small = answer_small line (outcome line) refl in
+      let small = outcome_room line in
       let whole = length-take n call.bytes in
       left_first (record {
         n = n;
@@ -119,21 +108,14 @@ module _ (call : Call) where
         limited = λ some.
             omega (arith, small, whole, within_limit call.connection n some counts.1);
         takes = λ dropped finds. (rw e at finds).takes;
-      }) _ refl
-
-  left_by : (ok : Bool) → is_valid call.connection (length call.bytes) ≡ ok
-      → NextLeft call (next_of call)
-  left_by false e = rw e (invalid e refl)
-  left_by true e = rw e (left_found e (first_of call) refl)
+      })
 
   pub left_so : (left : Left) → Leaves call left → NextLeft call left
   left_so left (inl next) =
-      rw next (left_by (is_valid call.connection (length call.bytes)) refl)
-  left_so left (inr ran_out) = no_memory ran_out.1
-
-pub some_given : {call : Call} {left : Left} (first : FirstEvent call)
-    → left ≡ given_left call first.n (given_for first.event) → gives_none left.result ≡ false
-some_given first e = rw e first.some
+      rw next (cond_both (is_valid call.connection (length call.bytes))
+      (by_first_line call (first_of call)) (kept call InvalidArgument) (NextLeft call)
+      (λ ok. left_found ok (first_of call) refl) invalid)
+  left_so left (inr ran_out) = rw ran_out.1 no_memory
 
 -- it is read from the area
 pub given_is : {call : Call} (first : FirstEvent call)
@@ -156,20 +138,10 @@ gives_some result h = (
 module _ (connection : Connection) (codec : Codec) where
   pub valid_resumed : (n : ℕ) → codec.place ≤ n → (codec.skipping ≡ true → codec.place ≡ 0)
       → is_valid (resumed connection codec) n ≡ true
-  valid_resumed n within at_start = by_skipping codec.skipping at_start
-    where
-      by_skipping : (skipping : Bool) → (skipping ≡ true → codec.place ≡ 0)
-          → (nat_le codec.place n && ((if skipping then 1 else 0) == 0
-          || ((if skipping then 1 else 0) == 1 && codec.place == 0))) ≡ true
-      by_skipping true start = rw (le-leb codec.place n within, start refl) refl
-      by_skipping false start = rw (le-leb codec.place n within) refl
+  valid_resumed n within at_start = grind (arith, nat_tests, within, at_start)
 
   pub skipping_resumed : (codec_of (resumed connection codec)).skipping ≡ codec.skipping
-  skipping_resumed = by_skipping codec.skipping
-    where
-      by_skipping : (skipping : Bool) → ((if skipping then 1 else 0) == 1) ≡ skipping
-      by_skipping true = refl
-      by_skipping false = refl
+  skipping_resumed = grind arith
 
 -- a call that gives a line is not made again
 pub once_given : (result : ℕ) → gives_none result ≡ false → is_made_again result ≡ false
@@ -182,13 +154,4 @@ Valid caller = is_valid caller.connection (length caller.bytes) ≡ true
 pub valid_with_piece : (caller : Caller) (piece : Bytes) → Valid caller
     → Valid (after_piece caller piece)
 valid_with_piece caller piece ok =
-    let offset = caller.connection.offset in
-    let parts = and_parts (nat_le offset (length caller.bytes)) _ ok in
-    rw (
-      le-leb offset (length (caller.bytes ++ piece)) (omega (
-        arith,
-        leb-true offset (length caller.bytes) parts.0,
-        length-append caller.bytes piece,
-      )),
-      parts.1,
-    ) refl
+    grind (arith, nat_tests, ok, length-append caller.bytes piece)

@@ -12,61 +12,30 @@ use Rattle.unftp_control_line_parser.specs.Memory.{IfOutOfMemory, MayTakeMemory}
 use Rattle.unftp_control_line_parser.specs.ParseAnswer.{Refuses}
 use Rattle.unftp_control_write.specs.declared.WriteCommandError.{WriteCommandError}
 use Rattle.unftp_control_write.specs.declared.WriteCommandError.TheVariants as error
-use Rattle.unftp_control_c.specs.declared.status.Status.{Status}
-use Rattle.unftp_control_c.specs.declared.status.Status.TheVariants.{Done, NoLine, OutOfMemory}
+use Rattle.unftp_control_c.specs.declared.status.Status.TheVariants.{Done, NoLine}
 use Rattle.unftp_control_c.specs.Numbers.{kind_status, line_status, refusal_status}
-use Rattle.unftp_control_c.specs.Areas.{Made}
-use Rattle.unftp_control_c.specs.CanonicalLines.{CanonicalMayTakeMemory, IsCanonical, canonical, no_line, refused, out_of_memory}
+use Rattle.unftp_control_c.specs.CanonicalLines.{IsCanonical}
 
 pub refused_line : (line : Bytes) (why : ParseErrorKind) → Refuses (outcome line) why
-    → IsCanonical line (Err (kind_status why))
-refused_line line kind.InvalidCommand h = refused InvalidCommand h refl
-refused_line line kind.InvalidUtf8 h = refused InvalidUtf8 h refl
-refused_line line kind.InvalidEol h = refused InvalidEol h refl
-refused_line line kind.OutOfMemory h = out_of_memory refl
+    → IfOutOfMemory why (MayTakeMemory line) → IsCanonical line (Err (kind_status why))
+refused_line line kind.InvalidCommand h memory = (InvalidCommand, h, refl)
+refused_line line kind.InvalidUtf8 h memory = (InvalidUtf8, h, refl)
+refused_line line kind.InvalidEol h memory = (InvalidEol, h, refl)
+refused_line line kind.OutOfMemory h memory = inl memory
 
-pub unwritten_line : {line : Bytes} {command : FtpCommand} {why : WriteCommandError}
+pub unwritten_line : (line : Bytes) {command : FtpCommand} (why : WriteCommandError)
     → outcome line ≡ Ok command → (HasLine command → why ≡ error.OutOfMemory)
-    → IsCanonical line (Err (line_status why))
-unwritten_line {command} {why = error.NoLine} read has_line =
-    no_line command read (λ h. let out = has_line h in cc) refl
-unwritten_line {why = error.OutOfMemory} read has_line = out_of_memory refl
+    → (why ≡ error.OutOfMemory → HasLine command) → IsCanonical line (Err (line_status why))
+unwritten_line line {command} error.NoLine read has_line memory =
+    (command, read, λ h. let out = has_line h in cc)
+unwritten_line line {command} error.OutOfMemory read has_line memory =
+    inr (command, read, memory refl)
 
--- memory that is taken to read the line, or to write its command's
-pub refused_memory : (line : Bytes) (why : ParseErrorKind) → IfOutOfMemory why (MayTakeMemory line)
-    → kind_status why ≡ OutOfMemory → CanonicalMayTakeMemory line
-refused_memory line kind.InvalidCommand h e = absurd (cc)
-refused_memory line kind.InvalidUtf8 h e = absurd (cc)
-refused_memory line kind.InvalidEol h e = absurd (cc)
-refused_memory line kind.OutOfMemory h e = inl h
+pub has_line : (line : Bytes) → IsCanonical line (Err NoLine) → IsLine line → ⊥
+has_line line none is_line = none.2 (HasLine-outcome line none.0 is_line none.1)
 
-pub unwritten_memory : (line : Bytes) {command : FtpCommand} (why : WriteCommandError)
-    → outcome line ≡ Ok command → (why ≡ error.OutOfMemory → HasLine command)
-    → line_status why ≡ OutOfMemory → CanonicalMayTakeMemory line
-unwritten_memory line error.NoLine read has_line e = absurd (cc)
-unwritten_memory line {command} error.OutOfMemory read has_line e =
-    inr (command, read, has_line refl)
-
--- a refusal is reported as such
-pub no_refusal : (refusal : Refusal) → (NoLine ≢ refusal_status refusal)
-    × (OutOfMemory ≢ refusal_status refusal) × (Done ≢ refusal_status refusal)
-no_refusal InvalidCommand = (λ e. cc, λ e. cc, λ e. cc)
-no_refusal InvalidUtf8 = (λ e. cc, λ e. cc, λ e. cc)
-no_refusal InvalidEol = (λ e. cc, λ e. cc, λ e. cc)
-
--- why there is none
-pub same_why : {a b : Status} → ◌≡◌ {A = Made} (Err a) (Err b) → a ≡ b
-same_why e = cc
-
-pub has_line : {line : Bytes} → IsCanonical line (Err NoLine) → IsLine line → ⊥
-has_line (canonical command read has e) is_line = cc
-has_line {line} (no_line command read has_none e) is_line =
-    has_none (HasLine-outcome line command is_line read)
-has_line (refused refusal read e) is_line = (no_refusal refusal).0 (same_why e)
-has_line (out_of_memory e) is_line = cc
-
-pub not_done : {line : Bytes} → IsCanonical line (Err Done) → ⊥
-not_done (canonical command read has_line e) = cc
-not_done (no_line command read has_none e) = cc
-not_done (refused refusal read e) = (no_refusal refusal).2 (same_why e)
-not_done (out_of_memory e) = cc
+-- no refusal is reported as done
+pub not_done : (refusal : Refusal) → Done ≢ refusal_status refusal
+not_done InvalidCommand e = cc
+not_done InvalidUtf8 e = cc
+not_done InvalidEol e = cc

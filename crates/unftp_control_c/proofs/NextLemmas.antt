@@ -1,6 +1,7 @@
 -- What the codec finds, and what a call of `unftp_next` then leaves.
 use Rattle.std.proofs.Common.{◌≡◌, ◌≢◌, ℕ, ◌≤◌, true, inl, inr, length, take, refl, sym, ◌∙◌, arith}
 use Rattle.std.proofs.lemmas.Bool.{and_parts, le-leb, leb-true}
+use Rattle.std.proofs.lemmas.Bool.Decides.{nat_tests}
 use Rattle.std.proofs.lemmas.List.{length-take-le}
 use Rattle.std.specs.Prelude.{◌==◌, ◌&&◌, ◌||◌, nat_le}
 use Rattle.unftp_control_defs.specs.Bytes.{Bytes}
@@ -13,13 +14,9 @@ use Rattle.unftp_control_line_parser.specs.ParseAnswer.{Refuses}
 use Rattle.unftp_control_codecs.specs.declared.FirstLine.{FirstLine}
 use Rattle.unftp_control_codecs.specs.declared.FirstLine.TheVariants.{TooLong, Complete}
 use Rattle.unftp_control_codecs.proofs.FirstLineLemmas.{Counts, counts}
-use Rattle.unftp_control_c.specs.declared.next.Connection.{Connection}
 use Rattle.unftp_control_c.specs.declared.status.Status.TheVariants.{LineTooLong, OutOfMemory}
 use Rattle.unftp_control_c.specs.Numbers.{fault_status, kind_status}
 use Rattle.unftp_control_c.specs.Next.{Call, Left, Leaves, LeavesLine, at_next_line, by_first_line, codec_of, first_of, given_for, gives, is_valid, next_codec, next_of, resumed, used_up}
-
-abbrev pub call_with : Connection → Bytes → Bytes → Call
-call_with connection bytes area = record { connection = connection; bytes = bytes; area = area }
 
 -- a line that gives no command takes no room
 pub fault_left : (call : Call) (n : ℕ) (fault : Fault)
@@ -41,10 +38,7 @@ refused_left call line kind.OutOfMemory refuses some = absurd (some refl)
 
 module _ (call : Call) (valid : is_valid call.connection (length call.bytes) ≡ true) where
   pub offset_within : call.connection.offset ≤ length call.bytes
-  offset_within = leb-true call.connection.offset (length call.bytes)
-      (and_parts (nat_le call.connection.offset (length call.bytes))
-      (call.connection.skipping == 0 || (call.connection.skipping == 1 && call.connection.offset == 0))
-      valid).0
+  offset_within = grind (arith, nat_tests, valid)
 
   -- what is so of what the codec finds
   pub counts_of : (found : FirstLine) → first_of call ≡ found

@@ -6,7 +6,7 @@ use Rattle.std.specs.Str.Lines.{strip_carriage_return}
 use Rattle.std.specs.List.{AllByRecursion, slice_split, onto_first}
 use Rattle.std.proofs.lemmas.Bool.{cond_both, eqb-false}
 use Rattle.unftp_control_defs.specs.Bytes.{Bytes, LF, CR, Lacks}
-use Rattle.unftp_control_defs.specs.FtpReply.{FtpReply, CodeAndMsg, encoded, IsPlain}
+use Rattle.unftp_control_defs.specs.FtpReply.{FtpReply, encoded, IsPlain}
 use Rattle.unftp_control_defs.specs.ReplyReader.{ReadsBack}
 use Rattle.unftp_control_defs.proofs.LackLemmas.{Lacks-take}
 use Rattle.unftp_control_codecs.specs.ReplyCodes.{IsReplyCode}
@@ -15,8 +15,8 @@ use Rattle.unftp_control_c.specs.declared.status.Status.{Status}
 use Rattle.unftp_control_c.specs.declared.status.Status.TheVariants.{Done, OutOfMemory}
 use Rattle.unftp_control_c.specs.Numbers.{status_number}
 use Rattle.unftp_control_c.specs.Areas.{Filled, Made, made, written}
-use Rattle.unftp_control_c.specs.Replies.{IsReplyOf, EncodesReply, parts_as_lines, lines_reply, encodes, unknown_code, not_utf8, out_of_memory}
-use Rattle.unftp_control_c.proofs.AreaLemmas.{same_text, written_text}
+use Rattle.unftp_control_c.specs.Replies.{IsReplyOf, EncodesReply, parts_as_lines, lines_reply}
+use Rattle.unftp_control_c.proofs.AreaLemmas.{written_text}
 
 first_lacks : (b : ℕ) (parts : List Bytes) → b ≢ LF → AllByRecursion (Lacks LF) parts
     → AllByRecursion (Lacks LF) (onto_first b parts)
@@ -52,48 +52,29 @@ plain {code} {text} is_code (inr several) =
     (three_digits code is_code, lines_lack (slice_split (λ b. b == LF) text) (parts_lack text))
 
 -- what a client finds in the bytes of a reply
-module _ (code : ℕ) (text : Bytes) where
-  abbrev IsReadBack : Bytes → Type 0
-  IsReadBack bytes =
-      (reply : FtpReply) × IsReplyOf code text reply × ReadsBack bytes (reply ∷ [])
-
-  back : (bytes : Bytes) → EncodesReply code text (Ok bytes) → IsReadBack bytes
-  back bytes (encodes is_code utf8 reply is_reply e) = (
-    reply,
-    is_reply,
-    rw (same_text e) (one_back reply (plain is_code is_reply)),
-  )
-  back bytes (unknown_code unknown e) = absurd (cc)
-  back bytes (not_utf8 is_code ill_formed e) = absurd (cc)
-  back bytes (out_of_memory is_code utf8 e) = absurd (cc)
-
-  not_done : EncodesReply code text (Err Done) → ⊥
-  not_done (encodes is_code utf8 reply is_reply e) = cc
-  not_done (unknown_code unknown e) = cc
-  not_done (not_utf8 is_code ill_formed e) = cc
-  not_done (out_of_memory is_code utf8 e) = cc
-
 pub reads_back : (code : ℕ) (text out : Bytes) (left : Filled)
     → (bytes : Made) × EncodesReply code text bytes × (left ≡ written bytes out)
-    → left.result ≡ status_number Done
-    → IsReadBack code text (take left.text_length left.area)
+    → left.result ≡ status_number Done → (reply : FtpReply) × IsReplyOf code text reply
+    × ReadsBack (take left.text_length left.area) (reply ∷ [])
 reads_back code text out left wrote done =
-    rw wrote.2 (written_text (IsReadBack code text) out wrote.0
-    (λ e. not_done code text (subst (EncodesReply code text) e wrote.1))
-    (λ found e. back code text found (subst (EncodesReply code text) e wrote.1))
+    rw wrote.2 (written_text
+    (λ bytes. (reply : FtpReply) × IsReplyOf code text reply × ReadsBack bytes (reply ∷ []))
+    out wrote.0
+    (λ e. subst (EncodesReply code text) e wrote.1)
+    (λ found e.
+    let is = subst (EncodesReply code text) e wrote.1 in (
+      is.2,
+      is.3,
+      subst (λ bytes. ReadsBack bytes (is.2 ∷ [])) (sym is.4)
+          (one_back is.2 (plain is.0 is.3)),
+    ))
     (sym (ap (λ left. left.result) wrote.2) ∙ done))
 
--- the reply of one line, and that of several, whose memory may run out
-pub line_encodes : {code : ℕ} {text : Bytes} → IsReplyCode code → IsUtf8 text → Lacks LF text
-    → EncodesReply code text (Ok (encoded (CodeAndMsg code text)))
-line_encodes {code} {text} is_code utf8 one = encodes is_code utf8 (CodeAndMsg code text)
-    (inl (one, refl)) refl
-
+-- the reply of several lines, whose memory may run out
 pub lines_encode : {code : ℕ} {text lines : Bytes} (result : Result (Vec ℕ Global) Status)
     → lines ≡ text → IsReplyCode code → IsUtf8 text → ¬ Lacks LF text
     → IfOk result (λ buf. buf.items ≡ encoded (lines_reply code lines))
     → IfErr result (λ status. status ≡ OutOfMemory) → EncodesReply code text (made result)
 lines_encode {code} {text} (Ok buf) same is_code utf8 several ok err =
-    encodes is_code utf8 (lines_reply code text) (inr (several, refl)) (rw (← same, ok) refl)
-lines_encode (Err status) same is_code utf8 several ok err =
-    out_of_memory is_code utf8 (rw err refl)
+    (is_code, utf8, lines_reply code text, inr (several, refl), rw (← same, ok) refl)
+lines_encode (Err status) same is_code utf8 several ok err = rw err (is_code, utf8)

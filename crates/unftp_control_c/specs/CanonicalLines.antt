@@ -9,17 +9,17 @@ use Rattle.unftp_control_c.specs.declared.status.Status.TheVariants.{NoLine, Out
 use Rattle.unftp_control_c.specs.Numbers.{refusal_status}
 use Rattle.unftp_control_c.specs.Areas.{Made}
 
--- that line, or why there is none
-pub data IsCanonical (line : Bytes) (bytes : Made) : Type 0 where
-  canonical : (command : FtpCommand) → outcome line ≡ Ok command → HasLine command
-      → bytes ≡ Ok (canonical_line command) → IsCanonical line bytes
-  no_line : (command : FtpCommand) → outcome line ≡ Ok command → ¬ HasLine command
-      → bytes ≡ Err NoLine → IsCanonical line bytes
-  refused : (refusal : Refusal) → outcome line ≡ Err refusal
-      → bytes ≡ Err (refusal_status refusal) → IsCanonical line bytes
-  out_of_memory : bytes ≡ Err OutOfMemory → IsCanonical line bytes
-
 -- Memory may be taken to read the line, or for the canonical line of its command.
 abbrev pub CanonicalMayTakeMemory : Bytes → Type 0
 CanonicalMayTakeMemory line = MayTakeMemory line
     ⊎ ((command : FtpCommand) × (outcome line ≡ Ok command) × HasLine command)
+
+-- that line, or why there is none
+abbrev pub IsCanonical : Bytes → Made → Type 0
+IsCanonical line (Ok bytes) = (command : FtpCommand) × (outcome line ≡ Ok command)
+    × HasLine command × (bytes ≡ canonical_line command)
+IsCanonical line (Err NoLine) =
+    (command : FtpCommand) × (outcome line ≡ Ok command) × ¬ HasLine command
+IsCanonical line (Err OutOfMemory) = CanonicalMayTakeMemory line
+IsCanonical line (Err status) =
+    (refusal : Refusal) × (outcome line ≡ Err refusal) × (status ≡ refusal_status refusal)

@@ -10,11 +10,10 @@ use Rattle.unftp_control_c.specs.Numbers.{refusal_status}
 use Rattle.unftp_control_c.specs.Areas.{Made}
 
 -- that line, or why there is none; memory never runs out for a line that is refused
-pub data IsForwardedLine (line : Bytes) (bytes : Made) : Type 0 where
-  forwarded : (command : FtpCommand) → outcome line ≡ Ok command
-      → bytes ≡ Ok (forwarded_line line command) → IsForwardedLine line bytes
-  not_a_line : ¬ IsLine line → bytes ≡ Err NoLine → IsForwardedLine line bytes
-  refused : (refusal : Refusal) → outcome line ≡ Err refusal
-      → bytes ≡ Err (refusal_status refusal) → IsForwardedLine line bytes
-  out_of_memory : IsOk (outcome line)
-      → bytes ≡ Err OutOfMemory → IsForwardedLine line bytes
+abbrev pub IsForwardedLine : Bytes → Made → Type 0
+IsForwardedLine line (Ok bytes) = (command : FtpCommand) × (outcome line ≡ Ok command)
+    × (bytes ≡ forwarded_line line command)
+IsForwardedLine line (Err NoLine) = ¬ IsLine line
+IsForwardedLine line (Err OutOfMemory) = IsOk (outcome line)
+IsForwardedLine line (Err status) =
+    (refusal : Refusal) × (outcome line ≡ Err refusal) × (status ≡ refusal_status refusal)

@@ -32,6 +32,14 @@ pub record Left : Type 0 where
   -- how many bytes are used up, and how long the name and the value are
   pub line : Line
 
+abbrev pub call_with : Connection → Bytes → Bytes → Call
+call_with connection bytes area =
+    record { connection = connection; bytes = bytes; area = area }
+
+abbrev pub left_with : ℕ → Connection → Bytes → Line → Left
+left_with result connection area line =
+    record { result = result; connection = connection; area = area; line = line }
+
 -- the limit of a line's bytes, where there is one
 abbrev pub line_limit : ℕ → Option ℕ
 line_limit limit = if limit == 0 then None else Some limit
@@ -77,12 +85,8 @@ no_lengths = record { used = 0; name_len = 0; value_len = 0 }
 
 -- so many bytes are used up, and no name and value are given
 abbrev pub used_up : Call → Status → ℕ → Connection → Left
-used_up call status n connection = record {
-  result = status_number status;
-  connection = connection;
-  area = call.area;
-  line = record no_lengths { used = n };
-}
+used_up call status n connection =
+    left_with (status_number status) connection call.area (record no_lengths { used = n })
 
 -- nothing changes
 abbrev pub kept : Call → Status → Left
@@ -118,12 +122,8 @@ lengths_of n given =
 
 -- A line of n bytes is given: its name, and then its value.
 abbrev pub given_left : Call → ℕ → Given → Left
-given_left call n given = record {
-  result = given.number;
-  connection = at_next_line call.connection;
-  area = overwritten (given.name ++ given.value) call.area;
-  line = lengths_of n given;
-}
+given_left call n given = left_with given.number (at_next_line call.connection)
+    (overwritten (given.name ++ given.value) call.area) (lengths_of n given)
 
 -- Nothing is used up, and the area needs the two lengths.
 abbrev pub without_room : Call → Given → Left

@@ -28,11 +28,10 @@ IsReplyOf code text reply = (Lacks LF text × (reply ≡ CodeAndMsg code text))
     ⊎ ((¬ Lacks LF text) × (reply ≡ lines_reply code text))
 
 -- the reply's bytes, or why there are none
-pub data EncodesReply (code : ℕ) (text : Bytes) (bytes : Made) : Type 0 where
-  encodes : IsReplyCode code → IsUtf8 text → (reply : FtpReply) → IsReplyOf code text reply
-      → bytes ≡ Ok (encoded reply) → EncodesReply code text bytes
-  unknown_code : ¬ IsReplyCode code → bytes ≡ Err UnknownCode → EncodesReply code text bytes
-  not_utf8 : IsReplyCode code → ¬ IsUtf8 text → bytes ≡ Err InvalidUtf8
-      → EncodesReply code text bytes
-  out_of_memory : IsReplyCode code → IsUtf8 text → bytes ≡ Err OutOfMemory
-      → EncodesReply code text bytes
+abbrev pub EncodesReply : ℕ → Bytes → Made → Type 0
+EncodesReply code text (Ok bytes) = IsReplyCode code × IsUtf8 text
+    × (reply : FtpReply) × IsReplyOf code text reply × (bytes ≡ encoded reply)
+EncodesReply code text (Err UnknownCode) = ¬ IsReplyCode code
+EncodesReply code text (Err InvalidUtf8) = IsReplyCode code × ¬ IsUtf8 text
+EncodesReply code text (Err OutOfMemory) = IsReplyCode code × IsUtf8 text
+EncodesReply code text (Err status) = ⊥

@@ -6,7 +6,7 @@ use Rattle.unftp_control_defs.specs.Events as fault
 use Rattle.unftp_control_c.specs.declared.next.Connection.{Connection}
 use Rattle.unftp_control_c.specs.declared.status.Status.TheVariants.{More, OutOfMemory, NoRoom}
 use Rattle.unftp_control_c.specs.Numbers.{status_number}
-use Rattle.unftp_control_c.specs.Next.{Call, Given, Leaves, Left, scans}
+use Rattle.unftp_control_c.specs.Next.{Call, Given, Leaves, Left, call_with, scans}
 
 -- what a caller has of a connection from call to call
 pub record Caller : Type 0 where
@@ -26,8 +26,7 @@ after_piece caller piece =
 
 -- a call with this area
 abbrev pub call_of : Caller → Bytes → Call
-call_of caller area =
-    record { connection = caller.connection; bytes = caller.bytes; area = area }
+call_of caller area = call_with caller.connection caller.bytes area
 
 -- the bytes that a call used up are dropped
 abbrev pub after_call : Caller → Left → Caller

@@ -35,7 +35,6 @@ pub extern "C" fn unftp_canonical(
 /// The canonical line, or why there is none.
 fn canonical_line(alloc: Global, line: &[u8]) -> Result<Vec<u8>, Status>
     ensures canonical { IsCanonical line.now (made result) }
-    ensures memory { made result ≡ Err OutOfMemory → CanonicalMayTakeMemory line.now }
     ensures read_back { IfOk result (λ buf. outcome buf.items ≡ outcome line.now) }
 {
     let command = match parse(alloc, line) {

@@ -1,16 +1,13 @@
 //! Examples of the definitions, worked out by hand: what calls leave, at the boundary.
 #![tactic(auto, unfolding(unftp_control_defs::proofs::Computing::at_bytes))]
 
-ghost use Rattle.std.specs.Prelude.{◌≡◌, [], ◌∷◌, Some, None, Ok, Err, codes, length};
-ghost use Rattle.std.specs.List.{count_by};
-ghost use Rattle.unftp_control_defs.specs.FtpReply.{CodeAndMsg, MultiLine, encoded};
-ghost use Rattle.unftp_control_codecs.specs.LineFeed.{is_line_feed, line_feed_from};
-ghost use Rattle.unftp_control_c.specs.Areas.{filled};
+ghost use Rattle.std.specs.Prelude.{◌≡◌, [], ◌∷◌, Ok, Err, codes};
+ghost use Rattle.unftp_control_defs.specs.FtpReply.{CodeAndMsg, MultiLine};
 ghost use Rattle.unftp_control_c.specs.CanonicalLines.{CanonicalMayTakeMemory, IsCanonical};
 ghost use Rattle.unftp_control_c.specs.ForwardedLines.{IsForwardedLine};
 ghost use Rattle.unftp_control_c.specs.Next.{Leaves, LineMayTakeMemory, next_of, scans};
 ghost use Rattle.unftp_control_c.specs.Rows.{a_call, leaving};
-ghost use Rattle.unftp_control_c.specs.Replies.{EncodesReply, IsReplyOf, lines_reply, text_lines};
+ghost use Rattle.unftp_control_c.specs.Replies.{EncodesReply, IsReplyOf, text_lines};
 ghost use Rattle.unftp_control_c.specs.declared.status.Status.TheVariants.{InvalidCommand, InvalidUtf8, NoLine, OutOfMemory, UnknownCode};
 
 pub mod calls;
@@ -26,10 +23,6 @@ pub fn lines_are_taken()
         ≡ leaving 107 0 3 0 8 (codes "....") 4 1 }
     ensures too_long { next_of (a_call (codes "RETR a\r\nQ") 0 0 7 (codes "....."))
         ≡ leaving 105 8 0 0 7 (codes ".....") 0 0 }
-    ensures end_of_a_long_line { next_of (a_call (codes "\nQUIT\n") 0 1 7 [])
-        ≡ leaving 105 1 0 0 7 [] 0 0 }
-    ensures refused { next_of (a_call (codes "NOOP x\r\n") 0 0 0 (codes "...."))
-        ≡ leaving 102 8 0 0 0 (codes "....") 0 0 }
 {}
 
 /// Incomplete lines, and what is no call.
@@ -41,8 +34,6 @@ pub fn bytes_are_kept()
         ≡ leaving 111 0 2 0 0 [] 0 0 }
     ensures skipping_past_the_start { next_of (a_call (codes "a\n") 1 1 0 [])
         ≡ leaving 111 0 1 1 0 [] 0 0 }
-    ensures neither_skipping_nor_not { next_of (a_call (codes "a\n") 0 2 0 [])
-        ≡ leaving 111 0 0 2 0 [] 0 0 }
 {}
 
 /// What a call leaves: what `next_of` says, or where memory may run out, nothing but that it has.
@@ -61,8 +52,6 @@ pub fn calls_leave()
 pub fn bytes_are_scanned()
     ensures line_begun { scans (a_call (codes "NOOP\nQ\n") 2 0 0 []) ≡ 3 }
     ensures nothing_new { scans (a_call (codes "NOOP") 4 0 0 []) ≡ 0 }
-    ensures line_feed_at_the_offset { line_feed_from (codes "a\nb\n") 1 ≡ Some 1 }
-    ensures line_feed_before_it { line_feed_from (codes "a\nb") 2 ≡ None }
 {}
 
 /// Lines for which memory may run out, and none.
@@ -73,17 +62,8 @@ pub fn some_lines_may_take_memory()
     ensures no_such_call { ¬ LineMayTakeMemory (a_call (codes "RETR a\n") 0 2 0 []) }
 {}
 
-/// Texts that areas have room for or not.
-pub fn areas_are_filled()
-    ensures room { filled (codes "ab") (codes "xyz")
-        ≡ record { result = 0; area = codes "abz"; text_length = 2 } }
-    ensures too_small { filled (codes "ab") (codes "x")
-        ≡ record { result = 107; area = codes "x"; text_length = 2 } }
-{}
-
 /// Replies of one line and of several, and what is no code.
 pub fn replies_have_codes_and_lines()
-    ensures two_digits { EncodesReply 99 [] (Err UnknownCode) }
     ensures sixth_kind { EncodesReply 600 [] (Err UnknownCode) }
     ensures not_encoded { ¬ EncodesReply 600 [] (Ok (codes "600\r\n")) }
     ensures code_without_a_name { EncodesReply 299 [] (Ok (codes "299\r\n")) }
@@ -98,18 +78,14 @@ pub fn replies_have_codes_and_lines()
 
 /// The lines of texts: a CR directly before an LF belongs to the line's end, and no other does.
 pub fn texts_have_lines()
-    ensures empty { text_lines [] ≡ [] ∷ [] }
     ensures cr_lf_at_the_end { text_lines (codes "a\r\n") ≡ codes "a" ∷ [] ∷ [] }
     ensures another_cr { text_lines (codes "a\r\r\n\rb") ≡ codes "a\r" ∷ codes "\rb" ∷ [] }
-    ensures line_feeds { count_by is_line_feed (codes "a\r\n\nb\r") ≡ 2 }
-    ensures room { length (encoded (lines_reply 211 (codes "1\n1\n1"))) ≡ 19 }
 {}
 
 /// Lines and their canonical lines.
 pub fn lines_have_canonical_lines()
     ensures command { IsCanonical (codes "noop \n") (Ok (codes "NOOP\r\n")) }
     ensures other_line { ¬ IsCanonical (codes "noop\n") (Ok (codes "noop\n")) }
-    ensures no_line_feed { IsCanonical (codes "NOOP") (Ok (codes "NOOP\r\n")) }
     ensures refusal { IsCanonical (codes "NOOP x\r\n") (Err InvalidCommand) }
     // of bytes that are no line: the name has a line feed
     ensures no_line { IsCanonical (codes "USER a\n\n") (Err NoLine) }

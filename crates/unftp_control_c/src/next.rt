@@ -3,7 +3,7 @@ ghost use Rattle.std.specs.Prelude.{◌≡◌, true, false, length};
 ghost use Rattle.unftp_control_defs.specs.Bytes.{Bytes};
 ghost use Rattle.unftp_control_defs.specs.Events.{Command as CommandEvent};
 ghost use Rattle.unftp_control_message.specs.CommandMeaning.{command_of};
-ghost use Rattle.unftp_control_c.specs.Next.{Leaves, LeavesLine, codec_of, given_for, gives, is_valid, no_lengths, resumed, scans, used_up};
+ghost use Rattle.unftp_control_c.specs.Next.{Leaves, LeavesLine, call_with, codec_of, given_for, gives, is_valid, left_with, no_lengths, resumed, scans, used_up};
 
 use crate::areas::overwrite_both;
 use crate::status::{Status, kind_status};
@@ -47,14 +47,8 @@ pub extern "C" fn unftp_next(
     area: &mut [u8],
     line: &mut Line,
 ) -> u32
-    ensures { Leaves
-        (record { connection = connection.old; bytes = bytes.now; area = area.old })
-        (record {
-          result = result;
-          connection = connection.new;
-          area = area.new;
-          line = line.new;
-        }) }
+    ensures { Leaves (call_with connection.old bytes.now area.old)
+        (left_with result connection.new area.new line.new) }
 {
     *line = Line {
         used: 0,
@@ -101,17 +95,10 @@ fn take_first(
     requires lengths { line.old ≡ no_lengths }
     requires valid { is_valid connection.old (length bytes.now) ≡ true }
     requires codec { codec.old ≡ codec_of connection.old }
-    ensures leaves { Leaves
-        (record { connection = connection.old; bytes = bytes.now; area = area.old })
-        (record {
-          result = result;
-          connection = connection.new;
-          area = area.new;
-          line = line.new;
-        }) }
+    ensures leaves { Leaves (call_with connection.old bytes.now area.old)
+        (left_with result connection.new area.new line.new) }
     // Each byte of the line is scanned once, but those that an earlier call has scanned.
-    ensures scans { codec.new.tests
-        ≡ scans (record { connection = connection.old; bytes = bytes.now; area = area.old }) }
+    ensures scans { codec.new.tests ≡ scans (call_with connection.old bytes.now area.old) }
 {
     match codec.find_line(bytes) {
         FirstLine::Incomplete { dropped } => {
@@ -139,14 +126,8 @@ fn take_line(
 ) -> u32
     requires lengths { line.old ≡ no_lengths }
     requires codec { (codec.now.place ≡ 0) × (codec.now.skipping ≡ false) }
-    ensures { (pending : Bytes) → LeavesLine
-        (record { connection = connection.old; bytes = pending; area = area.old }) bytes.now
-        (record {
-          result = result;
-          connection = connection.new;
-          area = area.new;
-          line = line.new;
-        }) }
+    ensures { (pending : Bytes) → LeavesLine (call_with connection.old pending area.old) bytes.now
+        (left_with result connection.new area.new line.new) }
 {
     let answer = parse(alloc, bytes);
     match &answer {
@@ -168,13 +149,9 @@ fn report(
     line: &mut Line,
 ) -> u32
     requires { line.old ≡ no_lengths }
-    ensures { (bytes area : Bytes) → record {
-      result = result;
-      connection = connection.new;
-      area = area;
-      line = line.new;
-    } ≡ used_up (record { connection = connection.old; bytes = bytes; area = area }) status
-        used (resumed connection.old codec.now) }
+    ensures { (bytes area : Bytes) → left_with result connection.new area line.new
+        ≡ used_up (call_with connection.old bytes area) status used
+        (resumed connection.old codec.now) }
 {
     line.used = used;
     connection.offset = codec.place();
@@ -191,12 +168,8 @@ fn give(
     area: &mut [u8],
     line: &mut Line,
 ) -> u32
-    ensures { (bytes : Bytes) → record {
-      result = result;
-      connection = connection.new;
-      area = area.new;
-      line = line.new;
-    } ≡ gives (record { connection = connection.old; bytes = bytes; area = area.old }) taken
+    ensures { (bytes : Bytes) → left_with result connection.new area.new line.new
+        ≡ gives (call_with connection.old bytes area.old) taken
         (given_for (CommandEvent (command_of command.now))) }
 {
     let parts = parts_of(command);

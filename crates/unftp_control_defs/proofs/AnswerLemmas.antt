@@ -1,6 +1,6 @@
 -- What verbs make of a value without LF are sound commands: they have a line, and fields of their
 -- types.
-use Rattle.std.proofs.Common.{◌≡◌, ◌≢◌, ℕ, Bool, true, false, cond, ◌==◌, nat_lt, ◌&&◌, ◌^◌, List, [], ◌∷◌, length, Option, Some, None, option_map, Ok, Err, bytes_eq, refl, sym, ap, subst, ◌∙◌}
+use Rattle.std.proofs.Common.{◌≡◌, ◌≢◌, ℕ, Bool, true, false, cond, ◌==◌, nat_lt, ◌&&◌, ◌^◌, List, [], ◌∷◌, length, Option, Some, None, option_map, Ok, Err, bytes_eq, refl, sym, ap, subst, ◌∙◌, arith}
 use Rattle.std.specs.List.{AllByRecursion}
 use Rattle.std.specs.Str.{IsUtf8, is_utf8, all_ascii_digits}
 use Rattle.std.specs.Str.Lossy.{utf8_lossy}
@@ -48,7 +48,8 @@ pub any_gives : (command : Bytes → FtpCommand)
     → ((text : Bytes) → Lacks LF text → IsUtf8 text → IsSound (command text))
     → Gives (any_text command)
 any_gives command each v meant h e = let text : Bytes = utf8_lossy v in
-    sound (command text) meant (each text (Lacks-utf8_lossy v h) (IsUtf8-utf8_lossy v)) e
+    sound (command text) meant
+    (each text (Lacks-utf8_lossy LF (omega arith) v h) (IsUtf8-utf8_lossy v)) e
 
 pub without_parameter_gives : (command : FtpCommand) → IsSound command
     → Gives (without_parameter command)
@@ -56,7 +57,7 @@ without_parameter_gives command is_sound v meant h e =
     sound command meant is_sound (passed (length v == 0) (Ok command) InvalidCommand meant e).1
 
 IsNonEmptyText-utf8_lossy : (v : Bytes) → v ≢ [] → Lacks LF v → IsNonEmptyText (utf8_lossy v)
-IsNonEmptyText-utf8_lossy v some h = (kept-utf8_lossy v some, Lacks-utf8_lossy v h)
+IsNonEmptyText-utf8_lossy v some h = (kept-utf8_lossy v some, Lacks-utf8_lossy LF (omega arith) v h)
 
 some_value : (b : ℕ) (v : Bytes) → b ∷ v ≢ []
 some_value b v e = cc
@@ -138,7 +139,7 @@ list_gives v meant h e =
     let text : Bytes = utf8_lossy v in
     let path : Bytes = path_of text in
     let optional : IsOptionalText (unless_empty path) =
-    IsOptionalText-unless_empty path (Lacks-path_of text (Lacks-utf8_lossy v h)) in
+    IsOptionalText-unless_empty path (Lacks-path_of text (Lacks-utf8_lossy LF (omega arith) v h)) in
     let utf8 : IsMaybeUtf8 (unless_empty path) =
     IsMaybeUtf8-unless_empty path (IsUtf8-path_of text (IsUtf8-utf8_lossy v)) in
     sound (Listing None (unless_empty path)) meant ((refl, optional), (tt, utf8)) e

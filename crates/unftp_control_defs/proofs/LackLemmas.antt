@@ -47,19 +47,20 @@ pub Lacks-escaped : (text : Bytes) → Lacks LF text → Lacks LF (escaped text)
 Lacks-escaped [] h = tt
 Lacks-escaped (b ∷ text) h = escaped_byte b text h.0 (Lacks-escaped text h.1) (cases_eq b CR)
 
--- U+FFFD has no LF
-pub Lacks-utf8_lossy : (text : Bytes) → Lacks LF text → Lacks LF (utf8_lossy text)
-Lacks-utf8_lossy text = utf8_lossy-keeps (λ text found. Lacks LF text → Lacks LF found)
+-- U+FFFD has no byte of ASCII
+pub Lacks-utf8_lossy : (b : ℕ) → b < 128 → (text : Bytes) → Lacks b text
+    → Lacks b (utf8_lossy text)
+Lacks-utf8_lossy b low text = utf8_lossy-keeps (λ text found. Lacks b text → Lacks b found)
     (λ text utf8 h. h)
     (λ text more less lacks_more h.
     let n : ℕ = utf8_valid_len text in
-    Lacks-append LF (take n text) (replacement_bytes ++ more) (Lacks-take LF n text h) (
+    Lacks-append b (take n text) (replacement_bytes ++ more) (Lacks-take b n text h) (
       (λ e. omega arith),
       (
         (λ e. omega arith),
         (
           (λ e. omega arith),
-          lacks_more (Lacks-drop LF (n + utf8_invalid_len (drop n text)) text h),
+          lacks_more (Lacks-drop b (n + utf8_invalid_len (drop n text)) text h),
         ),
       ),
     )) text

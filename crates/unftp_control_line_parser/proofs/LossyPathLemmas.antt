@@ -1,337 +1,217 @@
 -- The path of LIST in a text whose ill-formed UTF-8 is replaced is the text of that in the bytes.
-use Rattle.std.proofs.Common.{◌≡◌, ◌≢◌, ◌⊎◌, inl, inr, ℕ, zero, suc, ◌+◌, ◌-◌, ◌≤◌, ◌<◌, Bool, true, false, not, ◌==◌, [], ◌∷◌, ◌++◌, length, take, drop, get_or, Option, Some, None, refl, sym, ap, subst, ◌∙◌, arith, ne_eqb, append_assoc, length-append, length-drop, take_all, append-nil, ⊎_elim}
-use Rattle.std.specs.Int.{is_in_range}
-use Rattle.std.specs.Option.{unwrap_or}
+use Rattle.std.proofs.Common.{◌≡◌, ◌⊎◌, inl, inr, ℕ, zero, suc, ◌+◌, ◌-◌, ◌≤◌, ◌<◌, true, [], ◌∷◌, ◌++◌, length, take, drop, get_or, refl, sym, ap, subst, ◌∙◌, arith, append_assoc, length-append, length-drop, take_all, ⊎_elim}
 use Rattle.std.specs.Str.{IsUtf8, is_utf8, IsValidUpTo}
-use Rattle.std.specs.Str.Lossy.{utf8_lossy, utf8_valid_len, valid_len_up_to, after_first_chunk, replacement_bytes, utf8_invalid_len, utf8_error_len, second_byte_min, second_byte_max}
-use Rattle.std.proofs.lemmas.Bool.{cases_Bool, cases_eq, cases_lt, cond_both, and_parts, false≢true, le-ltb}
+use Rattle.std.specs.Str.Lossy.{utf8_lossy, utf8_valid_len, valid_len_up_to, replacement_bytes, utf8_invalid_len, utf8_error_len}
+use Rattle.std.proofs.lemmas.Bool.{cases_eq, cases_lt, cond_both, false≢true}
 use Rattle.std.proofs.lemmas.Bool.Decides.{nat_tests}
-use Rattle.std.proofs.lemmas.List.{take_at, drop_at, take-append-drop, length-take-le}
+use Rattle.std.proofs.lemmas.Grind.{common_steps}
+use Rattle.std.proofs.lemmas.List.{take_at, drop_at, take-append-le, drop-append-le, get_or_at}
 use Rattle.std.proofs.Math.Seq.{take-append-add, drop-append-add}
-use Rattle.std.proofs.lemmas.Str.{IsUtf8-nil, IsUtf8-append, IsUtf8-from_is_utf8, is_utf8-from_IsUtf8, IsUtf8-past_char, utf8_valid_len-IsValidUpTo, utf8_lossy-IsUtf8, utf8_lossy_empty, utf8_lossy_step, encode_ascii, byte_from_char, length-encode, len_utf8_bounds}
-use lib.Utf8.{encode, encodes, scalar, scalars, low_scalar}
+use Rattle.std.proofs.lemmas.Str.{IsUtf8-nil, IsUtf8-append, IsUtf8-encode, IsUtf8-take, IsUtf8-drop, IsUtf8-from_is_utf8, is_utf8-from_IsUtf8, IsCharBoundary-before_ascii, IsCharBoundary-from_take, utf8_valid_len-IsUtf8, utf8_valid_len-IsValidUpTo, utf8_lossy-IsUtf8, utf8_lossy_empty, utf8_lossy_step, encode_ascii}
+use lib.Utf8.{low_scalar}
 use Rattle.unftp_control_defs.specs.Bytes.{Bytes, SP, DASH}
-use Rattle.unftp_control_defs.specs.Paths.{path_from, path_of}
-use Rattle.unftp_control_defs.proofs.CaseLemmas.{High, High-encode}
-use Rattle.unftp_control_line_parser.proofs.SentPathLemmas.{KeepsMarks, at_start}
+use Rattle.unftp_control_defs.specs.Paths.{path_of}
+use Rattle.unftp_control_defs.proofs.LackLemmas.{Lacks-utf8_lossy}
+use Rattle.unftp_control_defs.proofs.LossyLemmas.{kept-utf8_lossy, utf8_lossy-keeps}
+use Rattle.unftp_control_line_parser.proofs.SentPathLemmas.{path_of-kept}
 
--- the longest front that is UTF-8
-up_to : (bs : Bytes) (n : ℕ) → IsUtf8 (take (valid_len_up_to bs n) bs)
-up_to bs zero = IsUtf8-nil
-up_to bs (suc n) = cond_both (is_utf8 (take (suc n) bs)) (suc n) (valid_len_up_to bs n)
-    (λ k. IsUtf8 (take k bs)) (λ e. IsUtf8-from_is_utf8 (take (suc n) bs) e) (λ _. up_to bs n)
+-- a front that is UTF-8, and no longer one is
+longest_front : (text : Bytes) (m : ℕ) → IsUtf8 (take (valid_len_up_to text m) text)
+    × ((k : ℕ) → valid_len_up_to text m < k → k ≤ m → ¬ (IsUtf8 (take k text)))
+longest_front text zero = (IsUtf8-nil, λ k above within. absurd (omega arith))
+longest_front text (suc m) =
+    cond_both (is_utf8 (take (suc m) text)) (suc m) (valid_len_up_to text m)
+    (λ n. IsUtf8 (take n text) × ((k : ℕ) → n < k → k ≤ suc m → ¬ (IsUtf8 (take k text))))
+    (λ utf8. (IsUtf8-from_is_utf8 (take (suc m) text) utf8, λ k above within. absurd (omega arith)))
+    (λ ill. let shorter = longest_front text m in (
+      shorter.0,
+      λ k above within utf8. ⊎_elim
+          (λ same. false≢true (sym ill ∙ subst (λ k. is_utf8 (take k text) ≡ true) same
+          (is_utf8-from_IsUtf8 (take k text) utf8)))
+          (λ other. shorter.1 k above (omega arith) utf8)
+          (cases_eq k (suc m)),
+    ))
 
-none_longer : (bs : Bytes) (n m : ℕ) → valid_len_up_to bs n < m → m ≤ n → ¬ (IsUtf8 (take m bs))
-none_longer bs zero m more within u = omega arith
-none_longer bs (suc n) m more within u = by_test (cases_Bool (is_utf8 (take (suc n) bs)))
-    (λ less more. none_longer bs n m more less u)
-  where
-    by_test : (is_utf8 (take (suc n) bs) ≡ true) ⊎ (is_utf8 (take (suc n) bs) ≡ false)
-        → (m ≤ n → valid_len_up_to bs n < m → ⊥) → ⊥
-    by_test (inl t) further = let longer : suc n < m = rw t at more in omega arith
-    by_test (inr f) further =
-        let longer : valid_len_up_to bs n < m = rw f at more in
-        ⊎_elim (λ e. false≢true (sym f ∙ ap (λ k. is_utf8 (take k bs)) (sym e)
-        ∙ is_utf8-from_IsUtf8 (take m bs) u))
-        (λ ne. further (omega arith) longer)
-        (cases_eq m (suc n))
-
-valid_front : (bs : Bytes) → IsUtf8 (take (utf8_valid_len bs) bs)
+text_or_fault : (text : Bytes) → IsUtf8 text ⊎ IsValidUpTo text (utf8_valid_len text)
 unfolding utf8_valid_len
-valid_front bs = up_to bs (length bs)
+text_or_fault text = let front = longest_front text (length text) in ⊎_elim
+    (λ short. inr (record {
+      short = short;
+      front = front.0;
+      longest = λ m above utf8. ⊎_elim
+          (λ past. front.1 (length text) short (omega arith) (subst IsUtf8
+          (take_all m text (omega arith) ∙ sym (take_all (length text) text (omega arith))) utf8))
+          (λ within. front.1 m above within utf8)
+          (cases_lt (length text) m);
+    }))
+    (λ whole. inl (subst IsUtf8 (take_all _ text whole) front.0))
+    (cases_lt (utf8_valid_len text) (length text))
 
-longest : (bs : Bytes) (m : ℕ) → utf8_valid_len bs < m → m ≤ length bs → ¬ (IsUtf8 (take m bs))
-unfolding utf8_valid_len
-longest bs m more within = none_longer bs (length bs) m more within
+-- where its first ill-formed part is at n
+lossy_at : (text : Bytes) (n : ℕ) → IsValidUpTo text n → utf8_lossy text ≡ take n text
+    ++ (replacement_bytes ++ utf8_lossy (drop (n + utf8_invalid_len (drop n text)) text))
+lossy_at text n v =
+    let at = utf8_valid_len-IsValidUpTo text n v in
+    utf8_lossy_step text (λ e. omega (arith, v.short, at, e))
+    ∙ ap (λ n. take n text
+    ++ (replacement_bytes ++ utf8_lossy (drop (n + utf8_invalid_len (drop n text)) text))) at
 
-within : (bs : Bytes) → utf8_valid_len bs ≤ length bs
-unfolding utf8_valid_len
-within bs = up_to_le (length bs)
-  where
-    up_to_le : (n : ℕ) → valid_len_up_to bs n ≤ n
-    up_to_le zero = omega arith
-    up_to_le (suc n) = let less = up_to_le n in
-        cond_both (is_utf8 (take (suc n) bs)) (suc n) (valid_len_up_to bs n) (λ k. k ≤ suc n)
-        (λ _. omega arith) (λ _. omega arith)
+-- after a front that is UTF-8
+module _ (front : Bytes) (utf8 : IsUtf8 front) where
+  utf8_after : (more : Bytes) → IsUtf8 (front ++ more) → IsUtf8 more
+  utf8_after more whole = subst IsUtf8 (drop_at front more (length front) refl)
+      (IsUtf8-drop (front ++ more) (length front) whole
+      (IsCharBoundary-from_take (front ++ more) (length front) whole
+      (omega (arith, length-append front more))
+      (subst IsUtf8 (sym (take_at front more (length front) refl)) utf8)))
 
-pub text_or_fault : (bs : Bytes) → IsUtf8 bs ⊎ IsValidUpTo bs (utf8_valid_len bs)
-text_or_fault bs = ⊎_elim
-    (λ e. inl (subst IsUtf8 (take_all (utf8_valid_len bs) bs (omega arith)) (valid_front bs)))
-    (λ ne. inr (fault ne))
-    (cases_eq (utf8_valid_len bs) (length bs))
-  where
-    fault : utf8_valid_len bs ≢ length bs → IsValidUpTo bs (utf8_valid_len bs)
-    fault ne = record {
-      short = let le = within bs in omega arith;
-      front = valid_front bs;
-      longest = λ m more u. ⊎_elim
-          (λ lt. longest bs (length bs) (let le = within bs in omega arith) (omega arith)
-          (subst IsUtf8 (take_all m bs (omega arith) ∙ sym (take_all (length bs) bs (omega arith))) u))
-          (λ le. longest bs m more le u)
-          (cases_lt (length bs) m);
-    }
-
--- a character at the front
-module _ (c : ℕ) (r : Bytes) (is : scalar c ≡ true) where
-  abbrev k : ℕ
-  k = length (encode c)
-
-  is_text : IsUtf8 (encode c)
-  is_text = (c ∷ [], (by_parts, spelled))
-    where
-      by_parts : scalars (c ∷ []) ≡ true
-      by_parts = rw is refl
-
-      spelled : encodes (c ∷ []) ≡ encode c
-      spelled = append_nil (encode c)
-        where
-          append_nil : (xs : Bytes) → xs ++ [] ≡ xs
-          append_nil [] = refl
-          append_nil (x ∷ xs) = ap (λ t. x ∷ t) (append_nil xs)
-
-  fault_later : IsValidUpTo r (utf8_valid_len r)
-      → IsValidUpTo (encode c ++ r) (k + utf8_valid_len r)
-  fault_later v = record {
-    short = omega (arith, length-append (encode c) r, v.short);
-    front = subst IsUtf8 (sym (take-append-add (encode c) r (utf8_valid_len r)))
-        (IsUtf8-append (encode c) (take (utf8_valid_len r) r) is_text v.front);
-    longest = λ m more u.
-        let rest : ℕ = m - k in
-        let whole : k + rest ≡ m = omega arith in
-        v.longest rest (omega arith)
-        (IsUtf8-past_char (encode c ++ take rest r) (take rest r) c
-        (subst IsUtf8 (ap (λ n. take n (encode c ++ r)) (sym whole)
-        ∙ take-append-add (encode c) r rest) u) refl);
+  fault_later : (more : Bytes) (n : ℕ) → IsValidUpTo more n
+      → IsValidUpTo (front ++ more) (length front + n)
+  fault_later more n v = record {
+    short = omega (arith, length-append front more, v.short);
+    front = subst IsUtf8 (sym (take-append-add front more n))
+        (IsUtf8-append front (take n more) utf8 v.front);
+    longest = λ m above text.
+        let rest : ℕ = m - length front in
+        let sum : length front + rest ≡ m = omega arith in
+        v.longest rest (omega arith) (utf8_after (take rest more) (subst IsUtf8
+        (ap (λ n. take n (front ++ more)) (sym sum) ∙ take-append-add front more rest) text));
   }
 
-  lossy-faulty : IsValidUpTo r (utf8_valid_len r)
-      → utf8_lossy (encode c ++ r) ≡ encode c ++ utf8_lossy r
-  lossy-faulty v =
-      let bs : Bytes = encode c ++ r in
-      let n : ℕ = utf8_valid_len r in
-      let at : utf8_valid_len bs ≡ k + n = utf8_valid_len-IsValidUpTo bs (k + n) (fault_later v) in
-      let later : drop (k + n) bs ≡ drop n r = drop-append-add (encode c) r n in
-      let fault : ℕ = utf8_invalid_len (drop n r) in
-      let sum : k + n + fault ≡ k + (n + fault) = omega arith in
-      let after : after_first_chunk bs ≡ after_first_chunk r =
-      ap (λ j. drop (j + utf8_invalid_len (drop j bs)) bs) at
-      ∙ ap (λ x. drop (k + n + utf8_invalid_len x) bs) later
-      ∙ ap (λ j. drop j bs) sum ∙ drop-append-add (encode c) r (n + fault) in
-      let step = utf8_lossy_step bs (λ e. let f = fault_later v in omega (arith, f.short, at, e)) in
-      let rest = utf8_lossy_step r (λ e. omega (arith, v.short, e)) in
-      step
-      ∙ ap (λ j. take j bs ++ (replacement_bytes ++ utf8_lossy (after_first_chunk bs))) at
-      ∙ (λ i. take-append-add (encode c) r n i ++ (replacement_bytes ++ utf8_lossy (after i)))
-      ∙ append_assoc (encode c) (take n r) (replacement_bytes ++ utf8_lossy (after_first_chunk r))
-      ∙ ap (λ t. encode c ++ t) (sym rest)
+  utf8_lossy-front : (more : Bytes) → utf8_lossy (front ++ more) ≡ front ++ utf8_lossy more
+  utf8_lossy-front more = ⊎_elim
+      (λ text. utf8_lossy-IsUtf8 (front ++ more) (IsUtf8-append front more utf8 text)
+      ∙ ap (λ t. front ++ t) (sym (utf8_lossy-IsUtf8 more text)))
+      (λ v.
+      let n = utf8_valid_len more in
+      let k = utf8_invalid_len (drop n more) in
+      let sum : length front + n + k ≡ length front + (n + k) = omega arith in
+      let rest : drop (length front + n + k) (front ++ more) ≡ drop (n + k) more =
+      ap (λ j. drop j (front ++ more)) sum ∙ drop-append-add front more (n + k) in
+      lossy_at (front ++ more) (length front + n) (fault_later more n v)
+      ∙ ap (λ x. take (length front + n) (front ++ more) ++ (replacement_bytes
+      ++ utf8_lossy (drop (length front + n + utf8_invalid_len x) (front ++ more))))
+      (drop-append-add front more n)
+      ∙ (λ i. take-append-add front more n i ++ (replacement_bytes ++ utf8_lossy (rest i)))
+      ∙ append_assoc front (take n more) (replacement_bytes ++ utf8_lossy (drop (n + k) more))
+      ∙ ap (λ t. front ++ t) (sym (lossy_at more n v)))
+      (text_or_fault more)
 
-  pub utf8_lossy-char : utf8_lossy (encode c ++ r) ≡ encode c ++ utf8_lossy r
-  utf8_lossy-char = ⊎_elim
-      (λ u. utf8_lossy-IsUtf8 (encode c ++ r) (IsUtf8-append (encode c) r is_text u)
-      ∙ ap (λ t. encode c ++ t) (sym (utf8_lossy-IsUtf8 r u)))
-      lossy-faulty (text_or_fault r)
+-- A byte of ASCII is no part of another character, nor of what U+FFFD replaces.
+module _ (b : ℕ) (low : b < 128) (more : Bytes) where
+  record SameFault (rest : Bytes) : Type 0 where
+    within : utf8_invalid_len rest ≤ length rest
+    same : utf8_invalid_len (rest ++ b ∷ more) ≡ utf8_invalid_len rest
 
-pub utf8_lossy-ascii : (b : ℕ) (t : Bytes) → b < 128 → utf8_lossy (b ∷ t) ≡ b ∷ utf8_lossy t
-utf8_lossy-ascii b t low =
-    let one : encode b ≡ b ∷ [] = encode_ascii b low in
-    ap (λ x. utf8_lossy (x ++ t)) (sym one)
-    ∙ utf8_lossy-char b t (low_scalar b (omega arith))
-    ∙ ap (λ x. x ++ utf8_lossy t) one
+  same_fault : (rest : Bytes) → 0 < length rest → SameFault rest
+  unfolding utf8_error_len
+  same_fault [] some = absurd (omega arith)
+  same_fault (x ∷ []) some = record {
+    within = grind (arith, common_steps, nat_tests);
+    same = grind (arith, common_steps, nat_tests);
+  }
+  same_fault (x ∷ y ∷ []) some = record {
+    within = grind (arith, common_steps, nat_tests);
+    same = grind (arith, common_steps, nat_tests);
+  }
+  same_fault (x ∷ y ∷ z ∷ []) some = record {
+    within = grind (arith, common_steps, nat_tests);
+    same = grind (arith, common_steps, nat_tests);
+  }
+  same_fault (x ∷ y ∷ z ∷ w ∷ rest) some = record {
+    within = grind (arith, common_steps, nat_tests);
+    same = grind (arith, common_steps, nat_tests);
+  }
 
--- the ill-formed bytes that U+FFFD replaces are past ASCII
-record Fault (bs : Bytes) (n : ℕ) : Type 0 where
-  some : 0 < n
-  within : n ≤ length bs
-  high : High (take n bs)
+  fault_before : (text : Bytes) (n : ℕ) → IsValidUpTo text n → IsValidUpTo (text ++ b ∷ more) n
+  fault_before text n v =
+      let short = v.short in
+      record {
+        short = omega (arith, length-append text (b ∷ more));
+        front = subst IsUtf8 (sym (take-append-le n text (b ∷ more) (omega arith))) v.front;
+        longest = λ m above utf8. ⊎_elim
+            (λ past.
+            let i : ℕ = m - length text - 1 in
+            let sum : length text + suc i ≡ m = omega arith in
+            let x : Bytes = take i more in
+            let whole : IsUtf8 (text ++ b ∷ x) = subst IsUtf8
+            (ap (λ m. take m (text ++ b ∷ more)) (sym sum)
+            ∙ take-append-add text (b ∷ more) (suc i)) utf8 in
+            let before = IsCharBoundary-before_ascii (text ++ b ∷ x) (length text)
+            (omega (arith, length-append text (b ∷ x)))
+            (omega (arith, get_or_at text b x 0 (length text) refl, low)) in
+            v.longest (length text) short (subst IsUtf8
+            (take_at text (b ∷ x) (length text) refl
+            ∙ sym (take_all (length text) text (omega arith)))
+            (IsUtf8-take (text ++ b ∷ x) (length text) whole before)))
+            (λ within. v.longest m above
+            (subst IsUtf8 (take-append-le m text (b ∷ more) within) utf8))
+            (cases_lt (length text) m);
+      }
 
-abbrev FaultOf : Bytes → Option ℕ → Type 0
-FaultOf bs o = Fault bs (unwrap_or o (length bs))
+  pub utf8_lossy-split : (text : Bytes)
+      → utf8_lossy (text ++ b ∷ more) ≡ utf8_lossy text ++ b ∷ utf8_lossy more
+  utf8_lossy-split = utf8_lossy-keeps
+      (λ text found. utf8_lossy (text ++ b ∷ more) ≡ found ++ b ∷ utf8_lossy more)
+      (λ text utf8. ap utf8_lossy (sym (append_assoc text (b ∷ []) more))
+      ∙ utf8_lossy-front (text ++ b ∷ []) (IsUtf8-append text (b ∷ []) utf8
+      (subst IsUtf8 (encode_ascii b low) (IsUtf8-encode b (low_scalar b (omega arith))))) more
+      ∙ append_assoc text (b ∷ []) (utf8_lossy more))
+      (λ text found less is. ⊎_elim
+      (λ utf8. absurd (omega (arith, utf8_valid_len-IsUtf8 text utf8, less)))
+      (λ v.
+      let whole = text ++ b ∷ more in
+      let n = utf8_valid_len text in
+      let k = utf8_invalid_len (drop n text) in
+      let short = v.short in
+      let fault = same_fault (drop n text) (omega (arith, length-drop n text)) in
+      let within : n + k ≤ length text = omega (arith, fault.within, length-drop n text) in
+      let rest = ap (λ x. drop (n + utf8_invalid_len x) whole)
+      (drop-append-le n text (b ∷ more) (omega arith))
+      ∙ ap (λ k. drop (n + k) whole) fault.same ∙ drop-append-le (n + k) text (b ∷ more) within in
+      lossy_at whole n (fault_before text n v)
+      ∙ (λ i. take-append-le n text (b ∷ more) (omega arith) i
+      ++ (replacement_bytes ++ utf8_lossy (rest i)))
+      ∙ ap (λ t. take n text ++ (replacement_bytes ++ t)) is
+      ∙ sym (append_assoc (take n text) (replacement_bytes ++ found) (b ∷ utf8_lossy more)))
+      (text_or_fault text))
 
-second_high : (a b : ℕ) → is_in_range (second_byte_min a) (second_byte_max a) b ≡ true → 128 ≤ b
-second_high a b e = grind (arith, nat_tests)
+utf8_lossy-ascii : (b : ℕ) (t : Bytes) → b < 128 → utf8_lossy (b ∷ t) ≡ b ∷ utf8_lossy t
+utf8_lossy-ascii b t low = utf8_lossy-split b low t []
+    ∙ ap (λ none. none ++ b ∷ utf8_lossy t) (utf8_lossy_empty [] refl)
 
-third_high : (c : ℕ) → is_in_range 0x80 0xBF c ≡ true → 128 ≤ c
-third_high c e = grind (arith, nat_tests)
-
-one_byte : (a : ℕ) (t : Bytes) → 128 ≤ a → Fault (a ∷ t) 1
-one_byte a t h = record { some = omega arith; within = omega arith; high = (h, tt) }
-
-two_bytes : (a b : ℕ) (t : Bytes) → 128 ≤ a → 128 ≤ b → Fault (a ∷ b ∷ t) 2
-two_bytes a b t h g = record { some = omega arith; within = omega arith; high = (h, (g, tt)) }
-
-three_bytes : (a b c : ℕ) (t : Bytes) → 128 ≤ a → 128 ≤ b → 128 ≤ c → Fault (a ∷ b ∷ c ∷ t) 3
-three_bytes a b c t h g f =
-    record { some = omega arith; within = omega arith; high = (h, (g, (f, tt))) }
-
-fault_bytes : (a : ℕ) (t : Bytes) → 128 ≤ a → Fault (a ∷ t) (utf8_invalid_len (a ∷ t))
-unfolding utf8_error_len
-fault_bytes a [] h =
-    cond_both (is_in_range 0xC2 0xF4 a) None (Some 1) (FaultOf (a ∷ []))
-    (λ _. one_byte a [] h) (λ _. one_byte a [] h)
-fault_bytes a (b ∷ []) h =
-    cond_both (is_in_range 0xC2 0xF4 a) _ (Some 1) (FaultOf (a ∷ b ∷ []))
-    (λ _. cond_both (is_in_range (second_byte_min a) (second_byte_max a) b) None (Some 1)
-    (FaultOf (a ∷ b ∷ [])) (λ e. two_bytes a b [] h (second_high a b e))
-    (λ _. one_byte a (b ∷ []) h))
-    (λ _. one_byte a (b ∷ []) h)
-fault_bytes a (b ∷ c ∷ []) h =
-    cond_both (is_in_range 0xC2 0xF4 a) _ (Some 1) (FaultOf (a ∷ b ∷ c ∷ []))
-    (λ _. cond_both (is_in_range (second_byte_min a) (second_byte_max a) b) _ (Some 1)
-    (FaultOf (a ∷ b ∷ c ∷ [])) (λ e.
-    cond_both (is_in_range 0x80 0xBF c) None (Some 2) (FaultOf (a ∷ b ∷ c ∷ []))
-    (λ g. three_bytes a b c [] h (second_high a b e) (third_high c g))
-    (λ _. two_bytes a b (c ∷ []) h (second_high a b e)))
-    (λ _. one_byte a (b ∷ c ∷ []) h))
-    (λ _. one_byte a (b ∷ c ∷ []) h)
-fault_bytes a (b ∷ c ∷ d ∷ t) h =
-    let n : ℕ = length (a ∷ b ∷ c ∷ d ∷ t) in
-    let some : n ≢ 0 = λ e. absurd (omega arith) in
-    rw (
-      ne_eqb n 0 some,
-      le-ltb n 2 (omega arith),
-      le-ltb n 3 (omega arith),
-      le-ltb n 4 (omega arith),
-    )
-    (cond_both (is_in_range 0xC2 0xF4 a) _ (Some 1) (FaultOf (a ∷ b ∷ c ∷ d ∷ t))
-    (λ _. cond_both (is_in_range (second_byte_min a) (second_byte_max a) b) _ (Some 1)
-    (FaultOf (a ∷ b ∷ c ∷ d ∷ t)) (λ e.
-    cond_both (is_in_range 0x80 0xBF c) (Some 3) (Some 2) (FaultOf (a ∷ b ∷ c ∷ d ∷ t))
-    (λ g. three_bytes a b c (d ∷ t) h (second_high a b e) (third_high c g))
-    (λ _. two_bytes a b (c ∷ d ∷ t) h (second_high a b e)))
-    (λ _. one_byte a (b ∷ c ∷ d ∷ t) h))
-    (λ _. one_byte a (b ∷ c ∷ d ∷ t) h))
-
--- bytes past ASCII at the front, and their text
-record HighStep (bs : Bytes) : Type 0 where
-  n : ℕ
-  text : Bytes
-  some : 0 < n
-  within : n ≤ length bs
-  high : High (take n bs)
-  high_text : High text
-  some_text : 0 < length text
-  step : utf8_lossy bs ≡ text ++ utf8_lossy (drop n bs)
-
-high_char : (bs : Bytes) (c : ℕ) (r : Bytes) → scalar c ≡ true → bs ≡ encode c ++ r → 0 < length bs
-    → 128 ≤ get_or bs 0 0 → HighStep bs
-high_char bs c r is whole some h = record {
-  n = length (encode c);
-  text = encode c;
-  some = longer;
-  within = omega (arith, ap length whole, length-append (encode c) r);
-  high = subst High (sym (ap (take (length (encode c))) whole
-      ∙ take_at (encode c) r (length (encode c)) refl)) (High-encode c past);
-  high_text = High-encode c past;
-  some_text = longer;
-  step = ap utf8_lossy whole ∙ utf8_lossy-char c r is
-      ∙ ap (λ x. encode c ++ utf8_lossy x) (sym (ap (drop (length (encode c))) whole
-      ∙ drop_at (encode c) r (length (encode c)) refl));
-}
+first_high : (text : Bytes) → 128 ≤ get_or text 0 0 → 128 ≤ get_or (utf8_lossy text) 0 0
+first_high = utf8_lossy-keeps (λ text found. 128 ≤ get_or text 0 0 → 128 ≤ get_or found 0 0)
+    (λ text utf8 high. high)
+    (λ text found less kept high. front (utf8_valid_len text) text found high)
   where
-    past : 128 ≤ c
-    past = ⊎_elim (λ low. absurd (omega (arith, byte_from_char bs r c whole low, h))) (λ le. le)
-        (cases_lt c 128)
+    front : (n : ℕ) (text found : Bytes) → 128 ≤ get_or text 0 0
+        → 128 ≤ get_or (take n text ++ (replacement_bytes ++ found)) 0 0
+    front zero text found high = omega arith
+    front (suc n) [] found high = absurd (omega arith)
+    front (suc n) (b ∷ text) found high = high
 
-    longer : 0 < length (encode c)
-    longer = omega (arith, length-encode c, (len_utf8_bounds c).0)
-
-high_fault : (a : ℕ) (t : Bytes) → 128 ≤ a → utf8_valid_len (a ∷ t) ≡ 0 → HighStep (a ∷ t)
-high_fault a t h none =
-    let fault = fault_bytes a t h in
-    let no_more : 0 + utf8_invalid_len (a ∷ t) ≡ utf8_invalid_len (a ∷ t) = omega arith in
-    record {
-      n = utf8_invalid_len (a ∷ t);
-      text = replacement_bytes;
-      some = fault.some;
-      within = fault.within;
-      high = fault.high;
-      high_text = (omega arith, (omega arith, (omega arith, tt)));
-      some_text = omega arith;
-      step = utf8_lossy_step (a ∷ t) (λ e. omega (arith, none, e))
-          ∙ ap (λ j. take j (a ∷ t) ++ (replacement_bytes ++ utf8_lossy
-          (drop (j + utf8_invalid_len (drop j (a ∷ t))) (a ∷ t)))) none
-          ∙ ap (λ j. replacement_bytes ++ utf8_lossy (drop j (a ∷ t))) no_more;
-    }
-
--- what begins with a byte past ASCII
-utf8_lossy-high : (a : ℕ) (t : Bytes) → 128 ≤ a → HighStep (a ∷ t)
-utf8_lossy-high a t h = by_text (text_or_fault (a ∷ t))
-  where
-    by_chars : (cs front rest : Bytes) → scalars cs ≡ true → encodes cs ≡ front → 0 < length front
-        → a ∷ t ≡ front ++ rest → HighStep (a ∷ t)
-    by_chars [] front rest is spelled some whole = absurd (omega (arith, ap length spelled, some))
-    by_chars (c ∷ cs) front rest is spelled some whole =
-        high_char (a ∷ t) c (encodes cs ++ rest) (and_parts (scalar c) (scalars cs) is).0
-        (whole ∙ ap (λ x. x ++ rest) (sym spelled) ∙ append_assoc (encode c) (encodes cs) rest)
-        (omega arith) h
-
-    by_text : IsUtf8 (a ∷ t) ⊎ IsValidUpTo (a ∷ t) (utf8_valid_len (a ∷ t)) → HighStep (a ∷ t)
-    by_text (inl u) = by_chars u.0 (a ∷ t) [] u.1.0 u.1.1 (omega arith) (sym (append-nil (a ∷ t)))
-    by_text (inr v) = ⊎_elim
-        (λ none. high_fault a t h none)
-        (λ some. by_chars v.front.0 (take (utf8_valid_len (a ∷ t)) (a ∷ t))
-        (drop (utf8_valid_len (a ∷ t)) (a ∷ t)) v.front.1.0 v.front.1.1
-        (omega (arith, length-take-le (utf8_valid_len (a ∷ t)) (a ∷ t) (within (a ∷ t)), some))
-        (sym (take-append-drop (utf8_valid_len (a ∷ t)) (a ∷ t))))
-        (cases_eq (utf8_valid_len (a ∷ t)) 0)
-
-first_high : (text : Bytes) → 0 < length text → High text
-    → (x : ℕ) × (r : Bytes) × (text ≡ x ∷ r) × (128 ≤ x)
-first_high [] some h = absurd (omega arith)
-first_high (x ∷ r) some h = (x, r, refl, h.0)
-
--- any byte of ASCII but this one, or one past ASCII
-abbrev OtherFirst : ℕ → ℕ → Bytes → Type 0
-OtherFirst mark b t = (x : ℕ) × (r : Bytes) × (utf8_lossy (b ∷ t) ≡ x ∷ r) × (x ≢ mark)
-
-other_first : (mark b : ℕ) (t : Bytes) → mark < 128 → b ≢ mark → OtherFirst mark b t
-other_first mark b t low ne = ⊎_elim
-    (λ ascii. (b, utf8_lossy t, utf8_lossy-ascii b t ascii, ne))
-    (λ high.
-    let step = utf8_lossy-high b t high in
-    let first = first_high step.text step.some_text step.high_text in (
-      first.0,
-      first.1 ++ utf8_lossy (drop step.n (b ∷ t)),
-      step.step ∙ ap (λ x. x ++ utf8_lossy (drop step.n (b ∷ t))) first.2,
-      λ e. omega (arith, first.3, e, low),
-    ))
+first_dash : (t letters : Bytes) → utf8_lossy t ≡ DASH ∷ letters
+    → (more : Bytes) × (t ≡ DASH ∷ more)
+first_dash [] letters e = let none = utf8_lossy_empty [] refl in cc
+first_dash (b ∷ t) letters e = ⊎_elim
+    (λ low.
+    let step = utf8_lossy-ascii b t low in
+    let is : b ≡ DASH = cc in
+    (t, ap (λ b. b ∷ t) is))
+    (λ high. absurd (omega (arith, first_high (b ∷ t) high, ap (λ t. get_or t 0 0) e)))
     (cases_lt b 128)
 
-utf8_lossy-keeps : KeepsMarks utf8_lossy
-utf8_lossy-keeps = record {
-  nothing = utf8_lossy_empty [] refl;
-  dash = λ t. utf8_lossy-ascii DASH t (omega arith);
-  space = λ t. utf8_lossy-ascii SP t (omega arith);
-  other = λ b t ne. other_first DASH b t (omega arith) ne;
-  no_space = λ b t ne. other_first SP b t (omega arith) ne;
-}
-
-in_word-high : (xs ys : Bytes) → High xs → path_from true (xs ++ ys) ≡ path_from true ys
-in_word-high [] ys h = refl
-in_word-high (x ∷ xs) ys h =
-    let ne : x ≢ SP = λ e. omega (arith, h.0, e) in
-    ap (λ test. path_from (not test) (xs ++ ys)) (ne_eqb x SP ne) ∙ in_word-high xs ys h.1
-
-path_up_to : (k : ℕ) (in_word : Bool) (bs : Bytes) → length bs ≤ k
-    → path_from in_word (utf8_lossy bs) ≡ utf8_lossy (path_from in_word bs)
-path_up_to k in_word [] h =
-    let nil = utf8_lossy_empty [] refl in
-    ap (path_from in_word) nil ∙ sym nil
-path_up_to zero in_word (b ∷ bs) h = absurd (omega arith)
-path_up_to (suc k) false (b ∷ bs) h =
-    at_start utf8_lossy utf8_lossy-keeps b bs (path_up_to k true bs (omega arith))
-path_up_to (suc k) true (b ∷ bs) h = ⊎_elim
-    (λ low. ap (path_from true) (utf8_lossy-ascii b bs low)
-    ∙ path_up_to k (not (b == SP)) bs (omega arith))
-    (λ high.
-    let step = utf8_lossy-high b bs high in
-    let rest : Bytes = drop step.n (b ∷ bs) in
-    ap (path_from true) step.step
-    ∙ in_word-high step.text (utf8_lossy rest) step.high_text
-    ∙ path_up_to k true rest (omega (arith, length-drop step.n (b ∷ bs), step.some, h))
-    ∙ ap utf8_lossy (sym (in_word-high (take step.n (b ∷ bs)) rest step.high)
-    ∙ ap (path_from true) (take-append-drop step.n (b ∷ bs))))
-    (cases_lt b 128)
+ended : (t : Bytes) → utf8_lossy t ≡ [] → t ≡ []
+ended [] e = refl
+ended (b ∷ t) e = absurd (kept-utf8_lossy (b ∷ t) (λ none. cc) e)
 
 pub path_of-utf8_lossy : (bytes : Bytes) → path_of (utf8_lossy bytes) ≡ utf8_lossy (path_of bytes)
-path_of-utf8_lossy bytes = path_up_to (length bytes) false bytes (omega arith)
+path_of-utf8_lossy = path_of-kept utf8_lossy (record {
+  nothing = utf8_lossy_empty [] refl;
+  dash = λ t. utf8_lossy-ascii DASH t (omega arith);
+  space = λ front more. utf8_lossy-split SP (omega arith) more front;
+  no_space = Lacks-utf8_lossy SP (omega arith);
+  first = first_dash;
+  ended = ended;
+})

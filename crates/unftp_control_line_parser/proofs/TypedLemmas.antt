@@ -1,18 +1,16 @@
 -- What a command with a type of its own makes of a value that is sent with NULs.
-use Rattle.std.proofs.Common.{◌≡◌, ◌≤◌, ◌<◌, true, cond, nat_lt, length, Err, refl, sym, ap, ◌∙◌, arith, ⊎_elim}
-use Rattle.std.specs.Str.{is_utf8}
-use Rattle.std.proofs.lemmas.Bool.{cases_Bool, le-ltb}
-use Rattle.std.proofs.lemmas.Bool.Decides.{nat_tests}
+use Rattle.std.proofs.Common.{◌≡◌, ◌<◌, length, take, Err, refl, sym, ap, ◌∙◌, arith, ⊎_elim, length-take, take_all}
+use Rattle.std.proofs.lemmas.Bool.{cases_lt, lt-ltb}
+use Rattle.std.specs.Str.Lossy.{utf8_lossy}
 use Rattle.unftp_control_defs.specs.Bytes.{Bytes}
-use Rattle.unftp_control_defs.specs.FtpCommand.{InvalidCommand, InvalidUtf8}
-use Rattle.unftp_control_defs.specs.Rules.{auth, structures, modes, protections, options, buffer_sizes}
+use Rattle.unftp_control_defs.specs.FtpCommand.{InvalidCommand}
+use Rattle.unftp_control_defs.specs.Rules.{auth, offset, structures, modes, protections, options, buffer_sizes}
 use Rattle.unftp_control_line_parser.specs.declared.rule.TypedCommand.{TypedCommand}
 use Rattle.unftp_control_line_parser.specs.declared.rule.TypedCommand.TheVariants as typed
 use Rattle.unftp_control_line_parser.specs.Meaning.{typed_answer}
 use Rattle.unftp_control_line_parser.specs.Values.{unescaped}
-use Rattle.unftp_control_line_parser.proofs.OffsetLemmas.{same_offset}
-use Rattle.unftp_control_line_parser.proofs.ReturnLemmas.{has_return, has_return-unescaped, no_mechanism, same_choice, shorter_return, unescaped_same, unescaped_short}
-use Rattle.unftp_control_line_parser.proofs.SentTextLemmas.{is_utf8-unescaped}
+use Rattle.unftp_control_line_parser.proofs.OffsetLemmas.{offset_return}
+use Rattle.unftp_control_line_parser.proofs.ReturnLemmas.{same_answer_unescaped, same_choice}
 
 pub same_answer : (command : TypedCommand) (sent : Bytes) → (command ≡ typed.Auth → ⊥)
     → typed_answer command (unescaped sent) ≡ typed_answer command sent
@@ -21,33 +19,16 @@ same_answer typed.Mode sent other = same_choice modes sent refl
 same_answer typed.Opts sent other = same_choice options sent refl
 same_answer typed.Pbsz sent other = same_choice buffer_sizes sent refl
 same_answer typed.Prot sent other = same_choice protections sent refl
-same_answer typed.Rest sent other = same_offset sent
+same_answer typed.Rest sent other =
+    same_answer_unescaped (λ v. offset (utf8_lossy v)) offset_return sent
 same_answer typed.Stru sent other = same_choice structures sent refl
 
 longer : (v : Bytes) → 3 < length v → auth v ≡ Err InvalidCommand
-longer v long = let t : nat_lt 3 (length v) ≡ true = grind (arith, nat_tests) in rw t refl
+longer v long = rw (lt-ltb 3 (length v) long) refl
 
--- no mechanism has a CR
-pub auth_return : (v : Bytes) → has_return v ≡ true → length v ≤ 3
-    → auth v ≡ cond (is_utf8 v) (Err InvalidCommand) (Err InvalidUtf8)
-auth_return v h short = rw (le-ltb 3 (length v) short, no_mechanism v h) refl
-
-pub auth_short : (sent : Bytes) → 3 < length sent → length (unescaped sent) ≤ 3
-    → auth (unescaped sent) ≡ cond (is_utf8 sent) (Err InvalidCommand) (Err InvalidUtf8)
-auth_short sent long short =
-    let return = shorter_return sent (omega arith) in
-    auth_return (unescaped sent) (has_return-unescaped sent ∙ return) short
-    ∙ ap (λ test. cond test (Err InvalidCommand) (Err InvalidUtf8)) (is_utf8-unescaped sent)
-
-pub auth_long : (sent : Bytes) → 3 < length (unescaped sent) → auth sent ≡ auth (unescaped sent)
-auth_long sent long =
-    longer sent (omega (arith, unescaped_short sent, long)) ∙ sym (longer (unescaped sent) long)
-
-pub auth_few : (sent : Bytes) → length sent ≤ 3 → auth sent ≡ auth (unescaped sent)
-auth_few sent few = ⊎_elim
-    (λ t. auth_return sent t few
-    ∙ ap (λ test. cond test (Err InvalidCommand) (Err InvalidUtf8)) (sym (is_utf8-unescaped sent))
-    ∙ sym (auth_return (unescaped sent) (has_return-unescaped sent ∙ t)
-    (omega (arith, unescaped_short sent, few))))
-    (λ f. ap auth (sym (unescaped_same sent f)))
-    (cases_Bool (has_return sent))
+-- of a value that may be a mechanism four bytes are enough
+pub auth-start : (v : Bytes) → auth (take 4 v) ≡ auth v
+auth-start v = ⊎_elim
+    (λ long. longer (take 4 v) (omega (arith, length-take 4 v)) ∙ sym (longer v long))
+    (λ short. ap auth (take_all 4 v (omega arith)))
+    (cases_lt 3 (length v))

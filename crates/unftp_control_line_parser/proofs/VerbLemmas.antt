@@ -31,7 +31,7 @@ from_four_bytes_back (a ∷ b ∷ c ∷ d ∷ []) w e = ⊎_elim
 from_four_bytes_back (a ∷ b ∷ c ∷ d ∷ e ∷ word) w h = cc
 
 -- a name that doesn't pass the test that each row's passes has no row
-none_of : (p : Bytes → Bool) (name : Bytes) (rows : List (Bytes × Rule))
+pub none_of : (p : Bytes → Bool) (name : Bytes) (rows : List (Bytes × Rule))
     → list_all (λ row. p row.0) rows ≡ true → p name ≡ false → row_of name rows ≡ None
 none_of p name [] all none = refl
 none_of p name (row ∷ rows) all none =
@@ -131,6 +131,10 @@ no_verb_upper word e = no_verb (upper word) (to_four_bytes_upper word ∙ ap (op
 pub mapped_some : (rule : Option RustRule) → is_some rule ≡ is_some (option_map meaning rule)
 mapped_some None = refl
 mapped_some (Some rule) = refl
+
+-- how a word is looked up
+pub ruleset words =
+    (from_four_bytes_back, from_four_bytes_upper, mapped_some, no_verb, no_verb_upper)
 
 -- the verb's end, where none of the first bytes ends it
 pub separator_later : (line : Bytes) (n : ℕ) → n ≤ length line

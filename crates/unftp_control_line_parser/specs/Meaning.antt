@@ -46,6 +46,7 @@ abbrev pub text_command : TextCommand → Bytes → FtpCommand
 text_command text.Appe t = spec.Appe t
 text_command text.Cwd t = spec.Cwd t
 text_command text.Dele t = spec.Dele t
+text_command text.Md5 t = spec.Md5 t
 text_command text.Mdtm t = spec.Mdtm t
 text_command text.Mkd t = spec.Mkd t
 text_command text.Port t = spec.Port t

@@ -39,9 +39,10 @@ pub fn optional_raw(alloc: Global, value: Value<'_>) -> Result<Option<Bytes>, Al
 
 /// The value as text, each ill-formed part of UTF-8 replaced by U+FFFD.
 #[inline]
+#[tactic(auto, using(crate::proofs::MemoryLemmas::texts))]
 pub fn text(alloc: Global, value: Value<'_>) -> Result<String, AllocError>
     ensures ok { IfOk result (λ text. string_bytes text ≡ utf8_lossy (value_bytes value.entry)) }
-    ensures memory { OnErr result (0 < length (value_bytes value.entry)) }
+    ensures memory { OnErr result (0 < length (utf8_lossy (value_bytes value.entry))) }
 {
     if value.is_empty() {
         return Ok(String::new(alloc));
@@ -55,6 +56,7 @@ pub fn text(alloc: Global, value: Value<'_>) -> Result<String, AllocError>
 /// The bytes as a new text.
 // for all bytes `from_utf8_lossy` would do, but it is not inlined, which takes some 8 ns more
 #[inline(always)]
+#[tactic(auto, using(crate::proofs::MemoryLemmas::texts))]
 fn borrowed_text(alloc: Global, bytes: &[u8]) -> Result<String, AllocError>
     ensures { IfOk result (λ text. string_bytes text ≡ utf8_lossy bytes.now) }
 {
@@ -78,7 +80,8 @@ fn owned_text(alloc: Global, bytes: Vec<u8>) -> Result<String, AllocError>
 pub fn optional_text(alloc: Global, value: Value<'_>) -> Result<Option<String>, AllocError>
     ensures ok { IfOk result (λ text. option_map string_bytes text
         ≡ option_map utf8_lossy (unless_empty (value_bytes value.entry))) }
-    ensures memory { OnErr result (0 < length (value_bytes value.entry)) }
+    ensures memory { OnErr result
+        (0 < maybe_len (option_map utf8_lossy (unless_empty (value_bytes value.entry)))) }
 {
     if value.is_empty() {
         return Ok(None);

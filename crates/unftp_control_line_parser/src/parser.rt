@@ -7,18 +7,18 @@ ghost use Rattle.unftp_control_defs.specs.Lines.{IsLine};
 ghost use Rattle.unftp_control_defs.specs.Verbs.{is_separator, parameter_of, upper, verb_of};
 ghost use Rattle.unftp_control_defs.specs.FtpCommand.{Other};
 ghost use Rattle.unftp_control_defs.specs.Outcome.{answer_by, value_answer, outcome, site_answer};
-ghost use Rattle.unftp_control_defs.specs.Rules.{without_parameter, any_text, subcommand_answer};
+ghost use Rattle.unftp_control_defs.specs.Rules.{without_parameter, any_text, some_text, subcommand_answer};
 ghost use Rattle.unftp_control_defs.specs.ComputedValue.{value_of};
-ghost use Rattle.unftp_control_line_parser.specs.Meaning.{meaning, parameter_answer, unit_command};
-ghost use Rattle.unftp_control_line_parser.specs.Memory.{AnswerMayTakeMemory, MayTakeMemory, OnOutOfMemory};
+ghost use Rattle.unftp_control_line_parser.specs.Meaning.{meaning, parameter_answer, text_command, unit_command};
+ghost use Rattle.unftp_control_line_parser.specs.Memory.{MayTakeMemory, OnOutOfMemory, ParsesTo};
 ghost use Rattle.unftp_control_line_parser.specs.ParseAnswer.{Returns};
-ghost use Rattle.unftp_control_line_parser.specs.Values.{ReturnsSomeText, ReturnsText, value_bytes};
+ghost use Rattle.unftp_control_line_parser.specs.Values.{value_bytes};
 
 use crate::fields::{list_path, optional_raw, optional_text, raw, text, upper_cased};
-use crate::rule::{ParameterKind, Rule, UnitCommand};
+use crate::rule::{ParameterKind, Rule, TextCommand, UnitCommand};
 use crate::typed::{typed, typed_escaped};
 use crate::value::{Value, has_no_value, parameter_value};
-use crate::verb::rule_named;
+use crate::verb::{is_same_word, rule_named};
 use memchr::memchr3;
 use std::alloc::Global;
 use std::result;
@@ -84,9 +84,9 @@ pub fn parse(alloc: Global, line: &[u8]) -> Result<Command>
 }
 
 /// The command of the line, or the kind of its refusal.
+#[tactic(auto, using(crate::proofs::OutcomeLemmas::outcomes))]
 fn command_in(alloc: Global, line: &[u8]) -> Answer
-    ensures answer { Returns (outcome line.now) result }
-    ensures memory { OnOutOfMemory result (MayTakeMemory line.now) }
+    ensures { ParsesTo (outcome line.now) result }
 {
     let (verb, parameter) = split(line);
     match rule_named(verb) {
@@ -97,9 +97,7 @@ fn command_in(alloc: Global, line: &[u8]) -> Answer
 
 /// What the rule makes of parameter bytes.
 fn by_rule(alloc: Global, rule: Rule, parameter: &[u8]) -> Answer
-    ensures answer { Returns (answer_by (meaning rule) parameter.now) result }
-    ensures memory { OnOutOfMemory result
-        (AnswerMayTakeMemory (answer_by (meaning rule) parameter.now)) }
+    ensures { ParsesTo (answer_by (meaning rule) parameter.now) result }
 {
     match rule {
         Rule::Ignores(command) => Ok(command.command()),
@@ -114,16 +112,14 @@ fn by_rule(alloc: Global, rule: Rule, parameter: &[u8]) -> Answer
 
 /// The command with this value.
 fn with_value(alloc: Global, kind: ParameterKind, value: Value<'_>) -> Answer
-    ensures answer { Returns (parameter_answer kind (value_bytes value.entry)) result }
-    ensures memory { OnOutOfMemory result
-        (AnswerMayTakeMemory (parameter_answer kind (value_bytes value.entry))) }
+    ensures { ParsesTo (parameter_answer kind (value_bytes value.entry)) result }
 {
     match kind {
         ParameterKind::Raw(command) => Ok(command.command(raw(alloc, value)?)),
         ParameterKind::StatPath => Ok(Command::Stat {
             path: optional_raw(alloc, value)?,
         }),
-        ParameterKind::Text(command) => Ok(command.command(some_text(alloc, value)?)),
+        ParameterKind::Text(command) => with_text(alloc, command, value),
         ParameterKind::OptionalPath(command) => {
             Ok(command.command(optional_text(alloc, value)?))
         }
@@ -140,9 +136,8 @@ fn with_value(alloc: Global, kind: ParameterKind, value: Value<'_>) -> Answer
 
 /// The command, where the parameter has no value. A line without a parameter is not read further.
 fn without_value(command: UnitCommand, parameter: &[u8]) -> Answer
-    ensures answer { Returns
+    ensures { ParsesTo
         (value_answer (without_parameter (unit_command command)) (value_of parameter.now)) result }
-    ensures memory { OnOutOfMemory result ⊥ }
 {
     if has_no_value(parameter) {
         return Ok(command.command());
@@ -153,20 +148,20 @@ fn without_value(command: UnitCommand, parameter: &[u8]) -> Answer
     }
 }
 
-/// The value as text, which must not be empty.
-fn some_text(alloc: Global, value: Value<'_>) -> result::Result<String, ParseErrorKind>
-    ensures { ReturnsSomeText (value_bytes value.entry) result }
+/// The command with this value as text, which must not be empty.
+fn with_text(alloc: Global, command: TextCommand, value: Value<'_>) -> Answer
+    ensures { ParsesTo (some_text (text_command command) (value_bytes value.entry)) result }
 {
     if value.is_empty() {
         return Err(ParseErrorKind::InvalidCommand);
     }
-    Ok(text(alloc, value)?)
+    Ok(command.command(text(alloc, value)?))
 }
 
 /// A SITE subcommand and its parameter (RFC 959, section 4.1.3).
+#[tactic(auto, using(crate::proofs::OutcomeLemmas::outcomes))]
 fn site(alloc: Global, parameter: &[u8]) -> Answer
-    ensures answer { Returns (site_answer parameter.now) result }
-    ensures memory { OnOutOfMemory result (AnswerMayTakeMemory (site_answer parameter.now)) }
+    ensures { ParsesTo (site_answer parameter.now) result }
 {
     let (name, inner) = split(parameter);
     let name = from_utf8(name)?;
@@ -178,14 +173,10 @@ fn site(alloc: Global, parameter: &[u8]) -> Answer
 
 /// A SITE subcommand whose name is UTF-8, with this value.
 fn subcommand(alloc: Global, name: &str, value: Value<'_>) -> Answer
-    ensures answer { Returns (subcommand_answer (upper name.now) (value_bytes value.entry)) result }
-    ensures memory { OnOutOfMemory result (AnswerMayTakeMemory
-        (subcommand_answer (upper name.now) (value_bytes value.entry))) }
+    ensures { ParsesTo (subcommand_answer (upper name.now) (value_bytes value.entry)) result }
 {
-    if name.eq_ignore_ascii_case("MD5") {
-        return Ok(Command::Md5 {
-            file: some_text(alloc, value)?,
-        });
+    if is_same_word(name.as_bytes(), b"MD5") {
+        return with_text(alloc, TextCommand::Md5, value);
     }
     Ok(Command::Site {
         arguments: text(alloc, value)?,
@@ -195,28 +186,14 @@ fn subcommand(alloc: Global, name: &str, value: Value<'_>) -> Answer
 
 /// A verb without a rule of its own, and its parameter.
 fn other(alloc: Global, name: &str, parameter: &[u8]) -> Answer
-    ensures answer { Returns
+    ensures { ParsesTo
         (value_answer (any_text (Other (upper name.now))) (value_of parameter.now)) result }
-    ensures memory { OnOutOfMemory result (AnswerMayTakeMemory
-        (value_answer (any_text (Other (upper name.now))) (value_of parameter.now))) }
 {
-    let arguments = if has_no_value(parameter) {
-        String::new(alloc)
-    } else {
-        value_text(alloc, parameter)?
+    let Some(value) = parameter_value(parameter) else {
+        return Err(ParseErrorKind::InvalidEol);
     };
     Ok(Command::Other {
+        arguments: text(alloc, value)?,
         command_name: upper_cased(alloc, name)?,
-        arguments,
     })
-}
-
-/// The value of the parameter as text.
-fn value_text(alloc: Global, parameter: &[u8]) -> result::Result<String, ParseErrorKind>
-    ensures { ReturnsText (value_of parameter.now) result }
-{
-    match parameter_value(parameter) {
-        Some(value) => Ok(text(alloc, value)?),
-        None => Err(ParseErrorKind::InvalidEol),
-    }
 }

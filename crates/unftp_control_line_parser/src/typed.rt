@@ -1,13 +1,14 @@
 //! The commands whose parameter has a type of its own.
-ghost use Rattle.unftp_control_defs.specs.Rules.{auth, buffer_sizes, chosen, modes, offset, options, protections, structures};
+ghost use Rattle.unftp_control_defs.specs.Rules.{auth, buffer_sizes, chosen, mechanisms, modes, offset, options, protections, structures};
+ghost use Rattle.unftp_control_defs.specs.Verbs.{upper};
 ghost use Rattle.std.specs.Str.Lossy.{utf8_lossy};
 ghost use Rattle.unftp_control_line_parser.specs.Meaning.{typed_answer};
-ghost use Rattle.unftp_control_line_parser.specs.Memory.{OnOutOfMemory};
-ghost use Rattle.unftp_control_line_parser.specs.ParseAnswer.{Returns};
+ghost use Rattle.unftp_control_line_parser.specs.Memory.{ParsesTo};
 ghost use Rattle.unftp_control_line_parser.specs.Values.{unescaped};
 
 use crate::rule::TypedCommand;
-use crate::value::unescaped_len;
+use crate::value::value_start;
+use crate::verb::is_same_word;
 use std::str::from_utf8;
 use unftp_control_message::reply::error::ParseErrorKind;
 use unftp_control_message::{AuthParam, Command, ModeParam, Opt, ProtParam, StruParam};
@@ -18,8 +19,7 @@ type Answer = Result<Command, ParseErrorKind>;
 // nearly always it is called by the parser, where a call of its own would copy the result once more
 #[inline(always)]
 pub fn typed(command: TypedCommand, value: &[u8]) -> Answer
-    ensures answer { Returns (typed_answer command value.now) result }
-    ensures memory { OnOutOfMemory result ⊥ }
+    ensures { ParsesTo (typed_answer command value.now) result }
 {
     match command {
         TypedCommand::Auth => auth(value),
@@ -33,9 +33,9 @@ pub fn typed(command: TypedCommand, value: &[u8]) -> Answer
 }
 
 /// What the command's own type makes of a value that is sent so.
+#[tactic(auto, using(crate::proofs::TypedLemmas::same_answer))]
 pub fn typed_escaped(command: TypedCommand, sent: &[u8]) -> Answer
-    ensures answer { Returns (typed_answer command (unescaped sent.now)) result }
-    ensures memory { OnOutOfMemory result ⊥ }
+    ensures { ParsesTo (typed_answer command (unescaped sent.now)) result }
 {
     match command {
         TypedCommand::Auth => auth_escaped(sent),
@@ -46,8 +46,7 @@ pub fn typed_escaped(command: TypedCommand, sent: &[u8]) -> Answer
 
 /// STRU and a structure (RFC 959, section 3.1.2).
 fn stru(value: &[u8]) -> Answer
-    ensures answer { Returns (chosen structures value.now) result }
-    ensures memory { OnOutOfMemory result ⊥ }
+    ensures { ParsesTo (chosen structures value.now) result }
 {
     let structure = match value {
         b"F" => StruParam::File,
@@ -60,8 +59,7 @@ fn stru(value: &[u8]) -> Answer
 
 /// MODE and a transfer mode (RFC 959, section 3.4).
 fn mode(value: &[u8]) -> Answer
-    ensures answer { Returns (chosen modes value.now) result }
-    ensures memory { OnOutOfMemory result ⊥ }
+    ensures { ParsesTo (chosen modes value.now) result }
 {
     let mode = match value {
         b"S" => ModeParam::Stream,
@@ -74,8 +72,7 @@ fn mode(value: &[u8]) -> Answer
 
 /// PROT and a protection level (RFC 2228, section 3).
 fn prot(value: &[u8]) -> Answer
-    ensures answer { Returns (chosen protections value.now) result }
-    ensures memory { OnOutOfMemory result ⊥ }
+    ensures { ParsesTo (chosen protections value.now) result }
 {
     let param = match value {
         b"C" => ProtParam::Clear,
@@ -90,8 +87,7 @@ fn prot(value: &[u8]) -> Answer
 /// OPTS and the option UTF8, its two words both in upper case or both in lower case (RFC 2389,
 /// section 4).
 fn opts(value: &[u8]) -> Answer
-    ensures answer { Returns (chosen options value.now) result }
-    ensures memory { OnOutOfMemory result ⊥ }
+    ensures { ParsesTo (chosen options value.now) result }
 {
     let on = if b"UTF8 ON".as_slice() == value || b"utf8 on".as_slice() == value {
         true
@@ -107,17 +103,25 @@ fn opts(value: &[u8]) -> Answer
 
 /// AUTH and a mechanism, ignoring ASCII case (RFC 2228, section 3; RFC 4217, section 2).
 #[inline(always)]
+#[tactic(auto, using(crate::proofs::OutcomeLemmas::outcomes))]
 fn auth(value: &[u8]) -> Answer
-    ensures answer { Returns (auth value.now) result }
-    ensures memory { OnOutOfMemory result ⊥ }
+    ensures { ParsesTo (auth value.now) result }
 {
     if value.len() > 3 {
         return Err(ParseErrorKind::InvalidCommand);
     }
     from_utf8(value)?;
-    let protocol = if b"TLS".eq_ignore_ascii_case(value) {
+    mechanism(value)
+}
+
+/// AUTH and a mechanism, in any bytes.
+#[inline(always)]
+fn mechanism(value: &[u8]) -> Answer
+    ensures { ParsesTo (chosen mechanisms (upper value.now)) result }
+{
+    let protocol = if is_same_word(b"TLS", value) {
         AuthParam::Tls
-    } else if b"SSL".eq_ignore_ascii_case(value) {
+    } else if is_same_word(b"SSL", value) {
         AuthParam::Ssl
     } else {
         return Err(ParseErrorKind::InvalidCommand);
@@ -125,22 +129,17 @@ fn auth(value: &[u8]) -> Answer
     Ok(Command::Auth { protocol })
 }
 
-/// AUTH and a mechanism that is sent so. No mechanism has a CR.
+/// AUTH and a mechanism that is sent so. No mechanism has more than three bytes.
 fn auth_escaped(sent: &[u8]) -> Answer
-    ensures answer { Returns (auth (unescaped sent.now)) result }
-    ensures memory { OnOutOfMemory result ⊥ }
+    ensures { ParsesTo (auth (unescaped sent.now)) result }
 {
-    if sent.len() > 3 && unescaped_len(sent) <= 3 {
-        from_utf8(sent)?;
-        return Err(ParseErrorKind::InvalidCommand);
-    }
-    auth(sent)
+    let (start, len) = value_start(sent);
+    auth(start.split_at(len).0)
 }
 
 /// PBSZ and the size 0 (RFC 4217, section 9).
 fn pbsz(value: &[u8]) -> Answer
-    ensures answer { Returns (chosen buffer_sizes value.now) result }
-    ensures memory { OnOutOfMemory result ⊥ }
+    ensures { ParsesTo (chosen buffer_sizes value.now) result }
 {
     match value {
         b"0" => Ok(Command::Pbsz {}),
@@ -149,9 +148,9 @@ fn pbsz(value: &[u8]) -> Answer
 }
 
 /// REST and an offset (RFC 3659, section 5).
+#[tactic(auto, using(crate::proofs::OffsetLemmas::offsets))]
 fn rest(value: &[u8]) -> Answer
-    ensures answer { Returns (offset (utf8_lossy value.now)) result }
-    ensures memory { OnOutOfMemory result ⊥ }
+    ensures { ParsesTo (offset (utf8_lossy value.now)) result }
 {
     let Ok(text) = from_utf8(value) else {
         return Err(ParseErrorKind::InvalidCommand);

@@ -1,7 +1,7 @@
 //! The value of a parameter.
-ghost use Rattle.std.specs.Prelude.{◌≡◌, ◌≤◌, ◌==◌, ◌↔◌, ◌++◌, IsTrue, IfOk, MatchOption, option_map, length, take, drop, []};
-ghost use Rattle.unftp_control_defs.specs.ComputedValue.{value_of, later_value, Fresh};
-ghost use Rattle.unftp_control_line_parser.specs.Values.{after_nul, begins_with_cr_nul, IsPlainEnd, IsFreshEnd, IsLaterLen, IsRun, IsWhole, sent_bytes, unescaped, value_bytes};
+ghost use Rattle.std.specs.Prelude.{◌≡◌, ◌≤◌, ◌<◌, ◌==◌, ◌↔◌, IsTrue, IfOk, option_map, length, slice_index, take, drop, []};
+ghost use Rattle.unftp_control_defs.specs.ComputedValue.{first_value, value_of};
+ghost use Rattle.unftp_control_line_parser.specs.Values.{after_nul, begins_with_cr_nul, begins_with_line_end, first_unit_len, IsPlainEnd, IsFreshEnd, IsLaterLen, sent_bytes, unescaped, value_bytes};
 
 use memchr::{memchr, memchr2};
 use std::alloc::{AllocError, Global};
@@ -39,16 +39,6 @@ const LF: u8 = b'\n';
 
 const CR: u8 = b'\r';
 
-/// What bytes begin with, directly after the first unit or a CR NUL.
-#[derive(Drop)]
-enum Run<'a> {
-    /// All of the value.
-    Last(&'a [u8]),
-    /// A part of the value whose last byte is a CR that a NUL follows, and the bytes after the NUL.
-    Continued(&'a [u8], &'a [u8]),
-    InvalidEnd,
-}
-
 /// How many bytes, after a byte of the value, come before the next CR or LF.
 fn plain_len(bytes: &[u8]) -> usize
     ensures { IsPlainEnd bytes.now result }
@@ -71,63 +61,40 @@ fn fresh_len(bytes: &[u8]) -> usize
     1 + plain_len(rest)
 }
 
-/// The bytes up to the next line ending, valid or not, or CR NUL.
-fn front_run<'a>(bytes: &'a [u8]) -> Run<'a>
-    ensures { IsRun bytes.now result }
-{
-    let end = fresh_len(bytes);
-    if end == bytes.len() {
-        return Run::InvalidEnd;
-    }
-    let (part, _) = bytes.split_at(end);
-    if bytes[end] == LF {
-        return Run::Last(part);
-    }
-    if end + 1 == bytes.len() {
-        return Run::InvalidEnd;
-    }
-    if bytes[end + 1] == LF {
-        return Run::Last(part);
-    }
-    if bytes[end + 1] != NUL {
-        return Run::InvalidEnd;
-    }
-    let (taken, _) = bytes.split_at(end + 1);
-    let (_, rest) = bytes.split_at(end + 2);
-    Run::Continued(taken, rest)
-}
-
 /// Where a value ends, directly after the first unit or a CR NUL: how many bytes are sent for the
-/// rest of it.
+/// rest of it, or none before an invalid line ending.
 fn later_len(bytes: &[u8]) -> Option<usize>
-    ensures { MatchOption result (later_value Fresh bytes.now ≡ None)
-        (λ len. IsLaterLen bytes.now len) }
+    ensures { IsLaterLen bytes.now result }
 {
     let mut len = 0usize;
     let mut rest = bytes;
     'parts: loop {
-        if begins_with_cr_nul(rest) {
-            let (_, further) = rest.split_at(2);
-            len += 2;
-            rest = further;
-        } else {
-            match front_run(rest) {
-                Run::Last(part) => return Some(len + part.len()),
-                Run::Continued(part, further) => {
-                    len += part.len() + 1;
-                    rest = further;
-                }
-                Run::InvalidEnd => return None,
-            }
+        let end = fresh_len(rest);
+        let (_, after) = rest.split_at(end);
+        if begins_with_line_end(after) {
+            return Some(len + end);
         }
+        if !begins_with_cr_nul(after) {
+            return None;
+        }
+        let (_, further) = after.split_at(2);
+        len += end + 2;
+        rest = further;
     }
 }
 
-/// Whether the parameter begins with CR NUL.
-fn begins_with_cr_nul(parameter: &[u8]) -> bool
-    ensures { result ≡ begins_with_cr_nul parameter.now }
+/// Whether the bytes begin with an end of line: LF or CR LF.
+fn begins_with_line_end(bytes: &[u8]) -> bool
+    ensures { result ≡ begins_with_line_end bytes.now }
 {
-    match parameter {
+    matches!(bytes, [LF, ..] | [CR, LF, ..])
+}
+
+/// Whether the bytes begin with CR NUL.
+fn begins_with_cr_nul(bytes: &[u8]) -> bool
+    ensures { result ≡ begins_with_cr_nul bytes.now }
+{
+    match bytes {
         [first, second, ..] => *first == CR && *second == NUL,
         _ => false,
     }
@@ -155,33 +122,32 @@ pub fn parameter_value<'a>(parameter: &'a [u8]) -> Option<Value<'a>>
         return Some(Value::Plain(first));
     }
     if begins_with_cr_nul(parameter) {
-        return escaped_value(parameter, 2);
+        return escaped_value(parameter);
     }
     // the usual case: there is no CR within the value
     let (value, after) = parameter.split_at(1 + fresh_len(rest));
-    if after == b"\r\n".as_slice() {
+    if begins_with_line_end(after) {
         return Some(Value::Plain(value));
     }
-    match front_run(rest) {
-        Run::Last(part) => {
-            let (value, _) = parameter.split_at(1 + part.len());
-            Some(Value::Plain(value))
-        }
-        Run::Continued(part, _) => escaped_value(parameter, 2 + part.len()),
-        Run::InvalidEnd => None,
-    }
+    escaped_value(parameter)
 }
 
-/// The value of a parameter, after whose first bytes, which end with CR NUL, it goes on.
-fn escaped_value<'a>(parameter: &'a [u8], front: usize) -> Option<Value<'a>>
-    requires within { front ≤ length parameter.now }
-    requires whole { IsWhole (take front parameter.now) }
-    ensures { option_map value_bytes result
-        ≡ option_map (λ w. unescaped (take front parameter.now) ++ w)
-        (later_value Fresh (drop front parameter.now)) }
+/// How many bytes are sent for the first byte of the value.
+fn first_unit_len(bytes: &[u8]) -> usize
+    ensures { result ≡ first_unit_len bytes.now }
 {
-    let (_, later) = parameter.split_at(front);
-    let (sent, _) = parameter.split_at(front + later_len(later)?);
+    if begins_with_cr_nul(bytes) { 2 } else { 1 }
+}
+
+/// The value of a parameter that is not empty, as it is sent.
+fn escaped_value<'a>(parameter: &'a [u8]) -> Option<Value<'a>>
+    requires { 0 < length parameter.now }
+    ensures { option_map value_bytes result
+        ≡ first_value (slice_index parameter.now 0) (drop 1 parameter.now) }
+{
+    let unit = first_unit_len(parameter);
+    let (_, later) = parameter.split_at(unit);
+    let (sent, _) = parameter.split_at(unit + later_len(later)?);
     Some(Value::Escaped(sent))
 }
 
@@ -202,33 +168,30 @@ pub fn unescape(alloc: Global, sent: &[u8]) -> Result<Vec<u8>, AllocError>
     let mut value = Vec::with_capacity(alloc, sent.len())?;
     let mut rest = sent;
     'parts: loop {
-        if begins_with_cr_nul(rest) {
-            let (_, further) = rest.split_at(2);
-            value.push(CR).map_err(AllocError::from)?;
-            rest = further;
-        } else {
-            let Some(end) = memchr(CR, rest) else {
-                value.extend_from_slice(rest)?;
-                return Ok(value);
-            };
-            let (part, further) = rest.split_at(end + 1);
-            value.extend_from_slice(part)?;
-            rest = after_nul(further);
-        }
+        let Some(end) = memchr(CR, rest) else {
+            value.extend_from_slice(rest)?;
+            return Ok(value);
+        };
+        let (part, further) = rest.split_at(end + 1);
+        value.extend_from_slice(part)?;
+        rest = after_nul(further);
     }
 }
 
-/// How many bytes the value has for which these are sent.
-pub fn unescaped_len(sent: &[u8]) -> usize
-    ensures { result ≡ length (unescaped sent.now) }
+/// The first bytes of the value for which these are sent, at most four, and how many they are.
+pub fn value_start(sent: &[u8]) -> ([u8; 4], usize)
+    ensures len { result.1 ≤ 4 }
+    ensures bytes { take result.1 result.0 ≡ take 4 (unescaped sent.now) }
 {
-    let mut len = 0usize;
+    let mut start = [0u8; 4];
     let mut rest = sent;
-    'units: while !rest.is_empty() {
-        let unit = if begins_with_cr_nul(rest) { 2 } else { 1 };
-        let (_, further) = rest.split_at(unit);
+    for at in 0..4usize {
+        if rest.is_empty() {
+            return (start, at);
+        }
+        start[at] = rest[0];
+        let (_, further) = rest.split_at(first_unit_len(rest));
         rest = further;
-        len += 1;
     }
-    len
+    (start, 4)
 }

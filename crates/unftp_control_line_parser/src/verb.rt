@@ -1,5 +1,5 @@
 //! The verbs with a rule of their own.
-ghost use Rattle.std.specs.Prelude.{◌≡◌, ◌↔◌, IsTrue, IsSome, option_map};
+ghost use Rattle.std.specs.Prelude.{◌≡◌, ◌↔◌, IsTrue, IsSome, bytes_eq, option_map};
 ghost use Rattle.unftp_control_defs.specs.Forwarded.{ignores_parameter, keeps_parameter};
 ghost use Rattle.unftp_control_defs.specs.Rules.{row_of, rule_of, verbs};
 ghost use Rattle.unftp_control_defs.specs.Verbs.{upper};
@@ -90,6 +90,7 @@ fn upper_cased(word: [u8; 4]) -> [u8; 4]
 }
 
 /// The rule of a word, if it is a verb, ignoring ASCII case.
+#[tactic(auto, using(crate::proofs::VerbLemmas::words))]
 pub fn rule_named(word: &[u8]) -> Option<Rule>
     ensures { option_map meaning result ≡ row_of (upper word.now) verbs }
 {
@@ -98,6 +99,7 @@ pub fn rule_named(word: &[u8]) -> Option<Rule>
 
 /// Whether the word is a verb with a rule of its own, in upper case (RFC 959, section 5.3). It
 /// takes no memory.
+#[tactic(auto, using(crate::proofs::VerbLemmas::words))]
 pub fn is_verb(word: &[u8]) -> bool
     ensures { IsTrue result ↔ IsSome (row_of word.now verbs) }
 {
@@ -117,10 +119,18 @@ fn ignores_parameter(verb: &[u8]) -> bool
     }
 }
 
+/// Whether the words are the same, ignoring ASCII case.
+#[inline]
+pub fn is_same_word(word: &[u8], other: &[u8]) -> bool
+    ensures { result ≡ bytes_eq (upper word.now) (upper other.now) }
+{
+    word.eq_ignore_ascii_case(other)
+}
+
 /// Whether a line of this verb, ignoring ASCII case, is forwarded with its own parameter, since its
 /// command holds nothing of that, or only a part (RFC 959, section 5.3). It takes no memory.
 pub fn keeps_parameter(verb: &[u8]) -> bool
     ensures { result ≡ keeps_parameter (upper verb.now) }
 {
-    ignores_parameter(verb) || verb.eq_ignore_ascii_case(b"LIST")
+    ignores_parameter(verb) || is_same_word(verb, b"LIST")
 }

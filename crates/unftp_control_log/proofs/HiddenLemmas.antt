@@ -5,13 +5,13 @@ use Rattle.std.specs.Str.{is_utf8}
 use Rattle.std.specs.Str.Lossy.{utf8_lossy}
 use Rattle.unftp_control_defs.specs.Bytes.{Bytes}
 use Rattle.unftp_control_defs.specs.ComputedValue.{value_of}
-use Rattle.unftp_control_defs.specs.Events.{FtpEvent, Command, Refused, event_for, event_of, exceeds, line_too_long}
+use Rattle.unftp_control_defs.specs.Events.{Fault, FtpEvent, Command, Refused, event_for, event_of, exceeds, line_too_long}
 use Rattle.unftp_control_defs.specs.FtpCommand.{Answer, FtpCommand, Acct, InvalidUtf8, Md5, Other, Pass, Site}
 use Rattle.unftp_control_defs.specs.Outcome.{answer_by, outcome, site_answer, value_answer}
 use Rattle.unftp_control_defs.specs.Rules.{Rule, Takes, any_text, row_of, rule_of, some_text, subcommand_answer, unless_empty, verbs}
 use Rattle.unftp_control_defs.specs.Verbs.{parameter_of, verb_of}
 use lib.Pointwise.{bytes_decides}
-use Rattle.unftp_control_log.specs.Known.{known, known_of, listed_subcommand, shows_parameter, subcommand_of, word_of}
+use Rattle.unftp_control_log.specs.Known.{Known, known, known_of, listed_subcommand, shows_parameter, subcommand_of, word_of}
 use Rattle.unftp_control_log.specs.LogLine.{RefusedLine, Subcommand, Verb, Visible, asterisks, is_listed, listed_verb, logged, reason, site_words, unless_too_long, visible, visible_command, visible_other, visible_site, visible_text}
 
 -- what is shown of a command whose parameter is hidden
@@ -95,7 +95,8 @@ module _ (line : Bytes) (command : FtpCommand) (is : outcome line ≡ Ok command
   -- SITE
   site_value : unwrap_or (row_of name site_words) false ≡ false
       → (value : Option Bytes) → value_answer (subcommand_answer name) value ≡ Ok command
-      → visible_command command ≡ hidden_site (cond (is_some (row_of name site_words)) (Some name) None)
+      → visible_command command
+      ≡ hidden_site (cond (is_some (row_of name site_words)) (Some name) None)
   site_value hides None is = absurd (cc)
   site_value hides (Some v) is = by_test (bytes_eq name (codes "MD5")) refl is
     where
@@ -161,57 +162,37 @@ module _ (line : Bytes) (command : FtpCommand) (is : outcome line ≡ Ok command
       by_tests false of_site false is_pass false is_acct false is_ruled h =
           other of_site (none_of _ is_ruled)
 
--- an event that is a command is that of its line
-abbrev IsOf : FtpEvent → Bytes → Type 0
-IsOf event line = (command : FtpCommand) → event ≡ Command command → outcome line ≡ Ok command
+-- what is shown, by what may be known of a line: its fault, its verb and its subcommand, and its
+-- event where its parameter is shown
+abbrev shown_by : Option Fault → Option Bytes → Option Bytes → Option FtpEvent → Visible
+shown_by (Some fault) word subcommand event = RefusedLine word (reason fault.source fault.kind)
+shown_by None word subcommand (Some (Command command)) = visible_command command
+shown_by None word subcommand event = hidden word subcommand
 
-visible_alike : (event event' : FtpEvent) (line line' : Bytes) → IsOf event line → IsOf event' line'
-    → known_of event line ≡ known_of event' line' → visible event line ≡ visible event' line'
-visible_alike (Refused fault) (Refused fault') line line' of of' same =
-    let faults : Some fault ≡ Some fault' = ap (λ known. known.fault) same in
-    let one : fault ≡ fault' = cc in
-    let verbs : listed_verb line ≡ listed_verb line' = ap (λ known. known.verb) same in
-    ap (λ verb. RefusedLine verb (reason fault.source fault.kind)) verbs
-    ∙ ap (λ fault. RefusedLine (listed_verb line') (reason fault.source fault.kind)) one
-visible_alike (Refused fault) (Command command) line line' of of' same =
-    let faults : Some fault ≡ None = ap (λ known. known.fault) same in absurd (cc)
-visible_alike (Command command) (Refused fault) line line' of of' same =
-    let faults : None ≡ Some fault = ap (λ known. known.fault) same in absurd (cc)
-visible_alike (Command command) (Command command') line line' of of' same =
-    by_tests (shows_parameter line) refl (shows_parameter line') refl
-    (ap (λ known. known.event) same)
-  where
-    by_tests : (shows : Bool) → shows_parameter line ≡ shows
-        → (shows' : Bool) → shows_parameter line' ≡ shows'
-        → cond shows (Some (Command command)) None ≡ cond shows' (Some (Command command')) None
-        → visible_command command ≡ visible_command command'
-    by_tests true is true is' events =
-        let one : command ≡ command' = cc in ap visible_command one
-    by_tests true is false is' events = absurd (cc)
-    by_tests false is true is' events = absurd (cc)
-    by_tests false is false is' events =
-        let verbs : listed_verb line ≡ listed_verb line' = ap (λ known. known.verb) same in
-        let names : listed_subcommand line ≡ listed_subcommand line' =
-        ap (λ known. known.subcommand) same in
-        command_hidden line command (of command refl) is
-        ∙ ap (λ verb. hidden verb (listed_subcommand line)) verbs
-        ∙ ap (hidden (listed_verb line')) names
-        ∙ sym (command_hidden line' command' (of' command' refl) is')
+abbrev shown_of : Known → Visible
+shown_of known = shown_by known.fault known.verb known.subcommand known.event
 
-event_IsOf : (limit : Option ℕ) (line : Bytes) → IsOf (event_for limit line) (unless_too_long limit line)
-event_IsOf limit line = by_test (exceeds limit (length line)) (outcome line) refl
+visible-known : (limit : Option ℕ) (line : Bytes)
+    → visible (event_for limit line) (unless_too_long limit line) ≡ shown_of (known limit line)
+visible-known limit line = by_test (exceeds limit (length line)) (outcome line) refl
   where
+    by_shown : (command : FtpCommand) → outcome line ≡ Ok command → (shows : Bool)
+        → shows_parameter line ≡ shows
+        → visible_command command ≡ shown_by None (listed_verb line) (listed_subcommand line)
+        (cond shows (Some (Command command)) None)
+    by_shown command is true shows = refl
+    by_shown command is false hides = command_hidden line command is hides
+
     by_test : (long : Bool) (answer : Answer) → outcome line ≡ answer
-        → (command : FtpCommand)
-        → cond long (Refused line_too_long) (event_of answer) ≡ Command command
-        → outcome (cond long [] line) ≡ Ok command
-    by_test true answer is command event = absurd (cc)
-    by_test false (Ok made) is command event = let same : made ≡ command = cc in cc
-    by_test false (Err refusal) is command event = absurd (cc)
+        → visible (cond long (Refused line_too_long) (event_of answer)) (cond long [] line)
+        ≡ shown_of (known_of (cond long (Refused line_too_long) (event_of answer))
+        (cond long [] line))
+    by_test true answer is = refl
+    by_test false (Ok command) is = by_shown command is (shows_parameter line) refl
+    by_test false (Err refusal) is = refl
 
 -- two lines of which the same may be known have one log line
 pub logged_alike : (limit : Option ℕ) (line other : Bytes) → known limit line ≡ known limit other
     → logged limit line ≡ logged limit other
 logged_alike limit line other same = ap visible_text
-    (visible_alike (event_for limit line) (event_for limit other) (unless_too_long limit line)
-    (unless_too_long limit other) (event_IsOf limit line) (event_IsOf limit other) same)
+    (visible-known limit line ∙ ap shown_of same ∙ sym (visible-known limit other))

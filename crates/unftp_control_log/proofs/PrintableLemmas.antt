@@ -1,9 +1,12 @@
 -- Each byte of a log line is printable.
-use Rattle.std.proofs.Common.{◌≡◌, ◌<◌, ◌+◌, ◌/◌, ◌%◌, ℕ, nat_lt, nat_le, ◌==◌, ◌&&◌, ◌||◌, Bool, true, false, cond, [], ◌∷◌, ◌++◌, Option, Some, None, option_map, codes, arith, refl, sym, subst, inl, inr, ◌⊎◌, List, find, bytes_eq, is_some, mod-lt, ltb-true, ltb-false, leb-true}
+use Rattle.std.proofs.Common.{◌≡◌, ◌<◌, ◌+◌, ◌/◌, ◌%◌, ℕ, nat_lt, nat_le, ◌&&◌, ◌||◌, Bool, true, false, cond, [], ◌∷◌, ◌++◌, Option, Some, None, option_map, codes, arith, refl, sym, ap, ◌∙◌, subst, map, List, find, bytes_eq, is_some, mod-lt, ltb-true, ltb-false, leb-true}
 use Rattle.std.specs.Char.{digit_char}
 use Rattle.std.specs.Char.Escape.{escape_ascii, hex_digit_at, short_escape}
 use Rattle.std.specs.List.{AllByRecursion, list_all, list_any}
-use Rattle.std.proofs.lemmas.Bool.{and_parts}
+use Rattle.std.specs.Option.{IfSome}
+use Rattle.std.proofs.lemmas.Bool.{and_parts, cond_both}
+use Rattle.std.proofs.lemmas.Bool.Decides.{nat_tests}
+use Rattle.std.proofs.lemmas.List.Folds.{list_any-append}
 use Rattle.unftp_control_defs.specs.Bytes.{Bytes}
 use Rattle.unftp_control_defs.specs.Events as fault
 use Rattle.unftp_control_defs.specs.Events.{FaultKind, FaultSource, FtpEvent, Command, Refused, Parse, NoSource, Utf8, Io}
@@ -17,10 +20,6 @@ use Rattle.unftp_control_write.specs.Parts.{spaced_part}
 
 abbrev pub ArePrintable : Bytes → Type 0
 ArePrintable text = AllByRecursion IsPrintable text
-
-abbrev pub IfPrintable : Option Bytes → Type 0
-IfPrintable None = Unit {0}
-IfPrintable (Some text) = ArePrintable text
 
 -- for texts that are written out
 abbrev all_printable : Bytes → Bool
@@ -38,19 +37,11 @@ joined : (text more : Bytes) → ArePrintable text → ArePrintable more → Are
 joined [] more first second = second
 joined (b ∷ text) more first second = (first.0, joined text more first.1 second)
 
--- one of two
-either_prints : (test : Bool) (one other : Bytes) → ArePrintable one → ArePrintable other
-    → ArePrintable (cond test one other)
-either_prints true one other p q = p
-either_prints false one other p q = q
-
 -- the digits of an escape
 digit_prints : (d : ℕ) → d < 16 → IsPrintable (digit_char d)
-digit_prints d small = by_test (nat_lt d 10) refl
-  where
-    by_test : (test : Bool) → nat_lt d 10 ≡ test → IsPrintable (cond test (48 + d) (87 + d))
-    by_test true is = let low = ltb-true d 10 is in (omega arith, omega arith)
-    by_test false is = let high = ltb-false d 10 is in (omega arith, omega arith)
+digit_prints d small = cond_both (nat_lt d 10) (48 + d) (87 + d) IsPrintable
+    (λ is. let low = ltb-true d 10 is in (omega arith, omega arith))
+    (λ is. let high = ltb-false d 10 is in (omega arith, omega arith))
 
 hex_prints : (place b : ℕ) → IsPrintable (hex_digit_at place b)
 hex_prints place b = digit_prints (b / place % 16) (mod-lt (b / place) (omega arith))
@@ -62,88 +53,38 @@ coded_prints b = (
 )
 
 -- the letter after a backslash, where there is one
-abbrev IsShort : ℕ → Type 0
-IsShort n = (n ≡ 0) ⊎ IsPrintable n
-
-short_one : (test : Bool) (n m : ℕ) → IsShort n → IsShort m → IsShort (cond test n m)
-short_one true n m p q = p
-short_one false n m p q = q
-
-short_prints : (b : ℕ) → IsShort (short_escape b)
-short_prints b =
-    short_one (b == 9) 116 _ (inr (omega arith, omega arith)) (
-    short_one (b == 13) 114 _ (inr (omega arith, omega arith)) (
-    short_one (b == 10) 110 _ (inr (omega arith, omega arith)) (
-    short_one (b == 39) 39 _ (inr (omega arith, omega arith)) (
-    short_one (b == 34) 34 _ (inr (omega arith, omega arith)) (
-    short_one (b == 92) 92 0 (inr (omega arith, omega arith)) (inl refl))))))
-
-with_short : (n : ℕ) (more : Bytes) → IsShort n → ArePrintable more
-    → ArePrintable (cond (nat_lt 0 n) (92 ∷ n ∷ []) more)
-with_short n more (inl is) h = rw is h
-with_short n more (inr is) h = either_prints (nat_lt 0 n) (92 ∷ n ∷ []) more
-    ((omega arith, omega arith), (is, tt)) h
-
-plain_prints : (b : ℕ)
-    → ArePrintable (cond (nat_lt b 32) (92 ∷ 120 ∷ hex_digit_at 0x10 b ∷ hex_digit_at 1 b ∷ [])
-    (cond (nat_lt b 127) (b ∷ []) (92 ∷ 120 ∷ hex_digit_at 0x10 b ∷ hex_digit_at 1 b ∷ [])))
-plain_prints b = by_tests (nat_lt b 32) refl (nat_lt b 127) refl
-  where
-    by_tests : (low : Bool) → nat_lt b 32 ≡ low → (ascii : Bool) → nat_lt b 127 ≡ ascii →
-        ArePrintable (cond low (92 ∷ 120 ∷ hex_digit_at 0x10 b ∷ hex_digit_at 1 b ∷ [])
-        (cond ascii (b ∷ []) (92 ∷ 120 ∷ hex_digit_at 0x10 b ∷ hex_digit_at 1 b ∷ [])))
-    by_tests true is ascii is_ascii = coded_prints b
-    by_tests false is true is_ascii =
-        ((ltb-false b 32 is, let below = ltb-true b 127 is_ascii in omega arith), tt)
-    by_tests false is false is_ascii = coded_prints b
+short_prints : (b : ℕ) → 0 < short_escape b → IsPrintable (short_escape b)
+short_prints b some = (grind (arith, nat_tests), grind (arith, nat_tests))
 
 byte_prints : (b : ℕ) → ArePrintable (escape_ascii b)
-byte_prints b = with_short (short_escape b) _ (short_prints b) (plain_prints b)
+byte_prints b = cond_both (nat_lt 0 (short_escape b)) _ _ ArePrintable
+    (λ is. ((omega arith, omega arith), (short_prints b (ltb-true 0 (short_escape b) is), tt)))
+    (λ _. cond_both (nat_lt b 32) _ _ ArePrintable (λ _. coded_prints b)
+    (λ low. cond_both (nat_lt b 127) (b ∷ []) _ ArePrintable
+    (λ high. ((ltb-false b 32 low, let below = ltb-true b 127 high in omega arith), tt))
+    (λ _. coded_prints b)))
 
 pub shown_prints : (text : Bytes) → ArePrintable (shown text)
 shown_prints [] = tt
 shown_prints (b ∷ text) = joined (escape_ascii b) (shown text) (byte_prints b) (shown_prints text)
 
 -- after a space
-spaced_prints : (value : Option Bytes) → IfPrintable value → ArePrintable (spaced_part value)
+spaced_prints : (value : Option Bytes) → IfSome value ArePrintable
+    → ArePrintable (spaced_part value)
 spaced_prints None h = tt
 spaced_prints (Some text) h = ((omega arith, omega arith), h)
 
-shown_part_prints : (value : Option Bytes) → IfPrintable (option_map shown value)
+shown_part_prints : (value : Option Bytes) → IfSome (option_map shown value) ArePrintable
 shown_part_prints None = tt
 shown_part_prints (Some text) = shown_prints text
 
--- a known verb
-rows_print : {A : Type 0} (rows : List (Bytes × A)) → list_all (λ row. all_printable row.0) rows
-    ≡ true → AllByRecursion (λ row. ArePrintable row.0) rows
-rows_print [] is = tt
-rows_print (row ∷ rows) is = let parts = and_parts _ _ is in
-    (written row.0 parts.0, rows_print rows parts.1)
-
-row_prints : {A : Type 0} (name : Bytes) (rows : List (Bytes × A))
-    → AllByRecursion (λ row. ArePrintable row.0) rows →
-    IfPrintable (option_map (λ _. name) (row_of name rows))
-row_prints name [] each = tt
-row_prints name (row ∷ rows) each = by_test (bytes_eq name row.0) refl (row_prints name rows each.1)
-  where
-    by_test : (test : Bool) → bytes_eq name row.0 ≡ test
-        → IfPrintable (option_map (λ _. name) (row_of name rows)) →
-        IfPrintable
-        (option_map (λ _. name)
-        (option_map (λ r. r.1) (cond test (Some row) (find (λ r. bytes_eq name r.0) rows))))
-    by_test true is others = subst ArePrintable (sym ((bytes_decides name row.0).0 is)) each.0
-    by_test false is others = others
-
-some_prints : {A : Type 0} (name : Bytes) (row : Option A) → is_some row ≡ true
-    → IfPrintable (option_map (λ _. name) row) → ArePrintable name
-some_prints name None is h = absurd (cc)
-some_prints name (Some row) is h = h
-
-further_prints : (verb : Bytes) (words : List Bytes) → list_all all_printable words ≡ true
+-- a listed verb
+words_print : (verb : Bytes) (words : List Bytes) → list_all all_printable words ≡ true
     → list_any (bytes_eq verb) words ≡ true → ArePrintable verb
-further_prints verb [] all is = absurd (cc)
-further_prints verb (word ∷ words) all is = let parts = and_parts _ _ all in
-    by_test (bytes_eq verb word) refl (written word parts.0) (further_prints verb words parts.1) is
+words_print verb [] all is = absurd (cc)
+words_print verb (word ∷ words) all is =
+    let parts = and_parts _ _ all in
+    by_test (bytes_eq verb word) refl (written word parts.0) (words_print verb words parts.1) is
   where
     by_test : (test : Bool) → bytes_eq verb word ≡ test → ArePrintable word
         → (list_any (bytes_eq verb) words ≡ true → ArePrintable verb)
@@ -152,20 +93,25 @@ further_prints verb (word ∷ words) all is = let parts = and_parts _ _ all in
         subst ArePrintable (sym ((bytes_decides verb word).0 same)) here
     by_test false same here later is = later is
 
-verb_prints : (line : Bytes) → IfPrintable (listed_verb line)
-verb_prints line = by_tests (is_some (row_of verb verbs)) refl
-    (list_any (bytes_eq verb) further_verbs) refl
-  where
-    verb : Bytes
-    verb = upper (verb_of line)
+is_some-row_of : {A : Type 0} (name : Bytes) (rows : List (Bytes × A))
+    → is_some (row_of name rows) ≡ list_any (bytes_eq name) (map (λ row. row.0) rows)
+is_some-row_of name [] = refl
+is_some-row_of name (row ∷ rows) = by_test (bytes_eq name row.0) (is_some-row_of name rows) where
+  by_test : (test : Bool) {others : Bool} → is_some (row_of name rows) ≡ others
+      → is_some (option_map (λ r. r.1) (cond test (Some row) (find (λ r. bytes_eq name r.0) rows)))
+      ≡ (test || others)
+  by_test true same = refl
+  by_test false same = same
 
-    by_tests : (ruled : Bool) → is_some (row_of (upper (verb_of line)) verbs) ≡ ruled
-        → (further : Bool) → list_any (bytes_eq (upper (verb_of line))) further_verbs ≡ further
-        → IfPrintable (cond (ruled || further) (Some (upper (verb_of line))) None)
-    by_tests true is further same = some_prints _ _ is
-        (row_prints (upper (verb_of line)) verbs (rows_print verbs refl))
-    by_tests false is true same = further_prints (upper (verb_of line)) further_verbs refl same
-    by_tests false is false same = tt
+verb_prints : (line : Bytes) → IfSome (listed_verb line) ArePrintable
+verb_prints line =
+    let verb : Bytes = upper (verb_of line) in
+    let names : List Bytes = map (λ row. row.0) verbs in
+    cond_both (is_listed verb) (Some verb) None (λ verb. IfSome verb ArePrintable)
+    (λ is. words_print verb (names ++ further_verbs) refl
+    (list_any-append (bytes_eq verb) names further_verbs
+    ∙ ap (λ ruled. ruled || list_any (bytes_eq verb) further_verbs)
+    (sym (is_some-row_of verb verbs)) ∙ is)) (λ _. tt)
 
 -- a reason
 kind_prints : (kind : FaultKind) → ArePrintable (kind_reason kind)
@@ -183,7 +129,7 @@ reason_prints Io kind = kind_prints kind
 
 -- what is shown prints: a text as its escapes, and all else as it is
 abbrev IsWritten : Visible → Type 0
-IsWritten (RefusedLine verb why) = IfPrintable verb × ArePrintable why
+IsWritten (RefusedLine verb why) = IfSome verb ArePrintable × ArePrintable why
 IsWritten _ = Unit {0}
 
 text_prints : (visible : Visible) → IsWritten visible → ArePrintable (visible_text visible)

@@ -17,12 +17,12 @@ use Rattle.unftp_control_serve.specs.Writing.{Begins}
 use Rattle.unftp_control_login.specs.declared.stage.Stage.{Stage}
 use Rattle.unftp_control_login.specs.declared.stage.Stage.TheVariants.{NoName, Named, LoggedIn}
 use Rattle.unftp_control_login.specs.Login.{Accounts, GaveName}
-use Rattle.unftp_control_login.specs.Gate.{stage_after}
+use Rattle.unftp_control_login.specs.Gate.{Answers, LogsIn, not_accepted, stage_after, stage_after_password}
 use Rattle.unftp_control_login.specs.LoginLimit.{is_pass}
-use Rattle.unftp_control_login.specs.Promises.{AccountsStayHidden, AnswersAlike, AtEachPlace, CallsHidePasswords, ErrorsHidePasswords, GivesPassword, IsRefusedLogin, LooksAlike, PasswordFits, PasswordsStayHidden, RefusedLoginsLookAlike, RefusedPasswordsLookAlike, login_lines, pass_line}
-use Rattle.unftp_control_login.proofs.StagedLemmas.{AllAlike, Alike, Outcome, Staged, alike-itself, goes, outcome_of}
+use Rattle.unftp_control_login.specs.Promises.{AccountsStayHidden, AgreeOn, AtEachPlace, CallsHidePasswords, ErrorsHidePasswords, GivesPassword, IsRefusedLogin, LooksAlike, PasswordFits, PasswordsStayHidden, RefusedLoginsLookAlike, RefusedPasswordsLookAlike, login_lines, pass_line}
+use Rattle.unftp_control_login.proofs.StagedLemmas.{AllAlike, Alike, Staged, alike-itself, goes}
 use Rattle.unftp_control_login.proofs.StageLemmas.{Reason, reason, stage_after-reason, stage_after_all}
-use Rattle.unftp_control_login.proofs.LimitStepLemmas.{lifted, said-lifted}
+use Rattle.unftp_control_login.proofs.StepLemmas.{lifted, said-lifted}
 
 -- Lines of passwords may take memory.
 pass-answer : (answer : Answer) → IsTrue (is_pass (event_of answer)) → AnswerMayTakeMemory answer
@@ -82,14 +82,24 @@ events-login {limit} {name = name} {password = password} before after ended h =
     ∙ ap (λ events. Command (User name) ∷ events)
     (events-canonical_line limit (Pass password) after h.password_sent.0 tt h.password_sent.1))
 
-outcome-alike : (accepts other : Accounts) (stage : Stage) (past : List FtpEvent)
+-- whether a password is accepted, and where it leaves the login
+password-alike : (accepts other : Accounts) (stage : Stage) (past : List FtpEvent)
     (password another : Bytes) → Reason accepts stage past
     → ((name : Bytes) → GaveName name past → accepts name password ≡ other name another)
-    → outcome_of accepts stage password ≡ outcome_of other stage another
-outcome-alike accepts other (Named name) past password another given same =
-    rw (same name given) refl
-outcome-alike accepts other NoName past password another given same = refl
-outcome-alike accepts other LoggedIn past password another given same = refl
+    → Alike accepts other stage stage (Command (Pass password)) (Command (Pass another))
+    × (stage_after_password accepts stage password ≡ stage_after_password other stage another)
+password-alike accepts other (Named name) past password another given same = (
+  record {
+    decision = ap (λ test. cond test (LogsIn name) (Answers not_accepted)) (same name given);
+    pass = refl;
+    quit = refl;
+  },
+  ap (λ test. cond test LoggedIn NoName) (same name given),
+)
+password-alike accepts other NoName past password another given same =
+    (record { decision = refl; pass = refl; quit = refl }, refl)
+password-alike accepts other LoggedIn past password another given same =
+    (record { decision = refl; pass = refl; quit = refl }, refl)
 
 -- Events that look alike are, and so are the events about which the accounts answer alike.
 all-themselves : (accepts : Accounts) (stage : Stage) (events : List FtpEvent)
@@ -115,8 +125,7 @@ look-alike : (accepts : Accounts) (stage : Stage) (past : List FtpEvent) (event 
     → Alike accepts accepts stage stage event another
     × (stage_after accepts stage event ≡ stage_after accepts stage another)
 look-alike accepts stage past (Command (Pass password)) (Command (Pass another)) given same =
-    let outcome = outcome-alike accepts accepts stage past password another given same in
-    ((another, refl, outcome), ap (λ (outcome : Outcome). outcome.stage) outcome)
+    password-alike accepts accepts stage past password another given same
 look-alike accepts stage past event another given same = (
   subst (Alike accepts accepts stage stage event) same (alike-itself accepts stage event),
   ap (stage_after accepts stage) same,
@@ -138,18 +147,19 @@ all-look-alike accepts stage past (event ∷ events) (another ∷ others) given 
     )
 
 answered-alike : (accepts other : Accounts) (stage : Stage) (past : List FtpEvent)
-    (event : FtpEvent) → Reason accepts stage past → AnswersAlike accepts other past event
+    (event : FtpEvent) → Reason accepts stage past → AgreeOn accepts other past event
     → Alike accepts other stage stage event event
     × (stage_after accepts stage event ≡ stage_after other stage event)
 answered-alike accepts other stage past (Command (Pass password)) given same =
-    let outcome = outcome-alike accepts other stage past password password given same in
-    ((password, refl, outcome), ap (λ (outcome : Outcome). outcome.stage) outcome)
-answered-alike accepts other stage past (Command (User name)) given same = ((name, refl), refl)
-answered-alike accepts other stage past event given same = ((refl, refl), refl)
+    password-alike accepts other stage past password password given same
+answered-alike accepts other stage past (Command (User name)) given same =
+    (record { decision = refl; pass = refl; quit = refl }, refl)
+answered-alike accepts other stage past event given same =
+    (record { decision = refl; pass = refl; quit = refl }, refl)
 
 all-answered-alike : (accepts other : Accounts) (stage : Stage) (past events : List FtpEvent)
     → Reason accepts stage past
-    → AtEachPlace (λ before event _. AnswersAlike accepts other before event) past events events
+    → AtEachPlace (λ before event _. AgreeOn accepts other before event) past events events
     → AllAlike accepts other stage stage events events
 all-answered-alike accepts other stage past [] given same = tt
 all-answered-alike accepts other stage past (event ∷ events) given same =
@@ -220,169 +230,155 @@ module _ {S : Type 0} {law : SessionLaw S} (staged : Staged law) where
     calls-same = sym (each-same accepts other staged.calls (staged.called accepts other) NoName
         NoName s events others same)
 
-  -- Of events that look alike, the handler does the same in the same state.
-  module _ (accepts : Accounts) where
-    record Holds (past : List FtpEvent) (t : S) : Type 0 where
-      stage : Stage
-      given : Reason accepts stage past
-      base : S
-      is : t ≡ at accepts stage base
+  -- At each of these events the handler does the same in the same state.
+  record SameStep (t : S) (event another : FtpEvent) : Type 0 where
+    turns : turn law t event ≡ turn law t another
+    may_fail : (fault : Fault) → law.may_fail t event fault → law.may_fail t another fault
 
-    holds-next : {past : List FtpEvent} {t : S} (event : FtpEvent) → Holds past t
-        → Holds (past ++ event ∷ []) (after law t event)
-    holds-next {past} event h = record {
-      stage = stage_after accepts h.stage event;
-      given = stage_after-reason accepts h.stage past event h.given;
-      base = after law (at accepts h.stage h.base) event;
-      is = ap (λ t. after law t event) h.is
-          ∙ goes staged accepts accepts h.stage h.stage h.base event event
-          (alike-itself accepts h.stage event);
-    }
+  abbrev SameSteps : S → List FtpEvent → List FtpEvent → Type 0
+  SameSteps t [] [] = Unit {0}
+  SameSteps t (event ∷ events) (another ∷ others) =
+      SameStep t event another × SameSteps (after law t event) events others
+  SameSteps t events others = ⊥
 
-    record SameStep (t : S) (event another : FtpEvent) : Type 0 where
-      turns : turn law t event ≡ turn law t another
-      may_fail : (fault : Fault) → law.may_fail t event fault → law.may_fail t another fault
-
-    same-step : {past : List FtpEvent} {t : S} (event another : FtpEvent) → Holds past t
-        → LooksAlike accepts past event another → SameStep t event another
-    same-step {past} event another h same =
-        let step = look-alike accepts h.stage past event another h.given same in
-        let turned = λ (other : FtpEvent). staged.turns accepts accepts h.stage h.stage h.base event
-        other in
-        subst (λ t. SameStep t event another) (sym h.is) (record {
-          turns = turned event (alike-itself accepts h.stage event)
-              ∙ ap (λ next. lifted (at accepts next) (turn law (at accepts h.stage h.base) event))
-              step.1 ∙ sym (turned another step.0);
-          may_fail = staged.may_fail accepts h.stage h.base event another step.0;
-        })
-
-    ends-alike : (cause : Cause) {t : S} {event another : FtpEvent} (events others : List FtpEvent)
-        (sent : List (FtpReply × S)) (t' : S) → SameStep t event another
-        → EndsAt law cause t (event ∷ events) sent t'
-        → EndsAt law cause t (another ∷ others) sent t'
-    ends-alike Finished events others sent t' step ends = absurd ends
-    ends-alike (Write part) events others sent t' step ends =
-        subst (λ steps. Unsent steps sent (λ reply. Begins (encoded reply) part) t') step.turns ends
-    ends-alike (Handler fault) events others [] t' step ends = step.may_fail fault ends
-    ends-alike (Handler fault) events others (given ∷ sent) t' step ends =
-        (subst (λ steps. Begins steps (given ∷ sent)) step.turns ends.0, ends.1)
-    ends-alike LineMemory events others [] t' step ends = ends
-    ends-alike LineMemory events others (given ∷ sent) t' step ends = absurd ends
-    ends-alike ReplyMemory events others sent t' step ends =
-        subst (λ steps. Unsent steps sent (λ reply. ¬ (reply ≡ Nothing)) t') step.turns ends
-
-    -- A run that failed after some of its events, and what the other run has then.
-    record Other (t : S) (done later run : List FtpEvent) : Type 0 where
-      done_too : List FtpEvent
-      later_too : List FtpEvent
-      whole : run ≡ done_too ++ later_too
-      as_many : length done ≡ length done_too
-      state : last_state law t done ≡ last_state law t done_too
-      said_too : replies law t done ≡ replies law t done_too
-      ends : (cause : Cause) (sent : List (FtpReply × S)) (t' : S)
-          → EndsAt law cause (last_state law t done) later sent t'
-          → EndsAt law cause (last_state law t done) later_too sent t'
-
-    -- one more event before
-    other-next : {t : S} {event another : FtpEvent} {done later : List FtpEvent}
-        (run : S → List FtpEvent) → SameStep t event another
-        → Other (after law t event) done later (run (after law t event))
-        → Other t (event ∷ done) later (another ∷ run (after law t another))
-    other-next {t} {event} {another} {done} run step o =
-        let next : after law t event ≡ after law t another = ap (state_after t) step.turns in
+  -- so it is of events that look alike,
+  same-steps : (accepts : Accounts) (stage : Stage) (s : S) (past events others : List FtpEvent)
+      → Reason accepts stage past → AtEachPlace (LooksAlike accepts) past events others
+      → SameSteps (at accepts stage s) events others
+  same-steps accepts stage s past [] [] given same = tt
+  same-steps accepts stage s past [] (another ∷ others) given same = absurd same
+  same-steps accepts stage s past (event ∷ events) [] given same = absurd same
+  same-steps accepts stage s past (event ∷ events) (another ∷ others) given same =
+      let itself = alike-itself accepts stage event in
+      let step = look-alike accepts stage past event another given same.0 in
+      let turned = λ (other : FtpEvent). staged.turns accepts accepts stage stage s event other in (
         record {
-          done_too = another ∷ o.done_too;
-          later_too = o.later_too;
-          whole = ap (λ events. another ∷ events) (ap run (sym next) ∙ o.whole);
-          as_many = ap suc o.as_many;
-          state = o.state ∙ ap (λ t. last_state law t o.done_too) next;
-          said_too = ap (λ later. said (turn law t event) ++ later) o.said_too
-              ∙ (λ i. said (step.turns i)
-              ++ replies law (state_after t (step.turns i)) o.done_too);
-          ends = o.ends;
-        }
+          turns = turned event itself
+              ∙ ap (λ next. lifted (at accepts next) (turn law (at accepts stage s) event)) step.1
+              ∙ sym (turned another step.0);
+          may_fail = staged.may_fail accepts stage s event another step.0;
+        },
+        subst (λ t. SameSteps t events others)
+            (sym (goes staged accepts accepts stage stage s event event itself))
+            (same-steps accepts (stage_after accepts stage event)
+            (after law (at accepts stage s) event) (past ++ event ∷ []) events others
+            (stage_after-reason accepts stage past event given) same.1),
+      )
 
-    other : (done later events others : List FtpEvent) {past : List FtpEvent} {t : S}
-        → Holds past t → AtEachPlace (LooksAlike accepts) past events others
-        → run_of law t events ≡ done ++ later → Other t done later (run_of law t others)
-    other [] later events others {t = t} h same is = record {
-      done_too = [];
-      later_too = run_of law t others;
-      whole = refl;
-      as_many = refl;
-      state = refl;
-      said_too = refl;
-      ends = λ cause sent t' ends. by_first cause sent t' events others h same
-          (subst (λ later. EndsAt law cause t later sent t') (sym is) ends);
-    }
-      where
-        by_first : (cause : Cause) (sent : List (FtpReply × S)) (t' : S)
-            (events others : List FtpEvent) {past : List FtpEvent} → Holds past t
-            → AtEachPlace (LooksAlike accepts) past events others
-            → EndsAt law cause t (run_of law t events) sent t'
-            → EndsAt law cause t (run_of law t others) sent t'
-        by_first cause sent t' [] [] h same ends = ends
-        by_first cause sent t' [] (another ∷ others) h same ends = absurd same
-        by_first cause sent t' (event ∷ events) [] h same ends = absurd same
-        by_first cause sent t' (event ∷ events) (another ∷ others) h same ends =
-            ends-alike cause _ _ sent t' (same-step event another h same.0) ends
-    other (first ∷ done) later [] others h same is = absurd (cc)
-    other (first ∷ done) later (event ∷ events) [] h same is = absurd same
-    other (first ∷ done) later (event ∷ events) (another ∷ others) {t = t} h same is =
-        let head : event ≡ first = cc in
-        let tail : (if law.done (after law t event) then []
-        else run_of law (after law t event) events) ≡ done ++ later = cc in
-        subst (λ first. Other t (first ∷ done) later
-        (another ∷ (if law.done (after law t another) then []
-        else run_of law (after law t another) others))) head
-        (other-next (λ t. if law.done t then [] else run_of law t others)
-        (same-step event another h same.0)
-        (by_done (law.done (after law t event)) tail
-        (λ none. other done later [] [] (holds-next event h) tt none)
-        (λ more. other done later events others (holds-next event h) same.1 more)))
-      where
-        by_done : (over : Bool) → (if over then [] else run_of law (after law t event) events)
-            ≡ done ++ later → ([] ≡ done ++ later → Other (after law t event) done later [])
-            → (run_of law (after law t event) events ≡ done ++ later
-            → Other (after law t event) done later (run_of law (after law t event) others))
-            → Other (after law t event) done later
-            (if over then [] else run_of law (after law t event) others)
-        by_done true tail none more = none tail
-        by_done false tail none more = more tail
+  -- and then of the runs over them.
+  same-runs : (t : S) (events others : List FtpEvent) → SameSteps t events others
+      → SameSteps t (run_of law t events) (run_of law t others)
+  same-runs t [] [] same = tt
+  same-runs t [] (another ∷ others) same = absurd same
+  same-runs t (event ∷ events) [] same = absurd same
+  same-runs t (event ∷ events) (another ∷ others) same =
+      let n = after law t event in (
+        same.0,
+        subst (λ next. SameSteps n (if law.done n then [] else run_of law n events)
+            (if law.done next then [] else run_of law next others))
+            (ap (state_after t) same.0.turns)
+            (by_done (law.done n) _ _ (same-runs n events others same.1)),
+      )
+    where
+      by_done : (over : Bool) (run other_run : List FtpEvent)
+          → SameSteps (after law t event) run other_run
+          → SameSteps (after law t event) (if over then [] else run)
+          (if over then [] else other_run)
+      by_done true run other_run same = tt
+      by_done false run other_run same = same
 
-    pub errors-hidden : (limit : Option ℕ) (s : S)
-        → ErrorsHidePasswords limit accepts law (at accepts NoName s)
-    errors-hidden limit s input other_input same differ before after error done is failed =
-        let start : Holds [] before.state =
-        record { stage = NoName; given = tt; base = s; is = is } in
-        let o = other done failed.later (events limit input) (events limit other_input) start same
-        failed.split in (
-          o.done_too,
-          record {
-            later = o.later_too;
-            split = o.whole;
-            sent = failed.sent;
-            cause = failed.cause;
-            means = failed.means;
-            ended = record {
-              ends_at = subst (λ t. EndsAt law failed.cause t o.later_too failed.sent after.state)
-                  o.state (o.ends failed.cause failed.sent after.state failed.ended.ends_at);
-              given = subst (λ text. HasGiven text failed.cause before after)
-                  (by_sent before.state done o.done_too failed.sent
-                  (ap (flat_map encoded) o.said_too)) failed.ended.given;
-            };
-            next_line = λ at_line. subst (λ n. FirstMayRunOut limit (drop n (lines_of other_input)))
-                o.as_many (memory-alike limit (length done) [] (lines_of input)
-                (lines_of other_input) differ (failed.next_line at_line));
-          },
-        )
-      where
-        by_sent : (t : S) (done others : List FtpEvent) (sent : List (FtpReply × S))
-            → text_of law t done ≡ text_of law t others
-            → whole_text law t done sent ≡ whole_text law t others sent
-        by_sent t done others [] same = same
-        by_sent t done others (step ∷ steps) same =
-            ap (λ text. text ++ flat_map encoded (said (step ∷ steps))) same
+  -- A run that failed after some of its events, and what the other run has then.
+  record Other (t : S) (done later run : List FtpEvent) : Type 0 where
+    done_too : List FtpEvent
+    later_too : List FtpEvent
+    whole : run ≡ done_too ++ later_too
+    as_many : length done ≡ length done_too
+    state : last_state law t done ≡ last_state law t done_too
+    said_too : replies law t done ≡ replies law t done_too
+    same_later : SameSteps (last_state law t done) later later_too
+
+  other_run : (t : S) (done later run : List FtpEvent) → SameSteps t (done ++ later) run
+      → Other t done later run
+  other_run t [] later run same = record {
+    done_too = [];
+    later_too = run;
+    whole = refl;
+    as_many = refl;
+    state = refl;
+    said_too = refl;
+    same_later = same;
+  }
+  other_run t (event ∷ done) later [] same = absurd same
+  other_run t (event ∷ done) later (another ∷ run) same =
+      let o = other_run (after law t event) done later run same.1 in
+      let turns = same.0.turns in
+      record {
+        done_too = another ∷ o.done_too;
+        later_too = o.later_too;
+        whole = ap (λ events. another ∷ events) o.whole;
+        as_many = ap suc o.as_many;
+        state = o.state ∙ ap (λ steps. last_state law (state_after t steps) o.done_too) turns;
+        said_too = ap (λ later. said (turn law t event) ++ later) o.said_too
+            ∙ ap (λ steps. said steps ++ replies law (state_after t steps) o.done_too) turns;
+        same_later = o.same_later;
+      }
+
+  ends-alike : (cause : Cause) (t : S) (later others : List FtpEvent) (sent : List (FtpReply × S))
+      (t' : S) → SameSteps t later others → EndsAt law cause t later sent t'
+      → EndsAt law cause t others sent t'
+  ends-alike cause t [] [] sent t' same ends = ends
+  ends-alike cause t [] (another ∷ others) sent t' same ends = absurd same
+  ends-alike cause t (event ∷ later) [] sent t' same ends = absurd same
+  ends-alike Finished t (event ∷ later) (another ∷ others) sent t' same ends = absurd ends
+  ends-alike (Write part) t (event ∷ later) (another ∷ others) sent t' same ends = subst
+      (λ steps. Unsent steps sent (λ reply. Begins (encoded reply) part) t') same.0.turns ends
+  ends-alike (Handler fault) t (event ∷ later) (another ∷ others) [] t' same ends =
+      same.0.may_fail fault ends
+  ends-alike (Handler fault) t (event ∷ later) (another ∷ others) (given ∷ sent) t' same ends =
+      (subst (λ steps. Begins steps (given ∷ sent)) same.0.turns ends.0, ends.1)
+  ends-alike LineMemory t (event ∷ later) (another ∷ others) [] t' same ends = ends
+  ends-alike LineMemory t (event ∷ later) (another ∷ others) (given ∷ sent) t' same ends =
+      absurd ends
+  ends-alike ReplyMemory t (event ∷ later) (another ∷ others) sent t' same ends =
+      subst (λ steps. Unsent steps sent (λ reply. ¬ (reply ≡ Nothing)) t') same.0.turns ends
+
+  pub errors-hidden : (limit : Option ℕ) (accepts : Accounts) (s : S)
+      → ErrorsHidePasswords limit accepts law (at accepts NoName s)
+  errors-hidden limit accepts s input other same differ before after error done is failed =
+      let t = before.state in
+      let steps =
+      same-steps accepts NoName s [] (events limit input) (events limit other) tt same in
+      let runs = same-runs t (events limit input) (events limit other)
+      (subst (λ t. SameSteps t (events limit input) (events limit other)) (sym is) steps) in
+      let o = other_run t done failed.later (run_of law t (events limit other))
+      (subst (λ run. SameSteps t run (run_of law t (events limit other))) failed.split runs) in (
+        o.done_too,
+        record {
+          later = o.later_too;
+          split = o.whole;
+          sent = failed.sent;
+          cause = failed.cause;
+          means = failed.means;
+          ended = record {
+            ends_at = subst (λ t. EndsAt law failed.cause t o.later_too failed.sent after.state)
+                o.state (ends-alike failed.cause (last_state law t done) failed.later o.later_too
+                failed.sent after.state o.same_later failed.ended.ends_at);
+            given = subst (λ text. HasGiven text failed.cause before after)
+                (by_sent t done o.done_too failed.sent (ap (flat_map encoded) o.said_too))
+                failed.ended.given;
+          };
+          next_line = λ at_line. subst (λ n. FirstMayRunOut limit (drop n (lines_of other)))
+              o.as_many (memory-alike limit (length done) [] (lines_of input)
+              (lines_of other) differ (failed.next_line at_line));
+        },
+      )
+    where
+      by_sent : (t : S) (done others : List FtpEvent) (sent : List (FtpReply × S))
+          → text_of law t done ≡ text_of law t others
+          → whole_text law t done sent ≡ whole_text law t others sent
+      by_sent t done others [] same = same
+      by_sent t done others (step ∷ steps) same =
+          ap (λ text. text ++ flat_map encoded (said (step ∷ steps))) same
 
   -- over inputs
   module _ (limit : Option ℕ) (accepts : Accounts) (s : S) where
@@ -395,7 +391,8 @@ module _ {S : Type 0} {law : SessionLaw S} (staged : Staged law) where
         (events limit other) (all-look-alike accepts NoName [] _ _ tt same)
 
     pub accounts-hidden : (other : Accounts)
-        → AccountsStayHidden limit accepts other staged.calls law (at accepts NoName s) (at other NoName s)
+        → AccountsStayHidden limit accepts other staged.calls law (at accepts NoName s)
+        (at other NoName s)
     accounts-hidden other input alike =
         let same = all-answered-alike accepts other NoName [] (events limit input) tt alike in (
           text-same accepts other s (events limit input) (events limit input) same,
@@ -417,32 +414,29 @@ module _ {S : Type 0} {law : SessionLaw S} (staged : Staged law) where
     passwords-alike before after password other ended one two same =
         let past : List FtpEvent = events limit before in
         let stage : Stage = stage_after_all accepts NoName past in
-        let outcome = outcome-alike accepts accepts stage past password other
+        let alike = password-alike accepts accepts stage past password other
         (reason accepts NoName [] past tt) same in
         text-after past (Command (Pass password) ∷ events limit after)
         (Command (Pass other) ∷ events limit after) (before ++ (pass_line password ++ after))
         (before ++ (pass_line other ++ after)) (events-pass limit before after password ended one)
         (events-pass limit before after other ended two) (
-          (other, refl, outcome),
+          alike.0,
           subst (λ next. AllAlike accepts accepts
               (stage_after accepts stage (Command (Pass password)))
-              next (events limit after) (events limit after))
-              (ap (λ (outcome : Outcome). outcome.stage) outcome) (all-themselves accepts _ _),
+              next (events limit after) (events limit after)) alike.1 (all-themselves accepts _ _),
         )
 
     pub logins-alike : RefusedLoginsLookAlike limit accepts law (at accepts NoName s)
     logins-alike before after name password other another ended one two =
-        let same : outcome_of accepts (Named name) password
-        ≡ outcome_of accepts (Named other) another = rw (one.refused, two.refused) refl in
         text-after (events limit before)
         (Command (User name) ∷ Command (Pass password) ∷ events limit after)
         (Command (User other) ∷ Command (Pass another) ∷ events limit after)
         (before ++ (login_lines name password ++ after))
         (before ++ (login_lines other another ++ after)) (events-login before after ended one)
         (events-login before after ended two) (
-          (other, refl),
+          record { decision = refl; pass = refl; quit = refl },
           (
-            (another, refl, same),
+            record { decision = rw (one.refused, two.refused) refl; pass = refl; quit = refl },
             rw (one.refused, two.refused) (all-themselves accepts NoName (events limit after)),
           ),
         )

@@ -3,6 +3,8 @@ mod CalledLemmas
 mod DrainLemmas
 mod GateLemmas
 mod LimitedLemmas
+pub mod FinalLemmas
+mod StepLemmas
 mod LimitStepLemmas
 pub mod StageLemmas
 pub mod StagedLemmas
@@ -10,4 +12,3 @@ pub mod MemberLemmas
 pub mod AlikeLemmas
 pub mod LimitLemmas
 mod ExampleLemmas
-mod CallExampleLemmas

@@ -5,11 +5,12 @@ use Rattle.std.proofs.lemmas.List.{append-nil}
 use Rattle.unftp_control_defs.specs.Events.{FtpEvent, Command}
 use Rattle.unftp_control_defs.specs.FtpCommand.{Quit}
 use Rattle.unftp_control_defs.specs.FtpReply.{FtpReply}
-use Rattle.unftp_control_defs.specs.Run.{SessionLaw, after, turn, replies_to}
+use Rattle.unftp_control_defs.specs.Run.{SessionLaw, after, said, state_after, turn, replies_to}
 use Rattle.unftp_control_login.specs.Gate.{Gated, gated_law}
 use Rattle.unftp_control_login.specs.LoginLimit.{EndsWith, Limited, failed_in_run, is_failed_login, is_pass, limited_law, too_many}
-use Rattle.unftp_control_login.proofs.LimitStepLemmas.{limited-counted, limited-last, limited-unchanged, unchanged-inner}
+use Rattle.unftp_control_login.proofs.LimitStepLemmas.{limited-counted, limited-last, limited-unchanged}
 use Rattle.unftp_control_login.proofs.StageLemmas.{gate-after}
+use Rattle.unftp_control_login.proofs.StepLemmas.{after-lifted, said-lifted}
 
 on-left : (left : ℕ) (done : Bool) → ((left == 0) || done) ≡ false → 1 ≤ left
 on-left zero done e = absurd (false≢true (sym e))
@@ -62,14 +63,6 @@ module _ {S : Type 0} (law : SessionLaw S) where
       (limited-last s.left (is_pass event) steps some)
       (λ on. bounded (after limited s event) events (on-left (after limited s event).left _ on))
 
-  pub few-fail : (s : Limited S) (events : List FtpEvent) → 1 ≤ s.left
-      → failed_in_run limited s events ≤ s.left
-  few-fail s events some = (bounded s events some).few
-
-  pub last-ends : (s : Limited S) (events : List FtpEvent) → 1 ≤ s.left
-      → failed_in_run limited s events ≡ s.left → EndsWith too_many limited s events
-  last-ends s events some = (bounded s events some).last
-
   by_quit : (quit done : Bool) → ((quit || true) || done) ≡ true
   by_quit true done = refl
   by_quit false done = refl
@@ -93,7 +86,8 @@ some-left true left left' counted some (inr none) = absurd (false≢true (sym no
 module _ {S : Type 0} (law : SessionLaw S) (s : Limited S) (event : FtpEvent)
     (few : (1 < s.left) ⊎ (is_failed_login event (replies_to law s.inner event) ≡ false)) where
   pub says-unchanged : replies_to (limited_law law) s event ≡ replies_to law s.inner event
-  says-unchanged = limited-unchanged s.left (is_pass event) (turn law s.inner event) few
+  says-unchanged = sym (said-lifted (λ (s : Limited S). s.inner) (turn (limited_law law) s event))
+      ∙ ap said (limited-unchanged s.left (is_pass event) (turn law s.inner event) few)
 
   few_sent : (1 < s.left) ⊎ (is_failed_login event (replies_to law s.inner event) ≡ false)
       → (1 < s.left) ⊎ (is_failed_login event (replies_to (limited_law law) s event) ≡ false)
@@ -107,4 +101,6 @@ module _ {S : Type 0} (law : SessionLaw S) (s : Limited S) (event : FtpEvent)
       none-left _ _ (some-left (is_failed_login event (replies_to (limited_law law) s event)) s.left
       (after (limited_law law) s event).left
       (limited-counted s.left (is_pass event) steps s refl (λ passes. some)) some (few_sent few))
-      ∙ ap law.done (unchanged-inner s.left (is_pass event) steps s few)
+      ∙ ap law.done
+      (sym (after-lifted (λ (s : Limited S). s.inner) s (turn (limited_law law) s event))
+      ∙ ap (state_after s.inner) (limited-unchanged s.left (is_pass event) steps few))

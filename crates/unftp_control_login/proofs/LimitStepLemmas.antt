@@ -1,15 +1,13 @@
 -- The replies that a limit gives for those of the handler to one event.
-use Rattle.std.proofs.Common.{◌≡◌, ◌<◌, ◌≤◌, ℕ, ◌+◌, ◌-◌, Bool, true, false, not, ◌&&◌, ◌||◌, cond, ◌⊎◌, inl, inr, List, [], ◌∷◌, ◌++◌, refl, sym, ap, ◌∙◌, subst, arith}
-use Rattle.std.specs.Prelude.{map, nat_le}
+use Rattle.std.proofs.Common.{◌≡◌, ◌<◌, ◌≤◌, ℕ, ◌+◌, ◌-◌, Bool, true, false, not, ◌&&◌, ◌||◌, cond, ◌⊎◌, inl, inr, List, [], ◌∷◌, ◌++◌, refl, sym, ap, ◌∙◌, arith}
+use Rattle.std.specs.Prelude.{nat_le}
 use Rattle.std.specs.List.{AllByRecursion}
 use Rattle.std.proofs.lemmas.Bool.{false≢true, lt-leb}
 use Rattle.unftp_control_defs.specs.FtpReply.{FtpReply, is_positive}
 use Rattle.unftp_control_defs.specs.Run.{said, state_after}
 use Rattle.unftp_control_defs.specs.Turns.{IsExchange, is_preliminary_reply}
-use Rattle.unftp_control_login.specs.LoginLimit.{Limited, has_failure, is_failure, limited_steps, too_many}
-
-abbrev Steps : Type 0 → Type 0
-Steps S = List (FtpReply × S)
+use Rattle.unftp_control_login.specs.LoginLimit.{Limited, has_failure, is_failure, limited_reply, limited_state, limited_steps, too_many}
+use Rattle.unftp_control_login.proofs.StepLemmas.{Steps, lifted}
 
 -- the state of a limit at an event, of which nothing but the handler's state is left out
 abbrev at_event : {S : Type 0} → ℕ → Bool → Bool → S → Limited S
@@ -40,25 +38,14 @@ record Cases {S : Type 0} (P : Steps (Limited S) → Type 0) (left : ℕ) (at_pa
 by_cases : {S : Type 0} (P : Steps (Limited S) → Type 0) (left : ℕ) (at_pass failure : Bool)
     (step : FtpReply × S) (steps : Steps S) → Cases P left at_pass failure step steps
     → P (stepped left at_pass failure step steps)
-by_cases P left at_pass failure step steps cases =
-    split at_pass failure (nat_le left 1) refl cases.other cases.failed cases.last
-  where
-    split : (at_pass failure few : Bool) → nat_le left 1 ≡ few
-        → ((at_pass && failure) ≡ false
-        → P ((step.0, at_event left at_pass false step.1) ∷ limited_steps left at_pass steps))
-        → (at_pass ≡ true → failure ≡ true → nat_le left 1 ≡ false → P
-        ((step.0, at_event (left - 1) false false step.1) ∷ limited_steps (left - 1) false steps))
-        → (at_pass ≡ true → failure ≡ true → nat_le left 1 ≡ true
-        → P ((too_many, at_event (left - 1) false true step.1) ∷ []))
-        → P (stepped left at_pass failure step steps)
-    split false failure few is other failed last = other refl
-    split true false few is other failed last = other refl
-    split true true true is other failed last =
-        subst (λ few. P ((cond few too_many step.0, at_event (left - 1) false few step.1)
-        ∷ cond few [] (limited_steps (left - 1) false steps))) (sym is) (last refl refl is)
-    split true true false is other failed last =
-        subst (λ few. P ((cond few too_many step.0, at_event (left - 1) false few step.1)
-        ∷ cond few [] (limited_steps (left - 1) false steps))) (sym is) (failed refl refl is)
+by_cases P left false failure step steps cases = cases.other refl
+by_cases P left true false step steps cases = cases.other refl
+by_cases P left true true step steps cases = by_few (nat_le left 1) refl where
+  by_few : (few : Bool) → nat_le left 1 ≡ few
+      → P ((cond few too_many step.0, at_event (left - 1) false few step.1)
+      ∷ cond few [] (limited_steps (left - 1) false steps))
+  by_few true is = cases.last refl refl is
+  by_few false is = cases.failed refl refl is
 
 -- what holds of each reply of the handler, and of the last one, holds after the limit
 pub limited-all : {S : Type 0} (P : FtpReply → Type 0) (left : ℕ) (at_pass : Bool)
@@ -99,17 +86,15 @@ limited-exchange left at_pass (step ∷ (next ∷ later)) is =
       last = λ at_pass failure few. absurd (not-failed step.0 is.0 failure);
     })
 
--- Of an event that is no PASS, or that has failed, nothing changes.
-pub others-said : {S : Type 0} (left : ℕ) (steps : Steps S)
-    → said (limited_steps left false steps) ≡ said steps
-others-said left [] = refl
-others-said left (step ∷ steps) = ap (λ replies. step.0 ∷ replies) (others-said left steps)
+-- those of the handler again
+abbrev pub inner_steps : {S : Type 0} → Steps (Limited S) → Steps S
+inner_steps steps = lifted (λ (s : Limited _). s.inner) steps
 
-pub others-after : {S : Type 0} (left : ℕ) (s : S) (steps : Steps S)
-    → state_after (at_event left false false s) (limited_steps left false steps)
-    ≡ at_event left false false (state_after s steps)
-others-after left s [] = refl
-others-after left s (step ∷ steps) = others-after left step.1 steps
+-- Of an event that is no PASS, or that has failed, nothing changes.
+others-unchanged : {S : Type 0} (left : ℕ) (steps : Steps S)
+    → inner_steps (limited_steps left false steps) ≡ steps
+others-unchanged left [] = refl
+others-unchanged left (step ∷ steps) = ap (λ later. step ∷ later) (others-unchanged left steps)
 
 -- A login that fails is counted once.
 some-failure : (at_pass failure later : Bool) → (at_pass && failure) ≡ false
@@ -197,69 +182,35 @@ module _ (left : ℕ) (at_pass : Bool) (reply : FtpReply) (later : List FtpReply
 -- While more than one may fail, and where none does, nothing changes.
 pub limited-unchanged : {S : Type 0} (left : ℕ) (at_pass : Bool) (steps : Steps S)
     → (1 < left) ⊎ ((at_pass && has_failure (said steps)) ≡ false)
-    → said (limited_steps left at_pass steps) ≡ said steps
+    → inner_steps (limited_steps left at_pass steps) ≡ steps
 limited-unchanged left at_pass [] few = refl
 limited-unchanged left at_pass (step ∷ steps) few =
-    by_cases (λ limited. said limited ≡ step.0 ∷ said steps)
+    by_cases (λ limited. inner_steps limited ≡ step ∷ steps)
     left at_pass (is_failure step.0) step steps (record {
-      other = λ none. ap (λ replies. step.0 ∷ replies)
+      other = λ none. ap (λ later. step ∷ later)
           (limited-unchanged left at_pass steps
           (few-later left at_pass step.0 (said steps) few none));
-      failed = λ passes failure more. ap (λ replies. step.0 ∷ replies)
-          (others-said (left - 1) steps);
+      failed = λ passes failure more. ap (λ later. step ∷ later)
+          (others-unchanged (left - 1) steps);
       last = λ passes failure last. absurd {0}
           (none-last left at_pass step.0 (said steps) few passes failure last);
     })
 
-pub unchanged-inner : {S : Type 0} (left : ℕ) (at_pass : Bool) (steps : Steps S) (s : Limited S)
-    → (1 < left) ⊎ ((at_pass && has_failure (said steps)) ≡ false)
-    → (state_after s (limited_steps left at_pass steps)).inner ≡ state_after s.inner steps
-unchanged-inner left at_pass [] s few = refl
-unchanged-inner left at_pass (step ∷ steps) s few =
-    by_cases (λ limited. (state_after s limited).inner ≡ state_after step.1 steps)
-    left at_pass (is_failure step.0) step steps (record {
-      other = λ none. unchanged-inner left at_pass steps (at_event left at_pass false step.1)
-          (few-later left at_pass step.0 (said steps) few none);
-      failed = λ passes failure more.
-          ap (λ (s : Limited _). s.inner) (others-after (left - 1) step.1 steps);
-      last = λ passes failure last. absurd {0}
-          (none-last left at_pass step.0 (said steps) few passes failure last);
-    })
-
--- The replies and states of another handler, which go with those of this one.
-module _ {S : Type 0} (other_of : S → S) where
-  abbrev pub lifted : Steps S → Steps S
-  lifted steps = map (λ step. (step.0, other_of step.1)) steps
-
-  abbrev pub limited_lifted : Steps (Limited S) → Steps (Limited S)
-  limited_lifted steps =
-      map (λ step. (step.0, record step.1 { inner = other_of step.1.inner })) steps
+-- The limit's replies and states for those of another handler.
+module _ {S T : Type 0} (other_of : S → T) where
+  abbrev pub limit_of : Limited S → Limited T
+  limit_of s = at_event s.left s.at_pass s.ended (other_of s.inner)
 
   pub limited-lifted : (left : ℕ) (at_pass : Bool) (steps : Steps S)
-      → limited_steps left at_pass (lifted steps)
-      ≡ limited_lifted (limited_steps left at_pass steps)
+      → limited_steps left at_pass (lifted other_of steps)
+      ≡ lifted limit_of (limited_steps left at_pass steps)
   limited-lifted left at_pass [] = refl
   limited-lifted left at_pass (step ∷ steps) =
-      let failure = is_failure step.0 in
-      let fails = at_pass && failure in
-      let last = fails && nat_le left 1 in
-      ap (λ later. (
-        cond last too_many step.0,
-        at_event (cond fails (left - 1) left) (at_pass && not failure) last (other_of step.1),
-      ) ∷ later)
-      (by_last last _ _
-      (limited-lifted (cond fails (left - 1) left) (at_pass && not failure) steps))
+      let s = limited_state left at_pass step.0 step.1 in
+      ap (λ later. (limited_reply left at_pass step.0, limit_of s) ∷ later)
+      (by_last s.ended _ _ (limited-lifted s.left s.at_pass steps))
     where
-      by_last : (last : Bool) (one other : Steps (Limited S)) → one ≡ limited_lifted other
-          → cond last [] one ≡ limited_lifted (cond last [] other)
+      by_last : (last : Bool) (one : Steps (Limited T)) (other : Steps (Limited S))
+          → one ≡ lifted limit_of other → cond last [] one ≡ lifted limit_of (cond last [] other)
       by_last true one other same = refl
       by_last false one other same = same
-
-  pub said-lifted : (steps : Steps S) → said (lifted steps) ≡ said steps
-  said-lifted [] = refl
-  said-lifted (step ∷ steps) = ap (λ replies. step.0 ∷ replies) (said-lifted steps)
-
-  pub after-lifted : (s : S) (steps : Steps S)
-      → state_after (other_of s) (lifted steps) ≡ other_of (state_after s steps)
-  after-lifted s [] = refl
-  after-lifted s (step ∷ steps) = after-lifted step.1 steps

@@ -1,10 +1,12 @@
 -- Who is served: only who has logged in.
-use Rattle.std.proofs.Common.{◌≡◌, ◌<◌, ◌≤◌, ℕ, Bool, true, false, not, ◌&&◌, cond, IsTrue, List, [], ◌∷◌, ◌++◌, length, filter_map, map, take, Option, Some, unwrap_or, ◌⊎◌, inl, inr, refl, sym, ap, ◌∙◌, subst, arith, codes}
+use Rattle.std.proofs.Common.{◌≡◌, ◌<◌, ℕ, Bool, true, false, not, ◌&&◌, cond, IsTrue, List, [], ◌∷◌, ◌++◌, length, filter_map, map, take, Option, Some, None, ◌⊎◌, inl, inr, refl, sym, ap, ◌∙◌, subst, arith}
 use Rattle.std.specs.List.{AllByRecursion}
 use Rattle.std.specs.Option.{IfSome}
+use Rattle.std.specs.Prelude.{if◌then◌else◌}
+use Rattle.std.proofs.lemmas.Bool.{cond_both}
 use Rattle.std.proofs.lemmas.List.{length-map}
 use Rattle.std.proofs.Math.Seq.{take-append_seam}
-use Rattle.unftp_control_defs.specs.Bytes.{Bytes, LF}
+use Rattle.unftp_control_defs.specs.Bytes.{Bytes}
 use Rattle.unftp_control_defs.specs.FtpCommand.{User, Pass}
 use Rattle.unftp_control_defs.specs.Events.{FtpEvent, Command, events}
 use Rattle.unftp_control_defs.specs.FtpReply.{FtpReply, Nothing, CodeAndMsg, MultiLine, IsPlain, reply_as_read}
@@ -12,17 +14,17 @@ use Rattle.unftp_control_defs.specs.Run.{SessionLaw, after, last_state, replies,
 use Rattle.unftp_control_defs.specs.Turns.{IsExchange, cut_reads}
 use Rattle.unftp_control_defs.proofs.EncodingLemmas.{ReadsBack-encoded}
 use Rattle.unftp_control_defs.proofs.ExchangeLemmas.{cut-read, cut-replies, length-replies_by_event, replies-all}
-use Rattle.unftp_control_defs.proofs.LackLemmas.{lacks, Lacks-test}
 use Rattle.unftp_control_defs.proofs.RunLemmas.{last_state-append, run_of-first}
 use Rattle.unftp_control_login.specs.declared.stage.Stage.{Stage}
 use Rattle.unftp_control_login.specs.declared.stage.Stage.TheVariants.{NoName, Named}
-use Rattle.unftp_control_login.specs.HandlerCalls.{state_then}
 use Rattle.unftp_control_login.specs.Login.{Accounts, GaveName, IsLoggedIn, is_login, needs_login}
-use Rattle.unftp_control_login.specs.Gate.{Gated, closed, gated_law, is_barred, is_logged_in, logged_in, login_needed, name_needed, not_accepted, passed_steps, password_needed, password_reply, wanted}
-use Rattle.unftp_control_login.specs.LoginLimit.{Limited, is_pass, limited_law, limited_to}
-use Rattle.unftp_control_login.specs.Promises.{AfterLogin, AtEachPlace, IsSentPlain, IsTurnedAway, LearnsName, MembersAlone, NoFailure, ReachesHandler, SendsPlainExchanges, ServesMembersAlone}
+use Rattle.unftp_control_login.specs.Gate.{Answers, Decision, Gated, LogsIn, PassesOn, closed, decided, decided_by_password, gated_law, is_barred, is_logged_in, is_passed, logged_in, login_needed, name_needed, not_accepted, password_needed, reply_by, state_by}
+use Rattle.unftp_control_login.specs.LoginLimit.{Limited, is_pass, limited_law, limited_to, too_many}
+use Rattle.unftp_control_login.specs.Promises.{AfterLogin, AtEachPlace, IsSentPlain, IsTurnedAway, LearnsName, MembersAlone, NoFailure, ReachesHandler, SendsPlainExchanges, ServesMembersAlone, guarded, guarded_law}
 use Rattle.unftp_control_login.proofs.LimitStepLemmas.{limited-all, limited-exchange}
-use Rattle.unftp_control_login.proofs.StageLemmas.{IsLoggedIn-stage, GaveName-stage, by_test, gate-after, logged_in-stage, needs-other, own-barred, own-open, stage_after_all}
+use Rattle.unftp_control_login.proofs.StageLemmas.{IsLoggedIn-stage, GaveName-stage, gate-after, gate-more, passed_more, logged_in-stage, needs-other, decided-barred, decided-open, stage_after_all}
+use Rattle.unftp_control_login.proofs.FinalLemmas.{IsFinal, final}
+use Rattle.unftp_control_login.proofs.StepLemmas.{said-lifted}
 use Rattle.unftp_control_login.proofs.StagedLemmas.{gate_at, gate_staged, last-at, limit_staged}
 
 all-of : {X : Type 0} (P : X → Type 0) (xs : List X) → ((x : X) → P x) → AllByRecursion P xs
@@ -30,41 +32,38 @@ all-of P [] each = tt
 all-of P (x ∷ xs) each = (each x, all-of P xs each)
 
 -- What the gate does with an event that is neither USER nor PASS.
-said-passed : {S : Type 0} (s : Gated S) (steps : List (FtpReply × S))
-    → said (passed_steps s steps) ≡ said steps
-said-passed s [] = refl
-said-passed s (step ∷ steps) = ap (λ replies. step.0 ∷ replies) (said-passed s steps)
+module _ {S : Type 0} (law : SessionLaw S) (s : Gated S) (event : FtpEvent) where
+  -- its turn, if this is decided
+  abbrev Turns : Decision → List FtpReply → S → Type 0
+  Turns decision sent inner =
+      (reply_by law s.inner decision
+      ∷ said (if is_passed decision then law.more (state_by law s.inner decision) else []) ≡ sent)
+      × (state_after (state_by law s.inner decision)
+      (if is_passed decision then law.more (state_by law s.inner decision) else []) ≡ inner)
 
-module _ {S : Type 0} (law : SessionLaw S) (s : Gated S) (event : FtpEvent)
-    (other : is_login event ≡ false) where
-  pub barred-turn : is_barred s.stage event ≡ true
-      → (replies_to (gated_law law) s event ≡ login_needed ∷ [])
-      × ((after (gated_law law) s event).inner ≡ s.inner)
-  barred-turn barred =
-      let own = own-barred s.accepts s.stage event other barred in
+  turned : {sent : List FtpReply} {inner : S} {decision : Decision}
+      → decided s.accepts s.stage event ≡ decision → Turns decision sent inner
+      → (replies_to (gated_law law) s event ≡ sent)
+      × ((after (gated_law law) s event).inner ≡ inner)
+  turned {sent} {inner} is turns =
       let n = (gated_law law).next s event in
-      let passed : n.passed ≡ false = λ i. not (other i) && not (barred i) in
-      let none : (gated_law law).more n ≡ [] =
-      ap (λ passed. cond passed (passed_steps n (law.more n.inner)) []) passed in (
-        λ i. unwrap_or (own.0 i) (law.says s.inner event) ∷ said (none i),
-        ap (λ steps. (state_after n steps).inner) none ∙ ap (state_then law s.inner) own.1,
+      let so : Turns (decided s.accepts s.stage event) sent inner =
+      subst (λ decision. Turns decision sent inner) (sym is) turns in (
+        ap (λ replies. (gated_law law).says s event ∷ replies)
+            (ap said (gate-more law n) ∙ said-lifted _ (passed_more law n)) ∙ so.0,
+        ap (λ (s : Gated S). s.inner) (gate-after law n) ∙ so.1,
       )
 
-  pub open-turn : is_barred s.stage event ≡ false
-      → (replies_to (gated_law law) s event ≡ replies_to law s.inner event)
-      × ((after (gated_law law) s event).inner ≡ after law s.inner event)
-  open-turn free =
-      let own = own-open s.accepts s.stage event other free in
-      let n = (gated_law law).next s event in
-      let passed : n.passed ≡ true = λ i. not (other i) && not (free i) in
-      let inner : n.inner ≡ law.next s.inner event = ap (state_then law s.inner) own.1 in (
-        (λ i. unwrap_or (own.0 i) (law.says s.inner event)
-            ∷ said (cond (passed i) (passed_steps n (law.more n.inner)) []))
-            ∙ ap (λ replies. law.says s.inner event ∷ replies) (said-passed n (law.more n.inner))
-            ∙ ap (λ inner. law.says s.inner event ∷ said (law.more inner)) inner,
-        ap (λ (s : Gated S). s.inner) (gate-after law n)
-            ∙ (λ i. state_after (inner i) (cond (passed i) (law.more (inner i)) [])),
-      )
+  module _ (other : is_login event ≡ false) where
+    pub barred-turn : is_barred s.stage event ≡ true
+        → (replies_to (gated_law law) s event ≡ login_needed ∷ [])
+        × ((after (gated_law law) s event).inner ≡ s.inner)
+    barred-turn barred = turned (decided-barred s.accepts s.stage event other barred) (refl, refl)
+
+    pub open-turn : is_barred s.stage event ≡ false
+        → (replies_to (gated_law law) s event ≡ replies_to law s.inner event)
+        × ((after (gated_law law) s event).inner ≡ after law s.inner event)
+    open-turn free = turned (decided-open s.accepts s.stage event other free) (refl, refl)
 
 module _ {S : Type 0} (law : SessionLaw S) (accepts : Accounts) (inner : S) where
   abbrev after_all : List FtpEvent → Gated S
@@ -121,10 +120,11 @@ module _ {S : Type 0} (law : SessionLaw S) (accepts : Accounts) (inner : S) wher
   name-learned before name password named accepted =
       let s = after_all before in
       let is = (state-is before).1 in
-      (λ i. state_then law s.inner (wanted (is i).accepts (is i).stage (Command (Pass password))))
-      ∙ ap (λ stage. state_then law s.inner (wanted accepts stage (Command (Pass password))))
+      (turned law s (Command (Pass password)) {sent = logged_in ∷ []}
+      ((λ i. decided_by_password (is i).accepts (is i).stage password)
+      ∙ ap (λ stage. decided_by_password accepts stage password)
       (GaveName-stage accepts name before named)
-      ∙ rw (accepted) refl
+      ∙ ap (λ test. cond test (LogsIn name) (Answers not_accepted)) accepted) (refl, refl)).1
 
 -- Who is served, at a state that follows from the events.
 abbrev Serves : {S : Type 0} → Accounts → List FtpEvent → SessionLaw S → S → FtpEvent → Type 0
@@ -147,17 +147,14 @@ serves-members law accepts before s event same needs =
         (sym (barred-turn law s event (needs-other event needs) (λ i. needs i && not (e i))).0)
         ((λ low. absurd (omega (arith, low))), tt)
 
-pub gate_serves-members : {S : Type 0} (law : SessionLaw S) (accepts : Accounts) (inner : S)
-    → ServesMembersAlone accepts (gated_law law) (closed accepts inner)
-gate_serves-members law accepts inner before event needs =
+-- of the gate, and of a limit before it
+pub guarded_serves-members : {S : Type 0} (law : SessionLaw S) (accepts : Accounts)
+    (failures : Option ℕ) (inner : S)
+    → ServesMembersAlone accepts (guarded_law failures law) (guarded failures accepts inner)
+guarded_serves-members law accepts None inner before event needs =
     serves-members law accepts before (last_state (gated_law law) (closed accepts inner) before)
     event (stage-is law accepts inner before) needs
-
--- the same after a limit
-pub limit_serves-members : {S : Type 0} (law : SessionLaw S) (accepts : Accounts) (left : ℕ)
-    (inner : S) → ServesMembersAlone accepts (limited_law (gated_law law))
-    (limited_to left (closed accepts inner))
-limit_serves-members law accepts left inner before event needs =
+guarded_serves-members law accepts (Some left) inner before event needs =
     let start : Limited (Gated _) = limited_to left (closed accepts inner) in
     let s = last_state (limited_law (gated_law law)) start before in
     limited-all (λ reply. NoFailure reply → IsLoggedIn accepts before) s.left (is_pass event)
@@ -166,70 +163,56 @@ limit_serves-members law accepts left inner before event needs =
     (ap (λ (s : Limited (Gated _)). s.inner.stage)
     (last-at (limit_staged law) accepts NoName start before).1) needs)
 
--- Plain replies.
-plain : (code : ℕ) (text : Bytes) → 100 ≤ code → code < 1000 → lacks LF text ≡ true
-    → IsSentPlain (CodeAndMsg code text)
-plain code text low high test = ((low, high), Lacks-test LF text test)
+-- The gate's own replies are final ones,
+abbrev OwnFinal : Decision → Type 0
+OwnFinal (Answers reply) = IsFinal reply
+OwnFinal (LogsIn name) = IsFinal logged_in
+OwnFinal (PassesOn event) = Unit {0}
 
--- what holds of each of the gate's own replies, as the only one to an event
-record HoldsOfOwn (P : List FtpReply → Type 0) : Type 0 where
-  to_user : P (password_needed ∷ [])
-  accepted : P (logged_in ∷ [])
-  refused : P (not_accepted ∷ [])
-  no_name : P (name_needed ∷ [])
-  barred : P (login_needed ∷ [])
+password-final : (accepts : Accounts) (stage : Stage) (password : Bytes)
+    → OwnFinal (decided_by_password accepts stage password)
+password-final accepts (Named name) password =
+    cond_both (accepts name password) (LogsIn name) (Answers not_accepted) OwnFinal
+    (λ _. final logged_in refl) (λ _. final not_accepted refl)
+password-final accepts stage password = final name_needed refl
 
-password-own : (P : List FtpReply → Type 0) → HoldsOfOwn P → (accepts : Accounts) (stage : Stage)
-    (password : Bytes) → P (password_reply accepts stage password ∷ [])
-password-own P own accepts (Named name) password =
-    by_test (λ reply. P (reply ∷ [])) (accepts name password) _ _ (λ _. own.accepted)
-    (λ _. own.refused)
-password-own P own accepts stage password = own.no_name
+decided-final : (accepts : Accounts) (stage : Stage) (event : FtpEvent)
+    → OwnFinal (decided accepts stage event)
+decided-final accepts stage (Command (User name)) = final password_needed refl
+decided-final accepts stage (Command (Pass password)) = password-final accepts stage password
+decided-final accepts stage event =
+    cond_both (is_barred stage event) (Answers login_needed) (PassesOn event) OwnFinal
+    (λ _. final login_needed refl) (λ _. tt)
 
--- and of all replies of the handler to one, holds of all replies of the gate
-gate-own : {S : Type 0} (law : SessionLaw S) (P : List FtpReply → Type 0) → HoldsOfOwn P
-    → ((s : S) (event : FtpEvent) → P (replies_to law s event))
-    → (s : Gated S) (event : FtpEvent) → P (replies_to (gated_law law) s event)
-gate-own law P own each s (Command (User name)) = own.to_user
-gate-own law P own each s (Command (Pass password)) =
-    password-own P own s.accepts s.stage password
-gate-own law P own each s event = by_barred (is_barred s.stage event) refl where
-  by_barred : (barred : Bool) → is_barred s.stage event ≡ barred
-      → P (replies_to (gated_law law) s event)
-  by_barred true e = subst P (sym (barred-turn law s event refl e).0) own.barred
-  by_barred false e = subst P (sym (open-turn law s event refl e).0) (each s.inner event)
+-- and all others those of the handler.
+abbrev IsPlainExchange : List FtpReply → Type 0
+IsPlainExchange sent = IsExchange sent × AllByRecursion IsSentPlain sent
 
-own-plain : HoldsOfOwn (AllByRecursion IsSentPlain)
-own-plain = record {
-  to_user = (
-    plain 331 (codes "User name okay, need password") (omega arith) (omega arith) refl,
-    tt,
-  );
-  accepted = (plain 230 (codes "User logged in, proceed") (omega arith) (omega arith) refl, tt);
-  refused = (plain 530 (codes "Login incorrect") (omega arith) (omega arith) refl, tt);
-  no_name = (plain 503 (codes "Send USER first") (omega arith) (omega arith) refl, tt);
-  barred = (plain 530 (codes "Log in with USER and PASS") (omega arith) (omega arith) refl, tt);
-}
-
-own-final : HoldsOfOwn IsExchange
-own-final =
-    record { to_user = refl; accepted = refl; refused = refl; no_name = refl; barred = refl }
-
-pub gate-plain : {S : Type 0} (law : SessionLaw S) → SendsPlainExchanges law
+gate-plain : {S : Type 0} (law : SessionLaw S) → SendsPlainExchanges law
     → SendsPlainExchanges (gated_law law)
-gate-plain law (exchanges, sends) = (
-  gate-own law IsExchange own-final exchanges,
-  gate-own law (AllByRecursion IsSentPlain) own-plain sends,
+gate-plain {S} law (exchanges, sends) = (
+  λ s event. (by_decision s event _ refl (decided-final s.accepts s.stage event)).0,
+  λ s event. (by_decision s event _ refl (decided-final s.accepts s.stage event)).1,
 )
+  where
+    by_decision : (s : Gated S) (event : FtpEvent) (decision : Decision)
+        → decided s.accepts s.stage event ≡ decision → OwnFinal decision
+        → IsPlainExchange (replies_to (gated_law law) s event)
+    by_decision s event (Answers reply) is own = subst IsPlainExchange
+        (sym (turned law s event {sent = reply ∷ []} is (refl, refl)).0) (own.1, (own.0, tt))
+    by_decision s event (LogsIn name) is own = subst IsPlainExchange
+        (sym (turned law s event {sent = logged_in ∷ []} is (refl, refl)).0) (own.1, (own.0, tt))
+    by_decision s event (PassesOn passed) is own = subst IsPlainExchange
+        (sym (turned law s event {sent = replies_to law s.inner passed} is (refl, refl)).0)
+        (exchanges s.inner passed, sends s.inner passed)
 
-pub limit-plain : {S : Type 0} (law : SessionLaw S) → SendsPlainExchanges law
+limit-plain : {S : Type 0} (law : SessionLaw S) → SendsPlainExchanges law
     → SendsPlainExchanges (limited_law law)
 limit-plain law (exchanges, sends) = (
   λ s event. limited-exchange s.left (is_pass event) (turn law s.inner event)
       (exchanges s.inner event),
   λ s event. limited-all IsSentPlain s.left (is_pass event) (turn law s.inner event)
-      (plain 421 (codes "Too many failed logins, closing control connection") (omega arith)
-      (omega arith) refl) (sends s.inner event),
+      (final too_many refl).0 (sends s.inner event),
 )
 
 -- What a client reads.
@@ -295,7 +278,7 @@ module _ {S : Type 0} (law : SessionLaw S) (first : S) (accepts : Accounts)
             later,
       )
 
-  pub members-alone : (limit : Option ℕ) (input : Bytes)
+  members-alone : (limit : Option ℕ) (input : Bytes)
       → MembersAlone limit accepts input (text_for limit law first input)
   members-alone limit input =
       let run = run_for limit law first input in
@@ -322,19 +305,23 @@ module _ {S : Type 0} (law : SessionLaw S) (first : S) (accepts : Accounts)
             (sym same) (after_login [] first run (cut_reads read) refl parts);
       }
 
-pub gate-members-alone : {S : Type 0} (law : SessionLaw S) → SendsPlainExchanges law
-    → (limit : Option ℕ) (accepts : Accounts) (inner : S) (input : Bytes)
-    → MembersAlone limit accepts input (text_for limit (gated_law law) (closed accepts inner) input)
-gate-members-alone law sends limit accepts inner input =
-    members-alone (gated_law law) (closed accepts inner) accepts
-    (gate_serves-members law accepts inner) (gate-plain law sends) limit input
+guarded-plain : {S : Type 0} (law : SessionLaw S) (failures : Option ℕ) → SendsPlainExchanges law
+    → SendsPlainExchanges (guarded_law failures law)
+guarded-plain law None sends = gate-plain law sends
+guarded-plain law (Some left) sends = limit-plain (gated_law law) (gate-plain law sends)
+
+pub guarded-members-alone : {S : Type 0} (law : SessionLaw S) → SendsPlainExchanges law
+    → (limit : Option ℕ) (accepts : Accounts) (failures : Option ℕ) (inner : S) (input : Bytes)
+    → MembersAlone limit accepts input
+    (text_for limit (guarded_law failures law) (guarded failures accepts inner) input)
+guarded-members-alone law sends limit accepts failures inner input =
+    members-alone (guarded_law failures law) (guarded failures accepts inner) accepts
+    (guarded_serves-members law accepts failures inner) (guarded-plain law failures sends) limit
+    input
 
 pub limit-members-alone : {S : Type 0} (law : SessionLaw S) → SendsPlainExchanges law
     → (limit : Option ℕ) (accepts : Accounts) (left : ℕ) (inner : S) (input : Bytes)
     → MembersAlone limit accepts input
-    (text_for limit (limited_law (gated_law law)) (limited_to left (closed accepts inner))
-    input)
-limit-members-alone law sends limit accepts left inner input =
-    members-alone (limited_law (gated_law law)) (limited_to left (closed accepts inner)) accepts
-    (limit_serves-members law accepts left inner)
-    (limit-plain (gated_law law) (gate-plain law sends)) limit input
+    (text_for limit (limited_law (gated_law law)) (limited_to left (closed accepts inner)) input)
+limit-members-alone law sends limit accepts left =
+    guarded-members-alone law sends limit accepts (Some left)

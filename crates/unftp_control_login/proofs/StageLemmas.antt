@@ -1,20 +1,19 @@
 -- How far a login has come, and the events that it comes from.
-use Rattle.std.proofs.Common.{◌≡◌, Bool, true, false, cond, IsTrue, List, [], ◌∷◌, ◌++◌, Some, None, refl, sym, ap, ◌∙◌, subst, append_assoc}
+use Rattle.std.proofs.Common.{◌≡◌, Bool, true, false, cond, IsTrue, List, [], ◌∷◌, ◌++◌, refl, sym, ap, ◌∙◌, subst, append_assoc}
 use Rattle.std.specs.Prelude.{if◌then◌else◌}
 use Rattle.std.specs.List.{AllByRecursion}
 use Rattle.std.proofs.lemmas.List.{append-nil}
-use Rattle.std.proofs.lemmas.Bool.{false≢true}
+use Rattle.std.proofs.lemmas.Bool.{cond_both, false≢true}
 use Rattle.unftp_control_defs.specs.Bytes.{Bytes}
 use Rattle.unftp_control_defs.specs.FtpCommand.{User, Pass, Auth}
 use Rattle.unftp_control_defs.specs.Events.{FtpEvent, Command, Refused}
-use Rattle.unftp_control_defs.specs.FtpReply.{FtpReply}
 use Rattle.unftp_control_defs.specs.Run.{SessionLaw, state_after}
 use Rattle.unftp_control_defs.proofs.ExchangeLemmas.{all-append}
 use Rattle.unftp_control_login.specs.declared.stage.Stage.{Stage}
 use Rattle.unftp_control_login.specs.declared.stage.Stage.TheVariants.{NoName, Named, LoggedIn}
-use Rattle.unftp_control_login.specs.Login.{Accounts, GaveName, IsLoggedIn, KeepsLogin, KeepsName, is_login, needs_login}
-use Rattle.unftp_control_login.specs.HandlerCalls.{Call, First, NoReply}
-use Rattle.unftp_control_login.specs.Gate.{Gated, gated_law, is_barred, is_logged_in, login_needed, own_reply, passed_steps, questions, stage_after, wanted}
+use Rattle.unftp_control_login.specs.Login.{Accounts, GaveName, IsLoggedIn, KeepsLogin, KeepsName, flushes_login, is_login, needs_login}
+use Rattle.unftp_control_login.specs.Gate.{Answers, Gated, PassesOn, decided, gated_law, is_barred, is_logged_in, login_needed, passed_steps, stage_after}
+use Rattle.unftp_control_login.proofs.StepLemmas.{Steps, after-lifted, lifted}
 
 abbrev pub stage_after_all : Accounts → Stage → List FtpEvent → Stage
 stage_after_all accepts stage [] = stage
@@ -28,21 +27,24 @@ stage_after_all-append accepts stage [] more = refl
 stage_after_all-append accepts stage (event ∷ events) more =
     stage_after_all-append accepts (stage_after accepts stage event) events more
 
--- of the replies that follow none changes more than the handler's state
-pub passed-after : {S : Type 0} (s : Gated S) (steps : List (FtpReply × S))
-    → state_after s (passed_steps s steps) ≡ record s { inner = state_after s.inner steps }
-passed-after s [] = refl
-passed-after s (step ∷ steps) = passed-after (record s { inner = step.1 }) steps
+-- The handler's replies that follow are the gate's, where the event was passed on: none changes
+-- more than the handler's state.
+abbrev pub passed_more : {S : Type 0} → SessionLaw S → Gated S → Steps S
+passed_more law s = if s.passed then law.more s.inner else []
+
+pub gate-more : {S : Type 0} (law : SessionLaw S) (s : Gated S) → (gated_law law).more s
+    ≡ lifted (λ inner. record s { inner = inner }) (passed_more law s)
+gate-more law s = by_passed s.passed where
+  by_passed : (passed : Bool) → cond passed (passed_steps s (law.more s.inner)) []
+      ≡ lifted (λ inner. record s { inner = inner }) (cond passed (law.more s.inner) [])
+  by_passed true = refl
+  by_passed false = refl
 
 pub gate-after : {S : Type 0} (law : SessionLaw S) (s : Gated S)
     → state_after s ((gated_law law).more s)
-    ≡ record s { inner = state_after s.inner (if s.passed then law.more s.inner else []) }
-gate-after law s = by_passed s.passed where
-  by_passed : (passed : Bool)
-      → state_after s (cond passed (passed_steps s (law.more s.inner)) [])
-      ≡ record s { inner = state_after s.inner (cond passed (law.more s.inner) []) }
-  by_passed true = passed-after s (law.more s.inner)
-  by_passed false = refl
+    ≡ record s { inner = state_after s.inner (passed_more law s) }
+gate-after law s = ap (state_after s) (gate-more law s)
+    ∙ after-lifted (λ inner. record s { inner = inner }) s.inner (passed_more law s)
 
 -- The events that a stage comes from.
 abbrev pub Reason : Accounts → Stage → List FtpEvent → Type 0
@@ -84,11 +86,6 @@ stays accepts (Named name) past event name_kept login_kept h = record {
 stays accepts LoggedIn past event name_kept login_kept h =
     login_stays event login_kept h
 
-pub by_test : {X : Type 0} (P : X → Type 0) (test : Bool) (x y : X) → (test ≡ true → P x)
-    → (test ≡ false → P y) → P (cond test x y)
-by_test P true x y at_true at_false = at_true refl
-by_test P false x y at_true at_false = at_false refl
-
 pub stage_after-reason : (accepts : Accounts) (stage : Stage) (past : List FtpEvent)
     (event : FtpEvent) → Reason accepts stage past
     → Reason accepts (stage_after accepts stage event) (past ++ event ∷ [])
@@ -98,8 +95,8 @@ stage_after-reason accepts stage past (Command (User name)) h =
     record { before = past; since = []; whole = refl; kept = tt }
 stage_after-reason accepts NoName past (Command (Pass password)) h = tt
 stage_after-reason accepts (Named name) past (Command (Pass password)) h =
-    by_test (λ (stage : Stage). Reason accepts stage (past ++ Command (Pass password) ∷ []))
-    (accepts name password) _ _
+    cond_both (accepts name password) LoggedIn NoName
+    (λ stage. Reason accepts stage (past ++ Command (Pass password) ∷ []))
     (λ e. (
       name,
       record {
@@ -184,36 +181,28 @@ IsLoggedIn-stage accepts events (name, h) =
     ∙ ap (λ test. stage_after_all accepts (cond test LoggedIn NoName) h.since) h.accepted
     ∙ keeps_all accepts LoggedIn h.since h.kept
 
--- What the gate does with an event that is no part of a login.
-pub own-barred : (accepts : Accounts) (stage : Stage) (event : FtpEvent) → is_login event ≡ false
-    → is_barred stage event ≡ true
-    → (own_reply accepts stage event ≡ Some login_needed) × (wanted accepts stage event ≡ NoReply)
-own-barred accepts stage (Command (User name)) other barred = absurd (false≢true (sym other))
-own-barred accepts stage (Command (Pass password)) other barred = absurd (false≢true (sym other))
-own-barred accepts stage event other barred = (
-  ap (λ test. cond test (Some login_needed) None) barred,
-  ap (λ test. cond test NoReply (First event)) barred,
-)
+-- What the gate does at an event that is no part of a login.
+pub other-event : (accepts : Accounts) (stage : Stage) (event : FtpEvent) → is_login event ≡ false
+    → (decided accepts stage event
+    ≡ cond (is_barred stage event) (Answers login_needed) (PassesOn event))
+    × (stage_after accepts stage event ≡ cond (flushes_login event) NoName stage)
+other-event accepts stage (Command (User name)) other = absurd (false≢true (sym other))
+other-event accepts stage (Command (Pass password)) other = absurd (false≢true (sym other))
+other-event accepts stage event other = (refl, refl)
 
-pub own-open : (accepts : Accounts) (stage : Stage) (event : FtpEvent) → is_login event ≡ false
-    → is_barred stage event ≡ false
-    → (own_reply accepts stage event ≡ None) × (wanted accepts stage event ≡ First event)
-own-open accepts stage (Command (User name)) other free = absurd (false≢true (sym other))
-own-open accepts stage (Command (Pass password)) other free = absurd (false≢true (sym other))
-own-open accepts stage event other free = (
-  ap (λ test. cond test (Some login_needed) None) free,
-  ap (λ test. cond test NoReply (First event)) free,
-)
+module _ (accepts : Accounts) (stage : Stage) (event : FtpEvent) (other : is_login event ≡ false)
+  where
+    pub decided-barred : is_barred stage event ≡ true
+        → decided accepts stage event ≡ Answers login_needed
+    decided-barred barred = (other-event accepts stage event other).0
+        ∙ ap (λ test. cond test (Answers login_needed) (PassesOn event)) barred
+
+    pub decided-open : is_barred stage event ≡ false
+        → decided accepts stage event ≡ PassesOn event
+    decided-open free = (other-event accepts stage event other).0
+        ∙ ap (λ test. cond test (Answers login_needed) (PassesOn event)) free
 
 pub needs-other : (event : FtpEvent) → IsTrue (needs_login event) → is_login event ≡ false
 needs-other (Command (User name)) needs = absurd (false≢true needs)
 needs-other (Command (Pass password)) needs = absurd (false≢true needs)
 needs-other event needs = refl
-
--- what is neither USER nor PASS asks the accounts nothing
-pub asked-nothing : (asked : List Call) (stage : Stage) (event : FtpEvent)
-    → is_login event ≡ false → asked ≡ asked ++ questions stage event
-asked-nothing asked stage (Command (Pass password)) other = absurd (false≢true (sym other))
-asked-nothing asked (Named name) event other = sym (append-nil asked)
-asked-nothing asked NoName event other = sym (append-nil asked)
-asked-nothing asked LoggedIn event other = sym (append-nil asked)

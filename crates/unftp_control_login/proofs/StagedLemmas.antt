@@ -1,64 +1,38 @@
 -- Handlers that have the accounts and the stage of a gate in their state.
-use Rattle.std.proofs.Common.{◌≡◌, Bool, true, false, cond, ◌||◌, ◌⊎◌, inl, inr, List, [], ◌∷◌, Option, Some, refl, sym, ap, subst, ◌∙◌}
-use Rattle.std.specs.Prelude.{IsSome}
-use Rattle.unftp_control_defs.specs.Bytes.{Bytes}
-use Rattle.unftp_control_defs.specs.FtpCommand.{User, Pass}
-use Rattle.unftp_control_defs.specs.Events.{Fault, FtpEvent, Command, out_of_memory}
-use Rattle.unftp_control_defs.specs.FtpReply.{FtpReply, Nothing}
+use Rattle.std.proofs.Common.{◌≡◌, ℕ, Bool, ◌||◌, inl, inr, List, [], ◌∷◌, ◌++◌, Option, Some, None, refl, sym, ap, subst, ◌∙◌}
+use Rattle.unftp_control_defs.specs.Events.{Fault, FtpEvent, is_quit}
+use Rattle.unftp_control_defs.specs.FtpReply.{FtpReply}
 use Rattle.unftp_control_defs.specs.Run.{SessionLaw, after, last_state, state_after, turn}
 use Rattle.unftp_control_login.specs.declared.stage.Stage.{Stage}
+use Rattle.unftp_control_login.specs.declared.stage.Stage.TheVariants.{NoName}
 use Rattle.unftp_control_login.specs.Login.{Accounts}
-use Rattle.unftp_control_login.specs.HandlerCalls.{Call, MayFailAt, and_makes, state_then}
-use Rattle.unftp_control_login.specs.Gate.{Gated, admitted, gated_law, named, passed_steps, password_reply, stage_after, stage_after_password}
+use Rattle.unftp_control_login.specs.HandlerCalls.{Call, FailsIn, calls_in, makes}
+use Rattle.unftp_control_login.specs.Gate.{Decision, Gated, PassesOn, all_calls_by, calls_by, decided, gated_law, is_passed, reply_by, stage_after, state_by}
 use Rattle.unftp_control_login.specs.LoginLimit.{Limited, is_pass, last_reply, limited_law, limited_steps}
-use Rattle.unftp_control_login.specs.Promises.{gate_calls, handler_calls, limit_calls}
+use Rattle.unftp_control_login.specs.Promises.{gate_calls, guarded, guarded_calls, guarded_law, limit_calls}
 use Rattle.unftp_control_login.proofs.StageLemmas.{stage_after_all}
-use Rattle.unftp_control_login.proofs.LimitStepLemmas.{after-lifted, lifted, limited-lifted}
+use Rattle.unftp_control_login.proofs.LimitStepLemmas.{limited-lifted}
+use Rattle.unftp_control_login.proofs.StepLemmas.{after-lifted, lifted, lifted-lifted}
 
--- What a gate makes of a password: its reply, the stage after it, and the name that it logs in.
-pub record Outcome : Type 0 where
-  pub reply : FtpReply
-  pub stage : Stage
-  pub name : Option Bytes
-
-abbrev pub outcome_of : Accounts → Stage → Bytes → Outcome
-outcome_of accepts stage password = record {
-  reply = password_reply accepts stage password;
-  stage = stage_after_password accepts stage password;
-  name = admitted accepts stage password;
-}
-
--- Gates with these accounts do the same at these events, each at its stage.
-module _ (accepts other : Accounts) where
-  abbrev pub Alike : Stage → Stage → FtpEvent → FtpEvent → Type 0
-  Alike stage other_stage (Command (Pass password)) event = (another : Bytes)
-      × (event ≡ Command (Pass another))
-      × (outcome_of accepts stage password ≡ outcome_of other other_stage another)
-  Alike stage other_stage (Command (User name)) event = (another : Bytes)
-      × (event ≡ Command (User another))
-  Alike stage other_stage event another = (stage ≡ other_stage) × (event ≡ another)
-
-  -- and at all of these, from these stages on
-  abbrev pub AllAlike : Stage → Stage → List FtpEvent → List FtpEvent → Type 0
-  AllAlike stage other_stage [] [] = Unit {0}
-  AllAlike stage other_stage (event ∷ events) (another ∷ others) =
-      Alike stage other_stage event another
-      × AllAlike (stage_after accepts stage event) (stage_after other other_stage another) events
-      others
-  AllAlike stage other_stage events others = ⊥
-
-  pub pass-alike : (stage other_stage : Stage) (event another : FtpEvent)
-      → Alike stage other_stage event another → is_pass another ≡ is_pass event
-  pass-alike stage other_stage (Command (Pass password)) another (word, is, same) =
-      ap is_pass is
-  pass-alike stage other_stage (Command (User name)) another (word, is) = ap is_pass is
-  pass-alike stage other_stage event another both = ap is_pass (sym both.1)
+-- Gates with these accounts, at these stages, decide the same at these events.
+pub record Alike (accepts other : Accounts) (stage other_stage : Stage) (event another : FtpEvent)
+    : Type 0 where
+  pub decision : decided accepts stage event ≡ decided other other_stage another
+  pub pass : is_pass event ≡ is_pass another
+  pub quit : is_quit event ≡ is_quit another
 
 pub alike-itself : (accepts : Accounts) (stage : Stage) (event : FtpEvent)
     → Alike accepts accepts stage stage event event
-alike-itself accepts stage (Command (Pass password)) = (password, refl, refl)
-alike-itself accepts stage (Command (User name)) = (name, refl)
-alike-itself accepts stage event = (refl, refl)
+alike-itself accepts stage event = record { decision = refl; pass = refl; quit = refl }
+
+-- and at all of these, from these stages on
+abbrev pub AllAlike : Accounts → Accounts → Stage → Stage → List FtpEvent → List FtpEvent → Type 0
+AllAlike accepts other stage other_stage [] [] = Unit {0}
+AllAlike accepts other stage other_stage (event ∷ events) (another ∷ others) =
+    Alike accepts other stage other_stage event another
+    × AllAlike accepts other (stage_after accepts stage event)
+    (stage_after other other_stage another) events others
+AllAlike accepts other stage other_stage events others = ⊥
 
 -- A handler that has the accounts and the stage of a gate in its state: what it does, and calls, at
 -- events that are alike. `at` is its state with these accounts at this stage.
@@ -113,79 +87,63 @@ module _ {S : Type 0} (law : SessionLaw S) where
   abbrev pub gate_at : Accounts → Stage → Gated S → Gated S
   gate_at accepts stage s = record s { accepts = accepts; stage = stage }
 
-  passed-lifted : (accepts : Accounts) (stage : Stage) (s : Gated S) (steps : List (FtpReply × S))
-      → passed_steps (gate_at accepts stage s) steps
-      ≡ lifted (gate_at accepts stage) (passed_steps s steps)
-  passed-lifted accepts stage s [] = refl
-  passed-lifted accepts stage s (step ∷ steps) =
-      ap (λ later. (step.0, gate_at accepts stage (record s { inner = step.1 })) ∷ later)
-      (passed-lifted accepts stage s steps)
+  -- all replies to an event of which this is decided, with the states after them
+  abbrev next_by : Accounts → Stage → Gated S → Decision → Bool → Gated S
+  next_by accepts stage s decision quit = record {
+    accepts = accepts;
+    stage = stage;
+    quit = s.quit || quit;
+    passed = is_passed decision;
+    inner = state_by law s.inner decision;
+  }
 
-  module _ (accepts other : Accounts) (stage other_stage : Stage) (s : Gated S) where
-    pub gate-turns : (event another : FtpEvent)
-        → Alike accepts other stage other_stage event another
-        → turn (gated_law law) (gate_at other other_stage s) another
+  abbrev turn_by : Accounts → Stage → Gated S → Decision → Bool → List (FtpReply × Gated S)
+  turn_by accepts stage s decision quit =
+      let n = next_by accepts stage s decision quit in
+      (reply_by law s.inner decision, n) ∷ (gated_law law).more n
+
+  turn-lifted : (accepts : Accounts) (stage : Stage) (s : Gated S) (decision : Decision)
+      (quit : Bool)
+      → turn_by accepts stage s decision quit
+      ≡ lifted (gate_at accepts stage) (turn_by s.accepts s.stage s decision quit)
+  turn-lifted accepts stage s (PassesOn event) quit =
+      ap (λ later. (law.says s.inner event, next_by accepts stage s (PassesOn event) quit) ∷ later)
+      (sym (lifted-lifted (λ inner. record (next_by s.accepts s.stage s (PassesOn event) quit) {
+        inner = inner;
+      }) (gate_at accepts stage) (law.more (law.next s.inner event))))
+  turn-lifted accepts stage s decision quit = refl
+
+  module _ (accepts other : Accounts) (stage other_stage : Stage) (s : Gated S)
+      (event another : FtpEvent) (alike : Alike accepts other stage other_stage event another) where
+    pub gate-turns : turn (gated_law law) (gate_at other other_stage s) another
         ≡ lifted (gate_at other (stage_after other other_stage another))
         (turn (gated_law law) (gate_at accepts stage s) event)
-    gate-turns (Command (Pass password)) another (word, is, same) = rw is
-        (ap (λ (o : Outcome). (
-          o.reply,
-          record {
-            accepts = other;
-            stage = stage_after_password other other_stage word;
-            quit = s.quit || false;
-            passed = false;
-            inner = state_then law s.inner (named o.name);
-          },
-        ) ∷ []) (sym same))
-    gate-turns (Command (User name)) another (word, is) = rw is refl
-    gate-turns event another both =
-        (λ i. turn (gated_law law) (gate_at other (sym both.0 i) s) (sym both.1 i))
-        ∙ ap (λ more. ((gated_law law).says (gate_at other stage s) event, n) ∷ more)
-        (by_passed n.passed)
-        ∙ (λ i. lifted (gate_at other (stage_after other (both.0 i) (both.1 i)))
-        (turn (gated_law law) (gate_at accepts stage s) event))
-      where
-        n : Gated S
-        n = (gated_law law).next (gate_at other stage s) event
+    gate-turns =
+        (λ i. turn_by other (stage_after other other_stage another) s (sym alike.decision i)
+        (sym alike.quit i))
+        ∙ turn-lifted other (stage_after other other_stage another)
+        (gate_at accepts (stage_after accepts stage event) s)
+        (decided accepts stage event) (is_quit event)
 
-        by_passed : (passed : Bool)
-            → cond passed (passed_steps n (law.more n.inner)) []
-            ≡ lifted (gate_at other n.stage) (cond passed (passed_steps
-            ((gated_law law).next (gate_at accepts stage s) event) (law.more n.inner)) [])
-        by_passed true = passed-lifted other n.stage
-            ((gated_law law).next (gate_at accepts stage s) event) (law.more n.inner)
-        by_passed false = refl
-
-    pub gate-called : (event another : FtpEvent)
-        → Alike accepts other stage other_stage event another
-        → gate_calls law (gate_at other other_stage s) another
+    pub gate-called : gate_calls law (gate_at other other_stage s) another
         ≡ gate_calls law (gate_at accepts stage s) event
-    gate-called (Command (Pass password)) another (word, is, same) = rw is
-        (ap (λ (o : Outcome). and_makes (handler_calls law s.inner (named o.name)) (Some o.reply))
-        (sym same))
-    gate-called (Command (User name)) another (word, is) = rw is refl
-    gate-called event another both =
-        λ i. gate_calls law (gate_at other (sym both.0 i) s) (sym both.1 i)
+    gate-called = ap (λ decision. calls_in (all_calls_by law s.inner decision))
+        (sym alike.decision)
 
-    pub gate-says : (event another : FtpEvent) → Alike accepts other stage other_stage event another
-        → (gated_law law).says (gate_at other other_stage s) another
-        ≡ (gated_law law).says (gate_at accepts stage s) event
-    gate-says event another alike = ap first_said (gate-turns event another alike) where
-      first_said : List (FtpReply × Gated S) → FtpReply
-      first_said [] = Nothing
-      first_said (step ∷ steps) = step.0
+    -- the limit's own reply before it
+    pub last-same : (left : ℕ)
+        → last_reply left (is_pass another)
+        (reply_by law s.inner (decided other other_stage another))
+        ≡ last_reply left (is_pass event) (reply_by law s.inner (decided accepts stage event))
+    last-same left =
+        λ i. last_reply left (sym alike.pass i) (reply_by law s.inner (sym alike.decision i))
 
   pub gate-fails : (accepts : Accounts) (stage : Stage) (s : Gated S) (event another : FtpEvent)
       → Alike accepts accepts stage stage event another → (fault : Fault)
       → (gated_law law).may_fail (gate_at accepts stage s) event fault
       → (gated_law law).may_fail (gate_at accepts stage s) another fault
-  gate-fails accepts stage s (Command (Pass password)) another (word, is, same) fault may =
-      rw is (subst (λ (o : Outcome). (IsSome (Some o.reply) × (fault ≡ out_of_memory))
-      ⊎ MayFailAt law s.inner (named o.name) fault) same may)
-  gate-fails accepts stage s (Command (User name)) another (word, is) fault may = rw is may
-  gate-fails accepts stage s event another both fault may =
-      subst (λ event. (gated_law law).may_fail (gate_at accepts stage s) event fault) both.1 may
+  gate-fails accepts stage s event another alike fault may =
+      subst (λ decision. FailsIn law (calls_by law s.inner decision) fault) alike.decision may
 
   abbrev pub gate_staged : Staged (gated_law law)
   gate_staged = record {
@@ -206,14 +164,11 @@ module _ {S : Type 0} (law : SessionLaw S) where
       → (fault : Fault)
       → (limited_law (gated_law law)).may_fail (limit_at accepts stage s) event fault
       → (limited_law (gated_law law)).may_fail (limit_at accepts stage s) another fault
-  limit-fails accepts stage s event another alike fault (inr may) =
-      inr (_, (refl, gate-fails accepts stage s.inner event another alike fault may.1.1))
-  limit-fails accepts stage s event another alike fault (inl last) = inl (
-    subst IsSome (λ i. last_reply s.left
-        (sym (pass-alike accepts accepts stage stage event another alike) i)
-        (sym (gate-says accepts accepts stage stage s.inner event another alike) i)) last.0,
-    last.1,
-  )
+  limit-fails accepts stage s event another alike fault (inl gate) =
+      inl (gate-fails accepts stage s.inner event another alike fault gate)
+  limit-fails accepts stage s event another alike fault (inr last) = inr
+      (subst (λ own. FailsIn (gated_law law) (makes (gate_at accepts stage s.inner) own) fault)
+      (sym (last-same accepts accepts stage stage s.inner event another alike s.left)) last)
 
   abbrev pub limit_staged : Staged (limited_law (gated_law law))
   limit_staged = record {
@@ -221,15 +176,29 @@ module _ {S : Type 0} (law : SessionLaw S) where
     calls = limit_calls law;
     done = λ accepts other stage other_stage s. refl;
     turns = λ accepts other stage other_stage s event another alike.
-        (λ i. limited_steps s.left
-        (pass-alike accepts other stage other_stage event another alike i)
+        (λ i. limited_steps s.left (sym alike.pass i)
         (gate-turns accepts other stage other_stage s.inner event another alike i))
         ∙ limited-lifted (gate_at other (stage_after other other_stage another)) s.left
         (is_pass event)
         (turn (gated_law law) (gate_at accepts stage s.inner) event);
     called = λ accepts other stage other_stage s event another alike.
-        λ i. and_makes (gate-called accepts other stage other_stage s.inner event another alike i)
-        (last_reply s.left (pass-alike accepts other stage other_stage event another alike i)
-        (gate-says accepts other stage other_stage s.inner event another alike i));
+        λ i. gate-called accepts other stage other_stage s.inner event another alike i
+        ++ calls_in (makes s.inner.inner
+        (last-same accepts other stage other_stage s.inner event another alike s.left i));
     may_fail = limit-fails;
   }
+
+  -- both
+  abbrev pub staged : (failures : Option ℕ) → Staged (guarded_law failures law)
+  staged None = gate_staged
+  staged (Some left) = limit_staged
+
+  pub guarded-at : (failures : Option ℕ) (accepts other : Accounts) (inner : S)
+      → guarded failures other inner
+      ≡ (staged failures).at other NoName (guarded failures accepts inner)
+  guarded-at None accepts other inner = refl
+  guarded-at (Some left) accepts other inner = refl
+
+  pub staged-calls : (failures : Option ℕ) → (staged failures).calls ≡ guarded_calls failures law
+  staged-calls None = refl
+  staged-calls (Some left) = refl

@@ -1,14 +1,14 @@
 -- A login gate before a handler: what it answers itself, and what it passes on to the handler.
-use Rattle.std.specs.Prelude.{List, [], ◌∷◌, map, Bool, true, false, if◌then◌else◌, ◌&&◌, ◌||◌, not, Option, Some, None, unwrap_or, codes}
+use Rattle.std.specs.Prelude.{List, [], ◌∷◌, ◌++◌, map, Bool, true, false, if◌then◌else◌, ◌&&◌, ◌||◌, not, Some, codes}
 use Rattle.unftp_control_defs.specs.Bytes.{Bytes}
 use Rattle.unftp_control_defs.specs.FtpCommand.{User, Pass}
 use Rattle.unftp_control_defs.specs.Events.{FtpEvent, Command, is_quit}
 use Rattle.unftp_control_defs.specs.FtpReply.{FtpReply, CodeAndMsg}
-use Rattle.unftp_control_defs.specs.Run.{SessionLaw}
+use Rattle.unftp_control_defs.specs.Run.{SessionLaw, after}
 use Rattle.unftp_control_login.specs.declared.stage.Stage.{Stage}
 use Rattle.unftp_control_login.specs.declared.stage.Stage.TheVariants.{NoName, Named, LoggedIn}
-use Rattle.unftp_control_login.specs.Login.{Accounts, flushes_login, is_login, needs_login}
-use Rattle.unftp_control_login.specs.HandlerCalls.{Asks, Call, Dropped, First, Further, MayFailWith, NoReply, Wanted, state_then}
+use Rattle.unftp_control_login.specs.Login.{Accounts, flushes_login, needs_login}
+use Rattle.unftp_control_login.specs.HandlerCalls.{Asks, AsksFurther, Call, FailsIn, Passes, Plan, makes, tells}
 
 -- its replies (RFC 959, section 5.4)
 abbrev pub password_needed : FtpReply
@@ -30,17 +30,6 @@ abbrev pub is_logged_in : Stage → Bool
 is_logged_in LoggedIn = true
 is_logged_in stage = false
 
--- the name that this password logs in
-abbrev pub admitted : Accounts → Stage → Bytes → Option Bytes
-admitted accepts (Named name) password = if accepts name password then Some name else None
-admitted accepts stage password = None
-
--- what is answered to a password, and where it leaves the login
-abbrev pub password_reply : Accounts → Stage → Bytes → FtpReply
-password_reply accepts (Named name) password =
-    if accepts name password then logged_in else not_accepted
-password_reply accepts stage password = name_needed
-
 abbrev pub stage_after_password : Accounts → Stage → Bytes → Stage
 stage_after_password accepts (Named name) password =
     if accepts name password then LoggedIn else NoName
@@ -55,27 +44,52 @@ stage_after accepts stage event = if flushes_login event then NoName else stage
 abbrev pub is_barred : Stage → FtpEvent → Bool
 is_barred stage event = needs_login event && not (is_logged_in stage)
 
--- what the gate answers itself: None where the reply is the handler's
-abbrev pub own_reply : Accounts → Stage → FtpEvent → Option FtpReply
-own_reply accepts stage (Command (User name)) = Some password_needed
-own_reply accepts stage (Command (Pass password)) = Some (password_reply accepts stage password)
-own_reply accepts stage event = if is_barred stage event then Some login_needed else None
+-- What the gate does with an event: it answers it itself; it logs this name in, of which the
+-- handler learns by USER; or it passes the event on, and all replies to it are the handler's.
+pub data Decision : Type 0 where
+  Answers : FtpReply → Decision
+  LogsIn : Bytes → Decision
+  PassesOn : FtpEvent → Decision
 
--- whether it is passed on: then all its replies are the handler's
-abbrev pub is_passed : Stage → FtpEvent → Bool
-is_passed stage event = not (is_login event) && not (is_barred stage event)
+abbrev pub decided_by_password : Accounts → Stage → Bytes → Decision
+decided_by_password accepts (Named name) password =
+    if accepts name password then LogsIn name else Answers not_accepted
+decided_by_password accepts stage password = Answers name_needed
 
--- who has logged in
-abbrev pub named : Option Bytes → Wanted
-named None = NoReply
-named (Some name) = Dropped (Command (User name))
+abbrev pub decided : Accounts → Stage → FtpEvent → Decision
+decided accepts stage (Command (User name)) = Answers password_needed
+decided accepts stage (Command (Pass password)) = decided_by_password accepts stage password
+decided accepts stage event =
+    if is_barred stage event then Answers login_needed else PassesOn event
 
--- What is wanted of the handler: the first reply to an event that is passed on. Of a login it
--- receives USER, with the name, once the password is accepted; its replies to that are dropped.
-abbrev pub wanted : Accounts → Stage → FtpEvent → Wanted
-wanted accepts stage (Command (User name)) = NoReply
-wanted accepts stage (Command (Pass password)) = named (admitted accepts stage password)
-wanted accepts stage event = if is_barred stage event then NoReply else First event
+abbrev pub is_passed : Decision → Bool
+is_passed (PassesOn event) = true
+is_passed decision = false
+
+-- What follows from a decision, where the handler is in this state.
+module _ {S : Type 0} (law : SessionLaw S) (s : S) where
+  abbrev pub reply_by : Decision → FtpReply
+  reply_by (Answers reply) = reply
+  reply_by (LogsIn name) = logged_in
+  reply_by (PassesOn event) = law.says s event
+
+  -- The handler's state after it: its replies to USER are dropped.
+  abbrev pub state_by : Decision → S
+  state_by (Answers reply) = s
+  state_by (LogsIn name) = after law s (Command (User name))
+  state_by (PassesOn event) = law.next s event
+
+  -- what is called for the first reply
+  abbrev pub calls_by : Decision → Plan S
+  calls_by (Answers reply) = makes s (Some reply)
+  calls_by (LogsIn name) =
+      tells law s (Command (User name)) ++ makes s (Some logged_in)
+  calls_by (PassesOn event) = (Passes event, s) ∷ []
+
+  -- and for all of them
+  abbrev pub all_calls_by : Decision → Plan S
+  all_calls_by (PassesOn event) = tells law s event
+  all_calls_by decision = calls_by decision
 
 -- What the accounts are asked: whether a password that comes after a name is that of the name.
 abbrev pub questions : Stage → FtpEvent → List Call
@@ -95,21 +109,23 @@ pub record Gated (S : Type 0) : Type 0 where
 abbrev pub passed_steps : {S : Type 0} → Gated S → List (FtpReply × S) → List (FtpReply × Gated S)
 passed_steps s steps = map (λ step. (step.0, record s { inner = step.1 })) steps
 
+-- and what is called for the next of them
+abbrev pub further_calls : {S : Type 0} → Gated S → Plan S
+further_calls s = if s.passed then (AsksFurther, s.inner) ∷ [] else []
+
 abbrev pub gated_law : {S : Type 0} → SessionLaw S → SessionLaw (Gated S)
 gated_law law = record {
-  says = λ s event. unwrap_or (own_reply s.accepts s.stage event) (law.says s.inner event);
+  says = λ s event. reply_by law s.inner (decided s.accepts s.stage event);
   next = λ s event. record {
     accepts = s.accepts;
     stage = stage_after s.accepts s.stage event;
     quit = s.quit || is_quit event;
-    passed = is_passed s.stage event;
-    inner = state_then law s.inner (wanted s.accepts s.stage event);
+    passed = is_passed (decided s.accepts s.stage event);
+    inner = state_by law s.inner (decided s.accepts s.stage event);
   };
   more = λ s. if s.passed then passed_steps s (law.more s.inner) else [];
-  may_fail = λ s event fault. MayFailWith law s.inner (wanted s.accepts s.stage event)
-      (own_reply s.accepts s.stage event) fault;
-  may_break = λ s fault.
-      MayFailWith law s.inner (if s.passed then Further else NoReply) None fault;
+  may_fail = λ s event. FailsIn law (calls_by law s.inner (decided s.accepts s.stage event));
+  may_break = λ s. FailsIn law (further_calls s);
   done = λ s. s.quit || law.done s.inner;
 }
 

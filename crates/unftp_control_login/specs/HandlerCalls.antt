@@ -1,10 +1,10 @@
 -- What a gate and a limit call: the accounts, the handler after them, and memory for replies of
 -- their own.
-use Rattle.std.specs.Prelude.{◌≡◌, ℕ, ◌+◌, List, [], ◌∷◌, ◌++◌, map, take, Option, Some, None, IsSome, ◌⊎◌, Result, MatchResult}
+use Rattle.std.specs.Prelude.{◌≡◌, ℕ, ◌+◌, List, [], ◌∷◌, ◌++◌, map, ◌⊎◌, Option, Some, None, Result, MatchResult}
 use Rattle.unftp_control_defs.specs.Bytes.{Bytes}
 use Rattle.unftp_control_defs.specs.Events.{Fault, FtpEvent, out_of_memory}
 use Rattle.unftp_control_defs.specs.FtpReply.{FtpReply}
-use Rattle.unftp_control_defs.specs.Run.{SessionLaw, after, state_after}
+use Rattle.unftp_control_defs.specs.Run.{SessionLaw}
 use Rattle.unftp_control_message.specs.ErrorMeaning.{fault_of}
 use Rattle.unftp_control_message.specs.declared.reply.error.ControlChanError.{ControlChanError}
 
@@ -17,61 +17,40 @@ pub data Call : Type 0 where
   AsksFurther : Call
   Makes : FtpReply → Call
 
--- The handler is asked for each of these replies that follow, and once more: then there is none.
-abbrev pub asks_for : {A : Type 0} → List A → List Call
-asks_for steps = map (λ _. AsksFurther) steps ++ AsksFurther ∷ []
+-- Calls that are to be made one after the other, each with the state of the handler in which it may
+-- fail. A call for memory may fail in any.
+abbrev pub Plan : Type 0 → Type 0
+Plan S = List (Call × S)
 
--- Memory is asked for a reply of one's own, if there is one, after other calls.
-abbrev pub and_makes : List Call → Option FtpReply → List Call
-and_makes calls None = calls
-and_makes calls (Some reply) = calls ++ Makes reply ∷ []
+abbrev pub calls_in : {S : Type 0} → Plan S → List Call
+calls_in plan = map (λ planned. planned.0) plan
 
--- What is wanted of a handler: nothing; its first reply to an event; that it receives an event, of
--- which all replies are dropped; or the next of the replies that follow.
-pub data Wanted : Type 0 where
-  NoReply : Wanted
-  First : FtpEvent → Wanted
-  Dropped : FtpEvent → Wanted
-  Further : Wanted
+-- The handler is asked for the first of these replies that follow, and after each of them once
+-- more: then there is none.
+abbrev pub asks_for : {S : Type 0} → S → List (FtpReply × S) → Plan S
+asks_for s steps = (AsksFurther, s) ∷ map (λ step. (AsksFurther, step.1)) steps
 
--- some of the replies that follow were given, and the next one failed so
-pub record BreaksIn {S : Type 0} (law : SessionLaw S) (s : S) (fault : Fault) : Type 0 where
-  pub given : List (FtpReply × S)
-  pub later : List (FtpReply × S)
-  pub split : law.more s ≡ given ++ later
-  pub breaks : law.may_break (state_after s given) fault
+-- It receives an event, and is asked for all replies that follow.
+abbrev pub tells : {S : Type 0} → SessionLaw S → S → FtpEvent → Plan S
+tells law s event = (Passes event, s) ∷ asks_for (law.next s event) (law.more (law.next s event))
 
-module _ {S : Type 0} (law : SessionLaw S) (s : S) where
-  -- the state after it
-  abbrev pub state_then : Wanted → S
-  state_then NoReply = s
-  state_then (First event) = law.next s event
-  state_then (Dropped event) = after law s event
-  state_then Further = state_after s (take 1 (law.more s))
+-- Memory is asked for a reply of one's own, if there is one.
+abbrev pub makes : {S : Type 0} → S → Option FtpReply → Plan S
+makes s None = []
+makes s (Some reply) = (Makes reply, s) ∷ []
 
-  -- the calls that the handler receives for it
-  abbrev pub calls_to : Wanted → List Call
-  calls_to NoReply = []
-  calls_to (First event) = Passes event ∷ []
-  calls_to (Dropped event) = Passes event ∷ asks_for (law.more (law.next s event))
-  calls_to Further = AsksFurther ∷ []
+-- with which faults a call may fail: that of the handler as its law says, and that of the accounts
+-- with none
+abbrev pub MayFailAt : {S : Type 0} → SessionLaw S → S → Call → Fault → Type 0
+MayFailAt law s (Asks name password) fault = ⊥
+MayFailAt law s (Passes event) fault = law.may_fail s event fault
+MayFailAt law s AsksFurther fault = law.may_break s fault
+MayFailAt law s (Makes reply) fault = fault ≡ out_of_memory
 
-  -- These of them were made, and the last one failed so.
-  abbrev pub FailsAfter : Wanted → List Call → Fault → Type 0
-  FailsAfter NoReply made fault = ⊥
-  FailsAfter (First event) made fault = (made ≡ Passes event ∷ []) × law.may_fail s event fault
-  FailsAfter (Dropped event) made fault =
-      ((made ≡ Passes event ∷ []) × law.may_fail s event fault)
-      ⊎ ((breaks : BreaksIn law (law.next s event) fault)
-      × (made ≡ Passes event ∷ asks_for breaks.given))
-  FailsAfter Further made fault = (made ≡ AsksFurther ∷ []) × law.may_break s fault
-
-  abbrev pub MayFailAt : Wanted → Fault → Type 0
-  MayFailAt wanted fault = (made : List Call) × FailsAfter wanted made fault
-
-  -- or memory runs out for `own`, if it is a reply
-  abbrev pub MayFailWith : Wanted → Option FtpReply → Fault → Type 0
-  MayFailWith wanted own fault = (IsSome own × (fault ≡ out_of_memory)) ⊎ MayFailAt wanted fault
+-- one of the calls may fail so
+abbrev pub FailsIn : {S : Type 0} → SessionLaw S → Plan S → Fault → Type 0
+FailsIn law [] fault = ⊥
+FailsIn law ((call, s) ∷ plan) fault = MayFailAt law s call fault ⊎ FailsIn law plan fault
 
 -- The calls so far, how often memory was refused, and how often the handler has failed.
 pub record CallState : Type 0 where
@@ -79,37 +58,29 @@ pub record CallState : Type 0 where
   pub refused : ℕ
   pub failed : ℕ
 
--- These calls were made, and so many more found no memory, or made the handler fail.
-pub record Called (before after : CallState) (calls : List Call) (refused failed : ℕ) : Type 0 where
-  pub calls_made : after.calls ≡ before.calls ++ calls
-  pub refused_more : after.refused ≡ before.refused + refused
-  pub failed_more : after.failed ≡ before.failed + failed
+-- after one more call, and where it failed
+abbrev pub called : Call → CallState → CallState
+called call state = record state { calls = state.calls ++ call ∷ [] }
 
--- At a call this is wanted of the handler, and then memory is asked for `own`, if it is a reply.
-module _ {S : Type 0} (law : SessionLaw S) (s : S) (wanted : Wanted) (own : Option FtpReply)
-    (before after : CallState) where
-  -- Each of these calls once, and none failed.
-  abbrev pub AllCalled : Type 0
-  AllCalled = Called before after (and_makes (calls_to law s wanted) own) 0 0
+abbrev pub failed_at : Call → CallState → CallState
+failed_at (Makes reply) state = record state { refused = state.refused + 1 }
+failed_at call state = record state { failed = state.failed + 1 }
 
-  -- The handler failed so, and nothing was called after it.
-  abbrev pub HandlerFailed : Fault → Type 0
-  HandlerFailed fault = (made : List Call) × FailsAfter law s wanted made fault
-      × Called before after made 0 1
+-- Each of these calls was made once, and none failed.
+abbrev pub AllCalled : {S : Type 0} → Plan S → CallState → CallState → Type 0
+AllCalled [] before after = after ≡ before
+AllCalled ((call, s) ∷ plan) before after = AllCalled plan (called call before) after
 
-  -- It didn't, and memory for the reply was refused.
-  abbrev pub ReplyRefused : Fault → Type 0
-  ReplyRefused fault = IsSome own × (fault ≡ out_of_memory)
-      × Called before after (and_makes (calls_to law s wanted) own) 1 0
+-- One of them failed so, and none after it was made.
+abbrev pub FailedCall : {S : Type 0} → SessionLaw S → Plan S → CallState → CallState → Fault
+    → Type 0
+FailedCall law [] before after fault = ⊥
+FailedCall law ((call, s) ∷ plan) before after fault =
+    (MayFailAt law s call fault × (after ≡ failed_at call (called call before)))
+    ⊎ FailedCall law plan (called call before) after fault
 
-  -- what was called, by the result
-  pub record CallsMade {T : Type 0} (result : Result T ControlChanError) : Type 0 where
-    pub made : MatchResult result (λ _. AllCalled)
-        (λ error. HandlerFailed (fault_of error) ⊎ ReplyRefused (fault_of error))
-
--- Memory was asked for this reply, if it is one, and an error comes only where it was refused.
-pub record OwnMade {T : Type 0} (own : Option FtpReply) (before after : CallState)
+-- which of the two, by the result
+pub record CallsMade {S T : Type 0} (law : SessionLaw S) (plan : Plan S) (before after : CallState)
     (result : Result T ControlChanError) : Type 0 where
-  pub made : MatchResult result (λ _. Called before after (and_makes [] own) 0 0)
-      (λ error. IsSome own × (fault_of error ≡ out_of_memory)
-      × Called before after (and_makes [] own) 1 0)
+  pub made : MatchResult result (λ _. AllCalled plan before after)
+      (λ error. FailedCall law plan before after (fault_of error))

@@ -5,7 +5,7 @@ use Rattle.unftp_control_defs.specs.Events.{FtpEvent, Command}
 use Rattle.unftp_control_defs.specs.FtpReply.{FtpReply, CodeAndMsg, is_positive}
 use Rattle.unftp_control_defs.specs.Run.{SessionLaw, ends, replies, run_of, replies_by_event}
 use Rattle.unftp_control_defs.specs.Turns.{is_preliminary_reply}
-use Rattle.unftp_control_login.specs.HandlerCalls.{First, Further, MayFailWith, NoReply}
+use Rattle.unftp_control_login.specs.HandlerCalls.{AsksFurther, FailsIn, Passes, Plan, makes}
 
 abbrev pub is_pass : FtpEvent → Bool
 is_pass (Command (Pass password)) = true
@@ -83,10 +83,20 @@ limited_steps left at_pass (step ∷ steps) =
     (limited_reply left at_pass step.0, s)
     ∷ (if s.ended then [] else limited_steps s.left s.at_pass steps)
 
--- the limit's own reply in place of the next of the handler's, if there is one
-abbrev pub last_of : {S : Type 0} → ℕ → Bool → List (FtpReply × S) → Option FtpReply
-last_of left at_pass [] = None
-last_of left at_pass (step ∷ steps) = last_reply left at_pass step.0
+-- What it calls at an event, and for the next reply. Its own reply is in place of one of the
+-- handler, if that is the last one.
+module _ {S : Type 0} (law : SessionLaw S) (s : Limited S) where
+  abbrev pub calls_at : FtpEvent → Plan S
+  calls_at event = (Passes event, s.inner) ∷ makes s.inner
+      (last_reply s.left (is_pass event) (law.says s.inner event))
+
+  abbrev pub own_next : List (FtpReply × S) → Plan S
+  own_next [] = []
+  own_next (step ∷ steps) = makes s.inner (last_reply s.left s.at_pass step.0)
+
+  abbrev pub next_calls : Plan S
+  next_calls =
+      if s.ended then [] else (AsksFurther, s.inner) ∷ own_next (law.more s.inner)
 
 abbrev pub limited_law : {S : Type 0} → SessionLaw S → SessionLaw (Limited S)
 limited_law law = record {
@@ -94,10 +104,8 @@ limited_law law = record {
   next = λ s event. limited_state s.left (is_pass event) (law.says s.inner event)
       (law.next s.inner event);
   more = λ s. if s.ended then [] else limited_steps s.left s.at_pass (law.more s.inner);
-  may_fail = λ s event fault. MayFailWith law s.inner (First event)
-      (last_reply s.left (is_pass event) (law.says s.inner event)) fault;
-  may_break = λ s fault. MayFailWith law s.inner (if s.ended then NoReply else Further)
-      (if s.ended then None else last_of s.left s.at_pass (law.more s.inner)) fault;
+  may_fail = λ s event. FailsIn law (calls_at law s event);
+  may_break = λ s. FailsIn law (next_calls law s);
   done = λ s. (s.left == 0) || law.done s.inner;
 }
 

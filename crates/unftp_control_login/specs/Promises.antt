@@ -1,5 +1,5 @@
 -- What a login gate promises of all inputs.
-use Rattle.std.specs.Prelude.{◌≡◌, ℕ, ◌<◌, ⊤, ◌⊎◌, false, IsTrue, length, take, List, [], ◌∷◌, ◌++◌, Option}
+use Rattle.std.specs.Prelude.{◌≡◌, ℕ, ◌<◌, ⊤, ◌⊎◌, false, IsTrue, length, take, List, [], ◌∷◌, ◌++◌, Option, None, Some}
 use Rattle.std.specs.List.{AllByRecursion}
 use Rattle.std.specs.Option.{IfSome}
 use Rattle.unftp_control_defs.specs.Bytes.{Bytes, LF, Lacks}
@@ -14,9 +14,9 @@ use Rattle.unftp_control_defs.specs.Turns.{GivesExchanges, SaysOnly, cut_reads}
 use Rattle.unftp_control_serve.specs.Endings.{Snapshot, RunFailed}
 use Rattle.unftp_control_serve.specs.declared.error.ServeError.{ServeError}
 use Rattle.unftp_control_login.specs.Login.{Accounts, GaveName, IsLoggedIn, needs_login}
-use Rattle.unftp_control_login.specs.HandlerCalls.{Call, Dropped, First, Further, NoReply, Passes, Wanted, and_makes, asks_for}
-use Rattle.unftp_control_login.specs.Gate.{Gated, closed, gated_law, login_needed, own_reply, wanted}
-use Rattle.unftp_control_login.specs.LoginLimit.{Limited, is_pass, last_reply}
+use Rattle.unftp_control_login.specs.HandlerCalls.{Call, calls_in, makes}
+use Rattle.unftp_control_login.specs.Gate.{Gated, all_calls_by, closed, decided, gated_law, login_needed}
+use Rattle.unftp_control_login.specs.LoginLimit.{Limited, is_pass, last_reply, limited_law, limited_to}
 
 -- The event after these has one reply, which is 530, and the handler doesn't receive it.
 abbrev pub IsTurnedAway : {S : Type 0} → SessionLaw S → Accounts → S → List FtpEvent → FtpEvent
@@ -121,24 +121,35 @@ FailsAlike {S = S} limit law s input other =
     → RunFailed limit law before input after error done
     → (others : List FtpEvent) × RunFailed limit law before other after error others
 
--- What a handler is called for at an event of which this is wanted: it receives it, and is asked
--- for each reply that follows.
-abbrev pub handler_calls : {S : Type 0} → SessionLaw S → S → Wanted → List Call
-handler_calls law s (First event) = Passes event ∷ asks_for (law.more (law.next s event))
-handler_calls law s (Dropped event) = Passes event ∷ asks_for (law.more (law.next s event))
-handler_calls law s NoReply = []
-handler_calls law s Further = []
-
--- What a gate calls at an event, beside the accounts.
+-- what a gate calls at an event, beside the accounts
 abbrev pub gate_calls : {S : Type 0} → SessionLaw S → Gated S → FtpEvent → List Call
 gate_calls law s event =
-    and_makes (handler_calls law s.inner (wanted s.accepts s.stage event))
-    (own_reply s.accepts s.stage event)
+    calls_in (all_calls_by law s.inner (decided s.accepts s.stage event))
 
 -- What a gate and the limit before it call: a PASS has one reply of the gate.
 abbrev pub limit_calls : {S : Type 0} → SessionLaw S → Limited (Gated S) → FtpEvent → List Call
-limit_calls law s event = and_makes (gate_calls law s.inner event)
-    (last_reply s.left (is_pass event) ((gated_law law).says s.inner event))
+limit_calls law s event = gate_calls law s.inner event ++ calls_in (makes s.inner.inner
+    (last_reply s.left (is_pass event) ((gated_law law).says s.inner event)))
+
+-- A gate, and before it a limit on the logins that may fail, if there is one.
+abbrev pub Guarded : Option ℕ → Type 0 → Type 0
+Guarded None S = Gated S
+Guarded (Some left) S = Limited (Gated S)
+
+abbrev pub guarded_law : {S : Type 0} → (failures : Option ℕ) → SessionLaw S
+    → SessionLaw (Guarded failures S)
+guarded_law None law = gated_law law
+guarded_law (Some left) law = limited_law (gated_law law)
+
+abbrev pub guarded_calls : {S : Type 0} → (failures : Option ℕ) → SessionLaw S
+    → Guarded failures S → FtpEvent → List Call
+guarded_calls None law = gate_calls law
+guarded_calls (Some left) law = limit_calls law
+
+-- before the first event
+abbrev pub guarded : {S : Type 0} → (failures : Option ℕ) → Accounts → S → Guarded failures S
+guarded None accepts inner = closed accepts inner
+guarded (Some left) accepts inner = limited_to left (closed accepts inner)
 
 -- what is called in the run over an input, event for event
 abbrev pub calls_for : {S : Type 0} → Option ℕ → (S → FtpEvent → List Call) → SessionLaw S → S
@@ -147,15 +158,15 @@ calls_for limit calls law s input = at_each calls law s (run_for limit law s inp
 
 -- Both answer alike to what the event after these may ask: whether a password is that of the name
 -- that was given before it.
-abbrev pub AnswersAlike : Accounts → Accounts → List FtpEvent → FtpEvent → Type 0
-AnswersAlike accepts other before (Command (Pass password)) =
+abbrev pub AgreeOn : Accounts → Accounts → List FtpEvent → FtpEvent → Type 0
+AgreeOn accepts other before (Command (Pass password)) =
     (name : Bytes) → GaveName name before → accepts name password ≡ other name password
-AnswersAlike accepts other before event = ⊤
+AgreeOn accepts other before event = ⊤
 
 -- to all that these events may ask
-abbrev pub AnswerAlike : Accounts → Accounts → List FtpEvent → Type 0
-AnswerAlike accepts other events =
-    AtEachPlace (λ before event _. AnswersAlike accepts other before event) [] events events
+abbrev pub AgreeOnAll : Accounts → Accounts → List FtpEvent → Type 0
+AgreeOnAll accepts other events =
+    AtEachPlace (λ before event _. AgreeOn accepts other before event) [] events events
 
 -- the line is within the limit
 abbrev pub Fits : Option ℕ → Bytes → Type 0
@@ -219,6 +230,6 @@ module _ {S : Type 0} (limit : Option ℕ) (accepts : Accounts) (law : SessionLa
 abbrev pub AccountsStayHidden : {S : Type 0} → Option ℕ → Accounts → Accounts
     → (S → FtpEvent → List Call) → SessionLaw S → S → S → Type 0
 AccountsStayHidden limit accepts other calls law s t = (input : Bytes)
-    → AnswerAlike accepts other (events limit input)
+    → AgreeOnAll accepts other (events limit input)
     → (text_for limit law s input ≡ text_for limit law t input)
     × (calls_for limit calls law s input ≡ calls_for limit calls law t input)

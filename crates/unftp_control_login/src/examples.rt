@@ -12,10 +12,10 @@ ghost use Rattle.unftp_control_defs.specs.declared.parameters.ProtParam.TheVaria
 ghost use Rattle.unftp_control_defs.specs.declared.parameters.StruParam.TheVariants.{File};
 ghost use Rattle.unftp_control_login.specs.Login.{GaveName, HasLoggedIn, IsLoggedIn, flushes_login, needs_login};
 ghost use Rattle.unftp_control_login.specs.declared.stage.Stage.TheVariants.{LoggedIn, Named, NoName};
-ghost use Rattle.unftp_control_login.specs.HandlerCalls.{AllCalled, Asks, AsksFurther, Dropped, First, HandlerFailed, Makes, NoReply, Passes, ReplyRefused};
-ghost use Rattle.unftp_control_login.specs.Gate.{closed, gated_law, logged_in, login_needed, name_needed, not_accepted, password_needed, questions};
+ghost use Rattle.unftp_control_login.specs.HandlerCalls.{AllCalled, Asks, AsksFurther, FailedCall, Makes, Passes, tells};
+ghost use Rattle.unftp_control_login.specs.Gate.{Answers, LogsIn, PassesOn, calls_by, closed, gated_law, logged_in, login_needed, name_needed, not_accepted, password_needed, questions};
 ghost use Rattle.unftp_control_login.specs.LoginLimit.{EndsWith, failed_in_run, limited_law, limited_to, too_many};
-ghost use Rattle.unftp_control_login.specs.Promises.{AllLookAlike, AnswerAlike, DifferInPasswords, PasswordFits, FailsAlike, IsRefusedLogin, IsSentPlain, IsTurnedAway, LearnsName, LooksAlike, MembersAlone, NoFailure, ReachesHandler, SendsPlainExchanges, ServesMembersAlone, gate_calls, limit_calls};
+ghost use Rattle.unftp_control_login.specs.Promises.{AgreeOnAll, AllLookAlike, DifferInPasswords, FailsAlike, IsRefusedLogin, IsSentPlain, IsTurnedAway, LearnsName, LooksAlike, MembersAlone, NoFailure, PasswordFits, ReachesHandler, SendsPlainExchanges, ServesMembersAlone, gate_calls, limit_calls};
 ghost use Rattle.unftp_control_login.specs.Examples.{anna, anna_and_ben, ben, counting, here, login, only_anna, opened, pass, refusing, secret, silent, so_far, transferring, user, wrong};
 
 /// Which events need a login, and which undo one.
@@ -104,27 +104,27 @@ pub fn calls_are_made()
 
 /// Accounts that give one session: those that differ only in another user's password.
 pub fn accounts_answer_alike()
-    ensures alike { AnswerAlike only_anna anna_and_ben (user anna ∷ pass wrong ∷ []) }
-    ensures asked { AnswerAlike only_anna anna_and_ben (user ben ∷ pass wrong ∷ []) → ⊥ }
+    ensures alike { AgreeOnAll only_anna anna_and_ben (user anna ∷ pass wrong ∷ []) }
+    ensures asked { AgreeOnAll only_anna anna_and_ben (user ben ∷ pass wrong ∷ []) → ⊥ }
 {}
 
 /// Why a call fails: the handler failed, and nothing was called after it; or memory was refused.
 pub fn calls_fail()
-    ensures called { AllCalled counting 0 (First (Command Noop)) (Some here) (so_far [] 0 0)
-        (so_far (Passes (Command Noop) ∷ Makes here ∷ []) 0 0) }
-    ensures twice { AllCalled counting 0 (First (Command Noop)) None (so_far [] 0 0)
+    ensures called { AllCalled (calls_by counting 0 (LogsIn anna)) (so_far [] 0 0)
+        (so_far (Passes (user anna) ∷ AsksFurther ∷ Makes logged_in ∷ []) 0 0) }
+    ensures twice { AllCalled (calls_by counting 0 (PassesOn (Command Noop))) (so_far [] 0 0)
         (so_far (Passes (Command Noop) ∷ Passes (Command Noop) ∷ []) 0 0) → ⊥ }
-    ensures dropped { AllCalled transferring [] (Dropped (Command Noop)) None (so_far [] 0 0)
+    ensures dropped { AllCalled (tells transferring [] (Command Noop)) (so_far [] 0 0)
         (so_far (Passes (Command Noop) ∷ AsksFurther ∷ AsksFurther ∷ []) 0 0) }
-    ensures not_dropped { AllCalled transferring [] (Dropped (Command Noop)) None (so_far [] 0 0)
+    ensures not_dropped { AllCalled (tells transferring [] (Command Noop)) (so_far [] 0 0)
         (so_far (Passes (Command Noop) ∷ AsksFurther ∷ []) 0 0) → ⊥ }
-    ensures failed { HandlerFailed counting 0 (First (Command Noop)) (Some here) (so_far [] 0 0)
-        (so_far (Passes (Command Noop) ∷ []) 0 1) out_of_memory }
-    ensures went_on { HandlerFailed counting 0 (First (Command Noop)) (Some here) (so_far [] 0 0)
-        (so_far (Passes (Command Noop) ∷ Makes here ∷ []) 0 1) out_of_memory → ⊥ }
-    ensures refused { ReplyRefused counting 0 NoReply (Some here) (so_far [] 0 0)
+    ensures failed { FailedCall counting (calls_by counting 0 (LogsIn anna)) (so_far [] 0 0)
+        (so_far (Passes (user anna) ∷ []) 0 1) out_of_memory }
+    ensures went_on { FailedCall counting (calls_by counting 0 (LogsIn anna)) (so_far [] 0 0)
+        (so_far (Passes (user anna) ∷ Makes logged_in ∷ []) 0 1) out_of_memory → ⊥ }
+    ensures refused { FailedCall counting (calls_by counting 0 (Answers here)) (so_far [] 0 0)
         (so_far (Makes here ∷ []) 1 0) out_of_memory }
-    ensures not_refused { ReplyRefused counting 0 NoReply (Some here) (so_far [] 0 0)
+    ensures not_refused { FailedCall counting (calls_by counting 0 (Answers here)) (so_far [] 0 0)
         (so_far (Makes here ∷ []) 0 0) out_of_memory → ⊥ }
 {}
 

@@ -1,17 +1,18 @@
 //! A login gate before a handler.
-ghost use Rattle.std.specs.Prelude.{◌≡◌, ◌+◌, ◌<◌, ◌++◌, ◌||◌, if◌then◌else◌, true, false, is_ok, [], List, None, Some, IfOk, IfErr, IfSome, IsTrue, OnOk, OnErr};
+ghost use Rattle.std.specs.Prelude.{◌≡◌, ◌+◌, ◌<◌, ◌++◌, ◌∷◌, ◌||◌, if◌then◌else◌, true, false, is_ok, [], List, None, Some, IfOk, IfErr, IfSome, IsTrue, OnOk, OnErr};
 ghost use Rattle.unftp_control_defs.specs.Events.{is_quit};
 ghost use Rattle.unftp_control_defs.specs.Events as event;
 ghost use Rattle.unftp_control_defs.specs.FtpCommand.{Pass, User};
+ghost use Rattle.unftp_control_defs.specs.FtpReply.{CodeAndMsg};
 ghost use Rattle.unftp_control_defs.specs.Run.{Follows, after};
 ghost use Rattle.unftp_control_message.specs.ErrorMeaning.{fault_of};
 ghost use Rattle.unftp_control_serve.specs.EventMeaning.{event_meant, further_of};
 ghost use Rattle.unftp_control_serve.specs.Writing.{Begins};
-ghost use Rattle.unftp_control_message.specs.ReplyMeaning.{reply_of};
+ghost use Rattle.unftp_control_message.specs.ReplyMeaning.{number_of, reply_of};
 ghost use Rattle.unftp_control_login.specs.Login.{flushes_login, is_login, needs_login};
-ghost use Rattle.unftp_control_login.specs.HandlerCalls.{CallsMade, Dropped, First};
+ghost use Rattle.unftp_control_login.specs.HandlerCalls.{CallsMade, Passes};
 ghost use Rattle.unftp_control_login.specs.CallsOf.{calls_of};
-ghost use Rattle.unftp_control_login.specs.Gate.{Gated, gated_law, is_barred, is_logged_in, logged_in, password_reply, questions};
+ghost use Rattle.unftp_control_login.specs.Gate.{Answers, Decision, Gated, LogsIn, calls_by, gated_law, is_barred, is_logged_in, logged_in, questions};
 ghost use Rattle.unftp_control_login.specs.GateState.{GateAsked, GateCalled, gated};
 
 use crate::accounts::Accounts;
@@ -70,11 +71,34 @@ impl<A: Accounts, H: Session> Gate<A, H> {
         }
     }
 
+    /// Answers an event itself.
+    fn answer(
+        &mut self,
+        alloc: Global,
+        code: ReplyCode,
+        text: &str,
+    ) -> Result<Reply, ControlChanError>
+        ensures says { IfOk result (λ reply.
+            reply_of reply ≡ CodeAndMsg (number_of code) text.now) }
+        ensures handler { self.new.inner.handler ≡ self.old.inner.handler }
+        ensures calls { (said : List H.Said) (decision : Decision)
+            → decision ≡ Answers (CodeAndMsg (number_of code) text.now) → CallsMade (H.law said)
+            (calls_by (H.law said) (H.state self.old.inner.handler) decision)
+            (calls_of H.failures self.old.inner) (calls_of H.failures self.new.inner) result }
+        ensures kept { (self.new.accounts ≡ self.old.accounts)
+            × (self.new.stage ≡ self.old.stage) × (self.new.quit ≡ self.old.quit)
+            × (self.new.passed ≡ self.old.passed) }
+    {
+        self.inner.own_reply(alloc, code, text)
+    }
+
     /// Takes a password for the name that was given.
     fn take_password(&mut self, alloc: Global, password: &[u8]) -> Result<Reply, ControlChanError>
         ensures heard { Begins (H.heard self.new.inner.handler) (H.heard self.old.inner.handler) }
-        ensures says { IfOk result (λ reply. reply_of reply
-            ≡ password_reply (A.accepts self.old.accounts.accounts) self.old.stage password.now) }
+        ensures says { IfOk result (λ reply. (said : List H.Said)
+            → Begins said (H.heard self.new.inner.handler) → reply_of reply
+            ≡ (gated_law (H.law said)).says (gated A.accepts H.state self.old)
+            (event.Command (Pass password.now))) }
         ensures next { OnOk result ((said : List H.Said)
             → Begins said (H.heard self.new.inner.handler) → gated A.accepts H.state self.new
             ≡ (gated_law (H.law said)).next (gated A.accepts H.state self.old)
@@ -92,15 +116,11 @@ impl<A: Accounts, H: Session> Gate<A, H> {
             Stage::Named(name) => name,
             other => {
                 self.stage = other;
-                return self
-                    .inner
-                    .own_reply(alloc, ReplyCode::BadCommandSequence, "Send USER first");
+                return self.answer(alloc, ReplyCode::BadCommandSequence, "Send USER first");
             }
         };
         if !self.accounts.ask(username.as_slice(), password) {
-            return self
-                .inner
-                .own_reply(alloc, ReplyCode::NotLoggedIn, "Login incorrect");
+            return self.answer(alloc, ReplyCode::NotLoggedIn, "Login incorrect");
         }
         self.admit(alloc, username)
     }
@@ -114,8 +134,8 @@ impl<A: Accounts, H: Session> Gate<A, H> {
             ≡ after (H.law said) (H.state self.old.inner.handler)
             (event.Command (User username))) }
         ensures calls { (said : List H.Said) → Begins said (H.heard self.new.inner.handler)
-            → CallsMade (H.law said) (H.state self.old.inner.handler)
-            (Dropped (event.Command (User username))) (Some logged_in)
+            → CallsMade (H.law said)
+            (calls_by (H.law said) (H.state self.old.inner.handler) (LogsIn username))
             (calls_of H.failures self.old.inner) (calls_of H.failures self.new.inner) result }
         ensures stage { self.new.stage
             ≡ (if is_ok result then Stage.LoggedIn else self.old.stage) }
@@ -163,9 +183,7 @@ impl<A: Accounts, H: Session> Gate<A, H> {
         if self.bars(&event) {
             drop(event);
             self.passed = false;
-            return self
-                .inner
-                .own_reply(alloc, ReplyCode::NotLoggedIn, "Log in with USER and PASS");
+            return self.answer(alloc, ReplyCode::NotLoggedIn, "Log in with USER and PASS");
         }
         self.pass_on(alloc, event)
     }
@@ -181,8 +199,8 @@ impl<A: Accounts, H: Session> Gate<A, H> {
             → Begins said (H.heard self.new.inner.handler) → H.state self.new.inner.handler
             ≡ (H.law said).next (H.state self.old.inner.handler) (event_meant event)) }
         ensures calls { (said : List H.Said) → Begins said (H.heard self.new.inner.handler)
-            → CallsMade (H.law said) (H.state self.old.inner.handler)
-            (First (event_meant event)) None
+            → CallsMade (H.law said)
+            ((Passes (event_meant event), H.state self.old.inner.handler) ∷ [])
             (calls_of H.failures self.old.inner) (calls_of H.failures self.new.inner) result }
         ensures stage { self.new.stage
             ≡ (if flushes_login (event_meant event) then Stage.NoName else self.old.stage) }
@@ -251,7 +269,7 @@ impl<A: Accounts, H: Session> Session for Gate<A, H> {
             Event::Command(Command::User { username }) => {
                 self.passed = false;
                 self.stage = Stage::Named(username);
-                self.inner.own_reply(
+                self.answer(
                     alloc,
                     ReplyCode::NeedPassword,
                     "User name okay, need password",

@@ -1,13 +1,13 @@
 //! The one way by which the handler after another one is called, and by which that other one asks
 //! memory for a reply.
-ghost use Rattle.std.specs.Prelude.{◌≡◌, ◌<◌, [], List, None, Some, IfOk, IfSome, OnOk};
+ghost use Rattle.std.specs.Prelude.{◌≡◌, ◌<◌, ◌∷◌, [], List, None, Some, IfOk, IfSome, OnOk};
 ghost use Rattle.unftp_control_defs.specs.FtpReply.{CodeAndMsg};
-ghost use Rattle.unftp_control_defs.specs.Run.{Follows, after};
+ghost use Rattle.unftp_control_defs.specs.Run.{Follows, after, state_after};
 ghost use Rattle.unftp_control_message.specs.ReplyMeaning.{number_of, reply_of};
 ghost use Rattle.unftp_control_serve.specs.EventMeaning.{event_meant, further_of};
 ghost use Rattle.unftp_control_serve.specs.Writing.{Begins};
-ghost use Rattle.unftp_control_login.specs.HandlerCalls.{CallsMade, Dropped, First, Further, OwnMade};
-ghost use Rattle.unftp_control_login.specs.CallsOf.{DrainsAll, calls_of};
+ghost use Rattle.unftp_control_login.specs.HandlerCalls.{AsksFurther, CallsMade, Passes, asks_for, makes, tells};
+ghost use Rattle.unftp_control_login.specs.CallsOf.{calls_of};
 
 use crate::calls::{Calls, Note};
 use std::alloc::Global;
@@ -51,7 +51,7 @@ impl<H: Session> Inner<H> {
             → Begins said (H.heard self.new.handler) → H.state self.new.handler
             ≡ (H.law said).next (H.state self.old.handler) (event_meant event)) }
         ensures calls { (said : List H.Said) → Begins said (H.heard self.new.handler)
-            → CallsMade (H.law said) (H.state self.old.handler) (First (event_meant event)) None
+            → CallsMade (H.law said) ((Passes (event_meant event), H.state self.old.handler) ∷ [])
             (calls_of H.failures self.old) (calls_of H.failures self.new) result }
     {
         self.calls.push(&Note::Passes(&event));
@@ -67,7 +67,7 @@ impl<H: Session> Inner<H> {
         ensures fewer { IfOk result (λ reply. IfSome reply (λ _.
             H.left (H.state self.new.handler) < H.left (H.state self.old.handler))) }
         ensures calls { (said : List H.Said) → Begins said (H.heard self.new.handler)
-            → CallsMade (H.law said) (H.state self.old.handler) Further None
+            → CallsMade (H.law said) ((AsksFurther, H.state self.old.handler) ∷ [])
             (calls_of H.failures self.old) (calls_of H.failures self.new) result }
     {
         self.calls.push(&Note::AsksFurther);
@@ -81,7 +81,8 @@ impl<H: Session> Inner<H> {
             → Begins said (H.heard self.new.handler) → H.state self.new.handler
             ≡ after (H.law said) (H.state self.old.handler) (event_meant event)) }
         ensures calls { (said : List H.Said) → Begins said (H.heard self.new.handler)
-            → CallsMade (H.law said) (H.state self.old.handler) (Dropped (event_meant event)) None
+            → CallsMade (H.law said)
+            (tells (H.law said) (H.state self.old.handler) (event_meant event))
             (calls_of H.failures self.old) (calls_of H.failures self.new) result }
     {
         drop(self.pass_on(alloc, event)?);
@@ -91,8 +92,13 @@ impl<H: Session> Inner<H> {
     /// Takes all replies that follow, and drops them.
     fn drain(&mut self, alloc: Global) -> Result<(), ControlChanError>
         ensures heard { Begins (H.heard self.new.handler) (H.heard self.old.handler) }
-        ensures drains { (said : List H.Said) → Begins said (H.heard self.new.handler)
-            → DrainsAll (H.law said) (H.state self.old.handler) (H.state self.new.handler)
+        ensures next { OnOk result ((said : List H.Said)
+            → Begins said (H.heard self.new.handler) → H.state self.new.handler
+            ≡ state_after (H.state self.old.handler)
+            ((H.law said).more (H.state self.old.handler))) }
+        ensures calls { (said : List H.Said) → Begins said (H.heard self.new.handler)
+            → CallsMade (H.law said) (asks_for (H.state self.old.handler)
+            ((H.law said).more (H.state self.old.handler)))
             (calls_of H.failures self.old) (calls_of H.failures self.new) result }
     {
         while let Some(reply) = self.further(alloc)? {
@@ -111,7 +117,8 @@ impl<H: Session> Inner<H> {
         ensures says { IfOk result (λ reply.
             reply_of reply ≡ CodeAndMsg (number_of code) text.now) }
         ensures handler { self.new.handler ≡ self.old.handler }
-        ensures made { OwnMade (Some (CodeAndMsg (number_of code) text.now))
+        ensures calls { (said : List H.Said) (s : H.State) → CallsMade (H.law said)
+            (makes s (Some (CodeAndMsg (number_of code) text.now)))
             (calls_of H.failures self.old) (calls_of H.failures self.new) result }
     {
         self.calls.push(&Note::Makes { code, text });

@@ -6,9 +6,9 @@ ghost use Rattle.unftp_control_defs.specs.Events.{FtpEvent, Command};
 ghost use Rattle.unftp_control_defs.specs.FtpCommand.{Quit};
 ghost use Rattle.unftp_control_defs.specs.Run.{after, replies_to, text_for};
 ghost use Rattle.unftp_control_login.specs.Login.{Accounts, GaveName, IsLoggedIn, is_login, needs_login};
-ghost use Rattle.unftp_control_login.specs.Gate.{Gated, closed, gated_law};
-ghost use Rattle.unftp_control_login.specs.LoginLimit.{EndsWith, Limited, failed_in_run, is_failed_login, limited_law, limited_to, too_many};
-ghost use Rattle.unftp_control_login.specs.Promises.{AccountsStayHidden, CallsHidePasswords, ErrorsHidePasswords, IsTurnedAway, LearnsName, MembersAlone, PasswordsStayHidden, ReachesHandler, RefusedLoginsLookAlike, RefusedPasswordsLookAlike, SendsPlainExchanges, ServesMembersAlone, gate_calls, limit_calls};
+ghost use Rattle.unftp_control_login.specs.Gate.{Gated, gated_law};
+ghost use Rattle.unftp_control_login.specs.LoginLimit.{EndsWith, Limited, failed_in_run, is_failed_login, limited_law, too_many};
+ghost use Rattle.unftp_control_login.specs.Promises.{AccountsStayHidden, CallsHidePasswords, ErrorsHidePasswords, IsTurnedAway, LearnsName, MembersAlone, PasswordsStayHidden, ReachesHandler, RefusedLoginsLookAlike, RefusedPasswordsLookAlike, SendsPlainExchanges, ServesMembersAlone, guarded, guarded_calls, guarded_law};
 
 use unftp_control_serve::Session;
 
@@ -42,37 +42,28 @@ pub fn members_reach_the_handler<H: Session>()
 /// reply that reports no failure comes only after a login. With a limit before the gate, it stays
 /// so.
 pub fn members_alone_are_served<H: Session>()
-    ensures gate { (said : List H.Said) (accepts : Accounts) (inner : H.State)
-        → ServesMembersAlone accepts (gated_law (H.law said)) (closed accepts inner) }
-    ensures limit { (said : List H.Said) (accepts : Accounts) (left : ℕ) (inner : H.State)
-        → ServesMembersAlone accepts (limited_law (gated_law (H.law said)))
-        (limited_to left (closed accepts inner)) }
+    ensures { (said : List H.Said) (accepts : Accounts) (failures : Option ℕ) (inner : H.State)
+        → ServesMembersAlone accepts (guarded_law failures (H.law said))
+        (guarded failures accepts inner) }
 {}
 
 /// In bytes, of a handler that gives each event preliminary replies and then a final one, all sent
 /// and plain: whatever the input, a reply in the output that reports no failure, among those to a
 /// command that needs a login, comes only after a USER and a PASS that the accounts accept.
 pub fn members_alone_are_served_in_bytes<H: Session>()
-    ensures gate { (said : List H.Said) → SendsPlainExchanges (H.law said)
-        → (limit : Option ℕ) (accepts : Accounts) (inner : H.State) (input : Bytes)
-        → MembersAlone limit accepts input
-        (text_for limit (gated_law (H.law said)) (closed accepts inner) input) }
-    ensures limit { (said : List H.Said) → SendsPlainExchanges (H.law said)
-        → (limit : Option ℕ) (accepts : Accounts) (left : ℕ) (inner : H.State) (input : Bytes)
-        → MembersAlone limit accepts input
-        (text_for limit (limited_law (gated_law (H.law said)))
-        (limited_to left (closed accepts inner)) input) }
+    ensures { (said : List H.Said) → SendsPlainExchanges (H.law said)
+        → (limit : Option ℕ) (accepts : Accounts) (failures : Option ℕ) (inner : H.State)
+        (input : Bytes) → MembersAlone limit accepts input (text_for limit
+        (guarded_law failures (H.law said)) (guarded failures accepts inner) input) }
 {}
 
 /// The output reveals about a password only whether it was accepted: two inputs whose events differ
 /// in passwords that the accounts answer alike, for the name that was given, have one output.
 pub fn passwords_stay_hidden<H: Session>()
-    ensures gate { (said : List H.Said) (limit : Option ℕ) (accepts : Accounts) (inner : H.State)
-        → PasswordsStayHidden limit accepts (gated_law (H.law said)) (closed accepts inner) }
-    ensures limit { (said : List H.Said)
-        (limit : Option ℕ) (accepts : Accounts) (left : ℕ) (inner : H.State)
-        → PasswordsStayHidden limit accepts (limited_law (gated_law (H.law said)))
-        (limited_to left (closed accepts inner)) }
+    ensures { (said : List H.Said)
+        (limit : Option ℕ) (accepts : Accounts) (failures : Option ℕ) (inner : H.State)
+        → PasswordsStayHidden limit accepts (guarded_law failures (H.law said))
+        (guarded failures accepts inner) }
 {}
 
 /// Nor does an error reveal more, where the inputs differ only in lines that give passwords:
@@ -81,19 +72,14 @@ pub fn passwords_stay_hidden<H: Session>()
 /// handler receives the same, and memory is asked for the same replies. They fail where one of
 /// these calls fails, and only there (`calls` of their `first` and `further`).
 pub fn errors_hide_passwords<H: Session>()
-    ensures gate { (said : List H.Said) (limit : Option ℕ) (accepts : Accounts) (inner : H.State)
-        → ErrorsHidePasswords limit accepts (gated_law (H.law said)) (closed accepts inner) }
-    ensures limit { (said : List H.Said)
-        (limit : Option ℕ) (accepts : Accounts) (left : ℕ) (inner : H.State)
-        → ErrorsHidePasswords limit accepts (limited_law (gated_law (H.law said)))
-        (limited_to left (closed accepts inner)) }
-    ensures calls { (said : List H.Said) (limit : Option ℕ) (accepts : Accounts) (inner : H.State)
-        → CallsHidePasswords limit accepts (gated_law (H.law said)) (closed accepts inner)
-        (gate_calls (H.law said)) }
-    ensures calls_in_limit { (said : List H.Said)
-        (limit : Option ℕ) (accepts : Accounts) (left : ℕ) (inner : H.State)
-        → CallsHidePasswords limit accepts (limited_law (gated_law (H.law said)))
-        (limited_to left (closed accepts inner)) (limit_calls (H.law said)) }
+    ensures errors { (said : List H.Said)
+        (limit : Option ℕ) (accepts : Accounts) (failures : Option ℕ) (inner : H.State)
+        → ErrorsHidePasswords limit accepts (guarded_law failures (H.law said))
+        (guarded failures accepts inner) }
+    ensures calls { (said : List H.Said)
+        (limit : Option ℕ) (accepts : Accounts) (failures : Option ℕ) (inner : H.State)
+        → CallsHidePasswords limit accepts (guarded_law failures (H.law said))
+        (guarded failures accepts inner) (guarded_calls failures (H.law said)) }
 {}
 
 /// What is written and called depends on the accounts only by their answers to what the session may
@@ -101,36 +87,28 @@ pub fn errors_hide_passwords<H: Session>()
 /// these alike give one output. So no output reveals what they would answer of another name or of
 /// another password.
 pub fn accounts_stay_hidden<H: Session>()
-    ensures gate { (said : List H.Said)
-        (limit : Option ℕ) (accepts other : Accounts) (inner : H.State)
-        → AccountsStayHidden limit accepts other (gate_calls (H.law said)) (gated_law (H.law said))
-        (closed accepts inner) (closed other inner) }
-    ensures limit { (said : List H.Said)
-        (limit : Option ℕ) (accepts other : Accounts) (left : ℕ) (inner : H.State)
-        → AccountsStayHidden limit accepts other (limit_calls (H.law said))
-        (limited_law (gated_law (H.law said))) (limited_to left (closed accepts inner))
-        (limited_to left (closed other inner)) }
+    ensures { (said : List H.Said)
+        (limit : Option ℕ) (accepts other : Accounts) (failures : Option ℕ) (inner : H.State)
+        → AccountsStayHidden limit accepts other (guarded_calls failures (H.law said))
+        (guarded_law failures (H.law said)) (guarded failures accepts inner)
+        (guarded failures other inner) }
 {}
 
 /// In bytes: two passwords that the accounts answer alike for the name that was given, in lines of
 /// PASS within the limit, give one output. So a wrong password gives what another user's gives.
 pub fn refused_passwords_look_alike<H: Session>()
-    ensures gate { (said : List H.Said) (limit : Option ℕ) (accepts : Accounts) (inner : H.State)
-        → RefusedPasswordsLookAlike limit accepts (gated_law (H.law said)) (closed accepts inner) }
-    ensures limit { (said : List H.Said)
-        (limit : Option ℕ) (accepts : Accounts) (left : ℕ) (inner : H.State)
-        → RefusedPasswordsLookAlike limit accepts (limited_law (gated_law (H.law said)))
-        (limited_to left (closed accepts inner)) }
+    ensures { (said : List H.Said)
+        (limit : Option ℕ) (accepts : Accounts) (failures : Option ℕ) (inner : H.State)
+        → RefusedPasswordsLookAlike limit accepts (guarded_law failures (H.law said))
+        (guarded failures accepts inner) }
 {}
 
 /// A login that is refused gives the same output whether its name is known or not.
 pub fn refused_logins_look_alike<H: Session>()
-    ensures gate { (said : List H.Said) (limit : Option ℕ) (accepts : Accounts) (inner : H.State)
-        → RefusedLoginsLookAlike limit accepts (gated_law (H.law said)) (closed accepts inner) }
-    ensures limit { (said : List H.Said)
-        (limit : Option ℕ) (accepts : Accounts) (left : ℕ) (inner : H.State)
-        → RefusedLoginsLookAlike limit accepts (limited_law (gated_law (H.law said)))
-        (limited_to left (closed accepts inner)) }
+    ensures { (said : List H.Said)
+        (limit : Option ℕ) (accepts : Accounts) (failures : Option ℕ) (inner : H.State)
+        → RefusedLoginsLookAlike limit accepts (guarded_law failures (H.law said))
+        (guarded failures accepts inner) }
 {}
 
 /// In a session no more logins fail than the limit allows, and the last that may fail is answered

@@ -8,7 +8,7 @@ ghost use Rattle.unftp_control_serve.specs.EventMeaning.{event_meant, further_of
 ghost use Rattle.unftp_control_serve.specs.Writing.{Begins};
 ghost use Rattle.unftp_control_login.specs.LoginLimit.{Limited, is_failure, is_pass, last_reply, limited_law, limited_reply, limited_state};
 ghost use Rattle.unftp_control_login.specs.LimitState.{LimitAsked, LimitCalled, limited};
-ghost use Rattle.unftp_control_login.specs.HandlerCalls.{OwnMade};
+ghost use Rattle.unftp_control_login.specs.HandlerCalls.{CallsMade, makes};
 ghost use Rattle.unftp_control_login.specs.CallsOf.{calls_of};
 
 use crate::inner::Inner;
@@ -57,7 +57,8 @@ impl<H: Session> LoginLimit<H> {
         ensures next { OnOk result (limited H.state self.new ≡ limited_state self.old.left
             self.old.at_pass (reply_of reply) (H.state self.old.inner.handler)) }
         ensures handler { self.new.inner.handler ≡ self.old.inner.handler }
-        ensures made { OwnMade (last_reply self.old.left self.old.at_pass (reply_of reply))
+        ensures calls { (said : List H.Said) (s : H.State) → CallsMade (H.law said)
+            (makes s (last_reply self.old.left self.old.at_pass (reply_of reply)))
             (calls_of H.failures self.old.inner) (calls_of H.failures self.new.inner) result }
     {
         if !self.at_pass || !is_failure(&reply) {

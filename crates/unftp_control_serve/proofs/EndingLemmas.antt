@@ -1,6 +1,6 @@
 -- What comes of events that are put together.
-use Rattle.std.proofs.Common.{◌≡◌, ℕ, ◌+◌, false, flat_map, List, [], ◌∷◌, ◌++◌, Option, refl, sym, ◌∙◌, ap, subst, arith, append_assoc}
-use Rattle.std.proofs.lemmas.List.{append-nil}
+use Rattle.std.proofs.Common.{◌≡◌, ℕ, ◌+◌, ◌<◌, Bool, false, length, flat_map, List, [], ◌∷◌, ◌++◌, Option, refl, sym, ◌∙◌, ap, subst, arith, append_assoc}
+use Rattle.std.proofs.lemmas.List.{append-nil, length_push}
 use Rattle.unftp_control_defs.specs.Bytes.{Bytes}
 use Rattle.unftp_control_defs.specs.Events.{FtpEvent, events}
 use Rattle.unftp_control_defs.specs.FtpReply.{FtpReply, encoded}
@@ -11,7 +11,7 @@ use Rattle.unftp_control_defs.proofs.LineLemmas.{events-append}
 use Rattle.unftp_control_message.specs.ErrorParts.{KindAndSource}
 use Rattle.unftp_control_message.specs.ErrorMeaning.{fault_of}
 use Rattle.unftp_control_serve.specs.Writing.{CutShort, ReplyFailed, Sent}
-use Rattle.unftp_control_serve.specs.Endings.{Snapshot, Cause, Finished, Write, Handler, LineMemory, ReplyMemory, IsCauseOf, EndsAt, AllAnswered, EventFailed, FirstMayRunOut, HasGiven, RunEnded, RunFailed, handler_failures, part_written, text_until, whole_text, write_failures}
+use Rattle.unftp_control_serve.specs.Endings.{Snapshot, Cause, Finished, Write, Handler, LineMemory, ReplyMemory, IsCauseOf, EndsAt, AllAnswered, EventFailed, FirstMayRunOut, HasGiven, RunAnswered, RunEnded, RunFailed, handler_failures, part_written, text_until, whole_text, write_failures}
 use Rattle.unftp_control_serve.specs.declared.error.ServeError.{ServeError}
 use Rattle.unftp_control_serve.specs.declared.error.ServeError.TheVariants as error
 use Rattle.unftp_control_serve.proofs.SendLemmas.{HasWritten-nothing, HasWritten-then, Flushed-then}
@@ -101,14 +101,16 @@ module _ {S : Type 0} (law : SessionLaw S) where
   ends_at-more e more LineMemory s (step ∷ steps) s' h = h
   ends_at-more e more cause s sent s' h = h
 
-  -- at one event, of which these replies were sent, and those of `later` were not
+  -- at one event, of which these replies were sent, and those of `later` were not; the last of
+  -- them left this state
   pub record Replying (m : Snapshot S) (e : FtpEvent) (n : Snapshot S)
       (sent later : List (FtpReply × S)) : Type 0 where
     pub split : turn law m.state e ≡ sent ++ later
+    pub state : n.state ≡ state_after m.state sent
     pub given : HasGiven (flat_map encoded (said sent)) Finished m n
 
-  Replying-start : (m : Snapshot S) (e : FtpEvent) → Replying m e m [] (turn law m.state e)
-  Replying-start m e = record { split = refl; given = HasGiven-nothing m }
+  pub Replying-start : (m : Snapshot S) (e : FtpEvent) → Replying m e m [] (turn law m.state e)
+  Replying-start m e = record { split = refl; state = refl; given = HasGiven-nothing m }
 
   sent-more : (sent : List (FtpReply × S)) (step : FtpReply × S)
       → flat_map encoded (said (sent ++ step ∷ [])) ≡ flat_map encoded (said sent) ++ encoded step.0
@@ -147,27 +149,46 @@ module _ {S : Type 0} (law : SessionLaw S) where
       (λ at_line. absurd (cc)) may (HasGiven-nothing m)
       (HasGiven-silent (Handler (fault_of failed)) refl same failures)
 
+  -- some of its replies were sent, and the handler has those that follow
+  pub record InTurn (m : Snapshot S) (e : FtpEvent) (n : Snapshot S) : Type 0 where
+    pub sent : List (FtpReply × S)
+    pub some : 0 < length sent
+    pub replying : Replying m e n sent (law.more n.state)
+
+  pub turn-first : (s s' : S) (e : FtpEvent) {reply : FtpReply} → reply ≡ law.says s e
+      → s' ≡ law.next s e → turn law s e ≡ (reply, s') ∷ law.more s'
+  turn-first s s' e says next = rw (says, next) refl
+
   -- the next reply is given, and then it is sent or it isn't
-  module _ (m n : Snapshot S) (e : FtpEvent) (sent later : List (FtpReply × S)) (reply : FtpReply)
-      (k : Snapshot S) (so_far : Replying m e n sent ((reply, k.state) ∷ later))
+  module _ {m n : Snapshot S} {e : FtpEvent} {sent later : List (FtpReply × S)}
+      (so_far : Replying m e n sent later) (k : Snapshot S) (reply : FtpReply)
+      (follows : later ≡ (reply, k.state) ∷ law.more k.state)
       (quiet : k.failures ≡ n.failures) where
-    Replying-more : Sent (encoded reply) n.output k.output
-        → Replying m e k (sent ++ (reply, k.state) ∷ []) later
-    Replying-more v = record {
-      split = so_far.split ∙ sym (append_assoc sent ((reply, k.state) ∷ []) later);
-      given = rw (sent-more sent (reply, k.state)) (HasGiven-then so_far.given (encoded reply)
-          (record {
-            written = v.written;
-            flushed = v.flushed;
-            write_failed = omega (arith, v.no_failure);
-            handler_failed = omega (arith, quiet);
-          }));
+    split : turn law m.state e ≡ sent ++ (reply, k.state) ∷ law.more k.state
+    split = so_far.split ∙ ap (λ later. sent ++ later) follows
+
+    pub InTurn-more : Sent (encoded reply) n.output k.output → InTurn m e k
+    InTurn-more v = record {
+      sent = sent ++ (reply, k.state) ∷ [];
+      some = omega (arith, length_push sent (reply, k.state));
+      replying = record {
+        split = split ∙ sym (append_assoc sent ((reply, k.state) ∷ []) (law.more k.state));
+        state = sym (state_after-append m.state sent ((reply, k.state) ∷ []));
+        given = rw (sent-more sent (reply, k.state)) (HasGiven-then so_far.given (encoded reply)
+            (record {
+              written = v.written;
+              flushed = v.flushed;
+              write_failed = omega (arith, v.no_failure);
+              handler_failed = omega (arith, quiet);
+            }));
+      };
     }
 
     broke-at : (error : ServeError) (v : CutShort (encoded reply) n.output k.output)
         → IsCauseOf (Write v.part) error → EventFailed law m e k error
     broke-at error v means = failed-after sent (Write v.part) error means (λ at_line. absurd (cc))
-        (record { reply = reply; later = later; split = so_far.split; so = v.begins }) so_far.given
+        (record { reply = reply; later = law.more k.state; split = split; so = v.begins })
+        so_far.given
         (record {
           written = v.written;
           flushed = v.unflushed;
@@ -181,93 +202,41 @@ module _ {S : Type 0} (law : SessionLaw S) where
     reply-failed error.WriteZero v = broke-at error.WriteZero v tt
     reply-failed error.OutOfMemory v = failed-after sent ReplyMemory error.OutOfMemory tt
         (λ at_line. absurd (cc))
-        (record { reply = reply; later = later; split = so_far.split; so = v.1 }) so_far.given
+        (record { reply = reply; later = law.more k.state; split = split; so = v.1 }) so_far.given
         (HasGiven-silent ReplyMemory refl v.0 (omega (arith, quiet)))
     reply-failed error v = absurd v
 
-  -- within a turn, of which some replies were sent, and the others follow
-  pub record InTurn (m : Snapshot S) (e : FtpEvent) (n : Snapshot S) : Type 0 where
-    pub first : FtpReply × S
-    pub sent : List (FtpReply × S)
-    pub replying : Replying m e n (first ∷ sent) (law.more n.state)
-    pub state : n.state ≡ state_after first.1 sent
+  module _ {m n : Snapshot S} {e : FtpEvent} (so_far : InTurn m e n) (k : Snapshot S) where
+    open so_far use {sent, replying}
 
-  module _ (m n : Snapshot S) (e : FtpEvent) where
-    first-replying : (reply : FtpReply) → reply ≡ law.says m.state e
-        → n.state ≡ law.next m.state e → Replying m e m [] ((reply, n.state) ∷ law.more n.state)
-    first-replying reply says next = rw (says, next) (Replying-start m e)
+    pub InTurn-broke : (failed : KindAndSource) → law.may_break n.state (fault_of failed)
+        → k.output ≡ n.output → k.failures ≡ n.failures + 1
+        → EventFailed law m e k (error.Handler failed)
+    InTurn-broke failed may same failures =
+        failed-after sent (Handler (fault_of failed)) (error.Handler failed) refl
+        (λ at_line. absurd (cc)) (ends sent so_far.some replying.split (subst
+        (λ s. law.may_break s (fault_of failed)) replying.state may)) replying.given
+        (HasGiven-silent (Handler (fault_of failed)) refl same failures)
+      where
+        ends : (sent : List (FtpReply × S)) → 0 < length sent
+            → turn law m.state e ≡ sent ++ law.more n.state
+            → law.may_break (state_after m.state sent) (fault_of failed)
+            → EndsAt law (Handler (fault_of failed)) m.state (e ∷ []) sent k.state
+        ends [] some split may = absurd (omega arith)
+        ends (step ∷ steps) some split may = ((law.more n.state, split), may)
 
-    pub InTurn-start : (reply : FtpReply) → reply ≡ law.says m.state e
-        → n.state ≡ law.next m.state e → n.failures ≡ m.failures
-        → Sent (encoded reply) m.output n.output → InTurn m e n
-    InTurn-start reply says next quiet v = record {
-      first = (reply, n.state);
-      sent = [];
-      replying = Replying-more m m e [] (law.more n.state) reply n (first-replying reply says next)
-          quiet v;
-      state = refl;
-    }
-
-    pub first-failed : (reply : FtpReply) → reply ≡ law.says m.state e
-        → n.state ≡ law.next m.state e → n.failures ≡ m.failures → (error : ServeError)
-        → ReplyFailed error reply m.output n.output
-        → EventFailed law m e n error
-    first-failed reply says next quiet error v =
-        reply-failed m m e [] (law.more n.state) reply n (first-replying reply says next) quiet
-        error v
-
-    module _ (so_far : InTurn m e n) where
-      more-replying : (k : Snapshot S) (reply : FtpReply)
-          → law.more n.state ≡ (reply, k.state) ∷ law.more k.state
-          → Replying m e n (so_far.first ∷ so_far.sent) ((reply, k.state) ∷ law.more k.state)
-      more-replying k reply follows =
-          subst (Replying m e n (so_far.first ∷ so_far.sent)) follows so_far.replying
-
-      pub InTurn-next : (k : Snapshot S) (reply : FtpReply)
-          → law.more n.state ≡ (reply, k.state) ∷ law.more k.state → k.failures ≡ n.failures
-          → Sent (encoded reply) n.output k.output → InTurn m e k
-      InTurn-next k reply follows quiet v = record {
-        first = so_far.first;
-        sent = so_far.sent ++ (reply, k.state) ∷ [];
-        replying = Replying-more m n e (so_far.first ∷ so_far.sent) (law.more k.state) reply k
-            (more-replying k reply follows) quiet v;
-        state = sym (state_after-append so_far.first.1 so_far.sent ((reply, k.state) ∷ []));
-      }
-
-      pub InTurn-failed : (k : Snapshot S) (reply : FtpReply)
-          → law.more n.state ≡ (reply, k.state) ∷ law.more k.state → k.failures ≡ n.failures
-          → (error : ServeError) → ReplyFailed error reply n.output k.output
-          → EventFailed law m e k error
-      InTurn-failed k reply follows quiet error v =
-          reply-failed m n e (so_far.first ∷ so_far.sent) (law.more k.state) reply k
-          (more-replying k reply follows) quiet error v
-
-      pub InTurn-broke : (k : Snapshot S) (failed : KindAndSource)
-          → law.may_break n.state (fault_of failed) → k.output ≡ n.output
-          → k.failures ≡ n.failures + 1
-          → EventFailed law m e k (error.Handler failed)
-      InTurn-broke k failed may same failures =
-          failed-after (so_far.first ∷ so_far.sent) (Handler (fault_of failed))
-          (error.Handler failed) refl (λ at_line. absurd (cc)) (
-            (law.more n.state, so_far.replying.split),
-            subst (λ s. law.may_break s (fault_of failed)) so_far.state may,
-          ) so_far.replying.given
-          (HasGiven-silent (Handler (fault_of failed)) refl same failures)
-
-      pub InTurn-end : (k : Snapshot S) → law.more n.state ≡ [] → k.state ≡ n.state
-          → k.output ≡ n.output → k.failures ≡ n.failures → AllAnswered law m (e ∷ []) k
-      InTurn-end k none state same quiet =
-          let sent : List (FtpReply × S) = so_far.first ∷ so_far.sent in
-          let all : turn law m.state e ≡ sent = so_far.replying.split
-          ∙ ap (λ more. sent ++ more) none ∙ append-nil sent in
-          let whole : text_of law m.state (e ∷ []) ≡ flat_map encoded (said sent) =
-          ap (flat_map encoded) (append-nil (said (turn law m.state e))
-          ∙ ap said all) in
-          record {
-            ends_at = state ∙ so_far.state ∙ ap (state_after m.state) (sym all);
-            given = rw whole (HasGiven-end so_far.replying.given
-                (HasGiven-silent Finished refl same (omega (arith, quiet))));
-          }
+    pub InTurn-end : law.more n.state ≡ [] → k.state ≡ n.state → k.output ≡ n.output
+        → k.failures ≡ n.failures → AllAnswered law m (e ∷ []) k
+    InTurn-end none state same quiet =
+        let all : turn law m.state e ≡ sent =
+        replying.split ∙ ap (λ more. sent ++ more) none ∙ append-nil sent in
+        let whole : text_of law m.state (e ∷ []) ≡ flat_map encoded (said sent) =
+        ap (flat_map encoded) (append-nil (said (turn law m.state e)) ∙ ap said all) in
+        record {
+          ends_at = state ∙ replying.state ∙ ap (state_after m.state) (sym all);
+          given = rw whole (HasGiven-end replying.given
+              (HasGiven-silent Finished refl same (omega (arith, quiet))));
+        }
 
   -- at one event it failed, which others follow
   pub EventFailed-more : {n k : Snapshot S} {e : FtpEvent} (later : List FtpEvent)
@@ -295,23 +264,23 @@ module _ {limit : Option ℕ} {S : Type 0} {law : SessionLaw S} {m n : Snapshot 
   GoneOn-run = (run-append law limit m.state sent more so_far.goes_on).0
       ∙ ap (λ s. events limit sent ++ run_for limit law s rest) (sym so_far.answered.ends_at)
 
-  pub GoneOn-ends : ends_for limit law m.state (sent ++ more) ≡ ends_for limit law n.state rest
-  GoneOn-ends = (run-append law limit m.state sent more so_far.goes_on).1
-      ∙ ap (λ s. ends_for limit law s rest) (sym so_far.answered.ends_at)
-
-  pub GoneOn-unread : unread limit law m.state (sent ++ more) ≡ unread limit law n.state rest
-  GoneOn-unread = unread-append law limit m.state sent more so_far.goes_on
-      ∙ ap (λ s. unread limit law s rest) (sym so_far.answered.ends_at)
-
-  pub GoneOn-all : {k : Snapshot S} → AllAnswered law n (run_for limit law n.state rest) k
-      → AllAnswered law m (run_for limit law m.state (sent ++ more)) k
-  GoneOn-all all = rw GoneOn-run
-      (RunEnded-then law so_far.answered (run_for limit law n.state rest) [] [] Finished all)
+  pub GoneOn-answered : {k : Snapshot S} {ended : Bool} {left : Bytes}
+      → RunAnswered limit law n rest k ended left
+      → RunAnswered limit law m (sent ++ more) k ended left
+  GoneOn-answered run = record {
+    answered = rw GoneOn-run (RunEnded-then law so_far.answered (run_for limit law n.state rest) []
+        [] Finished run.answered);
+    ended_is = run.ended_is ∙ ap (λ s. ends_for limit law s rest) so_far.answered.ends_at
+        ∙ sym (run-append law limit m.state sent more so_far.goes_on).1;
+    left_is = run.left_is ∙ ap (λ s. unread limit law s rest) so_far.answered.ends_at
+        ∙ sym (unread-append law limit m.state sent more so_far.goes_on);
+  }
 
   pub GoneOn-then : {k : Snapshot S} → GoneOn limit law n k rest
       → GoneOn limit law m k (sent ++ more)
   GoneOn-then then = record {
-    goes_on = GoneOn-ends ∙ then.goes_on;
+    goes_on = (run-append law limit m.state sent more so_far.goes_on).1
+        ∙ ap (λ s. ends_for limit law s rest) (sym so_far.answered.ends_at) ∙ then.goes_on;
     answered = rw (events-append limit sent more)
         (RunEnded-then law so_far.answered (events limit rest) [] [] Finished then.answered);
   }

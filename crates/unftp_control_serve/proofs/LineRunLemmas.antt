@@ -1,17 +1,17 @@
 -- The run over the pending bytes, line by line.
-use Rattle.std.proofs.Common.{◌≡◌, ℕ, true, false, List, Option, [], ◌∷◌, ◌++◌, map, refl, sym, ap, subst, arith, ◌∙◌, append_assoc}
+use Rattle.std.proofs.Common.{◌≡◌, ℕ, Bool, true, false, List, Option, [], ◌∷◌, ◌++◌, map, refl, sym, ap, subst, arith, ◌∙◌, append_assoc}
 use Rattle.std.proofs.lemmas.List.{append-nil}
 use Rattle.unftp_control_defs.specs.Bytes.{Bytes}
 use Rattle.unftp_control_defs.specs.Events.{FtpEvent, event_for, events}
 use Rattle.unftp_control_defs.specs.Lines.{incomplete_line, lines_of}
-use Rattle.unftp_control_defs.specs.Run.{after, run_for, ends_for, unread, SessionLaw, run_of, ends}
+use Rattle.unftp_control_defs.specs.Run.{after, run_for, ends_for, SessionLaw, run_of, ends}
 use Rattle.unftp_control_defs.proofs.LineLemmas.{events-incomplete, incomplete_line-append, line_first}
 use Rattle.unftp_control_defs.proofs.RunLemmas.{line-done, unread-incomplete}
-use Rattle.unftp_control_serve.specs.Endings.{Snapshot, LineMemory, AllAnswered, EventFailed, FirstMayRunOut, RunFailed}
+use Rattle.unftp_control_serve.specs.Endings.{Snapshot, LineMemory, AllAnswered, EventFailed, FirstMayRunOut, RunAnswered, RunFailed}
 use Rattle.unftp_control_serve.specs.Decoder.{Pending, HasNoLine, MayRunOut, TakesLine}
 use Rattle.unftp_control_serve.specs.declared.error.ServeError.{ServeError}
 use Rattle.unftp_control_serve.specs.declared.error.ServeError.TheVariants.{OutOfMemory}
-use Rattle.unftp_control_serve.proofs.EndingLemmas.{AllAnswered-nothing, EventFailed-more, GoneOn, GoneOn-all, GoneOn-ends, GoneOn-failed, GoneOn-then, GoneOn-unread, HasGiven-silent}
+use Rattle.unftp_control_serve.proofs.EndingLemmas.{AllAnswered-nothing, EventFailed-more, GoneOn, GoneOn-answered, GoneOn-failed, GoneOn-then, HasGiven-silent}
 
 -- in the loop over the lines of some bytes: the first lines were answered, and these are pending
 pub record Halfway {S : Type 0} (law : SessionLaw S) (limit : Option ℕ) (m n : Snapshot S)
@@ -33,18 +33,10 @@ Halfway-start {law = law} {m = m} = record {
 module _ {S : Type 0} {law : SessionLaw S} {limit : Option ℕ} {m n : Snapshot S}
     {bytes pending : Bytes} (so_far : Halfway law limit m n bytes pending) where
   -- what is so of the run over what is pending is so of the run over all
-  all-answered : {k : Snapshot S} → AllAnswered law n (run_for limit law n.state pending) k
-      → AllAnswered law m (run_for limit law m.state bytes) k
-  all-answered all = rw so_far.whole (GoneOn-all so_far.gone_on pending
-      (rw so_far.whole_lines all))
-
-  same-end : ends_for limit law m.state bytes ≡ ends_for limit law n.state pending
-  same-end = rw so_far.whole (GoneOn-ends so_far.gone_on pending
-      ∙ ap (λ incomplete. ends_for limit law n.state (incomplete ++ pending)) so_far.whole_lines)
-
-  same-unread : unread limit law m.state bytes ≡ unread limit law n.state pending
-  same-unread = rw so_far.whole (GoneOn-unread so_far.gone_on pending
-      ∙ ap (λ incomplete. unread limit law n.state (incomplete ++ pending)) so_far.whole_lines)
+  all-answered : {k : Snapshot S} {ended : Bool} {left : Bytes}
+      → RunAnswered limit law n pending k ended left → RunAnswered limit law m bytes k ended left
+  all-answered run = rw so_far.whole (GoneOn-answered so_far.gone_on pending
+      (rw so_far.whole_lines run))
 
   run-failed : {k : Snapshot S} {error : ServeError} → RunFailed limit law n pending k error []
       → (done : List FtpEvent) × RunFailed limit law m bytes k error done
@@ -59,17 +51,13 @@ module _ {S : Type 0} {law : SessionLaw S} {limit : Option ℕ} {m n : Snapshot 
     no_event : events limit p.bytes ≡ []
     no_event = events-incomplete limit p.bytes none.unended
 
-    pub no_line-answered : AllAnswered law m (run_for limit law m.state bytes) n
-    no_line-answered = all-answered so_far
-        (subst (λ events. AllAnswered law n (run_of law n.state events) n) (sym no_event)
-        (AllAnswered-nothing law n))
-
-    pub no_line-not_ended : false ≡ ends_for limit law m.state bytes
-    no_line-not_ended = sym (same-end so_far ∙ ap (ends law n.state) no_event)
-
-    pub no_line-all_unread : q.bytes ≡ unread limit law m.state bytes
-    no_line-all_unread = sym (same-unread so_far
-        ∙ unread-incomplete law limit n.state p.bytes none.unended ∙ sym none.same)
+    pub no_line-answered : RunAnswered limit law m bytes n false q.bytes
+    no_line-answered = all-answered so_far (record {
+      answered = subst (λ events. AllAnswered law n (run_of law n.state events) n) (sym no_event)
+          (AllAnswered-nothing law n);
+      ended_is = sym (ap (ends law n.state) no_event);
+      left_is = none.same ∙ sym (unread-incomplete law limit n.state p.bytes none.unended);
+    })
 
   module _ (same : p.limit ≡ limit) {event : FtpEvent} (first : TakesLine p event q) where
     meant : event_for limit first.takes.line ≡ event
@@ -116,30 +104,16 @@ module _ {S : Type 0} {law : SessionLaw S} {limit : Option ℕ} {m n : Snapshot 
             }));
           }
 
-      module _ (done : law.done k.state ≡ true) where
-        last : (run_for limit law n.state p.bytes ≡ event ∷ [])
-            × (ends_for limit law n.state p.bytes ≡ true)
-            × (unread limit law n.state p.bytes ≡ q.bytes)
-        last =
-            let line = first.takes.line in
-            let is = line-done law limit n.state line q.bytes first.takes.is_line
-            (ap (λ event. law.done (after law n.state event)) meant
-            ∙ ap law.done (sym all.ends_at) ∙ done) in (
-              ap (run_for limit law n.state) first.takes.whole ∙ is.0
-                  ∙ ap (λ event. event ∷ []) meant,
-              ap (ends_for limit law n.state) first.takes.whole ∙ is.1,
-              ap (unread limit law n.state) first.takes.whole ∙ is.2,
-            )
-
-        pub last_line-answered : AllAnswered law m (run_for limit law m.state bytes) k
-        last_line-answered = all-answered so_far
-            (subst (λ run. AllAnswered law n run k) (sym last.0) all)
-
-        pub last_line-ended : true ≡ ends_for limit law m.state bytes
-        last_line-ended = sym (same-end so_far ∙ last.1)
-
-        pub last_line-unread : q.bytes ≡ unread limit law m.state bytes
-        last_line-unread = sym (same-unread so_far ∙ last.2)
+      pub last_line-answered : law.done k.state ≡ true → RunAnswered limit law m bytes k true q.bytes
+      last_line-answered done =
+          let is = line-done law limit n.state first.takes.line q.bytes first.takes.is_line
+          (ap (λ event. law.done (after law n.state event)) meant
+          ∙ ap law.done (sym all.ends_at) ∙ done) in
+          all-answered so_far (rw first.takes.whole (record {
+            answered = rw (is.0, meant) all;
+            ended_is = sym is.1;
+            left_is = sym is.2;
+          }))
 
 -- memory runs out for the next line
 pub halfway-no_memory : {S : Type 0} {law : SessionLaw S} {limit : Option ℕ} {m n : Snapshot S}

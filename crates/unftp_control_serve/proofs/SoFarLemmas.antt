@@ -11,7 +11,7 @@ use Rattle.unftp_control_serve.specs.Decoder.{saturating_u64}
 use Rattle.unftp_control_serve.specs.Endings.{AllAnswered, RunFailed, Snapshot}
 use Rattle.unftp_control_serve.specs.Engine.{EngineState, bytes_with, fed, fresh, more_left}
 use Rattle.unftp_control_serve.specs.declared.error.ServeError.{ServeError}
-use Rattle.unftp_control_serve.proofs.EndingLemmas.{AllAnswered-nothing, GoneOn, GoneOn-all, GoneOn-ends, GoneOn-failed, GoneOn-unread}
+use Rattle.unftp_control_serve.proofs.EndingLemmas.{AllAnswered-nothing, GoneOn, GoneOn-answered, GoneOn-failed}
 
 -- the run over what was sent is answered, up to its end
 pub record AnsweredSoFar {S : Type 0} (limit : Option ℕ) (law : SessionLaw S) (m n : Snapshot S)
@@ -53,20 +53,22 @@ module _ {limit : Option ℕ} {S : Type 0} {law : SessionLaw S} {m n : Snapshot 
       pub AnsweredSoFar-on : {k : Snapshot S}
           → AllAnswered law n (run_for engine.limit law n.state (bytes_with engine piece)) k
           → AnsweredSoFar limit law m k (sent ++ piece) (fed law n.state engine piece)
-      AnsweredSoFar-on all =
-          let same_ends = GoneOn-ends gone_on piece in
-          let same_unread = GoneOn-unread gone_on piece in
+      AnsweredSoFar-on {k} all =
+          let all : AllAnswered law n (run_for limit law n.state (incomplete_line sent ++ piece)) k =
+          rw (so_far.limited, so_far.incomplete on) at all in
+          let run = GoneOn-answered gone_on piece
+          (record { answered = all; ended_is = refl; left_is = refl }) in
           let same_end : after_end limit law m.state (sent ++ piece)
           ≡ after_end limit law n.state (incomplete_line sent ++ piece) =
-          λ i. if same_ends i then same_unread i else [] in
+          λ i. if (sym run.ended_is i) then (sym run.left_is i) else [] in
           rw (so_far.limited, so_far.incomplete on) (record {
             no_failure = refl;
             limited = refl;
-            finished = sym same_ends;
+            finished = run.ended_is;
             incomplete = λ now. ap (λ ended. if ended then []
                 else incomplete_line (incomplete_line sent ++ piece)) now
                 ∙ sym (incomplete_line-append sent piece);
-            left = ap (λ bytes. saturating_u64 (length bytes)) (sym same_unread);
+            left = ap (λ bytes. saturating_u64 (length bytes)) run.left_is;
             scanned = omega (
               arith,
               so_far.scanned,
@@ -75,8 +77,7 @@ module _ {limit : Option ℕ} {S : Type 0} {law : SessionLaw S} {m n : Snapshot 
               length-append sent piece,
               after_end-within law limit m.state (sent ++ piece),
             );
-            answered = GoneOn-all gone_on piece
-                (rw (so_far.limited, so_far.incomplete on) at all);
+            answered = run.answered;
           })
 
       pub RunFailed-on : {k : Snapshot S} {error : ServeError} {done : List FtpEvent}

@@ -1,11 +1,11 @@
 -- How a run ended: which of its events were answered, why no more were, and what was written and
 -- flushed.
-use Rattle.std.specs.Prelude.{◌≡◌, ⊤, ℕ, ◌+◌, ◌⊎◌, false, drop, List, [], ◌∷◌, ◌++◌, flat_map, length, Option, Result, Err, MatchResult}
+use Rattle.std.specs.Prelude.{◌≡◌, ⊤, ℕ, ◌+◌, ◌⊎◌, Bool, false, drop, List, [], ◌∷◌, ◌++◌, flat_map, length, Option, Result, Err, MatchResult}
 use Rattle.unftp_control_defs.specs.Bytes.{Bytes}
 use Rattle.unftp_control_defs.specs.Events.{Fault, FtpEvent, exceeds}
 use Rattle.unftp_control_defs.specs.FtpReply.{FtpReply, Nothing, encoded}
 use Rattle.unftp_control_defs.specs.Lines.{lines_of}
-use Rattle.unftp_control_defs.specs.Run.{SessionLaw, last_state, run_for, said, state_after, text_of, turn}
+use Rattle.unftp_control_defs.specs.Run.{SessionLaw, ends_for, last_state, run_for, said, state_after, text_of, turn, unread}
 use Rattle.unftp_control_line_parser.specs.Memory.{MayTakeMemory}
 use Rattle.unftp_control_message.specs.ErrorMeaning.{fault_of}
 use Rattle.unftp_control_serve.specs.Writing.{OutputState, output_state_of, Begins, Flushed, HasWritten}
@@ -158,10 +158,18 @@ pub record RunFailed (limit : Option ℕ) {S : Type 0} (law : SessionLaw S) (bef
   pub ended : RunEnded law before done later sent cause after
   pub next_line : cause ≡ LineMemory → FirstMayRunOut limit (drop (length done) (lines_of input))
 
-abbrev pub RunOutcome : {S T : Type 0} → Option ℕ → SessionLaw S → Snapshot S → Bytes → Snapshot S
-    → Result T ServeError → Type 0
-RunOutcome limit law before input after result = MatchResult result
-    (λ _. AllAnswered law before (run_for limit law before.state input) after)
+-- All lines of the run over an input were answered: whether it ended in it, and which bytes come
+-- after its last line.
+pub record RunAnswered (limit : Option ℕ) {S : Type 0} (law : SessionLaw S) (before : Snapshot S)
+    (input : Bytes) (after : Snapshot S) (ended : Bool) (left : Bytes) : Type 0 where
+  pub answered : AllAnswered law before (run_for limit law before.state input) after
+  pub ended_is : ended ≡ ends_for limit law before.state input
+  pub left_is : left ≡ unread limit law before.state input
+
+abbrev pub RunOutcome : {S : Type 0} → Option ℕ → SessionLaw S → Snapshot S → Bytes → Snapshot S
+    → Bytes → Result Bool ServeError → Type 0
+RunOutcome limit law before input after left result = MatchResult result
+    (λ ended. RunAnswered limit law before input after ended left)
     (λ failure. (done : List FtpEvent) × RunFailed limit law before input after failure done)
 
 -- There was no memory for a piece, and so nothing was done with it.

@@ -1,7 +1,6 @@
 //! The engine: lines in, replies out.
 ghost use Rattle.std.specs.Prelude.{◌≡◌, ◌≤◌, ◌+◌, List, max, None, Some, IfSome, IfOk, OnOk, OnErr, IsErrOf, IsTrue, MatchResult, is_ok, if◌then◌else◌, true, false, length};
 ghost use Rattle.unftp_control_defs.specs.FtpReply.{Nothing, encoded};
-ghost use Rattle.unftp_control_defs.specs.Run.{ends_for, unread};
 ghost use Rattle.unftp_control_message.specs.ReplyMeaning.{reply_of};
 ghost use Rattle.unftp_control_serve.specs.Endings.{EventOutcome, OnWrite, PieceOutcome, RunOutcome, snapshot_with};
 ghost use Rattle.unftp_control_serve.specs.Decoder.{kept_length};
@@ -82,14 +81,9 @@ fn answer_lines<H: Session, K: Sink>(
     ensures outcome { (said : List H.Said) → Begins said (H.heard handler.new)
         → RunOutcome decoder.old.limit (H.law said)
         (snapshot_with H.state H.failures K.state handler.old output.old) decoder.old.bytes
-        (snapshot_with H.state H.failures K.state handler.new output.new) result }
+        (snapshot_with H.state H.failures K.state handler.new output.new)
+        decoder.new.bytes result }
     ensures cuts { OnWrite result K.cuts }
-    ensures ended { IfOk result (λ ended. (said : List H.Said)
-        → Begins said (H.heard handler.new) → ended
-        ≡ ends_for decoder.old.limit (H.law said) (H.state handler.old) decoder.old.bytes) }
-    ensures unread { OnOk result ((said : List H.Said) → Begins said (H.heard handler.new)
-        → decoder.new.bytes
-        ≡ unread decoder.old.limit (H.law said) (H.state handler.old) decoder.old.bytes) }
     ensures unscanned { IfOk result (λ ended. decoder.new.unscanned
         ≡ (if ended then length decoder.new.bytes else 0)) }
     ensures kept { IfOk result (λ ended. ended ≡ false

@@ -1,26 +1,51 @@
 //! Where answers go, and the marks of the calls.
 use crate::ends::End;
 use crate::shown::Quoted;
+use crate::words::CaseError;
+use std::alloc::{AllocError, Global};
 use std::fmt::Display;
 use std::io;
 use std::io::{BufWriter, Stderr, Stdout, Write};
+use unftp_control_codecs::EncodeLinesError;
+use unftp_control_line_parser::{ParseError, ParseErrorKind};
+use unftp_control_message::reply::error::{ControlChanError, ControlChanErrorKind};
+use unftp_control_read::{NextReplyError, ReadReplyError};
+use unftp_control_write::{ForwardError, WriteCommandError};
+
+/// How many bytes a text may have without taking memory.
+const ROOM: usize = 1024;
+
+/// Whether the words were a case.
+pub type Answered = Result<(), CaseError>;
 
 /// Standard output for the answers, and standard error where marks are asked for. The first failure
 /// is kept, and then nothing more is written.
 #[derive(Drop)]
 pub struct Answers {
-    pub out: BufWriter<Stdout>,
-    pub marks: Option<Stderr>,
+    pub alloc: Global,
+    out: BufWriter<Stdout>,
+    marks: Option<Stderr>,
+    /// The last text that was written between quotes, plain and under flags.
+    plain: String,
+    flagged: String,
+    /// Whether the call of the line has begun.
+    is_begun: bool,
     failed: io::Result<()>,
 }
 
 impl Answers {
-    pub fn new(out: BufWriter<Stdout>, marks: Option<Stderr>) -> Answers {
-        Answers {
-            out,
-            marks,
+    /// Answers to standard output, and marks to standard error where they are asked for.
+    pub fn new(rt: &HostRuntime, has_marks: bool) -> io::Result<Answers> {
+        let alloc = rt.alloc();
+        Ok(Answers {
+            alloc,
+            out: BufWriter::new(alloc, rt.stdout())?,
+            marks: if has_marks { Some(rt.stderr()) } else { None },
+            plain: String::with_capacity(alloc, ROOM)?,
+            flagged: String::with_capacity(alloc, ROOM)?,
+            is_begun: false,
             failed: Ok(()),
-        }
+        })
     }
 
     /// Keeps the first failure.
@@ -36,10 +61,24 @@ impl Answers {
         self.note(written);
     }
 
-    /// Writes a part of an answer unless this is so.
-    pub fn put_unless(&mut self, is_so: bool, part: &str) {
-        if !is_so {
+    /// Writes a part of an answer where this is so.
+    pub fn put_where(&mut self, is_so: bool, part: &str) {
+        if is_so {
             self.put(part);
+        }
+    }
+
+    /// Writes a text between quotes, and ` alike` where it is the same under flags.
+    pub fn put_text(&mut self, plain: impl Display + Drop, flagged: impl Display + Drop) {
+        self.plain.clear();
+        self.flagged.clear();
+        let is_plain = write!(self.plain, "{plain}").is_ok();
+        let is_flagged = write!(self.flagged, "{flagged}").is_ok();
+        if is_plain && is_flagged {
+            let written = write!(self.out, "{}", Quoted(self.plain.as_bytes()));
+            let is_alike = self.plain == self.flagged;
+            self.note(written);
+            self.put_where(is_alike, " alike");
         }
     }
 
@@ -53,21 +92,19 @@ impl Answers {
     }
 
     /// Writes a part of a mark where marks are asked for.
-    fn mark(&mut self, part: impl Display + Drop) {
+    pub fn mark(&mut self, part: impl Display + Drop) {
         if let Some(marks) = &mut self.marks {
             let written = write!(marks, "{part}");
             self.note(written);
         }
     }
 
-    /// A call under test begins.
+    /// The call of the line begins, if it hasn't.
     pub fn begin(&mut self) {
-        self.mark("begin\n");
-    }
-
-    /// It has ended.
-    pub fn end(&mut self) {
-        self.mark("end\n");
+        if !self.is_begun {
+            self.is_begun = true;
+            self.mark("begin\n");
+        }
     }
 
     /// A call ran out of memory, and is made again.
@@ -86,6 +123,8 @@ impl Answers {
 
     /// Ends an answer; the first failure so far is returned.
     pub fn end_line(&mut self) -> io::Result<()> {
+        self.is_begun = false;
+        self.mark("end\n");
         self.put("\n");
         match &self.failed {
             Ok(()) => Ok(()),
@@ -99,17 +138,79 @@ impl Answers {
     }
 }
 
-/// What the call makes; where it fails, which only means that memory ran out, it is made again.
+/// An error that may say that memory ran out.
+pub trait Failure {
+    fn is_out_of_memory(&self) -> bool;
+}
+
+impl Failure for AllocError {
+    fn is_out_of_memory(&self) -> bool {
+        true
+    }
+}
+
+impl Failure for ParseError {
+    fn is_out_of_memory(&self) -> bool {
+        *self.kind() == ParseErrorKind::OutOfMemory
+    }
+}
+
+impl Failure for ControlChanError {
+    fn is_out_of_memory(&self) -> bool {
+        *self.kind() == ControlChanErrorKind::OutOfMemory
+    }
+}
+
+impl Failure for EncodeLinesError {
+    fn is_out_of_memory(&self) -> bool {
+        matches!(self, EncodeLinesError::OutOfMemory)
+    }
+}
+
+impl Failure for ForwardError {
+    fn is_out_of_memory(&self) -> bool {
+        matches!(self, ForwardError::OutOfMemory)
+    }
+}
+
+impl Failure for NextReplyError {
+    fn is_out_of_memory(&self) -> bool {
+        matches!(self, NextReplyError::OutOfMemory)
+    }
+}
+
+impl Failure for ReadReplyError {
+    fn is_out_of_memory(&self) -> bool {
+        matches!(self, ReadReplyError::OutOfMemory)
+    }
+}
+
+impl Failure for WriteCommandError {
+    fn is_out_of_memory(&self) -> bool {
+        matches!(self, WriteCommandError::OutOfMemory)
+    }
+}
+
+/// Whether a call ran out of memory.
+pub fn is_out_of_memory<T, E: Failure>(made: &Result<T, E>) -> bool {
+    match made {
+        Ok(_) => false,
+        Err(error) => error.is_out_of_memory(),
+    }
+}
+
+/// What the call returns; once more where it ran out of memory.
 macro_rules! once_more {
-    ($answers:expr, $call:expr) => {
-        match $call.ok() {
-            Some(made) => Some(made),
-            None => {
-                $answers.out_of_memory();
-                $call.ok()
-            }
+    ($answers:expr, $call:expr) => {{
+        let made = $call;
+        if crate::answers::is_out_of_memory(&made) {
+            drop(made);
+            $answers.out_of_memory();
+            $call
+        } else {
+            made
         }
-    };
+    }};
 }
 
 pub(crate) use once_more;

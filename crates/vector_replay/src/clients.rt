@@ -1,55 +1,14 @@
 //! The calls of a client.
-use crate::answers::Answers;
-use crate::reading::{next_reply_of, put_no_reply};
+use crate::answers::{Answered, Answers, once_more};
+use crate::reading::put_no_reply;
 use crate::steps::Taker;
-use crate::words::{CaseError, Words, read_bytes};
+use crate::words::{CaseError, Word};
 use std::alloc::AllocError;
 use unftp_control_client::{Client, ClientReply, To};
-use unftp_control_line_parser::{ParseErrorKind, parse};
-use unftp_control_message::Command;
-use unftp_control_read::NextReplyError;
+use unftp_control_line_parser::parse;
 
-/// What a client does.
-#[derive(Drop)]
-enum Act {
-    /// It sends a line.
-    Send(Vec<u8>),
-    /// It sends a command.
-    Command(Command),
-    /// It receives a piece.
-    Receive(Vec<u8>),
-}
-
-/// The command of the line that is the next word.
-fn read_command(words: &mut Words<'_>) -> Result<Command, CaseError> {
-    let line = words.bytes()?;
-    match parse(words.alloc, line.as_slice()) {
-        Ok(command) => Ok(command),
-        Err(error) if *error.kind() == ParseErrorKind::OutOfMemory => Err(CaseError::OutOfMemory),
-        Err(_) => Err(CaseError::NoCase),
-    }
-}
-
-/// What the client does at the word.
-fn read_act(word: &str, words: &mut Words<'_>) -> Result<Act, CaseError> {
-    match word {
-        "send" => Ok(Act::Send(words.bytes()?)),
-        "command" => Ok(Act::Command(read_command(words)?)),
-        word => Ok(Act::Receive(read_bytes(words.alloc, word)?)),
-    }
-}
-
-/// All that it does.
-fn read_acts(words: &mut Words<'_>) -> Result<Vec<Act>, CaseError> {
-    let mut acts = Vec::new(words.alloc);
-    for _ in 0..words.most() {
-        let Some(word) = words.next() else {
-            break;
-        };
-        acts.push(read_act(word, words)?)?;
-    }
-    Ok(acts)
-}
+/// How many bytes of lines are sent without memory for them.
+const ROOM: usize = 1 << 16;
 
 /// Writes what a reply is to, and its code.
 fn put_taken(taken: ClientReply, answers: &mut Answers) {
@@ -67,12 +26,12 @@ impl Taker for Client {
         self.receive(piece)
     }
 
-    fn pending(&self) -> usize {
-        Client::pending(self).len()
+    fn most(&self) -> usize {
+        self.pending().len()
     }
 
     fn take(&mut self, answers: &mut Answers) -> bool {
-        match next_reply_of!(self, answers) {
+        match once_more!(answers, self.next_reply()) {
             Ok(Some(taken)) => {
                 put_taken(taken, answers);
                 return true;
@@ -83,44 +42,54 @@ impl Taker for Client {
         false
     }
 
-    /// A client keeps what it received.
-    fn clear(&mut self) {}
-
     fn put_left(&self, answers: &mut Answers) {
-        let (owed, left) = (self.owed(), Taker::pending(self));
+        let (owed, left) = (self.owed(), self.most());
         answers.put(format_args!("owed={owed} left={left}"));
-        answers.put_unless(!self.tls_agreed(), " tls");
+        answers.put_where(self.tls_agreed(), " tls");
     }
 }
 
-/// Does what a client does.
-fn make_act(client: &mut Client, act: &Act, out: &mut Vec<u8>, answers: &mut Answers) {
-    let sent = match act {
-        Act::Send(line) => client.send_line(line.as_slice(), out),
-        Act::Command(command) => client.send(command, out),
-        Act::Receive(piece) => {
-            client.feed(piece.as_slice(), answers);
-            client.take_all(answers);
-            return;
-        }
+/// Sends the command that a line is read as.
+fn send_command(
+    client: &mut Client,
+    line: &[u8],
+    out: &mut Vec<u8>,
+    answers: &mut Answers,
+) -> bool {
+    let Ok(command) = once_more!(answers, parse(answers.alloc, line)) else {
+        return false;
     };
-    answers.put_unless(sent.is_ok(), "not sent | ");
+    let is_sent = client.send(&command, out).is_ok();
+    drop(command);
+    is_sent
 }
 
-/// How many bytes of lines are sent without memory for them.
-const ROOM: usize = 1 << 16;
-
-/// `client LIMIT ACT..`
-pub fn answer_client(words: &mut Words<'_>, answers: &mut Answers) -> Result<(), CaseError> {
-    let mut client = match words.limit()? {
-        Some(limit) => Client::with_limit(words.alloc, limit),
-        None => Client::new(words.alloc),
+/// `client LIMIT ACT..`: `send` and a line, `command` and the line of one, or a piece that comes.
+pub fn answer_client(limit: &Word<'_>, acts: &[Word<'_>], answers: &mut Answers) -> Answered {
+    let mut client = match limit.limit()? {
+        Some(limit) => Client::with_limit(answers.alloc, limit),
+        None => Client::new(answers.alloc),
     };
-    let acts = read_acts(words)?;
-    let mut out = Vec::with_capacity(words.alloc, ROOM)?;
+    let mut out = Vec::with_capacity(answers.alloc, ROOM)?;
     answers.begin();
-    for step in acts.as_slice() {
-        make_act(&mut client, step, &mut out, answers);
+    let mut act = "receive";
+    for word in acts {
+        if let Word::Bare(name) = word {
+            act = *name;
+            continue;
+        }
+        let bytes = word.bytes()?;
+        let is_done = match act {
+            "receive" => {
+                client.feed(bytes, answers);
+                true
+            }
+            "send" => client.send_line(bytes, &mut out).is_ok(),
+            "command" => send_command(&mut client, bytes, &mut out, answers),
+            _ => return Err(CaseError::NoCase),
+        };
+        answers.put_where(!is_done, "not sent | ");
+        act = "receive";
     }
     client.put_left(answers);
     Ok(())

@@ -1,25 +1,17 @@
 //! Calls that decode lines from bytes that come in pieces.
 ghost use Rattle.std.specs.Prelude.{◌≤◌, ◌+◌, vec_len};
 
-use crate::answers::Answers;
+use crate::answers::{Answered, Answers, is_out_of_memory, once_more};
 use crate::shown::Shown;
-use crate::steps::{Taker, make_steps, read_later_steps, read_steps, room_for};
-use crate::words::{CaseError, Words};
+use crate::steps::{Taker, room_for};
+use crate::words::{CaseError, Word};
 use std::alloc::{AllocError, Global};
 use unftp_control_codecs::FtpCodec;
 use unftp_control_message::Command;
-use unftp_control_message::reply::error::{ControlChanError, ControlChanErrorKind, Source};
+use unftp_control_message::reply::error::{ControlChanError, Source};
 
 /// What `decode` returns.
 type Decoded = Result<Option<Command>, ControlChanError>;
-
-/// Whether memory ran out.
-fn is_out_of_memory(decoded: &Decoded) -> bool {
-    match decoded {
-        Ok(_) => false,
-        Err(error) => *error.kind() == ControlChanErrorKind::OutOfMemory,
-    }
-}
 
 /// Writes the kinds of a refusal and of its source.
 pub fn put_refusal(error: &ControlChanError, answers: &mut Answers) {
@@ -46,13 +38,13 @@ fn put_decoded(decoded: Decoded, answers: &mut Answers) -> bool {
 pub struct Decoding {
     alloc: Global,
     codec: FtpCodec,
-    buf: Vec<u8>,
+    pub buf: Vec<u8>,
     ghost within: { codec.place ≤ vec_len buf },
 }
 
 impl Decoding {
-    /// A new codec and its buffer.
-    pub fn of(alloc: Global, buf: Vec<u8>) -> Decoding {
+    /// A new codec, and what its buffer has.
+    pub fn new(alloc: Global, buf: Vec<u8>) -> Decoding {
         Decoding {
             alloc,
             codec: FtpCodec::new(),
@@ -62,13 +54,7 @@ impl Decoding {
 
     /// What `decode` returns; once more where memory ran out.
     pub fn next_command(&mut self, answers: &mut Answers) -> Decoded {
-        let decoded = self.codec.decode(self.alloc, &mut self.buf);
-        if !is_out_of_memory(&decoded) {
-            return decoded;
-        }
-        drop(decoded);
-        answers.out_of_memory();
-        self.codec.decode(self.alloc, &mut self.buf)
+        once_more!(answers, self.codec.decode(self.alloc, &mut self.buf))
     }
 }
 
@@ -77,19 +63,14 @@ impl Taker for Decoding {
         self.buf.extend_from_slice(piece)
     }
 
-    fn pending(&self) -> usize {
+    fn most(&self) -> usize {
         self.buf.len()
     }
 
     fn take(&mut self, answers: &mut Answers) -> bool {
         let is_line = put_decoded(self.next_command(answers), answers);
-        answers.put_unless(!is_line, " | ");
+        answers.put_where(is_line, " | ");
         is_line
-    }
-
-    fn clear(&mut self) {
-        self.codec = FtpCodec::new();
-        self.buf.clear();
     }
 
     /// Writes how many bytes are left; also the scan offset, where it isn't at their end, and
@@ -100,25 +81,19 @@ impl Taker for Decoding {
         if place != left {
             answers.put(format_args!(" place={place}"));
         }
-        answers.put_unless(!self.codec.skipping(), " skipping");
+        answers.put_where(self.codec.skipping(), " skipping");
     }
 }
 
-/// `decode LIMIT STEP..`
-pub fn answer_decode(words: &mut Words<'_>, answers: &mut Answers) -> Result<(), CaseError> {
-    let codec = match words.limit()? {
-        Some(limit) => FtpCodec::with_limit(limit),
-        None => FtpCodec::new(),
-    };
-    let steps = read_steps(words)?;
+/// `decode LIMIT PIECE..`
+pub fn answer_decode(limit: &Word<'_>, pieces: &[Word<'_>], answers: &mut Answers) -> Answered {
+    let buf = Vec::with_capacity(answers.alloc, room_for(pieces))?;
     let mut decoding = Decoding {
-        alloc: words.alloc,
-        codec,
-        buf: Vec::with_capacity(words.alloc, room_for(steps.as_slice()))?,
+        alloc: answers.alloc,
+        codec: FtpCodec::resume(limit.limit()?, 0, false),
+        buf,
     };
-    answers.begin();
-    make_steps(&mut decoding, steps.as_slice(), answers);
-    Ok(())
+    decoding.feed_all(pieces, answers)
 }
 
 /// A codec, and bytes whose first ones are taken.
@@ -137,14 +112,11 @@ impl Slicing {
     /// What `decode_slice` returns of the bytes that are left; once more where memory ran out.
     fn next_command(&mut self, answers: &mut Answers) -> (usize, Decoded) {
         let (_, rest) = self.bytes.as_slice().split_at(self.start);
-        let (taken, decoded) = self.codec.decode_slice(self.alloc, rest);
-        if !is_out_of_memory(&decoded) {
-            self.start += taken;
-            return (taken, decoded);
+        let (mut taken, mut decoded) = self.codec.decode_slice(self.alloc, rest);
+        if is_out_of_memory(&decoded) {
+            answers.out_of_memory();
+            (taken, decoded) = self.codec.decode_slice(self.alloc, rest);
         }
-        drop(decoded);
-        answers.out_of_memory();
-        let (taken, decoded) = self.codec.decode_slice(self.alloc, rest);
         self.start += taken;
         (taken, decoded)
     }
@@ -153,7 +125,7 @@ impl Slicing {
     fn put_taken(&self, taken: usize, answers: &mut Answers) {
         let place = self.codec.place();
         answers.put(format_args!(" taken={taken} place={place}"));
-        answers.put_unless(!self.codec.skipping(), " skipping");
+        answers.put_where(self.codec.skipping(), " skipping");
     }
 }
 
@@ -162,7 +134,7 @@ impl Taker for Slicing {
         self.bytes.extend_from_slice(piece)
     }
 
-    fn pending(&self) -> usize {
+    fn most(&self) -> usize {
         self.bytes.len()
     }
 
@@ -177,36 +149,41 @@ impl Taker for Slicing {
         true
     }
 
-    fn clear(&mut self) {
-        self.codec = FtpCodec::new();
-        self.bytes.clear();
-        self.start = 0;
-    }
-
     fn put_left(&self, answers: &mut Answers) {
         answers.put("none");
         self.put_taken(self.dropped, answers);
     }
 }
 
-/// `decode_slice LIMIT PLACE PIECE STEP..`
-pub fn answer_decode_slice(words: &mut Words<'_>, answers: &mut Answers) -> Result<(), CaseError> {
-    let limit = words.limit()?;
-    let place = words.number()?;
-    let bytes = words.bytes()?;
+/// `decode_slice LIMIT PLACE PIECE..`
+pub fn answer_decode_slice(
+    limit: &Word<'_>,
+    place: &Word<'_>,
+    pieces: &[Word<'_>],
+    answers: &mut Answers,
+) -> Answered {
+    let (limit, place) = (limit.limit()?, place.number()?);
+    let [first, later @ ..] = pieces else {
+        return Err(CaseError::NoCase);
+    };
+    let mut bytes = Vec::with_capacity(answers.alloc, room_for(pieces))?;
+    bytes.extend_from_slice(first.bytes()?)?;
     if place > bytes.len() {
         return Err(CaseError::NoCase);
     }
-    let steps = read_later_steps(words)?;
     let mut slicing = Slicing {
-        alloc: words.alloc,
+        alloc: answers.alloc,
         codec: FtpCodec::resume(limit, place, false),
         bytes,
         start: 0,
         dropped: 0,
     };
-    slicing.bytes.reserve(room_for(steps.as_slice()))?;
     answers.begin();
-    make_steps(&mut slicing, steps.as_slice(), answers);
+    slicing.feed(&[], answers);
+    slicing.put_left(answers);
+    if !later.is_empty() {
+        answers.put(" | ");
+        slicing.feed_all(later, answers)?;
+    }
     Ok(())
 }

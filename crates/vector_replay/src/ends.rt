@@ -1,25 +1,25 @@
 //! How the calls of a session end.
-use crate::streams::INTERRUPTED;
+use crate::answers::Failure;
 use std::fmt::{Display, Formatter, Write};
 use std::io::ErrorKind;
 use std::{fmt, io};
-use unftp_control_message::reply::error::{ControlChanError, ControlChanErrorKind, Source};
+use unftp_control_message::reply::error::{ControlChanError, Source};
 use unftp_control_serve::{ServeError, Served};
 
 /// How a call ended.
 #[derive(Drop)]
 pub struct End {
-    error: Option<ServeError>,
+    pub error: Option<ServeError>,
     /// How many bytes are left, where that is known.
-    left: Option<u64>,
+    pub left: Option<u64>,
     /// Whether the handler has ended the session.
-    is_done: bool,
+    pub is_done: bool,
 }
 
 impl End {
     /// How `serve` ended.
-    pub fn of_serve(answer: Result<Served, ServeError>) -> End {
-        match answer {
+    pub fn of_serve(served: Result<Served, ServeError>) -> End {
+        match served {
             Ok(served) => End {
                 error: None,
                 left: Some(served.left),
@@ -33,34 +33,20 @@ impl End {
         }
     }
 
-    /// How `feed` ended, after which so many bytes are left and the engine is finished or not.
-    pub fn of_feed(answer: Result<(), ServeError>, left: u64, is_done: bool) -> End {
-        End {
-            error: answer.err(),
-            left: Some(left),
-            is_done,
-        }
-    }
-
     /// Whether memory ran out.
     pub fn is_out_of_memory(&self) -> bool {
         match &self.error {
-            Some(ServeError::Handler(error)) => is_lack_of_memory(error),
+            Some(ServeError::Handler(error)) => error.is_out_of_memory(),
             error => matches!(error, Some(ServeError::OutOfMemory)),
         }
     }
 }
 
-/// Whether memory ran out in the handler.
-fn is_lack_of_memory(error: &ControlChanError) -> bool {
-    *error.kind() == ControlChanErrorKind::OutOfMemory
-}
-
 /// Writes which call of a stream failed, and with which error of the system, where that is not
-/// `INTERRUPTED`.
+/// EINTR.
 fn put_failure<W: Write>(call: &str, error: &io::Error, f: &mut Formatter<W>) -> fmt::Result {
     match error.raw_os_error() {
-        Some(number) if number == INTERRUPTED => f.write_str(call),
+        Some(4) => f.write_str(call),
         Some(number) => write!(f, "{call} {number}"),
         None => write!(f, "{call} another"),
     }
@@ -68,7 +54,7 @@ fn put_failure<W: Write>(call: &str, error: &io::Error, f: &mut Formatter<W>) ->
 
 /// Writes the kind of a handler's error, and its source.
 fn put_handler<W: Write>(error: &ControlChanError, f: &mut Formatter<W>) -> fmt::Result {
-    if is_lack_of_memory(error) {
+    if error.is_out_of_memory() {
         return f.write_str("handler-out-of-memory");
     }
     write!(f, "handler {:?} ", error.kind())?;

@@ -1,10 +1,11 @@
-//! Calls of a decoder of events.
-use crate::answers::{Answers, once_more};
+//! Calls of a decoder of events, and of a log of them.
+use crate::answers::{Answered, Answers, once_more};
 use crate::decoding::put_refusal;
 use crate::shown::{Quoted, Shown};
-use crate::steps::{Taker, make_steps, read_steps};
-use crate::words::{CaseError, Words};
+use crate::steps::{Clear, Taker, make_steps};
+use crate::words::{CaseError, Word};
 use std::alloc::AllocError;
+use unftp_control_log::write_log_line;
 use unftp_control_serve::{Event, EventDecoder};
 
 /// A decoder of events.
@@ -20,12 +21,12 @@ impl Taker for Events {
         self.decoder.push(piece)
     }
 
-    fn pending(&self) -> usize {
+    fn most(&self) -> usize {
         self.decoder.pending().len()
     }
 
     fn take(&mut self, answers: &mut Answers) -> bool {
-        let Some(Some(event)) = once_more!(answers, self.decoder.next_event()) else {
+        let Ok(Some(event)) = once_more!(answers, self.decoder.next_event()) else {
             return false;
         };
         match &event {
@@ -40,13 +41,9 @@ impl Taker for Events {
         true
     }
 
-    fn clear(&mut self) {
-        self.decoder.clear();
-    }
-
     /// Writes how many bytes are left, and how many of these are pending, where it isn't all.
     fn put_left(&self, answers: &mut Answers) {
-        let (left, pending) = (self.decoder.left(), self.pending() as u64);
+        let (left, pending) = (self.decoder.left(), self.most() as u64);
         answers.put(format_args!("left={left}"));
         if pending != left {
             answers.put(format_args!(" pending={pending}"));
@@ -54,26 +51,41 @@ impl Taker for Events {
     }
 }
 
-/// A decoder with the limit that the next word is, or without one.
-pub fn read_decoder(words: &mut Words<'_>) -> Result<EventDecoder, CaseError> {
-    Ok(match words.limit()? {
-        Some(limit) => EventDecoder::with_limit(words.alloc, limit),
-        None => EventDecoder::new(words.alloc),
+impl Clear for Events {
+    fn clear(&mut self) {
+        self.decoder.clear();
+    }
+}
+
+/// A decoder with this limit, or without one.
+fn read_decoder(limit: &Word<'_>, answers: &Answers) -> Result<EventDecoder, CaseError> {
+    Ok(match limit.limit()? {
+        Some(limit) => EventDecoder::with_limit(answers.alloc, limit),
+        None => EventDecoder::new(answers.alloc),
     })
 }
 
 /// `events LIMIT STEP..`, or `event_lines LIMIT STEP..`, which writes each event's line too.
 pub fn answer_events(
+    limit: &Word<'_>,
+    steps: &[Word<'_>],
     has_lines: bool,
-    words: &mut Words<'_>,
     answers: &mut Answers,
-) -> Result<(), CaseError> {
-    let mut events = Events {
-        decoder: read_decoder(words)?,
-        has_lines,
-    };
-    let steps = read_steps(words)?;
+) -> Answered {
+    let decoder = read_decoder(limit, answers)?;
+    make_steps(&mut Events { decoder, has_lines }, steps, answers)
+}
+
+/// `log LIMIT LINE`
+pub fn answer_log(limit: &Word<'_>, line: &Word<'_>, answers: &mut Answers) -> Answered {
+    let mut decoder = read_decoder(limit, answers)?;
+    decoder.push(line.bytes()?)?;
+    let event = decoder.next_event()?.ok_or(CaseError::NoCase)?;
+    let mut buf = Vec::from_slice(answers.alloc, b"x")?;
     answers.begin();
-    make_steps(&mut events, steps.as_slice(), answers);
+    let logged = once_more!(answers, write_log_line(&event, decoder.line(), &mut buf));
+    drop(event);
+    let failure = if logged.is_ok() { None } else { Some("failed") };
+    answers.put_appended(failure, buf.as_slice());
     Ok(())
 }

@@ -6,6 +6,7 @@ ghost use Rattle.std.specs.Prelude.{false, codes};
 
 use crate::answers::Answers;
 use crate::shown::Shown;
+use crate::streams::Turns;
 use demo_responses::Responses;
 use std::alloc::Global;
 use std::io;
@@ -15,13 +16,12 @@ use unftp_control_message::reply::{Reply, ReplyCode};
 use unftp_control_serve::{Count, Event, Handler, Session};
 
 /// A handler that is tried from its start.
-pub trait Tried: Session + Drop {
-    /// A new one. Of the events, counted from 1, it fails at this one if it is a handler that
-    /// fails; where it transfers, its data connection fails at this one of its calls.
-    fn start(alloc: Global, fails_at: u32) -> Self;
+pub trait Tried<'a>: Session + Drop {
+    /// A new one. The turns say at which events it fails, or at which calls its data connection.
+    fn start(alloc: Global, turns: Turns<'a>) -> Self;
 
     /// Writes the last event, or what was transferred, if it keeps that.
-    fn put_last(&self, _answers: &mut Answers) {}
+    fn put_last(&self, answers: &mut Answers);
 }
 
 /// Counts the events that a handler takes.
@@ -61,30 +61,33 @@ impl<H: Session + Drop> Session for Counting<H> {
 }
 
 /// The handler of `control_demo`.
-impl Tried for Responses {
-    fn start(_alloc: Global, _fails_at: u32) -> Responses {
+impl<'a> Tried<'a> for Responses {
+    fn start(_alloc: Global, _turns: Turns<'a>) -> Responses {
         Responses::new()
     }
+
+    fn put_last(&self, _answers: &mut Answers) {}
 }
 
 /// Says `200 OK` to each event, and fails at one of them.
 #[derive(Drop)]
-pub struct Okay {
-    /// The event at which it fails, counted from 1 that is the next; 0 for none.
-    fails_in: u32,
+pub struct Okay<'a> {
+    turns: Turns<'a>,
     failures: Count,
 }
 
-impl Tried for Okay {
-    fn start(_alloc: Global, fails_at: u32) -> Okay {
+impl<'a> Tried<'a> for Okay<'a> {
+    fn start(_alloc: Global, turns: Turns<'a>) -> Okay<'a> {
         Okay {
-            fails_in: fails_at,
+            turns,
             failures: Count::new(),
         }
     }
+
+    fn put_last(&self, _answers: &mut Answers) {}
 }
 
-impl Handler for Okay {
+impl Handler for Okay<'_> {
     ghost State = { Unit {0} };
 
     ghost state = { λ _. tt };
@@ -100,12 +103,10 @@ impl Handler for Okay {
 
     fn handle(&mut self, alloc: Global, event: Event) -> Result<Reply, ControlChanError> {
         drop(event);
-        let answer = if self.fails_in == 1 {
-            Err(ControlChanError::new(ControlChanErrorKind::IllegalState))
-        } else {
-            Reply::new(alloc, ReplyCode::CommandOkay, "OK")
+        let answer = match self.turns.next() {
+            Ok(_) => Reply::new(alloc, ReplyCode::CommandOkay, "OK"),
+            Err(_) => Err(ControlChanError::new(ControlChanErrorKind::IllegalState)),
         };
-        self.fails_in = self.fails_in.saturating_sub(1);
         if answer.is_err() {
             self.failures.raise();
         }
@@ -124,8 +125,8 @@ pub struct Silent {
     failures: Count,
 }
 
-impl Tried for Silent {
-    fn start(_alloc: Global, _fails_at: u32) -> Silent {
+impl<'a> Tried<'a> for Silent {
+    fn start(_alloc: Global, _turns: Turns<'a>) -> Silent {
         Silent {
             last: None,
             failures: Count::new(),
@@ -173,10 +174,12 @@ impl Handler for Silent {
 #[derive(Drop)]
 pub struct EchoError(Count);
 
-impl Tried for EchoError {
-    fn start(_alloc: Global, _fails_at: u32) -> EchoError {
+impl<'a> Tried<'a> for EchoError {
+    fn start(_alloc: Global, _turns: Turns<'a>) -> EchoError {
         EchoError(Count::new())
     }
+
+    fn put_last(&self, _answers: &mut Answers) {}
 }
 
 impl Handler for EchoError {

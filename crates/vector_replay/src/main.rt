@@ -1,7 +1,6 @@
 //! Answers cases of calls of the library (`vectors/README.md`): reads one a line from standard
-//! input, and writes its answer. What is no case is answered by `bad-case`. With the one argument
-//! `marks` it also writes to standard error when a call begins and ends, and when one ran out of
-//! memory.
+//! input, and writes its answer. What is no case is answered by `bad-case`. With an argument it
+//! also writes to standard error when a call begins and ends, and when one ran out of memory.
 #![tactic(auto)]
 
 mod answers;
@@ -10,14 +9,11 @@ mod commands;
 mod decoding;
 mod ends;
 mod events;
-mod forms;
 mod handlers;
 mod lines;
-mod logs;
 mod reading;
 mod replies;
 mod sessions;
-mod settings;
 mod shown;
 mod steps;
 mod streams;
@@ -26,130 +22,93 @@ mod transfers;
 mod words;
 mod writing;
 
-use answers::Answers;
-use commands::Made;
-use lines::BytesCall;
-use sessions::Call;
-use std::alloc::Global;
-use std::io::{BufRead, BufReader, BufWriter};
+use answers::{Answered, Answers};
+use std::io::{BufRead, BufReader};
 use std::process::ExitCode;
 use std::{env, io};
-use words::{CaseError, Words};
+use words::{CaseError, Word, read_words};
 
-/// Answers a call on lines and commands, or one of another subject.
-fn answer_call(call: &str, words: &mut Words<'_>, answers: &mut Answers) -> Result<(), CaseError> {
-    match call {
-        "parse" => lines::answer_bytes(BytesCall::Parse, words, answers),
-        "display" => lines::answer_display(words, answers),
-        "password" => lines::answer_password(words, answers),
-        "is_verb" => lines::answer_is_verb(words, answers),
-        "write" => writing::answer_write(words, answers),
-        "canonical" => lines::answer_bytes(BytesCall::Canonical, words, answers),
-        "forward" => writing::answer_forward(words, answers),
-        "decode" => decoding::answer_decode(words, answers),
-        "decode_slice" => decoding::answer_decode_slice(words, answers),
-        "events" => events::answer_events(false, words, answers),
-        "event_lines" => events::answer_events(true, words, answers),
-        "log" => logs::answer_log(words, answers),
-        "serve" => sessions::answer_session(Call::Serve, words, answers),
-        "feed" => sessions::answer_session(Call::Feed, words, answers),
-        call => answer_reply_call(call, words, answers),
+/// Answers a call on lines, commands and sessions, or one of another subject.
+fn answer_call(call: &str, words: &[Word<'_>], answers: &mut Answers) -> Answered {
+    match (call, words) {
+        ("parse", [line]) => lines::answer_parse(line.bytes()?, answers),
+        ("display", [line]) => lines::answer_display(line.bytes()?, answers),
+        ("password", [bytes]) => lines::answer_password(bytes.bytes()?, answers),
+        ("is_verb", words) => lines::answer_is_verb(words, answers),
+        ("write", [variant, fields @ ..]) => writing::answer_write(variant, fields, answers),
+        ("canonical", [line]) => writing::answer_canonical(line.bytes()?, answers),
+        ("forward", [line]) => writing::answer_forward(line.bytes()?, answers),
+        ("decode", [limit, pieces @ ..]) => decoding::answer_decode(limit, pieces, answers),
+        ("decode_slice", [limit, place, pieces @ ..]) => {
+            decoding::answer_decode_slice(limit, place, pieces, answers)
+        }
+        ("events", [limit, steps @ ..]) => events::answer_events(limit, steps, false, answers),
+        ("event_lines", [limit, steps @ ..]) => events::answer_events(limit, steps, true, answers),
+        ("log", [limit, line]) => events::answer_log(limit, line, answers),
+        ("serve", words) => sessions::answer_session(true, words, answers),
+        ("feed", words) => sessions::answer_session(false, words, answers),
+        _ => answer_reply_call(call, words, answers),
     }
 }
 
 /// Answers a call on replies, or one that makes texts.
-fn answer_reply_call(
-    call: &str,
-    words: &mut Words<'_>,
-    answers: &mut Answers,
-) -> Result<(), CaseError> {
-    match call {
-        "encode" => replies::answer_encode(words, answers),
-        "lines" => replies::answer_lines(words, answers),
-        "says" => replies::answer_says(words, answers),
-        "code" => replies::answer_code(words, answers),
-        "read" => lines::answer_bytes(BytesCall::Read, words, answers),
-        "receive" => reading::answer_receive(words, answers),
-        "client" => clients::answer_client(words, answers),
-        "reply" => commands::answer_reply(words, answers),
-        call => answer_text_call(call, words, answers),
-    }
-}
-
-/// Answers a call that makes a text or a reply of one.
-fn answer_text_call(
-    call: &str,
-    words: &mut Words<'_>,
-    answers: &mut Answers,
-) -> Result<(), CaseError> {
-    match call {
-        "epsv" => commands::answer_epsv(words, answers),
-        "facts" => commands::answer_facts(words, answers),
-        "password_from_text" => commands::answer_of_text(Made::Password, words, answers),
-        "quoted_path" => commands::answer_of_text(Made::QuotedPath, words, answers),
-        "single_line" => commands::answer_of_text(Made::SingleLine, words, answers),
-        "text" => texts::answer_text(words, answers),
+fn answer_reply_call(call: &str, words: &[Word<'_>], answers: &mut Answers) -> Answered {
+    match (call, words) {
+        ("encode", words) => replies::answer_encode(words, answers),
+        ("lines", [code, lines @ ..]) => replies::answer_lines(code, lines, answers),
+        ("says", words) => replies::answer_says(words, answers),
+        ("code", [number]) => replies::answer_code(number, answers),
+        ("read", [bytes]) => reading::answer_read(bytes.bytes()?, answers),
+        ("receive", [limit, steps @ ..]) => reading::answer_receive(limit, steps, answers),
+        ("client", [limit, acts @ ..]) => clients::answer_client(limit, acts, answers),
+        ("reply", [line, Word::Bare("cwd"), cwd, found @ ..]) => {
+            commands::answer_mlst(line.bytes()?, cwd.text()?, found, answers)
+        }
+        ("reply", [line, settings @ ..]) => {
+            commands::answer_reply(line.bytes()?, settings, answers)
+        }
+        ("epsv", [port]) => commands::answer_epsv(port, answers),
+        ("facts", file) => commands::answer_facts(file, answers),
+        ("password_from_text", [text]) => texts::answer_password(text.text()?, answers),
+        ("quoted_path", [path]) => texts::answer_quoted_path(path.text()?, answers),
+        ("single_line", [text]) => texts::answer_single_line(text.text()?, answers),
+        ("text", [error, variant]) => texts::answer_text(error, variant, answers),
         _ => Err(CaseError::NoCase),
     }
 }
 
 /// Answers the case that a line is.
-fn answer_case(alloc: Global, line: &str, answers: &mut Answers) -> Result<(), CaseError> {
-    let mut words = Words::of(alloc, line);
-    let call = words.word()?;
-    answer_call(call, &mut words, answers)
+fn answer_case(line: &str, answers: &mut Answers) -> Answered {
+    let words = read_words(answers.alloc, line)?;
+    let [call, given @ ..] = words.as_slice() else {
+        return Err(CaseError::NoCase);
+    };
+    answer_call(call.name().ok_or(CaseError::NoCase)?, given, answers)
 }
 
 /// Answers a line of standard input.
-fn answer_line(alloc: Global, line: &str, answers: &mut Answers) -> io::Result<()> {
-    match answer_case(alloc, line, answers) {
+fn answer_line(line: &str, answers: &mut Answers) -> io::Result<()> {
+    let answered = answer_case(line, answers);
+    answers.begin();
+    match answered {
         Ok(()) => {}
-        Err(CaseError::NoCase) => {
-            answers.begin();
-            answers.put("bad-case");
-        }
+        Err(CaseError::NoCase) => answers.put("bad-case"),
         Err(CaseError::OutOfMemory) => return Err(io::ErrorKind::OutOfMemory.into()),
     }
-    answers.end();
     answers.end_line()
 }
 
-/// Answers each line of standard input.
-fn answer_lines(rt: &HostRuntime, answers: &mut Answers) -> io::Result<()> {
-    let alloc = rt.alloc();
-    for line in BufReader::new(alloc, rt.reader())?.lines(alloc) {
-        answer_line(alloc, line?.as_str(), answers)?;
+/// Answers standard input, with marks where an argument asks for them.
+fn replay(rt: &HostRuntime) -> io::Result<()> {
+    let mut answers = Answers::new(rt, env::args(rt)?.nth(1).is_some())?;
+    for line in BufReader::new(answers.alloc, rt.reader())?.lines(answers.alloc) {
+        answer_line(line?.as_str(), &mut answers)?;
     }
     answers.flush()
 }
 
-/// Answers standard input, with marks or without.
-fn replay(rt: &HostRuntime, has_marks: bool) -> io::Result<()> {
-    let out = BufWriter::new(rt.alloc(), rt.stdout())?;
-    let marks = if has_marks { Some(rt.stderr()) } else { None };
-    answer_lines(rt, &mut Answers::new(out, marks))
-}
-
-/// Whether marks are asked for; `None` where the arguments are not known.
-fn marks_asked(rt: &HostRuntime) -> io::Result<Option<bool>> {
-    let mut arguments = env::args(rt)?.skip(1);
-    let Some(first) = arguments.next() else {
-        return Ok(Some(false));
-    };
-    let is_known = first.as_str() == "marks" && arguments.next().is_none();
-    Ok(if is_known { Some(true) } else { None })
-}
-
 fn main(rt: HostRuntime) -> ExitCode {
-    let replayed = match marks_asked(&rt) {
-        Ok(Some(has_marks)) => replay(&rt, has_marks),
-        Ok(None) => {
-            let _ = eprintln!(rt; "usage: vector_replay [marks]");
-            return ExitCode::from(2);
-        }
-        Err(error) => Err(error),
-    };
-    match replayed {
+    match replay(&rt) {
         Ok(()) => ExitCode::SUCCESS,
         Err(error) => {
             let _ = eprintln!(rt; "vector_replay: {error}");

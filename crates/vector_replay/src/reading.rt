@@ -1,9 +1,9 @@
 //! Calls that read replies.
-use crate::answers::Answers;
+use crate::answers::{Answered, Answers, once_more};
 use crate::shown::Quoted;
-use crate::steps::{Taker, make_steps, read_steps};
-use crate::words::{CaseError, Words};
-use std::alloc::{AllocError, Global};
+use crate::steps::{Clear, Taker, make_steps};
+use crate::words::Word;
+use std::alloc::AllocError;
 use unftp_control_read::{Front, NextReplyError, ReadReplyError, ReplyDecoder, read_reply};
 
 /// Writes the code of a reply and its lines.
@@ -16,21 +16,10 @@ fn put_reply(code: u16, lines: &[Vec<u8>], answers: &mut Answers) {
     }
 }
 
-/// What `read_reply` returns; once more where memory ran out.
-fn read_front(alloc: Global, bytes: &[u8], answers: &mut Answers) -> Result<Front, ReadReplyError> {
-    match read_reply(alloc, bytes) {
-        Err(ReadReplyError::OutOfMemory) => {
-            answers.out_of_memory();
-            read_reply(alloc, bytes)
-        }
-        read => read,
-    }
-}
-
 /// Writes the reply at the start of some bytes after the separator, and returns how many bytes it
 /// has; or writes why there is none.
-fn put_front(alloc: Global, bytes: &[u8], separator: &str, answers: &mut Answers) -> Option<usize> {
-    let end = match read_front(alloc, bytes, answers) {
+fn put_front(bytes: &[u8], separator: &str, answers: &mut Answers) -> Option<usize> {
+    let end = match once_more!(answers, read_reply(answers.alloc, bytes)) {
         Ok(Front::Whole { code, lines, used }) => {
             answers.put(separator);
             put_reply(code, lines.as_slice(), answers);
@@ -38,24 +27,26 @@ fn put_front(alloc: Global, bytes: &[u8], separator: &str, answers: &mut Answers
         }
         Ok(Front::Partial) => "",
         Err(ReadReplyError::Malformed) => " malformed",
-        Err(ReadReplyError::OutOfMemory) => " out of memory",
+        Err(ReadReplyError::OutOfMemory) => " failed",
     };
     answers.put(format_args!(" rest={}{end}", bytes.len()));
     None
 }
 
-/// Writes the replies that some bytes hold, and what is left.
-pub fn put_fronts(alloc: Global, stream: &[u8], answers: &mut Answers) {
-    let mut rest = stream;
+/// `read BYTES`
+pub fn answer_read(bytes: &[u8], answers: &mut Answers) -> Answered {
+    answers.begin();
+    let mut rest = bytes;
     let mut separator = "";
     // a reply takes bytes, so the last call finds none
-    for _ in 0..=stream.len() {
-        let Some(used) = put_front(alloc, rest, separator, answers) else {
+    for _ in 0..=bytes.len() {
+        let Some(used) = put_front(rest, separator, answers) else {
             break;
         };
         rest = rest.split_at(used.min(rest.len())).1;
         separator = ";";
     }
+    Ok(())
 }
 
 /// Writes why no reply is taken.
@@ -67,32 +58,17 @@ pub fn put_no_reply(error: &NextReplyError, answers: &mut Answers) {
     });
 }
 
-/// What the call returns; once more where memory ran out.
-macro_rules! next_reply_of {
-    ($decoder:expr, $answers:expr) => {
-        match $decoder.next_reply() {
-            Err(NextReplyError::OutOfMemory) => {
-                $answers.out_of_memory();
-                $decoder.next_reply()
-            }
-            taken => taken,
-        }
-    };
-}
-
-pub(crate) use next_reply_of;
-
 impl Taker for ReplyDecoder {
     fn push(&mut self, piece: &[u8]) -> Result<(), AllocError> {
         ReplyDecoder::push(self, piece)
     }
 
-    fn pending(&self) -> usize {
-        ReplyDecoder::pending(self).len()
+    fn most(&self) -> usize {
+        self.pending().len()
     }
 
     fn take(&mut self, answers: &mut Answers) -> bool {
-        match next_reply_of!(self, answers) {
+        match once_more!(answers, self.next_reply()) {
             Ok(Some(reply)) => {
                 put_reply(reply.code, reply.lines.as_slice(), answers);
                 answers.put(" | ");
@@ -104,23 +80,22 @@ impl Taker for ReplyDecoder {
         false
     }
 
+    fn put_left(&self, answers: &mut Answers) {
+        answers.put(format_args!("left={}", self.most()));
+    }
+}
+
+impl Clear for ReplyDecoder {
     fn clear(&mut self) {
         ReplyDecoder::clear(self);
-    }
-
-    fn put_left(&self, answers: &mut Answers) {
-        answers.put(format_args!("left={}", Taker::pending(self)));
     }
 }
 
 /// `receive LIMIT STEP..`
-pub fn answer_receive(words: &mut Words<'_>, answers: &mut Answers) -> Result<(), CaseError> {
-    let mut decoder = match words.limit()? {
-        Some(limit) => ReplyDecoder::with_limit(words.alloc, limit),
-        None => ReplyDecoder::new(words.alloc),
+pub fn answer_receive(limit: &Word<'_>, steps: &[Word<'_>], answers: &mut Answers) -> Answered {
+    let mut decoder = match limit.limit()? {
+        Some(limit) => ReplyDecoder::with_limit(answers.alloc, limit),
+        None => ReplyDecoder::new(answers.alloc),
     };
-    let steps = read_steps(words)?;
-    answers.begin();
-    make_steps(&mut decoder, steps.as_slice(), answers);
-    Ok(())
+    make_steps(&mut decoder, steps, answers)
 }

@@ -1,289 +1,278 @@
 //! Sessions: `serve` and `feed` over streams and handlers that may fail.
-use crate::answers::Answers;
+ghost use Rattle.std.specs.Prelude.{◌≤◌, IfSome};
+
+use crate::answers::{Answered, Answers};
 use crate::ends::End;
 use crate::handlers::{Counting, EchoError, Okay, Silent, Tried};
-use crate::settings::{Answering, Settings};
 use crate::shown::Quoted;
-use crate::streams::{Pieces, Room};
+use crate::streams::{Pieces, Room, Turns, Writes};
 use crate::transfers::Wire;
-use crate::words::{CaseError, Words, read_bytes};
+use crate::words::{CaseError, Word};
 use demo_responses::Responses;
-use std::alloc::Global;
+use std::alloc::{AllocError, Global};
 use transferring::Transfers;
 use unftp_control_serve::{Engine, Input, Output, Session, Sink, serve, serve_with_limit};
 
 /// How many bytes of replies are written before the writer's buffer grows.
 const RESERVED: usize = 1 << 16;
 
-/// The call under test.
+/// The words that a session may have before its bytes; a value follows `=`.
+const WORDS: &[&str] = &[
+    "limit=", "handler=", "turns=", "reads=", "writes=", "flushes=", "wary", "again", "appended",
+];
+
+/// Whether a session may have the word before its bytes.
+fn is_known(word: &Word<'_>) -> bool {
+    match word {
+        Word::Bare(word) => WORDS.iter().any(|known| word.starts_with(*known)),
+        Word::Bytes(_) => false,
+    }
+}
+
+/// The words and the bytes of a session.
 #[derive(Clone, Copy)]
-pub enum Call {
-    Serve,
-    Feed,
-}
-
-/// `serve WORD.. INPUT` or `feed WORD.. PIECE..`
-pub fn answer_session(
-    call: Call,
-    words: &mut Words<'_>,
-    answers: &mut Answers,
-) -> Result<(), CaseError> {
-    let session = SessionCase::read(call, words)?;
-    session.answer(answers)
-}
-
-/// What has happened in a session.
-#[derive(Drop)]
-struct Run {
-    /// How each call ended.
-    ends: Vec<End>,
-    /// Whether memory ran out.
-    is_out_of_memory: bool,
-    /// How many reads were made.
-    reads: usize,
-    /// How many bytes were not read.
-    unread: usize,
-}
-
-impl Run {
-    /// A call has ended.
-    fn note(&mut self, end: End) {
-        self.is_out_of_memory = self.is_out_of_memory || end.is_out_of_memory();
-        // there is room for it
-        let _ = self.ends.push(end);
-    }
-
-    /// The calls are made again.
-    fn restart(&mut self) {
-        self.is_out_of_memory = false;
-        self.ends.clear();
-    }
-}
-
-/// A session.
-#[derive(Drop)]
-struct SessionCase {
+struct SessionCase<'a> {
     alloc: Global,
-    call: Call,
-    settings: Settings,
-    /// The bytes between quotes.
-    pieces: Vec<Vec<u8>>,
+    /// Whether it is served, and not fed.
+    is_served: bool,
+    words: &'a [Word<'a>],
+    /// The bytes that are served, or that a buffer holds before replies are appended.
+    first: &'a [u8],
+    /// The pieces that are fed.
+    pieces: &'a [Word<'a>],
 }
 
-impl SessionCase {
-    /// Reads the words and the bytes of a session.
-    fn read(call: Call, words: &mut Words<'_>) -> Result<SessionCase, CaseError> {
-        let mut session = SessionCase {
-            alloc: words.alloc,
-            call,
-            settings: Settings::new(),
-            pieces: Vec::new(words.alloc),
-        };
-        session.take_all(words)?;
-        Ok(session)
+impl<'a> SessionCase<'a> {
+    /// What follows this word's name, if it is there.
+    fn value(&self, name: &str) -> Option<&'a str> {
+        self.words
+            .iter()
+            .find_map(|word| word.name()?.strip_prefix(name))
     }
 
-    /// Takes all words that are left.
-    fn take_all(&mut self, words: &mut Words<'_>) -> Result<(), CaseError> {
-        for word in words.rest() {
-            self.take(word)?;
-        }
-        if self.is_case() {
-            Ok(())
-        } else {
-            Err(CaseError::NoCase)
-        }
+    /// Whether the word is there.
+    fn has(&self, word: &str) -> bool {
+        self.value(word).is_some()
     }
 
-    /// Takes a word, or bytes between quotes.
-    fn take(&mut self, word: &str) -> Result<(), CaseError> {
-        if word.starts_with("\"") {
-            Ok(self.pieces.push(read_bytes(self.alloc, word)?)?)
-        } else {
-            self.settings.set(word)
+    /// The turns that this word has.
+    fn turns(&self, name: &str) -> Turns<'a> {
+        Turns(self.value(name).unwrap_or(""))
+    }
+
+    /// The most bytes of a line, if they are bounded.
+    fn limit(&self) -> Option<usize>
+        ensures { IfSome result (λ limit. 1 ≤ limit) }
+    {
+        match self.value("limit=")?.parse::<usize>() {
+            Ok(limit) if limit > 0 => Some(limit),
+            _ => None,
         }
     }
 
-    /// Whether it has the bytes that it needs.
-    fn is_case(&self) -> bool {
-        match self.call {
-            Call::Serve => self.pieces.len() == 1,
-            Call::Feed => !self.settings.is_appended || !self.pieces.is_empty(),
-        }
-    }
-
-    /// The bytes that are served, or that a buffer holds before replies are appended.
-    fn first_bytes(&self) -> &[u8] {
-        match self.pieces.first() {
-            Some(piece) => piece.as_slice(),
-            None => &[],
-        }
-    }
-
-    /// The bytes that are fed.
-    fn fed(&self) -> &[Vec<u8>] {
-        match self.pieces.as_slice() {
-            [_, fed @ ..] if self.settings.is_appended => fed,
-            pieces => pieces,
-        }
-    }
-
-    /// A run in which nothing has happened, with room for how each call ends.
-    fn new_run(&self) -> Result<Run, CaseError> {
-        Ok(Run {
-            ends: Vec::with_capacity(self.alloc, self.pieces.len().saturating_add(1))?,
-            is_out_of_memory: false,
-            reads: 0,
-            unread: 0,
-        })
-    }
-
-    /// A writer that has taken nothing.
-    fn new_room(&self) -> Result<Room, CaseError> {
-        let held = if self.settings.is_appended {
-            Vec::from_slice(self.alloc, self.first_bytes())?
-        } else {
-            Vec::with_capacity(self.alloc, RESERVED)?
-        };
-        Ok(Room::new(held, self.settings.writes))
-    }
-
-    /// A writer as it was at first, with the buffer of this one.
-    fn restart(&self, room: Room) -> Room {
-        let mut held = room.into_held();
+    /// A writer that holds what it holds at first, in this buffer.
+    fn room(&self, mut held: Vec<u8>) -> Room<'a> {
         held.clear();
-        if self.settings.is_appended {
+        if self.has("appended") {
             // there is room for them
-            let _ = held.extend_from_slice(self.first_bytes());
+            let _ = held.extend_from_slice(self.first);
         }
-        Room::new(held, self.settings.writes)
-    }
-
-    /// Serves the bytes once.
-    fn serve_once<H: Session>(
-        &self,
-        reader: &mut Input<Pieces<'_>>,
-        writer: &mut Output<Room>,
-        handler: &mut H,
-    ) -> End {
-        End::of_serve(match self.settings.limit {
-            0 => serve(self.alloc, reader, writer, handler),
-            limit => serve_with_limit(self.alloc, limit, reader, writer, handler),
-        })
+        let turns = Writes {
+            writes: self.turns("writes="),
+            flushes: self.turns("flushes="),
+            is_wary: self.has("wary"),
+        };
+        Room::new(held, turns)
     }
 
     /// Serves the bytes, and once more where that is asked for.
-    fn serve_all<H: Session>(&self, handler: &mut H, room: Room, run: &mut Run) -> Room {
-        let mut reader = Input::new(Pieces::new(self.first_bytes(), self.settings.reads));
+    fn serve<H: Session>(&self, handler: &mut H, room: Room<'a>, mut ends: Ends) -> Run<'a> {
+        let mut reader = Input::new(Pieces::new(self.first, self.turns("reads=")));
         let mut writer = Output::new(room);
-        run.note(self.serve_once(&mut reader, &mut writer, handler));
-        if self.settings.is_again && !run.is_out_of_memory {
-            run.note(self.serve_once(&mut reader, &mut writer, handler));
+        for _ in 0..=usize::from(self.has("again")) {
+            let served = match self.limit() {
+                None => serve(self.alloc, &mut reader, &mut writer, handler),
+                Some(limit) => {
+                    serve_with_limit(self.alloc, limit, &mut reader, &mut writer, handler)
+                }
+            };
+            if ends.note(End::of_serve(served)) {
+                break;
+            }
         }
-        let pieces = reader.into_inner();
-        run.reads = pieces.reads;
-        run.unread = pieces.rest.len();
-        writer.into_inner()
-    }
-
-    /// An engine that was fed nothing.
-    fn new_engine(&self) -> Engine {
-        match self.settings.limit {
-            0 => Engine::new(self.alloc),
-            limit => Engine::with_limit(self.alloc, limit),
+        let Pieces { reads, rest, .. } = reader.into_inner();
+        Run {
+            ends,
+            room: writer.into_inner(),
+            reads,
+            unread: rest,
         }
     }
 
     /// Feeds the pieces to an engine.
-    fn feed_all<H: Session, K: Sink>(&self, handler: &mut H, sink: &mut K, run: &mut Run) {
-        let mut engine = self.new_engine();
-        for piece in self.fed() {
-            run.note(feed(&mut engine, piece.as_slice(), handler, sink));
+    fn feed<H: Session, K: Sink>(&self, handler: &mut H, sink: &mut K, ends: &mut Ends) {
+        let mut engine = match self.limit() {
+            None => Engine::new(self.alloc),
+            Some(limit) => Engine::with_limit(self.alloc, limit),
+        };
+        for piece in self.pieces {
+            if let Word::Bytes(piece) = piece {
+                let error = engine.feed(piece.as_slice(), handler, sink).err();
+                let _ = ends.note(End {
+                    error,
+                    left: Some(engine.left()),
+                    is_done: engine.finished(),
+                });
+            }
         }
         drop(engine);
     }
 
     /// Makes all calls of the session.
-    fn run<H: Session>(&self, handler: &mut H, room: Room, run: &mut Run) -> Room {
-        if let Call::Serve = self.call {
-            return self.serve_all(handler, room, run);
+    fn run<H: Session>(&self, handler: &mut H, room: Room<'a>, mut ends: Ends) -> Run<'a> {
+        if self.is_served {
+            return self.serve(handler, room, ends);
         }
-        if self.settings.is_appended {
-            let mut held = room.into_held();
-            self.feed_all(handler, &mut held, run);
-            return Room::new(held, self.settings.writes);
+        let room = if self.has("appended") {
+            let mut room = room;
+            self.feed(handler, &mut room.held, &mut ends);
+            room
+        } else {
+            let mut output = Output::new(room);
+            self.feed(handler, &mut output, &mut ends);
+            output.into_inner()
+        };
+        Run {
+            ends,
+            room,
+            reads: 0,
+            unread: &[],
         }
-        let mut output = Output::new(room);
-        self.feed_all(handler, &mut output, run);
-        output.into_inner()
-    }
-
-    /// Writes what was read, of a session that is served.
-    fn put_read(&self, run: &Run, answers: &mut Answers) {
-        if let Call::Feed = self.call {
-            return;
-        }
-        let bytes = self.first_bytes();
-        let (_, unread) = bytes.split_at(bytes.len().saturating_sub(run.unread));
-        answers.put(format_args!(" reads={} unread={}", run.reads, Quoted(unread)));
     }
 
     /// A handler that has taken nothing.
-    fn start<H: Tried>(&self) -> Counting<H> {
+    fn start<H: Tried<'a>>(&self) -> Counting<H> {
         Counting {
-            handler: H::start(self.alloc, self.settings.fails_at),
+            handler: H::start(self.alloc, self.turns("turns=")),
             taken: 0,
         }
     }
 
-    /// Answers a session by this handler. Where memory ran out, it is made again from the start.
-    fn answer_by<H: Tried>(&self, run: &mut Run, room: Room, answers: &mut Answers) {
+    /// Answers the session by this handler. Where memory ran out, it is made again from the start.
+    fn answer_by<H: Tried<'a>>(&self, buffer: Vec<u8>, ends: Ends, answers: &mut Answers) {
         let mut handler = self.start::<H>();
-        let mut room = self.run(&mut handler, room, run);
-        if run.is_out_of_memory {
-            answers.out_of_memory_after(run.ends.as_slice(), room.held.as_slice());
-            run.restart();
+        let mut run = self.run(&mut handler, self.room(buffer), ends);
+        if run.ends.is_out_of_memory {
+            answers.out_of_memory_after(run.ends.ends.as_slice(), run.room.held.as_slice());
+            let Run { room, mut ends, .. } = run;
+            ends.clear();
             handler = self.start::<H>();
-            room = self.run(&mut handler, self.restart(room), run);
+            run = self.run(&mut handler, self.room(room.into_held()), ends);
         }
-        put_written(&room, run, answers);
+        for end in run.ends.ends.as_slice() {
+            answers.put(format_args!("{end} | "));
+        }
+        let written = Quoted(run.room.held.as_slice());
+        answers.put(format_args!("written={written} flushed={} ", run.room.flushed));
         answers.put(format_args!("taken={}", handler.taken));
         handler.handler.put_last(answers);
-        self.put_read(run, answers);
+        if self.is_served {
+            answers.put(format_args!(" reads={} unread={}", run.reads, Quoted(run.unread)));
+        }
     }
 
-    /// Answers a session.
-    fn answer(&self, answers: &mut Answers) -> Result<(), CaseError> {
-        let mut run = self.new_run()?;
-        let room = self.new_room()?;
+    /// Answers the session.
+    fn answer(&self, answers: &mut Answers) -> Answered {
+        let ends = Ends::with_room(self.alloc, self.pieces.len())?;
+        let buffer = Vec::with_capacity(self.alloc, self.reserved())?;
         answers.begin();
-        match self.settings.handler {
-            Answering::Demo => self.answer_by::<Responses>(&mut run, room, answers),
-            Answering::Okay => self.answer_by::<Okay>(&mut run, room, answers),
-            Answering::Silent => self.answer_by::<Silent>(&mut run, room, answers),
-            Answering::EchoError => self.answer_by::<EchoError>(&mut run, room, answers),
-            Answering::Transfers => self.answer_by::<Transfers<Wire>>(&mut run, room, answers),
+        match self.value("handler=").unwrap_or("demo") {
+            "demo" => self.answer_by::<Responses>(buffer, ends, answers),
+            "okay" => self.answer_by::<Okay<'a>>(buffer, ends, answers),
+            "silent" => self.answer_by::<Silent>(buffer, ends, answers),
+            "echo_error" => self.answer_by::<EchoError>(buffer, ends, answers),
+            "transfers" => self.answer_by::<Transfers<Wire<'a>>>(buffer, ends, answers),
+            _ => return Err(CaseError::NoCase),
         }
         Ok(())
     }
-}
 
-/// Feeds a piece to an engine.
-fn feed<H: Session, K: Sink>(
-    engine: &mut Engine,
-    piece: &[u8],
-    handler: &mut H,
-    sink: &mut K,
-) -> End {
-    let answer = engine.feed(piece, handler, sink);
-    End::of_feed(answer, engine.left(), engine.finished())
-}
-
-/// Writes how the calls ended, and what the writer holds.
-fn put_written(room: &Room, run: &Run, answers: &mut Answers) {
-    for end in run.ends.as_slice() {
-        answers.put(format_args!("{end} | "));
+    /// How many bytes are written before the writer's buffer grows.
+    fn reserved(&self) -> usize {
+        if self.has("appended") {
+            self.first.len()
+        } else {
+            RESERVED
+        }
     }
-    let written = Quoted(room.held.as_slice());
-    answers.put(format_args!("written={written} flushed={} ", room.flushes));
+}
+
+/// How a session went.
+#[derive(Drop)]
+struct Run<'a> {
+    ends: Ends,
+    room: Room<'a>,
+    reads: usize,
+    unread: &'a [u8],
+}
+
+/// How each call ended.
+#[derive(Drop)]
+struct Ends {
+    ends: Vec<End>,
+    is_out_of_memory: bool,
+}
+
+impl Ends {
+    /// Room for two more ends than there are pieces.
+    fn with_room(alloc: Global, pieces: usize) -> Result<Ends, AllocError> {
+        Ok(Ends {
+            ends: Vec::with_capacity(alloc, pieces.saturating_add(2))?,
+            is_out_of_memory: false,
+        })
+    }
+
+    /// A call has ended so; whether memory ran out.
+    fn note(&mut self, end: End) -> bool {
+        self.is_out_of_memory = self.is_out_of_memory || end.is_out_of_memory();
+        // there is room for it
+        let _ = self.ends.push(end);
+        self.is_out_of_memory
+    }
+
+    /// The calls are made again.
+    fn clear(&mut self) {
+        self.is_out_of_memory = false;
+        self.ends.clear();
+    }
+}
+
+/// `serve WORD.. INPUT`, or `feed WORD.. PIECE..`
+pub fn answer_session<'a>(
+    is_served: bool,
+    words: &'a [Word<'a>],
+    answers: &mut Answers,
+) -> Answered {
+    let at = words
+        .iter()
+        .position(|word| word.name().is_none())
+        .unwrap_or(words.len());
+    let (words, bytes) = words.split_at(at);
+    let are_bytes = bytes.iter().all(|word| word.name().is_none());
+    if !words.iter().all(is_known) || !are_bytes || (is_served && bytes.len() != 1) {
+        return Err(CaseError::NoCase);
+    }
+    let is_appended = words.iter().any(|word| word.name() == Some("appended"));
+    let (first, pieces) = match bytes {
+        [first, pieces @ ..] if is_served || is_appended => (first.bytes()?, pieces),
+        pieces => (b"".as_slice(), pieces),
+    };
+    let case = SessionCase {
+        alloc: answers.alloc,
+        is_served,
+        words,
+        first,
+        pieces,
+    };
+    case.answer(answers)
 }

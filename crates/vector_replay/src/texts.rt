@@ -1,23 +1,53 @@
-//! What errors print.
-use crate::answers::Answers;
-use crate::forms::Forms;
-use crate::words::{CaseError, Words};
+//! Texts that are made, and what errors print.
+use crate::answers::{Answered, Answers, once_more};
+use crate::shown::Quoted;
+use crate::words::{CaseError, Word};
+use std::alloc::Global;
 use std::fmt::{Debug, Display};
-use std::io::ErrorKind::BrokenPipe;
-use unftp_control_client::SendError;
-use unftp_control_codecs::EncodeLinesError;
+use unftp_control_commands::{quoted_path, single_line_text};
 use unftp_control_line_parser::ParseErrorKind;
+use unftp_control_message::password::Password;
 use unftp_control_message::reply::error::{ControlChanError, ControlChanErrorKind, ParseError};
-use unftp_control_read::{NextReplyError, ReadReplyError, ReceiveError};
-use unftp_control_serve::ServeError;
-use unftp_control_write::{ForwardError, WriteCommandError};
 
-/// The variant of this name: one of those without a field, or one of the others.
+/// Writes a text, if it was made.
+pub fn put_made(made: Result<String, ControlChanError>, answers: &mut Answers) {
+    match made {
+        Ok(text) => answers.put(Quoted(text.as_bytes())),
+        Err(_) => answers.put("failed"),
+    }
+}
+
+/// `password_from_text TEXT`
+pub fn answer_password(text: &str, answers: &mut Answers) -> Answered {
+    answers.begin();
+    match once_more!(answers, Password::from_text(answers.alloc, text)) {
+        Ok(password) => answers.put(Quoted(password.as_ref())),
+        Err(_) => answers.put("failed"),
+    }
+    Ok(())
+}
+
+/// `quoted_path PATH`
+pub fn answer_quoted_path(path: &str, answers: &mut Answers) -> Answered {
+    answers.begin();
+    let made = once_more!(answers, quoted_path(answers.alloc, path));
+    put_made(made, answers);
+    Ok(())
+}
+
+/// `single_line TEXT`
+pub fn answer_single_line(text: &str, answers: &mut Answers) -> Answered {
+    answers.begin();
+    let made = once_more!(answers, single_line_text(answers.alloc, text));
+    put_made(made, answers);
+    Ok(())
+}
+
+/// The variant of this name, of those without a field.
 macro_rules! variant {
-    ($name:expr, $type:ident { $($unit:ident),* } $(, $other:ident => $value:expr)*) => {
+    ($name:expr, $type:ident { $($unit:ident)* }) => {
         match $name {
             $(name if name == stringify!($unit) => $type::$unit,)*
-            $(name if name == stringify!($other) => $value,)*
             _ => return Err(CaseError::NoCase),
         }
     };
@@ -25,178 +55,41 @@ macro_rules! variant {
 
 /// The parser's kind of this name.
 fn parse_kind(name: &str) -> Result<ParseErrorKind, CaseError> {
-    Ok(variant!(
-        name,
-        ParseErrorKind {
-            InvalidCommand,
-            InvalidUtf8,
-            InvalidEol,
-            OutOfMemory
-        }
-    ))
+    Ok(variant!(name, ParseErrorKind { InvalidCommand InvalidUtf8 InvalidEol OutOfMemory }))
 }
 
-/// The control channel's kind of this name. Where it holds a command, that is the next word.
-fn kind(name: &str, words: &mut Words<'_>) -> Result<ControlChanErrorKind, CaseError> {
+/// The control channel's kind of this name; UnknownCommand has the command FOO.
+fn kind(alloc: Global, name: &str) -> Result<ControlChanErrorKind, CaseError> {
     if name == "UnknownCommand" {
-        let command = words.text()?;
+        let command = String::from_str(alloc, "FOO")?;
         return Ok(ControlChanErrorKind::UnknownCommand { command });
     }
-    Ok(variant!(
-        name,
-        ControlChanErrorKind {
-            IoError,
-            ParseError,
-            InternalServerError,
-            AuthenticationError,
-            InternalMsgError,
-            Utf8Error,
-            InvalidCommand,
-            ControlChannelTimeout,
-            IllegalState,
-            OutOfMemory,
-            LineTooLong
-        }
-    ))
+    Ok(variant!(name, ControlChanErrorKind {
+        IoError ParseError InternalServerError AuthenticationError InternalMsgError Utf8Error
+        InvalidCommand ControlChannelTimeout IllegalState OutOfMemory LineTooLong
+    }))
 }
 
-/// The error of serving of this name.
-fn serve_error(name: &str) -> Result<ServeError, CaseError> {
-    Ok(
-        variant!(name, ServeError { WriteZero, OutOfMemory, Stopped, TooManyReads },
-        Read => ServeError::Read(BrokenPipe.into()),
-        Write => ServeError::Write(BrokenPipe.into()),
-        Handler => ServeError::Handler(ControlChanErrorKind::IllegalState.into())),
-    )
-}
-
-/// The error of receiving a reply of this name.
-fn receive_error(name: &str) -> Result<ReceiveError, CaseError> {
-    Ok(
-        variant!(name, ReceiveError { Malformed, TooLong, OutOfMemory, TooManyReads },
-        Read => ReceiveError::Read(BrokenPipe.into())),
-    )
-}
-
-/// The error of forwarding a line of this name. The parser's kind that it holds is the next word.
-fn forward_error(name: &str, words: &mut Words<'_>) -> Result<ForwardError, CaseError> {
-    if name == "Refused" {
-        return Ok(ForwardError::Refused(parse_kind(words.word()?)?.into()));
-    }
-    Ok(variant!(
-        name,
-        ForwardError {
-            NotALine,
-            OutOfMemory
-        }
-    ))
-}
-
-/// Writes what Display and Debug write of an error, where no word is left.
-fn print<E: Debug + Display + Drop>(
-    error: E,
-    words: &mut Words<'_>,
-    answers: &mut Answers,
-) -> Result<(), CaseError> {
-    words.end()?;
-    let mut forms = Forms::reserved(words.alloc)?;
+/// Writes what Display and Debug write of an error.
+fn print<E: Debug + Display + Drop>(error: E, answers: &mut Answers) -> Answered {
     answers.begin();
-    forms.display(&error, answers);
+    answers.put_text(format_args!("{error}"), format_args!("{error:#60.3}"));
     answers.put(" ");
-    forms.debug_lines(&error, answers);
+    answers.put_text(format_args!("{error:?}"), format_args!("{error:#60.3?}"));
     Ok(())
 }
 
-/// Prints the error of this type and name, that a client's or a proxy's call returns.
-fn print_client_error(
-    error: &str,
-    name: &str,
-    words: &mut Words<'_>,
-    answers: &mut Answers,
-) -> Result<(), CaseError> {
-    match error {
-        "WriteCommandError" => {
-            print(
-                variant!(
-                    name,
-                    WriteCommandError {
-                        NoLine,
-                        OutOfMemory
-                    }
-                ),
-                words,
-                answers,
-            )
-        }
-        "ForwardError" => print(forward_error(name, words)?, words, answers),
-        "SendError" => print(
-            variant!(
-                name,
-                SendError {
-                    NoLine,
-                    NotALine,
-                    OutOfMemory,
-                    TooManyCommands
-                }
-            ),
-            words,
-            answers,
-        ),
-        "ReadReplyError" => {
-            print(
-                variant!(
-                    name,
-                    ReadReplyError {
-                        Malformed,
-                        OutOfMemory
-                    }
-                ),
-                words,
-                answers,
-            )
-        }
-        "NextReplyError" => {
-            print(
-                variant!(
-                    name,
-                    NextReplyError {
-                        Malformed,
-                        TooLong,
-                        OutOfMemory
-                    }
-                ),
-                words,
-                answers,
-            )
-        }
-        "ReceiveError" => print(receive_error(name)?, words, answers),
-        _ => Err(CaseError::NoCase),
-    }
-}
-
 /// `text TYPE VARIANT`
-pub fn answer_text(words: &mut Words<'_>, answers: &mut Answers) -> Result<(), CaseError> {
-    let error = words.word()?;
-    let name = words.word()?;
-    match error {
-        "ParseErrorKind" => print(parse_kind(name)?, words, answers),
-        "ParseError" => print(ParseError::from(parse_kind(name)?), words, answers),
-        "ControlChanErrorKind" => print(kind(name, words)?, words, answers),
-        "ControlChanError" => print(ControlChanError::from(kind(name, words)?), words, answers),
-        "ServeError" => print(serve_error(name)?, words, answers),
-        "EncodeLinesError" => {
-            print(
-                variant!(
-                    name,
-                    EncodeLinesError {
-                        CodeOutOfRange,
-                        OutOfMemory
-                    }
-                ),
-                words,
-                answers,
-            )
-        }
-        error => print_client_error(error, name, words, answers),
+pub fn answer_text(error: &Word<'_>, variant: &Word<'_>, answers: &mut Answers) -> Answered {
+    let (Word::Bare(error), Word::Bare(name)) = (error, variant) else {
+        return Err(CaseError::NoCase);
+    };
+    let alloc = answers.alloc;
+    match *error {
+        "ParseErrorKind" => print(parse_kind(name)?, answers),
+        "ParseError" => print(ParseError::from(parse_kind(name)?), answers),
+        "ControlChanErrorKind" => print(kind(alloc, name)?, answers),
+        "ControlChanError" => print(ControlChanError::from(kind(alloc, name)?), answers),
+        _ => Err(CaseError::NoCase),
     }
 }

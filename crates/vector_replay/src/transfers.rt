@@ -4,7 +4,7 @@ ghost use Rattle.std.specs.Prelude.{None};
 use crate::answers::Answers;
 use crate::handlers::Tried;
 use crate::shown::Quoted;
-use crate::streams::INTERRUPTED;
+use crate::streams::Turns;
 use std::alloc::Global;
 use std::io;
 use transferring::{DataConnection, Transfers};
@@ -17,10 +17,8 @@ const STEP: usize = 4;
 
 /// A data connection that holds what it took.
 #[derive(Drop)]
-pub struct Wire {
-    /// How many calls were made, and which of them fails, counted from 1.
-    calls: u32,
-    fails_at: u32,
+pub struct Wire<'a> {
+    turns: Turns<'a>,
     /// What it has yet to give.
     rest: &'static [u8],
     /// What it took: its first bytes, and how many.
@@ -28,25 +26,13 @@ pub struct Wire {
     len: usize,
 }
 
-impl Wire {
-    /// One that fails at this call.
-    fn new(fails_at: u32) -> Wire {
+impl<'a> Wire<'a> {
+    fn new(turns: Turns<'a>) -> Wire<'a> {
         Wire {
-            calls: 0,
-            fails_at,
+            turns,
             rest: GIVEN,
             taken: [0; 64],
             len: 0,
-        }
-    }
-
-    /// The next call.
-    fn call(&mut self) -> io::Result<()> {
-        self.calls = self.calls.saturating_add(1);
-        if self.calls == self.fails_at {
-            Err(io::Error::from_raw_os_error(INTERRUPTED))
-        } else {
-            Ok(())
         }
     }
 
@@ -56,7 +42,7 @@ impl Wire {
     }
 }
 
-impl DataConnection for Wire {
+impl DataConnection for Wire<'_> {
     // what it holds is shown by rows, and no contract speaks of it
     ghost contents = { λ _. None };
 
@@ -64,21 +50,26 @@ impl DataConnection for Wire {
 
     fn open(&mut self) -> io::Result<()> {
         self.rest = GIVEN;
-        self.call()
+        let _ = self.turns.next()?;
+        Ok(())
     }
 
     fn send(&mut self, bytes: &[u8]) -> io::Result<usize> {
-        self.call()?;
+        let most = self.turns.next()?.min(STEP);
         let start = self.len.min(self.taken.len());
-        let n = bytes.len().min(STEP).min(self.taken.len() - start);
+        let n = bytes.len().min(most).min(self.taken.len() - start);
         self.taken[start..start + n].copy_from_slice(bytes.split_at(n).0);
         self.len = start + n;
         Ok(n)
     }
 
     fn receive(&mut self, buffer: &mut [u8]) -> io::Result<usize> {
-        self.call()?;
-        let n = buffer.len().min(STEP).min(self.rest.len());
+        let n = self
+            .turns
+            .next()?
+            .min(STEP)
+            .min(buffer.len())
+            .min(self.rest.len());
         let (given, rest) = self.rest.split_at(n);
         buffer[..n].copy_from_slice(given);
         self.rest = rest;
@@ -86,14 +77,15 @@ impl DataConnection for Wire {
     }
 
     fn close(&mut self) -> io::Result<()> {
-        self.call()
+        let _ = self.turns.next()?;
+        Ok(())
     }
 }
 
 /// Transfers a file, which is empty at first.
-impl Tried for Transfers<Wire> {
-    fn start(alloc: Global, fails_at: u32) -> Transfers<Wire> {
-        Transfers::new(Wire::new(fails_at), Vec::new(alloc))
+impl<'a> Tried<'a> for Transfers<Wire<'a>> {
+    fn start(alloc: Global, turns: Turns<'a>) -> Transfers<Wire<'a>> {
+        Transfers::new(Wire::new(turns), Vec::new(alloc))
     }
 
     fn put_last(&self, answers: &mut Answers) {

@@ -2,9 +2,9 @@
 ghost use Rattle.std.specs.Prelude.{◌≤◌, IfOk, IfSome};
 
 use bstr::ByteVec;
-use bytes::Bytes;
 use std::alloc::{AllocError, AllocFailed, Global};
-use std::str::{FromStr, Split};
+use std::str;
+use std::str::FromStr;
 
 /// Why a line is not answered as a case.
 #[derive(Clone, Copy)]
@@ -27,154 +27,74 @@ impl<T: Drop> From<AllocFailed<T>> for CaseError {
     }
 }
 
-/// The words that are not read yet; tabs divide them.
+/// A word, or the bytes that it has between quotes.
 #[derive(Drop)]
-pub struct Words<'a> {
-    pub alloc: Global,
-    rest: Split<'a, char>,
-    length: usize,
+pub enum Word<'a> {
+    Bare(&'a str),
+    Bytes(Vec<u8>),
 }
 
-impl<'a> Words<'a> {
-    /// The words of a line.
-    pub fn of(alloc: Global, line: &'a str) -> Words<'a> {
-        Words {
-            alloc,
-            rest: line.split('\t'),
-            length: line.len(),
+impl<'a> Word<'a> {
+    fn read(alloc: Global, word: &'a str) -> Result<Word<'a>, CaseError> {
+        let Some(opened) = word.strip_prefix("\"") else {
+            return Ok(Word::Bare(word));
+        };
+        let quoted = opened.strip_suffix("\"").ok_or(CaseError::NoCase)?;
+        Ok(Word::Bytes(Vec::unescape_bytes(alloc, quoted)?))
+    }
+
+    /// The word, where it has no quotes.
+    pub fn name(&self) -> Option<&'a str> {
+        match self {
+            Word::Bare(word) => Some(*word),
+            Word::Bytes(_) => None,
         }
     }
 
-    /// All words that are left.
-    pub fn rest(&mut self) -> &mut Split<'a, char> {
-        &mut self.rest
+    /// What it has between quotes.
+    pub fn bytes(&self) -> Result<&[u8], CaseError> {
+        match self {
+            Word::Bytes(bytes) => Ok(bytes.as_slice()),
+            Word::Bare(_) => Err(CaseError::NoCase),
+        }
     }
 
-    /// The next word, if any.
-    pub fn next(&mut self) -> Option<&'a str> {
-        self.rest.next()
+    /// The text that it has between quotes.
+    pub fn text(&self) -> Result<&str, CaseError> {
+        str::from_utf8(self.bytes()?).ok().ok_or(CaseError::NoCase)
     }
 
-    /// At least as many as there are words.
-    pub fn most(&self) -> usize {
-        self.length.saturating_add(1)
-    }
-
-    /// The next word.
-    pub fn word(&mut self) -> Result<&'a str, CaseError> {
-        self.next().ok_or(CaseError::NoCase)
-    }
-
-    /// The bytes that the next word has between quotes.
-    pub fn bytes(&mut self) -> Result<Vec<u8>, CaseError> {
-        read_bytes(self.alloc, self.word()?)
-    }
-
-    /// The text that the next word has between quotes.
-    pub fn text(&mut self) -> Result<String, CaseError> {
-        read_text(self.alloc, self.word()?)
-    }
-
-    /// The next word as a number.
-    pub fn number<T: FromStr + Drop>(&mut self) -> Result<T, CaseError>
+    /// The number that it is.
+    pub fn number<T: FromStr + Drop>(&self) -> Result<T, CaseError>
     where
         T::Err: Drop,
     {
-        read_number(self.word()?)
+        let word = self.name().ok_or(CaseError::NoCase)?;
+        word.parse::<T>().ok().ok_or(CaseError::NoCase)
     }
 
-    /// The next word as a limit of at least 1, or `none`.
-    pub fn limit(&mut self) -> Result<Option<usize>, CaseError>
+    /// A limit of at least 1, or `none`.
+    pub fn limit(&self) -> Result<Option<usize>, CaseError>
         ensures { IfOk result (λ limit. IfSome limit (λ limit. 1 ≤ limit)) }
     {
-        match self.word()? {
-            "none" => Ok(None),
-            word => match read_number(word)? {
-                0 => Err(CaseError::NoCase),
-                limit => Ok(Some(limit)),
-            },
+        if let Word::Bare("none") = self {
+            return Ok(None);
         }
-    }
-
-    /// The bytes of all words that are left.
-    pub fn pieces(&mut self) -> Result<Vec<Vec<u8>>, CaseError> {
-        let alloc = self.alloc;
-        let mut pieces = Vec::new(alloc);
-        for word in self.rest() {
-            pieces.push(read_bytes(alloc, word)?)?;
-        }
-        Ok(pieces)
-    }
-
-    /// The texts of all words that are left.
-    pub fn texts(&mut self) -> Result<Vec<String>, CaseError> {
-        let alloc = self.alloc;
-        let mut texts = Vec::new(alloc);
-        for word in self.rest() {
-            texts.push(read_text(alloc, word)?)?;
-        }
-        Ok(texts)
-    }
-
-    /// The bytes that the one word has that is left.
-    pub fn last_bytes(&mut self) -> Result<Vec<u8>, CaseError> {
-        read_bytes(self.alloc, self.last()?)
-    }
-
-    /// The text that the one word has that is left.
-    pub fn last_text(&mut self) -> Result<String, CaseError> {
-        read_text(self.alloc, self.last()?)
-    }
-
-    /// The one word that is left.
-    pub fn last(&mut self) -> Result<&'a str, CaseError> {
-        match (self.next(), self.next()) {
-            (Some(word), None) => Ok(word),
-            _ => Err(CaseError::NoCase),
-        }
-    }
-
-    /// No word is left.
-    pub fn end(&mut self) -> Result<(), CaseError> {
-        if self.next().is_none() {
-            Ok(())
-        } else {
-            Err(CaseError::NoCase)
+        match self.number()? {
+            0 => Err(CaseError::NoCase),
+            limit => Ok(Some(limit)),
         }
     }
 }
 
-/// What a word has between quotes.
-fn quoted(word: &str) -> Result<&str, CaseError> {
-    let opened = word.strip_prefix("\"").ok_or(CaseError::NoCase)?;
-    opened.strip_suffix("\"").ok_or(CaseError::NoCase)
+/// The words of a line, which tabs divide.
+pub fn read_words(alloc: Global, line: &str) -> Result<Vec<Word<'_>>, CaseError> {
+    line.split('\t')
+        .map(|word| -> Result<Word<'_>, CaseError> { Word::read(alloc, word) })
+        .try_collect(alloc)
 }
 
-/// The bytes that a word has between quotes, escaped.
-pub fn read_bytes(alloc: Global, word: &str) -> Result<Vec<u8>, CaseError> {
-    Ok(Vec::unescape_bytes(alloc, quoted(word)?)?)
-}
-
-/// The bytes that a word has between quotes, which may be shared.
-pub fn read_shared(alloc: Global, word: &str) -> Result<Bytes, CaseError> {
-    Ok(Bytes::from_vec(read_bytes(alloc, word)?)?)
-}
-
-/// The text that a word has between quotes.
-pub fn read_text(alloc: Global, word: &str) -> Result<String, CaseError> {
-    match String::from_utf8(read_bytes(alloc, word)?) {
-        Ok(text) => Ok(text),
-        Err(_) => Err(CaseError::NoCase),
-    }
-}
-
-/// The number that a word is.
-pub fn read_number<T: FromStr + Drop>(word: &str) -> Result<T, CaseError>
-where
-    T::Err: Drop,
-{
-    match word.parse::<T>() {
-        Ok(number) => Ok(number),
-        Err(_) => Err(CaseError::NoCase),
-    }
+/// The texts that these words have between quotes.
+pub fn read_texts<'a>(alloc: Global, words: &'a [Word<'_>]) -> Result<Vec<&'a str>, CaseError> {
+    words.iter().map(Word::text).try_collect(alloc)
 }

@@ -1,129 +1,95 @@
 //! Calls that write the line of a command.
-use crate::answers::Answers;
+use crate::answers::{Answered, Answers, once_more};
 use crate::decoding::Decoding;
-use crate::lines::{put_refused, read_line};
+use crate::lines::put_refused;
 use crate::shown::{Quoted, Shown};
-use crate::steps::Taker;
-use crate::words::{CaseError, Words, read_bytes, read_shared, read_text};
+use crate::words::{CaseError, Word};
 use bytes::Bytes;
 use std::alloc::Global;
+use unftp_control_line_parser::parse;
 use unftp_control_message::Command;
-use unftp_control_write::{ForwardError, WriteCommandError, forward, write_command};
+use unftp_control_write::{ForwardError, forward, write_command};
 
-/// Appends the line of the command, once more where memory ran out; whether there is one.
-fn write_line(command: &Command, buf: &mut Vec<u8>, answers: &mut Answers) -> bool {
-    match write_command(command, buf) {
-        Ok(()) => true,
-        Err(WriteCommandError::NoLine) => false,
-        Err(WriteCommandError::OutOfMemory) => {
-            answers.out_of_memory();
-            write_command(command, buf).is_ok()
-        }
-    }
+/// The bytes of a field.
+fn shared(alloc: Global, field: &Word<'_>) -> Result<Bytes, CaseError> {
+    Ok(Bytes::copy_from_slice(alloc, field.bytes()?)?)
+}
+
+/// The text of a field.
+fn text(alloc: Global, field: &Word<'_>) -> Result<String, CaseError> {
+    Ok(String::from_str(alloc, field.text()?)?)
 }
 
 /// The bytes of a field that may be `none`.
-fn read_optional_shared(alloc: Global, word: &str) -> Result<Option<Bytes>, CaseError> {
-    match word {
-        "none" => Ok(None),
-        word => Ok(Some(read_shared(alloc, word)?)),
+fn optional_shared(alloc: Global, field: &Word<'_>) -> Result<Option<Bytes>, CaseError> {
+    match field {
+        Word::Bare("none") => Ok(None),
+        field => Ok(Some(shared(alloc, field)?)),
     }
 }
 
 /// The text of a field that may be `none`.
-fn read_optional_text(alloc: Global, word: &str) -> Result<Option<String>, CaseError> {
-    match word {
-        "none" => Ok(None),
-        word => Ok(Some(read_text(alloc, word)?)),
+fn optional_text(alloc: Global, field: &Word<'_>) -> Result<Option<String>, CaseError> {
+    match field {
+        Word::Bare("none") => Ok(None),
+        field => Ok(Some(text(alloc, field)?)),
     }
 }
 
-/// The command of a variant with one field.
-fn read_field(alloc: Global, variant: &str, field: &str) -> Result<Command, CaseError> {
-    Ok(match variant {
-        "User" => Command::User {
-            username: read_shared(alloc, field)?,
+/// The command of a variant with these fields.
+fn read_command(alloc: Global, variant: &str, fields: &[Word<'_>]) -> Result<Command, CaseError> {
+    Ok(match (variant, fields) {
+        ("User", [name]) => Command::User {
+            username: shared(alloc, name)?,
         },
-        "Stat" => Command::Stat {
-            path: read_optional_shared(alloc, field)?,
+        ("Stat", [path]) => Command::Stat {
+            path: optional_shared(alloc, path)?,
         },
-        "Retr" => Command::Retr {
-            path: read_text(alloc, field)?,
+        ("Retr", [path]) => Command::Retr {
+            path: text(alloc, path)?,
         },
-        "Nlst" => Command::Nlst {
-            path: read_optional_text(alloc, field)?,
+        ("Nlst", [path]) => Command::Nlst {
+            path: optional_text(alloc, path)?,
         },
-        "Md5" => Command::Md5 {
-            file: read_text(alloc, field)?,
+        ("Md5", [file]) => Command::Md5 {
+            file: text(alloc, file)?,
+        },
+        ("List", [options, path]) => Command::List {
+            options: optional_text(alloc, options)?,
+            path: optional_text(alloc, path)?,
+        },
+        ("Site", [command, arguments]) => Command::Site {
+            command: text(alloc, command)?,
+            arguments: text(alloc, arguments)?,
+        },
+        ("Other", [command_name, arguments]) => Command::Other {
+            command_name: text(alloc, command_name)?,
+            arguments: text(alloc, arguments)?,
         },
         _ => return Err(CaseError::NoCase),
     })
 }
 
-/// LIST with its fields.
-fn read_list(alloc: Global, options: &str, path: &str) -> Result<Command, CaseError> {
-    Ok(Command::List {
-        options: read_optional_text(alloc, options)?,
-        path: read_optional_text(alloc, path)?,
-    })
-}
-
-/// The command of a variant with a name and its arguments.
-fn read_named(
-    alloc: Global,
-    variant: &str,
-    name: &str,
-    arguments: &str,
-) -> Result<Command, CaseError> {
-    let name = read_text(alloc, name)?;
-    let arguments = read_text(alloc, arguments)?;
-    match variant {
-        "Site" => Ok(Command::Site {
-            command: name,
-            arguments,
-        }),
-        "Other" => Ok(Command::Other {
-            command_name: name,
-            arguments,
-        }),
-        _ => Err(CaseError::NoCase),
-    }
-}
-
-/// The command whose variant and fields all words are that are left.
-fn read_fields(words: &mut Words<'_>) -> Result<Command, CaseError> {
-    let variant = words.word()?;
-    let first = words.word()?;
-    let Some(second) = words.next() else {
-        return read_field(words.alloc, variant, first);
-    };
-    words.end()?;
-    match variant {
-        "List" => read_list(words.alloc, first, second),
-        variant => read_named(words.alloc, variant, first, second),
-    }
-}
-
-/// Writes the line of a command, which is appended to a buffer of one byte.
-fn put_line(command: Command, mut buf: Vec<u8>, answers: &mut Answers) {
-    let is_written = write_line(&command, &mut buf, answers);
-    drop(command);
-    let failure = if is_written { None } else { Some("no-line") };
-    answers.put_appended(failure, buf.as_slice());
-}
-
 /// `write COMMAND FIELD..`
-pub fn answer_write(words: &mut Words<'_>, answers: &mut Answers) -> Result<(), CaseError> {
-    let buf = Vec::from_slice(words.alloc, b"x")?;
-    let command = read_fields(words)?;
+pub fn answer_write(variant: &Word<'_>, fields: &[Word<'_>], answers: &mut Answers) -> Answered {
+    let mut buf = Vec::from_slice(answers.alloc, b"x")?;
+    let variant = variant.name().ok_or(CaseError::NoCase)?;
+    let command = read_command(answers.alloc, variant, fields)?;
     answers.begin();
-    put_line(command, buf, answers);
+    let written = once_more!(answers, write_command(&command, &mut buf));
+    drop(command);
+    let failure = if written.is_ok() {
+        None
+    } else {
+        Some("no-line")
+    };
+    answers.put_appended(failure, buf.as_slice());
     Ok(())
 }
 
 /// Writes what a new codec reads the line as, and whether it is another command or leaves bytes.
-fn put_read_back(alloc: Global, command: Command, line: Vec<u8>, answers: &mut Answers) {
-    let mut decoding = Decoding::of(alloc, line);
+fn put_read_back(command: Command, line: Vec<u8>, answers: &mut Answers) {
+    let mut decoding = Decoding::new(answers.alloc, line);
     let decoded = decoding.next_command(answers);
     let is_same = matches!(&decoded, Ok(Some(other)) if *other == command);
     drop(command);
@@ -131,63 +97,42 @@ fn put_read_back(alloc: Global, command: Command, line: Vec<u8>, answers: &mut A
         answers.put(format_args!("ok {}", Shown(other)));
     }
     drop(decoded);
-    answers.put_unless(is_same && decoding.pending() == 0, " unequal");
+    answers.put_where(!is_same || !decoding.buf.is_empty(), " unequal");
 }
 
-/// Writes what the command's line is read as, and the line.
-fn put_canonical_command(alloc: Global, command: Command, answers: &mut Answers) {
-    let mut line = Vec::new(alloc);
-    if !write_line(&command, &mut line, answers) {
+/// Writes the command's line, and what that is read as.
+fn put_canonical(command: Command, answers: &mut Answers) {
+    let mut line = Vec::new(answers.alloc);
+    if once_more!(answers, write_command(&command, &mut line)).is_err() {
         drop(command);
         answers.put("no-line");
         return;
     }
     answers.put(format_args!("{} is ", Quoted(line.as_slice())));
-    put_read_back(alloc, command, line, answers);
+    put_read_back(command, line, answers);
 }
 
-/// Writes the line that is written for the command of this one, and what that is read as.
-pub fn put_canonical(alloc: Global, line: &[u8], answers: &mut Answers) {
-    match read_line(alloc, line, answers) {
-        Ok(command) => put_canonical_command(alloc, command, answers),
+/// `canonical LINE`
+pub fn answer_canonical(line: &[u8], answers: &mut Answers) -> Answered {
+    answers.begin();
+    match once_more!(answers, parse(answers.alloc, line)) {
+        Ok(command) => put_canonical(command, answers),
         Err(error) => put_refused(&error, answers),
     }
-}
-
-/// Appends the line that is forwarded for this one, once more where memory ran out.
-fn forward_line(
-    alloc: Global,
-    line: &[u8],
-    buf: &mut Vec<u8>,
-    answers: &mut Answers,
-) -> Result<(), ForwardError> {
-    match forward(alloc, line, buf) {
-        Err(ForwardError::OutOfMemory) => {
-            answers.out_of_memory();
-            forward(alloc, line, buf)
-        }
-        forwarded => forwarded,
-    }
-}
-
-/// Writes the line after the byte that the buffer had; where there is none, only that byte is
-/// there.
-fn put_forwarded(forwarded: &Result<(), ForwardError>, buf: &[u8], answers: &mut Answers) {
-    match (forwarded, buf) {
-        (Ok(()), [b'x', line @ ..]) => answers.put(Quoted(line)),
-        (Err(ForwardError::NotALine), [b'x']) => answers.put("not-a-line"),
-        (Err(ForwardError::Refused(error)), [b'x']) => put_refused(error, answers),
-        _ => answers.put("changed"),
-    }
+    Ok(())
 }
 
 /// `forward LINE`
-pub fn answer_forward(words: &mut Words<'_>, answers: &mut Answers) -> Result<(), CaseError> {
-    let mut buf = Vec::from_slice(words.alloc, b"x")?;
-    let line = words.last_bytes()?;
+pub fn answer_forward(line: &[u8], answers: &mut Answers) -> Answered {
+    let mut buf = Vec::from_slice(answers.alloc, b"x")?;
     answers.begin();
-    let forwarded = forward_line(words.alloc, line.as_slice(), &mut buf, answers);
-    put_forwarded(&forwarded, buf.as_slice(), answers);
+    let forwarded = once_more!(answers, forward(answers.alloc, line, &mut buf));
+    match (&forwarded, buf.as_slice()) {
+        (Ok(()), buf) => answers.put_appended(None, buf),
+        (Err(ForwardError::Refused(error)), [b'x']) => put_refused(error, answers),
+        (Err(ForwardError::NotALine), [b'x']) => answers.put("not-a-line"),
+        _ => answers.put("changed"),
+    }
     drop(forwarded);
     Ok(())
 }

@@ -76,8 +76,8 @@ pub fn turns_fail_so()
         → ¬ Fails greeter [] [] c start after Turn.Take ConverseError.OutOfMemory }
     ensures no_turn { (acts : List Act) (c : RustConversation) (start after : Snapshot Bool)
         (error : RustError) → ¬ StopsAt greeter [] [] acts c start after error }
-    ensures not_taken { (before after : RustConversation)
-        → ¬ IsNotTaken before after (ConverseError.Send SendError.NoLine) }
+    ensures not_taken { (c : RustConversation)
+        → ¬ IsNotTaken c (ConverseError.Send SendError.NoLine) }
 {}
 
 /// What holds of a conversation after some acts, and what doesn't.

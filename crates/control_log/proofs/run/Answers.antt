@@ -1,6 +1,6 @@
-use Rattle.std.proofs.Common.{◌<◌, ◌≤◌, refl, sym, arith, inl, length}
+use Rattle.std.proofs.Common.{◌<◌, ◌≤◌, [], ◌∷◌, ◌∙◌, append-nil, refl, sym, arith, inl, length}
 use Rattle.std.proofs.lemmas.Result.{err_from_is_err_and}
-use Rattle.control_log.proofs.LogLemmas.{Logging-start, Logging-all, Logging-failed, Logging-next, Logging-no_room, Logging-read_failed, Logging-too_often}
+use Rattle.control_log.proofs.LogLemmas.{Logging-start, Logging-failed, Logging-next, Logging-no_room, Logging-nothing, Logging-too_often}
 use Rattle.control_log.proofs.run.Goals as goal
 
 pub loop-turn-init : goal.loop-turn-init
@@ -13,13 +13,16 @@ pub returns-then-n-eq0-clause-ok : goal.returns-then-n-eq0-clause-ok
 returns-then-n-eq0-clause-ok g c =
     let room : 0 < length c.read.new.buf =
     omega (arith, c.loop-turn.invariant.room, c.read.auto.buf) in
-    let read = c.in-Ok.ensures.reads in
-    Logging-all c.loop-turn.invariant.logging _ c.read.new.buf c.if-n-eq0.true read.2
-    read.0 (read.1 c.if-n-eq0.true room) read.3
+    let read = c.in-Ok.ensures.reads in (
+      Logging-nothing c.loop-turn.invariant.logging _ (0 ∷ []) (rw c.if-n-eq0.true at read.0)
+          (rw c.if-n-eq0.true at read.2) (omega (arith, read.3)),
+      read.1 c.if-n-eq0.true room,
+    )
 
 pub returns-in-Err-clause-err : goal.returns-in-Err-clause-err
-returns-in-Err-clause-err g c = Logging-read_failed c.loop-turn.invariant.logging _
-    c.in-Err.ensures.reads.0 c.in-Err.ensures.reads.1 c.in-Err.ensures.reads.2
+returns-in-Err-clause-err g c =
+    let read = c.in-Err.ensures.reads in
+    Logging-nothing c.loop-turn.invariant.logging _ [] read.0 (read.1 ∙ sym (append-nil _)) read.2
 
 pub returns-clause-err : goal.returns-clause-err
 returns-clause-err g c =

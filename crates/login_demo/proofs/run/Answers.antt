@@ -2,10 +2,13 @@ use Rattle.std.specs.Prelude.{Some}
 use Rattle.std.proofs.Common.{rules}
 use Rattle.std.proofs.lemmas.Result.{IfOk-weaker}
 use Rattle.unftp_control_defs.specs.Run.{as_session}
-use Rattle.unftp_control_login.proofs.MemberLemmas.{limit-members-alone}
+use Rattle.unftp_control_login.proofs.MemberLemmas.{guarded-members-alone}
 use Rattle.login_demo.specs.Session.{files_law, new_session}
 use Rattle.login_demo.proofs.PlainLemmas.{SendsPlainExchanges-files}
 use Rattle.login_demo.proofs.run.Goals as goal
+
+both : {A B : Type 0} → A → B → A × B
+both a b = (a, b)
 
 pub returns : goal.returns
 returns g c =
@@ -13,7 +16,8 @@ returns g c =
     let limit = c.new-2.ensures in
     let gate = c.new-gate.ensures in
     let files = c.new.ensures in
-    let serves = simp (
+    -- the session before the first event
+    let ends = simp (
       limit.left,
       limit.at_pass,
       limit.ended,
@@ -27,36 +31,18 @@ returns g c =
       gate.failures,
       files.session,
       files.failures,
-    ) at served.ensures.serves in
+    ) at (both served.ensures.serves served.ensures.err) in
     record {
-      serves = (_, _, serves);
+      serves = (_, _, ends.0);
       members = IfOk-weaker served.result _ _
           (λ served serves. (
             serves.read,
             _,
             serves.given,
             serves.written,
-            limit-members-alone (as_session files_law) SendsPlainExchanges-files (Some 4096)
-                (g.A.Accounts.accepts c.args.accounts) 3 new_session serves.read,
-          )) serves;
+            guarded-members-alone (as_session files_law) SendsPlainExchanges-files (Some 4096)
+                (g.A.Accounts.accepts c.args.accounts) (Some 3) new_session serves.read,
+          )) ends.0;
       bound = search rules;
-      err = (
-        _,
-        _,
-        simp (
-          limit.left,
-          limit.at_pass,
-          limit.ended,
-          limit.inner,
-          limit.failures,
-          gate.accounts,
-          gate.stage,
-          gate.quit,
-          gate.passed,
-          gate.inner,
-          gate.failures,
-          files.session,
-          files.failures,
-        ) at served.ensures.err,
-      );
+      err = (_, _, ends.1);
     }

@@ -6,7 +6,6 @@ pub mod client;
 pub mod decoding;
 pub mod definitions;
 pub mod engine;
-pub mod lines;
 pub mod memory;
 pub mod receiving;
 pub mod serving;

@@ -1,11 +1,11 @@
 //! What a caller of `unftp_next` does, and what it is given.
 #![tactic(auto, unfolding(unftp_control_defs::proofs::Computing::at_bytes))]
 
-ghost use Rattle.std.specs.Prelude.{◌≡◌, ◌∷◌, [], None, false, true, codes};
-ghost use Rattle.unftp_control_defs.specs.Events.{Command, Refused, IoError, ParseError, InvalidCommand, OutOfMemory, LineTooLong, NoSource, Parse, Io, line_too_long, refusal_fault};
+ghost use Rattle.std.specs.Prelude.{◌≡◌, ◌∷◌, [], false, codes};
+ghost use Rattle.unftp_control_defs.specs.Events.{Command, Refused, InvalidCommand, OutOfMemory, refusal_fault};
 ghost use Rattle.unftp_control_defs.specs.FtpCommand.{InvalidEol as RefusedEol, Retr};
-ghost use Rattle.unftp_control_c.specs.Rows.{leaving, number_for};
-ghost use Rattle.unftp_control_c.specs.Taking.{AreCallerSteps, Called, IsNumberOf, Received, given_by, gives_none, new_caller, scanned_by, unscanned};
+ghost use Rattle.unftp_control_c.specs.Rows.{leaving};
+ghost use Rattle.unftp_control_c.specs.Taking.{AreCallerSteps, Called, IsNumberOf, Received, given_by, gives_none, new_caller, scanned_by};
 ghost use Rattle.unftp_control_c.specs.Next.{given_for};
 
 /// Which steps of a caller lead from a new connection to these pending bytes.
@@ -34,40 +34,22 @@ pub fn callers_scan_bytes()
         ∷ Called (codes "....") (leaving 10 5 0 0 9 (codes "NOOP") 4 0) ∷ []) ≡ 5 }
     ensures made_again { scanned_by (new_caller 9)
         (Received (codes "NOOP\n") ∷ Called [] (leaving 107 0 0 0 9 [] 4 0) ∷ []) ≡ 0 }
-    ensures pending { unscanned (record {
-      connection = record { limit = 9; offset = 2; skipping = 0 };
-      bytes = codes "NOOP";
-    }) ≡ 2 }
 {}
 
 /// What an event is given as, and what a call gives.
 pub fn callers_are_given_lines()
     ensures command { given_for (Command (Retr (codes "a")))
         ≡ record { number = 14; name = codes "RETR"; value = codes "a" } }
-    ensures too_long { given_for (Refused line_too_long)
-        ≡ record { number = 105; name = []; value = [] } }
     // the area has one byte more
     ensures area { given_by (leaving 14 8 0 0 0 (codes "RETRa.") 4 1)
         ≡ record { number = 14; name = codes "RETR"; value = codes "a" } ∷ [] }
-    ensures no_room { given_by (leaving 107 0 0 0 0 (codes "....") 4 1) ≡ [] }
     ensures refusal { gives_none 102 ≡ false }
-    ensures more { gives_none 101 ≡ true }
 {}
 
 /// The numbers of refused lines, by the kinds of their faults.
 pub fn refused_lines_have_numbers()
     ensures eol { (given_for (Refused (refusal_fault RefusedEol))).number ≡ 104 }
-    ensures too_long { (given_for (Refused line_too_long)).number ≡ 105 }
     ensures eol_kind { IsNumberOf InvalidCommand 104 }
     ensures other_kind { ¬ IsNumberOf InvalidCommand 103 }
     ensures no_line { ¬ IsNumberOf OutOfMemory 106 }
-{}
-
-/// The numbers of faults of each kind that have no refusal of a line as their source: only where
-/// memory ran out, or a line is too long, `unftp_next` meets one.
-pub fn faults_have_numbers()
-    ensures io { number_for IoError Io ≡ 102 }
-    ensures memory { number_for OutOfMemory NoSource ≡ 106 }
-    ensures too_long { number_for LineTooLong NoSource ≡ 105 }
-    ensures parser_memory { number_for ParseError (Parse None) ≡ 106 }
 {}

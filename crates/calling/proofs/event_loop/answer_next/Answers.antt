@@ -1,15 +1,8 @@
 use Rattle.std.proofs.Common.{◌≡◌, ap, sym, ◌∙◌}
-use Rattle.std.proofs.lemmas.Result.{err_from_is_err_and}
-use Rattle.calling.proofs.EventLoopLemmas.{AnswersNext-taken, LeavesUnanswered-kept, left_after-on}
+use Rattle.calling.proofs.EventLoopLemmas.{AnswersNext-taken, left_after-on}
 use Rattle.calling.proofs.event_loop.answer_next.Goals as goal
 use Rattle.calling.proofs.event_loop.answer_next.Goals.{in-Close, in_default-turn}
 use Rattle.calling.specs.EventLoop.{left_after}
-
-pub returns-in_err-event-clause-err : goal.returns-in_err-event-clause-err
-returns-in_err-event-clause-err c =
-    let error = err_from_is_err_and c.from_residual.result c.from_residual.ensures.1 in
-    rw error.1
-    (LeavesUnanswered-kept c.in_err-event.ensures.may_run_out c.in_err-event.ensures.takes_next)
 
 pub returns-clause-ok : goal.returns-clause-ok
 returns-clause-ok c =

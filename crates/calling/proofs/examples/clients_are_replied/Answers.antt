@@ -1,11 +1,10 @@
 use Rattle.std.proofs.Common.{◌≡◌, ℕ, true, false, ◌∷◌, Ok, Err, codes, refl, sym, ap, ◌∙◌, arith}
 use Rattle.std.specs.Prelude.{IsOk}
-use Rattle.std.specs.Str.{is_utf8, chars}
-use Rattle.std.specs.Str.Lossy.{utf8_lossy, utf8_valid_len, utf8_error_len}
 use Rattle.unftp_control.specs.Bytes.{Bytes}
 use Rattle.unftp_control.specs.FtpCommand.{Answer, InvalidCommand, Noop, Refusal}
 use Rattle.unftp_control.specs.Outcome.{outcome}
 use Rattle.unftp_control.proofs.LineLemmas.{Lines-lines_of}
+use Rattle.calling.proofs.Computing.{at_bytes}
 use Rattle.calling.specs.Forwarding.{IsReplyInPlace, not_a_line, refused, out_of_memory}
 use Rattle.calling.proofs.examples.clients_are_replied.Goals as goal
 
@@ -15,11 +14,11 @@ third (a ∷ b ∷ c ∷ bytes) = c
 third _ = 0
 
 noop : outcome (codes "NOOP\r\n") ≡ Ok Noop
-unfolding is_utf8 chars utf8_lossy utf8_valid_len utf8_error_len lib.Utf8.encode
+unfolding at_bytes
 noop = refl
 
 no_command : IsOk (outcome (255 ∷ codes "\r\n")) → ⊥
-unfolding is_utf8 chars utf8_lossy utf8_valid_len utf8_error_len lib.Utf8.encode
+unfolding at_bytes
 no_command is = let not : false ≡ true = is in cc
 
 no_refusal : (why : Refusal) → ◌≡◌ {A = Answer} (Ok Noop) (Err why) → ⊥
@@ -44,7 +43,7 @@ other (refused why means reply) = omega (arith, ap third reply)
 other (out_of_memory has_command reply) = omega (arith, ap third reply)
 
 pub returns : goal.returns
-unfolding is_utf8 chars utf8_lossy utf8_valid_len utf8_error_len lib.Utf8.encode
+unfolding at_bytes
 returns c = record {
   refused = refused InvalidCommand refl refl;
   command = replied;

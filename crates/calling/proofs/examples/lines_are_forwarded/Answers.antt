@@ -1,12 +1,11 @@
 use Rattle.std.proofs.Common.{codes, refl}
-use Rattle.std.specs.Str.{is_utf8, chars}
-use Rattle.std.specs.Str.Lossy.{utf8_lossy, utf8_valid_len, utf8_error_len}
 use Rattle.unftp_control.specs.FtpCommand.{Cwd}
 use Rattle.unftp_control.proofs.LineLemmas.{Lines-lines_of}
+use Rattle.calling.proofs.Computing.{at_bytes}
 use Rattle.calling.proofs.examples.lines_are_forwarded.Goals as goal
 
 pub returns-clause-canonical : goal.returns-clause-canonical
-unfolding is_utf8 chars utf8_lossy utf8_valid_len utf8_error_len lib.Utf8.encode
+unfolding at_bytes
 returns-clause-canonical c = record {
   command = Cwd (codes "a");
   means = refl;

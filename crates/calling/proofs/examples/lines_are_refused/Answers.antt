@@ -1,13 +1,12 @@
 use Rattle.std.proofs.Common.{◌≡◌, false, true, Ok, Err, codes, refl}
-use Rattle.std.specs.Str.{is_utf8, chars}
-use Rattle.std.specs.Str.Lossy.{utf8_lossy, utf8_valid_len, utf8_error_len}
 use Rattle.unftp_control.specs.FtpCommand.{InvalidCommand, Retr}
 use Rattle.unftp_control.specs.Outcome.{outcome}
+use Rattle.calling.proofs.Computing.{at_bytes}
 use Rattle.calling.proofs.ExampleLemmas.{lines_of-IsLine}
 use Rattle.calling.proofs.examples.lines_are_refused.Goals as goal
 
 pub returns : goal.returns
-unfolding is_utf8 chars utf8_lossy utf8_valid_len utf8_error_len lib.Utf8.encode
+unfolding at_bytes
 returns c = record {
   path = λ refused. let is : outcome (codes "RETR a\r\n") ≡ Ok (Retr (codes "a")) = refl in
       let not = refused.2 in cc;

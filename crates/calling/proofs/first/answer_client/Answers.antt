@@ -1,7 +1,7 @@
 use Rattle.std.proofs.Common.{Some, sym, ap, ◌∙◌}
-use Rattle.std.proofs.lemmas.Result.{IfOk-weaker}
+use Rattle.std.proofs.lemmas.Result.{IfOk-weaker, MatchResult-from_both}
 use Rattle.unftp_control.specs.Run.{text_for}
-use Rattle.calling.proofs.CallerLemmas.{MatchResult-both}
+use Rattle.calling.proofs.CallerLemmas.{both}
 use Rattle.calling.proofs.first.answer_client.Goals as goal
 
 pub returns : goal.returns
@@ -9,7 +9,7 @@ returns g c =
     let served = c.serve_with_limit-served in
     let from = c.new-input.ensures in
     let to = c.new-output.ensures in
-    let serves = simp (
+    let said = simp (
       from.reader,
       from.given,
       from.reads,
@@ -18,21 +18,12 @@ returns g c =
       to.taken,
       to.unflushed,
       to.failures,
-    ) at served.ensures.serves in
-    let both = MatchResult-both served.result _ _ served.ensures.ok served.ensures.err in
+    ) at (both served.ensures.serves
+    (MatchResult-from_both served.result _ _ served.ensures.ok served.ensures.err)) in
     record {
       written = IfOk-weaker served.result _ _ (λ served serves. serves.written.taken
           ∙ ap (text_for (Some 8192) (g.H.Session.law
           (g.H.Session.heard c.serve_with_limit-served.new.handler))
-          (g.H.Session.state c.args.handler.now)) (sym serves.given.given)) serves;
-      session = simp (
-        from.reader,
-        from.given,
-        from.reads,
-        from.failures,
-        to.writer,
-        to.taken,
-        to.unflushed,
-        to.failures,
-      ) at both;
+          (g.H.Session.state c.args.handler.now)) (sym serves.given.given)) said.0;
+      session = said.1;
     }

@@ -2,6 +2,7 @@ use Rattle.std.proofs.Math.Nat.{zero-add}
 use Rattle.std.proofs.lemmas.Result.{IfOk-weaker}
 use Rattle.std.specs.Prelude.{Some}
 use Rattle.unftp_control.proofs.MemberLemmas.{limit-members-alone}
+use Rattle.calling.proofs.CallerLemmas.{both}
 use Rattle.calling.proofs.members.serve_members.Goals as goal
 
 pub returns : goal.returns
@@ -10,7 +11,7 @@ returns g c =
     let heard = g.H.Session.heard served.new.handler.inner.handler.inner.handler in
     let limit = c.new.ensures in
     let gate = c.new-gate.ensures in
-    let serves = simp (
+    let said = simp (
       zero-add,
       limit.left,
       limit.at_pass,
@@ -23,9 +24,9 @@ returns g c =
       gate.passed,
       gate.inner,
       gate.failures,
-    ) at served.ensures.serves in
+    ) at (both served.ensures.serves served.ensures.err) in
     record {
-      serves = (_, _, _, serves);
+      serves = (_, _, _, said.0);
       members = λ sends. IfOk-weaker served.result _ _
           (λ served serves. (
             serves.read,
@@ -35,24 +36,6 @@ returns g c =
             limit-members-alone (g.H.Session.law heard) (sends heard) (Some 4096)
                 (g.A.Accounts.accepts c.args.accounts) 3 (g.H.Session.state c.args.handler)
                 serves.read,
-          )) serves;
-      err = (
-        _,
-        _,
-        _,
-        simp (
-          zero-add,
-          limit.left,
-          limit.at_pass,
-          limit.ended,
-          limit.inner,
-          limit.failures,
-          gate.accounts,
-          gate.stage,
-          gate.quit,
-          gate.passed,
-          gate.inner,
-          gate.failures,
-        ) at served.ensures.err,
-      );
+          )) said.0;
+      err = (_, _, _, said.1);
     }

@@ -31,23 +31,13 @@ returns-in_err-feed-clause-answered g c =
     c.in_err-feed.was (λ running. c.feed.ensures.outcome running _ (Begins-refl _))
     (λ finished. (c.feed.ensures.over finished).0))
 
-pub returns-clause-written : goal.returns-clause-written
-returns-clause-written g c =
+pub returns : goal.returns
+returns g c =
     let whole : take c.loop-piece.piece-index c.args.pieces.now ≡ c.args.pieces.now =
     take_all c.loop-piece.piece-index c.args.pieces.now (omega (arith, c.loop-piece-test.false)) in
     let all = rw whole at (c.loop-piece.invariant _ (Begins-refl _)) in
-    all.answered.given.written
-
-pub returns-clause-left : goal.returns-clause-left
-returns-clause-left g c =
-    let whole : take c.loop-piece.piece-index c.args.pieces.now ≡ c.args.pieces.now =
-    take_all c.loop-piece.piece-index c.args.pieces.now (omega (arith, c.loop-piece-test.false)) in
-    let all = rw whole at (c.loop-piece.invariant _ (Begins-refl _)) in
-    c.left.ensures ∙ all.left
-
-pub returns-clause-answered : goal.returns-clause-answered
-returns-clause-answered g c =
-    let whole : take c.loop-piece.piece-index c.args.pieces.now ≡ c.args.pieces.now =
-    take_all c.loop-piece.piece-index c.args.pieces.now (omega (arith, c.loop-piece-test.false)) in
-    let all = rw whole at (c.loop-piece.invariant _ (Begins-refl _)) in
-    all.answered
+    record {
+      written = all.answered.given.written;
+      left = c.left.ensures ∙ all.left;
+      answered = all.answered;
+    }

@@ -32,16 +32,12 @@ returns-in_err-feed-clause-answered g c =
           (λ finished. (c.feed.ensures.over finished).0)),
     )
 
-pub returns-clause-replies : goal.returns-clause-replies
-returns-clause-replies g c =
+pub returns : goal.returns
+returns g c =
     let whole : take c.loop-piece.piece-index c.args.pieces.now ≡ c.args.pieces.now =
     take_all c.loop-piece.piece-index c.args.pieces.now (omega (arith, c.loop-piece-test.false)) in
     let all = rw whole at (c.loop-piece.invariant _ (Begins-refl _)) in
-    all.answered.given.written.taken
-
-pub returns-clause-answered : goal.returns-clause-answered
-returns-clause-answered g c =
-    let whole : take c.loop-piece.piece-index c.args.pieces.now ≡ c.args.pieces.now =
-    take_all c.loop-piece.piece-index c.args.pieces.now (omega (arith, c.loop-piece-test.false)) in
-    let all = rw whole at (c.loop-piece.invariant _ (Begins-refl _)) in
-    (appended_state_of c.loop-piece.replies, all.answered)
+    record {
+      replies = all.answered.given.written.taken;
+      answered = (appended_state_of c.loop-piece.replies, all.answered);
+    }

@@ -1,16 +1,6 @@
-use Rattle.std.proofs.Common.{◌++◌, ap, refl, ◌∙◌}
-use Rattle.std.proofs.lemmas.Result.{err_from_is_err_and}
+use Rattle.std.proofs.Common.{◌++◌, ap, ◌∙◌}
 use Rattle.unftp_control.specs.FtpReply.{encoded}
-use Rattle.calling.proofs.EventLoopLemmas.{LeavesUnanswered-kept}
 use Rattle.calling.proofs.whole_line.answer_line.Goals as goal
-
-pub returns-in_err-event-clause-err : goal.returns-in_err-event-clause-err
-returns-in_err-event-clause-err c =
-    let error = err_from_is_err_and c.from_residual.result c.from_residual.ensures.1 in
-    rw error.1 (
-      refl,
-      LeavesUnanswered-kept c.in_err-event.ensures.may_run_out c.in_err-event.ensures.takes_next,
-    )
 
 pub returns-clause-line : goal.returns-clause-line
 returns-clause-line c = λ _. record {

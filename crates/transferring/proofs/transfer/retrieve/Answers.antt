@@ -1,8 +1,7 @@
-use Rattle.std.proofs.Common.{◌≡◌, ◌<◌, ◌++◌, ◌∷◌, [], drop, length, refl, rules, arith}
-use Rattle.std.proofs.lemmas.Grind.{common_steps}
+use Rattle.std.proofs.Common.{◌≡◌, ◌++◌, ◌∷◌, [], drop, refl, rules}
 use Rattle.transferring.specs.Answers.{Done, Failed}
 use Rattle.transferring.specs.Transfers.{sending}
-use Rattle.transferring.proofs.TransferLemmas.{ended, none_sent, opened, sent_more}
+use Rattle.transferring.proofs.TransferLemmas.{ended, none_sent, opened}
 use Rattle.transferring.proofs.transfer.retrieve.Goals as goal
 
 pub returns-then-is_err : goal.returns-then-is_err
@@ -23,14 +22,4 @@ loop-rest-init g c =
         were_sent = none_sent _ _ c.open.ensures.sent;
         reaches = opened (sending (drop c.args.offset c.args.file.now)) _ _ done;
       };
-    }
-
-pub loop-rest-preserved : goal.loop-rest-preserved
-loop-rest-preserved g c =
-    let some : 0 < length c.loop-rest.rest.now =
-    grind (arith, common_steps, c.loop-rest-test.ensures, c.loop-rest-test.true) in
-    let more : 0 < c.in-Ok.n = grind (arith, common_steps, c.in-Ok.n-is) in
-    rw c.split_at.ensures.back record {
-      retrieving = sent_more c.in-Ok.n c.loop-rest.invariant.retrieving some more _
-          c.in-Ok.ensures.answered _ c.in-Ok.ensures.sent;
     }

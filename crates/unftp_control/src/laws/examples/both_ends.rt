@@ -1,22 +1,19 @@
 //! Examples of what a client and a server understand of each other, worked out by hand.
 #![tactic(auto, unfolding(unftp_control_defs::proofs::Computing::at_bytes))]
 
-ghost use Rattle.std.specs.Prelude.{◌≡◌, ◌≢◌, ◌∷◌, ◌++◌, [], None, Some, false, codes};
+ghost use Rattle.std.specs.Prelude.{◌≡◌, ◌≢◌, ◌∷◌, ◌++◌, [], None, Some, codes};
 ghost use Rattle.unftp_control_defs.specs.Events.{events};
-ghost use Rattle.unftp_control_defs.specs.FtpCommand.{Noop, Retr, User};
+ghost use Rattle.unftp_control_defs.specs.FtpCommand.{Noop, Retr};
 ghost use Rattle.unftp_control_defs.specs.FtpReply.{CodeAndMsg, MultiLine, Nothing};
-ghost use Rattle.unftp_control_defs.specs.Run.{replies, run_for, text_for};
 ghost use Rattle.unftp_control_client.specs.Steps.{Received, Sent};
 ghost use Rattle.unftp_control_client.specs.declared.Client.{Client as RustClient};
 ghost use Rattle.unftp_control_client.specs.declared.dialogue.To.TheVariants.{Command, Greeting};
-ghost use Rattle.unftp_control.specs.Acts.{AreFirst, AtClient, AtServer, InOrder, IsConversation, IsUnderstood, exchanges, turns_to, written_by};
+ghost use Rattle.unftp_control.specs.Acts.{AreFirst, AtClient, AtServer, InOrder, IsConversation, IsUnderstood, exchanges, turns_to};
 ghost use Rattle.unftp_control.specs.ClientRuns.{client_with, dialogue, farewell_server, noop, reply_with, talk};
-ghost use Rattle.unftp_control.specs.Conversation.{CanBeSent, IsReadable, KeepsMeaning, Show, ShowTurns, canonical_of, forwarded_of, rewritten, sent};
-ghost use Rattle.unftp_control.specs.Snapshots.{farewell};
+ghost use Rattle.unftp_control.specs.Conversation.{CanBeSent, IsReadable, KeepsMeaning, Show, ShowTurns, forwarded_of, rewritten};
 
-/// Commands that a client can send, and the bytes that it sends.
+/// Commands that a client can send.
 pub fn commands_are_sent_so()
-    ensures sent { sent (User (codes "a") ∷ Noop ∷ []) ≡ codes "USER a\r\nNOOP\r\n" }
     ensures at_the_limit { CanBeSent (Some 6) Noop }
     ensures over_the_limit { ¬ CanBeSent (Some 5) Noop }
     ensures no_line { ¬ CanBeSent None (Retr []) }
@@ -26,8 +23,6 @@ pub fn commands_are_sent_so()
 pub fn replies_are_shown_so()
     ensures readable { IsReadable (CodeAndMsg 200 (codes "OK")) }
     ensures nothing { ¬ IsReadable Nothing }
-    ensures two_digits { ¬ IsReadable (CodeAndMsg 99 []) }
-    ensures line_feed { ¬ IsReadable (CodeAndMsg 200 (codes "\n")) }
     ensures two { Show ((220, codes "a" ∷ []) ∷ (211, codes " 1" ∷ codes "b" ∷ []) ∷ [])
         (CodeAndMsg 220 (codes "a") ∷ MultiLine 211 (codes "1" ∷ codes "b" ∷ []) ∷ []) }
     ensures one_is_missing { ¬ Show ((200, [] ∷ []) ∷ [])
@@ -38,20 +33,8 @@ pub fn replies_are_shown_so()
         ((CodeAndMsg 226 [] ∷ CodeAndMsg 200 [] ∷ []) ∷ []) }
 {}
 
-/// A conversation of three lines, of which the second is refused: each gets its reply, up to QUIT.
-/// `farewell` answers 221 to QUIT, 500 to a line that is refused, and 200 to any other.
-pub fn lines_are_answered_so()
-    ensures text { text_for None farewell false (codes "NOOP\r\nNOOP x\r\nQUIT\r\nNOOP\r\n")
-        ≡ codes "200\r\n500\r\n221\r\n" }
-    ensures replies { Show ((200, [] ∷ []) ∷ (500, [] ∷ []) ∷ (221, [] ∷ []) ∷ [])
-        (replies farewell false
-        (run_for None farewell false (codes "NOOP\r\nNOOP x\r\nQUIT\r\nNOOP\r\n"))) }
-{}
-
-/// A talk: NOOP is sent and answered, and what each end has of it.
+/// What a server says: its greeting, and its replies to each line, up to QUIT.
 pub fn acts_are_so()
-    ensures written { written_by farewell_server (codes "NOOP\r\nQU")
-        ≡ codes "220\r\n200\r\n" }
     ensures said { turns_to farewell_server (codes "NOOP\r\nQUIT\r\nNOOP\r\n")
         ≡ (CodeAndMsg 220 [] ∷ []) ∷ (CodeAndMsg 200 [] ∷ []) ∷ (CodeAndMsg 221 [] ∷ []) ∷ [] }
 {}
@@ -65,10 +48,6 @@ pub fn acts_are_in_order()
         (AtClient (Sent noop) ∷ AtServer (codes "NO") ∷ []) (client_with (dialogue 1 None) []) }
     ensures came_first { (client : RustClient) → ¬ IsConversation farewell_server None
         (AtServer (codes "NO") ∷ AtClient (Sent noop) ∷ []) client }
-    ensures not_counted { ¬ IsConversation farewell_server None
-        (AtClient (Sent noop) ∷ []) (client_with (dialogue 0 None) []) }
-    ensures no_line { (client : RustClient) → ¬ IsConversation farewell_server None
-        (AtClient (Sent (codes "NOOP")) ∷ []) client }
 {}
 
 /// Turns that a client understands, and what each of their replies is to.
@@ -76,7 +55,6 @@ pub fn replies_are_exchanged_so()
     ensures understood { IsUnderstood ((CodeAndMsg 220 [] ∷ [])
         ∷ (CodeAndMsg 150 [] ∷ CodeAndMsg 226 [] ∷ []) ∷ []) }
     ensures no_final { ¬ IsUnderstood ((CodeAndMsg 150 [] ∷ []) ∷ []) }
-    ensures not_readable { ¬ IsUnderstood ((CodeAndMsg 99 [] ∷ []) ∷ []) }
     ensures three { exchanges Greeting ((CodeAndMsg 220 [] ∷ [])
         ∷ (CodeAndMsg 150 [] ∷ CodeAndMsg 226 [] ∷ []) ∷ (CodeAndMsg 221 [] ∷ []) ∷ [])
         ≡ Some (reply_with 220 Greeting) ∷ Some (reply_with 150 (Command 0))
@@ -89,8 +67,6 @@ pub fn replies_are_exchanged_so()
 
 /// Lines that are rewritten, and a line that doesn't keep its meaning.
 pub fn lines_are_rewritten_so()
-    ensures canonical { rewritten canonical_of (codes "noop \ntype a\nNOOP x\nQU")
-        ≡ codes "NOOP\r\nTYPE I\r\nNOOP x\nQU" }
     ensures forwarded { rewritten forwarded_of (codes "noop \ntype a\nNOOP x\nQU")
         ≡ codes "NOOP\r\nTYPE a\r\nNOOP x\nQU" }
     ensures same { KeepsMeaning (λ line. line) }

@@ -3,13 +3,9 @@
 
 ghost use Rattle.std.specs.Prelude.{◌≡◌, ◌-◌, ◌^◌, ℕ, [], ◌∷◌, None, Some, Ok, Err, true, false, codes, vec_capacity, vec_len, ⊤};
 ghost use Rattle.std.specs.Global.{Vec};
-ghost use Rattle.unftp_control_defs.specs.Canonical.{canonical_line};
-ghost use Rattle.unftp_control_defs.specs.FtpCommand.{Auth};
-ghost use Rattle.unftp_control_defs.specs.TakingSteps.{Pushed, Taken};
-ghost use Rattle.unftp_control_defs.specs.declared.parameters.AuthParam.TheVariants.{Tls};
-ghost use Rattle.unftp_control_client.specs.Dialogue.{after_line, after_reply, asks_for_tls, at_start, commands_owed, next_to};
+ghost use Rattle.unftp_control_client.specs.Dialogue.{asks_for_tls, at_start};
 ghost use Rattle.unftp_control_client.specs.Exchange.{IsNext, IsOtherError, MayBeginTls, new_client};
-ghost use Rattle.unftp_control_client.specs.Steps.{AreExchanges, AreSteps, EndsInAgreement, IsStep, Received, Sent, Took, decoder_steps, replies_owed};
+ghost use Rattle.unftp_control_client.specs.Steps.{AreExchanges, AreSteps, EndsInAgreement, IsStep, Received, Sent, Took};
 ghost use Rattle.unftp_control_client.specs.declared.Client.{Client as RustClient};
 ghost use Rattle.unftp_control_client.specs.declared.dialogue.ClientReply.{ClientReply as RustReply};
 ghost use Rattle.unftp_control_client.specs.declared.dialogue.To.TheVariants.{Greeting, Command, Nothing};
@@ -17,44 +13,11 @@ ghost use Rattle.unftp_control_client.specs.declared.errors.SendError.TheVariant
 ghost use Rattle.unftp_control_write.specs.Room.{LacksRoom};
 ghost use Rattle.unftp_control.specs.ClientRuns.{asking, auth_tls, client_with, dialogue, noop, reply_with, retr};
 
-/// What the next reply is to, and how many commands are owed one.
-pub fn the_next_reply_is_to_this()
-    ensures before_the_greeting { next_to (after_line noop at_start) ≡ Greeting }
-    ensures last { next_to (dialogue 2 (Some 1)) ≡ Command 1 }
-    ensures none { next_to (dialogue 2 (Some 2)) ≡ Nothing }
-    ensures one_owed { commands_owed (dialogue 2 (Some 1)) ≡ 1 }
-{}
-
 /// The lines that ask for TLS: AUTH with TLS or SSL, in letters of any case, and its line end.
 pub fn these_lines_ask_for_tls()
     ensures lower_case { asks_for_tls (codes "auth tls\r\n") ≡ true }
-    ensures bare_line_feed { asks_for_tls (codes "Auth TLS\n") ≡ true }
-    ensures command_tls { asks_for_tls (canonical_line (Auth Tls)) ≡ true }
-    ensures another_mechanism { asks_for_tls (codes "AUTH GSSAPI\r\n") ≡ false }
     ensures longer_mechanism { asks_for_tls (codes "AUTH TLS-C\r\n") ≡ false }
-    ensures no_line_end { asks_for_tls (codes "AUTH TLS") ≡ false }
     ensures two_lines { asks_for_tls (codes "AUTH TLS\r\nNOOP\r\n") ≡ false }
-{}
-
-/// What a line leaves that is sent.
-pub fn a_line_leaves_this()
-    ensures asks { after_line auth_tls (dialogue 1 (Some 0)) ≡ asking 2 (Some 0) 1 false }
-    ensures later { after_line noop (asking 2 (Some 2) 1 true) ≡ asking 3 (Some 2) 1 true }
-{}
-
-/// What a reply leaves.
-pub fn a_reply_leaves_this()
-    ensures delayed { after_reply at_start 120 ≡ at_start }
-    ensures greeted { after_reply at_start 220 ≡ dialogue 0 (Some 0) }
-    ensures opened { after_reply (dialogue 2 (Some 0)) 150 ≡ dialogue 2 (Some 0) }
-    ensures closed { after_reply (dialogue 2 (Some 0)) 226 ≡ dialogue 2 (Some 1) }
-    ensures unasked { after_reply (dialogue 1 (Some 1)) 421 ≡ dialogue 1 (Some 1) }
-    ensures agreed { after_reply (asking 1 (Some 0) 0 false) 234 ≡ asking 1 (Some 1) 0 true }
-    ensures agreed_to_noop { after_reply (dialogue 1 (Some 0)) 234 ≡ dialogue 1 (Some 1) }
-    ensures agreed_to_an_earlier_one { after_reply (asking 2 (Some 0) 1 false) 234
-        ≡ asking 2 (Some 1) 1 false }
-    ensures agreed_by_the_greeting { after_reply (asking 1 None 0 false) 234
-        ≡ asking 1 (Some 0) 0 false }
 {}
 
 /// When TLS may begin: after 234 to the last command, with nothing after it.
@@ -65,13 +28,12 @@ pub fn tls_may_begin_here()
     ensures not_agreed { ¬ MayBeginTls (client_with (asking 1 (Some 1) 0 false) []) }
 {}
 
-/// What a call that takes a reply leaves: at a reply, where there is none, and at an error.
+/// What a call that takes a reply leaves, at a reply and at an error.
 pub fn these_are_next()
     ensures greeting { (taken : RustReply) → taken.to ≡ Greeting → taken.reply.code ≡ 220
         → IsNext {E = Unit {0}} at_start (Ok (Some taken)) (dialogue 0 (Some 0)) }
     ensures to_a_command { (taken : RustReply) → taken.to ≡ Command 0
         → ¬ IsNext {E = Unit {0}} at_start (Ok (Some taken)) (dialogue 0 (Some 0)) }
-    ensures none { IsNext {E = Unit {0}} (dialogue 1 None) (Ok None) (dialogue 1 None) }
     ensures noted_at_an_error { ¬ IsNext {E = ℕ} (dialogue 1 None) (Err 0) (dialogue 1 (Some 0)) }
 {}
 
@@ -95,24 +57,8 @@ pub fn this_room_is_lacking()
 pub fn these_are_steps()
     ensures sent { IsStep (client_with at_start []) (Sent noop) (client_with (dialogue 1 None) []) }
     ensures not_counted { ¬ IsStep (client_with at_start []) (Sent noop) (client_with at_start []) }
-    ensures received { IsStep (client_with at_start (codes "22")) (Received (codes "0"))
-        (client_with at_start (codes "220")) }
-    ensures taken { IsStep (client_with at_start (codes "220\r\n2"))
-        (Took (reply_with 220 Greeting)) (client_with (dialogue 0 (Some 0)) (codes "2")) }
-    ensures to_a_command { ¬ IsStep (client_with at_start (codes "220\r\n2"))
-        (Took (reply_with 220 (Command 0))) (client_with (dialogue 0 (Some 0)) (codes "2")) }
     ensures reply_left { ¬ IsStep (client_with at_start (codes "220\r\n2"))
         (Took (reply_with 220 Greeting)) (client_with (dialogue 0 (Some 0)) (codes "220\r\n2")) }
-    ensures two { AreSteps (new_client None) (Received (codes "2") ∷ Sent noop ∷ [])
-        (client_with (dialogue 1 None) (codes "2")) }
-    ensures one_left_out { ¬ AreSteps (new_client None) (Sent noop ∷ Sent noop ∷ [])
-        (client_with (dialogue 1 None) []) }
-    ensures owed { replies_owed
-        (Took (reply_with 220 Greeting) ∷ Sent noop ∷ Took (reply_with 421 Nothing) ∷ [])
-        ≡ reply_with 220 Greeting ∷ [] }
-    ensures decoded { decoder_steps
-        (Sent noop ∷ Received (codes "220\r\n") ∷ Took (reply_with 220 Greeting) ∷ [])
-        ≡ Pushed (codes "220\r\n") ∷ Taken (220, [] ∷ []) ∷ [] }
 {}
 
 /// Runs that end in an agreement to begin TLS, and some that don't.
@@ -120,8 +66,6 @@ pub fn these_end_in_agreement()
     ensures agreed { EndsInAgreement
         (Took (reply_with 220 Greeting) ∷ Sent noop ∷ Sent auth_tls
         ∷ Took (reply_with 200 (Command 0)) ∷ Took (reply_with 234 (Command 1)) ∷ []) }
-    ensures to_noop { ¬ EndsInAgreement
-        (Took (reply_with 220 Greeting) ∷ Sent noop ∷ Took (reply_with 234 (Command 0)) ∷ []) }
     ensures later_line { ¬ EndsInAgreement
         (Took (reply_with 220 Greeting) ∷ Sent auth_tls ∷ Took (reply_with 234 (Command 0))
         ∷ Sent noop ∷ []) }
@@ -144,13 +88,8 @@ pub fn these_are_exchanges()
     ensures two_commands { AreExchanges Greeting
         (reply_with 220 Greeting ∷ reply_with 150 (Command 0) ∷ reply_with 226 (Command 0)
         ∷ reply_with 200 (Command 1) ∷ []) }
-    ensures late_greeting { AreExchanges Greeting
-        (reply_with 120 Greeting ∷ reply_with 220 Greeting ∷ reply_with 200 (Command 0) ∷ []) }
-    ensures no_greeting { ¬ AreExchanges Greeting (reply_with 200 (Command 0) ∷ []) }
     ensures settled_by_150 { ¬ AreExchanges Greeting
         (reply_with 220 Greeting ∷ reply_with 150 (Command 0) ∷ reply_with 226 (Command 1) ∷ []) }
-    ensures two_final { ¬ AreExchanges Greeting
-        (reply_with 220 Greeting ∷ reply_with 226 (Command 0) ∷ reply_with 200 (Command 0) ∷ []) }
     ensures command_left_out { ¬ AreExchanges Greeting
         (reply_with 220 Greeting ∷ reply_with 200 (Command 1) ∷ []) }
 {}

@@ -1,16 +1,14 @@
 //! Snapshots worked out by hand: what the definitions of the clauses of `serve` say of them.
-ghost use Rattle.std.specs.Prelude.{◌≡◌, ◌+◌, ◌⊎◌, ℕ, true, false, [], ◌∷◌, List, None, Option, Some, codes};
+ghost use Rattle.std.specs.Prelude.{◌≡◌, ℕ, true, false, [], ◌∷◌, List, None, Some, codes};
 ghost use Rattle.std.specs.List.{concat};
-ghost use Rattle.std.specs.Io.KnownBytes.{Appends, IsAtEnd};
+ghost use Rattle.std.specs.Io.KnownBytes.{Appends};
 ghost use Rattle.unftp_control_defs.specs.Bytes.{Bytes};
 ghost use Rattle.unftp_control_defs.specs.Events.{events};
-ghost use Rattle.unftp_control_defs.specs.FtpReply.{CodeAndMsg};
 ghost use Rattle.unftp_control_defs.specs.Input.{InputState};
-ghost use Rattle.unftp_control_defs.specs.ReplyReader.{ReadsBack};
 ghost use Rattle.unftp_control_serve.specs.Endings.{Snapshot, AllAnswered};
 ghost use Rattle.unftp_control.specs.RunEnd.{EndsAfter, EndsNowhere};
 ghost use Rattle.unftp_control.specs.Snapshots.{counter, counter_to_five, noop, snapshot, snapshot_of_any_writer};
-ghost use Rattle.unftp_control_serve.specs.Service.{AnsweredAll, EndsInLast, EndedLate, NoRoomForPiece, ReadFailed, ServeEnded, Serves, ServesKnown, most_held};
+ghost use Rattle.unftp_control_serve.specs.Service.{AnsweredAll, EndsInLast, EndedLate, NoRoomForPiece, ServeEnded, Serves, ServesKnown, most_held};
 ghost use Rattle.unftp_control_serve.specs.Writing.{Begins};
 ghost use Rattle.unftp_control_serve.specs.declared.service.Served.{Served};
 
@@ -18,13 +16,6 @@ use unftp_control_serve::ServeError;
 
 /// Which errors `serve` returns, and what each one says.
 pub fn errors_of_serve()
-    ensures read { (before after : Snapshot ℕ) (input input_after : InputState) (error : _)
-        → ServeEnded None counter before after input input_after (ServeError.Read error)
-        → ReadFailed None counter before after input input_after }
-    ensures memory { (before after : Snapshot ℕ) (input input_after : InputState)
-        → ServeEnded None counter before after input input_after ServeError.OutOfMemory
-        → NoRoomForPiece None counter before after input input_after
-        ⊎ EndedLate None counter before after input input_after ServeError.OutOfMemory }
     ensures stopped { (before after : Snapshot ℕ) (input input_after : InputState)
         → ServeEnded None counter before after input input_after ServeError.Stopped → ⊥ }
     // the lines that were read before the last piece are answered
@@ -36,46 +27,9 @@ pub fn errors_of_serve()
         → AllAnswered counter before (events None (concat v.pieces)) after × (v.last ≡ [] → ⊥) }
 {}
 
-/// How often reading failed: once where that is the error, and else never.
-pub fn failed_reads_are_counted()
-    ensures read { (before after : Snapshot ℕ) (input input_after : InputState)
-        → ReadFailed None counter before after input input_after
-        → input_after.failures ≡ input.failures + 1 }
-    ensures late { (before after : Snapshot ℕ) (input input_after : InputState) (error : ServeError)
-        → EndedLate None counter before after input input_after error
-        → input_after.failures ≡ input.failures }
-{}
-
-/// An input without its last line feed that was served whole.
-pub fn an_input_is_served()
-    ensures whole { (after : Snapshot ℕ) (served : Served)
-        → ServesKnown None counter (snapshot 3 (codes "x") 1) after (Some []) served
-        (codes "NOOP\r\nNO")
-        → Appends (Some (codes "x")) after.output.written (codes "200 OK\r\n")
-        × (after.state ≡ 4) × (served.done ≡ false) × (served.left ≡ 2) × (served.tests ≡ 8) }
-    ensures read_back { (after : Snapshot ℕ) (remaining : Option Bytes) (served : Served)
-        → ServesKnown None counter (snapshot 3 (codes "x") 1) after remaining served
-        (codes "NOOP\r\nNO")
-        → ReadsBack (codes "200 OK\r\n") (CodeAndMsg 200 (codes "OK") ∷ []) }
-    ensures any_reader { (before after : Snapshot ℕ) (input : InputState) (served : Served)
-        → served.done ≡ false
-        → AnsweredAll None counter before after
-        (record {
-          given = [];
-          reads = [];
-          failures = 2;
-          remaining = Some (codes "NOOP\r\nNO");
-        }) input served
-        → AllAnswered counter before (noop ∷ []) after × IsAtEnd input.remaining
-        × (input.failures ≡ 2) }
-    // a read that gave nothing is the last one
-    ensures read_no_more { (before after : Snapshot ℕ) (input input_after : InputState)
-        (served : Served) → AnsweredAll None counter before after input input_after served
-        → input.reads ≡ [] → input_after.reads ≡ 4 ∷ 0 ∷ 0 ∷ [] → ⊥ }
-{}
-
-/// The same of a reader and a writer whose contracts know nothing, such as sockets: what was read
-/// and written is in their records, after what was there before.
+/// An input without its last line feed that was served whole, of a reader and a writer whose
+/// contracts know nothing, such as sockets: what was read and written is in their records, after
+/// what was there before.
 pub fn any_stream_is_served()
     ensures whole { (after : Snapshot ℕ) (input : InputState) (served : Served)
         → Serves None counter (snapshot_of_any_writer 3 (codes "x") 1) after
@@ -92,6 +46,10 @@ pub fn any_stream_is_served()
     ensures not_at_the_end { (before after : Snapshot ℕ) (input : InputState) (served : Served)
         → Serves None counter before after input input served
         → served.done ≡ false → input.reads ≡ 8 ∷ [] → ⊥ }
+    // a read that gave nothing is the last one
+    ensures read_no_more { (before after : Snapshot ℕ) (input input_after : InputState)
+        (served : Served) → AnsweredAll None counter before after input input_after served
+        → input.reads ≡ [] → input_after.reads ≡ 4 ∷ 0 ∷ 0 ∷ [] → ⊥ }
 {}
 
 /// Where a run ends: at the fifth event, and nowhere where there are fewer.
@@ -110,9 +68,6 @@ pub fn a_session_is_ended()
         served (codes "NOOP\r\nNOOP\r\nNO")
         → Appends (Some (codes "x")) after.output.written (codes "200 OK\r\n")
         × (after.state ≡ 5) × (served.done ≡ true) × (served.left ≡ 6) × (served.tests ≡ 6) }
-    ensures other_rest { (before after : Snapshot ℕ) (served : Served)
-        → ServesKnown None counter_to_five before after (Some (codes "XX")) served
-        (codes "NOOP\r\nNOOP\r\nNO") → ⊥ }
     ensures going_on { (after : Snapshot ℕ) (input input_after : InputState) (served : Served)
         (all : AnsweredAll None counter_to_five (snapshot 4 (codes "x") 0) after input input_after
         served)
@@ -126,6 +81,4 @@ pub fn a_session_is_ended()
 /// What is held of pieces: of a line that is too long nothing is kept after its piece.
 pub fn pieces_are_held_so()
     ensures limited { most_held (Some 6) [] (codes "NOOP" ∷ codes " XY" ∷ codes "Z\n" ∷ []) ≡ 7 }
-    ensures at_the_limit { most_held (Some 8) [] (codes "NOOP" ∷ codes " XY" ∷ codes "\n" ∷ [])
-        ≡ 8 }
 {}

@@ -4,7 +4,6 @@ use Rattle.std.proofs.lemmas.Bool.{false≢true}
 use Rattle.std.proofs.lemmas.Str.{IsUtf8-nil, is_utf8-from_IsUtf8}
 use Rattle.std.specs.Fmt.{digits}
 use Rattle.unftp_control_defs.specs.FtpReply.{CodeAndMsg}
-use Rattle.unftp_control_c.specs.Replies.{encodes, not_utf8, out_of_memory}
 use Rattle.unftp_control_c.proofs.examples.replies_have_codes_and_lines.Goals as goal
 
 ill_formed : IsUtf8 (255 ∷ []) → ⊥
@@ -13,11 +12,16 @@ ill_formed text = false≢true (is_utf8-from_IsUtf8 (255 ∷ []) text)
 
 pub returns-clause-code_without_a_name : goal.returns-clause-code_without_a_name
 unfolding digits
-returns-clause-code_without_a_name c = encodes (omega arith, omega arith) IsUtf8-nil
-    (CodeAndMsg 299 []) (inl (tt, refl)) refl
+returns-clause-code_without_a_name c = (
+  (omega arith, omega arith),
+  IsUtf8-nil,
+  CodeAndMsg 299 [],
+  inl (tt, refl),
+  refl,
+)
 
 pub returns-clause-not_utf8 : goal.returns-clause-not_utf8
-returns-clause-not_utf8 c = not_utf8 (omega arith, omega arith) ill_formed refl
+returns-clause-not_utf8 c = ((omega arith, omega arith), ill_formed)
 
 pub returns-clause-memory : goal.returns-clause-memory
-returns-clause-memory c = out_of_memory (omega arith, omega arith) IsUtf8-nil refl
+returns-clause-memory c = ((omega arith, omega arith), IsUtf8-nil)

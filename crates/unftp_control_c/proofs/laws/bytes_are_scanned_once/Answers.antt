@@ -8,7 +8,7 @@ use Rattle.unftp_control_codecs.specs.FirstLine.{reset}
 use Rattle.unftp_control_codecs.proofs.FirstLineLemmas.{scans_few}
 use Rattle.unftp_control_c.specs.Next.{given_for, Call, Left, codec_of, next_codec, scans}
 use Rattle.unftp_control_c.specs.Taking.{AreCallerSteps, Called, Caller, CallerStep, Received, after_call, after_piece, call_of, input_of, is_made_again, new_caller, scanned_by, unscanned}
-use Rattle.unftp_control_c.proofs.CallLemmas.{NextLeft, invalid, asks, gave, no_room, no_memory, Valid, left_so, once_given, valid_resumed, valid_with_piece}
+use Rattle.unftp_control_c.proofs.CallLemmas.{NextLeft, invalid, asks, gave, Valid, left_so, once_given, valid_resumed, valid_with_piece}
 use Rattle.unftp_control_c.proofs.NextLemmas.{counts_of, offset_within}
 use Rattle.unftp_control_c.proofs.laws.bytes_are_scanned_once.Goals as goal
 
@@ -22,18 +22,16 @@ module _ (now : Caller) (ok : Valid now) (area : Bytes) where
         ≡ unscanned now
 
   does : (left : Left) → NextLeft call left → Does left
-  does left (invalid not_valid e) = absurd (false≢true (sym not_valid ∙ ok))
-  does left (asks n valid found e) =
-      let c = counts_of call ok (Incomplete n) found in
-      rw e (record {
+  does _ (invalid not_valid) = absurd (false≢true (sym not_valid ∙ ok))
+  does _ (asks n valid found) =
+      let c = counts_of call ok (Incomplete n) found in record {
         valid = valid_resumed now.connection (next_codec call) (length (drop n now.bytes))
             (omega (arith, c.all, length-drop n now.bytes)) c.at_start;
         count = omega (arith, c.counted, c.all, length-drop n now.bytes, offset_within call ok);
-      })
-  does left (gave first room e) =
+      }
+  does _ (gave first room) =
       let ends = first.ends in
-      let once = once_given (given_for first.event).number first.some in
-      rw e (record {
+      let once = once_given (given_for first.event).number first.some in record {
         valid = valid_resumed now.connection (reset (codec_of now.connection))
             (length (drop first.n now.bytes)) (omega arith) (λ on. refl);
         count = rw once (omega (
@@ -43,9 +41,8 @@ module _ (now : Caller) (ok : Valid now) (area : Bytes) where
           length-drop first.n now.bytes,
           offset_within call ok,
         ));
-      })
-  does left (no_room first small e) = rw e (record { valid = ok; count = omega arith })
-  does left (no_memory e) = rw e (record { valid = ok; count = omega arith })
+      }
+  does _ _ = record { valid = ok; count = omega arith }
 
 scanned_from : (steps : List CallerStep) (now after : Caller) → Valid now
     → AreCallerSteps now steps after

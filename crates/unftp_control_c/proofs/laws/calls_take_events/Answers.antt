@@ -14,7 +14,7 @@ use Rattle.unftp_control_c.specs.Next.{Call, Given, Left, at_next_line, codec_of
 use Rattle.unftp_control_c.specs.Numbers.{status_number}
 use Rattle.unftp_control_c.specs.Taking.{AreCallerSteps, Called, Caller, CallerStep, Received, after_call, after_piece, all_given, call_of, given_by, gives_none, input_of, new_caller}
 use Rattle.unftp_control_c.specs.declared.next.Connection.{Connection}
-use Rattle.unftp_control_c.proofs.CallLemmas.{NextLeft, Valid, invalid, asks, gave, no_room, no_memory, given_is, gives_some, left_so, some_given, skipping_resumed, valid_resumed, valid_with_piece}
+use Rattle.unftp_control_c.proofs.CallLemmas.{NextLeft, Valid, invalid, asks, gave, given_is, gives_some, left_so, skipping_resumed, valid_resumed, valid_with_piece}
 use Rattle.unftp_control_c.proofs.NextLemmas.{counts_of}
 use Rattle.unftp_control_c.proofs.laws.calls_take_events.Goals as goal
 
@@ -72,12 +72,12 @@ module _ {limit : Option ℕ} (now : Caller) (dropped : Bytes) (kept_so : IsKept
 
   does : (left : Left) → NextLeft call left
       → Does limit (dropped ++ now.bytes) (given_by left) (after_call now left)
-  does left (invalid not_valid e) = absurd (false≢true (sym not_valid ∙ kept_so.valid))
-  does left (asks n ok found e) =
+  does _ (invalid not_valid) = absurd (false≢true (sym not_valid ∙ kept_so.valid))
+  does _ (asks n ok found) =
       let none = subst (Finds (codec_of now.connection) dropped now.bytes (next_codec call)) found
       found_now in
       let all = counts_of call ok (Incomplete n) found in
-      rw e (record {
+      record {
         rest = dropped ++ take n now.bytes;
         rest_kept = record {
           limited = kept_so.limited;
@@ -90,15 +90,14 @@ module _ {limit : Option ℕ} (now : Caller) (dropped : Bytes) (kept_so : IsKept
         in_order = λ more. ap (λ bytes. map given_for (events limit (bytes ++ more)))
             (append_assoc dropped (take n now.bytes) (drop n now.bytes)
             ∙ ap (λ bytes. dropped ++ bytes) (take-append-drop n now.bytes));
-      })
-  does left (gave first room e) = rw (e, given_is first, sym kept_so.limited) (record {
+      }
+  does _ (gave first room) = rw (given_is first, sym kept_so.limited) (record {
     rest = [];
     rest_kept = kept_from_start now.connection (drop first.n now.bytes);
     in_order = λ more.
         ap (map given_for) (sym (TakesEvent-events (first.takes dropped found_now) more));
   })
-  does left (no_room first small e) = rw e unchanged
-  does left (no_memory e) = rw e unchanged
+  does _ _ = unchanged
 
 -- What steps do, one after the other: what is given, and then the events from the first line on,
 -- are the events from there on before.
@@ -152,27 +151,21 @@ module _ (limited : ℕ) (after : Caller) (steps : List CallerStep)
   given_first =
       (map given_for (events (line_limit limited) (run.rest ++ after.bytes)), run.in_order)
 
-module _ {limit : Option ℕ} (now : Caller) (area : Bytes) (left : Left) (dropped : Bytes)
+module _ {limit : Option ℕ} (now : Caller) (area dropped : Bytes)
     (kept_so : IsKept limit now dropped) where
-  uses_none : NextLeft (call_of now area) left → left.line.used ≡ 0 → gives_none left.result ≡ true
-  uses_none (invalid not_valid e) used = absurd (false≢true (sym not_valid ∙ kept_so.valid))
-  uses_none (asks n ok found e) used = rw e refl
-  uses_none (gave first room e) used =
-      absurd (omega (arith, sym (ap (λ l. l.line.used) e) ∙ used, first.ends.ends))
-  uses_none (no_room first small e) used = rw e refl
-  uses_none (no_memory e) used = rw e refl
+  uses_none : (left : Left) → NextLeft (call_of now area) left → left.line.used ≡ 0
+      → gives_none left.result ≡ true
+  uses_none _ (invalid not_valid) used = absurd (false≢true (sym not_valid ∙ kept_so.valid))
+  uses_none _ (gave first room) used = absurd (omega (arith, used, first.ends.ends))
+  uses_none _ _ used = refl
 
-  asks_at_the_end : NextLeft (call_of now area) left → left.result ≡ status_number More
-      → Lacks LF (dropped ++ now.bytes)
-  asks_at_the_end (invalid not_valid e) is = absurd (false≢true (sym not_valid ∙ kept_so.valid))
-  asks_at_the_end (asks n ok found e) is =
+  asks_at_the_end : (left : Left) → NextLeft (call_of now area) left
+      → left.result ≡ status_number More → Lacks LF (dropped ++ now.bytes)
+  asks_at_the_end _ (asks n ok found) is =
       (subst (Finds (codec_of now.connection) dropped now.bytes (next_codec (call_of now area))) found
       (found_now now dropped kept_so area)).unended
-  asks_at_the_end (gave first room e) is =
-      absurd ((gives_some left.result (some_given first e)).0 is)
-  asks_at_the_end (no_room first small e) is =
-      absurd (omega (arith, sym (ap (λ l. l.result) e) ∙ is))
-  asks_at_the_end (no_memory e) is = absurd (omega (arith, sym (ap (λ l. l.result) e) ∙ is))
+  asks_at_the_end _ (gave first room) is = absurd ((gives_some _ first.some).0 is)
+  asks_at_the_end _ _ is = absurd (omega (arith, is))
 
 -- the law
 pub returns : goal.returns
@@ -181,12 +174,12 @@ returns c = record {
   all = λ limit steps after area left are leaves more.
       let before = run limit after steps are in
       let none = events-incomplete (line_limit limit) (before.rest ++ after.bytes)
-      (asks_at_the_end after area left before.rest before.rest_kept
+      (asks_at_the_end after area before.rest before.rest_kept left
       (left_so (call_of after area) left leaves) more) in
       sym (append-nil (all_given steps)) ∙ ap (λ later. all_given steps ++ map given_for later)
       (sym none) ∙ before.in_order;
   nothing_used = λ limit steps after area left are leaves used.
       let before = run limit after steps are in
-      uses_none after area left before.rest before.rest_kept
+      uses_none after area before.rest before.rest_kept left
       (left_so (call_of after area) left leaves) used;
 }

@@ -3,7 +3,6 @@ use Rattle.std.proofs.Common.{◌≡◌, ◌==◌, ℕ, true, nat_lt, [], ◌∷
 use Rattle.std.specs.Prelude.{if◌then◌else◌, ◌||◌, unwrap_or}
 use Rattle.std.proofs.lemmas.Bool.{cond_both}
 use Rattle.std.proofs.lemmas.Fmt.{decimal_nonempty}
-use Rattle.std.proofs.lemmas.Option.{same_Some}
 use Rattle.unftp_control_defs.specs.Bytes.{Bytes, crlf}
 use Rattle.unftp_control_defs.specs.Canonical.{HasLine, IsNonEmptyText, IsOptionalText, canonical_body, canonical_line, site_body, with_option_end, with_optional}
 use Rattle.unftp_control_defs.specs.Events.{Fault, FtpEvent, Command, Refused, event_of, event_for, exceeds, line_too_long, refusal_fault}
@@ -19,8 +18,9 @@ use Rattle.unftp_control_defs.specs.declared.parameters.ProtParam.TheVariants.{C
 use Rattle.unftp_control_defs.specs.declared.parameters.StruParam.TheVariants.{File}
 use Rattle.unftp_control_defs.proofs.CanonicalLineLemmas.{outcome-canonical_line}
 use Rattle.unftp_control_defs.proofs.CommandLineLemmas.{HasLine-outcome, HasTypedFields-outcome}
+use Rattle.unftp_control_defs.proofs.CommandRoundTripLemmas.{unless_empty-some}
 use Rattle.unftp_control_c.specs.Taking.{IsNumberOf}
-use Rattle.unftp_control_c.specs.Next.{Given, given_for}
+use Rattle.unftp_control_c.specs.Next.{Given, given_for, value_of_command}
 use Rattle.unftp_control_c.proofs.laws.events_are_given_apart.Goals as goal
 
 -- the canonical line of a command that is given so
@@ -55,50 +55,39 @@ body_kept : (command : FtpCommand)
 body_kept (User name) = refl
 body_kept _ = refl
 
--- no value is empty
-no_value : ◌≡◌ {A = Option Bytes} None (Some []) → ⊥
-no_value e = cc
+-- and so is its value: none is empty
+named_back : (text : Bytes) → IsNonEmptyText text → unless_empty text ≡ Some text
+named_back text named = unless_empty-some text named.0
 
-letter_value : (b : ℕ) (text : Bytes) → ◌≡◌ {A = Option Bytes} (Some (b ∷ text)) (Some []) → ⊥
-letter_value b text e = cc
+optional_back : (path : Option Bytes) → IsOptionalText path
+    → unless_empty (unwrap_or path []) ≡ path
+optional_back None optional = refl
+optional_back (Some text) named = named_back text named
 
-text_value : (text : Bytes) → IsNonEmptyText text → ◌≡◌ {A = Option Bytes} (Some text) (Some [])
-    → ⊥
-text_value text named e = named.0 (same_Some text [] e)
+raw_back : (text : Bytes) → unless_empty (unwrap_or (unless_empty text) []) ≡ unless_empty text
+raw_back [] = refl
+raw_back (b ∷ text) = refl
 
-optional_value : (path : Option Bytes) → IsOptionalText path → path ≡ Some [] → ⊥
-optional_value None optional e = cc
-optional_value (Some text) named e = text_value text named e
+same : (value : Option Bytes) → value ≡ value
+same value = refl
 
-raw_value : (text : Bytes) → unless_empty text ≡ Some [] → ⊥
-raw_value [] e = cc
-raw_value (b ∷ text) e = cc
-
-some_value : (command : FtpCommand) → HasLine command → HasTypedFields command
-    → (name_and_value command).1 ≡ Some [] → ⊥
+value_back : (command : FtpCommand) → HasLine command → HasTypedFields command
+    → unless_empty (value_of_command command) ≡ (name_and_value command).1
 unfolding lib.Utf8.encode
-some_value (Stru File) has_line typed e = cc
-some_value (Mode Stream) has_line typed e = cc
-some_value (Opts (Utf8 true)) has_line typed e = cc
-some_value (Auth Ssl) has_line typed e = cc
-some_value (Prot Clear) has_line typed e = cc
-some_value (Listing options path) has_line typed e = optional_value path has_line.1 e
-some_value (Rest offset) has_line typed e =
-    omega (arith, decimal_nonempty offset typed, ap length (same_Some (decimal offset) [] e))
-some_value command has_line typed e =
-    search (no_value, letter_value, text_value, optional_value, raw_value)
-
-value_back : (value : Option Bytes) → (value ≡ Some [] → ⊥)
-    → unless_empty (unwrap_or value []) ≡ value
-value_back None some = refl
-value_back (Some []) some = absurd (some refl)
-value_back (Some (b ∷ value)) some = refl
+value_back (Stru File) has_line typed = refl
+value_back (Mode Stream) has_line typed = refl
+value_back (Opts (Utf8 true)) has_line typed = refl
+value_back (Auth Ssl) has_line typed = refl
+value_back (Prot Clear) has_line typed = refl
+value_back (Listing options path) has_line typed = optional_back path has_line.1
+value_back (Rest offset) has_line typed = unless_empty-some (decimal offset)
+    (λ e. omega (arith, decimal_nonempty offset typed, ap length e))
+value_back command has_line typed = search (same, named_back, optional_back, raw_back)
 
 line_kept : (command : FtpCommand) → HasLine command → HasTypedFields command
     → line_given (given_for (Command command)) ≡ canonical_line command
 line_kept command has_line typed =
-    rw (value_back (name_and_value command).1 (some_value command has_line typed))
-    (ap (λ body. body ++ crlf) (body_kept command))
+    rw (value_back command has_line typed) (ap (λ body. body ++ crlf) (body_kept command))
 
 is_command : (command : FtpCommand) → nat_lt (command_number command) 101 ≡ true
 is_command (User name) = refl

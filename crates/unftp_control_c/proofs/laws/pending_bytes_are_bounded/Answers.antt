@@ -1,5 +1,5 @@
 -- The pending bytes of a connection with a limit.
-use Rattle.std.proofs.Common.{◌≡◌, ◌+◌, ◌<◌, ◌≤◌, false, ◌⊎◌, inl, inr, length, drop, refl, sym, ap, ◌∙◌, arith, length-drop}
+use Rattle.std.proofs.Common.{◌≡◌, ◌+◌, ◌<◌, ◌≤◌, false, ◌⊎◌, inl, inr, length, drop, refl, arith, length-drop}
 use Rattle.unftp_control_defs.specs.Bytes.{Bytes}
 use Rattle.unftp_control_codecs.specs.declared.FirstLine.TheVariants.{Incomplete}
 use Rattle.unftp_control_codecs.specs.Codec.{is_too_long}
@@ -7,16 +7,15 @@ use Rattle.unftp_control_c.specs.declared.status.Status.TheVariants.{More}
 use Rattle.unftp_control_c.specs.Next.{Call, Left, codec_of}
 use Rattle.unftp_control_c.specs.Numbers.{status_number}
 use Rattle.unftp_control_c.specs.Taking.{Caller, after_call, call_of}
-use Rattle.unftp_control_c.proofs.CallLemmas.{NextLeft, invalid, asks, gave, no_room, no_memory, gives_some, left_so, some_given, within_limit}
+use Rattle.unftp_control_c.proofs.CallLemmas.{NextLeft, invalid, asks, gave, gives_some, left_so, within_limit}
 use Rattle.unftp_control_c.proofs.NextLemmas.{counts_of}
 use Rattle.unftp_control_c.proofs.laws.pending_bytes_are_bounded.Goals as goal
 
-module _ (caller : Caller) (some : 1 ≤ caller.connection.limit) (area : Bytes) (left : Left) where
-  few : NextLeft (call_of caller area) left → left.result ≡ status_number More
+module _ (caller : Caller) (some : 1 ≤ caller.connection.limit) (area : Bytes) where
+  few : (left : Left) → NextLeft (call_of caller area) left → left.result ≡ status_number More
       → length (after_call caller left).bytes < caller.connection.limit
-  few (invalid not_valid e) is = absurd (omega (arith, sym (ap (λ l. l.result) e) ∙ is))
-  few (asks n ok found e) is =
-      rw e (by_kept (counts_of (call_of caller area) ok (Incomplete n) found).kept_short)
+  few _ (asks n ok found) is =
+      by_kept (counts_of (call_of caller area) ok (Incomplete n) found).kept_short
     where
       by_kept : (n ≡ length caller.bytes)
           ⊎ (is_too_long (codec_of caller.connection) (length caller.bytes + 1) ≡ false)
@@ -27,19 +26,14 @@ module _ (caller : Caller) (some : 1 ≤ caller.connection.limit) (area : Bytes)
         within_limit caller.connection (length caller.bytes + 1) some short,
         length-drop n caller.bytes,
       )
-  few (gave first room e) is = absurd ((gives_some left.result (some_given first e)).0 is)
-  few (no_room first small e) is =
-      absurd (omega (arith, sym (ap (λ l. l.result) e) ∙ is))
-  few (no_memory e) is = absurd (omega (arith, sym (ap (λ l. l.result) e) ∙ is))
+  few _ (gave first room) is = absurd ((gives_some _ first.some).0 is)
+  few _ _ is = absurd (omega (arith, is))
 
 -- no call changes the limit
 same_limit : (call : Call) (left : Left) → NextLeft call left
     → left.connection.limit ≡ call.connection.limit
-same_limit call left (invalid not_valid e) = rw e refl
-same_limit call left (asks n ok found e) = rw e refl
-same_limit call left (gave first room e) = rw e refl
-same_limit call left (no_room first small e) = rw e refl
-same_limit call left (no_memory e) = rw e refl
+same_limit call _ (invalid not_valid) = refl
+same_limit call _ _ = refl
 
 -- the law
 pub returns : goal.returns

@@ -1,6 +1,7 @@
 use Rattle.std.proofs.Common.{inl, sym, ◌∙◌}
 use Rattle.unftp_control_codecs.specs.declared.FirstLine.TheVariants.{Incomplete}
-use Rattle.unftp_control_c.proofs.NextLemmas.{call_with, complete_left, found_left, too_long_left}
+use Rattle.unftp_control_c.specs.Next.{call_with}
+use Rattle.unftp_control_c.proofs.NextLemmas.{complete_left, found_left, too_long_left}
 use Rattle.unftp_control_c.proofs.next.take_first.Goals as goal
 
 pub returns-in-Incomplete-clause-leaves : goal.returns-in-Incomplete-clause-leaves

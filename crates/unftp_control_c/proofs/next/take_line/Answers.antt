@@ -2,9 +2,9 @@ use Rattle.std.proofs.Common.{◌≡◌, ap, inl, length, subst, sym, ◌∙◌}
 use Rattle.unftp_control_defs.specs.Outcome.{outcome}
 use Rattle.unftp_control_line_parser.specs.ParseAnswer.{Returns}
 use Rattle.unftp_control_defs.specs.Events.{event_of}
-use Rattle.unftp_control_c.specs.Next.{given_for, gives}
+use Rattle.unftp_control_c.specs.Next.{call_with, given_for, gives}
 use Rattle.unftp_control_c.specs.Numbers.{kind_status}
-use Rattle.unftp_control_c.proofs.NextLemmas.{call_with, refused_left}
+use Rattle.unftp_control_c.proofs.NextLemmas.{refused_left}
 use Rattle.unftp_control_c.proofs.next.take_line.Goals as goal
 
 pub returns-in-Ok : goal.returns-in-Ok

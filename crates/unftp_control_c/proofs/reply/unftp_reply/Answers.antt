@@ -1,24 +1,23 @@
-use Rattle.std.proofs.Common.{Ok, Err, refl, sym, subst}
+use Rattle.std.proofs.Common.{Ok, Err, inl, refl, sym, subst}
 use Rattle.std.proofs.lemmas.Bool.{false≢true}
 use Rattle.unftp_control_defs.specs.Bytes.{LF, Lacks}
 use Rattle.unftp_control_defs.specs.FtpReply.{CodeAndMsg, encoded}
 use Rattle.unftp_control_c.specs.declared.status.Status.TheVariants.{InvalidUtf8, UnknownCode}
 use Rattle.unftp_control_c.specs.Areas.{made}
-use Rattle.unftp_control_c.specs.Replies.{not_utf8, unknown_code}
-use Rattle.unftp_control_c.proofs.ReplyLemmas.{line_encodes, lines_encode, reads_back}
+use Rattle.unftp_control_c.proofs.ReplyLemmas.{lines_encode, reads_back}
 use Rattle.unftp_control_c.proofs.reply.unftp_reply.Goals as goal
 
 pub returns-then-not-is_reply_code-clause-writes : goal.returns-then-not-is_reply_code-clause-writes
 returns-then-not-is_reply_code-clause-writes c = (
   Err UnknownCode,
-  unknown_code (λ is_code. false≢true (c.if-not-is_reply_code.ensures.1 is_code)) refl,
+  λ is_code. false≢true (c.if-not-is_reply_code.ensures.1 is_code),
   c.write.ensures,
 )
 
 pub returns-in_default-clause-writes : goal.returns-in_default-clause-writes
 returns-in_default-clause-writes c =
     let code = c.if-not-is_reply_code.ensures.0 refl in
-    (Err InvalidUtf8, not_utf8 code c.in_default.ensures.cases.0 refl, c.write-in_default.ensures)
+    (Err InvalidUtf8, (code, c.in_default.ensures.cases.0), c.write-in_default.ensures)
 
 pub returns-then-is_one_line-clause-writes : goal.returns-then-is_one_line-clause-writes
 returns-then-is_one_line-clause-writes c =
@@ -26,7 +25,7 @@ returns-then-is_one_line-clause-writes c =
     let text = c.in-Ok.ensures.cases in
     let one = subst (Lacks LF) text.0 (c.if-is_one_line.ensures.0 refl) in (
       Ok (encoded (CodeAndMsg c.args.code c.args.text.now)),
-      line_encodes code text.1 one,
+      (code, text.1, CodeAndMsg c.args.code c.args.text.now, inl (one, refl), refl),
       rw (← text.0) c.write_line.ensures,
     )
 

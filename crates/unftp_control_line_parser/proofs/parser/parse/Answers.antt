@@ -11,4 +11,4 @@ returns-clause-memory c = search rules
 
 pub returns-clause-has_line : goal.returns-clause-has_line
 returns-clause-has_line c = λ is_line. HasLine-outcome c.args.line.now
-    (command_of c.in_ok-command_in.field-0) is_line c.in_ok-command_in.ensures.answer
+    (command_of c.in_ok-command_in.field-0) is_line c.in_ok-command_in.ensures

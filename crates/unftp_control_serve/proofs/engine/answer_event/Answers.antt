@@ -2,7 +2,7 @@ use Rattle.std.proofs.Common.{Ok, refl, ◌∙◌, ap}
 use Rattle.std.proofs.lemmas.Result.{err_from_is_err_and}
 use Rattle.unftp_control_serve.proofs.HeardLemmas.{Begins-trans}
 use Rattle.unftp_control_serve.proofs.MappedLemmas.{mapped-ok, mapped-err}
-use Rattle.unftp_control_serve.proofs.EndingLemmas.{failed-at, first-failed, InTurn-start, InTurn-next, InTurn-failed, InTurn-broke, InTurn-end}
+use Rattle.unftp_control_serve.proofs.EndingLemmas.{failed-at, reply-failed, turn-first, InTurn-more, InTurn-broke, InTurn-end, Replying-start}
 use Rattle.unftp_control_serve.proofs.engine.answer_event.Goals as goal
 
 pub returns-in_err-first-clause-outcome : goal.returns-in_err-first-clause-outcome
@@ -21,8 +21,9 @@ returns-in_err-send_reply-clause-outcome g c = λ w so.
     let error = err_from_is_err_and c.from_residual-in_err-send_reply.result
     c.from_residual-in_err-send_reply.ensures.1 in
     rw (error.1, error.2)
-    (first-failed (g.H.Session.law w) _ _ _ _ (rw first at (c.first.ensures.says) w so)
-    (rw first at (c.first.ensures.next) w so) (rw first at c.first.ensures.quiet) _
+    (reply-failed (g.H.Session.law w) (Replying-start (g.H.Session.law w) _ _) _ _
+    (turn-first (g.H.Session.law w) _ _ _ (rw first at (c.first.ensures.says) w so)
+    (rw first at (c.first.ensures.next) w so)) (rw first at c.first.ensures.quiet) _
     c.in_err-send_reply.ensures.sends)
 
 pub loop-reply-init : goal.loop-reply-init
@@ -31,9 +32,10 @@ loop-reply-init g c =
     c.map_err.ensures.cases c.in_ok-first.was in
     record {
       heard = c.first.ensures.heard;
-      in_turn = λ w so. InTurn-start (g.H.Session.law w) _ _ _ _
-          (rw first at (c.first.ensures.says) w so) (rw first at (c.first.ensures.next) w so)
-          (rw first at c.first.ensures.quiet) c.in_ok-send_reply.ensures.sends;
+      in_turn = λ w so. InTurn-more (g.H.Session.law w) (Replying-start (g.H.Session.law w) _ _) _ _
+          (turn-first (g.H.Session.law w) _ _ _ (rw first at (c.first.ensures.says) w so)
+          (rw first at (c.first.ensures.next) w so)) (rw first at c.first.ensures.quiet)
+          c.in_ok-send_reply.ensures.sends;
     }
 
 pub returns-in_err-reply-clause-outcome : goal.returns-in_err-reply-clause-outcome
@@ -44,7 +46,7 @@ returns-in_err-reply-clause-outcome g c = λ w so.
     c.from_residual-in_err-reply.ensures.1 in
     let before = c.loop-reply.invariant.in_turn w (Begins-trans w _ _ so c.further.ensures.heard) in
     rw (error.1, error.2, failed.2)
-    (InTurn-broke (g.H.Session.law w) _ _ _ before _ failed.0
+    (InTurn-broke (g.H.Session.law w) before _ failed.0
     (rw failed.1 at (c.further.ensures.may_break) w so) refl
     (rw failed.1 at c.further.ensures.counted))
 
@@ -57,7 +59,7 @@ loop-reply-preserved g c =
       in_turn = λ w so.
           let before = c.loop-reply.invariant.in_turn w
           (Begins-trans w _ _ so c.further.ensures.heard) in
-          InTurn-next (g.H.Session.law w) _ _ _ before _ _
+          InTurn-more (g.H.Session.law w) before.replying _ _
           (rw given at (c.further.ensures.follows) w so) (rw given at c.further.ensures.quiet)
           c.in_ok-send_reply-2.ensures.sends;
     }
@@ -70,7 +72,7 @@ returns-in_err-send_reply-2-clause-outcome g c = λ w so.
     c.from_residual-in_err-send_reply-2.ensures.1 in
     let before = c.loop-reply.invariant.in_turn w (Begins-trans w _ _ so c.further.ensures.heard) in
     rw (error.1, error.2)
-    (InTurn-failed (g.H.Session.law w) _ _ _ before _ _
+    (reply-failed (g.H.Session.law w) before.replying _ _
     (rw given at (c.further.ensures.follows) w so) (rw given at c.further.ensures.quiet) _
     c.in_err-send_reply-2.ensures.sends)
 
@@ -81,5 +83,5 @@ returns-clause-outcome g c = λ w so.
     ∙ ap (λ more. Ok more) c.in_default.is in
     let before = c.loop-reply.invariant.in_turn w (Begins-trans w _ _ so c.further.ensures.heard) in
     let follows = rw given at (c.further.ensures.follows) w so in
-    InTurn-end (g.H.Session.law w) _ _ _ before _ follows.0 follows.1 refl
+    InTurn-end (g.H.Session.law w) before _ follows.0 follows.1 refl
     (rw given at c.further.ensures.quiet)

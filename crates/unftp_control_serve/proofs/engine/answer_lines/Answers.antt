@@ -3,7 +3,7 @@ use Rattle.std.proofs.lemmas.Bool.{false≢true}
 use Rattle.std.proofs.lemmas.Result.{err_from_is_err_and}
 use Rattle.unftp_control_serve.specs.Decoder.{kept_length}
 use Rattle.unftp_control_serve.proofs.HeardLemmas.{Begins-trans, Begins-refl}
-use Rattle.unftp_control_serve.proofs.LineRunLemmas.{halfway-no_memory, Halfway-start, Halfway-next, no_line-answered, no_line-not_ended, no_line-all_unread, line-failed, last_line-answered, last_line-ended, last_line-unread}
+use Rattle.unftp_control_serve.proofs.LineRunLemmas.{halfway-no_memory, Halfway-start, Halfway-next, no_line-answered, line-failed, last_line-answered}
 use Rattle.unftp_control_serve.proofs.engine.answer_lines.Goals as goal
 
 pub loop-event-init : goal.loop-event-init
@@ -50,22 +50,6 @@ returns-then-done-clause-outcome g c =
     (Begins-trans w _ _ so c.in_ok-answer_event.ensures.heard)) before.limit first
     (c.in_ok-answer_event.ensures.outcome w so) (sym (c.done.ensures w) ∙ c.if-done.true)
 
-pub returns-then-done-clause-ended : goal.returns-then-done-clause-ended
-returns-then-done-clause-ended g c =
-    let before = c.loop-event.invariant in
-    let first = rw c.in-Some.is at c.in_ok-event.ensures.takes_next in
-    λ w so. last_line-ended (before.halfway w
-    (Begins-trans w _ _ so c.in_ok-answer_event.ensures.heard)) before.limit first
-    (c.in_ok-answer_event.ensures.outcome w so) (sym (c.done.ensures w) ∙ c.if-done.true)
-
-pub returns-then-done-clause-unread : goal.returns-then-done-clause-unread
-returns-then-done-clause-unread g c =
-    let before = c.loop-event.invariant in
-    let first = rw c.in-Some.is at c.in_ok-event.ensures.takes_next in
-    λ w so. last_line-unread (before.halfway w
-    (Begins-trans w _ _ so c.in_ok-answer_event.ensures.heard)) before.limit first
-    (c.in_ok-answer_event.ensures.outcome w so) (sym (c.done.ensures w) ∙ c.if-done.true)
-
 pub returns-then-done-clause-unscanned : goal.returns-then-done-clause-unscanned
 returns-then-done-clause-unscanned g c =
     let first = rw c.in-Some.is at c.in_ok-event.ensures.takes_next in
@@ -78,16 +62,6 @@ pub returns-in-None-clause-outcome : goal.returns-in-None-clause-outcome
 returns-in-None-clause-outcome g c =
     let none = rw c.in-None.is at c.in_ok-event.ensures.takes_next in
     λ w so. no_line-answered (c.loop-event.invariant.halfway w so) none
-
-pub returns-in-None-clause-ended : goal.returns-in-None-clause-ended
-returns-in-None-clause-ended g c =
-    let none = rw c.in-None.is at c.in_ok-event.ensures.takes_next in
-    λ w so. no_line-not_ended (c.loop-event.invariant.halfway w so) none
-
-pub returns-in-None-clause-unread : goal.returns-in-None-clause-unread
-returns-in-None-clause-unread g c =
-    let none = rw c.in-None.is at c.in_ok-event.ensures.takes_next in
-    λ w so. no_line-all_unread (c.loop-event.invariant.halfway w so) none
 
 pub returns-in-None-clause-unscanned : goal.returns-in-None-clause-unscanned
 returns-in-None-clause-unscanned g c =

@@ -1,4 +1,4 @@
-use Rattle.std.proofs.Common.{◌≡◌, arith, rules}
+use Rattle.std.proofs.Common.{◌≡◌, arith}
 use Rattle.std.proofs.lemmas.Grind.{common_steps}
 use Rattle.unftp_control_serve.proofs.SendLemmas.{Sending-more}
 use Rattle.unftp_control_serve.proofs.send.write_whole.Goals as goal
@@ -10,6 +10,3 @@ loop-rest-preserved g c =
     rw c.split_at.ensures.back
     (Sending-more c.in-Ok.n c.loop-rest.invariant c.in-Ok.ensures.bound
     c.in-Ok.ensures.wrote.0 kept c.in-Ok.ensures.wrote.2)
-
-pub loop-rest-smaller : goal.loop-rest-smaller
-loop-rest-smaller g c = search rules

@@ -1,4 +1,4 @@
-use Rattle.std.proofs.Common.{rules, ◌<◌, ◌≤◌, refl, sym, ap, ◌∙◌, length, arith}
+use Rattle.std.proofs.Common.{◌<◌, ◌≤◌, refl, sym, ap, ◌∙◌, length, arith}
 use Rattle.std.proofs.lemmas.Result.{err_from_is_err_and}
 use Rattle.unftp_control_serve.proofs.HeardLemmas.{Begins-trans, Begins-refl}
 use Rattle.unftp_control_serve.proofs.ServiceLemmas.{Serving-start, Serving-next, Serving-done, Serving-failed, Serving-all, Serving-read_failed, Serving-too_often}
@@ -87,6 +87,3 @@ returns-then-n-eq0-clause-ok g c =
     Serving-all _ (c.loop-turn.invariant.serving _ (Begins-refl _)) c.read.new.buf
     c.served_by.ensures c.if-n-eq0.true read.2
     read.0 (read.1 c.if-n-eq0.true room) read.3
-
-pub returns-clause-ok : goal.returns-clause-ok
-returns-clause-ok g c = search rules

@@ -1,5 +1,5 @@
-use Rattle.std.proofs.Common.{◌≡◌, List, [], ◌∷◌, ◌++◌, drop, map, refl, subst, ◌∙◌, ap, arith, length, length-append}
-use Rattle.std.proofs.lemmas.List.{length-map}
+use Rattle.std.proofs.Common.{◌≡◌, List, [], ◌∷◌, ◌++◌, drop, subst, ◌∙◌, ap, arith, length, length-append}
+use Rattle.std.proofs.lemmas.List.{length-map, nil_from_length}
 use Rattle.unftp_control.specs.Acts.{Act, taken_by_client}
 use Rattle.unftp_control.specs.Canonical.{canonical_line}
 use Rattle.unftp_control.specs.Endings.{AllAnswered}
@@ -35,10 +35,6 @@ none_done acts turn [] later whole done = (done, cc)
 none_done acts turn (other ∷ first) later whole done =
     absurd (not_empty first turn later (ap (drop 1) whole))
 
-none_mapped : {A B : Type 0} (f : A → B) (xs : List A) → map f xs ≡ [] → xs ≡ []
-none_mapped f [] e = refl
-none_mapped f (x ∷ xs) e = absurd (cc)
-
 pub returns-clause-no_line : goal.returns-clause-no_line
 returns-clause-no_line c = λ talk after conversed.
     let stops = conversed.ended in
@@ -47,8 +43,11 @@ returns-clause-no_line c = λ talk after conversed.
     subst (λ acts. IsAnswered greeter acts (first_snapshot greeter 0) after Send) none.0
     (subst (IsAnswered greeter conversed.acts (first_snapshot greeter 0) after) none.1
     stops.answered) in (
-      none_mapped reply_to talk.taken.items
-          (conversed.talked.taken ∙ ap taken_by_client none.0),
+      nil_from_length talk.taken.items (omega (
+        arith,
+        length-map talk.taken.items reply_to,
+        ap length (conversed.talked.taken ∙ ap taken_by_client none.0),
+      )),
       answered.ends_at,
       answered.given.handler_failed,
     )

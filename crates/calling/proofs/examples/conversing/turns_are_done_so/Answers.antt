@@ -1,7 +1,10 @@
-use Rattle.std.proofs.Common.{codes, refl, subst}
+use Rattle.std.proofs.Common.{[], codes, refl, subst}
 use Rattle.unftp_control.specs.ReplyReader.{IsPartial}
 use Rattle.calling.proofs.ExampleLemmas.{greeting_front, greeting_part}
 use Rattle.calling.proofs.examples.conversing.turns_are_done_so.Goals as goal
+
+pub returns-clause-taken : goal.returns-clause-taken
+returns-clause-taken c = λ taken. ([], tt, refl)
 
 pub returns-clause-none_there : goal.returns-clause-none_there
 returns-clause-none_there c = (codes "22", greeting_part, refl)

@@ -1,13 +1,12 @@
-use Rattle.std.proofs.Common.{ap, refl}
-use Rattle.unftp_control_defs.specs.Outcome.{outcome}
+use Rattle.std.proofs.Common.{ap}
 use Rattle.unftp_control_defs.specs.Run.{run_of, text_of}
 use Rattle.unftp_control.proofs.ConversationLemmas.{canonical-keeps, events-rewritten, events-rewritten_within, forwarded-keeps, incomplete-rewritten}
 use Rattle.unftp_control.proofs.laws.both_ends.canonical_lines_change_nothing.Goals as goal
 
 pub returns : goal.returns
 returns g c = record {
-  canonical = λ line is_line. canonical-keeps line is_line (outcome line) refl;
-  forwarded = λ line is_line. forwarded-keeps line is_line (outcome line) refl;
+  canonical = canonical-keeps;
+  forwarded = forwarded-keeps;
   same_events = λ rewrite input keeps. events-rewritten rewrite keeps input;
   within = λ rewrite limit input keeps each. events-rewritten_within rewrite keeps input limit each;
   written = λ said rewrite s input keeps.

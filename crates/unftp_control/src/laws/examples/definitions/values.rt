@@ -1,13 +1,11 @@
 //! The values of parameters.
 #![tactic(auto, unfolding(unftp_control_defs::proofs::Computing::at_bytes))]
 
-ghost use Rattle.std.specs.Prelude.{◌≡◌, ◌++◌, [], ◌∷◌, codes};
-ghost use Rattle.unftp_control_defs.specs.Values.{Reads, HasNoValue, escaped};
+ghost use Rattle.std.specs.Prelude.{◌++◌, [], ◌∷◌, codes};
+ghost use Rattle.unftp_control_defs.specs.Values.{Reads, HasNoValue};
 
 /// The parameters that each rule reads.
 pub fn parameters_have_values()
-    ensures nothing { Reads [] [] }
-    ensures only_crlf { Reads (codes "\r\n") [] }
     ensures crlf_before_more { Reads (codes "ab\r\nx") (codes "ab") }
     ensures cr_nul_first { Reads (13 ∷ 0 ∷ codes "b\r\n") (codes "\rb") }
     ensures cr_nul_later { Reads (codes "a\r" ++ 0 ∷ codes "b\r\n") (codes "a\rb") }
@@ -22,15 +20,8 @@ pub fn parameters_have_values()
 
 /// An invalid line ending is one that no rule reads.
 pub fn line_endings_are_invalid()
-    ensures no_end { HasNoValue (codes "a") }
     ensures bare_cr { HasNoValue (codes "a\rb\r\n") }
     ensures lf_after_cr_nul { HasNoValue (codes "x\r" ++ 0 ∷ codes "\n") }
     ensures empty { ¬ HasNoValue [] }
     ensures crlf { ¬ HasNoValue (codes "ab\r\n") }
-{}
-
-/// Each CR is sent as CR NUL, and any other byte as it is.
-pub fn values_are_sent_so()
-    ensures crs { escaped (codes "\ra\r") ≡ 13 ∷ 0 ∷ codes "a\r" ++ 0 ∷ [] }
-    ensures other_bytes { escaped (0 ∷ codes "\n ") ≡ 0 ∷ codes "\n " }
 {}

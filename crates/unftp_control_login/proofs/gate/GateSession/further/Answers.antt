@@ -1,9 +1,7 @@
-use Rattle.std.proofs.Common.{cond, None, refl, subst, sym}
+use Rattle.std.proofs.Common.{refl}
 use Rattle.std.proofs.lemmas.Result.{IfOk-weaker}
 use Rattle.unftp_control_serve.specs.EventMeaning.{further_of}
 use Rattle.unftp_control_serve.proofs.HeardLemmas.{Begins-refl}
-use Rattle.unftp_control_login.specs.CallsOf.{calls_of}
-use Rattle.unftp_control_login.specs.HandlerCalls.{CallsMade, Further, NoReply}
 use Rattle.unftp_control_login.specs.GateState.{gated}
 use Rattle.unftp_control_login.proofs.CalledLemmas.{made-counted, made-fails, made-quiet}
 use Rattle.unftp_control_login.proofs.GateLemmas.{passes-on}
@@ -15,17 +13,13 @@ returns-clause-follows g c = IfOk-weaker c.further.result _ _ (λ more follows w
     (further_of more) c.if-not-self.false refl (follows w so)) c.further.ensures.follows
 
 pub returns-clause-calls : goal.returns-clause-calls
-returns-clause-calls g c = λ w so. subst (λ passed. CallsMade (g.H.Session.law w)
-    (g.H.Session.state c.args.self.now.inner.handler) (cond passed Further NoReply) None
-    (calls_of g.H.Session.failures c.args.self.now.inner)
-    (calls_of g.H.Session.failures c.further.new.self) c.further.result)
-    (sym c.if-not-self.false) (c.further.ensures.calls w so)
+returns-clause-calls g c = λ w so. rw c.if-not-self.false (c.further.ensures.calls w so)
 
 pub returns-clause-quiet : goal.returns-clause-quiet
-returns-clause-quiet g c = made-quiet (c.further.ensures.calls _ (Begins-refl _))
+returns-clause-quiet g c = made-quiet _ (c.further.ensures.calls _ (Begins-refl _))
 
 pub returns-clause-may_break : goal.returns-clause-may_break
-returns-clause-may_break g c = made-fails (returns-clause-calls g c)
+returns-clause-may_break g c = made-fails _ (returns-clause-calls g c)
 
 pub returns-clause-counted : goal.returns-clause-counted
-returns-clause-counted g c = made-counted (c.further.ensures.calls _ (Begins-refl _))
+returns-clause-counted g c = made-counted _ (c.further.ensures.calls _ (Begins-refl _))

@@ -1,17 +1,16 @@
+use Rattle.std.proofs.Common.{◌∙◌}
 use Rattle.std.proofs.lemmas.Result.{err_from_is_err_and}
 use Rattle.unftp_control_serve.proofs.HeardLemmas.{Begins-trans}
 use Rattle.unftp_control_login.proofs.DrainLemmas.{Draining-next, Draining-end, Draining-broke}
 use Rattle.unftp_control_login.proofs.inner.Inner.drain.Goals as goal
 
-pub returns-in_err-reply-clause-drains : goal.returns-in_err-reply-clause-drains
-returns-in_err-reply-clause-drains g c = λ w so.
+pub returns-in_err-reply-clause-calls : goal.returns-in_err-reply-clause-calls
+returns-in_err-reply-clause-calls g c = λ w so.
     let before = c.loop-reply.invariant.draining w
     (Begins-trans w _ _ so c.in_err-reply.ensures.heard) in
-    let calls = c.in_err-reply.ensures.calls w so in
     let error = err_from_is_err_and c.from_residual.result c.from_residual.ensures.1 in
     rw (error.1, error.2)
-    (Draining-broke (g.H.Session.law w) _ _ _ _ before _
-    (calls.made))
+    (Draining-broke (g.H.Session.law w) before (c.in_err-reply.ensures.calls w so))
 
 pub loop-reply-preserved : goal.loop-reply-preserved
 loop-reply-preserved g c = record {
@@ -20,14 +19,20 @@ loop-reply-preserved g c = record {
       let before = c.loop-reply.invariant.draining w
       (Begins-trans w _ _ so c.in_ok-reply.ensures.heard) in
       let follows = rw c.in-Some.is at (c.in_ok-reply.ensures.follows w so) in
-      let calls = c.in_ok-reply.ensures.calls w so in
-      Draining-next (g.H.Session.law w) _ _ _ _ before _ _ follows calls.made;
+      Draining-next (g.H.Session.law w) before _ _ follows (c.in_ok-reply.ensures.calls w so);
 }
 
-pub returns-clause-drains : goal.returns-clause-drains
-returns-clause-drains g c = λ w so.
+pub returns-clause-next : goal.returns-clause-next
+returns-clause-next g c = λ w so.
     let before = c.loop-reply.invariant.draining w
     (Begins-trans w _ _ so c.in_ok-reply.ensures.heard) in
     let follows = rw c.in_default.is at (c.in_ok-reply.ensures.follows w so) in
-    let calls = c.in_ok-reply.ensures.calls w so in
-    Draining-end (g.H.Session.law w) _ _ _ _ before _ follows.0 follows.1 calls.made
+    follows.1 ∙ (Draining-end (g.H.Session.law w) before follows.0
+    (c.in_ok-reply.ensures.calls w so)).0
+
+pub returns-clause-calls : goal.returns-clause-calls
+returns-clause-calls g c = λ w so.
+    let before = c.loop-reply.invariant.draining w
+    (Begins-trans w _ _ so c.in_ok-reply.ensures.heard) in
+    let follows = rw c.in_default.is at (c.in_ok-reply.ensures.follows w so) in
+    (Draining-end (g.H.Session.law w) before follows.0 (c.in_ok-reply.ensures.calls w so)).1

@@ -1,25 +1,23 @@
-use Rattle.std.proofs.lemmas.Result.{err_from_is_err_and}
-use Rattle.std.proofs.Common.{List}
-use Rattle.unftp_control_serve.specs.EventMeaning.{event_meant}
-use Rattle.unftp_control_serve.specs.Writing.{Begins}
+use Rattle.std.proofs.Common.{ap, ◌∙◌}
+use Rattle.std.proofs.lemmas.Result.{err_from_is_err_and, on_ok_weaker}
+use Rattle.unftp_control_defs.specs.Run.{state_after}
 use Rattle.unftp_control_serve.proofs.HeardLemmas.{Begins-trans}
-use Rattle.unftp_control_login.proofs.DrainLemmas.{told, told-failed, told-next}
+use Rattle.unftp_control_login.proofs.CalledLemmas.{made-first, then-made}
 use Rattle.unftp_control_login.proofs.inner.Inner.tell.Goals as goal
 
 pub returns-in_err-pass_on-clause-calls : goal.returns-in_err-pass_on-clause-calls
 returns-in_err-pass_on-clause-calls g c = λ w so.
     let error = err_from_is_err_and c.from_residual.result c.from_residual.ensures.1 in
-    rw (error.1, error.2) (told-failed (c.in_err-pass_on.ensures.calls w so) _)
+    rw (error.1, error.2) (made-first _ (c.in_err-pass_on.ensures.calls w so))
 
 pub returns-clause-next : goal.returns-clause-next
-returns-clause-next g c = told-next
-    (λ (said : List g.H.Session.Said). Begins said (g.H.Session.heard c.drain.new.self.handler))
-    g.H.Session.law _ (event_meant c.args.event) _ _ _ _ c.drain.result
-    (λ w so. c.in_ok-pass_on.ensures.next w (Begins-trans w _ _ so c.drain.ensures.heard))
-    c.drain.ensures.drains
+returns-clause-next g c = on_ok_weaker c.drain.result (λ drained w so. drained w so
+    ∙ ap (λ next. state_after next ((g.H.Session.law w).more next))
+    (c.in_ok-pass_on.ensures.next w (Begins-trans w _ _ so c.drain.ensures.heard)))
+    c.drain.ensures.next
 
 pub returns-clause-calls : goal.returns-clause-calls
 returns-clause-calls g c = λ w so.
     let heard = Begins-trans w _ _ so c.drain.ensures.heard in
-    told _ (c.in_ok-pass_on.ensures.next w heard) (c.in_ok-pass_on.ensures.calls w heard)
-    (c.drain.ensures.drains w so)
+    let drained = rw (c.in_ok-pass_on.ensures.next w heard) at (c.drain.ensures.calls w so) in
+    then-made _ (c.in_ok-pass_on.ensures.calls w heard) drained

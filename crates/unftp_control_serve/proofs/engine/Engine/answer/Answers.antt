@@ -1,4 +1,4 @@
-use Rattle.std.proofs.Common.{rules, ◌≡◌, false, sym, ap, ◌∙◌, inr}
+use Rattle.std.proofs.Common.{◌≡◌, false, sym, ap, ◌∙◌, inr}
 use Rattle.unftp_control_serve.specs.Engine.{has_failed, has_finished}
 use Rattle.unftp_control_serve.proofs.EngineLemmas.{WasFed, fed-ended, fed-on}
 use Rattle.unftp_control_serve.proofs.engine.Engine.answer.Goals.{then-ended, else-ended}
@@ -15,12 +15,13 @@ returns-after-ended-clause-fed g c =
     let lines = c.in-Ok.ensures in
     let pushed = c.in_default.ensures.ok in
     λ w so.
+    let run = rw pushed at (lines.outcome w so) in
     let was_fed : WasFed (g.H.Session.law w) (g.H.Session.state c.args.handler.now) inside.decoder
     c.answer_lines.new.decoder c.args.piece.now c.in-Ok.ended =
     record {
       all_scanned = before.0;
-      ends = rw pushed at (lines.ended w so);
-      pending = rw pushed at (lines.unread w so);
+      ends = run.ended_is;
+      pending = run.left_is;
       unscanned = lines.unscanned;
       same_limit = rw pushed at lines.limit;
       same_held = rw pushed at lines.held;
@@ -37,13 +38,10 @@ returns-after-ended-clause-fed g c =
           (rw pushed at (lines.kept b.if-ended.false)))
     ])
 
-pub returns-in-Err-answer_lines-clause-fed : goal.returns-in-Err-answer_lines-clause-fed
-returns-in-Err-answer_lines-clause-fed g c = search rules
-
 pub returns-after-ended-clause-outcome : goal.returns-after-ended-clause-outcome
 returns-after-ended-clause-outcome g c = λ w so.
     rw (sym c.self.view_is)
-    (rw c.in_default.ensures.ok at (c.in-Ok.ensures.outcome w so))
+    (rw c.in_default.ensures.ok at (c.in-Ok.ensures.outcome w so).answered)
 
 pub returns-in-Err-answer_lines-clause-outcome : goal.returns-in-Err-answer_lines-clause-outcome
 returns-in-Err-answer_lines-clause-outcome g c = λ w so.

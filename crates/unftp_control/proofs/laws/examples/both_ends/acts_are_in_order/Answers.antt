@@ -2,7 +2,7 @@ use Rattle.std.proofs.Common.{◌≤◌, [], ◌∷◌, length, take, zero, suc,
 use Rattle.std.proofs.Math.Seq.{take-append_seam}
 use Rattle.std.specs.Fmt.{digits}
 use Rattle.std.specs.Str.{is_utf8, chars}
-use Rattle.unftp_control_defs.proofs.LineLemmas.{Lines-lines_of, line_first}
+use Rattle.unftp_control_defs.proofs.LineLemmas.{Lines-lines_of}
 use Rattle.unftp_control_client.specs.Steps.{Sent}
 use Rattle.unftp_control.specs.Acts.{Act, AtClient, AtServer, InOrder}
 use Rattle.unftp_control.specs.ClientRuns.{client_with, dialogue, farewell_server, noop}
@@ -38,7 +38,3 @@ pub returns-clause-came_first : goal.returns-clause-came_first
 returns-clause-came_first c = λ client talked.
     let first = talked.in_order (AtServer (codes "NO") ∷ []) (AtClient (Sent noop) ∷ []) refl in
     omega (arith, ap length first.to_server.1)
-
-pub returns-clause-no_line : goal.returns-clause-no_line
-returns-clause-no_line c = λ client talked.
-    let all = (line_first (codes "NOOP") [] talked.lines.0).0 in absurd (cc)

@@ -1,8 +1,6 @@
-use Rattle.unftp_control.proofs.SnapshotLemmas.{write_failed-part, write_failed-written}
+use Rattle.std.specs.Fmt.{digits}
 use Rattle.unftp_control.proofs.laws.examples.engine.a_write_failed_at_a_reply.Goals as goal
 
-pub returns-clause-part : goal.returns-clause-part
-returns-clause-part c = write_failed-part
-
 pub returns-clause-written : goal.returns-clause-written
-returns-clause-written c = write_failed-written
+unfolding digits
+returns-clause-written c = λ after v. v.given.written.known

@@ -1,8 +1,16 @@
-use Rattle.unftp_control.proofs.SnapshotLemmas.{room_for_nothing}
+use Rattle.std.proofs.Common.{◌<◌, ◌≤◌, List, [], ◌∷◌, ◌++◌, length, ap, arith}
+use Rattle.std.specs.List.{AllByRecursion}
+use Rattle.unftp_control_defs.specs.Bytes.{Bytes}
 use Rattle.unftp_control.proofs.laws.examples.serving.errors_of_serve.Goals as goal
+
+last_size : (pieces : List Bytes) (last : Bytes)
+    → AllByRecursion (λ piece. (0 < length piece) × (length piece ≤ 4096)) (pieces ++ last ∷ [])
+    → 0 < length last
+last_size [] last sizes = sizes.0.0
+last_size (piece ∷ pieces) last sizes = last_size pieces last sizes.1
 
 pub returns-clause-no_room : goal.returns-clause-no_room
 returns-clause-no_room c = λ before after input input_after v. (
   v.answered.answered,
-  room_for_nothing before after input input_after v,
+  λ none. omega (arith, last_size v.pieces v.last v.were_read.sizes, ap length none),
 )

@@ -7,12 +7,8 @@ returns c = record {
   user = tt;
   retr = letter_IsUtf8;
   ill_formed_retr = not_IsUtf8;
-  no_list = (tt, tt);
   ill_formed_options = λ real. not_IsUtf8 real.0;
-  ill_formed_list = λ real. not_IsUtf8 real.1;
   greatest_rest = lit< tt;
   too_great_rest = λ real. omega (arith, real);
   ill_formed_site = λ real. not_IsUtf8 real.0;
-  ill_formed_site_arguments = λ real. not_IsUtf8 real.1;
-  ill_formed_verb = λ real. not_IsUtf8 real.0;
 }

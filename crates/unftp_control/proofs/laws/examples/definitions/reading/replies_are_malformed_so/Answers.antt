@@ -4,11 +4,9 @@ use Rattle.unftp_control.proofs.laws.examples.definitions.reading.replies_are_ma
 
 pub returns : goal.returns
 returns c = record {
-  empty_line = IsMalformed-front_of _ refl;
   two_digits = IsMalformed-front_of _ refl;
   four_digits = IsMalformed-front_of _ refl;
   no_line_end = (IsPartial-front_of _ refl).1;
   code_only = front_is_formed _ (211, [] ∷ [], 5, FrontReply-front_of refl);
-  second_line = front_is_formed _ (211, [] ∷ [], 5, FrontReply-front_of refl);
   no_last_line = (IsPartial-front_of _ refl).1;
 }

@@ -7,18 +7,12 @@ pub returns : goal.returns
 returns c = record {
   other_code = λ front. let same = (FrontReply-unique front (FrontReply-front_of refl)).0 in
       omega (arith, same);
-  code_in_the_text = λ front. let same =
-      (FrontReply-unique front (FrontReply-front_of refl)).1 in cc;
   line_end_left = λ front. let same = (FrontReply-unique front (FrontReply-front_of refl)).2 in
       omega (arith, same);
   line_end_in_the_text = λ front. let same =
       (FrontReply-unique front (FrontReply-front_of refl)).2 in omega (arith, same);
   past_the_last_line = λ front. let same =
       (FrontReply-unique front (FrontReply-front_of refl)).2 in omega (arith, same);
-  line_left_out = λ front. let same =
-      (FrontReply-unique front (FrontReply-front_of refl)).1 in cc;
-  empty = (IsPartial-front_of _ refl).0;
-  no_line_end = (IsPartial-front_of _ refl).0;
   no_last_line = (IsPartial-front_of _ refl).0;
   no_code = malformed_is_no_front _ refl;
 }

@@ -4,13 +4,10 @@ use Rattle.unftp_control.proofs.laws.examples.definitions.reading.replies_are_pa
 
 pub returns : goal.returns
 returns c = record {
-  empty = IsPartial-front_of _ refl;
   no_line_end = IsPartial-front_of _ refl;
   letters = IsPartial-front_of _ refl;
   no_last_line = IsPartial-front_of _ refl;
-  last_line_unended = IsPartial-front_of _ refl;
   text = λ partial. partial.0 (211, codes "a" ∷ [], 7, FrontReply-front_of refl);
   last_line = λ partial. partial.0 (211, codes "a" ∷ codes "b" ∷ [], 14, FrontReply-front_of refl);
   no_code = λ partial. partial.1 (IsMalformed-front_of _ refl);
-  no_code_and_a_dash = λ partial. partial.1 (IsMalformed-front_of _ refl);
 }

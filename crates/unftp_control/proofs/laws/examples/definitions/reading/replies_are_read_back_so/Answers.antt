@@ -12,21 +12,17 @@ use Rattle.unftp_control.proofs.laws.examples.definitions.reading.replies_are_re
 pub returns : goal.returns
 unfolding digits
 returns c = record {
-  none = ReadsBack-encoded [] tt;
   nothing = ReadsBack-encoded (Nothing ∷ []) (tt, tt);
   two = ReadsBack-encoded (CodeAndMsg 200 (codes "a") ∷ Nothing ∷ CodeAndMsg 221 [] ∷ [])
       (((lit≤ tt, lit< tt), Lacks-test 10 (codes "a") refl), (tt, (((lit≤ tt, lit< tt), tt), tt)));
   not_written = λ back. let within = front_within _ _ _ _ back.0.1 in
       omega (arith, within.0, within.1);
-  no_reply = λ back. let same = back.0 in cc;
   other_text = λ back. let same = ap (map (λ (reply : ℕ × List Bytes). reply.1))
       (one ((200, codes "ab" ∷ []) ∷ []) back.0) in cc;
   second_left_out = λ back. let same = both ((200, codes "a" ∷ []) ∷ []) back.0 in cc;
   line_end_in_the_text = λ back. let same = both ((200, codes "a\r\n221" ∷ []) ∷ []) back.0 in cc;
   four_digits = λ back. malformed_is_no_front (codes "1000\r\n") refl
       (1000, [] ∷ [], back.0.0, back.0.1);
-  all = (ReadsBack-encoded (CodeAndMsg 200 (codes "a") ∷ CodeAndMsg 221 [] ∷ [])
-      (((lit≤ tt, lit< tt), Lacks-test 10 (codes "a") refl), (((lit≤ tt, lit< tt), tt), tt))).0;
   all_but_one = λ back. let same = both ((200, codes "a" ∷ []) ∷ []) back in cc;
 }
   where

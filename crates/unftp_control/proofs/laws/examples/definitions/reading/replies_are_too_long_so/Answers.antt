@@ -4,20 +4,14 @@ use Rattle.unftp_control.proofs.laws.examples.definitions.reading.replies_are_to
 
 pub returns : goal.returns
 returns c = record {
-  no_bytes_allowed = (omega arith, IsPartial-front_of _ refl);
-  one_byte_allowed = λ long. omega (arith, long.0);
   text = (omega arith, IsPartial-front_of _ refl);
   text_at_the_limit = λ long. long.1.0 (211, codes "a" ∷ [], 7, FrontReply-front_of refl);
-  text_below_the_limit = λ long. omega (arith, long.0);
-  next_reply_at_the_limit = λ long. long.1.0 (211, codes "a" ∷ [], 7, FrontReply-front_of refl);
   next_reply_past_the_limit = λ long. long.1.0 (211, codes "a" ∷ [], 7, FrontReply-front_of refl);
   part_at_the_limit = (omega arith, IsPartial-front_of _ refl);
   part_below_the_limit = λ long. omega (arith, long.0);
-  part_past_the_limit = (omega arith, IsPartial-front_of _ refl);
   several = (omega arith, IsPartial-front_of _ refl);
   several_at_the_limit =
       λ long. long.1.0 (211, codes "a" ∷ codes "b" ∷ [], 14, FrontReply-front_of refl);
-  no_last_line = (omega arith, IsPartial-front_of _ refl);
   malformed = (omega arith, IsPartial-front_of _ refl);
   malformed_at_the_limit = λ long. long.1.1 (IsMalformed-front_of _ refl);
   no_limit = λ long. long;

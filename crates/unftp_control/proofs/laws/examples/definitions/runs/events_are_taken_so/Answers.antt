@@ -11,25 +11,14 @@ unfolding is_utf8 chars utf8_lossy utf8_valid_len utf8_error_len lib.Utf8.encode
 returns c =
     let one : events None (codes "NOOP\nNO") ≡ Command Noop ∷ [] = refl in
     let none : events None (codes "NOOP") ≡ [] = refl in
-    let two : events None (codes "NOOP\nNOOP\n") ≡ Command Noop ∷ Command Noop ∷ [] = refl in
     record {
       first = record {
         line = codes "NOOP\n";
         is_line = record { body = codes "NOOP"; whole = refl; one_end = search rules };
-        whole =
-            refl;
+        whole = refl;
         meaning = refl;
       };
       other_event = λ taken. let event = sym one ∙ TakesEvent-events taken [] in cc;
       byte_left_out = λ taken. let incomplete = TakesEvent-incomplete taken [] in cc;
       no_line = λ taken. let event = sym none ∙ TakesEvent-events taken [] in cc;
-      two_lines = λ taken. let event = sym two ∙ TakesEvent-events taken [] in cc;
-      too_long =
-          record {
-            line = codes "NOOP\n";
-            is_line = record { body = codes "NOOP"; whole = refl; one_end = search rules };
-            whole =
-                refl;
-            meaning = refl;
-          };
     }

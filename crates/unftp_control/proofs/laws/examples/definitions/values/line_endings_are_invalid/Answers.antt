@@ -4,7 +4,6 @@ use Rattle.unftp_control.proofs.laws.examples.definitions.values.line_endings_ar
 
 pub returns : goal.returns
 returns c = record {
-  no_end = HasNoValue-value_of _ refl;
   bare_cr = HasNoValue-value_of _ refl;
   lf_after_cr_nul = HasNoValue-value_of _ refl;
   empty = λ bad. let none = value_of-HasNoValue _ bad in cc;

@@ -4,8 +4,6 @@ use Rattle.unftp_control.proofs.laws.examples.definitions.values.parameters_have
 
 pub returns : goal.returns
 returns c = record {
-  nothing = Reads-value_of _ _ refl;
-  only_crlf = Reads-value_of _ _ refl;
   crlf_before_more = Reads-value_of _ _ refl;
   cr_nul_first = Reads-value_of _ _ refl;
   cr_nul_later = Reads-value_of _ _ refl;

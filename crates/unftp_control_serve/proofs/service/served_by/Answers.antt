@@ -1,5 +1,0 @@
-use Rattle.std.proofs.Common.{rules}
-use Rattle.unftp_control_serve.proofs.service.served_by.Goals as goal
-
-pub returns : goal.returns
-returns c = search rules

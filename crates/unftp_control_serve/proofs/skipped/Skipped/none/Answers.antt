@@ -1,5 +1,0 @@
-use Rattle.std.proofs.Common.{rules}
-use Rattle.unftp_control_serve.proofs.skipped.Skipped.none.Goals as goal
-
-pub returns : goal.returns
-returns c = search rules
