@@ -1,6 +1,6 @@
 -- What callers make of the answers of the library.
-use Rattle.std.proofs.Common.{◌≡◌, ℕ, Bool, true, false, [], ◌∷◌, ◌++◌, ◌==◌, ◌&&◌, Option, Some, ◌∙◌, Ok, refl, sym, ap, subst, eqb-true, List}
-use Rattle.std.specs.List.{concat, AllByRecursion}
+use Rattle.std.proofs.Common.{◌≡◌, ℕ, Bool, true, false, ◌++◌, ◌==◌, ◌&&◌, Option, Some, ◌∙◌, Ok, refl, sym, ap, subst, eqb-true}
+use Rattle.std.specs.List.{concat}
 use Rattle.unftp_control.specs.Dialogue.{agrees, is_place, next_to}
 use Rattle.unftp_control.specs.Exchange.{IsNext, MayBeginTls}
 use Rattle.unftp_control.specs.Input.{InputState}
@@ -10,11 +10,9 @@ use Rattle.unftp_control.specs.TakingSteps.{TakesReply}
 use Rattle.unftp_control.specs.declared.client.Client.{Client}
 use Rattle.unftp_control.specs.declared.client.ClientReply.{ClientReply}
 use Rattle.unftp_control.specs.declared.client.To.{To}
-use Rattle.unftp_control.specs.declared.client.To.TheVariants.{Command, Nothing}
+use Rattle.unftp_control.specs.declared.client.To.TheVariants.{Command}
 use Rattle.unftp_control.specs.declared.read.ReceiveError.{ReceiveError}
 use Rattle.calling.specs.NextCode.{ReadsAgreement}
-use Rattle.unftp_control.specs.FtpReply.{FtpReply, Nothing, CodeAndMsg, MultiLine, IsPlain}
-use Rattle.unftp_control.specs.Promises.{IsSentPlain}
 
 -- two facts, so that a tactic rewrites both
 pub both : {A B : Type 0} → A → B → A × B
@@ -45,14 +43,3 @@ agreement-read before after input input' taken received next may = (
       (agrees-code (next_to before.dialogue) before.dialogue.asked taken.reply.code
       (sym (ap (λ d. d.agreed) next.1) ∙ may.0)) received.takes_next.takes),
 )
-
--- replies that are sent and plain
-pub all-sent_plain : (replies : List FtpReply) → AllByRecursion
-    (λ reply. ¬ (reply ≡ Nothing)) replies
-    → AllByRecursion IsPlain replies → AllByRecursion IsSentPlain replies
-all-sent_plain [] sent plain = tt
-all-sent_plain (Nothing ∷ replies) sent plain = absurd (sent.0 refl)
-all-sent_plain (CodeAndMsg code text ∷ replies) sent plain =
-    (plain.0, all-sent_plain replies sent.1 plain.1)
-all-sent_plain (MultiLine code lines ∷ replies) sent plain =
-    (plain.0, all-sent_plain replies sent.1 plain.1)

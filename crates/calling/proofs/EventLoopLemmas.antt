@@ -2,8 +2,9 @@
 use Rattle.std.proofs.Common.{◌≡◌, ◌-◌, ◌++◌, flat_map, inl, inr, length, drop, refl, ap, arith, ◌∙◌}
 use Rattle.unftp_control.specs.Bytes.{Bytes}
 use Rattle.unftp_control.specs.Decoder.{MayRunOut, Pending, StaysPending, TakesLine, kept_bytes}
-use Rattle.unftp_control.specs.Events.{FtpEvent, event_for}
+use Rattle.unftp_control.specs.Events.{FtpEvent}
 use Rattle.unftp_control.specs.FtpReply.{encoded}
+use Rattle.unftp_control.proofs.DecoderLemmas.{MayRunOut-taken}
 use Rattle.calling.specs.declared.event_loop.Turn.{Turn}
 use Rattle.calling.specs.declared.event_loop.Turn.TheVariants.{Close}
 use Rattle.calling.specs.EventLoop.{AnswersNext, LeavesUnanswered, left_after, loop_replies, turn_after}
@@ -45,10 +46,6 @@ AnswersNext-taken {middle = middle} {event = event} {sent = sent} taken is is' a
 pub left_unanswered : {before after : Pending} {sent : Bytes}
     → MayRunOut before.limit before.bytes
     → StaysPending before after → LeavesUnanswered before sent after sent
-left_unanswered {before} may stays = record {
-  event = event_for before.limit may.line;
-  following = may.after;
-  is_first = record { line = may.line; is_line = may.is_line; whole = may.whole; meaning = refl };
-  line = inl stays;
-  same = refl;
-}
+left_unanswered {before} may stays =
+    let next = MayRunOut-taken before.bytes may in
+    record { event = next.0; following = next.1; is_first = next.2; line = inl stays; same = refl }

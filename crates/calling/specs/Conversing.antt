@@ -145,7 +145,9 @@ IsNotSent [] sent why = ⊥
 IsNotSent (command ∷ commands) sent why = (¬ HasLine command → why ≡ NoLine)
     × (HasLine command → IsOtherError sent (Unit {0}) why)
 
--- Why no reply is taken: the pending bytes are none, or there is no memory for it, or for one more.
+-- Why taking a reply fails. Either the client returned this error, and its pending bytes are as the
+-- error says: malformed, a reply over the limit, or a whole reply, for whose lines there was no
+-- memory. Or the list of taken replies has no room for one more.
 abbrev pub IsNotTaken : Conversation → ConverseError → Type 0
 IsNotTaken c (error.Reply why) = HasError c.client.replies.limit c.client.replies.bytes why
 IsNotTaken c error.OutOfMemory = vec_capacity c.taken < suc (vec_len c.taken)

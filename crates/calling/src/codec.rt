@@ -47,7 +47,6 @@ pub fn next_is_noop(
         × Decodes codec.old codec.new buf.old.items buf.new.items answer
         × IsNextNoop answer result }
     ensures within { codec.new.place ≤ vec_len buf.new }
-    ensures limit { codec.new.limit ≡ codec.old.limit }
 {
     is_noop(codec.decode(alloc, buf))
 }
@@ -64,7 +63,6 @@ pub fn first_is_noop(
         × Decodes codec.old codec.new bytes.now (drop result.0 bytes.now) answer
         × IsNextNoop answer result.1 }
     ensures within { result.0 + codec.new.place ≤ length bytes.now }
-    ensures limit { codec.new.limit ≡ codec.old.limit }
 {
     let (taken, answer) = codec.decode_slice(alloc, bytes);
     (taken, is_noop(answer))

@@ -121,7 +121,7 @@ pub struct Conversation {
     at_client: usize,
 }
 
-/// The next piece of the bytes, of which so many came, and of at most so many.
+/// At most `most` of the bytes after the first `at`; no bytes where there are no more.
 fn next_piece(bytes: &[u8], at: usize, most: usize) -> &[u8]
     ensures { result.now ≡ piece_of at bytes.now most }
 {

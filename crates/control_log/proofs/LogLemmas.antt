@@ -19,6 +19,7 @@ use Rattle.unftp_control_serve.specs.Writing.{OutputState, SendFailed, Sent}
 use Rattle.unftp_control_serve.specs.declared.error.ServeError.{ServeError}
 use Rattle.unftp_control_serve.specs.declared.error.ServeError.TheVariants as error
 use Rattle.unftp_control_serve.specs.declared.event.Event.{Event}
+use Rattle.unftp_control_serve.proofs.DecoderLemmas.{MayRunOut-taken}
 use Rattle.unftp_control_serve.proofs.EventLineLemmas.{line_after-taken, refuses_length-exceeds}
 use Rattle.unftp_control_serve.proofs.SendLemmas.{HasWritten-nothing, HasWritten-then, Flushed-then}
 use Rattle.control_log.specs.Log.{EndedLate, LogEnded, LoggedSoFar, LogsAll, NoRoomForPiece, ReadTooOften, StopsAt, log_entries, log_entry, log_of}
@@ -77,16 +78,18 @@ module _ {limit : Option ℕ} {bytes : Bytes} {before now : OutputState} where
   -- memory runs out for the next line
   pub Halfway-memory : {pending : Bytes} → Halfway limit bytes pending before now
       → MayRunOut limit pending → StopsAt limit (lines_of bytes) before now error.OutOfMemory
-  Halfway-memory {pending} so_far next = record {
-    logged = so_far.logged;
-    line = next.line;
-    later = lines_of next.after;
-    split = so_far.split ∙ ap (λ lines. so_far.logged ++ lines)
-        (ap lines_of next.whole ∙ (line_first next.line next.after next.is_line).0);
-    between = now;
-    sent = so_far.sent;
-    fails = refl;
-  }
+  Halfway-memory {pending} so_far may =
+      let first = MayRunOut-taken pending may in
+      let next = first.2 in record {
+        logged = so_far.logged;
+        line = next.line;
+        later = lines_of first.1;
+        split = so_far.split ∙ ap (λ lines. so_far.logged ++ lines)
+            (ap lines_of next.whole ∙ (line_first next.line first.1 next.is_line).0);
+        between = now;
+        sent = so_far.sent;
+        fails = refl;
+      }
 
   module _ {p q : Pending} (so_far : Halfway limit bytes p.bytes before now) where
     -- no line is left

@@ -42,11 +42,11 @@ Logs limit bytes before result after = MatchResult result
 
 -- What a log under a limit on the length of a line comes to.
 module _ (limit : Option ℕ) (before after : OutputState) (input input' : InputState) where
-  -- All lines of what was read are logged. It was read in pieces, and then these reads gave nothing;
-  -- so many failed.
-  pub record LoggedSoFar (reads : List ℕ) (failed : ℕ) : Type 0 where
+  -- All lines of what was read are logged. It was read in pieces, and then as many bytes as `more`
+  -- says: of none, where the last read came to the end. So many reads failed.
+  pub record LoggedSoFar (more : List ℕ) (failed : ℕ) : Type 0 where
     pub pieces : List Bytes
-    pub were_read : WereRead input input' pieces reads
+    pub were_read : WereRead input input' pieces more
     pub sent : Sent (log_of limit (concat pieces)) before after
     pub reads_failed : input'.failures ≡ input.failures + failed
 

@@ -1,11 +1,11 @@
 -- The laws of sessions with transfers.
-use Rattle.std.proofs.Common.{rules, ◌≡◌, None, ℕ, ◌+◌, ◌-◌, Bool, true, false, List, [], ◌∷◌, ◌++◌, drop, length, nat_le, take, refl, sym, ap, ◌∙◌, arith}
+use Rattle.std.proofs.Common.{rules, ◌≡◌, None, ℕ, ◌+◌, ◌-◌, Bool, true, false, List, [], ◌∷◌, ◌++◌, drop, length, nat_le, take, refl, sym, ap, subst, ◌∙◌, arith}
 use Rattle.std.specs.Prelude.{if◌then◌else◌}
 use Rattle.unftp_control_defs.specs.Bytes.{Bytes, LF}
 use Rattle.unftp_control_defs.proofs.LackLemmas.{Lacks-test, lacks}
 use Rattle.unftp_control_defs.specs.Events.{FtpEvent, Command, Refused}
 use Rattle.unftp_control_defs.specs.FtpCommand as line
-use Rattle.unftp_control_defs.specs.FtpReply.{FtpReply, CodeAndMsg, HasThreeDigits, IsPlain, Nothing}
+use Rattle.unftp_control_defs.specs.FtpReply.{FtpReply, CodeAndMsg, HasThreeDigits, IsReadable}
 use Rattle.unftp_control_defs.specs.Turns.{GivesExchanges, SaysOnly, is_preliminary_reply}
 use Rattle.transferring.specs.Answers.{DataAnswer}
 use Rattle.transferring.specs.Laws.{ComesBack, Retrieves, Stores, given, received_for, TransfersNothing, state_after_event}
@@ -90,35 +90,28 @@ module _ (P : FtpReply → Type 0) (first : (end : ℕ) (event : FtpEvent) → P
   says-only answers s (Command command) = (first (length s.file) (Command command), tt)
   says-only answers s (Refused fault) = (first (length s.file) (Refused fault), tt)
 
--- a final reply that is sent, and that a client reads as what it is
-abbrev IsSound : FtpReply → Type 0
-IsSound reply = (reply ≡ Nothing → ⊥) × IsPlain reply
+sound : (reply : FtpReply) (code : ℕ) (text : Bytes) → reply ≡ CodeAndMsg code text
+    → HasThreeDigits code → lacks LF text ≡ true → IsReadable reply
+sound reply code text is digits lacks =
+    subst IsReadable (sym is) (digits, Lacks-test LF text lacks)
 
-sound : (code : ℕ) (text : Bytes) → HasThreeDigits code → lacks LF text ≡ true
-    → IsSound (CodeAndMsg code text)
-sound code text digits lacks = (λ is. absurd (cc), (digits, Lacks-test LF text lacks))
+rest-sound : (fits : Bool) → IsReadable (if fits then restart_reply else beyond_end_reply)
+rest-sound true = sound restart_reply 350 _ refl (search rules) refl
+rest-sound false = sound beyond_end_reply 501 _ refl (search rules) refl
 
-rest-sound : (fits : Bool) → IsSound (if fits then restart_reply else beyond_end_reply)
-rest-sound true = sound 350 _ (search rules) refl
-rest-sound false = sound 501 _ (search rules) refl
-
-first-sound : (end : ℕ) (event : FtpEvent) → IsSound (first_reply end event)
+first-sound : (end : ℕ) (event : FtpEvent) → IsReadable (first_reply end event)
 first-sound end (Command (line.Rest to)) = rest-sound (nat_le to end)
-first-sound end (Command _) = sound _ _ (search rules) refl
-first-sound end (Refused fault) = sound 500 _ (search rules) refl
+first-sound end (Command command) =
+    sound (first_reply end (Command command)) _ _ refl (search rules) refl
+first-sound end (Refused fault) =
+    sound (first_reply end (Refused fault)) 500 _ refl (search rules) refl
 
-final-sound : (ending : Ending) → IsSound (final_reply ending)
-final-sound Complete = sound 226 _ (search rules) refl
-final-sound _ = sound _ _ (search rules) refl
+final-sound : (ending : Ending) → IsReadable (final_reply ending)
+final-sound Complete = sound (final_reply Complete) 226 _ refl (search rules) refl
+final-sound ending = sound (final_reply ending) _ _ refl (search rules) refl
 
-pub all_sent : (answers : List DataAnswer)
-    → SaysOnly (λ reply. ¬ (reply ≡ Nothing)) (transfers_law answers)
-all_sent = says-only (λ reply. ¬ (reply ≡ Nothing)) (λ end event. (first-sound end event).0)
-    (λ ending. (final-sound ending).0)
-
-pub all_plain : (answers : List DataAnswer) → SaysOnly IsPlain (transfers_law answers)
-all_plain = says-only IsPlain (λ end event. (first-sound end event).1)
-    (λ ending. (final-sound ending).1)
+pub all_readable : (answers : List DataAnswer) → SaysOnly IsReadable (transfers_law answers)
+all_readable = says-only IsReadable first-sound final-sound
 
 rest-final : (fits : Bool)
     → is_preliminary_reply (if fits then restart_reply else beyond_end_reply) ≡ false
@@ -138,4 +131,4 @@ exchanges answers s (Command (line.Rest to)) = rest-final (nat_le to (length s.f
 exchanges answers s (Command _) = refl
 exchanges answers s (Refused fault) = refl
 
-pub ruleset each_reply = (exchanges, all_sent, all_plain)
+pub ruleset each_reply = (exchanges, all_readable)

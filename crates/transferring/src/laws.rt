@@ -2,7 +2,7 @@
 ghost use Rattle.std.specs.Prelude.{◌≡◌, List, None};
 ghost use Rattle.unftp_control_defs.specs.Bytes.{Bytes};
 ghost use Rattle.unftp_control_defs.specs.Events.{FtpEvent};
-ghost use Rattle.unftp_control_defs.specs.FtpReply.{IsPlain, Nothing};
+ghost use Rattle.unftp_control_defs.specs.FtpReply.{IsReadable};
 ghost use Rattle.unftp_control_defs.specs.Turns.{GivesExchanges, SaysOnly};
 ghost use Rattle.transferring.specs.Answers.{DataAnswer};
 ghost use Rattle.transferring.specs.Laws.{ComesBack, Retrieves, Stores, TransfersNothing, state_after_event};
@@ -13,9 +13,7 @@ ghost use Rattle.transferring.specs.Transfers.{TransferState, transfer_of, trans
 #[tactic(auto, using(crate::proofs::LawLemmas::each_reply))]
 pub fn transfers_are_exchanges()
     ensures exchanges { (answers : List DataAnswer) → GivesExchanges (transfers_law answers) }
-    ensures sent { (answers : List DataAnswer)
-        → SaysOnly (λ reply. ¬ (reply ≡ Nothing)) (transfers_law answers) }
-    ensures plain { (answers : List DataAnswer) → SaysOnly IsPlain (transfers_law answers) }
+    ensures readable { (answers : List DataAnswer) → SaysOnly IsReadable (transfers_law answers) }
 {}
 
 /// A RETR that is answered 226 has sent exactly the bytes of the file from the offset of REST on,

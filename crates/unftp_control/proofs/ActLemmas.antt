@@ -1,5 +1,5 @@
 -- What a client takes of what a server says, whatever the order of their acts.
-use Rattle.std.proofs.Common.{◌≡◌, ◌≤◌, ℕ, suc, true, false, if◌then◌else◌, List, [], ◌∷◌, ◌++◌, flat_map, map, length, drop, get_or, Option, Some, None, refl, sym, ap, subst, ◌∙◌, arith, append_assoc, length-append}
+use Rattle.std.proofs.Common.{◌≡◌, ◌≤◌, ℕ, suc, true, List, [], ◌∷◌, ◌++◌, flat_map, map, length, drop, get_or, Option, Some, None, refl, sym, ap, subst, ◌∙◌, arith, append_assoc, length-append}
 use Rattle.std.specs.Prelude.{option_map}
 use Rattle.std.specs.List.{AllByRecursion, concat, filter}
 use Rattle.std.proofs.lemmas.Grind.{flat_map-append}
@@ -8,7 +8,7 @@ use Rattle.std.proofs.lemmas.List.Elements.{filter_map-append}
 use Rattle.std.proofs.lemmas.List.Folds.{concat-append}
 use Rattle.unftp_control_defs.specs.Bytes.{Bytes}
 use Rattle.unftp_control_defs.specs.Events.{FtpEvent, event_for, events}
-use Rattle.unftp_control_defs.specs.FtpReply.{FtpReply, encoded, reply_as_read}
+use Rattle.unftp_control_defs.specs.FtpReply.{FtpReply, IsReadable, encoded, reply_as_read}
 use Rattle.unftp_control_defs.specs.Lines.{IsLine, incomplete_line}
 use Rattle.unftp_control_defs.specs.ReplyReader.{HasFront}
 use Rattle.unftp_control_defs.specs.Run.{SessionLaw, replies, run_for, run_of, turn, replies_by_event, all_said, replies_to}
@@ -24,7 +24,7 @@ use Rattle.unftp_control_client.specs.declared.Client.{Client}
 use Rattle.unftp_control_client.specs.declared.dialogue.To.{To}
 use Rattle.unftp_control_client.specs.declared.dialogue.To.TheVariants.{Greeting, Command, Nothing}
 use Rattle.unftp_control_client.proofs.ClientStepLemmas.{none_owed, steps-append, steps-exchanges, steps-taken}
-use Rattle.unftp_control.specs.Conversation.{IsReadable, Show}
+use Rattle.unftp_control.specs.Conversation.{Show}
 use Rattle.unftp_control.specs.Acts.{AreFirst, AtClient, AtServer, IsConversation, IsUnderstood, Server, Act, at_client, came_to_client, came_to_server, client_steps, exchanges, lines_of_client, reply_at, sent_by_client, taken_by_client, turns_to, written_by}
 use Rattle.unftp_control.proofs.ConversationLemmas.{events-lines, length-cut_by, length-onto_first, read_all, read_so_far, shown_turns}
 

@@ -8,7 +8,7 @@ use Rattle.unftp_control_defs.specs.Canonical.{canonical_line}
 use Rattle.unftp_control_defs.specs.Events.{Command, event_for, event_of, events}
 use Rattle.unftp_control_defs.specs.Forwarded.{forwarded_line}
 use Rattle.unftp_control_defs.specs.FtpCommand.{Answer, FtpCommand}
-use Rattle.unftp_control_defs.specs.FtpReply.{FtpReply, Nothing, CodeAndMsg, MultiLine, IsPlain, encoded, lines_as_read, reply_as_read}
+use Rattle.unftp_control_defs.specs.FtpReply.{FtpReply, IsReadable, encoded, reply_as_read}
 use Rattle.unftp_control_defs.specs.Lines.{IsLine, lines_of, incomplete_line}
 use Rattle.unftp_control_defs.specs.Outcome.{outcome}
 use Rattle.unftp_control_defs.specs.ReplyReader.{HasFront}
@@ -17,14 +17,14 @@ use Rattle.unftp_control_defs.proofs.CanonicalLineEndLemmas.{IsLine-canonical_li
 use Rattle.unftp_control_defs.proofs.CanonicalLineLemmas.{outcome-canonical_line}
 use Rattle.unftp_control_defs.proofs.CommandLineLemmas.{HasLine-outcome, HasTypedFields-outcome}
 use Rattle.unftp_control_defs.specs.Turns.{IsExchange, cut_after_final, cut_by, cut_reads, is_preliminary_reply}
-use Rattle.unftp_control_defs.proofs.EncodingLemmas.{ReadsBack-encoded}
+use Rattle.unftp_control_defs.proofs.EncodingLemmas.{ReadsBack-encoded, are_plain, are_shown}
 use Rattle.unftp_control_defs.proofs.ExchangeLemmas.{cut-exchange, cut-read}
 use Rattle.unftp_control_defs.proofs.ForwardedLineLemmas.{IsLine-forwarded_line, outcome-forwarded_line}
 use Rattle.unftp_control_defs.proofs.LineEventLemmas.{events-canonical_line}
 use Rattle.unftp_control_defs.proofs.LineLemmas.{Lines-lines_of, events-within, lines_of-concat}
 use Rattle.unftp_control_defs.proofs.ReplyLemmas.{TakesReply-append, none_of_nothing}
 use Rattle.unftp_control_defs.specs.Run.{all_said}
-use Rattle.unftp_control.specs.Conversation.{CanBeSent, IsReadable, KeepsMeaning, Show, ShowTurns, canonical_of, forwarded_of, rewritten, sent, written_if_read}
+use Rattle.unftp_control.specs.Conversation.{CanBeSent, KeepsMeaning, Show, ShowTurns, canonical_of, forwarded_of, rewritten, sent, written_if_read}
 use Rattle.unftp_control.proofs.ReplyStepLemmas.{AreReplies-all, AreReplies-rest, AreReplies-unique, steps-replies}
 
 -- Lines, one after the other.
@@ -40,21 +40,6 @@ pub events-lines : (limit : Option ℕ) (lines : List Bytes) → AllByRecursion 
     → events limit (concat lines) ≡ map (event_for limit) lines
 events-lines limit lines each = ap (map (event_for limit))
     (ap lines_of (sym (append-nil (concat lines))) ∙ (lines_of-concat lines [] each tt).0)
-
--- What replies show.
-all_read : (replies : List FtpReply) → AllByRecursion IsReadable replies
-    → Show (filter_map reply_as_read replies) replies
-all_read [] each = refl
-all_read (Nothing ∷ replies) each = absurd (each.0.1 refl)
-all_read (CodeAndMsg code text ∷ replies) each =
-    ap (λ more. Some (code, text ∷ []) ∷ more) (all_read replies each.1)
-all_read (MultiLine code lines ∷ replies) each =
-    ap (λ more. Some (code, lines_as_read lines) ∷ more) (all_read replies each.1)
-
-all_plain : (replies : List FtpReply) → AllByRecursion IsReadable replies
-    → AllByRecursion IsPlain replies
-all_plain [] each = tt
-all_plain (reply ∷ replies) each = (each.0.0, all_plain replies each.1)
 
 -- Replies that are taken from the first bytes are the first of those that are taken from all.
 AreReplies-append : (input more : Bytes) (taken : List (ℕ × List Bytes)) (pending : Bytes)
@@ -77,7 +62,7 @@ module _ (replies : List FtpReply) (readable : AllByRecursion IsReadable replies
 
   all_of_text : AreReplies text read []
   all_of_text =
-      (AreReplies-all text read).1 (ReadsBack-encoded replies (all_plain replies readable)).0
+      (AreReplies-all text read).1 (ReadsBack-encoded replies (are_plain replies readable)).0
 
   taken_of_pushed : AreReplies (all_pushed steps) (all_taken steps) pending
   taken_of_pushed = steps-replies [] steps pending are
@@ -88,7 +73,7 @@ module _ (replies : List FtpReply) (readable : AllByRecursion IsReadable replies
       let from_text = subst (λ bytes. AreReplies bytes (all_taken steps) (pending ++ later)) whole
       (AreReplies-append (all_pushed steps) later (all_taken steps) pending taken_of_pushed) in
       let rest = AreReplies-rest text (all_taken steps) read from_text all_of_text none_of_nothing in
-      (rest.0, ap (map Some) rest.1 ∙ all_read replies readable)
+      (rest.0, ap (map Some) rest.1 ∙ are_shown replies readable)
 
   pub read_all : all_pushed steps ≡ text → ¬ HasFront pending
       → Show (all_taken steps) replies × (pending ≡ [])
@@ -96,7 +81,7 @@ module _ (replies : List FtpReply) (readable : AllByRecursion IsReadable replies
       let same = AreReplies-unique text (all_taken steps) read
       (subst (λ bytes. AreReplies bytes (all_taken steps) pending) whole taken_of_pushed) none
       all_of_text none_of_nothing in
-      let show = ap (map Some) same.0 ∙ all_read replies readable in
+      let show = ap (map Some) same.0 ∙ are_shown replies readable in
       (show, same.1)
 
 -- What is read, cut after each final reply.

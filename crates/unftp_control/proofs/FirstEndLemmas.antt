@@ -6,18 +6,43 @@ use Rattle.unftp_control_defs.proofs.RunLemmas.{on-first, run_of-done}
 use Rattle.unftp_control.specs.RunEnd.{EndsNowhere, EndsAfter}
 
 module _ {S : Type 0} (law : SessionLaw S) where
+  pub EndsNowhere-none : (s : S) → EndsNowhere law s []
+  EndsNowhere-none s [] later last same = absurd (cc)
+  EndsNowhere-none s (f ∷ first) later last same = absurd (cc)
+
+  -- none of some events, by the first of them and the others
+  pub EndsNowhere-more : (s : S) (event : FtpEvent) (events : List FtpEvent)
+      → law.done (after law s event) ≡ false → EndsNowhere law (after law s event) events
+      → EndsNowhere law s (event ∷ events)
+  EndsNowhere-more s event events on rest [] later last same =
+      let head : event ≡ last = cc in
+      rw (← head) on
+  EndsNowhere-more s event events on rest (f ∷ first) later last same =
+      let head : event ≡ f = cc in
+      let tail : events ≡ first ++ last ∷ later = cc in
+      rw (← head) (rest first later last tail)
+
+  EndsNowhere-first : (s : S) (event : FtpEvent) (events : List FtpEvent)
+      → EndsNowhere law s (event ∷ events)
+      → (law.done (after law s event) ≡ false) × EndsNowhere law (after law s event) events
+  EndsNowhere-first s event events on = (
+    on [] events event refl,
+    λ first later last same. on (event ∷ first) later last (ap (λ more. event ∷ more) same),
+  )
+
   pub ends_nowhere-ends : (s : S) (events : List FtpEvent) → EndsNowhere law s events
       → ends law s events ≡ false
   ends_nowhere-ends s [] on = refl
   ends_nowhere-ends s (event ∷ events) on =
-      rw on.0 (ends_nowhere-ends (after law s event) events on.1)
+      let first = EndsNowhere-first s event events on in
+      rw first.0 (ends_nowhere-ends (after law s event) events first.1)
 
   pub ends_nowhere-not_ended : (s : S) (events : List FtpEvent) → ends law s events ≡ false
       → EndsNowhere law s events
-  ends_nowhere-not_ended s [] h = tt
+  ends_nowhere-not_ended s [] h = EndsNowhere-none s
   ends_nowhere-not_ended s (event ∷ events) h =
       let on = on-first law (law.done (after law s event)) (ends law (after law s event) events) h in
-      (on.0, ends_nowhere-not_ended (after law s event) events on.1)
+      EndsNowhere-more s event events on.0 (ends_nowhere-not_ended (after law s event) events on.1)
 
   -- the run and its end, where the events before go on and the next leaves the handler done
   at_end : (s : S) (first later : List FtpEvent) (event : FtpEvent) → EndsNowhere law s first
@@ -26,8 +51,9 @@ module _ {S : Type 0} (law : SessionLaw S) where
       × (ends law s (first ++ event ∷ later) ≡ true)
   at_end s [] later event on done = run_of-done law s event later done
   at_end s (f ∷ first) later event on done =
-      let more = at_end (after law s f) first later event on.1 done in
-      rw on.0 (ap (λ run. f ∷ run) more.0, more.1)
+      let start = EndsNowhere-first s f first on in
+      let more = at_end (after law s f) first later event start.1 done in
+      rw start.0 (ap (λ run. f ∷ run) more.0, more.1)
 
   pub ends_after-run : {s : S} {events first : List FtpEvent} {event : FtpEvent}
       → EndsAfter law s events first event
@@ -46,15 +72,18 @@ module _ {S : Type 0} (law : SessionLaw S) where
           → (law.done (after law s event) ≡ false → (first : List FtpEvent) × (last : FtpEvent)
           × EndsAfter law (after law s event) events first last)
           → (first : List FtpEvent) × (last : FtpEvent) × EndsAfter law s (event ∷ events) first last
-      by_done true done later =
-          ([], event, record { later = events; split = refl; none_before = tt; done = done })
+      by_done true done later = (
+        [],
+        event,
+        record { later = events; split = refl; none_before = EndsNowhere-none s; done = done },
+      )
       by_done false on later = let found = later on in (
         event ∷ found.0,
         found.1,
         record {
           later = found.2.later;
           split = ap (λ more. event ∷ more) found.2.split;
-          none_before = (on, found.2.none_before);
+          none_before = EndsNowhere-more s event found.0 on found.2.none_before;
           done = found.2.done;
         },
       )

@@ -3,7 +3,7 @@
 use Rattle.std.specs.Prelude.{◌≡◌, ℕ, List, [], ◌∷◌, ◌++◌, map, option_map, Option, Some, None}
 use Rattle.std.specs.List.{AllByRecursion, concat, filter_map}
 use Rattle.unftp_control_defs.specs.Bytes.{Bytes}
-use Rattle.unftp_control_defs.specs.FtpReply.{FtpReply, encoded, reply_as_read}
+use Rattle.unftp_control_defs.specs.FtpReply.{FtpReply, IsReadable, encoded, reply_as_read}
 use Rattle.unftp_control_defs.specs.Lines.{IsLine}
 use Rattle.unftp_control_defs.specs.Run.{SessionLaw, all_said, replies_by_event, run_for, text_for}
 use Rattle.unftp_control_defs.specs.Turns.{IsExchange}
@@ -13,7 +13,6 @@ use Rattle.unftp_control_client.specs.Exchange.{new_client}
 use Rattle.unftp_control_client.specs.Steps.{AreSteps, ClientStep, ReplyTo, after_to, decoder_steps, lines_sent, replies_taken}
 use Rattle.unftp_control_client.specs.declared.Client.{Client}
 use Rattle.unftp_control_client.specs.declared.dialogue.To.{To}
-use Rattle.unftp_control.specs.Conversation.{IsReadable}
 
 -- The client takes a step, or a piece comes to the server.
 pub data Act : Type 0 where

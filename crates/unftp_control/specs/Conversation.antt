@@ -1,13 +1,13 @@
 -- A client that sends lines and takes replies, and a server that answers each line: what each
 -- understands of the other (RFC 959, sections 4.2 and 5.3).
-use Rattle.std.specs.Prelude.{◌≡◌, ◌≢◌, ℕ, false, List, ◌++◌, flat_map, length, map, Option, Some, Ok, Err}
+use Rattle.std.specs.Prelude.{◌≡◌, ℕ, false, List, ◌++◌, flat_map, length, map, Option, Some, Ok, Err}
 use Rattle.std.specs.List.{concat}
 use Rattle.unftp_control_defs.specs.Bytes.{Bytes}
 use Rattle.unftp_control_defs.specs.Canonical.{canonical_line, HasLine}
 use Rattle.unftp_control_defs.specs.Events.{exceeds}
 use Rattle.unftp_control_defs.specs.Forwarded.{forwarded_line}
 use Rattle.unftp_control_defs.specs.FtpCommand.{Answer, FtpCommand, HasTypedFields}
-use Rattle.unftp_control_defs.specs.FtpReply.{FtpReply, IsPlain, Nothing, reply_as_read}
+use Rattle.unftp_control_defs.specs.FtpReply.{FtpReply, reply_as_read}
 use Rattle.unftp_control_defs.specs.Lines.{IsLine, lines_of, incomplete_line}
 use Rattle.unftp_control_defs.specs.Outcome.{outcome}
 use Rattle.unftp_control_defs.specs.Turns.{cut_reads}
@@ -20,10 +20,6 @@ sent commands = flat_map canonical_line commands
 abbrev pub CanBeSent : Option ℕ → FtpCommand → Type 0
 CanBeSent limit command = HasLine command × HasTypedFields command
     × (exceeds limit (length (canonical_line command)) ≡ false)
-
--- A reply that is sent, and that can be read back.
-abbrev pub IsReadable : FtpReply → Type 0
-IsReadable reply = IsPlain reply × (reply ≢ Nothing)
 
 -- What a client has read is what these replies show: one for each, at its place.
 abbrev pub Show : List (ℕ × List Bytes) → List FtpReply → Type 0
@@ -43,8 +39,8 @@ abbrev pub KeepsMeaning : (Bytes → Bytes) → Type 0
 KeepsMeaning rewrite = (line : Bytes) → IsLine line
     → IsLine (rewrite line) × (outcome (rewrite line) ≡ outcome line)
 
--- A refused line stays as it is; that of a command is written anew, as its canonical line or as the
--- line that a proxy forwards.
+-- The line of a command is replaced by the one that `write` makes of it, its canonical line or the
+-- line that a proxy forwards. A refused line stays as it is.
 abbrev pub written_if_read : (Bytes → FtpCommand → Bytes) → Bytes → Answer → Bytes
 written_if_read write line (Ok command) = write line command
 written_if_read write line (Err refusal) = line

@@ -1,10 +1,11 @@
 -- What one call of `decode` scans.
-use Rattle.std.proofs.Common.{◌≡◌, ◌+◌, ◌≤◌, length, inl, inr, arith, length-drop}
+use Rattle.std.proofs.Common.{◌≡◌, ℕ, ◌+◌, ◌≤◌, length, Option, Some, None, refl, inl, inr, arith, length-drop}
 use Rattle.unftp_control_defs.specs.Bytes.{Bytes}
 use Rattle.unftp_control_codecs.specs.declared.FirstLine.{FirstLine}
 use Rattle.unftp_control_codecs.specs.declared.FirstLine.TheVariants.{Incomplete, TooLong, Complete}
 use Rattle.unftp_control_codecs.specs.Codec.{Codec}
-use Rattle.unftp_control_codecs.specs.FirstLine.{first_line, goes_on}
+use Rattle.unftp_control_codecs.specs.FirstLine.{first_line, goes_on, goes_on_by}
+use Rattle.unftp_control_codecs.specs.LineFeed.{line_feed_from}
 use Rattle.unftp_control_codecs.specs.Decoding.{Decoded, Decodes, DecodesFound, IsOutOfMemory}
 use Rattle.unftp_control_codecs.proofs.FirstLineLemmas.{Counts, counts}
 use Rattle.unftp_control_codecs.proofs.MemoryLemmas.{ran_out}
@@ -31,3 +32,28 @@ counts_decode old new before after within answer memory decodes =
     by_found (Complete n) c (inl d) = rw (d.goes_on_at, d.taken)
         (omega (arith, c.0.counted, c.0.within, length-drop n before), omega arith)
     by_found (Complete n) c (inr d) = absurd (memory (ran_out answer d.1.returned_is))
+
+-- The limit stays, and the count doesn't fall.
+pub record Keeps (old new : Codec) : Type 0 where
+  pub limit : new.limit ≡ old.limit
+  pub never_fewer : old.tests ≤ new.tests
+
+goes_on_keeps : (codec : Codec) (bytes : Bytes) → Keeps codec (goes_on codec bytes)
+goes_on_keeps codec bytes = by_feed (line_feed_from bytes codec.place)
+  where
+    by_feed : (o : Option ℕ) → Keeps codec (goes_on_by codec (length bytes) o)
+    by_feed None = record { limit = refl; never_fewer = omega arith }
+    by_feed (Some k) = record { limit = refl; never_fewer = omega arith }
+
+pub decodes_keeps : (old new : Codec) (before after : Bytes) (answer : Decoded)
+    → Decodes old new before after answer → Keeps old new
+decodes_keeps old new before after answer decodes =
+    by_found (first_line old before) (goes_on_keeps old before) decodes
+  where
+    by_found : (found : FirstLine) → Keeps old (goes_on old before)
+        → DecodesFound found old new before after answer → Keeps old new
+    by_found (Incomplete n) k d = rw d.goes_on_at k
+    by_found (TooLong n) k d = rw d.goes_on_at k
+    by_found (Complete n) k (inl d) =
+        rw d.goes_on_at record { limit = k.limit; never_fewer = k.never_fewer }
+    by_found (Complete n) k (inr d) = rw d.1.goes_on_at k

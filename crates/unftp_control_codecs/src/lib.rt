@@ -178,10 +178,8 @@ impl FtpCodec {
         ensures decodes { Decodes self.old self.new
             bytes.now (drop result.0 bytes.now) result.1 }
         ensures within { result.0 + self.new.place ≤ length bytes.now }
-        ensures limit { self.new.limit ≡ self.old.limit }
         ensures counted { ¬ IsOutOfMemory result.1
             → self.new.tests + self.old.place ≡ self.old.tests + self.new.place + result.0 }
-        ensures never_fewer { self.old.tests ≤ self.new.tests }
     {
         let mut scan = Scan::over(bytes, &mut self.tests);
         let Some(end) = scan.find_line_feed(self.place) else {
@@ -275,11 +273,9 @@ impl FtpCodec {
         requires { self.old.place ≤ vec_len buf.old }
         ensures decodes { Decodes self.old self.new buf.old.items buf.new.items result }
         ensures within { self.new.place ≤ vec_len buf.new }
-        ensures limit { self.new.limit ≡ self.old.limit }
         ensures counted { ¬ IsOutOfMemory result
             → self.new.tests + self.old.place + vec_len buf.new
             ≡ self.old.tests + self.new.place + vec_len buf.old }
-        ensures never_fewer { self.old.tests ≤ self.new.tests }
     {
         let (taken, answer) = self.decode_slice(alloc, buf.as_slice());
         remove_front(buf, taken);

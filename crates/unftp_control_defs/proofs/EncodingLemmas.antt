@@ -1,12 +1,12 @@
 -- What is written for a plain reply is read back as what it shows, whatever follows.
-use Rattle.std.proofs.Common.{◌≡◌, ◌≢◌, ℕ, ◌+◌, ◌/◌, ◌%◌, ◌^◌, ◌<◌, ◌≤◌, Bool, true, false, List, [], ◌∷◌, ◌++◌, flat_map, filter_map, drop_at, length, ◌⊎◌, Some, decimal, refl, sym, ap, subst, ◌∙◌, inl, inr, append_assoc, arith, ne_eqb}
+use Rattle.std.proofs.Common.{◌≡◌, ◌≢◌, ℕ, ◌+◌, ◌/◌, ◌%◌, ◌^◌, ◌<◌, ◌≤◌, Bool, true, false, List, [], ◌∷◌, ◌++◌, flat_map, filter_map, map, drop_at, length, ◌⊎◌, Some, decimal, refl, sym, ap, subst, ◌∙◌, inl, inr, append_assoc, arith, ne_eqb}
 use Rattle.std.specs.Char.{is_ascii_digit}
 use Rattle.std.specs.List.{AllByRecursion}
 use Rattle.std.proofs.lemmas.Bool.{cases_Bool, true≢false}
 use Rattle.std.proofs.lemmas.Fmt.{decimal_digit, decimal_step}
 use Rattle.std.proofs.lemmas.Option.{same_Some, none-some}
 use Rattle.unftp_control_defs.specs.Bytes.{Bytes, LF, SP, DASH, crlf, Lacks}
-use Rattle.unftp_control_defs.specs.FtpReply.{FtpReply, Nothing, CodeAndMsg, MultiLine, padded, spaced_line, lines_after_code, encoded, lines_as_read, reply_as_read, HasThreeDigits, IsPlain}
+use Rattle.unftp_control_defs.specs.FtpReply.{FtpReply, Nothing, CodeAndMsg, MultiLine, IsReadable, padded, spaced_line, lines_after_code, encoded, lines_as_read, reply_as_read, HasThreeDigits, IsPlain}
 use Rattle.unftp_control_defs.specs.ReplyReader.{LacksCrlf, SpellsCode, GoesOn, AreLaterLines, last, goes_on, IsReply, code_only, single, several, FrontReply, AllReplies, ReadsBack}
 use Rattle.unftp_control_defs.proofs.CrlfLemmas.{LacksCrlf-Lacks}
 use Rattle.unftp_control_defs.proofs.ReplyLemmas.{AllReplies-unique, IsReply-front, digit_is_digit, lacks_code}
@@ -149,3 +149,20 @@ ReadsBack-encoded replies plain =
       λ others h. AllReplies-unique (flat_map encoded replies) others
           (filter_map reply_as_read replies) h read,
     )
+
+-- what readable replies show
+pub are_plain : (replies : List FtpReply) → AllByRecursion IsReadable replies
+    → AllByRecursion IsPlain replies
+are_plain [] each = tt
+are_plain (Nothing ∷ replies) each = absurd each.0
+are_plain (CodeAndMsg code text ∷ replies) each = (each.0, are_plain replies each.1)
+are_plain (MultiLine code lines ∷ replies) each = (each.0, are_plain replies each.1)
+
+pub are_shown : (replies : List FtpReply) → AllByRecursion IsReadable replies
+    → map Some (filter_map reply_as_read replies) ≡ map reply_as_read replies
+are_shown [] each = refl
+are_shown (Nothing ∷ replies) each = absurd each.0
+are_shown (CodeAndMsg code text ∷ replies) each =
+    ap (λ more. Some (code, text ∷ []) ∷ more) (are_shown replies each.1)
+are_shown (MultiLine code lines ∷ replies) each =
+    ap (λ more. Some (code, lines_as_read lines) ∷ more) (are_shown replies each.1)

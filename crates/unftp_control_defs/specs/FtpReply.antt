@@ -64,3 +64,8 @@ abbrev pub IsPlain : FtpReply → Type 0
 IsPlain Nothing = Unit {0}
 IsPlain (CodeAndMsg code text) = HasThreeDigits code × Lacks LF text
 IsPlain (MultiLine code lines) = HasThreeDigits code × AllByRecursion (Lacks LF) lines
+
+-- a reply that is sent, and that a client reads back as it is
+abbrev pub IsReadable : FtpReply → Type 0
+IsReadable Nothing = ⊥
+IsReadable reply = IsPlain reply

@@ -93,6 +93,20 @@ module _ (bytes : Bytes) (n : ℕ) (run : IsRunEnd Fresh bytes n) where
               ∙ unescaped_front (take n bytes) (CR ∷ NUL ∷ take m (drop 2 rest)) run.no_return))),
         )
 
+-- a CR NUL that comes first
+pub IsLaterLen-cr_nul_first : (bytes : Bytes) → begins_with_cr_nul bytes ≡ true
+    → (later : Option ℕ) → IsLaterLen (drop 2 bytes) later
+    → IsLaterLen bytes (option_map (λ m. 2 + m) later)
+IsLaterLen-cr_nul_first bytes begins later is =
+    let front = cr_nul_front bytes begins in
+    subst (λ b. IsLaterLen b (option_map (λ m. 2 + m) later)) (sym front)
+    (IsLaterLen-cr_nul (CR ∷ NUL ∷ drop 2 bytes) 0 (record {
+      within = omega arith;
+      goes_on = option_nil (later_value Plain (CR ∷ NUL ∷ drop 2 bytes));
+      stop = λ some. refl;
+      no_return = tt;
+    }) refl refl later is)
+
 -- bytes before such a length
 pub lens_added : (len n : ℕ) (later : Option ℕ)
     → option_map (λ m. len + m) (option_map (λ m. n + m) later)

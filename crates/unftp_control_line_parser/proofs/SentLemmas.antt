@@ -90,6 +90,10 @@ cr_nul_front (a ∷ b ∷ bytes) h =
     let is_nul = eqb-true b NUL parts.1 in
     λ i. is_cr i ∷ is_nul i ∷ bytes
 
+pub unescaped_cr_nul : (bytes : Bytes) → begins_with_cr_nul bytes ≡ true
+    → unescaped bytes ≡ CR ∷ unescaped (drop 2 bytes)
+unescaped_cr_nul bytes h = ap unescaped (cr_nul_front bytes h)
+
 -- its first byte, and what is sent for the others
 pub unescaped_step : (bytes : Bytes) → 0 < length bytes
     → unescaped bytes ≡ get_or bytes 0 0 ∷ unescaped (drop (first_unit_len bytes) bytes)

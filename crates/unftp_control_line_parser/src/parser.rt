@@ -185,15 +185,22 @@ fn subcommand(alloc: Global, name: &str, value: Value<'_>) -> Answer
 }
 
 /// A verb without a rule of its own, and its parameter.
+#[tactic(auto, using(crate::proofs::MemoryLemmas::texts))]
 fn other(alloc: Global, name: &str, parameter: &[u8]) -> Answer
     ensures { ParsesTo
         (value_answer (any_text (Other (upper name.now))) (value_of parameter.now)) result }
 {
-    let Some(value) = parameter_value(parameter) else {
-        return Err(ParseErrorKind::InvalidEol);
+    // a line without arguments is not read further
+    let arguments = if has_no_value(parameter) {
+        String::new(alloc)
+    } else {
+        match parameter_value(parameter) {
+            Some(value) => text(alloc, value)?,
+            None => return Err(ParseErrorKind::InvalidEol),
+        }
     };
     Ok(Command::Other {
-        arguments: text(alloc, value)?,
         command_name: upper_cased(alloc, name)?,
+        arguments,
     })
 }

@@ -111,14 +111,6 @@ fn auth(value: &[u8]) -> Answer
         return Err(ParseErrorKind::InvalidCommand);
     }
     from_utf8(value)?;
-    mechanism(value)
-}
-
-/// AUTH and a mechanism, in any bytes.
-#[inline(always)]
-fn mechanism(value: &[u8]) -> Answer
-    ensures { ParsesTo (chosen mechanisms (upper value.now)) result }
-{
     let protocol = if is_same_word(b"TLS", value) {
         AuthParam::Tls
     } else if is_same_word(b"SSL", value) {

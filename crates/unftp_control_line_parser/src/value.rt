@@ -69,17 +69,24 @@ fn later_len(bytes: &[u8]) -> Option<usize>
     let mut len = 0usize;
     let mut rest = bytes;
     'parts: loop {
-        let end = fresh_len(rest);
-        let (_, after) = rest.split_at(end);
-        if begins_with_line_end(after) {
-            return Some(len + end);
+        // where many CR NUL follow one another, none needs a search
+        if begins_with_cr_nul(rest) {
+            let (_, further) = rest.split_at(2);
+            len += 2;
+            rest = further;
+        } else {
+            let end = fresh_len(rest);
+            let (_, after) = rest.split_at(end);
+            if begins_with_line_end(after) {
+                return Some(len + end);
+            }
+            if !begins_with_cr_nul(after) {
+                return None;
+            }
+            let (_, further) = after.split_at(2);
+            len += end + 2;
+            rest = further;
         }
-        if !begins_with_cr_nul(after) {
-            return None;
-        }
-        let (_, further) = after.split_at(2);
-        len += end + 2;
-        rest = further;
     }
 }
 
@@ -129,6 +136,10 @@ pub fn parameter_value<'a>(parameter: &'a [u8]) -> Option<Value<'a>>
     if begins_with_line_end(after) {
         return Some(Value::Plain(value));
     }
+    // after a bare CR there is nothing to look for
+    if !begins_with_cr_nul(after) {
+        return None;
+    }
     escaped_value(parameter)
 }
 
@@ -168,13 +179,19 @@ pub fn unescape(alloc: Global, sent: &[u8]) -> Result<Vec<u8>, AllocError>
     let mut value = Vec::with_capacity(alloc, sent.len())?;
     let mut rest = sent;
     'parts: loop {
-        let Some(end) = memchr(CR, rest) else {
-            value.extend_from_slice(rest)?;
-            return Ok(value);
-        };
-        let (part, further) = rest.split_at(end + 1);
-        value.extend_from_slice(part)?;
-        rest = after_nul(further);
+        if begins_with_cr_nul(rest) {
+            let (_, further) = rest.split_at(2);
+            value.push(CR).map_err(AllocError::from)?;
+            rest = further;
+        } else {
+            let Some(end) = memchr(CR, rest) else {
+                value.extend_from_slice(rest)?;
+                return Ok(value);
+            };
+            let (part, further) = rest.split_at(end + 1);
+            value.extend_from_slice(part)?;
+            rest = after_nul(further);
+        }
     }
 }
 

@@ -4,13 +4,12 @@ use Rattle.std.specs.List.{AllByRecursion, list_all}
 use Rattle.std.proofs.lemmas.Bool.{and_parts, ltb-true, leb-true}
 use Rattle.std.proofs.lemmas.Bool.Decides.{nat_tests}
 use Rattle.unftp_control_defs.specs.Bytes.{Bytes, LF, Lacks}
-use Rattle.unftp_control_defs.specs.FtpReply.{FtpReply, Nothing, CodeAndMsg, MultiLine, HasThreeDigits}
+use Rattle.unftp_control_defs.specs.FtpReply.{FtpReply, Nothing, CodeAndMsg, MultiLine, HasThreeDigits, IsReadable}
 use Rattle.unftp_control_defs.specs.Turns.{is_preliminary, is_preliminary_reply}
 use Rattle.unftp_control_defs.proofs.LackLemmas.{lacks, Lacks-test}
-use Rattle.unftp_control_login.specs.Promises.{IsSentPlain}
 
 abbrev pub IsFinal : FtpReply → Type 0
-IsFinal reply = IsSentPlain reply × (is_preliminary_reply reply ≡ false)
+IsFinal reply = IsReadable reply × (is_preliminary_reply reply ≡ false)
 
 -- a test for replies that are written out
 abbrev is_final_code : ℕ → Bool

@@ -9,10 +9,10 @@ use Rattle.std.proofs.Math.Seq.{take-append_seam}
 use Rattle.unftp_control_defs.specs.Bytes.{Bytes}
 use Rattle.unftp_control_defs.specs.FtpCommand.{User, Pass}
 use Rattle.unftp_control_defs.specs.Events.{FtpEvent, Command, events}
-use Rattle.unftp_control_defs.specs.FtpReply.{FtpReply, Nothing, CodeAndMsg, MultiLine, IsPlain, reply_as_read}
+use Rattle.unftp_control_defs.specs.FtpReply.{FtpReply, IsReadable, reply_as_read}
 use Rattle.unftp_control_defs.specs.Run.{SessionLaw, after, last_state, replies, run_for, said, state_after, text_for, turn, replies_by_event, replies_to}
 use Rattle.unftp_control_defs.specs.Turns.{IsExchange, cut_reads}
-use Rattle.unftp_control_defs.proofs.EncodingLemmas.{ReadsBack-encoded}
+use Rattle.unftp_control_defs.proofs.EncodingLemmas.{ReadsBack-encoded, are_plain, are_shown}
 use Rattle.unftp_control_defs.proofs.ExchangeLemmas.{cut-read, cut-replies, length-replies_by_event, replies-all}
 use Rattle.unftp_control_defs.proofs.RunLemmas.{last_state-append, run_of-first}
 use Rattle.unftp_control_login.specs.declared.stage.Stage.{Stage}
@@ -20,7 +20,7 @@ use Rattle.unftp_control_login.specs.declared.stage.Stage.TheVariants.{NoName, N
 use Rattle.unftp_control_login.specs.Login.{Accounts, GaveName, IsLoggedIn, is_login, needs_login}
 use Rattle.unftp_control_login.specs.Gate.{Answers, Decision, Gated, LogsIn, PassesOn, closed, decided, decided_by_password, gated_law, is_barred, is_logged_in, is_passed, logged_in, login_needed, name_needed, not_accepted, password_needed, reply_by, state_by}
 use Rattle.unftp_control_login.specs.LoginLimit.{Limited, is_pass, limited_law, limited_to, too_many}
-use Rattle.unftp_control_login.specs.Promises.{AfterLogin, AtEachPlace, IsSentPlain, IsTurnedAway, LearnsName, MembersAlone, NoFailure, ReachesHandler, SendsPlainExchanges, ServesMembersAlone, guarded, guarded_law}
+use Rattle.unftp_control_login.specs.Promises.{AfterLogin, AtEachPlace, IsTurnedAway, LearnsName, MembersAlone, NoFailure, ReachesHandler, SendsPlainExchanges, ServesMembersAlone, guarded, guarded_law}
 use Rattle.unftp_control_login.proofs.LimitStepLemmas.{limited-all, limited-exchange}
 use Rattle.unftp_control_login.proofs.StageLemmas.{IsLoggedIn-stage, GaveName-stage, gate-after, gate-more, passed_more, logged_in-stage, needs-other, decided-barred, decided-open, stage_after_all}
 use Rattle.unftp_control_login.proofs.FinalLemmas.{IsFinal, final}
@@ -186,7 +186,7 @@ decided-final accepts stage event =
 
 -- and all others those of the handler.
 abbrev IsPlainExchange : List FtpReply → Type 0
-IsPlainExchange sent = IsExchange sent × AllByRecursion IsSentPlain sent
+IsPlainExchange sent = IsExchange sent × AllByRecursion IsReadable sent
 
 gate-plain : {S : Type 0} (law : SessionLaw S) → SendsPlainExchanges law
     → SendsPlainExchanges (gated_law law)
@@ -211,35 +211,9 @@ limit-plain : {S : Type 0} (law : SessionLaw S) → SendsPlainExchanges law
 limit-plain law (exchanges, sends) = (
   λ s event. limited-exchange s.left (is_pass event) (turn law s.inner event)
       (exchanges s.inner event),
-  λ s event. limited-all IsSentPlain s.left (is_pass event) (turn law s.inner event)
+  λ s event. limited-all IsReadable s.left (is_pass event) (turn law s.inner event)
       (final too_many refl).0 (sends s.inner event),
 )
-
--- What a client reads.
-shown : (reply : FtpReply) → IsSentPlain reply → (read : ℕ × List Bytes)
-    × (reply_as_read reply ≡ Some read)
-shown Nothing h = absurd h
-shown (CodeAndMsg code text) h = (_, refl)
-shown (MultiLine code lines) h = (_, refl)
-
-IsPlain-sent : (reply : FtpReply) → IsSentPlain reply → IsPlain reply
-IsPlain-sent Nothing h = absurd h
-IsPlain-sent (CodeAndMsg code text) h = h
-IsPlain-sent (MultiLine code lines) h = h
-
--- each is read
-all-read : (replies : List FtpReply) → AllByRecursion IsSentPlain replies
-    → map Some (filter_map reply_as_read replies) ≡ map reply_as_read replies
-all-read [] sent = refl
-all-read (reply ∷ replies) sent =
-    let same = all-read replies sent.1 in
-    let read = shown reply sent.0 in
-    rw (read.1) (ap (λ later. Some read.0 ∷ later) same)
-
-all-plain : (replies : List FtpReply) → AllByRecursion IsSentPlain replies
-    → AllByRecursion IsPlain replies
-all-plain [] sent = tt
-all-plain (reply ∷ replies) sent = (IsPlain-sent reply sent.0, all-plain replies sent.1)
 
 -- What is read of a part of the replies.
 after-part : (Q : Type 0) (replies : List FtpReply) (read : List (ℕ × List Bytes))
@@ -282,13 +256,13 @@ module _ {S : Type 0} (law : SessionLaw S) (first : S) (accepts : Accounts)
       → MembersAlone limit accepts input (text_for limit law first input)
   members-alone limit input =
       let run = run_for limit law first input in
-      let sent = replies-all law IsSentPlain sends.1 first run in
+      let sent = replies-all law IsReadable sends.1 first run in
       let read = filter_map reply_as_read (replies law first run) in
       let reads = ReadsBack-encoded (replies law first run)
-      (all-plain (replies law first run) sent) in
+      (are_plain (replies law first run) sent) in
       let parts : map (map Some) (cut_reads read)
       ≡ map (map reply_as_read) (replies_by_event law first run) =
-      cut-read (replies law first run) read (all-read (replies law first run) sent)
+      cut-read (replies law first run) read (are_shown (replies law first run) sent)
       ∙ ap (map (map reply_as_read)) (cut-replies law sends.0 first run) in
       let as_many : length (cut_reads read) ≡ length run =
       sym (length-map (cut_reads read) (map Some)) ∙ ap length parts

@@ -6,7 +6,7 @@ use Rattle.unftp_control_defs.specs.Bytes.{Bytes, LF, Lacks}
 use Rattle.unftp_control_defs.specs.Canonical.{canonical_line}
 use Rattle.unftp_control_defs.specs.FtpCommand.{User, Pass}
 use Rattle.unftp_control_defs.specs.Events.{FtpEvent, Command, event_for, exceeds, events}
-use Rattle.unftp_control_defs.specs.FtpReply.{FtpReply, Nothing, IsPlain, reply_as_read}
+use Rattle.unftp_control_defs.specs.FtpReply.{FtpReply, IsReadable, reply_as_read}
 use Rattle.unftp_control_defs.specs.Lines.{incomplete_line, lines_of}
 use Rattle.unftp_control_defs.specs.ReplyReader.{AllReplies}
 use Rattle.unftp_control_defs.specs.Run.{SessionLaw, after, at_each, last_state, replies_to, run_for, text_for}
@@ -54,14 +54,9 @@ ServesMembersAlone accepts law s = (before : List FtpEvent) (event : FtpEvent)
     → AllByRecursion (λ reply. NoFailure reply → IsLoggedIn accepts before)
     (replies_to law (last_state law s before) event)
 
--- a reply that is sent, and that a client reads back as it is
-abbrev pub IsSentPlain : FtpReply → Type 0
-IsSentPlain Nothing = ⊥
-IsSentPlain reply = IsPlain reply
-
 -- The replies to each event are preliminary ones and then a final one, and each of them is that.
 abbrev pub SendsPlainExchanges : {S : Type 0} → SessionLaw S → Type 0
-SendsPlainExchanges law = GivesExchanges law × SaysOnly IsSentPlain law
+SendsPlainExchanges law = GivesExchanges law × SaysOnly IsReadable law
 
 -- The lists are of one length, and this holds at each place: of what the first has before it and at
 -- it, and of what the second has at it.

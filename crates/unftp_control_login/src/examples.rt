@@ -3,7 +3,7 @@ ghost use Rattle.std.specs.Prelude.{◌≡◌, ◌++◌, not, true, false, [], �
 ghost use Rattle.std.specs.List.{list_all};
 ghost use Rattle.unftp_control_defs.specs.FtpCommand.{User, Pass, Acct, Syst, Stat, TypeCode, Stru, Mode, Help, Noop, Pasv, Epsv, Port, Retr, Stor, Appe, List, Nlst, Mlst, Mlsd, Feat, Pwd, Cwd, Cdup, Opts, Dele, Rmd, Quit, Mkd, Allo, Abor, Stou, Rnfr, Rnto, Auth, Ccc, Pbsz, Prot, Size, Rest, Mdtm, Md5, Site, Other};
 ghost use Rattle.unftp_control_defs.specs.Events.{Command, Refused, line_too_long, out_of_memory};
-ghost use Rattle.unftp_control_defs.specs.FtpReply.{Nothing, CodeAndMsg, MultiLine};
+ghost use Rattle.unftp_control_defs.specs.FtpReply.{Nothing, CodeAndMsg, MultiLine, IsReadable};
 ghost use Rattle.unftp_control_defs.specs.Run.{last_state, replies, at_each};
 ghost use Rattle.unftp_control_defs.specs.declared.parameters.AuthParam.TheVariants.{Tls};
 ghost use Rattle.unftp_control_defs.specs.declared.parameters.ModeParam.TheVariants.{Stream};
@@ -15,7 +15,7 @@ ghost use Rattle.unftp_control_login.specs.declared.stage.Stage.TheVariants.{Log
 ghost use Rattle.unftp_control_login.specs.HandlerCalls.{AllCalled, Asks, AsksFurther, FailedCall, Makes, Passes, tells};
 ghost use Rattle.unftp_control_login.specs.Gate.{Answers, LogsIn, PassesOn, calls_by, closed, gated_law, logged_in, login_needed, name_needed, not_accepted, password_needed, questions};
 ghost use Rattle.unftp_control_login.specs.LoginLimit.{EndsWith, failed_in_run, limited_law, limited_to, too_many};
-ghost use Rattle.unftp_control_login.specs.Promises.{AgreeOnAll, AllLookAlike, DifferInPasswords, FailsAlike, IsRefusedLogin, IsSentPlain, IsTurnedAway, LearnsName, LooksAlike, MembersAlone, NoFailure, PasswordFits, ReachesHandler, SendsPlainExchanges, ServesMembersAlone, gate_calls, limit_calls};
+ghost use Rattle.unftp_control_login.specs.Promises.{AgreeOnAll, AllLookAlike, DifferInPasswords, FailsAlike, IsRefusedLogin, IsTurnedAway, LearnsName, LooksAlike, MembersAlone, NoFailure, PasswordFits, ReachesHandler, SendsPlainExchanges, ServesMembersAlone, gate_calls, limit_calls};
 ghost use Rattle.unftp_control_login.specs.Examples.{anna, anna_and_ben, ben, counting, here, login, only_anna, opened, pass, refusing, secret, silent, so_far, transferring, user, wrong};
 
 /// Which events need a login, and which undo one.
@@ -147,9 +147,9 @@ pub fn members_are_served()
         (codes "257 here\r\n") → ⊥ }
     ensures stranger { MembersAlone None only_anna (codes "PWD\r\n") (codes "530 no\r\n") }
     ensures no_event { MembersAlone None only_anna [] (codes "530 no\r\n") → ⊥ }
-    ensures plain { IsSentPlain (CodeAndMsg 100 (codes "x")) × SendsPlainExchanges counting }
+    ensures plain { IsReadable (CodeAndMsg 100 (codes "x")) × SendsPlainExchanges counting }
     ensures nothing_sent { SendsPlainExchanges silent → ⊥ }
-    ensures line_feed { IsSentPlain (MultiLine 200 (codes "a\n" ∷ [])) → ⊥ }
+    ensures line_feed { IsReadable (MultiLine 200 (codes "a\n" ∷ [])) → ⊥ }
 {}
 
 /// Which lines can be sent, and which logins are refused.

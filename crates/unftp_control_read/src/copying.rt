@@ -2,23 +2,24 @@
 ghost use Rattle.std.specs.Prelude.{◌≡◌, ◌∷◌, [], ℕ, List, IfOk};
 ghost use Rattle.unftp_control_defs.specs.Bytes.{Bytes};
 ghost use Rattle.unftp_control_defs.specs.ComputedReply.{Whole, cuts_of, front_after, later_lines};
-ghost use Rattle.unftp_control_defs.specs.ReplyReader.{FrontReply};
+ghost use Rattle.unftp_control_defs.specs.ReplyReader.{FrontReply, HasFront};
 ghost use Rattle.unftp_control_read.specs.Reading.{contents};
 
 use crate::lines::{last_text, next_line};
 use crate::opening::{AfterCode, opening_of};
 use std::alloc::{AllocError, Global};
 
-/// The lines of the reply at the start, which is there.
+/// The lines of the reply at the start.
 pub(crate) fn copy_lines(alloc: Global, bytes: &[u8]) -> Result<Vec<Vec<u8>>, AllocError>
+    requires { HasFront bytes.now }
     ensures { IfOk result (λ copied. (code : ℕ) (lines : List Bytes) (used : ℕ)
         → FrontReply bytes.now code lines used → contents copied ≡ lines) }
 {
     let Some((line, after)) = next_line(bytes, 0) else {
-        return Ok(Vec::new(alloc));
+        unreachable!()
     };
     let Some(opening) = opening_of(line) else {
-        return Ok(Vec::new(alloc));
+        unreachable!()
     };
     match opening.kind {
         AfterCode::One(text) => copy_one(alloc, text),

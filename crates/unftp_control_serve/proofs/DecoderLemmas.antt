@@ -1,23 +1,27 @@
 -- What a call of `next_event` takes, by what the codec decodes.
-use Rattle.std.proofs.Common.{◌≡◌, ℕ, ◌+◌, ◌-◌, ◌≤◌, Bool, true, false, [], ◌++◌, length, take, drop, Option, Some, None, Result, Ok, Err, refl, sym, ap, ◌∙◌, inl, inr, arith, append_assoc, length-drop}
+use Rattle.std.proofs.Common.{◌≡◌, ℕ, ◌+◌, ◌-◌, ◌≤◌, Bool, true, false, List, [], ◌∷◌, ◌++◌, length, take, drop, Option, Some, None, Result, Ok, Err, refl, sym, ap, subst, ◌∙◌, inl, inr, arith, append_assoc, length-drop}
 use Rattle.std.specs.Prelude.{if◌then◌else◌, OnErr}
+use Rattle.std.specs.List.{concat}
 use Rattle.std.proofs.lemmas.List.{drop-drop, take-append-drop}
 use Rattle.std.proofs.lemmas.Option.{none-some, same_Some}
 use Rattle.unftp_control_defs.specs.Bytes.{Bytes}
-use Rattle.unftp_control_defs.specs.Events.{FtpEvent, Refused, OutOfMemory, event_of, line_too_long}
+use Rattle.unftp_control_defs.specs.Events.{FtpEvent, Refused, OutOfMemory, event_for, event_of, line_too_long}
 use Rattle.unftp_control_defs.specs.FtpCommand.{Answer, InvalidUtf8, InvalidCommand, InvalidEol}
+use Rattle.unftp_control_defs.specs.Lines.{Lines, incomplete_line, lines_of}
 use Rattle.unftp_control_defs.specs.Outcome.{outcome}
 use Rattle.unftp_control_defs.specs.TakingSteps.{TakesEvent}
+use Rattle.unftp_control_defs.proofs.LineLemmas.{Lines-lines_of, line_first}
 use Rattle.unftp_control_codecs.specs.declared.FirstLine.{FirstLine}
 use Rattle.unftp_control_codecs.specs.declared.FirstLine.TheVariants.{Incomplete, TooLong, Complete}
 use Rattle.unftp_control_codecs.specs.Codec.{Codec}
 use Rattle.unftp_control_codecs.specs.Decoding.{Decoded, Decodes, DecodesFound, IsOutOfMemory, returned_event}
 use Rattle.unftp_control_codecs.specs.FirstLine.{IsDropped, IsScannedWithin, first_line, goes_on}
+use Rattle.unftp_control_codecs.proofs.CallLemmas.{decodes_keeps}
 use Rattle.unftp_control_codecs.proofs.FirstLineLemmas.{Counts, Finds, FindsNone, counts, finds}
 use Rattle.unftp_control_codecs.proofs.MemoryLemmas.{kind_in, ran_out}
 use Rattle.unftp_control_serve.specs.declared.event.Event.{Event}
 use Rattle.unftp_control_serve.specs.EventMeaning.{event_meant, refuses_length}
-use Rattle.unftp_control_serve.specs.Decoder.{IsDecoder, MayRunOut, ReturnsEvent, TakesNext, dropped_after, line_length, pending_of}
+use Rattle.unftp_control_serve.specs.Decoder.{IsDecoder, FirstMayRunOut, MayRunOut, ReturnsEvent, TakesNext, dropped_after, line_length, pending_of}
 
 -- what the codec returns is out of memory only where memory ran out
 returned_kind : (answer : Decoded) → IsOutOfMemory answer
@@ -30,6 +34,26 @@ outcome_kind (Ok command) is = absurd (cc)
 outcome_kind (Err InvalidUtf8) is = absurd (cc)
 outcome_kind (Err InvalidCommand) is = absurd (cc)
 outcome_kind (Err InvalidEol) is = absurd (cc)
+
+-- the line that memory may run out for, as an event that can be taken
+pub MayRunOut-taken : {limit : Option ℕ} (bytes : Bytes) → MayRunOut limit bytes
+    → (event : FtpEvent) × (after : Bytes) × TakesEvent limit bytes event after
+MayRunOut-taken {limit} bytes = at_lines (lines_of bytes) (Lines-lines_of bytes)
+  where
+    at_lines : (lines : List Bytes) → Lines bytes lines (incomplete_line bytes)
+        → FirstMayRunOut limit lines
+        → (event : FtpEvent) × (after : Bytes) × TakesEvent limit bytes event after
+    at_lines [] is may = absurd may
+    at_lines (line ∷ lines) is may = (
+      event_for limit line,
+      concat lines ++ incomplete_line bytes,
+      record {
+        line = line;
+        is_line = is.each.0;
+        whole = is.whole ∙ append_assoc line (concat lines) (incomplete_line bytes);
+        meaning = refl;
+      },
+    )
 
 module _ (old new : Codec) (dropped before : Bytes) (taken : ℕ) where
   abbrev after : Bytes
@@ -118,14 +142,8 @@ module _ (old new : Codec) (dropped before : Bytes) (taken : ℕ) where
           place = rw is.1.goes_on_at finds.same_place;
           unskipped = rw is.1.goes_on_at finds.unskipped;
           none_dropped = finds.none_dropped;
-          may = record {
-            line = take n before;
-            after = drop n before;
-            is_line = finds.is_line;
-            whole = sym (take-append-drop n before);
-            short = finds.short;
-            takes_memory = is.0;
-          };
+          may = subst (FirstMayRunOut old.limit) (sym (ap lines_of (sym (take-append-drop n before))
+              ∙ (line_first (take n before) (drop n before) finds.is_line).0)) (finds.short, is.0);
         }
 
     comes_to : {E : Type 0} (result : Result (Option Event) E) → ReturnsEvent answer result
@@ -212,7 +230,7 @@ module _ {E : Type 0} (old new : Codec) (dropped dropped' buf pending front : By
     (result : Result (Option Event) E) (well : IsDecoder old dropped buf start line held)
     (from_start : pending ≡ drop start buf) (to_taken : front ≡ take taken pending)
     (goes_on : dropped' ≡ dropped_after skipping dropped front) (skips : skipping ≡ new.skipping)
-    (limit : new.limit ≡ old.limit) (within : taken + new.place ≤ length pending)
+    (within : taken + new.place ≤ length pending)
     (decodes : Decodes old new pending (drop taken pending) answer)
     (tells : ReturnsEvent answer result) where
   abbrev rest : Bytes
@@ -253,7 +271,8 @@ module _ {E : Type 0} (old new : Codec) (dropped dropped' buf pending front : By
     place_within = rw (← drop-drop taken start buf)
         (within_then old new dropped rest taken result well.place_within came);
     dropped_well = rw dropped_is (dropped_then old new dropped rest taken result came);
-    limited = rw limit well.limited;
+    limited = rw (decodes_keeps old new pending (drop taken pending) answer decodes).limit
+        well.limited;
     no_more = well.no_more;
   }
 

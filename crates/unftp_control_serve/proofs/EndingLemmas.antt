@@ -10,8 +10,9 @@ use Rattle.unftp_control_defs.proofs.RunLemmas.{drop_lines-append, last_state-ap
 use Rattle.unftp_control_defs.proofs.LineLemmas.{events-append}
 use Rattle.unftp_control_message.specs.ErrorParts.{KindAndSource}
 use Rattle.unftp_control_message.specs.ErrorMeaning.{fault_of}
+use Rattle.unftp_control_serve.specs.Decoder.{FirstMayRunOut}
 use Rattle.unftp_control_serve.specs.Writing.{CutShort, ReplyFailed, Sent}
-use Rattle.unftp_control_serve.specs.Endings.{Snapshot, Cause, Finished, Write, Handler, LineMemory, ReplyMemory, IsCauseOf, EndsAt, AllAnswered, EventFailed, FirstMayRunOut, HasGiven, RunAnswered, RunEnded, RunFailed, handler_failures, part_written, text_until, whole_text, write_failures}
+use Rattle.unftp_control_serve.specs.Endings.{Snapshot, Cause, Finished, Write, Handler, LineMemory, ReplyMemory, IsCauseOf, EndsAt, AllAnswered, EventFailed, HasGiven, RunAnswered, RunEnded, RunFailed, handler_failures, part_written, text_until, whole_text, write_failures}
 use Rattle.unftp_control_serve.specs.declared.error.ServeError.{ServeError}
 use Rattle.unftp_control_serve.specs.declared.error.ServeError.TheVariants as error
 use Rattle.unftp_control_serve.proofs.SendLemmas.{HasWritten-nothing, HasWritten-then, Flushed-then}

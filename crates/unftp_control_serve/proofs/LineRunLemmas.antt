@@ -7,10 +7,11 @@ use Rattle.unftp_control_defs.specs.Lines.{incomplete_line, lines_of}
 use Rattle.unftp_control_defs.specs.Run.{after, run_for, ends_for, SessionLaw, run_of, ends}
 use Rattle.unftp_control_defs.proofs.LineLemmas.{events-incomplete, incomplete_line-append, line_first}
 use Rattle.unftp_control_defs.proofs.RunLemmas.{line-done, unread-incomplete}
-use Rattle.unftp_control_serve.specs.Endings.{Snapshot, LineMemory, AllAnswered, EventFailed, FirstMayRunOut, RunAnswered, RunFailed}
+use Rattle.unftp_control_serve.specs.Endings.{Snapshot, LineMemory, AllAnswered, EventFailed, RunAnswered, RunFailed}
 use Rattle.unftp_control_serve.specs.Decoder.{Pending, HasNoLine, MayRunOut, TakesLine}
 use Rattle.unftp_control_serve.specs.declared.error.ServeError.{ServeError}
 use Rattle.unftp_control_serve.specs.declared.error.ServeError.TheVariants.{OutOfMemory}
+use Rattle.unftp_control_serve.proofs.DecoderLemmas.{MayRunOut-taken}
 use Rattle.unftp_control_serve.proofs.EndingLemmas.{AllAnswered-nothing, EventFailed-more, GoneOn, GoneOn-answered, GoneOn-failed, GoneOn-then, HasGiven-silent}
 
 -- in the loop over the lines of some bytes: the first lines were answered, and these are pending
@@ -119,9 +120,9 @@ module _ {S : Type 0} {law : SessionLaw S} {limit : Option ℕ} {m n : Snapshot 
 pub halfway-no_memory : {S : Type 0} {law : SessionLaw S} {limit : Option ℕ} {m n : Snapshot S}
     {bytes pending : Bytes} → Halfway law limit m n bytes pending → MayRunOut limit pending
     → (done : List FtpEvent) × RunFailed limit law m bytes n OutOfMemory done
-halfway-no_memory {law = law} {limit} {n = n} {pending = pending} so_far v =
-    let lines : lines_of pending ≡ v.line ∷ lines_of v.after = ap lines_of v.whole
-    ∙ (line_first v.line v.after v.is_line).0 in
+halfway-no_memory {law = law} {limit} {n = n} {pending = pending} so_far may =
+    let taken = (MayRunOut-taken pending may).2 in
+    let lines = ap lines_of taken.whole ∙ (line_first taken.line _ taken.is_line).0 in
     run-failed so_far (record {
       later = _;
       split = ap (λ lines. run_of law n.state (map (event_for limit) lines)) lines;
@@ -132,5 +133,5 @@ halfway-no_memory {law = law} {limit} {n = n} {pending = pending} so_far v =
         ends_at = refl;
         given = HasGiven-silent LineMemory refl refl (omega arith);
       };
-      next_line = λ _. subst (FirstMayRunOut limit) (sym lines) (v.short, v.takes_memory);
+      next_line = λ _. may;
     })

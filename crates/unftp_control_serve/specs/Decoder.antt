@@ -1,9 +1,9 @@
 -- The pending bytes of a decoder.
-use Rattle.std.specs.Prelude.{◌≡◌, ℕ, ◌+◌, ◌-◌, ◌^◌, ◌≤◌, Bool, false, if◌then◌else◌, [], ◌++◌, length, min, max, take, drop, Option, Some, None, Result, Ok, Err, MatchResult, MatchOption, IfSome, option_map}
+use Rattle.std.specs.Prelude.{◌≡◌, ℕ, ◌+◌, ◌-◌, ◌^◌, ◌≤◌, Bool, false, if◌then◌else◌, List, [], ◌∷◌, ◌++◌, length, min, max, take, drop, Option, Some, None, Result, Ok, Err, MatchResult, MatchOption, IfSome, option_map}
 use Rattle.unftp_control_defs.specs.Bytes.{Bytes, LF, Lacks}
 use Rattle.unftp_control_defs.specs.Buffer.{held_after_piece}
 use Rattle.unftp_control_defs.specs.Events.{FtpEvent, exceeds}
-use Rattle.unftp_control_defs.specs.Lines.{IsLine}
+use Rattle.unftp_control_defs.specs.Lines.{lines_of}
 use Rattle.unftp_control_line_parser.specs.Memory.{MayTakeMemory}
 use Rattle.unftp_control_defs.specs.TakingSteps.{TakesEvent}
 use Rattle.unftp_control_codecs.specs.Codec.{Codec}
@@ -113,14 +113,14 @@ pub record TakesLine (before : Pending) (event : FtpEvent) (after : Pending) : T
   pub all_kept : after.kept ≡ length after.bytes
   pub none_scanned : after.unscanned ≡ length after.bytes
 
--- The bytes begin with a line that is within the limit and may take memory.
-pub record MayRunOut (limit : Option ℕ) (bytes : Bytes) : Type 0 where
-  pub line : Bytes
-  pub after : Bytes
-  pub is_line : IsLine line
-  pub whole : bytes ≡ line ++ after
-  pub short : exceeds limit (length line) ≡ false
-  pub takes_memory : MayTakeMemory line
+-- The first of these lines is within the limit, and its command may take memory.
+abbrev pub FirstMayRunOut : Option ℕ → List Bytes → Type 0
+FirstMayRunOut limit [] = ⊥
+FirstMayRunOut limit (line ∷ lines) = (exceeds limit (length line) ≡ false) × MayTakeMemory line
+
+-- So is the first line of these bytes.
+abbrev pub MayRunOut : Option ℕ → Bytes → Type 0
+MayRunOut limit bytes = FirstMayRunOut limit (lines_of bytes)
 
 -- The same bytes are pending, and as many of them are kept and not scanned yet.
 pub record StaysPending (before after : Pending) : Type 0 where

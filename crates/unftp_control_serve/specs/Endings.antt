@@ -1,13 +1,13 @@
 -- How a run ended: which of its events were answered, why no more were, and what was written and
 -- flushed.
-use Rattle.std.specs.Prelude.{◌≡◌, ⊤, ℕ, ◌+◌, ◌⊎◌, Bool, false, drop, List, [], ◌∷◌, ◌++◌, flat_map, length, Option, Result, Err, MatchResult}
+use Rattle.std.specs.Prelude.{◌≡◌, ⊤, ℕ, ◌+◌, ◌⊎◌, Bool, drop, List, [], ◌∷◌, ◌++◌, flat_map, length, Option, Result, Err, MatchResult}
 use Rattle.unftp_control_defs.specs.Bytes.{Bytes}
-use Rattle.unftp_control_defs.specs.Events.{Fault, FtpEvent, exceeds}
+use Rattle.unftp_control_defs.specs.Events.{Fault, FtpEvent}
 use Rattle.unftp_control_defs.specs.FtpReply.{FtpReply, Nothing, encoded}
 use Rattle.unftp_control_defs.specs.Lines.{lines_of}
 use Rattle.unftp_control_defs.specs.Run.{SessionLaw, ends_for, last_state, run_for, said, state_after, text_of, turn, unread}
-use Rattle.unftp_control_line_parser.specs.Memory.{MayTakeMemory}
 use Rattle.unftp_control_message.specs.ErrorMeaning.{fault_of}
+use Rattle.unftp_control_serve.specs.Decoder.{FirstMayRunOut}
 use Rattle.unftp_control_serve.specs.Writing.{OutputState, output_state_of, Begins, Flushed, HasWritten}
 use Rattle.unftp_control_serve.specs.declared.output.Output.{Output}
 use Rattle.unftp_control_serve.specs.declared.error.ServeError.{ServeError}
@@ -41,17 +41,18 @@ pub data Cause : Type 0 where
   LineMemory : Cause
   ReplyMemory : Cause
 
--- which of them each error may mean
-abbrev pub MayMean : ServeError → Cause → Type 0
-MayMean (error.Write _) (Write _) = ⊤
-MayMean error.WriteZero (Write _) = ⊤
-MayMean (error.Handler failed) (Handler fault) = fault ≡ fault_of failed
-MayMean error.OutOfMemory LineMemory = ⊤
-MayMean error.OutOfMemory ReplyMemory = ⊤
-MayMean _ _ = ⊥
-
+-- Why a run can have ended that gave this error. A run does not read, and a stopped engine begins
+-- none: so three errors have no cause here.
 abbrev pub IsCauseOf : Cause → ServeError → Type 0
-IsCauseOf cause error = MayMean error cause
+IsCauseOf _ (error.Read _) = ⊥
+IsCauseOf _ error.TooManyReads = ⊥
+IsCauseOf _ error.Stopped = ⊥
+IsCauseOf (Write _) (error.Write _) = ⊤
+IsCauseOf (Write _) error.WriteZero = ⊤
+IsCauseOf (Handler fault) (error.Handler failed) = fault ≡ fault_of failed
+IsCauseOf LineMemory error.OutOfMemory = ⊤
+IsCauseOf ReplyMemory error.OutOfMemory = ⊤
+IsCauseOf _ _ = ⊥
 
 -- The first reply of a turn that was not sent, after those that were: this is so of it, and it
 -- leaves this state.
@@ -102,8 +103,9 @@ abbrev pub handler_failures : Cause → ℕ
 handler_failures (Handler _) = 1
 handler_failures _ = 0
 
--- This text was written and flushed, and after it the part of the next reply that the cause says;
--- the failures were counted that it is.
+-- This text was written, and after it the part of the next reply that the cause names. `Flushed`
+-- says what of it was flushed. Where the cause is a failure of the writer or of the handler, the
+-- count of its failures rose by one; else both counts stayed.
 pub record HasGiven {S : Type 0} (text : Bytes) (cause : Cause) (before after : Snapshot S)
     : Type 0 where
   pub written : HasWritten before.output after.output (text_until text cause)
@@ -138,11 +140,6 @@ abbrev pub EventOutcome : {S T : Type 0} → SessionLaw S → Snapshot S → Ftp
 EventOutcome law before event after result = MatchResult result
     (λ _. AllAnswered law before (event ∷ []) after)
     (λ failure. EventFailed law before event after failure)
-
--- The first of these lines is within the limit, and its command may take memory.
-abbrev pub FirstMayRunOut : Option ℕ → List Bytes → Type 0
-FirstMayRunOut limit [] = ⊥
-FirstMayRunOut limit (line ∷ lines) = (exceeds limit (length line) ≡ false) × MayTakeMemory line
 
 -- The run over an input ended with this error, after all replies to its events `done`, and the
 -- replies `sent` to the next. Where memory ran out for the command of a line, it is the line after

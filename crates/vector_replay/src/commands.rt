@@ -65,7 +65,11 @@ impl File {
             return Err(CaseError::NoCase);
         };
         Ok(File {
-            is_dir: kind.name() == Some("dir"),
+            is_dir: match kind {
+                Word::Bare("dir") => true,
+                Word::Bare("file") => false,
+                _ => return Err(CaseError::NoCase),
+            },
             size: size.number()?,
             modified: read_instant(modified)?,
             uid: uid.number()?,

@@ -42,11 +42,9 @@ impl End {
     }
 }
 
-/// Writes which call of a stream failed, and with which error of the system, where that is not
-/// EINTR.
+/// Writes which call of a stream failed, and the number of the system's error, or `another`.
 fn put_failure<W: Write>(call: &str, error: &io::Error, f: &mut Formatter<W>) -> fmt::Result {
     match error.raw_os_error() {
-        Some(4) => f.write_str(call),
         Some(number) => write!(f, "{call} {number}"),
         None => write!(f, "{call} another"),
     }

@@ -16,16 +16,18 @@ use unftp_control_serve::{Engine, Input, Output, Session, Sink, serve, serve_wit
 /// How many bytes of replies are written before the writer's buffer grows.
 const RESERVED: usize = 1 << 16;
 
-/// The words that a session may have before its bytes; a value follows `=`.
-const WORDS: &[&str] = &[
-    "limit=", "handler=", "turns=", "reads=", "writes=", "flushes=", "wary", "again", "appended",
-];
-
-/// Whether a session may have the word before its bytes.
+/// Whether a session may have the word before its bytes; a value follows `=`.
 fn is_known(word: &Word<'_>) -> bool {
-    match word {
-        Word::Bare(word) => WORDS.iter().any(|known| word.starts_with(*known)),
-        Word::Bytes(_) => false,
+    let Word::Bare(word) = word else {
+        return false;
+    };
+    match word.split_once('=') {
+        None => matches!(*word, "wary" | "again" | "appended"),
+        Some(("limit", limit)) => Word::Bare(limit).limit().is_ok(),
+        Some(("reads", turns)) => Turns(turns).are_read(1),
+        Some(("turns" | "writes" | "flushes", turns)) => Turns(turns).are_read(0),
+        // the session has a handler of this name, or is no case
+        Some((name, _)) => name == "handler",
     }
 }
 
@@ -43,7 +45,7 @@ struct SessionCase<'a> {
 }
 
 impl<'a> SessionCase<'a> {
-    /// What follows this word's name, if it is there.
+    /// What follows this name and its `=`, if they are there.
     fn value(&self, name: &str) -> Option<&'a str> {
         self.words
             .iter()
@@ -51,22 +53,23 @@ impl<'a> SessionCase<'a> {
     }
 
     /// Whether the word is there.
-    fn has(&self, word: &str) -> bool {
-        self.value(word).is_some()
+    fn has(&self, name: &str) -> bool {
+        self.words.iter().any(|word| word.name() == Some(name))
     }
 
     /// The turns that this word has.
     fn turns(&self, name: &str) -> Turns<'a> {
-        Turns(self.value(name).unwrap_or(""))
+        Turns(self.value(name).unwrap_or("all"))
     }
 
     /// The most bytes of a line, if they are bounded.
     fn limit(&self) -> Option<usize>
         ensures { IfSome result (λ limit. 1 ≤ limit) }
     {
-        match self.value("limit=")?.parse::<usize>() {
-            Ok(limit) if limit > 0 => Some(limit),
-            _ => None,
+        match Word::Bare(self.value("limit=")?).limit() {
+            Ok(limit) => limit,
+            // the limit of a case is one
+            Err(_) => None,
         }
     }
 

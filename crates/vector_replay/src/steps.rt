@@ -1,5 +1,5 @@
 //! What takes what is complete of bytes that come in pieces.
-use crate::answers::{Answered, Answers};
+use crate::answers::{Answered, Answers, once_more};
 use crate::words::{CaseError, Word};
 use std::alloc::AllocError;
 
@@ -19,11 +19,8 @@ pub trait Taker: Drop {
 
     /// A piece comes; once more where memory ran out.
     fn push_once_more(&mut self, piece: &[u8], answers: &mut Answers) {
-        if self.push(piece).is_err() {
-            answers.out_of_memory();
-            if self.push(piece).is_err() {
-                answers.put("out of memory | ");
-            }
+        if once_more!(answers, self.push(piece)).is_err() {
+            answers.put("out of memory | ");
         }
     }
 

@@ -1,24 +1,42 @@
 //! Readers that give pieces and writers that take them, which fail when they are asked to.
 ghost use Rattle.std.specs.Prelude.{Some};
 
+use crate::words::{CaseError, Word};
 use std::io;
 use std::io::{Read, Write};
 
-/// What each call does, by words that commas divide; the last one is that of all later calls too. A
-/// number is the most bytes of the call, and `E` and a number is the system's error with which it
-/// fails; by any other word it does as it likes.
+/// What a call does, by its word: the most bytes of the call, all by `all` or `ok`; or by `E` and a
+/// number the system's error with which it fails.
+fn read_turn(turn: &str) -> Result<io::Result<usize>, CaseError> {
+    if let Some(number) = turn.strip_prefix("E") {
+        let number = Word::Bare(number).number::<u16>()?;
+        return Ok(Err(io::Error::from_raw_os_error(i32::from(number))));
+    }
+    match turn {
+        "all" | "ok" => Ok(Ok(usize::MAX)),
+        most => Ok(Ok(Word::Bare(most).number()?)),
+    }
+}
+
+/// What each call does, by words that commas divide; the last one is that of all later calls too.
 #[derive(Clone, Copy)]
 pub struct Turns<'a>(pub &'a str);
 
 impl Turns<'_> {
+    /// Whether each word is a turn, and each number of bytes at least this one.
+    pub fn are_read(&self, least: usize) -> bool {
+        self.0.split(',').all(|turn| match read_turn(turn) {
+            Ok(Ok(most)) => least <= most,
+            turn => turn.is_ok(),
+        })
+    }
+
     /// The most bytes of the next call, or its error.
     pub fn next(&mut self) -> io::Result<usize> {
         let (turn, later) = self.0.split_once(',').unwrap_or((self.0, self.0));
         self.0 = later;
-        match turn.strip_prefix("E") {
-            Some(number) => Err(io::Error::from_raw_os_error(number.parse().unwrap_or(0))),
-            None => Ok(turn.parse().unwrap_or(usize::MAX)),
-        }
+        // each turn of a case is one
+        read_turn(turn).unwrap_or(Ok(usize::MAX))
     }
 }
 
@@ -47,7 +65,7 @@ impl Read for Pieces<'_> {
 
     fn read(&mut self, buf: &mut [u8]) -> io::Result<usize> {
         self.reads = self.reads.saturating_add(1);
-        // a read of no bytes would be the end of the input
+        // a read of no bytes would be the end of the input, and no case has one
         let most = self.turns.next()?.max(1);
         let n = buf.len().min(most).min(self.rest.len());
         let (taken, rest) = self.rest.split_at(n);

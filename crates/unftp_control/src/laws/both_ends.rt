@@ -4,7 +4,7 @@ ghost use Rattle.std.specs.List.{AllByRecursion, concat};
 ghost use Rattle.unftp_control_defs.specs.Bytes.{Bytes};
 ghost use Rattle.unftp_control_defs.specs.Events.{Command, event_for, events};
 ghost use Rattle.unftp_control_defs.specs.FtpCommand.{FtpCommand};
-ghost use Rattle.unftp_control_defs.specs.FtpReply.{FtpReply};
+ghost use Rattle.unftp_control_defs.specs.FtpReply.{FtpReply, IsReadable};
 ghost use Rattle.unftp_control_defs.specs.Lines.{IsLine, incomplete_line, lines_of};
 ghost use Rattle.unftp_control_defs.specs.ReplyReader.{HasFront};
 ghost use Rattle.unftp_control_defs.specs.Run.{replies, run_for, text_for, replies_by_event};
@@ -13,7 +13,7 @@ ghost use Rattle.unftp_control_defs.specs.Turns.{IsExchange, cut_reads};
 ghost use Rattle.unftp_control_client.specs.declared.Client.{Client as RustClient};
 ghost use Rattle.unftp_control_client.specs.declared.dialogue.To.TheVariants.{Greeting};
 ghost use Rattle.unftp_control.specs.Acts.{AreFirst, IsConversation, IsUnderstood, Server, Act, came_to_client, exchanges, sent_by_client, taken_by_client, turns_to, written_by};
-ghost use Rattle.unftp_control.specs.Conversation.{CanBeSent, IsReadable, KeepsMeaning, Show, ShowTurns, canonical_of, forwarded_of, rewritten, sent};
+ghost use Rattle.unftp_control.specs.Conversation.{CanBeSent, KeepsMeaning, Show, ShowTurns, canonical_of, forwarded_of, rewritten, sent};
 
 use unftp_control_serve::Session;
 

@@ -1,5 +1,5 @@
-//! Examples of the definitions of the upper crates, worked out by hand: for each one that holds and
-//! one that doesn't, at the boundary.
+//! Examples of definitions that the contracts cite, worked out by hand. Many come in pairs at a
+//! boundary: the last value for which a definition holds, and the first for which it doesn't.
 
 pub mod both_ends;
 pub mod client;

@@ -4,13 +4,13 @@
 ghost use Rattle.std.specs.Prelude.{◌≡◌, ◌≢◌, ◌∷◌, ◌++◌, [], None, Some, codes};
 ghost use Rattle.unftp_control_defs.specs.Events.{events};
 ghost use Rattle.unftp_control_defs.specs.FtpCommand.{Noop, Retr};
-ghost use Rattle.unftp_control_defs.specs.FtpReply.{CodeAndMsg, MultiLine, Nothing};
+ghost use Rattle.unftp_control_defs.specs.FtpReply.{CodeAndMsg, MultiLine, Nothing, IsReadable};
 ghost use Rattle.unftp_control_client.specs.Steps.{Received, Sent};
 ghost use Rattle.unftp_control_client.specs.declared.Client.{Client as RustClient};
 ghost use Rattle.unftp_control_client.specs.declared.dialogue.To.TheVariants.{Command, Greeting};
 ghost use Rattle.unftp_control.specs.Acts.{AreFirst, AtClient, AtServer, InOrder, IsConversation, IsUnderstood, exchanges, turns_to};
 ghost use Rattle.unftp_control.specs.ClientRuns.{client_with, dialogue, farewell_server, noop, reply_with, talk};
-ghost use Rattle.unftp_control.specs.Conversation.{CanBeSent, IsReadable, KeepsMeaning, Show, ShowTurns, forwarded_of, rewritten};
+ghost use Rattle.unftp_control.specs.Conversation.{CanBeSent, KeepsMeaning, Show, ShowTurns, forwarded_of, rewritten};
 
 /// Commands that a client can send.
 pub fn commands_are_sent_so()

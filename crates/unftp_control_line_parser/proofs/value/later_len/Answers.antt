@@ -1,32 +1,46 @@
 use Rattle.std.proofs.Common.{◌+◌, Some, None, arith, ◌∙◌, sym, subst}
 use Rattle.unftp_control_line_parser.specs.Values.{IsLaterLen}
-use Rattle.unftp_control_line_parser.proofs.RunLemmas.{IsLaterLen-line_end, IsLaterLen-invalid, IsLaterLen-cr_nul, lens_added}
+use Rattle.unftp_control_line_parser.proofs.RunLemmas.{IsLaterLen-line_end, IsLaterLen-invalid, IsLaterLen-cr_nul, IsLaterLen-cr_nul_first, lens_added}
 use Rattle.unftp_control_line_parser.proofs.value.later_len.Goals as goal
 
 pub returns-then-begins_with_line_end : goal.returns-then-begins_with_line_end
 returns-then-begins_with_line_end c = c.parts.invariant.later (Some c.fresh_len-end.result)
     (IsLaterLen-line_end c.parts.rest.now c.fresh_len-end.result c.fresh_len-end.ensures
-    (rw c.split_at.ensures.back at
+    (rw c.split_at-else-begins_with_cr_nul.ensures.back at
     (sym c.begins_with_line_end.ensures ∙ c.if-begins_with_line_end.true)))
 
 pub returns-then-not-begins_with_cr_nul : goal.returns-then-not-begins_with_cr_nul
 returns-then-not-begins_with_cr_nul c = c.parts.invariant.later None
     (IsLaterLen-invalid c.parts.rest.now c.fresh_len-end.result c.fresh_len-end.ensures
-    (rw c.split_at.ensures.back at
+    (rw c.split_at-else-begins_with_cr_nul.ensures.back at
     (sym c.begins_with_line_end.ensures ∙ c.if-begins_with_line_end.false))
-    (rw c.split_at.ensures.back at
-    (sym c.begins_with_cr_nul.ensures ∙ c.if-not-begins_with_cr_nul.true)))
+    (rw c.split_at-else-begins_with_cr_nul.ensures.back at
+    (sym c.begins_with_cr_nul-else-begins_with_cr_nul.ensures ∙ c.if-not-begins_with_cr_nul.true)))
 
 pub parts-preserved : goal.parts-preserved
-parts-preserved c = record {
-  sizes = omega (arith, c.split_at.ensures.back_len, c.split_at-in-parts.ensures.back_len);
-  later = λ later is. subst (IsLaterLen c.args.bytes.now)
-      (lens_added c.parts.len (c.fresh_len-end.result + 2) later)
-      (c.parts.invariant.later _
-      (IsLaterLen-cr_nul c.parts.rest.now c.fresh_len-end.result c.fresh_len-end.ensures
-      (rw c.split_at.ensures.back at
-      (sym c.begins_with_line_end.ensures ∙ c.if-begins_with_line_end.false))
-      (rw c.split_at.ensures.back at
-      (sym c.begins_with_cr_nul.ensures ∙ c.if-not-begins_with_cr_nul.false)) later
-      (rw (c.split_at-in-parts.ensures.back, c.split_at.ensures.back) at is)));
+parts-preserved c =
+    let back = c.split_at-else-begins_with_cr_nul.ensures.back in
+    record {
+      sizes = omega (
+        arith,
+        c.split_at-else-begins_with_cr_nul.ensures.back_len,
+        c.split_at-else-begins_with_cr_nul-2.ensures.back_len,
+      );
+      later = λ later is. subst (IsLaterLen c.args.bytes.now)
+          (lens_added c.parts.len (c.fresh_len-end.result + 2) later)
+          (c.parts.invariant.later _
+          (IsLaterLen-cr_nul c.parts.rest.now c.fresh_len-end.result c.fresh_len-end.ensures
+          (rw back at (sym c.begins_with_line_end.ensures ∙ c.if-begins_with_line_end.false))
+          (rw back at (sym c.begins_with_cr_nul-else-begins_with_cr_nul.ensures
+          ∙ c.if-not-begins_with_cr_nul.false)) later
+          (rw (c.split_at-else-begins_with_cr_nul-2.ensures.back, back) at is)));
+    }
+
+pub parts-preserved-then-begins_with_cr_nul : goal.parts-preserved-then-begins_with_cr_nul
+parts-preserved-then-begins_with_cr_nul c = record {
+  sizes = omega (arith, c.split_at.ensures.back_len);
+  later = λ later is. subst (IsLaterLen c.args.bytes.now) (lens_added c.parts.len 2 later)
+      (c.parts.invariant.later _ (IsLaterLen-cr_nul_first c.parts.rest.now
+      (sym c.begins_with_cr_nul.ensures ∙ c.if-begins_with_cr_nul.true) later
+      (rw c.split_at.ensures.back at is)));
 }

@@ -1,6 +1,8 @@
-use Rattle.std.proofs.Common.{◌≡◌, ◌+◌, ◌++◌, ◌∙◌, take, drop, ap, sym, arith, append_assoc}
-use Rattle.unftp_control_line_parser.specs.Values.{after_nul, unescaped}
-use Rattle.unftp_control_line_parser.proofs.SentLemmas.{rest_short, unescaped_at, unescaped_lacking, lacks_all}
+use Rattle.std.proofs.Common.{◌≡◌, ◌+◌, ◌++◌, ◌∷◌, [], ◌∙◌, true, length, length-drop, take, drop, ap, sym, arith, append_assoc}
+use Rattle.std.proofs.lemmas.Grind.{common_steps}
+use Rattle.unftp_control_defs.specs.Bytes.{CR}
+use Rattle.unftp_control_line_parser.specs.Values.{after_nul, begins_with_cr_nul, unescaped}
+use Rattle.unftp_control_line_parser.proofs.SentLemmas.{rest_short, unescaped_at, unescaped_cr_nul, unescaped_lacking, lacks_all}
 use Rattle.unftp_control_line_parser.proofs.value.unescape.Goals as goal
 
 pub returns-in_default : goal.returns-in_default
@@ -12,15 +14,15 @@ returns-in_default c = c.in_ok-extend_from_slice.ensures.items
 pub parts-preserved : goal.parts-preserved
 parts-preserved c =
     let e = c.in-Some.ensures in
-    let short = rest_short c.parts.rest.now c.split_at.result.1.now c.after_nul-rest.result.now
-    c.in-Some.end e.0.high c.split_at.ensures.back c.after_nul-rest.ensures in
+    let short = rest_short c.parts.rest.now c.split_at-else-begins_with_cr_nul.result.1.now c.after_nul-rest.result.now
+    c.in-Some.end e.0.high c.split_at-else-begins_with_cr_nul.ensures.back c.after_nul-rest.ensures in
     let taken : c.parts.value.items ++ take (c.in-Some.end + 1) c.parts.rest.now
-    ≡ c.extend_from_slice-in-parts.new.self.items =
-    ap (λ t. c.parts.value.items ++ t) (sym c.split_at.ensures.front)
+    ≡ c.extend_from_slice-else-begins_with_cr_nul.new.self.items =
+    ap (λ t. c.parts.value.items ++ t) (sym c.split_at-else-begins_with_cr_nul.ensures.front)
     ∙ sym c.in_ok-extend_from_slice-2.ensures.items in
     let left : after_nul (drop (c.in-Some.end + 1) c.parts.rest.now)
     ≡ c.after_nul-rest.result.now =
-    ap after_nul (sym c.split_at.ensures.back) ∙ sym c.after_nul-rest.ensures in
+    ap after_nul (sym c.split_at-else-begins_with_cr_nul.ensures.back) ∙ sym c.after_nul-rest.ensures in
     record {
       value = c.parts.invariant.value
           ∙ ap (λ t. c.parts.value.items ++ t)
@@ -29,4 +31,23 @@ parts-preserved c =
           (unescaped (after_nul (drop (c.in-Some.end + 1) c.parts.rest.now))))
           ∙ (λ i. taken i ++ unescaped (left i));
       within = omega (arith, short, c.parts.invariant.within);
+    }
+
+pub parts-preserved-then-begins_with_cr_nul : goal.parts-preserved-then-begins_with_cr_nul
+parts-preserved-then-begins_with_cr_nul c =
+    let begins : begins_with_cr_nul c.parts.rest.now ≡ true =
+    sym c.begins_with_cr_nul.ensures ∙ c.if-begins_with_cr_nul.true in
+    let pushed : c.push.new.self.items ≡ c.parts.value.items ++ CR ∷ [] =
+    grind (arith, common_steps) in
+    record {
+      value = c.parts.invariant.value
+          ∙ ap (λ t. c.parts.value.items ++ t) (unescaped_cr_nul c.parts.rest.now begins)
+          ∙ sym (append_assoc c.parts.value.items (CR ∷ []) (unescaped (drop 2 c.parts.rest.now)))
+          ∙ (λ i. sym pushed i ++ unescaped (sym c.split_at.ensures.back i));
+      within = omega (
+        arith,
+        c.parts.invariant.within,
+        ap length c.split_at.ensures.back,
+        length-drop 2 c.parts.rest.now,
+      );
     }

@@ -6,10 +6,9 @@ use Rattle.unftp_control_read.proofs.LineLemmas.{lacks_all}
 use Rattle.unftp_control_read.proofs.SearchLemmas.{all_searched}
 use Rattle.unftp_control_read.proofs.copying.copy_lines.Goals as goal
 
-pub returns-in_default : goal.returns-in_default
-returns-in_default c code lines used f = absurd
-    ((all_searched c.args.bytes.now None c.args.bytes.now refl
-    (lacks_all c.args.bytes.now c.in_default.ensures.none)).0 (code, lines, used, f))
+pub unreachable-requires : goal.unreachable-requires
+unreachable-requires c = (all_searched c.args.bytes.now None c.args.bytes.now refl
+    (lacks_all c.args.bytes.now c.in_default.ensures.none)).0 c.requires
 
 pub returns-in-One : goal.returns-in-One
 returns-in-One c =

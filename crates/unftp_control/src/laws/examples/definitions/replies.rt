@@ -2,7 +2,18 @@
 #![tactic(auto, unfolding(unftp_control_defs::proofs::Computing::at_bytes))]
 
 ghost use Rattle.std.specs.Prelude.{◌≡◌, ◌++◌, [], ◌∷◌, true, false, Some, codes};
-ghost use Rattle.unftp_control_defs.specs.FtpReply.{Nothing, CodeAndMsg, MultiLine, HasThreeDigits, IsPlain, encoded, is_positive, reply_as_read};
+ghost use Rattle.unftp_control_defs.specs.FtpReply.{Nothing, CodeAndMsg, MultiLine, HasThreeDigits, IsPlain, encoded, is_positive, padded, reply_as_read};
+
+/// A line that begins with a digit gets a space.
+pub fn lines_are_padded_so()
+    ensures greatest { padded (codes "9a") ≡ codes " 9a" }
+    ensures above_the_digits { padded (codes ":0") ≡ codes ":0" }
+{}
+
+/// A reply without a text.
+pub fn replies_are_encoded_so()
+    ensures empty_text { encoded (CodeAndMsg 200 []) ≡ codes "200\r\n" }
+{}
 
 /// The example of RFC 959, section 4.2.
 pub fn the_reply_of_the_rfc_is_encoded_so()
@@ -14,6 +25,7 @@ pub fn the_reply_of_the_rfc_is_encoded_so()
 
 /// What a client sees.
 pub fn replies_are_shown_so()
+    ensures no_lines { reply_as_read (MultiLine 200 []) ≡ Some (200, [] ∷ []) }
     ensures other_lines { reply_as_read (MultiLine 211 (codes "1a" ∷ codes "2b" ∷ codes "3c" ∷ []))
         ≡ Some (211, codes " 1a" ∷ codes " 2b" ∷ codes "3c" ∷ []) }
 {}
