@@ -9,6 +9,9 @@ use std::fmt::{self, Debug, Formatter};
 /// verb and a path of 4,096 bytes with each CR sent as CR NUL.
 pub const LINE_LIMIT: usize = 8192;
 
+/// How many bytes the area for a name and a value has at first.
+const AREA: usize = 512;
+
 /// Takes the lines of a connection, whose pending bytes its owner keeps.
 #[derive(Clone)]
 pub(crate) struct Lines {
@@ -48,12 +51,17 @@ impl Lines {
             // the owner has dropped bytes
             self.connection.offset = 0;
         }
+        if self.area.is_empty() {
+            grow(&mut self.area, AREA)?;
+        }
         let (status, line) = loop {
             let (status, line) = ffi::next(&mut self.connection, pending, &mut self.area);
             if status != ffi::NO_ROOM {
                 break (status, line);
             }
-            grow(&mut self.area, line.name_len + line.value_len)?;
+            // a line that has no room is read again, so that lines ever longer cost few of these
+            let len = (line.name_len + line.value_len).max(2 * self.area.len());
+            grow(&mut self.area, len)?;
         };
         let (name, rest) = self.area.split_at(line.name_len);
         let event = match status {

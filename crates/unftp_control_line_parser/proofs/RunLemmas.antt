@@ -1,11 +1,12 @@
 -- Runs of bytes that are written as they are, and what comes after them.
 use Rattle.std.proofs.Common.{◌≡◌, ℕ, zero, suc, ◌+◌, ◌<◌, ◌≤◌, true, false, ◌==◌, if◌then◌else◌, [], ◌∷◌, ◌++◌, length, take, drop, get_or, Option, Some, None, option_map, refl, sym, ap, subst, ◌∙◌, ⊎_elim, append_assoc, append-nil, length-drop, get_or-drop, arith, eqb-true}
+use Rattle.std.proofs.lemmas.List.{drop-drop}
 use Rattle.std.proofs.lemmas.Bool.{false_from_ne_true, or_cases, or_parts}
 use Rattle.std.proofs.Math.Seq.{take-add}
 use Rattle.unftp_control_defs.specs.Bytes.{Bytes, NUL, LF, CR}
 use Rattle.unftp_control_defs.specs.ComputedValue.{Fresh, Plain, byte_then, later_value}
-use Rattle.unftp_control_line_parser.specs.Values.{stops, unescaped, begins_with_cr_nul, begins_with_line_end, IsLaterLen, IsRunEnd}
-use Rattle.unftp_control_line_parser.proofs.SentLemmas.{cr_nul_front, unescaped_front, unescaped_lacking}
+use Rattle.unftp_control_line_parser.specs.Values.{stops, unescaped, begins_with_cr_nul, begins_with_line_end, IsFirstLen, IsLaterLen, IsRunEnd, Resumes}
+use Rattle.unftp_control_line_parser.proofs.SentLemmas.{Resumes-byte, cr_nul_front, unescaped_front, unescaped_lacking}
 
 option_nil : (o : Option Bytes) → o ≡ option_map (λ w. [] ++ w) o
 option_nil None = refl
@@ -113,3 +114,16 @@ pub lens_added : (len n : ℕ) (later : Option ℕ)
     ≡ option_map (λ m. len + n + m) later
 lens_added len n None = refl
 lens_added len n (Some m) = ap Some (omega arith)
+
+-- a value goes on after a part that is written as it is, and CR NUL
+pub Resumes-part : (parameter : Bytes) (n : ℕ) → begins_with_cr_nul parameter ≡ false
+    → IsRunEnd Fresh (drop 1 parameter) n → begins_with_line_end (drop (1 + n) parameter) ≡ false
+    → begins_with_cr_nul (drop (1 + n) parameter) ≡ true → Resumes parameter (1 + n + 2)
+Resumes-part parameter n unread run no_end cr_nul later is =
+    let back = drop-drop n 1 parameter in
+    let sum : 1 + (n + 2) ≡ 1 + n + 2 = omega arith in
+    subst (IsFirstLen parameter)
+    (lens_added 1 (n + 2) later ∙ ap (λ front. option_map (λ m. front + m) later) sum)
+    (Resumes-byte parameter unread (option_map (λ m. n + 2 + m) later)
+    (IsLaterLen-cr_nul (drop 1 parameter) n run (rw back no_end) (rw back cr_nul) later
+    (rw (back, drop-drop 2 (1 + n) parameter) is)))

@@ -1,10 +1,10 @@
 -- Bytes that are sent for a value.
-use Rattle.std.proofs.Common.{◌≡◌, ◌≢◌, ℕ, ◌+◌, ◌≤◌, ◌<◌, Bool, true, false, cond, Some, ◌==◌, ◌&&◌, [], ◌∷◌, ◌++◌, length, take, drop, get_or, refl, sym, ap, subst, ◌∙◌, arith, append_assoc, append-nil, length-drop, ne_eqb, eqb-true, take_all, drop-cons, zero, suc}
+use Rattle.std.proofs.Common.{◌≡◌, ◌≢◌, ℕ, ◌+◌, ◌≤◌, ◌<◌, Bool, true, false, cond, Option, Some, None, option_map, ◌==◌, ◌&&◌, [], ◌∷◌, ◌++◌, length, take, drop, get_or, refl, sym, ap, subst, ◌∙◌, arith, append_assoc, append-nil, length-drop, ne_eqb, eqb-true, take_all, drop-cons, zero, suc}
 use Rattle.std.proofs.lemmas.List.{take-append-drop, take_more}
 use Rattle.std.proofs.lemmas.Bool.{and_parts, false≢true}
 use Rattle.unftp_control_defs.specs.Bytes.{Bytes, NUL, CR, Lacks}
-use Rattle.unftp_control_defs.specs.ComputedValue.{Fresh, byte_then, first_value, later_value}
-use Rattle.unftp_control_line_parser.specs.Values.{unescaped, begins_with_cr_nul, first_unit_len, after_nul, IsLaterLen}
+use Rattle.unftp_control_defs.specs.ComputedValue.{byte_then}
+use Rattle.unftp_control_line_parser.specs.Values.{unescaped, begins_with_cr_nul, first_unit_len, after_nul, IsFirstLen, IsLaterLen, Resumes}
 
 pub unescaped_byte : (a : ℕ) (bytes : Bytes) → a ≢ CR → unescaped (a ∷ bytes) ≡ a ∷ unescaped bytes
 unescaped_byte a [] h = refl
@@ -108,22 +108,27 @@ unescaped_step (a ∷ b ∷ bytes) some = by_test ((a == CR) && (b == NUL)) refl
         (sym (eqb-true a CR (and_parts (a == CR) (b == NUL) e).0))
     by_test false e = refl
 
--- the value, from its first unit and what comes after it
-pub first_value-sent : (parameter : Bytes) (n : ℕ)
-    → IsLaterLen (drop (first_unit_len parameter) parameter) (Some n)
-    → first_value (get_or parameter 0 0) (drop 1 parameter)
-    ≡ Some (unescaped (take (first_unit_len parameter + n) parameter))
-first_value-sent [] n is = let none = is.1 in cc
-first_value-sent (a ∷ []) n is = let none = is.1 in cc
-first_value-sent (a ∷ b ∷ bytes) n is = by_test ((a == CR) && (b == NUL)) refl n is
+-- a value goes on after a CR NUL that comes first
+pub Resumes-cr_nul : (parameter : Bytes) → begins_with_cr_nul parameter ≡ true → Resumes parameter 2
+Resumes-cr_nul parameter begins later is = subst
+    (λ bytes. IsFirstLen bytes (option_map (λ m. 2 + m) later))
+    (sym (cr_nul_front parameter begins)) (after later is)
   where
-    by_test : (test : Bool) → ((a == CR) && (b == NUL)) ≡ test → (n : ℕ)
-        → IsLaterLen (drop (cond test 2 1) (a ∷ b ∷ bytes)) (Some n)
-        → cond test (byte_then CR (later_value Fresh bytes))
-        (byte_then a (later_value Fresh (b ∷ bytes)))
-        ≡ Some (unescaped (take (cond test 2 1 + n) (a ∷ b ∷ bytes)))
-    by_test true e n is = let sum : 2 + n ≡ suc (suc n) = omega arith in
-        ap (byte_then CR) is.1 ∙ rw (sum, e) refl
-    by_test false e zero is = ap (byte_then a) is.1
-    by_test false e (suc n) is = let sum : 1 + suc n ≡ suc (suc n) = omega arith in
-        ap (byte_then a) is.1 ∙ rw (sum, e) refl
+    after : (later : Option ℕ) → IsLaterLen (drop 2 parameter) later
+        → IsFirstLen (CR ∷ NUL ∷ drop 2 parameter) (option_map (λ m. 2 + m) later)
+    after None is = ap (byte_then CR) is
+    after (Some n) is = let sum : 2 + n ≡ suc (suc n) = omega arith in
+        (omega (arith, is.0), ap (byte_then CR) is.1 ∙ rw sum refl)
+
+-- after another first byte it goes on as after a CR NUL
+pub Resumes-byte : (parameter : Bytes) → begins_with_cr_nul parameter ≡ false → Resumes parameter 1
+Resumes-byte [] unread None is = refl
+Resumes-byte [] unread (Some n) is = let none = is.1 in cc
+Resumes-byte (a ∷ []) unread None is = refl
+Resumes-byte (a ∷ []) unread (Some n) is = let none = is.1 in cc
+Resumes-byte (a ∷ b ∷ bytes) unread None is = rw unread (ap (byte_then a) is)
+Resumes-byte (a ∷ b ∷ bytes) unread (Some zero) is =
+    (omega arith, rw unread (ap (byte_then a) is.1))
+Resumes-byte (a ∷ b ∷ bytes) unread (Some (suc n)) is =
+    let sum : 1 + suc n ≡ suc (suc n) = omega arith in
+    (omega (arith, is.0), rw (sum, unread) (ap (byte_then a) is.1))

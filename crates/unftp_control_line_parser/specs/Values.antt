@@ -1,7 +1,7 @@
 -- What the parts of a parameter's reading answer.
-use Rattle.std.specs.Prelude.{◌≡◌, ℕ, ◌<◌, ◌≤◌, ◌==◌, ◌||◌, Bool, true, false, ◌&&◌, if◌then◌else◌, [], ◌∷◌, ◌++◌, length, take, drop, slice_index, Option, Some, option_map, None}
+use Rattle.std.specs.Prelude.{◌≡◌, ℕ, ◌+◌, ◌<◌, ◌≤◌, ◌==◌, ◌||◌, Bool, true, false, ◌&&◌, if◌then◌else◌, [], ◌∷◌, ◌++◌, length, take, drop, slice_index, Option, Some, option_map, None}
 use Rattle.unftp_control_defs.specs.Bytes.{Bytes, CR, LF, NUL, Lacks}
-use Rattle.unftp_control_defs.specs.ComputedValue.{Context, later_value, Fresh, Plain}
+use Rattle.unftp_control_defs.specs.ComputedValue.{Context, first_value, later_value, Fresh, Plain}
 use Rattle.unftp_control_line_parser.specs.declared.value.Value.{Value}
 use Rattle.unftp_control_line_parser.specs.declared.value.Value.TheVariants as sent
 
@@ -20,12 +20,26 @@ abbrev pub value_bytes : Value → Bytes
 value_bytes (sent.Plain bytes) = bytes.now
 value_bytes (sent.Escaped bytes) = unescaped bytes.now
 
--- So many bytes are sent for a value that goes on directly after the first unit or a CR NUL; there
--- is none before an invalid line ending.
+-- So many bytes are sent for what is read of bytes; there is none before an invalid line ending.
+abbrev IsSentLen : (Bytes → Option Bytes) → Bytes → Option ℕ → Type 0
+IsSentLen read bytes None = read bytes ≡ None
+IsSentLen read bytes (Some n) = (n ≤ length bytes) × (read bytes ≡ Some (unescaped (take n bytes)))
+
+-- what comes directly after the first unit of a value or a CR NUL
 abbrev pub IsLaterLen : Bytes → Option ℕ → Type 0
-IsLaterLen bytes None = later_value Fresh bytes ≡ None
-IsLaterLen bytes (Some n) =
-    (n ≤ length bytes) × (later_value Fresh bytes ≡ Some (unescaped (take n bytes)))
+IsLaterLen bytes later = IsSentLen (later_value Fresh) bytes later
+
+-- the value of a parameter that is not empty
+abbrev pub first_value_of : Bytes → Option Bytes
+first_value_of bytes = first_value (slice_index bytes 0) (drop 1 bytes)
+
+abbrev pub IsFirstLen : Bytes → Option ℕ → Type 0
+IsFirstLen bytes len = IsSentLen first_value_of bytes len
+
+-- After so many bytes of a parameter its value goes on as after a CR NUL.
+abbrev pub Resumes : Bytes → ℕ → Type 0
+Resumes bytes n = (later : Option ℕ) → IsLaterLen (drop n bytes) later
+    → IsFirstLen bytes (option_map (λ m. n + m) later)
 
 -- what ends a run of bytes that are written as they are
 abbrev pub stops : ℕ → Bool

@@ -1,7 +1,7 @@
 //! The value of a parameter.
-ghost use Rattle.std.specs.Prelude.{◌≡◌, ◌≤◌, ◌<◌, ◌==◌, ◌↔◌, IsTrue, IfOk, option_map, length, slice_index, take, drop, []};
-ghost use Rattle.unftp_control_defs.specs.ComputedValue.{first_value, value_of};
-ghost use Rattle.unftp_control_line_parser.specs.Values.{after_nul, begins_with_cr_nul, begins_with_line_end, first_unit_len, IsPlainEnd, IsFreshEnd, IsLaterLen, sent_bytes, unescaped, value_bytes};
+ghost use Rattle.std.specs.Prelude.{◌≡◌, ◌≤◌, ◌==◌, ◌↔◌, IsTrue, IfOk, option_map, length, take, []};
+ghost use Rattle.unftp_control_defs.specs.ComputedValue.{value_of};
+ghost use Rattle.unftp_control_line_parser.specs.Values.{after_nul, begins_with_cr_nul, begins_with_line_end, first_unit_len, first_value_of, Resumes, IsPlainEnd, IsFreshEnd, IsLaterLen, sent_bytes, unescaped, value_bytes};
 
 use memchr::{memchr, memchr2};
 use std::alloc::{AllocError, Global};
@@ -129,10 +129,11 @@ pub fn parameter_value<'a>(parameter: &'a [u8]) -> Option<Value<'a>>
         return Some(Value::Plain(first));
     }
     if begins_with_cr_nul(parameter) {
-        return escaped_value(parameter);
+        return escaped_value(parameter, 2);
     }
     // the usual case: there is no CR within the value
-    let (value, after) = parameter.split_at(1 + fresh_len(rest));
+    let end = 1 + fresh_len(rest);
+    let (value, after) = parameter.split_at(end);
     if begins_with_line_end(after) {
         return Some(Value::Plain(value));
     }
@@ -140,7 +141,18 @@ pub fn parameter_value<'a>(parameter: &'a [u8]) -> Option<Value<'a>>
     if !begins_with_cr_nul(after) {
         return None;
     }
-    escaped_value(parameter)
+    escaped_value(parameter, end + 2)
+}
+
+/// The value of a parameter, as it is sent, which goes on after a first CR NUL.
+fn escaped_value<'a>(parameter: &'a [u8], front: usize) -> Option<Value<'a>>
+    requires within { front ≤ length parameter.now }
+    requires goes_on { Resumes parameter.now front }
+    ensures { option_map value_bytes result ≡ first_value_of parameter.now }
+{
+    let (_, later) = parameter.split_at(front);
+    let (sent, _) = parameter.split_at(front + later_len(later)?);
+    Some(Value::Escaped(sent))
 }
 
 /// How many bytes are sent for the first byte of the value.
@@ -148,18 +160,6 @@ fn first_unit_len(bytes: &[u8]) -> usize
     ensures { result ≡ first_unit_len bytes.now }
 {
     if begins_with_cr_nul(bytes) { 2 } else { 1 }
-}
-
-/// The value of a parameter that is not empty, as it is sent.
-fn escaped_value<'a>(parameter: &'a [u8]) -> Option<Value<'a>>
-    requires { 0 < length parameter.now }
-    ensures { option_map value_bytes result
-        ≡ first_value (slice_index parameter.now 0) (drop 1 parameter.now) }
-{
-    let unit = first_unit_len(parameter);
-    let (_, later) = parameter.split_at(unit);
-    let (sent, _) = parameter.split_at(unit + later_len(later)?);
-    Some(Value::Escaped(sent))
 }
 
 /// The bytes without a NUL at the start.

@@ -194,6 +194,7 @@ pub fn a_limit_counts()
         (limited_to 1 (closed only_anna 0)) (Command Noop ∷ pass wrong ∷ Command Noop ∷ []) }
     ensures not_last { EndsWith too_many (limited_law (gated_law counting))
         (limited_to 2 (closed only_anna 0)) (pass wrong ∷ []) → ⊥ }
+    ensures not_ended { EndsWith here counting 0 (Command Noop ∷ []) → ⊥ }
     ensures preliminary { replies (limited_law refusing) (limited_to 2 [])
         (pass wrong ∷ Command Noop ∷ pass wrong ∷ [])
         ≡ opened ∷ not_accepted ∷ not_accepted ∷ opened ∷ not_accepted ∷ not_accepted ∷ opened

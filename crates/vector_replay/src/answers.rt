@@ -70,11 +70,7 @@ impl Answers {
 
     /// Writes a text between quotes, and ` alike` where it is the same under flags.
     pub fn put_text(&mut self, plain: impl Display + Drop, flagged: impl Display + Drop) {
-        self.plain.clear();
-        self.flagged.clear();
-        let is_plain = write!(self.plain, "{plain}").is_ok();
-        let is_flagged = write!(self.flagged, "{flagged}").is_ok();
-        if is_plain && is_flagged {
+        if fill(&mut self.plain, plain) && fill(&mut self.flagged, flagged) {
             let written = write!(self.out, "{}", Quoted(self.plain.as_bytes()));
             let is_alike = self.plain == self.flagged;
             self.note(written);
@@ -115,9 +111,8 @@ impl Answers {
     /// A session ran out of memory, whose calls ended so and have written this, and is made again.
     pub fn out_of_memory_after(&mut self, ends: &[End], written: &[u8]) {
         self.mark(format_args!("out of memory {}", Quoted(written)));
-        for end in ends {
-            self.mark(format_args!(" | {end}"));
-        }
+        ends.iter()
+            .for_each(|end| self.mark(format_args!(" | {end}")));
         self.mark("\n");
     }
 
@@ -136,6 +131,12 @@ impl Answers {
     pub fn flush(&mut self) -> io::Result<()> {
         self.out.flush()
     }
+}
+
+/// Makes this the text; whether there was room.
+fn fill(text: &mut String, shown: impl Display + Drop) -> bool {
+    text.clear();
+    write!(text, "{shown}").is_ok()
 }
 
 /// An error that may say that memory ran out.

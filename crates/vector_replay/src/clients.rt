@@ -64,33 +64,51 @@ fn send_command(
     is_sent
 }
 
+/// Makes an act of a client with these bytes.
+fn make_act(
+    client: &mut Client,
+    act: &str,
+    bytes: &[u8],
+    out: &mut Vec<u8>,
+    answers: &mut Answers,
+) -> Answered {
+    let is_done = match act {
+        "receive" => {
+            client.feed(bytes, answers);
+            true
+        }
+        "send" => client.send_line(bytes, out).is_ok(),
+        "command" => send_command(client, bytes, out, answers),
+        _ => return Err(CaseError::NoCase),
+    };
+    answers.put_where(!is_done, "not sent | ");
+    Ok(())
+}
+
+/// Makes the acts of a client.
+fn make_acts(client: &mut Client, acts: &[Word<'_>], answers: &mut Answers) -> Answered {
+    let mut out = Vec::with_capacity(answers.alloc, ROOM)?;
+    answers.begin();
+    let mut act = "receive";
+    for word in acts {
+        match word {
+            Word::Bare(name) => act = *name,
+            Word::Bytes(bytes) => {
+                make_act(client, act, bytes.as_slice(), &mut out, answers)?;
+                act = "receive";
+            }
+        }
+    }
+    Ok(())
+}
+
 /// `client LIMIT ACT..`: `send` and a line, `command` and the line of one, or a piece that comes.
 pub fn answer_client(limit: &Word<'_>, acts: &[Word<'_>], answers: &mut Answers) -> Answered {
     let mut client = match limit.limit()? {
         Some(limit) => Client::with_limit(answers.alloc, limit),
         None => Client::new(answers.alloc),
     };
-    let mut out = Vec::with_capacity(answers.alloc, ROOM)?;
-    answers.begin();
-    let mut act = "receive";
-    for word in acts {
-        if let Word::Bare(name) = word {
-            act = *name;
-            continue;
-        }
-        let bytes = word.bytes()?;
-        let is_done = match act {
-            "receive" => {
-                client.feed(bytes, answers);
-                true
-            }
-            "send" => client.send_line(bytes, &mut out).is_ok(),
-            "command" => send_command(&mut client, bytes, &mut out, answers),
-            _ => return Err(CaseError::NoCase),
-        };
-        answers.put_where(!is_done, "not sent | ");
-        act = "receive";
-    }
+    make_acts(&mut client, acts, answers)?;
     client.put_left(answers);
     Ok(())
 }

@@ -172,10 +172,9 @@ fn put_failed(error: ControlChanError, answers: &mut Answers) {
     answers.put("failed");
 }
 
-/// `reply LINE SETTING..`, but for MLST
-pub fn answer_reply(line: &[u8], settings: &[Word<'_>], answers: &mut Answers) -> Answered {
+/// Writes the reply to a line, of a server with these settings.
+fn answer_of(line: &[u8], settings: Settings, answers: &mut Answers) -> Answered {
     let mut buf = Vec::with_capacity(answers.alloc, ROOM)?;
-    let settings = Settings::read(settings)?;
     answers.begin();
     match once_more!(answers, reply_to(answers.alloc, line, settings)) {
         Ok(Some((reply, change))) => {
@@ -216,24 +215,35 @@ fn put_listed(
     }
 }
 
-/// `reply LINE cwd PATH FOUND..`, where the line is one of MLST, and what was found is a file or
-/// `fault` and its text
-pub fn answer_mlst(line: &[u8], cwd: &str, found: &[Word<'_>], answers: &mut Answers) -> Answered {
+/// The MLST that a line is.
+fn read_mlst(alloc: Global, line: &[u8]) -> Result<Mlst, CaseError> {
+    match parse(alloc, line) {
+        Ok(Command::Mlst { path }) => Ok(Mlst::new(path)),
+        _ => Err(CaseError::NoCase),
+    }
+}
+
+/// Writes the reply to MLST, where what was found is a file or `fault` and its text.
+fn answer_mlst(mlst: &Mlst, cwd: &str, found: &[Word<'_>], answers: &mut Answers) -> Answered {
     let mut buf = Vec::with_capacity(answers.alloc, ROOM)?;
-    let Ok(command) = parse(answers.alloc, line) else {
-        return Err(CaseError::NoCase);
-    };
-    let Command::Mlst { path } = command else {
-        return Err(CaseError::NoCase);
-    };
-    let mlst = Mlst::new(path);
     let (file, fault) = match found {
         [Word::Bare("fault"), fault] => (None, fault.text()?),
         file => (Some(File::read(file)?), ""),
     };
     answers.begin();
-    put_listed(&mlst, cwd, &file, fault, &mut buf, answers);
+    put_listed(mlst, cwd, &file, fault, &mut buf, answers);
     Ok(())
+}
+
+/// `reply LINE SETTING..`, or `reply LINE cwd PATH FOUND..` where the line is one of MLST
+pub fn answer_reply(line: &[u8], given: &[Word<'_>], answers: &mut Answers) -> Answered {
+    match given {
+        [Word::Bare("cwd"), cwd, found @ ..] => {
+            let mlst = read_mlst(answers.alloc, line)?;
+            answer_mlst(&mlst, cwd.text()?, found, answers)
+        }
+        settings => answer_of(line, Settings::read(settings)?, answers),
+    }
 }
 
 /// `epsv PORT`

@@ -109,16 +109,23 @@ struct Slicing {
 }
 
 impl Slicing {
-    /// What `decode_slice` returns of the bytes that are left; once more where memory ran out.
-    fn next_command(&mut self, answers: &mut Answers) -> (usize, Decoded) {
+    /// What `decode_slice` returns of the bytes that are left.
+    fn decode(&mut self) -> (usize, Decoded) {
         let (_, rest) = self.bytes.as_slice().split_at(self.start);
-        let (mut taken, mut decoded) = self.codec.decode_slice(self.alloc, rest);
-        if is_out_of_memory(&decoded) {
-            answers.out_of_memory();
-            (taken, decoded) = self.codec.decode_slice(self.alloc, rest);
-        }
+        let (taken, decoded) = self.codec.decode_slice(self.alloc, rest);
         self.start += taken;
         (taken, decoded)
+    }
+
+    /// The same, once more where memory ran out.
+    fn next_command(&mut self, answers: &mut Answers) -> (usize, Decoded) {
+        let (taken, decoded) = self.decode();
+        if !is_out_of_memory(&decoded) {
+            return (taken, decoded);
+        }
+        drop(decoded);
+        answers.out_of_memory();
+        self.decode()
     }
 
     /// Writes how many bytes a call took, and what the codec is then.

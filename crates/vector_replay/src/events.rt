@@ -76,16 +76,30 @@ pub fn answer_events(
     make_steps(&mut Events { decoder, has_lines }, steps, answers)
 }
 
+/// Appends what a log has of the event of a line; or the answer where memory ran out.
+fn append_logged(
+    event: &Event,
+    line: &[u8],
+    buf: &mut Vec<u8>,
+    answers: &mut Answers,
+) -> Option<&'static str> {
+    match once_more!(answers, write_log_line(event, line, buf)) {
+        Ok(()) => None,
+        Err(_) => Some("failed"),
+    }
+}
+
 /// `log LIMIT LINE`
 pub fn answer_log(limit: &Word<'_>, line: &Word<'_>, answers: &mut Answers) -> Answered {
     let mut decoder = read_decoder(limit, answers)?;
     decoder.push(line.bytes()?)?;
-    let event = decoder.next_event()?.ok_or(CaseError::NoCase)?;
     let mut buf = Vec::from_slice(answers.alloc, b"x")?;
+    let Some(event) = decoder.next_event()? else {
+        return Err(CaseError::NoCase);
+    };
     answers.begin();
-    let logged = once_more!(answers, write_log_line(&event, decoder.line(), &mut buf));
+    let failure = append_logged(&event, decoder.line(), &mut buf, answers);
     drop(event);
-    let failure = if logged.is_ok() { None } else { Some("failed") };
     answers.put_appended(failure, buf.as_slice());
     Ok(())
 }

@@ -61,12 +61,7 @@ fn answer_reply_call(call: &str, words: &[Word<'_>], answers: &mut Answers) -> A
         ("read", [bytes]) => reading::answer_read(bytes.bytes()?, answers),
         ("receive", [limit, steps @ ..]) => reading::answer_receive(limit, steps, answers),
         ("client", [limit, acts @ ..]) => clients::answer_client(limit, acts, answers),
-        ("reply", [line, Word::Bare("cwd"), cwd, found @ ..]) => {
-            commands::answer_mlst(line.bytes()?, cwd.text()?, found, answers)
-        }
-        ("reply", [line, settings @ ..]) => {
-            commands::answer_reply(line.bytes()?, settings, answers)
-        }
+        ("reply", [line, given @ ..]) => commands::answer_reply(line.bytes()?, given, answers),
         ("epsv", [port]) => commands::answer_epsv(port, answers),
         ("facts", file) => commands::answer_facts(file, answers),
         ("password_from_text", [text]) => texts::answer_password(text.text()?, answers),
@@ -98,13 +93,19 @@ fn answer_line(line: &str, answers: &mut Answers) -> io::Result<()> {
     answers.end_line()
 }
 
+/// Answers the lines of a reader.
+fn answer_lines<R: BufRead + Drop>(reader: R, answers: &mut Answers) -> io::Result<()> {
+    for line in reader.lines(answers.alloc) {
+        answer_line(line?.as_str(), answers)?;
+    }
+    answers.flush()
+}
+
 /// Answers standard input, with marks where an argument asks for them.
 fn replay(rt: &HostRuntime) -> io::Result<()> {
     let mut answers = Answers::new(rt, env::args(rt)?.nth(1).is_some())?;
-    for line in BufReader::new(answers.alloc, rt.reader())?.lines(answers.alloc) {
-        answer_line(line?.as_str(), &mut answers)?;
-    }
-    answers.flush()
+    let reader = BufReader::new(answers.alloc, rt.reader())?;
+    answer_lines(reader, &mut answers)
 }
 
 fn main(rt: HostRuntime) -> ExitCode {

@@ -88,20 +88,26 @@ impl<'a> SessionCase<'a> {
         Room::new(held, turns)
     }
 
+    /// Serves what the reader gives.
+    fn serve_once<H: Session>(
+        &self,
+        reader: &mut Input<Pieces<'a>>,
+        writer: &mut Output<Room<'a>>,
+        handler: &mut H,
+    ) -> End {
+        End::of_serve(match self.limit() {
+            None => serve(self.alloc, reader, writer, handler),
+            Some(limit) => serve_with_limit(self.alloc, limit, reader, writer, handler),
+        })
+    }
+
     /// Serves the bytes, and once more where that is asked for.
     fn serve<H: Session>(&self, handler: &mut H, room: Room<'a>, mut ends: Ends) -> Run<'a> {
         let mut reader = Input::new(Pieces::new(self.first, self.turns("reads=")));
         let mut writer = Output::new(room);
-        for _ in 0..=usize::from(self.has("again")) {
-            let served = match self.limit() {
-                None => serve(self.alloc, &mut reader, &mut writer, handler),
-                Some(limit) => {
-                    serve_with_limit(self.alloc, limit, &mut reader, &mut writer, handler)
-                }
-            };
-            if ends.note(End::of_serve(served)) {
-                break;
-            }
+        let is_over = ends.note(self.serve_once(&mut reader, &mut writer, handler));
+        if !is_over && self.has("again") {
+            let _ = ends.note(self.serve_once(&mut reader, &mut writer, handler));
         }
         let Pieces { reads, rest, .. } = reader.into_inner();
         Run {
@@ -161,20 +167,35 @@ impl<'a> SessionCase<'a> {
         }
     }
 
-    /// Answers the session by this handler. Where memory ran out, it is made again from the start.
-    fn answer_by<H: Tried<'a>>(&self, buffer: Vec<u8>, ends: Ends, answers: &mut Answers) {
+    /// Makes all calls of the session, with what the handler is then. Where memory ran out, they are
+    /// made again from the start.
+    fn tried<H: Tried<'a>>(
+        &self,
+        answers: &mut Answers,
+    ) -> Result<(Counting<H>, Run<'a>), CaseError> {
+        let ends = Ends::with_room(self.alloc, self.pieces.len())?;
+        let buffer = Vec::with_capacity(self.alloc, self.reserved())?;
+        answers.begin();
         let mut handler = self.start::<H>();
-        let mut run = self.run(&mut handler, self.room(buffer), ends);
-        if run.ends.is_out_of_memory {
-            answers.out_of_memory_after(run.ends.ends.as_slice(), run.room.held.as_slice());
-            let Run { room, mut ends, .. } = run;
-            ends.clear();
-            handler = self.start::<H>();
-            run = self.run(&mut handler, self.room(room.into_held()), ends);
+        let run = self.run(&mut handler, self.room(buffer), ends);
+        if !run.ends.is_out_of_memory {
+            return Ok((handler, run));
         }
-        for end in run.ends.ends.as_slice() {
-            answers.put(format_args!("{end} | "));
-        }
+        answers.out_of_memory_after(run.ends.ends.as_slice(), run.room.held.as_slice());
+        let Run { room, mut ends, .. } = run;
+        ends.clear();
+        let mut again = self.start::<H>();
+        let run = self.run(&mut again, self.room(room.into_held()), ends);
+        Ok((again, run))
+    }
+
+    /// Answers the session by this handler.
+    fn answer_by<H: Tried<'a>>(&self, answers: &mut Answers) -> Answered {
+        let (handler, run) = self.tried::<H>(answers)?;
+        run.ends
+            .ends
+            .iter()
+            .for_each(|end| answers.put(format_args!("{end} | ")));
         let written = Quoted(run.room.held.as_slice());
         answers.put(format_args!("written={written} flushed={} ", run.room.flushed));
         answers.put(format_args!("taken={}", handler.taken));
@@ -182,22 +203,19 @@ impl<'a> SessionCase<'a> {
         if self.is_served {
             answers.put(format_args!(" reads={} unread={}", run.reads, Quoted(run.unread)));
         }
+        Ok(())
     }
 
     /// Answers the session.
     fn answer(&self, answers: &mut Answers) -> Answered {
-        let ends = Ends::with_room(self.alloc, self.pieces.len())?;
-        let buffer = Vec::with_capacity(self.alloc, self.reserved())?;
-        answers.begin();
         match self.value("handler=").unwrap_or("demo") {
-            "demo" => self.answer_by::<Responses>(buffer, ends, answers),
-            "okay" => self.answer_by::<Okay<'a>>(buffer, ends, answers),
-            "silent" => self.answer_by::<Silent>(buffer, ends, answers),
-            "echo_error" => self.answer_by::<EchoError>(buffer, ends, answers),
-            "transfers" => self.answer_by::<Transfers<Wire<'a>>>(buffer, ends, answers),
-            _ => return Err(CaseError::NoCase),
+            "demo" => self.answer_by::<Responses>(answers),
+            "okay" => self.answer_by::<Okay<'a>>(answers),
+            "silent" => self.answer_by::<Silent>(answers),
+            "echo_error" => self.answer_by::<EchoError>(answers),
+            "transfers" => self.answer_by::<Transfers<Wire<'a>>>(answers),
+            _ => Err(CaseError::NoCase),
         }
-        Ok(())
     }
 
     /// How many bytes are written before the writer's buffer grows.

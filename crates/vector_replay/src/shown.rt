@@ -11,9 +11,7 @@ pub struct Quoted<'a>(pub &'a [u8]);
 impl Display for Quoted<'_> {
     fn fmt<W: Write>(&self, f: &mut Formatter<W>) -> fmt::Result {
         f.write_str("\"")?;
-        for byte in self.0 {
-            write_escaped(f, *byte)?;
-        }
+        self.0.iter().try_for_each(|byte| write_escaped(f, *byte))?;
         f.write_str("\"")
     }
 }
@@ -80,6 +78,31 @@ fn one_field(command: &Command) -> Option<(&'static str, Field<'_>)> {
     })
 }
 
+/// A variant with two fields of text.
+fn write_two<W: Write>(
+    f: &mut Formatter<W>,
+    names: (&str, &str),
+    fields: (Field<'_>, Field<'_>),
+) -> fmt::Result {
+    let (name, second) = names;
+    write!(f, "{name}={} {second}={}", fields.0, fields.1)
+}
+
+/// A variant whose field has a type of its own.
+fn write_typed<W: Write>(f: &mut Formatter<W>, command: &Command) -> fmt::Result {
+    match command {
+        Command::Stru { structure } => write!(f, "Stru structure={structure:?}"),
+        Command::Mode { mode } => write!(f, "Mode mode={mode:?}"),
+        Command::Opts {
+            option: Opt::Utf8 { on },
+        } => write!(f, "Opts option=Utf8 on={on}"),
+        Command::Auth { protocol } => write!(f, "Auth protocol={protocol:?}"),
+        Command::Prot { param } => write!(f, "Prot param={param:?}"),
+        Command::Rest { offset } => write!(f, "Rest offset={offset}"),
+        command => Debug::fmt(command, f),
+    }
+}
+
 /// A command as its variant and its fields, texts between quotes.
 #[derive(Clone, Copy)]
 pub struct Shown<'a>(pub &'a Command);
@@ -91,41 +114,21 @@ impl Display for Shown<'_> {
         }
         match self.0 {
             Command::List { options, path } => {
-                write!(
-                    f,
-                    "List options={} path={}",
-                    optional(options),
-                    optional(path)
-                )
+                let fields = (optional(options), optional(path));
+                write_two(f, ("List options", "path"), fields)
             }
             Command::Site { command, arguments } => {
-                write!(
-                    f,
-                    "Site command={} arguments={}",
-                    text(command),
-                    text(arguments)
-                )
+                let fields = (text(command), text(arguments));
+                write_two(f, ("Site command", "arguments"), fields)
             }
             Command::Other {
                 command_name,
                 arguments,
             } => {
-                write!(
-                    f,
-                    "Other command_name={} arguments={}",
-                    text(command_name),
-                    text(arguments)
-                )
+                let fields = (text(command_name), text(arguments));
+                write_two(f, ("Other command_name", "arguments"), fields)
             }
-            Command::Stru { structure } => write!(f, "Stru structure={structure:?}"),
-            Command::Mode { mode } => write!(f, "Mode mode={mode:?}"),
-            Command::Opts {
-                option: Opt::Utf8 { on },
-            } => write!(f, "Opts option=Utf8 on={on}"),
-            Command::Auth { protocol } => write!(f, "Auth protocol={protocol:?}"),
-            Command::Prot { param } => write!(f, "Prot param={param:?}"),
-            Command::Rest { offset } => write!(f, "Rest offset={offset}"),
-            command => Debug::fmt(command, f),
+            command => write_typed(f, command),
         }
     }
 }

@@ -36,38 +36,77 @@ fn optional_text(alloc: Global, field: &Word<'_>) -> Result<Option<String>, Case
     }
 }
 
-/// The command of a variant with these fields.
-fn read_command(alloc: Global, variant: &str, fields: &[Word<'_>]) -> Result<Command, CaseError> {
-    Ok(match (variant, fields) {
-        ("User", [name]) => Command::User {
-            username: shared(alloc, name)?,
+/// The command of a variant with this field.
+fn of_field(alloc: Global, variant: &str, field: &Word<'_>) -> Result<Command, CaseError> {
+    Ok(match variant {
+        "User" => Command::User {
+            username: shared(alloc, field)?,
         },
-        ("Stat", [path]) => Command::Stat {
-            path: optional_shared(alloc, path)?,
+        "Stat" => Command::Stat {
+            path: optional_shared(alloc, field)?,
         },
-        ("Retr", [path]) => Command::Retr {
-            path: text(alloc, path)?,
+        "Retr" => Command::Retr {
+            path: text(alloc, field)?,
         },
-        ("Nlst", [path]) => Command::Nlst {
-            path: optional_text(alloc, path)?,
+        "Nlst" => Command::Nlst {
+            path: optional_text(alloc, field)?,
         },
-        ("Md5", [file]) => Command::Md5 {
-            file: text(alloc, file)?,
-        },
-        ("List", [options, path]) => Command::List {
-            options: optional_text(alloc, options)?,
-            path: optional_text(alloc, path)?,
-        },
-        ("Site", [command, arguments]) => Command::Site {
-            command: text(alloc, command)?,
-            arguments: text(alloc, arguments)?,
-        },
-        ("Other", [command_name, arguments]) => Command::Other {
-            command_name: text(alloc, command_name)?,
-            arguments: text(alloc, arguments)?,
+        "Md5" => Command::Md5 {
+            file: text(alloc, field)?,
         },
         _ => return Err(CaseError::NoCase),
     })
+}
+
+/// The command of LIST with these fields.
+fn listing(alloc: Global, options: &Word<'_>, path: &Word<'_>) -> Result<Command, CaseError> {
+    Ok(Command::List {
+        options: optional_text(alloc, options)?,
+        path: optional_text(alloc, path)?,
+    })
+}
+
+/// The command of a variant with a name and arguments.
+fn of_name(
+    alloc: Global,
+    variant: &str,
+    name: &Word<'_>,
+    arguments: &Word<'_>,
+) -> Result<Command, CaseError> {
+    let arguments = text(alloc, arguments)?;
+    match variant {
+        "Site" => Ok(Command::Site {
+            command: text(alloc, name)?,
+            arguments,
+        }),
+        "Other" => Ok(Command::Other {
+            command_name: text(alloc, name)?,
+            arguments,
+        }),
+        _ => Err(CaseError::NoCase),
+    }
+}
+
+/// The command of a variant with these fields.
+fn read_command(alloc: Global, variant: &str, fields: &[Word<'_>]) -> Result<Command, CaseError> {
+    match fields {
+        [field] => of_field(alloc, variant, field),
+        [options, path] if variant == "List" => listing(alloc, options, path),
+        [name, arguments] => of_name(alloc, variant, name, arguments),
+        _ => Err(CaseError::NoCase),
+    }
+}
+
+/// Appends the command's line; or the answer where there is none.
+fn append_line(
+    command: &Command,
+    buf: &mut Vec<u8>,
+    answers: &mut Answers,
+) -> Option<&'static str> {
+    match once_more!(answers, write_command(command, buf)) {
+        Ok(()) => None,
+        Err(_) => Some("no-line"),
+    }
 }
 
 /// `write COMMAND FIELD..`
@@ -76,13 +115,8 @@ pub fn answer_write(variant: &Word<'_>, fields: &[Word<'_>], answers: &mut Answe
     let variant = variant.name().ok_or(CaseError::NoCase)?;
     let command = read_command(answers.alloc, variant, fields)?;
     answers.begin();
-    let written = once_more!(answers, write_command(&command, &mut buf));
+    let failure = append_line(&command, &mut buf, answers);
     drop(command);
-    let failure = if written.is_ok() {
-        None
-    } else {
-        Some("no-line")
-    };
     answers.put_appended(failure, buf.as_slice());
     Ok(())
 }
@@ -103,9 +137,9 @@ fn put_read_back(command: Command, line: Vec<u8>, answers: &mut Answers) {
 /// Writes the command's line, and what that is read as.
 fn put_canonical(command: Command, answers: &mut Answers) {
     let mut line = Vec::new(answers.alloc);
-    if once_more!(answers, write_command(&command, &mut line)).is_err() {
+    if let Some(failure) = append_line(&command, &mut line, answers) {
         drop(command);
-        answers.put("no-line");
+        answers.put(failure);
         return;
     }
     answers.put(format_args!("{} is ", Quoted(line.as_slice())));
