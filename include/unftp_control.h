@@ -239,7 +239,8 @@ struct unftp_found_reply {
  * bytes stay pending then.
  *
  * At UNFTP_OUT_OF_MEMORY, UNFTP_NO_ROOM and UNFTP_INVALID_ARGUMENT nothing is used up, and the
- * connection and the area are as they were.
+ * connection and the area are as they were. Memory is taken only where a name or a value is not in
+ * the line as it is given: a name in lower case, or a value with CR NUL or ill-formed UTF-8.
  */
 enum unftp_result unftp_next(struct unftp_connection *connection,
                              const char *bytes, size_t bytes_len,

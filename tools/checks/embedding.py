@@ -17,7 +17,7 @@ usage: tools/checks/embedding.py sessions|session SERVER..        the replies of
                                                              tools/checks/results.c
        tools/checks/embedding.py calls CALLS..                      what the header says of rooms and lengths: CALLS is tools/checks/calls.c
        tools/checks/embedding.py stack STACK                        what it says of the stack: STACK is tools/checks/stack.c
-       tools/checks/embedding.py allocations ALLOCATIONS            unftp_next asks for memory as often as parse does, so it parses a line once:
+       tools/checks/embedding.py allocations ALLOCATIONS            unftp_next asks for memory as often as parse does, or never where the line has the name and the value:
                                                              ALLOCATIONS is tools/checks/allocations.c
 
 SERVER.., REPLAY.. and CALLS.. may be the program and what runs it. The last line says what was compared; the status is 0 where all is right.
@@ -436,7 +436,7 @@ def header_numbers():
 
 def check_numbers():
     """The definitions' numbers, which the contracts tie to the code, are those of the header, and those of bindings/rust are among them."""
-    commands = numbers_in("crates/unftp_control_defs/specs/NameAndValue.antt", r"^command_number \(?(\w+).* = (\d+)$")
+    commands = numbers_in("crates/unftp_control_defs/specs/Rules.antt", r"^row verb\.(\w+) = entry (\d+) ")
     statuses = numbers_in("crates/unftp_control_c/specs/Numbers.antt", r"^status_number (\w+) = (\d+)$")
     declared = header_numbers()
     wants_numbers("the header", declared, {**commands, **statuses})
@@ -654,13 +654,28 @@ def check_results(program):
     return f"{len(known)} results with a text"
 
 
+def is_in_line(line):
+    """Whether the name and the value of a line's command are in it as they are: there is no CR NUL, no ill-formed UTF-8, and no small letter in
+    the verb or the subcommand."""
+    words = line.split(maxsplit=2)[:2] if line[:5].upper() == b"SITE " else line.split(maxsplit=1)[:1]
+    try:
+        line.decode()
+    except UnicodeDecodeError:
+        return False
+    return b"\r\0" not in line and all(word == word.upper() for word in words)
+
+
 def check_allocations(program):
-    """The lines among the rows by hand whose one line feed is their last byte: how often parse asks for memory is in their rows."""
+    """The lines among the rows by hand whose one line feed is their last byte: how often parse asks for memory is in their rows. unftp_next asks as
+    often at a value with CR NUL, never at a line that has its command's name and value, and else never or as often."""
     parsed = [(unquoted(line), number) for _, number, call, line, *_ in columns("worked.tsv") if call == "parse"]
     lines, numbers = zip(*[(line, number) for line, number in parsed if line.find(b"\n") == len(line) - 1 >= 0])
     for line, number, found in zip(lines, numbers, said_of([program], lines).splitlines(), strict=True):
-        wants(f"how often memory is asked for at {line!r}", found, number)
-    return f"{len(lines)} lines, of which {len(lines) - numbers.count('0')} take memory"
+        wanted = ["0"] if is_in_line(line) else [number] if b"\r\0" in line else ["0", number]
+        if found not in wanted:
+            raise Wrong(f"how often memory is asked for at {line!r}: {found}, and not {' or '.join(wanted)}")
+    in_line = sum(number != "0" for line, number in zip(lines, numbers) if is_in_line(line))
+    return f"{len(lines)} lines, of which {in_line} take memory only as a command of its own"
 
 
 CHECKS = {

@@ -14,7 +14,8 @@ use Rattle.unftp_control.specs.Endings.{AllAnswered, NoRoom, RunFailed, Snapshot
 use Rattle.unftp_control.specs.Engine.{EngineState, IsRunning}
 use Rattle.unftp_control.specs.Events.{Command, FtpEvent, events}
 use Rattle.unftp_control.specs.Exchange.{IsOtherError, new_client}
-use Rattle.unftp_control.specs.FtpCommand.{FtpCommand, HasTypedFields}
+use Rattle.unftp_control.specs.FtpCommand.{FtpCommand}
+use Rattle.unftp_control.specs.Said.{HasTypedFields}
 use Rattle.unftp_control.specs.FtpReply.{FtpReply, encoded}
 use Rattle.unftp_control.specs.Lines.{IsLine}
 use Rattle.unftp_control.specs.ReplyReader.{HasFront}

@@ -5,14 +5,14 @@ use Rattle.unftp_control_defs.specs.Bytes.{Bytes}
 use Rattle.unftp_control_defs.specs.Verbs.{Cut, upper}
 use Rattle.unftp_control_defs.specs.ComputedValue.{value_of}
 use Rattle.unftp_control_defs.specs.FtpCommand.{Answer, InvalidUtf8}
-use Rattle.unftp_control_defs.specs.Rules.{rule_of, subcommand_answer}
-use Rattle.unftp_control_defs.specs.Outcome.{answer_by, value_answer, site_answer, outcome}
+use Rattle.unftp_control_defs.specs.Rules.{row_of, subcommand_answer, verbs}
+use Rattle.unftp_control_defs.specs.Outcome.{outcome, site_answer, value_answer, word_answer}
 use Rattle.unftp_control_defs.proofs.CaseLemmas.{is_utf8-upper}
 use Rattle.unftp_control_defs.proofs.VerbLemmas.{Cut-unique}
 
 -- what the line means, from its parts
 abbrev meaning : Bytes → Bytes → Answer
-meaning verb parameter = cond (is_utf8 verb) (answer_by (rule_of (upper verb)) parameter)
+meaning verb parameter = cond (is_utf8 verb) (word_answer (upper verb) (row_of (upper verb) verbs) parameter)
     (Err InvalidUtf8)
 
 abbrev site_meaning : Bytes → Bytes → Answer
@@ -37,7 +37,7 @@ pub outcome-verb_case : {line other verb other_verb parameter : Bytes} → Cut l
     → Cut other other_verb parameter → upper verb ≡ upper other_verb → outcome line ≡ outcome other
 outcome-verb_case {line} {other} {verb} {other_verb} {parameter} a b e =
     outcome-Cut line verb parameter a
-    ∙ (λ i. cond (same_utf8 verb other_verb e i) (answer_by (rule_of (e i)) parameter)
+    ∙ (λ i. cond (same_utf8 verb other_verb e i) (word_answer (e i) (row_of (e i) verbs) parameter)
     (Err InvalidUtf8))
     ∙ sym (outcome-Cut other other_verb parameter b)
 
@@ -57,8 +57,8 @@ site_outcome : {line verb parameter : Bytes} → Cut line verb parameter → upp
 site_outcome {line} {verb} {parameter} cut e =
     let utf8 : is_utf8 verb ≡ is_utf8 (codes "SITE") = sym (is_utf8-upper verb) ∙ ap is_utf8 e in
     outcome-Cut line verb parameter cut
-    ∙ ap (λ t. cond t (answer_by (rule_of (upper verb)) parameter) (Err InvalidUtf8)) utf8
-    ∙ ap (λ t. cond (is_utf8 (codes "SITE")) (answer_by (rule_of t) parameter) (Err InvalidUtf8)) e
+    ∙ ap (λ t. cond t (word_answer (upper verb) (row_of (upper verb) verbs) parameter) (Err InvalidUtf8)) utf8
+    ∙ ap (λ t. cond (is_utf8 (codes "SITE")) (word_answer t (row_of t verbs) parameter) (Err InvalidUtf8)) e
     ∙ site_written parameter
 
 pub outcome-name_case : {line other verb other_verb parameter other_parameter name other_name

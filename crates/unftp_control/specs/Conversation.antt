@@ -6,7 +6,8 @@ use Rattle.unftp_control_defs.specs.Bytes.{Bytes}
 use Rattle.unftp_control_defs.specs.Canonical.{canonical_line, HasLine}
 use Rattle.unftp_control_defs.specs.Events.{exceeds}
 use Rattle.unftp_control_defs.specs.Forwarded.{forwarded_line}
-use Rattle.unftp_control_defs.specs.FtpCommand.{Answer, FtpCommand, HasTypedFields}
+use Rattle.unftp_control_defs.specs.FtpCommand.{Answer, FtpCommand}
+use Rattle.unftp_control_defs.specs.Said.{HasTypedFields}
 use Rattle.unftp_control_defs.specs.FtpReply.{FtpReply, reply_as_read}
 use Rattle.unftp_control_defs.specs.Lines.{IsLine, lines_of, incomplete_line}
 use Rattle.unftp_control_defs.specs.Outcome.{outcome}

@@ -12,6 +12,7 @@ pub use Rattle.unftp_control_defs.specs.ComputedValue
 pub use Rattle.unftp_control_defs.specs.Paths
 pub use Rattle.unftp_control_defs.specs.FtpCommand
 pub use Rattle.unftp_control_defs.specs.Rules
+pub use Rattle.unftp_control_defs.specs.Said
 pub use Rattle.unftp_control_defs.specs.Outcome
 pub use Rattle.unftp_control_defs.specs.Canonical
 pub use Rattle.unftp_control_defs.specs.Forwarded
@@ -31,6 +32,8 @@ pub use Rattle.unftp_control_line_parser.specs.ParseAnswer
 pub use Rattle.unftp_control_line_parser.specs.Memory
 pub use Rattle.unftp_control_message.specs.ParseRefusal
 pub use Rattle.unftp_control_message.specs.ErrorParts
+pub use Rattle.unftp_control_message.specs.PartsMeaning
+pub use Rattle.unftp_control_message.specs.SentValues
 pub use Rattle.unftp_control_message.specs.ErrorMeaning
 pub use Rattle.unftp_control_message.specs.ReplyMeaning
 pub use Rattle.unftp_control_codecs.specs.Codec

@@ -11,7 +11,8 @@ ghost use Rattle.unftp_control_defs.specs.Forwarded.{before_end, forwarded_line,
 ghost use Rattle.unftp_control_defs.specs.TakingSteps.{TakingStep, TakesEvent, AreTakingSteps, all_pushed, all_taken};
 ghost use Rattle.unftp_control_defs.specs.Pieces.{events_in_turn, events_in_turn, replies_in_turn};
 ghost use Rattle.unftp_control_defs.specs.Events.{FtpEvent, Refused, events, exceeds, line_too_long, event_for};
-ghost use Rattle.unftp_control_defs.specs.FtpCommand.{FtpCommand, User, HasTypedFields};
+ghost use Rattle.unftp_control_defs.specs.FtpCommand.{FtpCommand, User};
+ghost use Rattle.unftp_control_defs.specs.Said.{HasTypedFields};
 ghost use Rattle.unftp_control_defs.specs.Run.{as_session, run_for, ends_for, text_for, unread, after_end, ends, last_state, replies, run_of};
 ghost use Rattle.unftp_control_defs.specs.Lines.{IsLine, Lines, lines_of, incomplete_line};
 ghost use Rattle.unftp_control_defs.specs.LossyText.{Character, LossyText, first_part};

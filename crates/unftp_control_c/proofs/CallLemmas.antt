@@ -1,20 +1,19 @@
 -- What a call leaves, by its result.
-use Rattle.std.proofs.Common.{◌≡◌, ◌≢◌, ℕ, ◌*◌, ◌≤◌, Bool, true, false, [], ◌∷◌, ◌++◌, length, take, drop, Some, None, Ok, Err, refl, subst, inl, inr, arith, length-append}
-use Rattle.std.specs.Prelude.{nat_le, ◌==◌, ◌&&◌, ◌||◌, if◌then◌else◌}
-use Rattle.std.proofs.lemmas.Bool.{and_parts, cond_both, eqb-true, le-leb, leb-true, ltb-false}
+use Rattle.std.proofs.Common.{◌≡◌, ◌≢◌, ℕ, ◌*◌, ◌≤◌, Bool, true, false, [], ◌∷◌, ◌++◌, length, take, drop, Ok, Err, refl, subst, inl, inr, arith, length-append}
+use Rattle.std.specs.Prelude.{nat_le}
+use Rattle.std.proofs.lemmas.Bool.{cond_both}
 use Rattle.std.proofs.lemmas.Bool.Decides.{nat_tests}
 use Rattle.std.proofs.lemmas.List.{length-take}
 use Rattle.unftp_control_defs.specs.Bytes.{Bytes}
-use Rattle.unftp_control_defs.specs.Events.{FtpEvent, Refused, event_of, exceeds, line_too_long}
+use Rattle.unftp_control_defs.specs.Events.{FtpEvent, Refused, event_of, line_too_long}
 use Rattle.unftp_control_defs.specs.FtpCommand.{Answer, FtpCommand, User, InvalidCommand, InvalidUtf8, InvalidEol}
-use Rattle.unftp_control_defs.specs.NameAndValue.{command_number}
+use Rattle.unftp_control_defs.specs.Said.{command_number}
 use Rattle.unftp_control_defs.specs.Outcome.{outcome}
 use Rattle.unftp_control_defs.specs.TakingSteps.{TakesEvent}
 use Rattle.unftp_control_codecs.specs.Codec.{Codec, is_too_long}
 use Rattle.unftp_control_codecs.specs.declared.FirstLine.{FirstLine}
 use Rattle.unftp_control_codecs.specs.declared.FirstLine.TheVariants.{Incomplete, TooLong, Complete}
 use Rattle.unftp_control_codecs.proofs.FirstLineLemmas.{CountsLine, Finds}
-use Rattle.unftp_control_codecs.proofs.LineFeedLemmas.{unskipped}
 use Rattle.unftp_control_c.specs.declared.next.Connection.{Connection}
 use Rattle.unftp_control_c.specs.declared.status.Status.TheVariants.{More, NoRoom, OutOfMemory, InvalidArgument}
 use Rattle.unftp_control_c.specs.Next.{Call, Left, Leaves, by_first_line, codec_of, first_of, given_for, given_left, gives, is_valid, kept, line_limit, next_codec, next_of, resumed, used_up, without_room}

@@ -1,22 +1,22 @@
 -- What the codec finds, and what a call of `unftp_next` then leaves.
-use Rattle.std.proofs.Common.{◌≡◌, ◌≢◌, ℕ, ◌≤◌, true, inl, inr, length, take, refl, sym, ◌∙◌, arith}
-use Rattle.std.proofs.lemmas.Bool.{and_parts, le-leb, leb-true}
+use Rattle.std.proofs.Common.{◌≡◌, Ok, Err, ap, ℕ, ◌≤◌, true, inl, inr, length, take, refl, sym, ◌∙◌, arith}
+use Rattle.std.proofs.lemmas.Bool.{le-leb}
 use Rattle.std.proofs.lemmas.Bool.Decides.{nat_tests}
 use Rattle.std.proofs.lemmas.List.{length-take-le}
-use Rattle.std.specs.Prelude.{◌==◌, ◌&&◌, ◌||◌, nat_le}
 use Rattle.unftp_control_defs.specs.Bytes.{Bytes}
 use Rattle.unftp_control_defs.specs.Events.{Fault, Refused, event_of, line_too_long, refusal_fault}
-use Rattle.unftp_control_defs.specs.FtpCommand.{InvalidCommand, InvalidUtf8, InvalidEol}
+use Rattle.unftp_control_defs.specs.FtpCommand.{Answer, InvalidCommand, InvalidUtf8, InvalidEol}
+use Rattle.unftp_control_defs.specs.Said.{Said, IsSaid}
 use Rattle.unftp_control_defs.specs.Outcome.{outcome}
 use Rattle.unftp_control_message.specs.declared.reply.error.parse_error.ParseErrorKind.{ParseErrorKind}
 use Rattle.unftp_control_message.specs.declared.reply.error.parse_error.ParseErrorKind.TheVariants as kind
-use Rattle.unftp_control_line_parser.specs.ParseAnswer.{Refuses}
+use Rattle.unftp_control_line_parser.specs.Memory.{IsRefusal}
 use Rattle.unftp_control_codecs.specs.declared.FirstLine.{FirstLine}
 use Rattle.unftp_control_codecs.specs.declared.FirstLine.TheVariants.{TooLong, Complete}
 use Rattle.unftp_control_codecs.proofs.FirstLineLemmas.{Counts, counts}
-use Rattle.unftp_control_c.specs.declared.status.Status.TheVariants.{LineTooLong, OutOfMemory}
+use Rattle.unftp_control_c.specs.declared.status.Status.TheVariants.{LineTooLong}
 use Rattle.unftp_control_c.specs.Numbers.{fault_status, kind_status}
-use Rattle.unftp_control_c.specs.Next.{Call, Left, Leaves, LeavesLine, at_next_line, by_first_line, codec_of, first_of, given_for, gives, is_valid, next_codec, next_of, resumed, used_up}
+use Rattle.unftp_control_c.specs.Next.{Call, Left, Leaves, LeavesLine, at_next_line, by_first_line, codec_of, first_of, given_for, given_of, gives, is_valid, next_codec, next_of, resumed, used_up}
 
 -- a line that gives no command takes no room
 pub fault_left : (call : Call) (n : ℕ) (fault : Fault)
@@ -24,17 +24,23 @@ pub fault_left : (call : Call) (n : ℕ) (fault : Fault)
     ≡ used_up call (fault_status fault) n (at_next_line call.connection)
 fault_left call n fault = rw (le-leb 0 (length call.area) (omega arith)) refl
 
-pub refused_left : (call : Call) (line : Bytes) (kind : ParseErrorKind) → Refuses (outcome line) kind
-    → kind_status kind ≢ OutOfMemory
+pub refused_left : (call : Call) (line : Bytes) (kind : ParseErrorKind)
+    → IsRefusal (outcome line) kind
     → gives call (length line) (given_for (event_of (outcome line)))
     ≡ used_up call (kind_status kind) (length line) (at_next_line call.connection)
-refused_left call line kind.InvalidCommand refuses some =
+refused_left call line kind.InvalidCommand refuses =
     rw refuses (fault_left call (length line) (refusal_fault InvalidCommand))
-refused_left call line kind.InvalidUtf8 refuses some =
+refused_left call line kind.InvalidUtf8 refuses =
     rw refuses (fault_left call (length line) (refusal_fault InvalidUtf8))
-refused_left call line kind.InvalidEol refuses some =
+refused_left call line kind.InvalidEol refuses =
     rw refuses (fault_left call (length line) (refusal_fault InvalidEol))
-refused_left call line kind.OutOfMemory refuses some = absurd (some refl)
+refused_left call line kind.OutOfMemory refuses = absurd refuses
+
+-- a command is given as it is said
+pub said_given : (answer : Answer) (parts : Said) → IsSaid answer parts
+    → given_for (event_of answer) ≡ given_of parts
+said_given (Ok command) parts says = ap given_of says.1
+said_given (Err refusal) parts says = absurd says.1
 
 module _ (call : Call) (valid : is_valid call.connection (length call.bytes) ≡ true) where
   pub offset_within : call.connection.offset ≤ length call.bytes

@@ -1,14 +1,11 @@
 -- How many bytes the reply of a text has.
-use Rattle.std.proofs.Common.{ℕ, ◌+◌, ◌-◌, ◌*◌, ◌<◌, ◌≤◌, ◌==◌, List, [], ◌∷◌, ◌++◌, length, take, decimal, Ok, Err, inl, inr, arith, length-append}
-use Rattle.std.specs.Prelude.{slice_index}
-use Rattle.std.specs.Char.{is_ascii_digit}
+use Rattle.std.proofs.Common.{ℕ, ◌+◌, ◌-◌, ◌*◌, ◌<◌, ◌≤◌, ◌==◌, List, [], ◌∷◌, ◌++◌, length, decimal, Ok, Err, inl, inr, arith, length-append}
 use Rattle.std.specs.List.{count_by, join_with_byte, slice_split}
 use Rattle.std.specs.Str.Lines.{strip_carriage_return}
-use Rattle.std.proofs.lemmas.Bool.{cond_both}
 use Rattle.std.proofs.lemmas.Fmt.{length-decimal-le}
 use Rattle.std.proofs.lemmas.List.{length-take}
 use Rattle.std.proofs.lemmas.List.Splits.{join_with_byte-slice_split, length-slice_split}
-use Rattle.unftp_control_defs.specs.Bytes.{Bytes, LF, CR, SP, DASH, Lacks, crlf}
+use Rattle.unftp_control_defs.specs.Bytes.{Bytes, LF, SP, DASH, Lacks, crlf}
 use Rattle.unftp_control_defs.specs.FtpReply.{CodeAndMsg, MultiLine, encoded, lines_after_code, padded, spaced_line}
 use Rattle.unftp_control_codecs.specs.LineFeed.{is_line_feed}
 use Rattle.unftp_control_codecs.specs.ReplyCodes.{IsReplyCode}

@@ -1,6 +1,5 @@
 -- How much room the name and the value of a line's command need.
-use Rattle.std.proofs.Common.{◌≡◌, ℕ, suc, ◌+◌, ◌*◌, ◌^◌, ◌<◌, ◌≤◌, Bool, true, false, cond, ◌==◌, ◌&&◌, nat_lt, List, [], ◌∷◌, length, length-drop, length-append, Option, Some, None, unwrap_or, Ok, Err, bytes_eq, codes, decimal, refl, ap, arith, rules}
-use Rattle.std.specs.Bool.{⊤}
+use Rattle.std.proofs.Common.{◌≡◌, ℕ, ◌+◌, ◌*◌, ◌^◌, ◌<◌, ◌≤◌, Bool, true, cond, ◌==◌, ◌&&◌, nat_lt, List, [], ◌∷◌, length, length-drop, length-append, Option, Some, None, unwrap_or, Ok, Err, bytes_eq, codes, decimal, refl, sym, ap, subst, arith, rules}
 use Rattle.std.specs.Char.{to_ascii_uppercase}
 use Rattle.std.specs.List.{AllByRecursion, position_or_len, slice_index}
 use Rattle.std.specs.Str.{is_utf8, all_ascii_digits}
@@ -14,24 +13,39 @@ use lib.Pointwise.{bytes_decides}
 use Rattle.unftp_control_defs.specs.Bytes.{Bytes, SP}
 use Rattle.unftp_control_defs.specs.ComputedValue.{value_of}
 use Rattle.unftp_control_defs.specs.Events.{FtpEvent, Command, event_of}
-use Rattle.unftp_control_defs.specs.FtpCommand.{FtpCommand, Stat, Md5, Site, Other, Rest, Answer, Refusal, InvalidCommand}
-use Rattle.unftp_control_defs.specs.Outcome.{answer_by, outcome, site_answer, value_answer}
+use Rattle.unftp_control_defs.specs.FtpCommand.{FtpCommand, Rest, Answer, InvalidCommand, InvalidUtf8}
+use Rattle.unftp_control_defs.specs.Outcome.{outcome, parameter_answer, site_answer, value_answer, word_answer}
 use Rattle.unftp_control_defs.specs.Paths.{path_of}
-use Rattle.unftp_control_defs.specs.Rules.{raw, without_parameter, any_text, some_text, maybe_text, unless_empty, chosen, mechanisms, auth, offset, listing, Rule, Ignores, Takes, Splits, row_of, verbs, rule_of, subcommand_answer}
+use Rattle.unftp_control_defs.specs.Rules.{Nothing, Text, Value, auth, buffer_sizes, chosen, command_by, kind, maybe_raw, maybe_text, mechanisms, modes, offset, optional_text, options, protections, row_of, structures, subcommand_answer, taken, typed_answer, unless_empty, verbs, word}
+use Rattle.unftp_control_defs.specs.Said.{KindSaysBack, Said, SaysBack, Tells, name_on_line, value_bytes}
 use Rattle.unftp_control_defs.specs.Values.{ReadsLater, ends_crlf, ends_lf, cr_nul, byte, Reads, nothing, ended, ended_crlf, one_byte, first_cr_nul, first_byte}
 use Rattle.unftp_control_defs.specs.Verbs.{verb_of, parameter_of, upper, is_separator}
+use Rattle.unftp_control_defs.specs.declared.verb.Kind.{Kind}
+use Rattle.unftp_control_defs.specs.declared.verb.Kind.TheVariants as kinds
+use Rattle.unftp_control_defs.specs.declared.verb.Verb.{Verb}
+use Rattle.unftp_control_defs.specs.declared.verb.Verb.TheVariants as verb
 use Rattle.unftp_control_defs.proofs.LossyLemmas.{length-utf8_lossy}
 use Rattle.unftp_control_defs.proofs.PathLemmas.{path_of-keeps}
 use Rattle.unftp_control_defs.proofs.RuleLemmas.{found}
+use Rattle.unftp_control_defs.proofs.SaidLemmas.{fits, other_fits, site_fits}
 use Rattle.unftp_control_defs.proofs.ValueLemmas.{Reads-value_of}
-use Rattle.unftp_control_c.specs.Next.{given_for}
+use Rattle.unftp_control_line_parser.proofs.TextLemmas.{optional_says}
+use Rattle.unftp_control_c.specs.Next.{given_for, given_of}
 
--- how many bytes the name and the value have that an event is given as: none for a refusal
+-- how many bytes the name and the value have that is given
+abbrev said_room : Said → ℕ
+said_room parts = length (given_of parts).name + length (given_of parts).value
+
+-- so of an event: none for a refusal
 abbrev pub lengths : FtpEvent → ℕ
 lengths event = length (given_for event).name + length (given_for event).value
 
 abbrev room : Answer → ℕ
 room answer = lengths (event_of answer)
+
+told : (answer : Answer) (parts : Said) → Tells answer parts → room answer ≡ said_room parts
+told (Ok command) parts tells = ap said_room tells
+told (Err refusal) parts tells = absurd tells
 
 path_length : (text : Bytes) → length (path_of text) ≤ length text
 path_length text = path_of-keeps (λ path. length path ≤ length text) (omega arith)
@@ -53,64 +67,47 @@ reads_length (one_byte no_cr no_lf) = omega arith
 reads_length (first_cr_nul h) = omega (arith, later_length h)
 reads_length (first_byte no_lf apart h) = omega (arith, later_length h)
 
-optional_length : (text : Bytes) → length (unwrap_or (unless_empty text) []) ≤ length text
+abbrev value_room : Value → ℕ
+value_room value = length (unwrap_or (value_bytes value) [])
+
+raw_length : (v : Bytes) → value_room (maybe_raw (unless_empty v)) ≤ length v
+raw_length [] = omega arith
+raw_length (b ∷ v) = omega arith
+
+text_length : (text : Bytes) → value_room (maybe_text (unless_empty text)) ≤ length text
+text_length [] = omega arith
+text_length (b ∷ text) = omega arith
+
+optional_length : (v : Bytes) → value_room (optional_text v) ≤ 3 * length v
 optional_length [] = omega arith
-optional_length (b ∷ text) = omega arith
+optional_length (b ∷ v) = omega (arith, length-utf8_lossy (b ∷ v))
 
--- What a verb of this length makes of a value needs three times as many bytes as both have.
-record Within (verb : ℕ) (answer : Bytes → Answer) : Type 0 where
-  fits : (v : Bytes) → room (answer v) ≤ 3 * verb + 3 * length v
+-- What the verbs with a value of their own type make of it.
+chosen_room : (rows : List (Bytes × FtpCommand))
+    → AllByRecursion (λ row. lengths (Command row.1) ≤ 4 + 3 * length row.0) rows → (v : Bytes)
+    → room (chosen rows v) ≤ 4 + 3 * length v
+chosen_room [] each v = omega arith
+chosen_room (row ∷ rows) each v = cond_both (bytes_eq row.0 v) (Ok row.1) (chosen rows v)
+    (λ answer. room answer ≤ 4 + 3 * length v)
+    (λ is. omega (arith, each.0, ap length ((bytes_decides row.0 v).0 is)))
+    (λ _. chosen_room rows each.1 v)
 
-module _ (verb : ℕ) where
-  raw_within : (command : Bytes → FtpCommand)
-      → ((text : Bytes) → lengths (Command (command text)) ≤ 3 * verb + length text)
-      → Within verb (raw command)
-  raw_within command each = record { fits = λ v. omega (arith, each v) }
-
-  any_within : (command : Bytes → FtpCommand)
-      → ((text : Bytes) → lengths (Command (command text)) ≤ 3 * verb + length text)
-      → Within verb (any_text command)
-  any_within command each =
-      record { fits = λ v. omega (arith, each (utf8_lossy v), length-utf8_lossy v) }
-
-  some_within : (command : Bytes → FtpCommand)
-      → ((text : Bytes) → lengths (Command (command text)) ≤ 3 * verb + length text)
-      → Within verb (some_text command)
-  some_within command each =
-      record { fits = λ v. grind (arith, (any_within command each).fits v) }
-
-  maybe_within : (command : Option Bytes → FtpCommand)
-      → lengths (Command (command None)) ≤ 3 * verb
-      → ((text : Bytes) → lengths (Command (command (Some text))) ≤ 3 * verb + length text)
-      → Within verb (maybe_text command)
-  maybe_within command none each = record { fits = by_value }
-    where
-      by_value : (v : Bytes) → room (maybe_text command v) ≤ 3 * verb + 3 * length v
-      by_value [] = omega (arith, none)
-      by_value (b ∷ v) = omega (arith, each (utf8_lossy (b ∷ v)), length-utf8_lossy (b ∷ v))
-
-  none_within : (command : FtpCommand) → lengths (Command command) ≤ 3 * verb
-      → Within verb (without_parameter command)
-  none_within command small = record { fits = λ v. grind (arith, small) }
-
-  chosen_within : (rows : List (Bytes × FtpCommand))
-      → AllByRecursion (λ row. lengths (Command row.1) ≤ 3 * verb) rows
-      → Within verb (chosen rows)
-  chosen_within [] each = record { fits = λ v. omega arith }
-  chosen_within (row ∷ rows) each =
-      record { fits = λ v. grind (arith, each.0, (chosen_within rows each.1).fits v) }
-
-auth_within : Within 4 auth
-auth_within = record {
-  fits = λ v. grind (
-    arith,
-    (chosen_within 4 mechanisms (search rules)).fits (upper v),
-    length-map v to_ascii_uppercase,
-  );
-}
+auth_room : (v : Bytes) → room (auth v) ≤ 4 + 3 * length v
+auth_room v = cond_both (nat_lt 3 (length v)) (Err InvalidCommand)
+    (cond (is_utf8 v) (chosen mechanisms (upper v)) (Err InvalidUtf8))
+    (λ answer. room answer ≤ 4 + 3 * length v)
+    (λ _. omega arith)
+    (λ _. cond_both (is_utf8 v) (chosen mechanisms (upper v)) (Err InvalidUtf8)
+    (λ answer. room answer ≤ 4 + 3 * length v)
+    (λ _. omega (
+      arith,
+      chosen_room mechanisms (search rules) (upper v),
+      length-map v to_ascii_uppercase,
+    ))
+    (λ _. omega arith))
 
 -- a decimal number has no more digits than it was read from
-rest_room : (v : Bytes) → room (offset (utf8_lossy v)) ≤ 12 + 3 * length v
+rest_room : (v : Bytes) → room (offset (utf8_lossy v)) ≤ 4 + 3 * length v
 rest_room v =
     let text : Bytes = utf8_lossy v in
     let digits : Bytes = without_leading_plus text in
@@ -118,7 +115,7 @@ rest_room v =
     let some : Bool = nat_lt 0 (length digits) in
     let are_digits : Bool = some && all_ascii_digits digits in
     cond_both (are_digits && nat_lt n (2 ^ 64)) (Ok (Rest n)) (Err InvalidCommand)
-    (λ answer. room answer ≤ 12 + 3 * length v)
+    (λ answer. room answer ≤ 4 + 3 * length v)
     (λ is.
     let both = and_parts are_digits (nat_lt n (2 ^ 64)) is in
     let each = and_parts some (all_ascii_digits digits) both.0 in
@@ -136,73 +133,78 @@ rest_room v =
     ))
     (λ _. omega arith)
 
-rest_within : Within 4 (λ v. offset (utf8_lossy v))
-rest_within = record { fits = rest_room }
+typed_room : (verb : Verb) (v : Bytes)
+    → room (typed_answer verb v) ≤ length (word verb) + 3 * length v
+typed_room verb.Stru v = chosen_room structures (search rules) v
+typed_room verb.Mode v = chosen_room modes (search rules) v
+typed_room verb.Prot v = chosen_room protections (search rules) v
+typed_room verb.Opts v = chosen_room options (search rules) v
+typed_room verb.Pbsz v = chosen_room buffer_sizes (search rules) v
+typed_room verb.Auth v = auth_room v
+typed_room verb.Rest v = rest_room v
+typed_room verb v = omega arith
 
-stat_within : Within 4 (λ v. Ok (Stat (unless_empty v)))
-stat_within = record { fits = λ v. omega (arith, optional_length v) }
+name_length : (name : Bytes) → length name ≤ length (name_on_line name [])
+name_length [] = omega arith
+name_length (b ∷ name) = omega arith
 
-list_within : Within 4 (λ v. listing (utf8_lossy v))
-list_within = record {
-  fits = λ v. let text : Bytes = utf8_lossy v in
-      omega (arith, optional_length (path_of text), path_length text, length-utf8_lossy v);
-}
+-- What a verb with this name makes of a value, and of a parameter.
+module _ (verb : Verb) (name : Bytes) where
+  abbrev said_length : ℕ
+  said_length = length (name_on_line (word verb) name)
 
--- names of four bytes, and of three for verbs of four and of three
-four : (n : ℕ) → suc (suc (suc (suc n))) ≤ 12 + n
-four n = omega arith
+  says_room : (value : Value) → SaysBack verb name value
+      → room (command_by verb name value) ≡ said_length + value_room value
+  says_room value says = told (command_by verb name value)
+      (record { verb = verb; name = name; value = value }) says.1
 
-three_for_four : (n : ℕ) → suc (suc (suc n)) ≤ 12 + n
-three_for_four n = omega arith
+  taken_room : (kind : Kind) → KindSaysBack kind verb name → (v : Bytes)
+      → room (taken kind verb name v) ≤ said_length + 3 * length v
+  taken_room kinds.Alone says v = cond_both (length v == 0) (command_by verb name Nothing)
+      (Err InvalidCommand) (λ answer. room answer ≤ said_length + 3 * length v)
+      (λ _. omega (arith, says_room Nothing says)) (λ _. omega arith)
+  taken_room kinds.Raw says v =
+      omega (arith, says_room (maybe_raw (unless_empty v)) (says v), raw_length v)
+  taken_room kinds.Text says v = cond_both (length v == 0) (Err InvalidCommand)
+      (command_by verb name (Text (utf8_lossy v)))
+      (λ answer. room answer ≤ said_length + 3 * length v) (λ _. omega arith)
+      (λ _. omega (
+        arith,
+        says_room (Text (utf8_lossy v)) (says (utf8_lossy v)),
+        length-utf8_lossy v,
+      ))
+  taken_room kinds.OptionalText says v = omega (
+    arith,
+    says_room (optional_text v) (optional_says verb name says v),
+    optional_length v,
+  )
+  taken_room kinds.Listing says v =
+      let path : Bytes = path_of (utf8_lossy v) in omega (
+        arith,
+        says_room (maybe_text (unless_empty path)) (says path),
+        text_length path,
+        path_length (utf8_lossy v),
+        length-utf8_lossy v,
+      )
+  taken_room kinds.Typed nameless v = subst
+      (λ name. room (typed_answer verb v) ≤ length (name_on_line (word verb) name) + 3 * length v)
+      (sym nameless) (omega (arith, typed_room verb v, name_length (word verb)))
+  taken_room kinds.Ignored says v = omega arith
+  taken_room kinds.Subcommand says v = omega arith
 
-three : (n : ℕ) → suc (suc (suc n)) ≤ 9 + n
-three n = omega arith
-
-four_optional : (text : Bytes)
-    → suc (suc (suc (suc (length (unwrap_or (unless_empty text) []))))) ≤ 12 + length text
-four_optional text = omega (arith, optional_length text)
-
--- of SITE its names decide
-abbrev RuleWithin : ℕ → Rule → Type 0
-RuleWithin verb (Ignores command) = lengths (Command command) ≤ 3 * verb
-RuleWithin verb (Takes answer) = Within verb answer
-RuleWithin verb Splits = ⊤
-
-all_rows : AllByRecursion (λ row. RuleWithin (length row.0) row.1) verbs
-all_rows = search (
-  rules,
-  four,
-  three_for_four,
-  three,
-  four_optional,
-  raw_within,
-  none_within,
-  some_within,
-  maybe_within,
-  chosen_within,
-  auth_within,
-  rest_within,
-  stat_within,
-  list_within,
-) depth 7
-
--- what a rule makes of parameter bytes
-value_within : (verb : ℕ) (answer : Bytes → Answer) → Within verb answer → (parameter : Bytes)
-    → room (value_answer answer (value_of parameter)) ≤ 3 * verb + 3 * length parameter
-value_within verb answer within parameter = by_value (value_of parameter) refl
-  where
-    by_value : (o : Option Bytes) → value_of parameter ≡ o
-        → room (value_answer answer o) ≤ 3 * verb + 3 * length parameter
-    by_value None is = omega arith
-    by_value (Some v) is =
-        omega (arith, within.fits v, reads_length (Reads-value_of parameter v is))
-
-subcommand_within : (name : Bytes) → Within (length name) (subcommand_answer name)
-subcommand_within name = cond_both (bytes_eq name (codes "MD5")) (some_text Md5)
-    (any_text (Site name)) (Within (length name))
-    (λ is. some_within (length name) Md5
-    (λ text. omega (arith, ap length ((bytes_decides name (codes "MD5")).0 is))))
-    (λ _. any_within (length name) (Site name) (λ text. omega (arith, optional_length text)))
+  value_room_of : (kind : Kind) → KindSaysBack kind verb name → (parameter : Bytes)
+      → room (value_answer (taken kind verb name) (value_of parameter))
+      ≤ said_length + 3 * length parameter
+  value_room_of kind says parameter = by_value (value_of parameter) refl
+    where
+      by_value : (o : Option Bytes) → value_of parameter ≡ o
+          → room (value_answer (taken kind verb name) o) ≤ said_length + 3 * length parameter
+      by_value None is = omega arith
+      by_value (Some v) is = omega (
+        arith,
+        taken_room kind says v,
+        reads_length (Reads-value_of parameter v is),
+      )
 
 -- the verb and the parameter of bytes
 cut_length : (bytes : Bytes)
@@ -216,37 +218,74 @@ cut_length bytes =
       length-drop (at + 1) bytes,
     )
 
-site_within : (parameter : Bytes) → room (site_answer parameter) ≤ 3 * length parameter
-site_within parameter =
-    let name : Bytes = upper (verb_of parameter) in
-    grind (
+subcommand_room : (name parameter : Bytes)
+    → room (value_answer (subcommand_answer name) (value_of parameter))
+    ≤ length name + 3 * length parameter
+subcommand_room name parameter = cond_both (bytes_eq name (codes "MD5"))
+    (taken kinds.Text verb.Md5 []) (taken kinds.OptionalText verb.Site name)
+    (λ answer. room (value_answer answer (value_of parameter)) ≤ length name + 3 * length parameter)
+    (λ is. omega (
+      arith,
+      value_room_of verb.Md5 [] kinds.Text (fits verb.Md5) parameter,
+      ap length ((bytes_decides name (codes "MD5")).0 is),
+    ))
+    (λ _. value_room_of verb.Site name kinds.OptionalText (site_fits name) parameter)
+
+site_room : (parameter : Bytes) → room (site_answer parameter) ≤ 3 * length parameter
+site_room parameter = cond_both (is_utf8 (verb_of parameter))
+    (value_answer (subcommand_answer (upper (verb_of parameter)))
+    (value_of (parameter_of parameter)))
+    (Err InvalidUtf8) (λ answer. room answer ≤ 3 * length parameter)
+    (λ _. omega (
       arith,
       cut_length parameter,
-      value_within (length name) (subcommand_answer name) (subcommand_within name)
-          (parameter_of parameter),
-    )
+      subcommand_room (upper (verb_of parameter)) (parameter_of parameter),
+    ))
+    (λ _. omega arith)
 
-rule_within : (verb : ℕ) (rule : Rule) → RuleWithin verb rule → (parameter : Bytes)
-    → room (answer_by rule parameter) ≤ 3 * verb + 3 * length parameter
-rule_within verb (Ignores command) within parameter = omega (arith, within)
-rule_within verb (Takes answer) within parameter = value_within verb answer within parameter
-rule_within verb Splits within parameter = omega (arith, site_within parameter)
+parameter_room : (kind : Kind) (verb : Verb) (name : Bytes) → KindSaysBack kind verb name
+    → (parameter : Bytes) → room (parameter_answer kind verb name parameter)
+    ≤ length (name_on_line (word verb) name) + 3 * length parameter
+parameter_room kinds.Ignored verb name says parameter =
+    omega (arith, says_room verb name Nothing says)
+parameter_room kinds.Subcommand verb name says parameter = omega (arith, site_room parameter)
+parameter_room kinds.Alone verb name says parameter =
+    value_room_of verb name kinds.Alone says parameter
+parameter_room kinds.Raw verb name says parameter =
+    value_room_of verb name kinds.Raw says parameter
+parameter_room kinds.Text verb name says parameter =
+    value_room_of verb name kinds.Text says parameter
+parameter_room kinds.OptionalText verb name says parameter =
+    value_room_of verb name kinds.OptionalText says parameter
+parameter_room kinds.Listing verb name says parameter =
+    value_room_of verb name kinds.Listing says parameter
+parameter_room kinds.Typed verb name says parameter =
+    value_room_of verb name kinds.Typed says parameter
 
-verb_within : (verb : Bytes) → RuleWithin (length verb) (rule_of verb)
-verb_within verb = by_row (row_of verb verbs) refl
-  where
-    by_row : (row : Option Rule) → row_of verb verbs ≡ row
-        → RuleWithin (length verb) (unwrap_or row (Takes (any_text (Other verb))))
-    by_row None is =
-        any_within (length verb) (Other verb) (λ text. omega (arith, optional_length text))
-    by_row (Some rule) is = found (λ name rule. RuleWithin (length name) rule) verb verbs all_rows is
+-- the canonical word of a verb has at most three times the bytes of any of its words
+all_words : AllByRecursion
+    (λ row. length (name_on_line (word row.1) []) ≤ 3 * length row.0) verbs
+all_words = search arith
 
 -- the name and the value of a line's command
 pub outcome_room : (line : Bytes) → lengths (event_of (outcome line)) ≤ 3 * length line
-outcome_room line =
-    let verb : Bytes = upper (verb_of line) in
-    grind (
+outcome_room line = cond_both (is_utf8 (verb_of line))
+    (word_answer (upper (verb_of line)) (row_of (upper (verb_of line)) verbs) (parameter_of line))
+    (Err InvalidUtf8) (λ answer. room answer ≤ 3 * length line)
+    (λ _. by_row (row_of (upper (verb_of line)) verbs) refl) (λ _. omega arith)
+  where
+    by_row : (row : Option Verb) → row_of (upper (verb_of line)) verbs ≡ row
+        → room (word_answer (upper (verb_of line)) row (parameter_of line)) ≤ 3 * length line
+    by_row None is = omega (
       arith,
       cut_length line,
-      rule_within (length verb) (rule_of verb) (verb_within verb) (parameter_of line),
+      parameter_room kinds.OptionalText verb.Other (upper (verb_of line))
+          (other_fits (upper (verb_of line))) (parameter_of line),
+    )
+    by_row (Some verb) is = omega (
+      arith,
+      cut_length line,
+      parameter_room (kind verb) verb [] (fits verb) (parameter_of line),
+      found (λ name verb. length (name_on_line (word verb) []) ≤ 3 * length name)
+          (upper (verb_of line)) verbs all_words is,
     )

@@ -1,16 +1,18 @@
 -- What a call of `unftp_next` is given, and what it leaves.
 use Rattle.std.specs.Prelude.{◌≡◌, ℕ, ◌==◌, ◌&&◌, ◌||◌, ◌⊎◌, Bool, true, if◌then◌else◌, [], ◌++◌, length, take, nat_le, Option, None, Some, unwrap_or}
 use Rattle.unftp_control_defs.specs.Bytes.{Bytes}
-use Rattle.unftp_control_defs.specs.FtpCommand.{FtpCommand}
 use Rattle.unftp_control_defs.specs.Events.{FtpEvent, Command, Refused, event_of, line_too_long}
-use Rattle.unftp_control_defs.specs.NameAndValue.{name_and_value, command_number}
+use Rattle.unftp_control_defs.specs.Rules.{number}
+use Rattle.unftp_control_defs.specs.Said.{Said, said, word_and_value}
+use Rattle.unftp_control_defs.specs.FtpCommand.{Answer}
 use Rattle.unftp_control_defs.specs.Outcome.{outcome}
-use Rattle.unftp_control_line_parser.specs.Memory.{MayTakeMemory}
+use Rattle.unftp_control_line_parser.specs.Memory.{AnswerMayTakeMemory, MayTakeMemory}
 use Rattle.unftp_control_codecs.specs.Codec.{Codec}
 use Rattle.unftp_control_codecs.specs.FirstLine.{first_line, goes_on, reset}
 use Rattle.unftp_control_codecs.specs.declared.FirstLine.{FirstLine}
 use Rattle.unftp_control_codecs.specs.declared.FirstLine.TheVariants.{Incomplete, TooLong, Complete}
 use Rattle.unftp_control_c.specs.declared.next.Connection.{Connection}
+use Rattle.unftp_control_c.specs.declared.next.Given.{Given as CodeGiven}
 use Rattle.unftp_control_c.specs.declared.next.Line.{Line}
 use Rattle.unftp_control_c.specs.declared.status.Status.{Status}
 use Rattle.unftp_control_c.specs.declared.status.Status.TheVariants.{More, OutOfMemory, NoRoom, InvalidArgument}
@@ -92,26 +94,28 @@ used_up call status n connection =
 abbrev pub kept : Call → Status → Left
 kept call status = used_up call status 0 call.connection
 
-abbrev pub name_of : FtpCommand → Bytes
-name_of command = (name_and_value command).0
-
--- the value, empty where the command has none
-abbrev pub value_of_command : FtpCommand → Bytes
-value_of_command command = unwrap_or (name_and_value command).1 []
-
 -- what a caller is given for a line: a number, and the name and the value of a command
 pub record Given : Type 0 where
   pub number : ℕ
   pub name : Bytes
   pub value : Bytes
 
+-- what the code holds of it
+abbrev pub meant : CodeGiven → Given
+meant given =
+    record { number = given.number; name = given.name.now; value = given.value.now }
+
+-- what is said of a command, with an empty value where it has none
+abbrev pub given_of : Said → Given
+given_of parts = record {
+  number = number parts.verb;
+  name = (word_and_value parts).0;
+  value = unwrap_or (word_and_value parts).1 [];
+}
+
 -- the event of a line, as it has to be given
 abbrev pub given_for : FtpEvent → Given
-given_for (Command command) = record {
-  number = command_number command;
-  name = name_of command;
-  value = value_of_command command;
-}
+given_for (Command command) = given_of (said command)
 given_for (Refused fault) =
     record { number = status_number (fault_status fault); name = []; value = [] }
 
@@ -153,6 +157,11 @@ next_of call = if is_valid call.connection (length call.bytes)
 abbrev pub LineMayTakeMemory : Call → Type 0
 LineMayTakeMemory call = (n : ℕ) × (is_valid call.connection (length call.bytes) ≡ true)
     × (first_of call ≡ Complete n) × MayTakeMemory (take n call.bytes)
+
+-- The command is given. Memory may run out for one that holds some, and is not in the line as it is.
+abbrev pub GivesCommand : Call → ℕ → Answer → Type 0 → Left → Type 0
+GivesCommand call n answer in_line left = (left ≡ gives call n (given_for (event_of answer)))
+    ⊎ (¬ in_line × AnswerMayTakeMemory answer × (left ≡ kept call OutOfMemory))
 
 -- what is left after a complete line that is not too long
 abbrev pub LeavesLine : Call → Bytes → Left → Type 0

@@ -1,18 +1,19 @@
 //! The next event of the pending bytes.
 ghost use Rattle.std.specs.Prelude.{◌≡◌, true, false, length};
 ghost use Rattle.unftp_control_defs.specs.Bytes.{Bytes};
-ghost use Rattle.unftp_control_defs.specs.Events.{Command as CommandEvent};
-ghost use Rattle.unftp_control_message.specs.CommandMeaning.{command_of};
-ghost use Rattle.unftp_control_c.specs.Next.{Leaves, LeavesLine, call_with, codec_of, given_for, gives, is_valid, left_with, no_lengths, resumed, scans, used_up};
+ghost use Rattle.unftp_control_defs.specs.FtpCommand.{Answer};
+ghost use Rattle.unftp_control_defs.specs.Said.{IsSaid};
+ghost use Rattle.unftp_control_message.specs.PartsMeaning.{AreInPlace, IsInPlace, said_of, spelled};
+ghost use Rattle.unftp_control_c.specs.Next.{GivesCommand, Leaves, LeavesLine, call_with, codec_of, given_of, gives, is_valid, left_with, meant, no_lengths, resumed, scans, used_up};
 
 use crate::areas::overwrite_both;
 use crate::status::{Status, kind_status};
 use itoa::Buffer;
 use std::alloc::Global;
 use unftp_control_codecs::{FirstLine, FtpCodec};
-use unftp_control_line_parser::parse;
+use unftp_control_line_parser::parts;
 use unftp_control_message::Command;
-use unftp_control_write::parts::parts_of;
+use unftp_control_message::parts::Parts;
 
 /// What a caller keeps of a connection: `struct unftp_connection` of include/unftp_control.h.
 #[repr(C)]
@@ -36,6 +37,14 @@ pub struct Line {
     pub name_len: usize,
     /// How long the command's value is, which follows its name.
     pub value_len: usize,
+}
+
+/// What a caller is given of a command.
+#[derive(Clone, Copy)]
+struct Given<'a> {
+    number: u32,
+    name: &'a [u8],
+    value: &'a [u8],
 }
 
 /// The next event of the pending bytes: `unftp_next` of include/unftp_control.h.
@@ -129,13 +138,11 @@ fn take_line(
     ensures { (pending : Bytes) → LeavesLine (call_with connection.old pending area.old) bytes.now
         (left_with result connection.new area.new line.new) }
 {
-    let answer = parse(alloc, bytes);
+    // the parts are read where they lie: to move them takes longer than to find them
+    let answer = parts(bytes);
     match &answer {
-        Ok(command) => give(command, bytes.len(), connection, area, line),
-        Err(error) => match kind_status(error.kind()) {
-            Status::OutOfMemory => Status::OutOfMemory.number(),
-            refused => report(refused, bytes.len(), codec, connection, line),
-        },
+        Ok(parts) => give_command(alloc, parts, bytes.len(), connection, area, line),
+        Err(kind) => report(kind_status(kind), bytes.len(), codec, connection, line),
     }
 }
 
@@ -159,22 +166,73 @@ fn report(
     status.number()
 }
 
-/// Writes the name and the value of the command to the area, where it has room for both, and
-/// reports how long they are; the number of the command.
+/// Gives the command that parts are. Memory is taken only where they are not in the line as they
+/// are: for CR NUL in the value, for ill-formed UTF-8, and for a name in lower case.
+fn give_command(
+    alloc: Global,
+    parts: &Parts<'_>,
+    taken: usize,
+    connection: &mut Connection,
+    area: &mut [u8],
+    line: &mut Line,
+) -> u32
+    requires { line.old ≡ no_lengths }
+    ensures { (answer : Answer) → IsSaid answer (said_of parts.now)
+        → (pending : Bytes) → GivesCommand (call_with connection.old pending area.old) taken
+        answer (AreInPlace parts.now) (left_with result connection.new area.new line.new) }
+{
+    let mut digits = Buffer::new();
+    if parts.are_in_place() {
+        return give(
+            given_for(*parts, &mut digits),
+            taken,
+            connection,
+            area,
+            line,
+        );
+    }
+    match Command::from_parts(alloc, parts) {
+        Ok(command) => {
+            let given = given_for(command.parts(), &mut digits);
+            let number = give(given, taken, connection, area, line);
+            drop(command);
+            number
+        }
+        Err(_) => Status::OutOfMemory.number(),
+    }
+}
+
+/// What a caller is given for parts; `digits` has room for those of a number.
+#[inline(always)]
+fn given_for<'a>(parts: Parts<'a>, digits: &'a mut Buffer) -> Given<'a>
+    requires { IsInPlace parts.value }
+    ensures { meant result ≡ given_of (spelled parts.entry) }
+{
+    let (name, value) = parts.word_and_value(digits);
+    Given {
+        number: parts.verb.number(),
+        name: name.as_bytes(),
+        value: value.unwrap_or(&[]),
+    }
+}
+
+/// Writes the name and the value to the area, where it has room for both, and reports how long they
+/// are; the number of the command.
 fn give(
-    command: &Command,
+    given: Given<'_>,
     taken: usize,
     connection: &mut Connection,
     area: &mut [u8],
     line: &mut Line,
 ) -> u32
     ensures { (bytes : Bytes) → left_with result connection.new area.new line.new
-        ≡ gives (call_with connection.old bytes area.old) taken
-        (given_for (CommandEvent (command_of command.now))) }
+        ≡ gives (call_with connection.old bytes area.old) taken (meant given.entry) }
 {
-    let parts = parts_of(command);
-    let mut digits = Buffer::new();
-    let (name, value) = (parts.name.as_bytes(), parts.value_bytes(&mut digits));
+    let Given {
+        number,
+        name,
+        value,
+    } = given;
     *line = Line {
         used: 0,
         name_len: name.len(),
@@ -185,5 +243,5 @@ fn give(
     }
     overwrite_both(name, value, area);
     (line.used, connection.offset, connection.skipping) = (taken, 0, 0);
-    parts.number
+    number
 }

@@ -1,6 +1,8 @@
 -- What verbs make of a value without LF are sound commands: they have a line, and fields of their
 -- types.
-use Rattle.std.proofs.Common.{◌≡◌, ◌≢◌, ℕ, Bool, true, false, cond, ◌==◌, nat_lt, ◌&&◌, ◌^◌, List, [], ◌∷◌, length, Option, Some, None, option_map, Ok, Err, bytes_eq, refl, sym, ap, subst, ◌∙◌, arith}
+use Rattle.std.specs.Prelude.{◌<◌}
+use Rattle.std.proofs.lemmas.Str.{IsUtf8-nil}
+use Rattle.std.proofs.Common.{◌≡◌, ◌≢◌, ℕ, Bool, true, false, cond, ◌==◌, nat_lt, ◌&&◌, ◌^◌, List, [], ◌∷◌, length, Option, Some, None, Ok, Err, bytes_eq, refl, subst, arith}
 use Rattle.std.specs.List.{AllByRecursion}
 use Rattle.std.specs.Str.{IsUtf8, is_utf8, all_ascii_digits}
 use Rattle.std.specs.Str.Lossy.{utf8_lossy}
@@ -9,12 +11,16 @@ use Rattle.std.proofs.lemmas.Bool.{ltb-true, and_parts}
 use Rattle.unftp_control_defs.specs.Bytes.{Bytes, LF, Lacks}
 use Rattle.unftp_control_defs.specs.Paths.{path_of}
 use Rattle.unftp_control_defs.specs.Verbs.{upper}
-use Rattle.unftp_control_defs.specs.FtpCommand.{FtpCommand, Stat, List as Listing, Rest, Answer, Refusal, InvalidCommand, InvalidUtf8, IsMaybeUtf8, HasTypedFields}
-use Rattle.unftp_control_defs.specs.Rules.{raw, without_parameter, any_text, some_text, maybe_text, unless_empty, chosen, mechanisms, auth, offset, listing}
-use Rattle.unftp_control_defs.specs.Canonical.{HasLine, IsNonEmptyText, IsOptionalText}
+use Rattle.unftp_control_defs.specs.FtpCommand.{FtpCommand, Rest, Answer, Refusal, InvalidCommand, InvalidUtf8}
+use Rattle.unftp_control_defs.specs.Said.{HasTypedFields, IsMaybeUtf8, IsTyped}
+use Rattle.unftp_control_defs.specs.Rules.{Value, Nothing, Raw, Text, Chosen, Number, auth, buffer_sizes, by_named_text, by_nothing, by_number, by_optional_raw, by_optional_text, by_raw, by_text, chosen, command_by, maybe_raw, maybe_text, mechanisms, modes, offset, optional_text, options, protections, structures, taken, typed_answer, unless_empty}
+use Rattle.unftp_control_defs.specs.declared.verb.Kind.{Kind}
+use Rattle.unftp_control_defs.specs.declared.verb.Kind.TheVariants as kinds
+use Rattle.unftp_control_defs.specs.declared.verb.Verb.{Verb}
+use Rattle.unftp_control_defs.specs.declared.verb.Verb.TheVariants as verbs
+use Rattle.unftp_control_defs.specs.Canonical.{HasLine, HasRoom, IsNonEmptyText, IsOptionalText}
 use Rattle.unftp_control_defs.proofs.LackLemmas.{Lacks-utf8_lossy, Lacks-path_of}
 use Rattle.unftp_control_defs.proofs.LossyLemmas.{IsUtf8-utf8_lossy, kept-utf8_lossy, IsUtf8-path_of}
-use Rattle.unftp_control_defs.proofs.CommandRoundTripLemmas.{some_text-some, unless_empty-some}
 
 abbrev pub IsSound : FtpCommand → Type 0
 IsSound command = HasLine command × HasTypedFields command
@@ -39,62 +45,72 @@ pub not_refused : (test : Bool) {answer : Answer} (refusal : Refusal) {command :
 not_refused true refusal e = cc
 not_refused false refusal e = e
 
--- for each way to take a value
-pub raw_gives : (command : Bytes → FtpCommand)
-    → ((text : Bytes) → Lacks LF text → IsSound (command text)) → Gives (raw command)
-raw_gives command each v meant h e = sound (command v) meant (each v h) e
+-- what is read of a value without LF
+abbrev pub IsRead : Value → Type 0
+IsRead value = HasRoom value × IsTyped value
 
-pub any_gives : (command : Bytes → FtpCommand)
-    → ((text : Bytes) → Lacks LF text → IsUtf8 text → IsSound (command text))
-    → Gives (any_text command)
-any_gives command each v meant h e = let text : Bytes = utf8_lossy v in
-    sound (command text) meant
-    (each text (Lacks-utf8_lossy LF (omega arith) v h) (IsUtf8-utf8_lossy v)) e
+pub IsTyped-raw : (bytes : Option Bytes) → IsTyped (maybe_raw bytes)
+IsTyped-raw None = tt
+IsTyped-raw (Some bytes) = tt
 
-pub without_parameter_gives : (command : FtpCommand) → IsSound command
-    → Gives (without_parameter command)
-without_parameter_gives command is_sound v meant h e =
-    sound command meant is_sound (passed (length v == 0) (Ok command) InvalidCommand meant e).1
+-- whatever command this makes of what is read is sound
+abbrev pub Makes : (Value → Answer) → Type 0
+Makes makes = (value : Value) (command : FtpCommand) → IsRead value → makes value ≡ Ok command
+    → IsSound command
 
-IsNonEmptyText-utf8_lossy : (v : Bytes) → v ≢ [] → Lacks LF v → IsNonEmptyText (utf8_lossy v)
-IsNonEmptyText-utf8_lossy v some h = (kept-utf8_lossy v some, Lacks-utf8_lossy LF (omega arith) v h)
+pub nothing_makes : (made : FtpCommand) (name : Bytes) → IsSound made → Makes (by_nothing made name)
+nothing_makes made name is_sound Nothing command is e = sound made command is_sound e
+nothing_makes made name is_sound value command is e = cc
 
-some_value : (b : ℕ) (v : Bytes) → b ∷ v ≢ []
-some_value b v e = cc
+pub raw_makes : (made : Bytes → FtpCommand) (name : Bytes)
+    → ((bytes : Bytes) → Lacks LF bytes → IsSound (made bytes)) → Makes (by_raw made name)
+raw_makes made name each Nothing command is e = sound (made []) command (each [] tt) e
+raw_makes made name each (Raw bytes) command is e = sound (made bytes) command (each bytes is.0.1) e
+raw_makes made name each (Text text) command is e = cc
+raw_makes made name each (Chosen choice) command is e = cc
+raw_makes made name each (Number number) command is e = cc
 
-pub some_gives : (command : Bytes → FtpCommand)
-    → ((text : Bytes) → IsNonEmptyText text → IsUtf8 text → IsSound (command text))
-    → Gives (some_text command)
-some_gives command each [] meant h e = let refused : ◌≡◌ {A = Answer} (Err InvalidCommand)
-    (Ok meant) = e in cc
-some_gives command each (b ∷ v) meant h e =
-    let text : Bytes = utf8_lossy (b ∷ v) in
-    sound (command text) meant
-    (each text (IsNonEmptyText-utf8_lossy (b ∷ v) (some_value b v) h)
-    (IsUtf8-utf8_lossy (b ∷ v))) (sym (some_text-some command (b ∷ v) (some_value b v)) ∙ e)
+pub optional_raw_makes : (made : Option Bytes → FtpCommand) (name : Bytes)
+    → ((bytes : Option Bytes) → HasRoom (maybe_raw bytes) → IsSound (made bytes))
+    → Makes (by_optional_raw made name)
+optional_raw_makes made name each Nothing command is e = sound (made None) command (each None tt) e
+optional_raw_makes made name each (Raw bytes) command is e =
+    sound (made (Some bytes)) command (each (Some bytes) is.0) e
+optional_raw_makes made name each (Text text) command is e = cc
+optional_raw_makes made name each (Chosen choice) command is e = cc
+optional_raw_makes made name each (Number number) command is e = cc
 
-IsOptionalText-unless_empty : (text : Bytes) → Lacks LF text → IsOptionalText (unless_empty text)
-IsOptionalText-unless_empty [] h = tt
-IsOptionalText-unless_empty (b ∷ text) h =
-    subst IsOptionalText (sym (unless_empty-some (b ∷ text) (some_value b text)))
-    (some_value b text, h)
+pub text_makes : (made : Bytes → FtpCommand) (name : Bytes)
+    → ((text : Bytes) → IsNonEmptyText text → IsUtf8 text → IsSound (made text))
+    → Makes (by_text made name)
+text_makes made name each Nothing command is e = cc
+text_makes made name each (Raw bytes) command is e = cc
+text_makes made name each (Text text) command is e =
+    sound (made text) command (each text is.0 is.1) e
+text_makes made name each (Chosen choice) command is e = cc
+text_makes made name each (Number number) command is e = cc
 
-IsMaybeUtf8-unless_empty : (text : Bytes) → IsUtf8 text → IsMaybeUtf8 (unless_empty text)
-IsMaybeUtf8-unless_empty [] utf8 = tt
-IsMaybeUtf8-unless_empty (b ∷ text) utf8 =
-    subst IsMaybeUtf8 (sym (unless_empty-some (b ∷ text) (some_value b text))) utf8
+pub optional_text_makes : (made : Option Bytes → FtpCommand) (name : Bytes)
+    → ((text : Option Bytes) → IsOptionalText text → IsMaybeUtf8 text → IsSound (made text))
+    → Makes (by_optional_text made name)
+optional_text_makes made name each Nothing command is e =
+    sound (made None) command (each None tt tt) e
+optional_text_makes made name each (Raw bytes) command is e = cc
+optional_text_makes made name each (Text text) command is e =
+    sound (made (Some text)) command (each (Some text) is.0 is.1) e
+optional_text_makes made name each (Chosen choice) command is e = cc
+optional_text_makes made name each (Number number) command is e = cc
 
-pub maybe_gives : (command : Option Bytes → FtpCommand)
-    → ((text : Option Bytes) → IsOptionalText text → IsMaybeUtf8 text → IsSound (command text))
-    → Gives (maybe_text command)
-maybe_gives command each [] meant h e = sound (command None) meant (each None tt tt) e
-maybe_gives command each (b ∷ v) meant h e =
-    let text : Bytes = utf8_lossy (b ∷ v) in
-    sound (command (Some text)) meant
-    (each (Some text) (IsNonEmptyText-utf8_lossy (b ∷ v) (some_value b v) h)
-    (IsUtf8-utf8_lossy (b ∷ v)))
-    (sym (ap (λ t. Ok (command (option_map utf8_lossy t)))
-    (unless_empty-some (b ∷ v) (some_value b v))) ∙ e)
+pub named_text_makes : (made : Bytes → Bytes → FtpCommand) (name : Bytes)
+    → ((text : Bytes) → Lacks LF text → IsUtf8 text → IsSound (made name text))
+    → Makes (by_named_text made name)
+named_text_makes made name each Nothing command is e =
+    sound (made name []) command (each [] tt IsUtf8-nil) e
+named_text_makes made name each (Raw bytes) command is e = cc
+named_text_makes made name each (Text text) command is e =
+    sound (made name text) command (each text is.0.1 is.1) e
+named_text_makes made name each (Chosen choice) command is e = cc
+named_text_makes made name each (Number number) command is e = cc
 
 -- one of a few commands
 chosen_step : (test : Bool) (made : FtpCommand) {meant : FtpCommand} {other : Answer} → IsSound made
@@ -108,11 +124,41 @@ any_chosen [] each v e = cc
 any_chosen (row ∷ rows) each v {meant} e = chosen_step (bytes_eq row.0 v) row.1 each.0
     (λ q. any_chosen rows each.1 v q) e
 
-pub chosen_gives : (rows : List (Bytes × FtpCommand)) → AllByRecursion (λ row. IsSound row.1) rows
-    → Gives (chosen rows)
-chosen_gives rows each v meant h e = any_chosen rows each v e
+pub number_makes : (made : ℕ → FtpCommand) (name : Bytes)
+    → ((number : ℕ) → number < 2 ^ 64 → IsSound (made number)) → Makes (by_number made name)
+number_makes made name each Nothing command is e = cc
+number_makes made name each (Raw bytes) command is e = cc
+number_makes made name each (Text text) command is e = cc
+number_makes made name each (Chosen choice) command is e = cc
+number_makes made name each (Number number) command is e =
+    sound (made number) command (each number is.1) e
 
-pub auth_gives : Gives auth
+-- what is read of a value
+IsNonEmptyText-utf8_lossy : (v : Bytes) → v ≢ [] → Lacks LF v → IsNonEmptyText (utf8_lossy v)
+IsNonEmptyText-utf8_lossy v some h = (kept-utf8_lossy v some, Lacks-utf8_lossy LF (omega arith) v h)
+
+some_value : (b : ℕ) (v : Bytes) → b ∷ v ≢ []
+some_value b v e = cc
+
+IsRead-optional_text : (v : Bytes) → Lacks LF v → IsRead (optional_text v)
+IsRead-optional_text [] h = (tt, tt)
+IsRead-optional_text (b ∷ v) h =
+    (IsNonEmptyText-utf8_lossy (b ∷ v) (some_value b v) h, IsUtf8-utf8_lossy (b ∷ v))
+
+IsRead-raw : (v : Bytes) → Lacks LF v → IsRead (maybe_raw (unless_empty v))
+IsRead-raw [] h = (tt, tt)
+IsRead-raw (b ∷ v) h = ((some_value b v, h), tt)
+
+IsRead-path : (path : Bytes) → Lacks LF path → IsUtf8 path → IsRead (maybe_text (unless_empty path))
+IsRead-path [] h utf8 = (tt, tt)
+IsRead-path (b ∷ path) h utf8 = ((some_value b path, h), utf8)
+
+-- the values of the verbs with a value of their own type, each by computation
+word_gives : (rows : List (Bytes × FtpCommand)) → AllByRecursion (λ row. IsSound row.1) rows
+    → Gives (chosen rows)
+word_gives rows each v meant h e = any_chosen rows each v e
+
+auth_gives : Gives auth
 auth_gives v meant h e =
     let short =
     not_refused (nat_lt 3 (length v)) InvalidCommand e in
@@ -128,18 +174,37 @@ offset_sound text meant e =
     sound (Rest n) meant (tt, ltb-true n (2 ^ 64) (and_parts are_digits (nat_lt n (2 ^ 64)) p.0).1)
     p.1
 
-pub offset_gives : Gives (λ v. offset (utf8_lossy v))
-offset_gives v meant h e = offset_sound (utf8_lossy v) meant e
+typed_gives : (verb : Verb) → Gives (typed_answer verb)
+typed_gives verbs.Stru = word_gives structures ((tt, tt), ((tt, tt), ((tt, tt), tt)))
+typed_gives verbs.Mode = word_gives modes ((tt, tt), ((tt, tt), ((tt, tt), tt)))
+typed_gives verbs.Prot =
+    word_gives protections ((tt, tt), ((tt, tt), ((tt, tt), ((tt, tt), tt))))
+typed_gives verbs.Opts = word_gives options ((tt, tt), ((tt, tt), ((tt, tt), ((tt, tt), tt))))
+typed_gives verbs.Pbsz = word_gives buffer_sizes ((tt, tt), tt)
+typed_gives verbs.Auth = auth_gives
+typed_gives verbs.Rest = λ v meant h e. offset_sound (utf8_lossy v) meant e
+typed_gives verb = λ v meant h e. let refused : ◌≡◌ {A = Answer} (Err InvalidCommand) (Ok meant) = e in cc
 
-pub stat_gives : Gives (λ v. Ok (Stat (unless_empty v)))
-stat_gives v meant h e = sound (Stat (unless_empty v)) meant (IsOptionalText-unless_empty v h, tt) e
-
-pub list_gives : Gives (λ v. listing (utf8_lossy v))
-list_gives v meant h e =
+-- what a verb of each kind takes
+pub taken_gives : (kind : Kind) (verb : Verb) (name : Bytes) → Makes (command_by verb name)
+    → Gives (taken kind verb name)
+taken_gives kinds.Alone verb name makes v command h e = makes Nothing command (tt, tt)
+    (passed (length v == 0) (command_by verb name Nothing) InvalidCommand command e).1
+taken_gives kinds.Raw verb name makes v command h e =
+    makes (maybe_raw (unless_empty v)) command (IsRead-raw v h) e
+taken_gives kinds.Text verb name makes v command h e =
+    makes (Text (utf8_lossy v)) command (IsNonEmptyText-utf8_lossy v some h, IsUtf8-utf8_lossy v)
+    (not_refused (length v == 0) InvalidCommand e)
+  where
+    some : v ≢ []
+    some is = let refused : ◌≡◌ {A = Answer} (Err InvalidCommand) (Ok command) = rw is at e in cc
+taken_gives kinds.OptionalText verb name makes v command h e =
+    makes (optional_text v) command (IsRead-optional_text v h) e
+taken_gives kinds.Listing verb name makes v command h e =
     let text : Bytes = utf8_lossy v in
-    let path : Bytes = path_of text in
-    let optional : IsOptionalText (unless_empty path) =
-    IsOptionalText-unless_empty path (Lacks-path_of text (Lacks-utf8_lossy LF (omega arith) v h)) in
-    let utf8 : IsMaybeUtf8 (unless_empty path) =
-    IsMaybeUtf8-unless_empty path (IsUtf8-path_of text (IsUtf8-utf8_lossy v)) in
-    sound (Listing None (unless_empty path)) meant ((refl, optional), (tt, utf8)) e
+    makes (maybe_text (unless_empty (path_of text))) command
+    (IsRead-path (path_of text) (Lacks-path_of text (Lacks-utf8_lossy LF (omega arith) v h))
+    (IsUtf8-path_of text (IsUtf8-utf8_lossy v))) e
+taken_gives kinds.Typed verb name makes v command h e = typed_gives verb v command h e
+taken_gives kinds.Ignored verb name makes v command h e = cc
+taken_gives kinds.Subcommand verb name makes v command h e = cc

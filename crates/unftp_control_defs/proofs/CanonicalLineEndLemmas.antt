@@ -3,9 +3,9 @@ use Rattle.std.proofs.Common.{◌≡◌, true, [], ◌∷◌, ◌++◌, Option, 
 use Rattle.unftp_control_defs.specs.Bytes.{Bytes, LF, CR, SP, Lacks}
 use Rattle.unftp_control_defs.specs.Lines.{IsLine}
 use Rattle.unftp_control_defs.specs.Values.{escaped}
-use Rattle.unftp_control_defs.specs.FtpCommand.{FtpCommand, Stru, Mode, List as Listing, Opts, Auth, Prot, Rest, Md5, Site, Other}
+use Rattle.unftp_control_defs.specs.FtpCommand.{FtpCommand, User, Pass, Acct, Stat, Stru, Mode, List as Listing, Nlst, Mlst, Mlsd, Opts, Auth, Prot, Rest, Md5, Site, Other}
 use Rattle.unftp_control_defs.specs.Rules.{unless_empty}
-use Rattle.unftp_control_defs.specs.Canonical.{spaced, spaced_unless_empty, with_optional, with_option_end, site_body, canonical_body, canonical_line, HasLine, IsOptionalText}
+use Rattle.unftp_control_defs.specs.Canonical.{spaced, spaced_unless_empty, with_option_end, site_body, canonical_body, canonical_line, HasLine, IsOptionalText}
 use Rattle.unftp_control_defs.specs.declared.parameters.AuthParam.TheVariants.{Ssl}
 use Rattle.unftp_control_defs.specs.declared.parameters.ModeParam.TheVariants.{Stream}
 use Rattle.unftp_control_defs.specs.declared.parameters.Opt.TheVariants.{Utf8}
@@ -41,15 +41,6 @@ fixed command w = Lacks-test LF (canonical_body command) w
 verb : (word text : Bytes) → lacks LF word ≡ true → Lacks LF text → Lacks LF (spaced word text)
 verb word text w h = spaced_lacks word text (Lacks-test LF word w) h
 
-bare : (word text : Bytes) → lacks LF word ≡ true → Lacks LF text
-    → Lacks LF (spaced_unless_empty word text)
-bare word text w h = spaced_unless_empty_lacks word text (Lacks-test LF word w) h
-
-maybe : (word : Bytes) (text : Option Bytes) → lacks LF word ≡ true → IsOptionalText text
-    → Lacks LF (with_optional word text)
-maybe word None w h = Lacks-test LF word w
-maybe word (Some text) w h = verb word text w h.1
-
 list_lacks : (options path : Option Bytes) → IsOptionalText path
     → Lacks LF (canonical_body (Listing options path))
 list_lacks options None optional = Lacks-test LF (codes "LIST") refl
@@ -68,10 +59,21 @@ body_lacks (Rest offset) has_line =
 body_lacks (Md5 file) has_line = verb (codes "SITE MD5") file refl has_line.1
 body_lacks (Site name arguments) has_line =
     site_lacks name arguments (Lacks-name name has_line.0) has_line.2
-body_lacks (Other name arguments) has_line =
-    spaced_unless_empty_lacks name arguments (Lacks-name name has_line.0) has_line.2
+body_lacks (Other name []) has_line = Lacks-name name has_line.0
+body_lacks (Other name (b ∷ arguments)) has_line =
+    spaced_lacks name (b ∷ arguments) (Lacks-name name has_line.0) has_line.2
+body_lacks (User []) has_line = fixed (User []) refl
+body_lacks (User (b ∷ name)) has_line = verb (codes "USER") (b ∷ name) refl has_line
+body_lacks (Pass []) has_line = fixed (Pass []) refl
+body_lacks (Pass (b ∷ password)) has_line = verb (codes "PASS") (b ∷ password) refl has_line
+body_lacks (Acct []) has_line = fixed (Acct []) refl
+body_lacks (Acct (b ∷ account)) has_line = verb (codes "ACCT") (b ∷ account) refl has_line
+body_lacks (Stat (Some path)) has_line = verb (codes "STAT") path refl has_line.1
+body_lacks (Nlst (Some path)) has_line = verb (codes "NLST") path refl has_line.1
+body_lacks (Mlst (Some path)) has_line = verb (codes "MLST") path refl has_line.1
+body_lacks (Mlsd (Some path)) has_line = verb (codes "MLSD") path refl has_line.1
 -- each other command by its fields
-body_lacks command has_line = search (fixed, verb, bare, maybe)
+body_lacks command has_line = search (fixed, verb)
 
 pub IsLine-canonical_line : (command : FtpCommand) → HasLine command
     → IsLine (canonical_line command)

@@ -6,7 +6,9 @@ use Rattle.unftp_control_defs.specs.Bytes.{Bytes, LF, CR, SP, crlf, Lacks}
 use Rattle.unftp_control_defs.specs.Values.{ReadsLater, ends_crlf, cr_nul, byte, Reads, ended_crlf, first_cr_nul, first_byte, escaped}
 use Rattle.unftp_control_defs.specs.ComputedValue.{value_of}
 use Rattle.unftp_control_defs.specs.FtpCommand.{User}
-use Rattle.unftp_control_defs.specs.Rules.{raw}
+use Rattle.unftp_control_defs.specs.Rules.{command_by, maybe_raw, taken, unless_empty}
+use Rattle.unftp_control_defs.specs.declared.verb.Kind.TheVariants as kinds
+use Rattle.unftp_control_defs.specs.declared.verb.Verb.TheVariants as verb
 use Rattle.unftp_control_defs.specs.Outcome.{outcome, value_answer}
 use Rattle.unftp_control_defs.proofs.LackLemmas.{Lacks-decimal}
 use Rattle.unftp_control_defs.proofs.LineEndLemmas.{not_cr}
@@ -47,8 +49,8 @@ escaped-without_cr (b ∷ text) h =
 pub escaped-decimal : (n : ℕ) → escaped (decimal n) ≡ decimal n
 escaped-decimal n = escaped-without_cr (decimal n) (Lacks-decimal CR n (omega arith))
 
-user_line : (parameter : Bytes) → outcome (codes "USER" ++ SP ∷ parameter) ≡ value_answer (raw User)
-    (value_of parameter)
+user_line : (parameter : Bytes) → outcome (codes "USER" ++ SP ∷ parameter)
+    ≡ value_answer (taken kinds.Raw verb.User []) (value_of parameter)
 unfolding is_utf8 chars lib.Utf8.encode
 user_line parameter = refl
 
@@ -56,4 +58,8 @@ user_line parameter = refl
 pub outcome-escaped : (name : Bytes) → Lacks LF name
     → outcome (codes "USER " ++ escaped name ++ crlf) ≡ Ok (User name)
 outcome-escaped name h = user_line (escaped name ++ crlf)
-    ∙ ap (value_answer (raw User)) (value_of-escaped name h)
+    ∙ ap (value_answer (taken kinds.Raw verb.User [])) (value_of-escaped name h) ∙ user name
+  where
+    user : (name : Bytes) → command_by verb.User [] (maybe_raw (unless_empty name)) ≡ Ok (User name)
+    user [] = refl
+    user (b ∷ name) = refl

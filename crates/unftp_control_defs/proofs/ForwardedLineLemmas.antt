@@ -1,20 +1,22 @@
 -- The line that is forwarded for a line is one line, and is read as the line's command.
-use Rattle.std.proofs.Common.{◌≡◌, ◌≢◌, ℕ, Bool, true, false, cond, [], ◌∷◌, ◌++◌, ◌⊎◌, Option, Some, None, Ok, bytes_eq, refl, sym, ap, ◌∙◌, inl, inr, ne_eqb, eq-eqb, codes, append_assoc, arith}
+use Rattle.std.proofs.Common.{◌≡◌, ◌≢◌, ℕ, Bool, true, false, cond, [], ◌∷◌, ◌++◌, ◌⊎◌, Option, Some, None, Ok, refl, sym, ap, ◌∙◌, inl, inr, ne_eqb, eq-eqb, append_assoc, arith}
 use Rattle.std.specs.List.{AllByRecursion}
 use Rattle.std.specs.Str.{is_utf8}
 use Rattle.std.proofs.lemmas.Bool.{cases_eq, false≢true}
 use Rattle.std.proofs.lemmas.Str.{is_utf8-from_IsUtf8}
-use lib.Pointwise.{bytes_decides}
 use Rattle.unftp_control_defs.specs.Bytes.{Bytes, NUL, LF, CR, SP, crlf, Lacks}
 use Rattle.unftp_control_defs.specs.Lines.{IsLine}
 use Rattle.unftp_control_defs.specs.Verbs.{is_separator, verb_of, parameter_of, upper}
 use Rattle.unftp_control_defs.specs.Values.{ReadsLater, ends_crlf, ends_lf, cr_nul, byte, Reads, nothing, ended, ended_crlf, one_byte, first_cr_nul, first_byte}
 use Rattle.unftp_control_defs.specs.ComputedValue.{value_of}
 use Rattle.unftp_control_defs.specs.FtpCommand.{FtpCommand, InvalidUtf8}
-use Rattle.unftp_control_defs.specs.Rules.{Rule, Ignores, Takes, Splits, rule_of}
-use Rattle.unftp_control_defs.specs.Outcome.{outcome, answer_by, value_answer}
+use Rattle.unftp_control_defs.specs.Rules.{kind, row_of, taken, verbs}
+use Rattle.unftp_control_defs.specs.declared.verb.Kind.{Kind}
+use Rattle.unftp_control_defs.specs.declared.verb.Kind.TheVariants as kinds
+use Rattle.unftp_control_defs.specs.declared.verb.Verb.{Verb}
+use Rattle.unftp_control_defs.specs.Outcome.{outcome, parameter_answer, value_answer, word_answer}
 use Rattle.unftp_control_defs.specs.Canonical.{canonical_line, HasLine}
-use Rattle.unftp_control_defs.specs.Forwarded.{keeps_parameter, begins_with_lf, begins_end, before_end, with_parameter, kept_line, forwarded_line}
+use Rattle.unftp_control_defs.specs.Forwarded.{keeps, keeps_parameter, kind_keeps, begins_with_lf, begins_end, before_end, with_parameter, kept_line, forwarded_line}
 use Rattle.unftp_control_defs.proofs.AnswerLemmas.{passed}
 use Rattle.unftp_control_defs.proofs.CanonicalLineLemmas.{outcome-canonical_line}
 use Rattle.unftp_control_defs.proofs.CanonicalLineEndLemmas.{IsLine-canonical_line}
@@ -110,6 +112,10 @@ value_kept : (parameter v : Bytes) → EndsAtLf parameter → value_of parameter
     → value_of (before_end parameter ++ crlf) ≡ Some v
 value_kept parameter v ends h = value_of-Reads (reads_kept ends (Reads-value_of parameter v h))
 
+abbrev is_site : Kind → Bool
+is_site kinds.Subcommand = true
+is_site _ = false
+
 -- the parameter bytes of the line that is made
 abbrev made_parameter : Bytes → Bytes
 made_parameter [] = LF ∷ []
@@ -123,19 +129,22 @@ before_end-made_parameter : (text : Bytes) → Lacks LF text → before_end (mad
 before_end-made_parameter [] h = refl
 before_end-made_parameter (b ∷ text) h = before_end-crlf (b ∷ text) [] h
 
--- the rule makes the same of them
-answer_kept : (rule : Rule) (parameter : Bytes) {command : FtpCommand} → rule ≢ Splits
-    → EndsAtLf parameter → answer_by rule parameter ≡ Ok command
-    → answer_by rule (made_parameter (before_end parameter)) ≡ Ok command
-answer_kept (Ignores made) parameter other ends e = e
-answer_kept Splits parameter other ends e = absurd (other refl)
-answer_kept (Takes answer) parameter {command} other ends e = by_option (value_of parameter) refl e
+-- the verb makes the same of them
+answer_kept : (kind : Kind) (verb : Verb) (word parameter : Bytes) {command : FtpCommand}
+    → is_site kind ≡ false → EndsAtLf parameter
+    → parameter_answer kind verb word parameter ≡ Ok command
+    → parameter_answer kind verb word (made_parameter (before_end parameter)) ≡ Ok command
+answer_kept kinds.Ignored verb word parameter other ends e = e
+answer_kept kinds.Subcommand verb word parameter other ends e = cc
+answer_kept kind verb word parameter {command} other ends e = by_option (value_of parameter) refl e
   where
-    by_option : (o : Option Bytes) → value_of parameter ≡ o → value_answer answer o ≡ Ok command
-        → value_answer answer (value_of (made_parameter (before_end parameter))) ≡ Ok command
+    by_option : (o : Option Bytes) → value_of parameter ≡ o
+        → value_answer (taken kind verb word) o ≡ Ok command
+        → value_answer (taken kind verb word) (value_of (made_parameter (before_end parameter)))
+        ≡ Ok command
     by_option None q f = cc
     by_option (Some v) q f =
-        ap (value_answer answer) (value_of-made_parameter (before_end parameter)
+        ap (value_answer (taken kind verb word)) (value_of-made_parameter (before_end parameter)
         ∙ value_kept parameter v ends q) ∙ f
 
 -- The line that is made of a name.
@@ -173,12 +182,9 @@ pub parameter_of-forwarded_line : (line : Bytes) (command : FtpCommand)
 parameter_of-forwarded_line line command keeps = rw keeps (kept_cut line).1
 
 -- a verb that keeps its parameter is not SITE
-not_site : (verb : Bytes) → keeps_parameter verb ≡ true → rule_of verb ≢ Splits
-not_site verb keeps e = by_name (rw e at keeps)
-  where
-    by_name : bytes_eq verb (codes "LIST") ≡ true → ⊥
-    by_name is = let same : rule_of (codes "LIST") ≡ Splits =
-        ap rule_of (sym ((bytes_decides verb (codes "LIST")).0 is)) ∙ e in cc
+not_site : (kind : Kind) → kind_keeps kind ≡ true → is_site kind ≡ false
+not_site kinds.Subcommand keeps = cc
+not_site kind keeps = refl
 
 module _ (line : Bytes) (command : FtpCommand) (is_line : IsLine line)
     (means : outcome line ≡ Ok command) where
@@ -188,14 +194,14 @@ module _ (line : Bytes) (command : FtpCommand) (is_line : IsLine line)
   abbrev text : Bytes
   text = before_end (parameter_of line)
 
-  abbrev rule : Rule
-  rule = rule_of name
+  abbrev row : Option Verb
+  row = row_of name verbs
 
-  read : (is_utf8 (verb_of line) ≡ true) × (answer_by rule (parameter_of line) ≡ Ok command)
-  read = passed (is_utf8 (verb_of line)) (answer_by rule (parameter_of line)) InvalidUtf8 command
-      means
+  read : (is_utf8 (verb_of line) ≡ true) × (word_answer name row (parameter_of line) ≡ Ok command)
+  read = passed (is_utf8 (verb_of line)) (word_answer name row (parameter_of line)) InvalidUtf8
+      command means
 
-  kept_answer : outcome (kept_line line) ≡ answer_by rule (made_parameter text)
+  kept_answer : outcome (kept_line line) ≡ word_answer name row (made_parameter text)
   kept_answer =
       let cut = made_cut name (bare_verb line) text in
       rw (
@@ -206,8 +212,14 @@ module _ (line : Bytes) (command : FtpCommand) (is_line : IsLine line)
       )
 
   kept_back : keeps_parameter name ≡ true → outcome (kept_line line) ≡ Ok command
-  kept_back keeps = kept_answer ∙ answer_kept rule (parameter_of line) (not_site name keeps)
-      (parameter_of-ends line (IsLine-ends line is_line)) read.1
+  kept_back kept = kept_answer ∙ by_row row kept read.1
+    where
+      by_row : (row : Option Verb) → keeps row ≡ true
+          → word_answer name row (parameter_of line) ≡ Ok command
+          → word_answer name row (made_parameter text) ≡ Ok command
+      by_row None kept e = cc
+      by_row (Some verb) kept e = answer_kept (kind verb) verb [] (parameter_of line)
+          (not_site (kind verb) kept) (parameter_of-ends line (IsLine-ends line is_line)) e
 
   kept_lacks : (t : Bytes) → Lacks LF t → Lacks LF (with_parameter name t)
   kept_lacks [] h = Lacks-name name (uppercased_name line)

@@ -30,3 +30,5 @@ pub mod Computing
 pub mod LineEventLemmas
 pub mod TraceLemmas
 pub mod InputLemmas
+pub mod SaidLemmas
+pub mod WordLemmas

@@ -2,7 +2,8 @@
 use Rattle.std.proofs.Common.{◌≡◌, ℕ, false, cond, [], ◌∷◌, ◌++◌, Option, map, length, ap, ◌∙◌}
 use Rattle.unftp_control_defs.specs.Bytes.{Bytes}
 use Rattle.unftp_control_defs.specs.Canonical.{canonical_line, HasLine}
-use Rattle.unftp_control_defs.specs.FtpCommand.{FtpCommand, HasTypedFields}
+use Rattle.unftp_control_defs.specs.FtpCommand.{FtpCommand}
+use Rattle.unftp_control_defs.specs.Said.{HasTypedFields}
 use Rattle.unftp_control_defs.specs.Events.{Command, Refused, event_of, event_for, events, exceeds, line_too_long}
 use Rattle.unftp_control_defs.specs.Lines.{incomplete_line}
 use Rattle.unftp_control_defs.specs.Outcome.{outcome}

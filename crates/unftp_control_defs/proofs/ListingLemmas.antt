@@ -1,13 +1,15 @@
 -- A path of LIST is read back, also one that begins with a dash.
 use Rattle.std.proofs.Common.{◌≡◌, ℕ, [], ◌∷◌, ◌++◌, ◌==◌, ◌⊎◌, Option, Some, None, Ok, refl, ap, ◌∙◌, inl, inr, ne_eqb, eq-eqb, codes}
 use Rattle.std.specs.Str.{IsUtf8, is_utf8, chars}
-use Rattle.std.specs.Str.Lossy.{utf8_lossy}
 use Rattle.std.proofs.lemmas.Bool.{cases_eq, cond_both}
 use Rattle.std.proofs.lemmas.Str.{utf8_lossy-IsUtf8, IsUtf8-append, IsUtf8-nil, IsUtf8-from_is_utf8}
 use Rattle.unftp_control_defs.specs.Bytes.{Bytes, LF, DASH, Lacks}
 use Rattle.unftp_control_defs.specs.Paths.{path_of}
-use Rattle.unftp_control_defs.specs.FtpCommand.{List as Listing, IsMaybeUtf8}
-use Rattle.unftp_control_defs.specs.Rules.{listing, unless_empty}
+use Rattle.unftp_control_defs.specs.FtpCommand.{List as Listing}
+use Rattle.unftp_control_defs.specs.Said.{IsMaybeUtf8}
+use Rattle.unftp_control_defs.specs.Rules.{by_optional_text, maybe_text, taken, unless_empty}
+use Rattle.unftp_control_defs.specs.declared.verb.Kind.TheVariants as kinds
+use Rattle.unftp_control_defs.specs.declared.verb.Verb.TheVariants as verb
 use Rattle.unftp_control_defs.specs.Outcome.{outcome}
 use Rattle.unftp_control_defs.specs.Canonical.{with_option_end, canonical_line, IsOptionalText}
 use Rattle.unftp_control_defs.proofs.LackLemmas.{Lacks-test, Lacks-append}
@@ -41,10 +43,14 @@ IsUtf8-with_option_end (b ∷ path) utf8 = cond_both (b == DASH) (codes "-- " ++
 pub listing_back : (path : Option Bytes) → IsOptionalText path → IsMaybeUtf8 path
     → outcome (canonical_line (Listing None path)) ≡ Ok (Listing None path)
 unfolding is_utf8 chars lib.Utf8.encode
-listing_back None optional utf8 = ap listing (utf8_lossy-IsUtf8 [] IsUtf8-nil)
+listing_back None optional utf8 =
+    ap (λ t. by_optional_text (Listing None) [] (maybe_text (unless_empty (path_of t))))
+    (utf8_lossy-IsUtf8 [] IsUtf8-nil)
 listing_back (Some path) named utf8 =
-    by_escaped (λ v. listing (utf8_lossy v)) (with_option_end path)
+    by_escaped (taken kinds.Listing verb.List []) (with_option_end path)
     (Lacks-with_option_end path named.1)
-    ∙ ap listing (utf8_lossy-IsUtf8 (with_option_end path) (IsUtf8-with_option_end path utf8))
-    ∙ ap (λ t. Ok (Listing None (unless_empty t))) (path_of-with_option_end path)
-    ∙ ap (λ t. Ok (Listing None t)) (unless_empty-some path named.0)
+    ∙ rw (
+      utf8_lossy-IsUtf8 (with_option_end path) (IsUtf8-with_option_end path utf8),
+      path_of-with_option_end path,
+      unless_empty-some path named.0,
+    ) refl

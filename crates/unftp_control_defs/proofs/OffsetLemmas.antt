@@ -1,5 +1,5 @@
 -- The offset of REST is read back.
-use Rattle.std.proofs.Common.{◌≡◌, ◌≢◌, ◌<◌, ◌^◌, ℕ, true, length, get_or, Ok, refl, ◌∙◌, arith, codes}
+use Rattle.std.proofs.Common.{◌≡◌, ◌≢◌, ◌<◌, ◌^◌, ℕ, true, length, get_or, Ok, ◌∙◌, arith}
 use Rattle.std.specs.Fmt.{decimal}
 use Rattle.std.specs.Str.{is_utf8, chars, all_ascii_digits}
 use Rattle.std.specs.Str.Lossy.{utf8_lossy}
@@ -14,7 +14,7 @@ use Rattle.unftp_control_defs.specs.Rules.{offset}
 use Rattle.unftp_control_defs.specs.Outcome.{outcome}
 use Rattle.unftp_control_defs.specs.Canonical.{canonical_line}
 use Rattle.unftp_control_defs.proofs.LackLemmas.{Lacks-decimal}
-use Rattle.unftp_control_defs.proofs.CommandRoundTripLemmas.{spaced_back}
+use Rattle.unftp_control_defs.proofs.CommandRoundTripLemmas.{by_escaped}
 
 -- a text of digits, as std reads one
 own : IsNumeralModel (λ digits. all_ascii_digits digits ≡ true) (digits_value 10)
@@ -42,5 +42,5 @@ module _ (n : ℕ) (fits : n < 2 ^ 64) where
 
 pub rest_back : (n : ℕ) → n < 2 ^ 64 → outcome (canonical_line (Rest n)) ≡ Ok (Rest n)
 unfolding is_utf8 chars lib.Utf8.encode
-rest_back n fits = spaced_back (codes "REST") (λ v. offset (utf8_lossy v)) (λ parameter. refl)
-    (decimal n) (Lacks-decimal LF n (omega arith)) ∙ offset-decimal n fits
+rest_back n fits = by_escaped (λ v. offset (utf8_lossy v)) (decimal n)
+    (Lacks-decimal LF n (omega arith)) ∙ offset-decimal n fits

@@ -1,53 +1,17 @@
--- The rule of each verb gives sound commands, of a value without LF.
-use Rattle.std.proofs.Common.{◌≡◌, true, false, Bool, cond, List, [], ◌∷◌, Option, Some, None, option_map, unwrap_or, find, bytes_eq, refl, sym, subst}
+-- Each verb makes sound commands of what is read, and so of a value without LF.
+use Rattle.std.proofs.Common.{◌≡◌, ◌≢◌, true, false, Bool, cond, List, [], ◌∷◌, Some, None, option_map, find, bytes_eq, codes, refl, sym, subst}
 use lib.Pointwise.{bytes_decides}
-use Rattle.std.specs.Bool.{⊤}
 use Rattle.std.specs.List.{AllByRecursion}
 use Rattle.std.specs.Str.{IsUtf8}
+use Rattle.std.proofs.lemmas.Str.{IsUtf8-nil}
 use Rattle.unftp_control_defs.specs.Bytes.{Bytes}
-use Rattle.unftp_control_defs.specs.FtpCommand.{Other}
-use Rattle.unftp_control_defs.specs.Rules.{chosen, structures, modes, protections, options, buffer_sizes, Rule, Ignores, Takes, Splits, any_text, row_of, verbs, rule_of}
+use Rattle.unftp_control_defs.specs.FtpCommand.{Auth, Mode, Opts, Other, Pbsz, Prot, Site, Stru}
+use Rattle.unftp_control_defs.specs.Rules.{Chosen, by_buffer_size, by_mechanism, by_mode, by_protection, by_setting, by_structure, command_by, row_of, verbs}
+use Rattle.unftp_control_defs.specs.declared.parameters.Choice.TheVariants as choices
+use Rattle.unftp_control_defs.specs.declared.verb.Verb.{Verb}
+use Rattle.unftp_control_defs.specs.declared.verb.Verb.TheVariants as verb
 use Rattle.unftp_control_defs.specs.Canonical.{IsUpperCaseName}
-use Rattle.unftp_control_defs.proofs.AnswerLemmas.{IsSound, Gives, raw_gives, any_gives, without_parameter_gives, some_gives, maybe_gives, chosen_gives, auth_gives, offset_gives, stat_gives, list_gives}
-
--- of SITE its names decide
-abbrev pub RuleGives : Rule → Type 0
-RuleGives (Ignores command) = IsSound command
-RuleGives (Takes answer) = Gives answer
-RuleGives Splits = ⊤
-
--- the values of a command's own type, each by computation
-structures_give : Gives (chosen structures)
-structures_give = chosen_gives structures ((tt, tt), ((tt, tt), ((tt, tt), tt)))
-
-modes_give : Gives (chosen modes)
-modes_give = chosen_gives modes ((tt, tt), ((tt, tt), ((tt, tt), tt)))
-
-protections_give : Gives (chosen protections)
-protections_give = chosen_gives protections ((tt, tt), ((tt, tt), ((tt, tt), ((tt, tt), tt))))
-
-options_give : Gives (chosen options)
-options_give = chosen_gives options ((tt, tt), ((tt, tt), ((tt, tt), ((tt, tt), tt))))
-
-buffer_sizes_give : Gives (chosen buffer_sizes)
-buffer_sizes_give = chosen_gives buffer_sizes ((tt, tt), tt)
-
-all_rules : AllByRecursion (λ row. RuleGives row.1) verbs
-all_rules = search (
-  raw_gives,
-  without_parameter_gives,
-  some_gives,
-  maybe_gives,
-  structures_give,
-  modes_give,
-  protections_give,
-  options_give,
-  buffer_sizes_give,
-  auth_gives,
-  offset_gives,
-  stat_gives,
-  list_gives,
-)
+use Rattle.unftp_control_defs.proofs.AnswerLemmas.{IsTyped-raw, Makes, named_text_makes, nothing_makes, number_makes, optional_raw_makes, optional_text_makes, raw_makes, sound, text_makes}
 
 -- the row that is found, with its name
 pub found : {A : Type 0} (P : Bytes → A → Type 0) (name : Bytes) (rows : List (Bytes × A)) {x : A}
@@ -65,11 +29,63 @@ found P name (row ∷ rows) {x} each e =
         (subst (λ n. P n row.1) (sym ((bytes_decides name row.0).0 t)) each.0)
     by_test false t more q = more q
 
--- the rule of a verb in upper case
-pub rule_gives : (verb : Bytes) → IsUpperCaseName verb → IsUtf8 verb → RuleGives (rule_of verb)
-rule_gives verb is_name is_text = by_row (row_of verb verbs) refl
-  where
-    by_row : (row : Option Rule) → row_of verb verbs ≡ row
-        → RuleGives (unwrap_or row (Takes (any_text (Other verb))))
-    by_row None none = any_gives (Other verb) (λ text h utf8. ((is_name, none, h), (is_text, utf8)))
-    by_row (Some rule) is = found (λ name. RuleGives) verb verbs all_rules is
+-- the names that a verb's commands may have
+abbrev pub IsNameOf : Verb → Bytes → Type 0
+IsNameOf verb.Site name = IsUpperCaseName name × (name ≢ codes "MD5") × IsUtf8 name
+IsNameOf verb.Other name = IsUpperCaseName name × (row_of name verbs ≡ None) × IsUtf8 name
+IsNameOf _ name = name ≡ []
+
+by_structure_makes : (name : Bytes) → Makes (by_structure name)
+by_structure_makes name (Chosen (choices.Structure structure)) command is e = sound (Stru structure) command (tt, tt) e
+by_structure_makes name value command is e = cc
+
+by_mode_makes : (name : Bytes) → Makes (by_mode name)
+by_mode_makes name (Chosen (choices.Mode mode)) command is e = sound (Mode mode) command (tt, tt) e
+by_mode_makes name value command is e = cc
+
+by_protection_makes : (name : Bytes) → Makes (by_protection name)
+by_protection_makes name (Chosen (choices.Protection protection)) command is e = sound (Prot protection) command (tt, tt) e
+by_protection_makes name value command is e = cc
+
+by_mechanism_makes : (name : Bytes) → Makes (by_mechanism name)
+by_mechanism_makes name (Chosen (choices.Mechanism mechanism)) command is e = sound (Auth mechanism) command (tt, tt) e
+by_mechanism_makes name value command is e = cc
+
+by_setting_makes : (name : Bytes) → Makes (by_setting name)
+by_setting_makes name (Chosen (choices.Setting setting)) command is e = sound (Opts setting) command (tt, tt) e
+by_setting_makes name value command is e = cc
+
+by_buffer_size_makes : (name : Bytes) → Makes (by_buffer_size name)
+by_buffer_size_makes name (Chosen choices.NoBuffer) command is e = sound Pbsz command (tt, tt) e
+by_buffer_size_makes name value command is e = cc
+
+pub verb_makes : (verb : Verb) (name : Bytes) → IsNameOf verb name → Makes (command_by verb name)
+verb_makes verb.Site name is = named_text_makes Site name
+    (λ text h utf8. ((is.0, is.1, h), (is.2, utf8)))
+verb_makes verb.Other name is = named_text_makes Other name
+    (λ text h utf8. ((is.0, is.1, h), (is.2, utf8)))
+verb_makes verb name is = search (
+  nothing_makes,
+  raw_makes,
+  optional_raw_makes,
+  text_makes,
+  optional_text_makes,
+  number_makes,
+  IsTyped-raw,
+  by_structure_makes,
+  by_mode_makes,
+  by_protection_makes,
+  by_mechanism_makes,
+  by_setting_makes,
+  by_buffer_size_makes,
+)
+
+empty_name : IsNameOf verb.Site []
+empty_name = (tt, (λ e. cc), IsUtf8-nil)
+
+all_unnamed : AllByRecursion (λ row. IsNameOf row.1 []) verbs
+all_unnamed = search empty_name
+
+-- the verb of a word has no name
+pub unnamed : (word : Bytes) {verb : Verb} → row_of word verbs ≡ Some verb → IsNameOf verb []
+unnamed word is = found (λ word verb. IsNameOf verb []) word verbs all_unnamed is

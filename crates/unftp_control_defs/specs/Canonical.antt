@@ -7,9 +7,9 @@ use Rattle.std.specs.List.{AllByRecursion}
 use Rattle.unftp_control_defs.specs.Bytes.{Bytes, LF, SP, DASH, crlf, Lacks}
 use Rattle.unftp_control_defs.specs.Verbs.{is_separator}
 use Rattle.unftp_control_defs.specs.Values.{escaped}
-use Rattle.unftp_control_defs.specs.Rules.{verbs, row_of, unless_empty}
-use Rattle.unftp_control_defs.specs.NameAndValue.{name_and_value}
-use Rattle.unftp_control_defs.specs.FtpCommand.{FtpCommand, User, Pass, Acct, Stat, TypeCode, Port, Retr, Stor, Appe, List as Listing, Nlst, Mlst, Mlsd, Cwd, Dele, Rmd, Mkd, Allo, Rnfr, Rnto, Size, Mdtm, Md5, Site, Other}
+use Rattle.unftp_control_defs.specs.Rules.{Value, Raw, Text, maybe_text, row_of, unless_empty, verbs}
+use Rattle.unftp_control_defs.specs.Said.{name_and_value, said}
+use Rattle.unftp_control_defs.specs.FtpCommand.{FtpCommand, User, Pass, Acct, TypeCode, List as Listing, Allo, Md5, Site, Other}
 
 -- a word, a space and a parameter
 abbrev pub spaced : Bytes → Bytes → Bytes
@@ -55,9 +55,14 @@ canonical_line command = canonical_body command ++ crlf
 abbrev pub IsNonEmptyText : Bytes → Type 0
 IsNonEmptyText text = (text ≢ []) × Lacks LF text
 
+-- a value that a line has room for
+abbrev pub HasRoom : Value → Type 0
+HasRoom (Raw bytes) = IsNonEmptyText bytes
+HasRoom (Text text) = IsNonEmptyText text
+HasRoom _ = ⊤
+
 abbrev pub IsOptionalText : Option Bytes → Type 0
-IsOptionalText None = ⊤
-IsOptionalText (Some text) = IsNonEmptyText text
+IsOptionalText text = HasRoom (maybe_text text)
 
 -- a name in upper case: without separators and letters `a` to `z`
 abbrev pub IsUpperCaseName : Bytes → Type 0
@@ -69,25 +74,8 @@ abbrev pub HasLine : FtpCommand → Type 0
 HasLine (User name) = Lacks LF name
 HasLine (Pass password) = Lacks LF password
 HasLine (Acct account) = Lacks LF account
-HasLine (Stat path) = IsOptionalText path
-HasLine (Port addr) = IsNonEmptyText addr
-HasLine (Retr path) = IsNonEmptyText path
-HasLine (Stor path) = IsNonEmptyText path
-HasLine (Appe path) = IsNonEmptyText path
 HasLine (Listing options path) = (options ≡ None) × IsOptionalText path
-HasLine (Nlst path) = IsOptionalText path
-HasLine (Mlst path) = IsOptionalText path
-HasLine (Mlsd path) = IsOptionalText path
-HasLine (Cwd path) = IsNonEmptyText path
-HasLine (Dele path) = IsNonEmptyText path
-HasLine (Rmd path) = IsNonEmptyText path
-HasLine (Mkd path) = IsNonEmptyText path
-HasLine (Rnfr file) = IsNonEmptyText file
-HasLine (Rnto file) = IsNonEmptyText file
-HasLine (Size file) = IsNonEmptyText file
-HasLine (Mdtm file) = IsNonEmptyText file
-HasLine (Md5 file) = IsNonEmptyText file
 HasLine (Site name arguments) = IsUpperCaseName name × (name ≢ codes "MD5") × Lacks LF arguments
 HasLine (Other name arguments) =
     IsUpperCaseName name × (row_of name verbs ≡ None) × Lacks LF arguments
-HasLine _ = ⊤
+HasLine command = HasRoom (said command).value

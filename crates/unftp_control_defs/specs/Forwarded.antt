@@ -1,21 +1,28 @@
 -- The line that a proxy sends to a server for a client's line (RFC 959, section 5.3). It is the
 -- canonical line of the line's command; but a command holds nothing of a parameter that is ignored,
 -- and of LIST only the path, so the lines of these verbs keep the bytes of their parameter.
-use Rattle.std.specs.Prelude.{ℕ, Bool, true, false, ◌==◌, ◌&&◌, ◌||◌, if◌then◌else◌, [], ◌∷◌, ◌++◌, bytes_eq, codes}
+use Rattle.std.specs.Prelude.{ℕ, Bool, true, false, ◌==◌, ◌&&◌, ◌||◌, if◌then◌else◌, [], ◌∷◌, ◌++◌, Option, Some, None}
 use Rattle.unftp_control_defs.specs.Bytes.{Bytes, LF, CR, SP, crlf}
 use Rattle.unftp_control_defs.specs.Verbs.{verb_of, parameter_of, upper}
 use Rattle.unftp_control_defs.specs.FtpCommand.{FtpCommand}
-use Rattle.unftp_control_defs.specs.Rules.{Rule, Ignores, Takes, Splits, rule_of}
+use Rattle.unftp_control_defs.specs.Rules.{kind, row_of, verbs}
+use Rattle.unftp_control_defs.specs.declared.verb.Kind.{Kind}
+use Rattle.unftp_control_defs.specs.declared.verb.Kind.TheVariants as kinds
+use Rattle.unftp_control_defs.specs.declared.verb.Verb.{Verb}
 use Rattle.unftp_control_defs.specs.Canonical.{canonical_line}
 
-abbrev pub ignores_parameter : Rule → Bool
-ignores_parameter (Ignores command) = true
-ignores_parameter (Takes answer) = false
-ignores_parameter Splits = false
+abbrev pub kind_keeps : Kind → Bool
+kind_keeps kinds.Ignored = true
+kind_keeps kinds.Listing = true
+kind_keeps _ = false
 
--- a verb in upper case whose parameter is forwarded as it came: it says more than the command
+-- The parameter of such a verb is forwarded as it came: it says more than the command.
+abbrev pub keeps : Option Verb → Bool
+keeps None = false
+keeps (Some verb) = kind_keeps (kind verb)
+
 abbrev pub keeps_parameter : Bytes → Bool
-keeps_parameter verb = ignores_parameter (rule_of verb) || bytes_eq verb (codes "LIST")
+keeps_parameter word = keeps (row_of word verbs)
 
 abbrev pub begins_with_lf : Bytes → Bool
 begins_with_lf [] = false

@@ -10,7 +10,7 @@ pub mod Paths
 pub mod FtpCommand
 pub mod Rules
 pub mod Outcome
-pub mod NameAndValue
+pub mod Said
 pub mod Canonical
 pub mod Forwarded
 pub mod FtpReply
@@ -24,3 +24,4 @@ pub mod Run
 pub mod Turns
 pub mod Pieces
 pub mod LossyText
+pub mod Words

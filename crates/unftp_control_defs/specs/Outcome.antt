@@ -1,14 +1,18 @@
 -- What a line means: a command, or one refusal. The UTF-8 of the verb is checked first, then that
 -- of the SITE subcommand, then the line end, then what the verb takes.
-use Rattle.std.specs.Prelude.{if◌then◌else◌, Option, Some, None, Ok, Err}
+use Rattle.std.specs.Prelude.{if◌then◌else◌, [], Option, Some, None, Err}
 use Rattle.std.specs.Str.{is_utf8}
 use Rattle.unftp_control_defs.specs.Bytes.{Bytes}
 use Rattle.unftp_control_defs.specs.Verbs.{verb_of, parameter_of, upper}
 use Rattle.unftp_control_defs.specs.ComputedValue.{value_of}
 use Rattle.unftp_control_defs.specs.FtpCommand.{Answer, InvalidUtf8, InvalidEol}
-use Rattle.unftp_control_defs.specs.Rules.{Rule, Ignores, Takes, Splits, rule_of, subcommand_answer}
+use Rattle.unftp_control_defs.specs.Rules.{Nothing, command_by, kind, row_of, subcommand_answer, taken, verbs}
+use Rattle.unftp_control_defs.specs.declared.verb.Kind.{Kind}
+use Rattle.unftp_control_defs.specs.declared.verb.Kind.TheVariants as kinds
+use Rattle.unftp_control_defs.specs.declared.verb.Verb.{Verb}
+use Rattle.unftp_control_defs.specs.declared.verb.Verb.TheVariants as verb
 
--- what a rule that takes a value makes of it; there is none after an invalid line ending
+-- what a verb that takes a value makes of it; there is none after an invalid line ending
 abbrev pub value_answer : (Bytes → Answer) → Option Bytes → Answer
 value_answer answer None = Err InvalidEol
 value_answer answer (Some v) = answer v
@@ -20,13 +24,21 @@ site_answer parameter = if is_utf8 (verb_of parameter)
     (value_of (parameter_of parameter))
     else Err InvalidUtf8
 
-abbrev pub answer_by : Rule → Bytes → Answer
-answer_by (Ignores command) parameter = Ok command
-answer_by (Takes answer) parameter = value_answer answer (value_of parameter)
-answer_by Splits parameter = site_answer parameter
+-- what a verb of this kind makes of its parameter bytes; most verbs have no name
+abbrev pub parameter_answer : Kind → Verb → Bytes → Bytes → Answer
+parameter_answer kinds.Ignored verb name parameter = command_by verb name Nothing
+parameter_answer kinds.Subcommand verb name parameter = site_answer parameter
+parameter_answer kind verb name parameter =
+    value_answer (taken kind verb name) (value_of parameter)
 
--- The line's verb has to be UTF-8, and its rule says the rest.
+-- what a word in upper case makes of them; one that is no verb is taken as it comes
+abbrev pub word_answer : Bytes → Option Verb → Bytes → Answer
+word_answer word (Some verb) parameter = parameter_answer (kind verb) verb [] parameter
+word_answer word None parameter = parameter_answer kinds.OptionalText verb.Other word parameter
+
+-- The line's verb has to be UTF-8.
 abbrev pub outcome : Bytes → Answer
 outcome line = if is_utf8 (verb_of line)
-    then answer_by (rule_of (upper (verb_of line))) (parameter_of line)
+    then word_answer (upper (verb_of line)) (row_of (upper (verb_of line)) verbs)
+    (parameter_of line)
     else Err InvalidUtf8

@@ -6,3 +6,4 @@ pub mod buffer;
 pub mod count;
 pub mod input;
 pub mod parameters;
+pub mod verb;

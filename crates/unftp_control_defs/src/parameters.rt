@@ -1,5 +1,6 @@
 //! The parameters that name one of a few choices.
 ghost use Rattle.std.specs.Prelude.{◌≡◌, ◌↔◌, IsTrue};
+ghost use Rattle.unftp_control_defs.specs.Said.{choice_word};
 ghost use Rattle.unftp_control_defs.specs.declared.parameters.AuthParam.{AuthParam as RustAuthParam};
 ghost use Rattle.unftp_control_defs.specs.declared.parameters.ModeParam.{ModeParam as RustModeParam};
 ghost use Rattle.unftp_control_defs.specs.declared.parameters.Opt.{Opt as RustOpt};
@@ -7,7 +8,7 @@ ghost use Rattle.unftp_control_defs.specs.declared.parameters.ProtParam.{ProtPar
 ghost use Rattle.unftp_control_defs.specs.declared.parameters.StruParam.{StruParam as RustStruParam};
 
 /// The security mechanism that AUTH asks for (RFC 4217, section 4).
-#[derive(Debug, Drop, PartialEq, Eq, Clone)]
+#[derive(Debug, PartialEq, Eq, Clone, Copy)]
 pub enum AuthParam {
     /// `SSL`, which is older than the RFC.
     Ssl,
@@ -16,7 +17,7 @@ pub enum AuthParam {
 }
 
 /// The transfer mode that MODE asks for (RFC 959, section 3.4).
-#[derive(Debug, Drop, PartialEq, Eq, Clone)]
+#[derive(Debug, PartialEq, Eq, Clone, Copy)]
 pub enum ModeParam {
     /// `S`: the file as a stream of bytes.
     Stream,
@@ -27,7 +28,7 @@ pub enum ModeParam {
 }
 
 /// The option that OPTS sets (RFC 2389, section 4).
-#[derive(Debug, Drop, PartialEq, Eq, Clone)]
+#[derive(Debug, PartialEq, Eq, Clone, Copy)]
 pub enum Opt {
     /// `UTF8`: whether path names are UTF-8 (RFC 2640).
     Utf8 {
@@ -37,7 +38,7 @@ pub enum Opt {
 }
 
 /// The protection of the data channel that PROT asks for (RFC 2228, section 3).
-#[derive(Debug, Drop, PartialEq, Eq, Clone)]
+#[derive(Debug, PartialEq, Eq, Clone, Copy)]
 pub enum ProtParam {
     /// `C`: none.
     Clear,
@@ -50,7 +51,7 @@ pub enum ProtParam {
 }
 
 /// The file structure that STRU asks for (RFC 959, section 3.1.2).
-#[derive(Debug, Drop, PartialEq, Eq, Clone)]
+#[derive(Debug, PartialEq, Eq, Clone, Copy)]
 pub enum StruParam {
     /// `F`: no inner structure.
     File,
@@ -73,3 +74,45 @@ pub fn same_parameters()
     ensures stru { (a b : RustStruParam) → IsTrue (⟦<StruParam as PartialEq>⟧.eq a b) ↔ (a ≡ b) }
     ensures stru_clone { (a b : RustStruParam) → ⟦<StruParam as Clone>⟧.is_clone a b → b ≡ a }
 {}
+
+/// The value of a command that takes one of a few.
+#[derive(Clone, Copy)]
+pub enum Choice {
+    /// Of STRU.
+    Structure(StruParam),
+    /// Of MODE.
+    Mode(ModeParam),
+    /// Of PROT.
+    Protection(ProtParam),
+    /// Of AUTH.
+    Mechanism(AuthParam),
+    /// Of OPTS.
+    Setting(Opt),
+    /// Of PBSZ: the size 0 (RFC 4217, section 9).
+    NoBuffer,
+}
+
+impl Choice {
+    /// Its word on a line, in upper case.
+    pub fn word(&self) -> &'static [u8]
+        ensures { result.now ≡ choice_word self.now }
+    {
+        match self {
+            Choice::Structure(StruParam::File) => b"F",
+            Choice::Structure(StruParam::Record) => b"R",
+            Choice::Structure(StruParam::Page) => b"P",
+            Choice::Mode(ModeParam::Stream) => b"S",
+            Choice::Mode(ModeParam::Block) => b"B",
+            Choice::Mode(ModeParam::Compressed) => b"C",
+            Choice::Protection(ProtParam::Clear) => b"C",
+            Choice::Protection(ProtParam::Safe) => b"S",
+            Choice::Protection(ProtParam::Confidential) => b"E",
+            Choice::Protection(ProtParam::Private) => b"P",
+            Choice::Mechanism(AuthParam::Ssl) => b"SSL",
+            Choice::Mechanism(AuthParam::Tls) => b"TLS",
+            Choice::Setting(Opt::Utf8 { on: true }) => b"UTF8 ON",
+            Choice::Setting(Opt::Utf8 { on: false }) => b"UTF8 OFF",
+            Choice::NoBuffer => b"0",
+        }
+    }
+}

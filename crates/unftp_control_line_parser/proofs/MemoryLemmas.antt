@@ -1,32 +1,46 @@
--- The text of a value, and the memory that it takes.
-use Rattle.std.proofs.Common.{◌≡◌, ◌≢◌, ◌<◌, [], ◌∷◌, Some, length, option_map, sym, ap, ◌∙◌, arith}
-use Rattle.std.specs.Str.Lossy.{utf8_lossy}
-use Rattle.unftp_control_defs.specs.Bytes.{Bytes}
-use Rattle.unftp_control_defs.specs.Rules.{unless_empty}
-use Rattle.unftp_control_defs.specs.Paths.{path_of}
-use Rattle.unftp_control_defs.proofs.LossyLemmas.{kept-utf8_lossy}
-use Rattle.unftp_control_line_parser.proofs.LossyPathLemmas.{path_of-utf8_lossy}
-use Rattle.std.proofs.lemmas.Str.{utf8_lossy-IsUtf8, utf8_lossy_empty}
+-- A command that is made of a line's parts holds what they do.
+use Rattle.std.proofs.Common.{◌<◌, ◌≤◌, [], ◌∷◌, Some, None, Ok, Err, ap, ◌∙◌, arith}
+use Rattle.unftp_control_defs.specs.FtpCommand.{Answer, FtpCommand, User, Pass, Acct, List, Site, Other}
+use Rattle.unftp_control_defs.specs.Said.{Said, IsSaid, Tells, answer_of, said}
+use Rattle.unftp_control_message.specs.PartsMeaning.{Fails, said_len}
+use Rattle.unftp_control_message.specs.declared.reply.error.parse_error.ParseErrorKind.{ParseErrorKind}
+use Rattle.unftp_control_message.specs.declared.reply.error.parse_error.ParseErrorKind.TheVariants as kind
+use Rattle.unftp_control_line_parser.specs.Memory.{AnswerMayTakeMemory, FailsWith, IsRefusal, held_len}
 
-longer : (t : Bytes) → t ≢ [] → 0 < length t
-longer [] some = absurd (some (λ i. []))
-longer (b ∷ t) some = omega arith
+held_said : (command : FtpCommand) → said_len (said command) ≤ held_len command
+held_said (User []) = omega arith
+held_said (User (b ∷ name)) = omega arith
+held_said (Pass []) = omega arith
+held_said (Pass (b ∷ password)) = omega arith
+held_said (Acct []) = omega arith
+held_said (Acct (b ∷ account)) = omega arith
+held_said (List options None) = omega arith
+held_said (List options (Some path)) = omega arith
+held_said (Site name []) = omega arith
+held_said (Site name (b ∷ arguments)) = omega arith
+held_said (Other name []) = omega arith
+held_said (Other name (b ∷ arguments)) = omega arith
+held_said command = omega arith
 
-pub some_lossy : (v : Bytes) → 0 < length v → 0 < length (utf8_lossy v)
-some_lossy v some =
-    longer (utf8_lossy v) (kept-utf8_lossy v (λ none. omega (arith, some, ap length none)))
+may_take : (answer : Answer) (parts : Said) → Tells answer parts → 0 < said_len parts
+    → AnswerMayTakeMemory answer
+may_take (Ok command) parts told some =
+    omega (arith, held_said command, ap said_len told, some)
+may_take (Err refusal) parts told some = absurd told
 
-pub ruleset texts = (some_lossy, utf8_lossy-IsUtf8, utf8_lossy_empty)
+-- where the parts' command can't be made
+pub fails_with : (answer : Answer) (parts : Said) (error : ParseErrorKind) → IsSaid answer parts
+    → Fails (answer_of parts) (said_len parts) error → FailsWith answer error
+fails_with answer parts kind.InvalidCommand says fails = says.0 ∙ fails
+fails_with answer parts kind.OutOfMemory says fails = may_take answer parts says.1 fails
+fails_with answer parts kind.InvalidUtf8 says fails = absurd fails
+fails_with answer parts kind.InvalidEol says fails = absurd fails
 
--- the path of LIST
-pub path_text : (v : Bytes) → option_map utf8_lossy (unless_empty (path_of v))
-    ≡ unless_empty (path_of (utf8_lossy v))
-path_text v = by_bytes (path_of v) ∙ ap unless_empty (sym (path_of-utf8_lossy v))
-  where
-    by_text : (t : Bytes) → 0 < length t → Some t ≡ unless_empty t
-    by_text [] some = absurd (omega arith)
-    by_text (b ∷ t) some = λ i. Some (b ∷ t)
+pub refused_with : (answer : Answer) (error : ParseErrorKind) → IsRefusal answer error
+    → FailsWith answer error
+refused_with answer kind.InvalidCommand refusal = refusal
+refused_with answer kind.OutOfMemory refusal = absurd refusal
+refused_with answer kind.InvalidUtf8 refusal = refusal
+refused_with answer kind.InvalidEol refusal = refusal
 
-    by_bytes : (v : Bytes) → option_map utf8_lossy (unless_empty v) ≡ unless_empty (utf8_lossy v)
-    by_bytes [] = ap unless_empty (sym (utf8_lossy_empty [] (λ i. 0)))
-    by_bytes (b ∷ v) = by_text (utf8_lossy (b ∷ v)) (some_lossy (b ∷ v) (omega arith))
+pub ruleset commands = (fails_with, refused_with)

@@ -1,35 +1,36 @@
 -- What a verb of the table makes of a line.
-use Rattle.std.proofs.Common.{◌≡◌, true, false, Some, None, refl, ◌∙◌}
+use Rattle.std.proofs.Common.{◌≡◌, true, false, [], Some, None, refl, ◌∙◌}
 use Rattle.std.specs.List.{list_all}
 use Rattle.std.specs.Str.{IsUtf8, is_utf8, chars}
 use Rattle.std.proofs.lemmas.Bool.{false_from_ne_true, true_from_ne_false}
 use Rattle.std.proofs.lemmas.Str.{IsUtf8-from_is_utf8, is_utf8-from_IsUtf8}
 use Rattle.unftp_control_defs.specs.Bytes.{Bytes}
 use Rattle.unftp_control_defs.specs.Verbs.{upper, verb_of, parameter_of}
-use Rattle.unftp_control_defs.specs.ComputedValue.{value_of}
-use Rattle.unftp_control_defs.specs.FtpCommand.{Other}
-use Rattle.unftp_control_defs.specs.Rules.{Rule, row_of, verbs, any_text}
-use Rattle.unftp_control_defs.specs.Outcome.{value_answer, answer_by, outcome}
+use Rattle.unftp_control_defs.specs.Rules.{kind, row_of, verbs}
+use Rattle.unftp_control_defs.specs.declared.verb.Kind.TheVariants as kinds
+use Rattle.unftp_control_defs.specs.declared.verb.Verb.{Verb}
+use Rattle.unftp_control_defs.specs.declared.verb.Verb.TheVariants as verb
+use Rattle.unftp_control_defs.specs.Outcome.{outcome, parameter_answer}
 use Rattle.unftp_control_defs.proofs.CaseLemmas.{is_utf8-upper}
-use Rattle.unftp_control_line_parser.proofs.VerbLemmas.{none_of}
+use Rattle.unftp_control_defs.proofs.WordLemmas.{none_of}
 
 -- each verb is UTF-8
 utf8_verbs : list_all (λ row. is_utf8 row.0) verbs ≡ true
 unfolding is_utf8 chars lib.Utf8.encode
 utf8_verbs = refl
 
-pub named_utf8 : (word : Bytes) (rule : Rule) → row_of (upper word) verbs ≡ Some rule
+pub named_utf8 : (word : Bytes) (verb : Verb) → row_of (upper word) verbs ≡ Some verb
     → is_utf8 word ≡ true
-named_utf8 word rule e = true_from_ne_false (is_utf8 word) (λ ill.
+named_utf8 word verb e = true_from_ne_false (is_utf8 word) (λ ill.
     let none = none_of is_utf8 (upper word) verbs utf8_verbs (is_utf8-upper word ∙ ill) in cc)
 
-pub outcome-named : (line : Bytes) {rule : Rule} → row_of (upper (verb_of line)) verbs ≡ Some rule
-    → outcome line ≡ answer_by rule (parameter_of line)
-outcome-named line {rule} named = rw (named_utf8 (verb_of line) rule named, named)
+pub outcome-named : (line : Bytes) {verb : Verb} → row_of (upper (verb_of line)) verbs ≡ Some verb
+    → outcome line ≡ parameter_answer (kind verb) verb [] (parameter_of line)
+outcome-named line {verb} named = rw (named_utf8 (verb_of line) verb named, named)
 
 pub outcome-other : (line : Bytes) → row_of (upper (verb_of line)) verbs ≡ None
     → is_utf8 (verb_of line) ≡ true → outcome line
-    ≡ value_answer (any_text (Other (upper (verb_of line)))) (value_of (parameter_of line))
+    ≡ parameter_answer kinds.OptionalText verb.Other (upper (verb_of line)) (parameter_of line)
 outcome-other line none utf8 = rw (utf8, none)
 
 -- what is not UTF-8 fails the test

@@ -8,8 +8,8 @@ use Rattle.unftp_control_defs.specs.Bytes.{Bytes, CR, Lacks}
 use Rattle.unftp_control_defs.specs.FtpCommand.{FtpCommand, Answer, InvalidCommand}
 use Rattle.unftp_control_defs.specs.Rules.{chosen}
 use Rattle.unftp_control_defs.proofs.LackLemmas.{lacks, Lacks-test}
-use Rattle.unftp_control_line_parser.specs.Values.{unescaped, after_nul}
-use Rattle.unftp_control_line_parser.proofs.SentLemmas.{returned, unescaped_front, unescaped_lacking}
+use Rattle.unftp_control_message.specs.SentValues.{unescaped, after_nul}
+use Rattle.unftp_control_message.proofs.SentLemmas.{returned, unescaped_front, unescaped_lacking}
 
 -- there is no CR, or a first one
 first_return : (bytes : Bytes) → Lacks CR bytes

@@ -5,8 +5,9 @@ use Rattle.std.proofs.lemmas.Bool.{false_from_ne_true, or_cases, or_parts}
 use Rattle.std.proofs.Math.Seq.{take-add}
 use Rattle.unftp_control_defs.specs.Bytes.{Bytes, NUL, LF, CR}
 use Rattle.unftp_control_defs.specs.ComputedValue.{Fresh, Plain, byte_then, later_value}
-use Rattle.unftp_control_line_parser.specs.Values.{stops, unescaped, begins_with_cr_nul, begins_with_line_end, IsFirstLen, IsLaterLen, IsRunEnd, Resumes}
-use Rattle.unftp_control_line_parser.proofs.SentLemmas.{Resumes-byte, cr_nul_front, unescaped_front, unescaped_lacking}
+use Rattle.unftp_control_message.specs.SentValues.{begins_with_cr_nul, unescaped}
+use Rattle.unftp_control_message.proofs.SentLemmas.{cr_nul_front, unescaped_front, unescaped_lacking}
+use Rattle.unftp_control_line_parser.specs.Values.{stops, begins_with_line_end, IsFirstLen, IsLaterLen, IsRunEnd, Resumes}
 
 option_nil : (o : Option Bytes) → o ≡ option_map (λ w. [] ++ w) o
 option_nil None = refl
@@ -114,6 +115,31 @@ pub lens_added : (len n : ℕ) (later : Option ℕ)
     ≡ option_map (λ m. len + n + m) later
 lens_added len n None = refl
 lens_added len n (Some m) = ap Some (omega arith)
+
+-- a value goes on after a CR NUL that comes first
+pub Resumes-cr_nul : (parameter : Bytes) → begins_with_cr_nul parameter ≡ true → Resumes parameter 2
+Resumes-cr_nul parameter begins later is = subst
+    (λ bytes. IsFirstLen bytes (option_map (λ m. 2 + m) later))
+    (sym (cr_nul_front parameter begins)) (after later is)
+  where
+    after : (later : Option ℕ) → IsLaterLen (drop 2 parameter) later
+        → IsFirstLen (CR ∷ NUL ∷ drop 2 parameter) (option_map (λ m. 2 + m) later)
+    after None is = ap (byte_then CR) is
+    after (Some n) is = let sum : 2 + n ≡ suc (suc n) = omega arith in
+        (omega (arith, is.0), ap (byte_then CR) is.1 ∙ rw sum refl)
+
+-- after another first byte it goes on as after a CR NUL
+pub Resumes-byte : (parameter : Bytes) → begins_with_cr_nul parameter ≡ false → Resumes parameter 1
+Resumes-byte [] unread None is = refl
+Resumes-byte [] unread (Some n) is = let none = is.1 in cc
+Resumes-byte (a ∷ []) unread None is = refl
+Resumes-byte (a ∷ []) unread (Some n) is = let none = is.1 in cc
+Resumes-byte (a ∷ b ∷ bytes) unread None is = rw unread (ap (byte_then a) is)
+Resumes-byte (a ∷ b ∷ bytes) unread (Some zero) is =
+    (omega arith, rw unread (ap (byte_then a) is.1))
+Resumes-byte (a ∷ b ∷ bytes) unread (Some (suc n)) is =
+    let sum : 1 + suc n ≡ suc (suc n) = omega arith in
+    (omega (arith, is.0), rw (sum, unread) (ap (byte_then a) is.1))
 
 -- a value goes on after a part that is written as it is, and CR NUL
 pub Resumes-part : (parameter : Bytes) (n : ℕ) → begins_with_cr_nul parameter ≡ false

@@ -5,8 +5,8 @@ use Rattle.std.proofs.lemmas.Bool.{and_right, cond_both}
 use Rattle.unftp_control_defs.specs.Bytes.{Bytes, NUL, CR, SP, DASH, Lacks}
 use Rattle.unftp_control_defs.specs.Paths.{IsOptionWord, with_space, EndsInPath, path_of}
 use Rattle.unftp_control_defs.proofs.PathLemmas.{path_of-ListPath, ListPath-path_of}
-use Rattle.unftp_control_line_parser.specs.Values.{unescaped}
-use Rattle.unftp_control_line_parser.proofs.SentLemmas.{unescaped_byte, unescaped_step}
+use Rattle.unftp_control_message.specs.SentValues.{unescaped}
+use Rattle.unftp_control_message.proofs.SentLemmas.{unescaped_byte, unescaped_step}
 
 -- A map of bytes that keeps dashes and spaces where they are, and makes none.
 pub record KeepsWords (f : Bytes → Bytes) : Type 0 where

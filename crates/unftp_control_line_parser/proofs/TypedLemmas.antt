@@ -4,24 +4,24 @@ use Rattle.std.proofs.lemmas.Bool.{cases_lt, lt-ltb}
 use Rattle.std.specs.Str.Lossy.{utf8_lossy}
 use Rattle.unftp_control_defs.specs.Bytes.{Bytes}
 use Rattle.unftp_control_defs.specs.FtpCommand.{InvalidCommand}
-use Rattle.unftp_control_defs.specs.Rules.{auth, offset, structures, modes, protections, options, buffer_sizes}
-use Rattle.unftp_control_line_parser.specs.declared.rule.TypedCommand.{TypedCommand}
-use Rattle.unftp_control_line_parser.specs.declared.rule.TypedCommand.TheVariants as typed
-use Rattle.unftp_control_line_parser.specs.Meaning.{typed_answer}
-use Rattle.unftp_control_line_parser.specs.Values.{unescaped}
+use Rattle.unftp_control_defs.specs.Rules.{auth, typed_answer, offset, structures, modes, protections, options, buffer_sizes}
+use Rattle.unftp_control_defs.specs.declared.verb.Verb.{Verb}
+use Rattle.unftp_control_defs.specs.declared.verb.Verb.TheVariants as verbs
+use Rattle.unftp_control_message.specs.SentValues.{unescaped}
 use Rattle.unftp_control_line_parser.proofs.OffsetLemmas.{offset_return}
 use Rattle.unftp_control_line_parser.proofs.ReturnLemmas.{same_answer_unescaped, same_choice}
 
-pub same_answer : (command : TypedCommand) (sent : Bytes) → (command ≡ typed.Auth → ⊥)
-    → typed_answer command (unescaped sent) ≡ typed_answer command sent
-same_answer typed.Auth sent other = absurd (other refl)
-same_answer typed.Mode sent other = same_choice modes sent refl
-same_answer typed.Opts sent other = same_choice options sent refl
-same_answer typed.Pbsz sent other = same_choice buffer_sizes sent refl
-same_answer typed.Prot sent other = same_choice protections sent refl
-same_answer typed.Rest sent other =
+pub same_answer : (verb : Verb) (sent : Bytes) → (verb ≡ verbs.Auth → ⊥)
+    → typed_answer verb (unescaped sent) ≡ typed_answer verb sent
+same_answer verbs.Auth sent other = absurd (other refl)
+same_answer verbs.Mode sent other = same_choice modes sent refl
+same_answer verbs.Opts sent other = same_choice options sent refl
+same_answer verbs.Pbsz sent other = same_choice buffer_sizes sent refl
+same_answer verbs.Prot sent other = same_choice protections sent refl
+same_answer verbs.Rest sent other =
     same_answer_unescaped (λ v. offset (utf8_lossy v)) offset_return sent
-same_answer typed.Stru sent other = same_choice structures sent refl
+same_answer verbs.Stru sent other = same_choice structures sent refl
+same_answer verb sent other = refl
 
 longer : (v : Bytes) → 3 < length v → auth v ≡ Err InvalidCommand
 longer v long = rw (lt-ltb 3 (length v) long) refl

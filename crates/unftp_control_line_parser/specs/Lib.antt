@@ -1,5 +1,4 @@
 pub mod ParseAnswer
-pub mod Meaning
-pub mod Words
 pub mod Values
 pub mod Memory
+pub mod WordsMeaning

@@ -1,24 +1,8 @@
 -- What the parts of a parameter's reading answer.
-use Rattle.std.specs.Prelude.{◌≡◌, ℕ, ◌+◌, ◌<◌, ◌≤◌, ◌==◌, ◌||◌, Bool, true, false, ◌&&◌, if◌then◌else◌, [], ◌∷◌, ◌++◌, length, take, drop, slice_index, Option, Some, option_map, None}
-use Rattle.unftp_control_defs.specs.Bytes.{Bytes, CR, LF, NUL, Lacks}
+use Rattle.std.specs.Prelude.{◌≡◌, ℕ, ◌+◌, ◌<◌, ◌≤◌, ◌==◌, ◌||◌, Bool, true, false, ◌&&◌, [], ◌∷◌, ◌++◌, length, take, drop, slice_index, Option, Some, option_map, None}
+use Rattle.unftp_control_defs.specs.Bytes.{Bytes, CR, LF, Lacks}
 use Rattle.unftp_control_defs.specs.ComputedValue.{Context, first_value, later_value, Fresh, Plain}
-use Rattle.unftp_control_line_parser.specs.declared.value.Value.{Value}
-use Rattle.unftp_control_line_parser.specs.declared.value.Value.TheVariants as sent
-
--- The value for which bytes are sent: without each NUL that comes directly after a CR (RFC 854).
-abbrev pub unescaped : Bytes → Bytes
-unescaped [] = []
-unescaped (a ∷ []) = a ∷ []
-unescaped (a ∷ b ∷ bytes) = if (a == CR) && (b == NUL) then CR ∷ unescaped bytes
-    else a ∷ unescaped (b ∷ bytes)
-
-abbrev pub sent_bytes : Value → Bytes
-sent_bytes (sent.Plain bytes) = bytes.now
-sent_bytes (sent.Escaped bytes) = bytes.now
-
-abbrev pub value_bytes : Value → Bytes
-value_bytes (sent.Plain bytes) = bytes.now
-value_bytes (sent.Escaped bytes) = unescaped bytes.now
+use Rattle.unftp_control_message.specs.SentValues.{unescaped}
 
 -- So many bytes are sent for what is read of bytes; there is none before an invalid line ending.
 abbrev IsSentLen : (Bytes → Option Bytes) → Bytes → Option ℕ → Type 0
@@ -64,18 +48,3 @@ abbrev pub begins_with_line_end : Bytes → Bool
 begins_with_line_end [] = false
 begins_with_line_end (a ∷ []) = a == LF
 begins_with_line_end (a ∷ b ∷ bytes) = (a == LF) || ((a == CR) && (b == LF))
-
--- the bytes begin with CR NUL
-abbrev pub begins_with_cr_nul : Bytes → Bool
-begins_with_cr_nul [] = false
-begins_with_cr_nul (a ∷ []) = false
-begins_with_cr_nul (a ∷ b ∷ bytes) = (a == CR) && (b == NUL)
-
--- how many bytes are sent for the first byte of a value
-abbrev pub first_unit_len : Bytes → ℕ
-first_unit_len bytes = if begins_with_cr_nul bytes then 2 else 1
-
--- the bytes without a NUL at the start
-abbrev pub after_nul : Bytes → Bytes
-after_nul [] = []
-after_nul (b ∷ bytes) = if b == NUL then bytes else b ∷ bytes

@@ -3,13 +3,13 @@
 
 mod fields;
 mod parser;
-mod rule;
 mod typed;
 mod value;
 mod verb;
 
-pub use parser::{parse, split};
+pub use parser::{parse, parts, split};
+pub use unftp_control_defs::verb::is_verb;
 pub use unftp_control_message::reply::error::{
     ParseError, ParseErrorKind, Result, same_parse_errors,
 };
-pub use verb::{is_verb, keeps_parameter};
+pub use verb::keeps_parameter;

@@ -1,32 +1,34 @@
-//! A line's verb and parameter, and the command that they are.
-ghost use Rattle.std.specs.Prelude.{◌≡◌, ◌≤◌, length, IfOk};
+//! A line's verb and parameter, what it says, and the command that it is.
+ghost use Rattle.std.specs.Prelude.{◌≡◌, ◌≢◌, ◌≤◌, length, IfOk};
 ghost use Rattle.std.specs.List.{position_or_len};
 ghost use Rattle.unftp_control_message.specs.CommandMeaning.{command_of};
+ghost use Rattle.unftp_control_message.specs.SentValues.{sent_value};
+ghost use Rattle.unftp_control_defs.specs.Bytes.{Bytes};
 ghost use Rattle.unftp_control_defs.specs.Canonical.{HasLine};
 ghost use Rattle.unftp_control_defs.specs.Lines.{IsLine};
+ghost use Rattle.unftp_control_defs.specs.Said.{KindSaysBack};
 ghost use Rattle.unftp_control_defs.specs.Verbs.{is_separator, parameter_of, upper, verb_of};
-ghost use Rattle.unftp_control_defs.specs.FtpCommand.{Other};
-ghost use Rattle.unftp_control_defs.specs.Outcome.{answer_by, value_answer, outcome, site_answer};
-ghost use Rattle.unftp_control_defs.specs.Rules.{without_parameter, any_text, some_text, subcommand_answer};
+ghost use Rattle.unftp_control_defs.specs.Outcome.{value_answer, outcome, parameter_answer, site_answer};
+ghost use Rattle.unftp_control_defs.specs.Rules.{subcommand_answer, taken};
 ghost use Rattle.unftp_control_defs.specs.ComputedValue.{value_of};
-ghost use Rattle.unftp_control_line_parser.specs.Meaning.{meaning, parameter_answer, text_command, unit_command};
-ghost use Rattle.unftp_control_line_parser.specs.Memory.{MayTakeMemory, OnOutOfMemory, ParsesTo};
+ghost use Rattle.unftp_control_defs.specs.declared.verb.Kind.TheVariants as kinds;
+ghost use Rattle.unftp_control_line_parser.specs.Memory.{MayTakeMemory, OnOutOfMemory, ParsesTo, PartsTo, ReadsTo};
 ghost use Rattle.unftp_control_line_parser.specs.ParseAnswer.{Returns};
-ghost use Rattle.unftp_control_line_parser.specs.Values.{value_bytes};
+ghost use Rattle.unftp_control_line_parser.specs.WordsMeaning.{AreWords, BeginsWith};
 
-use crate::fields::{list_path, optional_raw, optional_text, raw, text, upper_cased};
-use crate::rule::{ParameterKind, Rule, TextCommand, UnitCommand};
-use crate::typed::{typed, typed_escaped};
-use crate::value::{Value, has_no_value, parameter_value};
-use crate::verb::{is_same_word, rule_named};
+use crate::fields::{listing, optional_text, raw, text};
+use crate::typed::typed;
+use crate::value::parameter_value;
+use crate::verb::is_same_word;
 use memchr::memchr3;
 use std::alloc::Global;
 use std::result;
 use std::str::from_utf8;
+use unftp_control_defs::verb::verb_named;
 use unftp_control_message::Command;
+use unftp_control_message::parts::{Kind, Parts, Value, Verb};
 use unftp_control_message::reply::error::{ParseErrorKind, Result};
-
-type Answer = result::Result<Command, ParseErrorKind>;
+use unftp_control_message::sent::Sent;
 
 /// How many bytes the longest verb with a rule of its own has. `memchr3` takes longer over so few.
 const LONGEST_VERB: usize = 4;
@@ -84,123 +86,135 @@ pub fn parse(alloc: Global, line: &[u8]) -> Result<Command>
 }
 
 /// The command of the line, or the kind of its refusal.
-#[tactic(auto, using(crate::proofs::OutcomeLemmas::outcomes))]
-fn command_in(alloc: Global, line: &[u8]) -> Answer
+#[tactic(auto, using(crate::proofs::MemoryLemmas::commands))]
+fn command_in(alloc: Global, line: &[u8]) -> result::Result<Command, ParseErrorKind>
     ensures { ParsesTo (outcome line.now) result }
 {
-    let (verb, parameter) = split(line);
-    match rule_named(verb) {
-        Some(rule) => by_rule(alloc, rule, parameter),
-        None => other(alloc, from_utf8(verb)?, parameter),
-    }
+    let parts = parts(line)?;
+    Command::from_parts(alloc, &parts)
 }
 
-/// What the rule makes of parameter bytes.
-fn by_rule(alloc: Global, rule: Rule, parameter: &[u8]) -> Answer
-    ensures { ParsesTo (answer_by (meaning rule) parameter.now) result }
+/// What a line says, as `parse` reads it (RFC 959, section 5.3): its verb, its name and its value,
+/// all of them in the line. It takes no memory, and is refused as by `parse`.
+pub fn parts(line: &[u8]) -> result::Result<Parts<'_>, ParseErrorKind>
+    ensures { PartsTo (outcome line.now) result }
 {
-    match rule {
-        Rule::Ignores(command) => Ok(command.command()),
-        Rule::Alone(command) => without_value(command, parameter),
-        Rule::Takes(kind) => match parameter_value(parameter) {
-            Some(value) => with_value(alloc, kind, value),
-            None => Err(ParseErrorKind::InvalidEol),
-        },
-        Rule::Splits => site(alloc, parameter),
-    }
+    let words = first_words(line)?;
+    Ok(Parts {
+        verb: words.verb,
+        name: words.name,
+        value: value(words.kind, words.verb, words.parameter)?,
+    })
 }
 
-/// The command with this value.
-fn with_value(alloc: Global, kind: ParameterKind, value: Value<'_>) -> Answer
-    ensures { ParsesTo (parameter_answer kind (value_bytes value.entry)) result }
-{
-    match kind {
-        ParameterKind::Raw(command) => Ok(command.command(raw(alloc, value)?)),
-        ParameterKind::StatPath => Ok(Command::Stat {
-            path: optional_raw(alloc, value)?,
-        }),
-        ParameterKind::Text(command) => with_text(alloc, command, value),
-        ParameterKind::OptionalPath(command) => {
-            Ok(command.command(optional_text(alloc, value)?))
-        }
-        ParameterKind::ListPath => Ok(Command::List {
-            options: None,
-            path: list_path(alloc, value)?,
-        }),
-        ParameterKind::Typed(command) => match value {
-            Value::Plain(bytes) => typed(command, bytes),
-            Value::Escaped(sent) => typed_escaped(command, sent),
-        },
-    }
+/// What a line begins with, and the parameter after it.
+#[derive(Clone, Copy)]
+struct Words<'a> {
+    /// The verb; of SITE that of the subcommand.
+    verb: Verb,
+    /// What is made of the parameter.
+    kind: Kind,
+    /// The name of another subcommand of SITE, or of another verb; else empty.
+    name: &'a str,
+    /// The parameter bytes.
+    parameter: &'a [u8],
 }
 
-/// The command, where the parameter has no value. A line without a parameter is not read further.
-fn without_value(command: UnitCommand, parameter: &[u8]) -> Answer
-    ensures { ParsesTo
-        (value_answer (without_parameter (unit_command command)) (value_of parameter.now)) result }
-{
-    if has_no_value(parameter) {
-        return Ok(command.command());
-    }
-    match parameter_value(parameter) {
-        Some(_) => Err(ParseErrorKind::InvalidCommand),
-        None => Err(ParseErrorKind::InvalidEol),
-    }
-}
-
-/// The command with this value as text, which must not be empty.
-fn with_text(alloc: Global, command: TextCommand, value: Value<'_>) -> Answer
-    ensures { ParsesTo (some_text (text_command command) (value_bytes value.entry)) result }
-{
-    if value.is_empty() {
-        return Err(ParseErrorKind::InvalidCommand);
-    }
-    Ok(command.command(text(alloc, value)?))
-}
-
-/// A SITE subcommand and its parameter (RFC 959, section 4.1.3).
+/// The words that a line begins with.
 #[tactic(auto, using(crate::proofs::OutcomeLemmas::outcomes))]
-fn site(alloc: Global, parameter: &[u8]) -> Answer
-    ensures { ParsesTo (site_answer parameter.now) result }
+fn first_words(line: &[u8]) -> result::Result<Words<'_>, ParseErrorKind>
+    ensures { BeginsWith (outcome line.now) result }
 {
-    let (name, inner) = split(parameter);
-    let name = from_utf8(name)?;
-    match parameter_value(inner) {
-        Some(value) => subcommand(alloc, name, value),
-        None => Err(ParseErrorKind::InvalidEol),
+    let (word, parameter) = split(line);
+    let Some(verb) = verb_named(word) else {
+        return Ok(Words {
+            verb: Verb::Other,
+            kind: Kind::OptionalText,
+            name: from_utf8(word)?,
+            parameter,
+        });
+    };
+    match verb.kind() {
+        Kind::Subcommand => site(parameter),
+        kind => Ok(Words {
+            verb,
+            kind,
+            name: "",
+            parameter,
+        }),
     }
 }
 
-/// A SITE subcommand whose name is UTF-8, with this value.
-fn subcommand(alloc: Global, name: &str, value: Value<'_>) -> Answer
-    ensures { ParsesTo (subcommand_answer (upper name.now) (value_bytes value.entry)) result }
+/// The words of SITE: a subcommand, and the parameter of that (RFC 959, section 4.1.3).
+#[tactic(auto, using(crate::proofs::OutcomeLemmas::outcomes))]
+fn site(parameter: &[u8]) -> result::Result<Words<'_>, ParseErrorKind>
+    ensures { BeginsWith (site_answer parameter.now) result }
+{
+    let (name, parameter) = split(parameter);
+    Ok(subcommand(from_utf8(name)?, parameter))
+}
+
+/// A SITE subcommand, and its parameter.
+fn subcommand<'a>(name: &'a str, parameter: &'a [u8]) -> Words<'a>
+    ensures { AreWords
+        (value_answer (subcommand_answer (upper name.now)) (value_of parameter.now)) result }
 {
     if is_same_word(name.as_bytes(), b"MD5") {
-        return with_text(alloc, TextCommand::Md5, value);
+        return Words {
+            verb: Verb::Md5,
+            kind: Kind::Text,
+            name: "",
+            parameter,
+        };
     }
-    Ok(Command::Site {
-        arguments: text(alloc, value)?,
-        command: upper_cased(alloc, name)?,
-    })
+    Words {
+        verb: Verb::Site,
+        kind: Kind::OptionalText,
+        name,
+        parameter,
+    }
 }
 
-/// A verb without a rule of its own, and its parameter.
-#[tactic(auto, using(crate::proofs::MemoryLemmas::texts))]
-fn other(alloc: Global, name: &str, parameter: &[u8]) -> Answer
-    ensures { ParsesTo
-        (value_answer (any_text (Other (upper name.now))) (value_of parameter.now)) result }
+/// What a verb of this kind makes of parameter bytes. A line without a parameter is not read
+/// further.
+#[tactic(auto, using(crate::proofs::TextLemmas::texts))]
+fn value(kind: Kind, verb: Verb, parameter: &[u8]) -> result::Result<Value<'_>, ParseErrorKind>
+    requires { kind ≢ kinds.Subcommand }
+    ensures { (name : Bytes) → KindSaysBack kind verb name
+        → ReadsTo (parameter_answer kind verb name parameter.now) verb name result }
 {
-    // a line without arguments is not read further
-    let arguments = if has_no_value(parameter) {
-        String::new(alloc)
-    } else {
-        match parameter_value(parameter) {
-            Some(value) => text(alloc, value)?,
-            None => return Err(ParseErrorKind::InvalidEol),
+    if matches!(kind, Kind::Ignored) {
+        return Ok(Value::None);
+    }
+    match parameter_value(parameter) {
+        Some(sent) => taken(kind, verb, sent),
+        None => Err(ParseErrorKind::InvalidEol),
+    }
+}
+
+/// What a verb of this kind makes of a value.
+#[tactic(auto, using(crate::proofs::TextLemmas::texts))]
+fn taken<'a>(kind: Kind, verb: Verb, sent: Sent<'a>) -> result::Result<Value<'a>, ParseErrorKind>
+    ensures { (name : Bytes) → KindSaysBack kind verb name
+        → ReadsTo (taken kind verb name (sent_value sent.entry)) verb name result }
+{
+    match kind {
+        Kind::Alone => {
+            if sent.is_empty() {
+                return Ok(Value::None);
+            }
+            Err(ParseErrorKind::InvalidCommand)
         }
-    };
-    Ok(Command::Other {
-        command_name: upper_cased(alloc, name)?,
-        arguments,
-    })
+        Kind::Raw => Ok(raw(sent)),
+        Kind::Text => {
+            if sent.is_empty() {
+                return Err(ParseErrorKind::InvalidCommand);
+            }
+            Ok(text(sent))
+        }
+        Kind::OptionalText => Ok(optional_text(sent)),
+        Kind::Listing => Ok(listing(sent)),
+        Kind::Typed => typed(verb, sent),
+        Kind::Ignored | Kind::Subcommand => Err(ParseErrorKind::InvalidCommand),
+    }
 }

@@ -1,52 +1,61 @@
 //! The commands whose parameter has a type of its own.
-ghost use Rattle.unftp_control_defs.specs.Rules.{auth, buffer_sizes, chosen, mechanisms, modes, offset, options, protections, structures};
-ghost use Rattle.unftp_control_defs.specs.Verbs.{upper};
+ghost use Rattle.std.specs.Prelude.{[]};
 ghost use Rattle.std.specs.Str.Lossy.{utf8_lossy};
-ghost use Rattle.unftp_control_line_parser.specs.Meaning.{typed_answer};
-ghost use Rattle.unftp_control_line_parser.specs.Memory.{ParsesTo};
-ghost use Rattle.unftp_control_line_parser.specs.Values.{unescaped};
+ghost use Rattle.unftp_control_defs.specs.Rules.{auth, buffer_sizes, chosen, modes, offset, options, protections, structures, typed_answer};
+ghost use Rattle.unftp_control_defs.specs.declared.verb.Verb.TheVariants as spec;
+ghost use Rattle.unftp_control_line_parser.specs.Memory.{ReadsTo};
+ghost use Rattle.unftp_control_message.specs.SentValues.{unescaped, sent_value};
 
-use crate::rule::TypedCommand;
-use crate::value::value_start;
 use crate::verb::is_same_word;
 use std::str::from_utf8;
+use unftp_control_message::parts::{Choice, Value, Verb};
 use unftp_control_message::reply::error::ParseErrorKind;
-use unftp_control_message::{AuthParam, Command, ModeParam, Opt, ProtParam, StruParam};
+use unftp_control_message::sent::{Sent, value_start};
+use unftp_control_message::{AuthParam, ModeParam, Opt, ProtParam, StruParam};
 
-type Answer = Result<Command, ParseErrorKind>;
+type Answer<'a> = Result<Value<'a>, ParseErrorKind>;
 
-/// What the command's own type makes of the value.
-// nearly always it is called by the parser, where a call of its own would copy the result once more
-#[inline(always)]
-pub fn typed(command: TypedCommand, value: &[u8]) -> Answer
-    ensures { ParsesTo (typed_answer command value.now) result }
+/// What the verb's own type makes of the value.
+pub fn typed<'a>(verb: Verb, sent: Sent<'_>) -> Answer<'a>
+    ensures { ReadsTo (typed_answer verb (sent_value sent.entry)) verb [] result }
 {
-    match command {
-        TypedCommand::Auth => auth(value),
-        TypedCommand::Mode => mode(value),
-        TypedCommand::Opts => opts(value),
-        TypedCommand::Pbsz => pbsz(value),
-        TypedCommand::Prot => prot(value),
-        TypedCommand::Rest => rest(value),
-        TypedCommand::Stru => stru(value),
+    match sent {
+        Sent::Plain(bytes) => typed_bytes(verb, bytes),
+        Sent::Escaped(sent) => typed_escaped(verb, sent),
     }
 }
 
-/// What the command's own type makes of a value that is sent so.
+/// What the verb's own type makes of a value that is sent so.
 #[tactic(auto, using(crate::proofs::TypedLemmas::same_answer))]
-pub fn typed_escaped(command: TypedCommand, sent: &[u8]) -> Answer
-    ensures { ParsesTo (typed_answer command (unescaped sent.now)) result }
+fn typed_escaped<'a>(verb: Verb, sent: &[u8]) -> Answer<'a>
+    ensures { ReadsTo (typed_answer verb (unescaped sent.now)) verb [] result }
 {
-    match command {
-        TypedCommand::Auth => auth_escaped(sent),
+    match verb {
+        Verb::Auth => auth_escaped(sent),
         // with a CR it is refused, with and without the NULs
-        _ => typed(command, sent),
+        _ => typed_bytes(verb, sent),
+    }
+}
+
+/// What the verb's own type makes of the bytes.
+fn typed_bytes<'a>(verb: Verb, value: &[u8]) -> Answer<'a>
+    ensures { ReadsTo (typed_answer verb value.now) verb [] result }
+{
+    match verb {
+        Verb::Auth => auth(value),
+        Verb::Mode => mode(value),
+        Verb::Opts => opts(value),
+        Verb::Pbsz => pbsz(value),
+        Verb::Prot => prot(value),
+        Verb::Rest => rest(value),
+        Verb::Stru => stru(value),
+        _ => Err(ParseErrorKind::InvalidCommand),
     }
 }
 
 /// STRU and a structure (RFC 959, section 3.1.2).
-fn stru(value: &[u8]) -> Answer
-    ensures { ParsesTo (chosen structures value.now) result }
+fn stru<'a>(value: &[u8]) -> Answer<'a>
+    ensures { ReadsTo (chosen structures value.now) spec.Stru [] result }
 {
     let structure = match value {
         b"F" => StruParam::File,
@@ -54,12 +63,12 @@ fn stru(value: &[u8]) -> Answer
         b"P" => StruParam::Page,
         _ => return Err(ParseErrorKind::InvalidCommand),
     };
-    Ok(Command::Stru { structure })
+    Ok(Value::Chosen(Choice::Structure(structure)))
 }
 
 /// MODE and a transfer mode (RFC 959, section 3.4).
-fn mode(value: &[u8]) -> Answer
-    ensures { ParsesTo (chosen modes value.now) result }
+fn mode<'a>(value: &[u8]) -> Answer<'a>
+    ensures { ReadsTo (chosen modes value.now) spec.Mode [] result }
 {
     let mode = match value {
         b"S" => ModeParam::Stream,
@@ -67,12 +76,12 @@ fn mode(value: &[u8]) -> Answer
         b"C" => ModeParam::Compressed,
         _ => return Err(ParseErrorKind::InvalidCommand),
     };
-    Ok(Command::Mode { mode })
+    Ok(Value::Chosen(Choice::Mode(mode)))
 }
 
 /// PROT and a protection level (RFC 2228, section 3).
-fn prot(value: &[u8]) -> Answer
-    ensures { ParsesTo (chosen protections value.now) result }
+fn prot<'a>(value: &[u8]) -> Answer<'a>
+    ensures { ReadsTo (chosen protections value.now) spec.Prot [] result }
 {
     let param = match value {
         b"C" => ProtParam::Clear,
@@ -81,13 +90,13 @@ fn prot(value: &[u8]) -> Answer
         b"P" => ProtParam::Private,
         _ => return Err(ParseErrorKind::InvalidCommand),
     };
-    Ok(Command::Prot { param })
+    Ok(Value::Chosen(Choice::Protection(param)))
 }
 
 /// OPTS and the option UTF8, its two words both in upper case or both in lower case (RFC 2389,
 /// section 4).
-fn opts(value: &[u8]) -> Answer
-    ensures { ParsesTo (chosen options value.now) result }
+fn opts<'a>(value: &[u8]) -> Answer<'a>
+    ensures { ReadsTo (chosen options value.now) spec.Opts [] result }
 {
     let on = if b"UTF8 ON".as_slice() == value || b"utf8 on".as_slice() == value {
         true
@@ -96,16 +105,14 @@ fn opts(value: &[u8]) -> Answer
     } else {
         return Err(ParseErrorKind::InvalidCommand);
     };
-    Ok(Command::Opts {
-        option: Opt::Utf8 { on },
-    })
+    Ok(Value::Chosen(Choice::Setting(Opt::Utf8 { on })))
 }
 
 /// AUTH and a mechanism, ignoring ASCII case (RFC 2228, section 3; RFC 4217, section 2).
 #[inline(always)]
 #[tactic(auto, using(crate::proofs::OutcomeLemmas::outcomes))]
-fn auth(value: &[u8]) -> Answer
-    ensures { ParsesTo (auth value.now) result }
+fn auth<'a>(value: &[u8]) -> Answer<'a>
+    ensures { ReadsTo (auth value.now) spec.Auth [] result }
 {
     if value.len() > 3 {
         return Err(ParseErrorKind::InvalidCommand);
@@ -118,37 +125,37 @@ fn auth(value: &[u8]) -> Answer
     } else {
         return Err(ParseErrorKind::InvalidCommand);
     };
-    Ok(Command::Auth { protocol })
+    Ok(Value::Chosen(Choice::Mechanism(protocol)))
 }
 
 /// AUTH and a mechanism that is sent so. No mechanism has more than three bytes.
-fn auth_escaped(sent: &[u8]) -> Answer
-    ensures { ParsesTo (auth (unescaped sent.now)) result }
+fn auth_escaped<'a>(sent: &[u8]) -> Answer<'a>
+    ensures { ReadsTo (auth (unescaped sent.now)) spec.Auth [] result }
 {
     let (start, len) = value_start(sent);
     auth(start.split_at(len).0)
 }
 
 /// PBSZ and the size 0 (RFC 4217, section 9).
-fn pbsz(value: &[u8]) -> Answer
-    ensures { ParsesTo (chosen buffer_sizes value.now) result }
+fn pbsz<'a>(value: &[u8]) -> Answer<'a>
+    ensures { ReadsTo (chosen buffer_sizes value.now) spec.Pbsz [] result }
 {
     match value {
-        b"0" => Ok(Command::Pbsz {}),
+        b"0" => Ok(Value::Chosen(Choice::NoBuffer)),
         _ => Err(ParseErrorKind::InvalidCommand),
     }
 }
 
 /// REST and an offset (RFC 3659, section 5).
 #[tactic(auto, using(crate::proofs::OffsetLemmas::offsets))]
-fn rest(value: &[u8]) -> Answer
-    ensures { ParsesTo (offset (utf8_lossy value.now)) result }
+fn rest<'a>(value: &[u8]) -> Answer<'a>
+    ensures { ReadsTo (offset (utf8_lossy value.now)) spec.Rest [] result }
 {
     let Ok(text) = from_utf8(value) else {
         return Err(ParseErrorKind::InvalidCommand);
     };
     match text.parse::<u64>() {
-        Ok(offset) => Ok(Command::Rest { offset }),
+        Ok(offset) => Ok(Value::Number(offset)),
         Err(_) => Err(ParseErrorKind::InvalidCommand),
     }
 }

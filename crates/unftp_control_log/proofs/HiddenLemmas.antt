@@ -1,14 +1,17 @@
 -- A log line depends on nothing but what may be known of its line.
-use Rattle.std.proofs.Common.{◌≡◌, ℕ, ◌&&◌, ◌||◌, not, Bool, true, false, cond, Option, Some, None, is_some, Ok, Err, bytes_eq, codes, length, [], refl, ap, sym, subst, ◌∙◌}
+use Rattle.std.proofs.Common.{◌≡◌, ℕ, ◌&&◌, ◌||◌, not, Bool, true, false, cond, Option, Some, None, is_some, Ok, Err, bytes_eq, codes, length, [], ◌∷◌, refl, ap, sym, subst, ◌∙◌}
 use Rattle.std.specs.Option.{unwrap_or}
 use Rattle.std.specs.Str.{is_utf8}
 use Rattle.std.specs.Str.Lossy.{utf8_lossy}
 use Rattle.unftp_control_defs.specs.Bytes.{Bytes}
 use Rattle.unftp_control_defs.specs.ComputedValue.{value_of}
 use Rattle.unftp_control_defs.specs.Events.{Fault, FtpEvent, Command, Refused, event_for, event_of, exceeds, line_too_long}
-use Rattle.unftp_control_defs.specs.FtpCommand.{Answer, FtpCommand, Acct, InvalidUtf8, Md5, Other, Pass, Site}
-use Rattle.unftp_control_defs.specs.Outcome.{answer_by, outcome, site_answer, value_answer}
-use Rattle.unftp_control_defs.specs.Rules.{Rule, Takes, any_text, row_of, rule_of, some_text, subcommand_answer, unless_empty, verbs}
+use Rattle.unftp_control_defs.specs.FtpCommand.{Answer, FtpCommand, Acct, InvalidUtf8, Other, Pass, Site}
+use Rattle.unftp_control_defs.specs.Outcome.{outcome, site_answer, value_answer, word_answer}
+use Rattle.unftp_control_defs.specs.Rules.{row_of, subcommand_answer, taken, unless_empty, verbs}
+use Rattle.unftp_control_defs.specs.declared.verb.Kind.TheVariants as kinds
+use Rattle.unftp_control_defs.specs.declared.verb.Verb.{Verb as Ruled}
+use Rattle.unftp_control_defs.specs.declared.verb.Verb.TheVariants as verbs_of
 use Rattle.unftp_control_defs.specs.Verbs.{parameter_of, verb_of}
 use lib.Pointwise.{bytes_decides}
 use Rattle.unftp_control_log.specs.Known.{Known, known, known_of, listed_subcommand, shows_parameter, subcommand_of, word_of}
@@ -36,6 +39,36 @@ after_utf8 : (utf8 : Bool) (answer : Answer) (command : FtpCommand)
 after_utf8 true answer command is = is
 after_utf8 false answer command is = absurd (cc)
 
+-- every command that this makes of a value is shown so
+abbrev Shows : (Bytes → Answer) → Visible → Type 0
+Shows answer shown = (v : Bytes) (command : FtpCommand) → answer v ≡ Ok command
+    → visible_command command ≡ shown
+
+made : (command other : FtpCommand) (shown : Visible) → visible_command command ≡ shown
+    → ◌≡◌ {A = Answer} (Ok command) (Ok other) → visible_command other ≡ shown
+made command other shown so is =
+    let same : command ≡ other = cc in subst (λ c. visible_command c ≡ shown) same so
+
+shows_password : Shows (taken kinds.Raw verbs_of.Pass []) (Verb (codes "PASS") (Some asterisks))
+shows_password [] command is = made (Pass []) command _ refl is
+shows_password (b ∷ v) command is = made (Pass (b ∷ v)) command _ refl is
+
+shows_account : Shows (taken kinds.Raw verbs_of.Acct []) (Verb (codes "ACCT") (Some asterisks))
+shows_account [] command is = made (Acct []) command _ refl is
+shows_account (b ∷ v) command is = made (Acct (b ∷ v)) command _ refl is
+
+shows_other : (name : Bytes) → Shows (taken kinds.OptionalText verbs_of.Other name)
+    (visible_other (is_listed name) name)
+shows_other name [] command is = made (Other name []) command _ refl is
+shows_other name (b ∷ v) command is = made (Other name (utf8_lossy (b ∷ v))) command _ refl is
+
+shows_site : (name : Bytes) (shown : Visible)
+    → ((arguments : Option Bytes) → visible_site (row_of name site_words) name arguments ≡ shown)
+    → Shows (taken kinds.OptionalText verbs_of.Site name) shown
+shows_site name shown each [] command is = made (Site name []) command shown (each None) is
+shows_site name shown each (b ∷ v) command is = made (Site name (utf8_lossy (b ∷ v))) command shown
+    (each (unless_empty (utf8_lossy (b ∷ v)))) is
+
 module _ (line : Bytes) (command : FtpCommand) (is : outcome line ≡ Ok command) where
   abbrev verb : Bytes
   verb = word_of line
@@ -43,16 +76,14 @@ module _ (line : Bytes) (command : FtpCommand) (is : outcome line ≡ Ok command
   abbrev name : Bytes
   name = subcommand_of line
 
-  answered : answer_by (rule_of verb) (parameter_of line) ≡ Ok command
+  answered : word_answer verb (row_of verb verbs) (parameter_of line) ≡ Ok command
   answered = after_utf8 (is_utf8 (verb_of line)) _ command is
 
-  -- PASS, and so ACCT
-  taken : (make : Bytes → FtpCommand) (value : Option Bytes) (shown : Visible)
-      → ((v : Bytes) → visible_command (make v) ≡ shown)
-      → value_answer (λ v. Ok (make v)) value ≡ Ok command → visible_command command ≡ shown
-  taken make None shown each is = absurd (cc)
-  taken make (Some v) shown each is =
-      let same : make v ≡ command = cc in subst (λ c. visible_command c ≡ shown) same (each v)
+  shown_as : (answer : Bytes → Answer) (shown : Visible) → Shows answer shown
+      → (value : Option Bytes) → value_answer answer value ≡ Ok command
+      → visible_command command ≡ shown
+  shown_as answer shown each None is = absurd (cc)
+  shown_as answer shown each (Some v) is = each v command is
 
   abbrev Hides : Type 0
   Hides = visible_command command ≡ hidden (listed_verb line) (listed_subcommand line)
@@ -67,22 +98,26 @@ module _ (line : Bytes) (command : FtpCommand) (is : outcome line ≡ Ok command
       ap (λ v. hidden v (listed_subcommand line)) shown
       ∙ ap (λ b. cond b (hidden_site (listed_subcommand line)) (Verb word (Some asterisks))) other
 
+  answered_as : (word : Bytes) → verb ≡ word
+      → word_answer word (row_of word verbs) (parameter_of line) ≡ Ok command
+  answered_as word same =
+      ap (λ w. word_answer w (row_of w verbs) (parameter_of line)) (sym same) ∙ answered
+
   password : verb ≡ codes "PASS" → Hides
-  password same = taken Pass (value_of (parameter_of line)) _ (λ v. refl)
-      (ap (λ w. answer_by (rule_of w) (parameter_of line)) (sym same) ∙ answered)
+  password same = shown_as (taken kinds.Raw verbs_of.Pass []) _ shows_password
+      (value_of (parameter_of line)) (answered_as (codes "PASS") same)
       ∙ sym (plain_verb (codes "PASS") same refl refl)
 
   account : verb ≡ codes "ACCT" → Hides
-  account same = taken Acct (value_of (parameter_of line)) _ (λ v. refl)
-      (ap (λ w. answer_by (rule_of w) (parameter_of line)) (sym same) ∙ answered)
+  account same = shown_as (taken kinds.Raw verbs_of.Acct []) _ shows_account
+      (value_of (parameter_of line)) (answered_as (codes "ACCT") same)
       ∙ sym (plain_verb (codes "ACCT") same refl refl)
 
   -- a verb with no rule of its own
   other : bytes_eq verb (codes "SITE") ≡ false → row_of verb verbs ≡ None → Hides
-  other no_site none = taken (λ v. Other verb (utf8_lossy v)) (value_of (parameter_of line)) _
-      (λ v. refl)
-      (ap (λ row. answer_by (unwrap_or row (Takes (any_text (Other verb)))) (parameter_of line))
-      (sym none) ∙ answered)
+  other no_site none = shown_as (taken kinds.OptionalText verbs_of.Other verb) _ (shows_other verb)
+      (value_of (parameter_of line))
+      (ap (λ row. word_answer verb row (parameter_of line)) (sym none) ∙ answered)
       ∙ by_test (is_listed verb) refl
     where
       by_test : (listed : Bool) → is_listed verb ≡ listed
@@ -97,36 +132,33 @@ module _ (line : Bytes) (command : FtpCommand) (is : outcome line ≡ Ok command
       → (value : Option Bytes) → value_answer (subcommand_answer name) value ≡ Ok command
       → visible_command command
       ≡ hidden_site (cond (is_some (row_of name site_words)) (Some name) None)
-  site_value hides None is = absurd (cc)
-  site_value hides (Some v) is = by_test (bytes_eq name (codes "MD5")) refl is
+  site_value hides = by_test (bytes_eq name (codes "MD5")) refl
     where
-      by_row : (row : Option Bool) → unwrap_or row false ≡ false
-          → visible_site row name (unless_empty (utf8_lossy v))
+      by_row : (row : Option Bool) → unwrap_or row false ≡ false → (arguments : Option Bytes)
+          → visible_site row name arguments
           ≡ hidden_site (cond (is_some row) (Some name) None)
-      by_row None h = refl
-      by_row (Some true) h = absurd (cc)
-      by_row (Some false) h = refl
+      by_row None h arguments = refl
+      by_row (Some true) h arguments = absurd (cc)
+      by_row (Some false) h arguments = refl
 
-      by_test : (md5 : Bool) → bytes_eq name (codes "MD5") ≡ md5
-          → cond md5 (some_text Md5) (any_text (Site name)) v ≡ Ok command
+      by_test : (md5 : Bool) → bytes_eq name (codes "MD5") ≡ md5 → (value : Option Bytes)
+          → value_answer (cond md5 (taken kinds.Text verbs_of.Md5 [])
+          (taken kinds.OptionalText verbs_of.Site name)) value ≡ Ok command
           → visible_command command
           ≡ hidden_site (cond (is_some (row_of name site_words)) (Some name) None)
-      by_test true same is =
+      by_test true same value is =
           let shown : unwrap_or (row_of name site_words) false ≡ true =
           ap (λ w. unwrap_or (row_of w site_words) false)
           ((bytes_decides name (codes "MD5")).0 same) in absurd (cc)
-      by_test false same is =
-          let made : Site name (utf8_lossy v) ≡ command = cc in
-          subst (λ c. visible_command c
-          ≡ hidden_site (cond (is_some (row_of name site_words)) (Some name) None)) made
-          (by_row (row_of name site_words) hides)
+      by_test false same value is = shown_as (taken kinds.OptionalText verbs_of.Site name) _
+          (shows_site name _ (by_row (row_of name site_words) hides)) value is
 
   site : bytes_eq verb (codes "SITE") ≡ true → unwrap_or (row_of name site_words) false ≡ false
       → Hides
   site is_site hides =
       let same = (bytes_decides verb (codes "SITE")).0 is_site in
       let splits : site_answer (parameter_of line) ≡ Ok command =
-      ap (λ w. answer_by (rule_of w) (parameter_of line)) (sym same) ∙ answered in
+      answered_as (codes "SITE") same in
       let shown : listed_verb line ≡ Some (codes "SITE") =
       ap (λ w. cond (is_listed w) (Some w) None) same in
       let subcommand : listed_subcommand line
@@ -137,9 +169,9 @@ module _ (line : Bytes) (command : FtpCommand) (is : outcome line ≡ Ok command
       ∙ ap hidden_site (sym subcommand)
       ∙ sym (ap (λ v. hidden v (listed_subcommand line)) shown)
 
-  none_of : (row : Option Rule) → is_some row ≡ false → row ≡ None
+  none_of : (row : Option Ruled) → is_some row ≡ false → row ≡ None
   none_of None is = refl
-  none_of (Some rule) is = absurd (cc)
+  none_of (Some verb) is = absurd (cc)
 
   command_hidden : shows_parameter line ≡ false → Hides
   command_hidden hides = by_tests (bytes_eq verb (codes "SITE")) refl

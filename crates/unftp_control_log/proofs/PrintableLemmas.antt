@@ -16,7 +16,7 @@ use Rattle.unftp_control_defs.specs.Texts.{reading_text}
 use Rattle.unftp_control_defs.specs.Verbs.{upper, verb_of}
 use lib.Pointwise.{bytes_decides}
 use Rattle.unftp_control_log.specs.LogLine.{IsPrintable, RefusedLine, Subcommand, Verb, Visible, further_verbs, is_listed, kind_reason, listed_verb, log_line, reason, shown, site_words, visible_command, visible_other, visible_site, visible_text}
-use Rattle.unftp_control_write.specs.Parts.{spaced_part}
+use Rattle.unftp_control_write.specs.Lines.{spaced_part}
 
 abbrev pub ArePrintable : Bytes → Type 0
 ArePrintable text = AllByRecursion IsPrintable text

@@ -6,11 +6,11 @@ use Rattle.std.specs.List.{flat_map, list_any}
 use Rattle.unftp_control_defs.specs.Bytes.{Bytes}
 use Rattle.unftp_control_defs.specs.Events.{FaultKind, FaultSource, FtpEvent, Command, Refused, Parse, UnknownCommand, event_for, exceeds}
 use Rattle.unftp_control_defs.specs.FtpCommand.{FtpCommand, Pass, Acct, Md5, Site, Other}
-use Rattle.unftp_control_defs.specs.NameAndValue.{name_and_value}
+use Rattle.unftp_control_defs.specs.Said.{name_and_value}
 use Rattle.unftp_control_defs.specs.Rules.{row_of, unless_empty, verbs}
 use Rattle.unftp_control_defs.specs.Texts.{kind_text, reading_text}
 use Rattle.unftp_control_defs.specs.Verbs.{upper, verb_of}
-use Rattle.unftp_control_write.specs.Parts.{spaced_part}
+use Rattle.unftp_control_write.specs.Lines.{spaced_part}
 
 -- a space, or a character of ASCII that prints (RFC 20)
 abbrev pub IsPrintable : ℕ → Type 0

@@ -3,10 +3,10 @@ use Rattle.std.specs.Prelude.{option_map, string_bytes}
 use Rattle.unftp_control_log.specs.LogLine.{Visible, Verb, Subcommand, RefusedLine}
 use Rattle.unftp_control_log.specs.declared.visible.Visible as code
 use Rattle.unftp_control_log.specs.declared.visible.Visible.TheVariants as variant
-use Rattle.unftp_control_write.specs.Parts.{bytes_of}
 
 abbrev pub meant : code.Visible → Visible
-meant (variant.Verb verb value) = Verb verb.now (option_map bytes_of value)
-meant (variant.Subcommand name arguments) = Subcommand name.now (option_map bytes_of arguments)
+meant (variant.Verb verb value) = Verb verb.now (option_map (λ value. value.now) value)
+meant (variant.Subcommand name arguments) =
+    Subcommand name.now (option_map (λ value. value.now) arguments)
 meant (variant.Refused verb reason) =
     RefusedLine (option_map (λ verb. verb.items) verb) (string_bytes reason)

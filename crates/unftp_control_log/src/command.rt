@@ -4,21 +4,20 @@ ghost use Rattle.unftp_control_message.specs.CommandMeaning.{command_of};
 ghost use Rattle.unftp_control_defs.specs.Rules.{row_of};
 ghost use Rattle.unftp_control_log.specs.LogLine.{Verb, asterisks, is_listed, site_words, visible_command, visible_other, visible_site};
 ghost use Rattle.unftp_control_log.specs.Meaning.{meant};
-ghost use Rattle.unftp_control_write.specs.Parts.{bytes_of};
 
 use crate::visible::Visible;
 use crate::words::{is_listed, shows_arguments};
+use itoa::Buffer;
 use unftp_control_message::Command;
-use unftp_control_write::parts::{Parts, Value, parts_of};
 
 /// What a log shows in place of what it hides.
 const ASTERISKS: &[u8] = b"***";
 
-/// What a log shows of the command. No memory is taken.
-pub(crate) fn visible_command(command: &Command) -> Visible<'_>
+/// What a log shows of the command; `digits` has room for those of a number. No memory is taken.
+pub(crate) fn visible_command<'a>(command: &'a Command, digits: &'a mut Buffer) -> Visible<'a>
     ensures { meant result ≡ visible_command (command_of command.now) }
 {
-    let Parts { name, value, .. } = parts_of(command);
+    let (name, value) = command.name_and_value(digits);
     let name = name.as_bytes();
     match command {
         Command::Pass { .. } | Command::Acct { .. } => hidden_value(name),
@@ -38,7 +37,7 @@ fn hidden_value(verb: &[u8]) -> Visible<'_>
 {
     Visible::Verb {
         verb,
-        value: Some(Value::Bytes(ASTERISKS)),
+        value: Some(ASTERISKS),
     }
 }
 
@@ -57,15 +56,15 @@ fn visible_other(verb: &[u8]) -> Visible<'_>
 }
 
 /// A subcommand of SITE, and its arguments where they are shown.
-fn visible_site<'a>(name: &'a [u8], arguments: Option<Value<'a>>) -> Visible<'a>
+fn visible_site<'a>(name: &'a [u8], arguments: Option<&'a [u8]>) -> Visible<'a>
     ensures { meant result
-        ≡ visible_site (row_of name.now site_words) name.now (option_map bytes_of arguments.entry) }
+        ≡ visible_site (row_of name.now site_words) name.now (option_map (λ value. value.now) arguments.entry) }
 {
     match shows_arguments(name) {
         Some(true) => Visible::Subcommand { name, arguments },
         Some(false) => Visible::Subcommand {
             name,
-            arguments: Some(Value::Bytes(ASTERISKS)),
+            arguments: Some(ASTERISKS),
         },
         None => Visible::Subcommand {
             name: ASTERISKS,

@@ -18,19 +18,22 @@ use crate::command::visible_command;
 use crate::refusal::visible_refusal;
 use crate::text::append_visible;
 use crate::visible::Visible;
+use itoa::Buffer;
 use std::alloc::{AllocError, Global};
 use unftp_control_serve::Event;
 
-/// What a log shows of the event. Memory is taken for a refused line only.
+/// What a log shows of the event; `digits` has room for those of a number. Memory is taken for a
+/// refused line only.
 fn visible_event<'a>(
     alloc: Global,
     event: &'a Event,
     line: &[u8],
+    digits: &'a mut Buffer,
 ) -> Result<Visible<'a>, AllocError>
     ensures { IfOk result (λ shown. meant shown ≡ visible (event_meant event.now) line.now) }
 {
     match event {
-        Event::Command(command) => Ok(visible_command(command)),
+        Event::Command(command) => Ok(visible_command(command, digits)),
         Event::Refused(error) => visible_refusal(alloc, error, line),
     }
 }
@@ -54,6 +57,7 @@ pub fn write_log_line(event: &Event, line: &[u8], buf: &mut Vec<u8>) -> Result<(
         (buf.new.items ≡ buf.old.items ++ log_line (event_meant event.now) line.now) }
     ensures err { OnErr result (buf.new.items ≡ buf.old.items) }
 {
-    let visible = visible_event(*buf.allocator(), event, line)?;
+    let mut digits = Buffer::new();
+    let visible = visible_event(*buf.allocator(), event, line, &mut digits)?;
     append_visible(&visible, buf)
 }

@@ -2,12 +2,10 @@
 ghost use Rattle.std.specs.Prelude.{◌≡◌, ◌++◌, option_map, take, vec_len, OnErr, OnOk};
 ghost use Rattle.unftp_control_log.specs.LogLine.{shown, visible_text};
 ghost use Rattle.unftp_control_log.specs.Meaning.{meant};
-ghost use Rattle.unftp_control_write.specs.Parts.{bytes_of, spaced_part};
+ghost use Rattle.unftp_control_write.specs.Lines.{spaced_part};
 
 use crate::visible::Visible;
-use itoa::Buffer;
 use std::alloc::AllocError;
-use unftp_control_write::parts::Value;
 
 /// How long the text is in the escapes of `escape_ascii`.
 fn shown_length(text: &[u8]) -> usize {
@@ -28,17 +26,16 @@ fn append_shown(text: &[u8], buf: &mut Vec<u8>) -> Result<(), AllocError>
 
 /// Appends a space and the value in these escapes, if there is one, or perhaps a part of them when
 /// out of memory.
-fn append_value(value: &Option<Value<'_>>, buf: &mut Vec<u8>) -> Result<(), AllocError>
+fn append_value(value: Option<&[u8]>, buf: &mut Vec<u8>) -> Result<(), AllocError>
     ensures ok { OnOk result (buf.new.items ≡ buf.old.items
-        ++ spaced_part (option_map shown (option_map bytes_of value.now))) }
+        ++ spaced_part (option_map shown (option_map (λ value. value.now) value.entry))) }
     ensures kept { take (vec_len buf.old) buf.new.items ≡ buf.old.items }
 {
     let Some(value) = value else {
         return Ok(());
     };
     buf.push(b' ')?;
-    let mut digits = Buffer::new();
-    append_shown(value.bytes(&mut digits), buf)
+    append_shown(value, buf)
 }
 
 /// Appends a space and the verb of a refused line, if there is one.
@@ -63,12 +60,12 @@ fn append_parts(visible: &Visible<'_>, buf: &mut Vec<u8>) -> Result<(), AllocErr
     match visible {
         Visible::Verb { verb, value } => {
             append_shown(verb, buf)?;
-            append_value(value, buf)
+            append_value(*value, buf)
         }
         Visible::Subcommand { name, arguments } => {
             buf.extend_from_slice(b"SITE ")?;
             append_shown(name, buf)?;
-            append_value(arguments, buf)
+            append_value(*arguments, buf)
         }
         Visible::Refused { verb, reason } => {
             buf.extend_from_slice(b"refused")?;

@@ -1,5 +1,4 @@
 //! What a log shows of an event, before it is written.
-use unftp_control_write::parts::Value;
 
 /// What a log shows of an event: it holds nothing of what is hidden.
 #[derive(Drop)]
@@ -7,12 +6,12 @@ pub(crate) enum Visible<'a> {
     /// A verb and its value.
     Verb {
         verb: &'a [u8],
-        value: Option<Value<'a>>,
+        value: Option<&'a [u8]>,
     },
     /// A subcommand of SITE and its arguments.
     Subcommand {
         name: &'a [u8],
-        arguments: Option<Value<'a>>,
+        arguments: Option<&'a [u8]>,
     },
     /// A refused line: its verb, where it is listed, and why.
     Refused {

@@ -9,8 +9,10 @@ use Rattle.unftp_control_defs.specs.Events.{Fault, FtpEvent, Command, Refused, e
 use Rattle.unftp_control_defs.specs.FtpReply.{FtpReply, Nothing, encoded}
 use Rattle.unftp_control_defs.specs.Lines.{incomplete_line, lines_of}
 use Rattle.unftp_control_defs.specs.Outcome.{outcome}
+use Rattle.unftp_control_defs.specs.Rules.{unless_empty}
 use Rattle.unftp_control_defs.specs.Run.{SessionLaw, after, all_said, at_each, last_state, replies, replies_to, run_of, said, state_after, text_for, text_of, turn}
 use Rattle.unftp_control_defs.proofs.LineEventLemmas.{events-after, events-canonical_line}
+use Rattle.unftp_control_defs.proofs.AnswerLemmas.{IsTyped-raw}
 use Rattle.unftp_control_line_parser.specs.Memory.{AnswerMayTakeMemory, MayTakeMemory}
 use Rattle.unftp_control_serve.specs.Decoder.{FirstMayRunOut}
 use Rattle.unftp_control_serve.specs.Endings.{Cause, Finished, Write, Handler, LineMemory, ReplyMemory, EndsAt, HasGiven, Unsent, whole_text}
@@ -66,7 +68,7 @@ events-pass : (limit : Option ℕ) (before after password : Bytes) → incomplet
 events-pass limit before after password ended sent =
     events-after limit before (pass_line password ++ after) ended
     ∙ ap (λ later. events limit before ++ later)
-    (events-canonical_line limit (Pass password) after sent.0 tt sent.1)
+    (events-canonical_line limit (Pass password) after sent.0 (IsTyped-raw (unless_empty password)) sent.1)
 
 events-login : {limit : Option ℕ} {accepts : Accounts} {name password : Bytes}
     (before after : Bytes) → incomplete_line before ≡ []
@@ -78,10 +80,10 @@ events-login {limit} {name = name} {password = password} before after ended h =
     ∙ ap (λ bytes. events limit before ++ events limit bytes)
     (append_assoc (canonical_line (User name)) (pass_line password) after)
     ∙ ap (λ later. events limit before ++ later)
-    (events-canonical_line limit (User name) (pass_line password ++ after) h.name_sent.0 tt
+    (events-canonical_line limit (User name) (pass_line password ++ after) h.name_sent.0 (IsTyped-raw (unless_empty name))
     h.name_sent.1
     ∙ ap (λ events. Command (User name) ∷ events)
-    (events-canonical_line limit (Pass password) after h.password_sent.0 tt h.password_sent.1))
+    (events-canonical_line limit (Pass password) after h.password_sent.0 (IsTyped-raw (unless_empty password)) h.password_sent.1))
 
 -- whether a password is accepted, and where it leaves the login
 password-alike : (accepts other : Accounts) (stage : Stage) (past : List FtpEvent)

@@ -1,2 +1,5 @@
 pub mod TextLemmas
 mod ReplyLemmas
+pub mod PartsLemmas
+pub mod SentLemmas
+pub mod SaidLemmas

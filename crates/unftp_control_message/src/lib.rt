@@ -5,8 +5,11 @@
 ghost use Rattle.std.specs.Prelude.{◌≡◌, IfOk};
 ghost use Rattle.unftp_control_message.specs.CommandMeaning.{command_of};
 
+mod fields;
+pub mod parts;
 pub mod password;
 pub mod reply;
+pub mod sent;
 
 use bytes::Bytes;
 use password::Password;

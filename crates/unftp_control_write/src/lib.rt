@@ -1,5 +1,4 @@
-//! Writes the line that a command is sent as, and the one that a client's line is forwarded as, and
-//! says a command's parts.
+//! Writes the line that a command is sent as, and the one that a client's line is forwarded as.
 #![tactic(auto)]
 
 ghost use Rattle.std.specs.Prelude.{◌≡◌, ◌++◌, Ok, Err, OnOk, OnErr, IfErr};
@@ -12,10 +11,10 @@ ghost use Rattle.unftp_control_write.specs.Room.{LacksRoom};
 mod canonical;
 mod forwarding;
 mod line;
-pub mod parts;
 
 use crate::canonical::line_of;
 pub use forwarding::{ForwardError, forward, is_line};
+use itoa::Buffer;
 use thiserror::Error;
 use unftp_control_message::Command;
 
@@ -52,7 +51,8 @@ pub fn write_command(command: &Command, buf: &mut Vec<u8>) -> Result<(), WriteCo
     ensures memory { result ≡ Err WriteCommandError.OutOfMemory → HasLine (command_of command.now) }
     ensures no_line { ¬ HasLine (command_of command.now) → result ≡ Err WriteCommandError.NoLine }
 {
-    let Some(line) = line_of(command) else {
+    let mut digits = Buffer::new();
+    let Some(line) = line_of(command, &mut digits) else {
         return Err(WriteCommandError::NoLine);
     };
     let length = buf.len();

@@ -2,11 +2,9 @@
 ghost use Rattle.std.specs.Prelude.{◌≡◌, ◌≤◌, [], ◌∷◌, ◌++◌, ◌==◌, count_by, length, option_map, take, vec_capacity, vec_len, OnErr, OnOk};
 ghost use Rattle.unftp_control_defs.specs.Bytes.{CR, crlf};
 ghost use Rattle.unftp_control_defs.specs.Values.{escaped};
-ghost use Rattle.unftp_control_write.specs.Parts.{spaced_part, body_of, bytes_of};
+ghost use Rattle.unftp_control_write.specs.Lines.{body_of, spaced_part};
 ghost use Rattle.unftp_control_write.specs.Room.{LacksRoom};
 
-use crate::parts::Value;
-use itoa::Buffer;
 use std::alloc::AllocError;
 
 /// How many bytes end a line: CR LF.
@@ -20,7 +18,7 @@ pub(crate) struct Line<'a> {
     /// A subcommand of SITE, or the mark before a path of LIST, where there is one.
     pub(crate) word: Option<&'a str>,
     /// The value, where there is one; each CR of it is written as CR NUL.
-    pub(crate) value: Option<Value<'a>>,
+    pub(crate) value: Option<&'a [u8]>,
 }
 
 impl<'a> Line<'a> {
@@ -57,18 +55,17 @@ impl<'a> Line<'a> {
     /// Appends a space and the value, if there is one.
     fn append_value(&self, buf: &mut Vec<u8>) -> Result<(), AllocError>
         ensures ok { OnOk result (buf.new.items ≡ buf.old.items
-            ++ spaced_part (option_map escaped (option_map bytes_of self.now.value))) }
+            ++ spaced_part (option_map escaped (option_map (λ value. value.now) self.now.value))) }
         ensures kept { take (vec_len buf.old) buf.new.items ≡ buf.old.items }
         ensures memory { OnErr result (LacksRoom buf.old
-            (spaced_part (option_map escaped (option_map bytes_of self.now.value)))) }
+            (spaced_part (option_map escaped (option_map (λ value. value.now) self.now.value)))) }
         ensures capacity { vec_capacity buf.old ≤ vec_capacity buf.new }
     {
-        let Some(value) = &self.value else {
+        let Some(value) = self.value else {
             return Ok(());
         };
         buf.push(b' ')?;
-        let mut digits = Buffer::new();
-        append_escaped(value.bytes(&mut digits), buf)
+        append_escaped(value, buf)
     }
 
     /// How many bytes the line has with its CR LF, where so many can be counted.
@@ -94,13 +91,12 @@ impl<'a> Line<'a> {
     /// How many bytes the value has with its space, if there is one.
     fn value_room(&self) -> usize
         ensures { result
-            ≤ length (spaced_part (option_map escaped (option_map bytes_of self.now.value))) }
+            ≤ length (spaced_part (option_map escaped (option_map (λ value. value.now) self.now.value))) }
     {
-        let Some(value) = &self.value else {
+        let Some(value) = self.value else {
             return 0;
         };
-        let mut digits = Buffer::new();
-        escaped_len(value.bytes(&mut digits)).saturating_add(1)
+        escaped_len(value).saturating_add(1)
     }
 }
 

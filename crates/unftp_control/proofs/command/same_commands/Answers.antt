@@ -9,7 +9,7 @@ use Rattle.std.proofs.lemmas.Slice.Eq.{bytes_eq-Decides}
 use denote.Enum.Bare.{Bare, sameb, same_true, true_same}
 use denote.Enum.Declared.{Declared}
 use Rattle.unftp_control_defs.specs.FtpCommand as spec
-use Rattle.unftp_control_defs.specs.NameAndValue.{command_number}
+use Rattle.unftp_control_defs.specs.Said.{command_number}
 use Rattle.unftp_control_message.specs.CommandMeaning.{command_of}
 use Rattle.unftp_control_message.specs.declared.Command.TheVariants as rust
 use Rattle.unftp_control_defs.specs.declared.parameters.Opt.{Opt}

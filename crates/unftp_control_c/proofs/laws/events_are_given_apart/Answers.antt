@@ -4,13 +4,15 @@ use Rattle.std.specs.Prelude.{if◌then◌else◌, ◌||◌, unwrap_or}
 use Rattle.std.proofs.lemmas.Bool.{cond_both}
 use Rattle.std.proofs.lemmas.Fmt.{decimal_nonempty}
 use Rattle.unftp_control_defs.specs.Bytes.{Bytes, crlf}
-use Rattle.unftp_control_defs.specs.Canonical.{HasLine, IsNonEmptyText, IsOptionalText, canonical_body, canonical_line, site_body, with_option_end, with_optional}
+use Rattle.unftp_control_defs.specs.Canonical.{HasLine, HasRoom, canonical_body, canonical_line, site_body, with_option_end, with_optional}
 use Rattle.unftp_control_defs.specs.Events.{Fault, FtpEvent, Command, Refused, event_of, event_for, exceeds, line_too_long, refusal_fault}
-use Rattle.unftp_control_defs.specs.FtpCommand.{FtpCommand, User, Stru, Mode, List as Listing, Opts, Auth, Prot, Rest, Answer, Refusal, InvalidCommand, InvalidUtf8, InvalidEol, HasTypedFields}
+use Rattle.unftp_control_defs.specs.FtpCommand.{FtpCommand, User, Pass, Acct, List as Listing, Site, Other, Answer, Refusal, InvalidCommand, InvalidUtf8, InvalidEol}
+use Rattle.unftp_control_defs.specs.Said.{HasTypedFields, IsTyped, choice_word, command_number, name_and_value, said, value_bytes}
 use Rattle.unftp_control_defs.specs.Lines.{IsLine}
-use Rattle.unftp_control_defs.specs.NameAndValue.{command_number, name_and_value}
 use Rattle.unftp_control_defs.specs.Outcome.{outcome}
-use Rattle.unftp_control_defs.specs.Rules.{unless_empty}
+use Rattle.unftp_control_defs.specs.Rules.{Value, Nothing, Raw, Text, Chosen, Number, maybe_raw, maybe_text, unless_empty}
+use Rattle.unftp_control_defs.specs.declared.parameters.Choice.{Choice}
+use Rattle.unftp_control_defs.specs.declared.parameters.Choice.TheVariants as choices
 use Rattle.unftp_control_defs.specs.declared.parameters.AuthParam.TheVariants.{Ssl}
 use Rattle.unftp_control_defs.specs.declared.parameters.ModeParam.TheVariants.{Stream}
 use Rattle.unftp_control_defs.specs.declared.parameters.Opt.TheVariants.{Utf8}
@@ -20,7 +22,7 @@ use Rattle.unftp_control_defs.proofs.CanonicalLineLemmas.{outcome-canonical_line
 use Rattle.unftp_control_defs.proofs.CommandLineLemmas.{HasLine-outcome, HasTypedFields-outcome}
 use Rattle.unftp_control_defs.proofs.CommandRoundTripLemmas.{unless_empty-some}
 use Rattle.unftp_control_c.specs.Taking.{IsNumberOf}
-use Rattle.unftp_control_c.specs.Next.{Given, given_for, value_of_command}
+use Rattle.unftp_control_c.specs.Next.{Given, given_for}
 use Rattle.unftp_control_c.proofs.laws.events_are_given_apart.Goals as goal
 
 -- the canonical line of a command that is given so
@@ -48,41 +50,56 @@ event_given given =
     if nat_lt given.number 101 then event_of (outcome (line_given given)) else
     Refused (fault_numbered given.number)
 
+text_bytes : (text : Option Bytes) → value_bytes (maybe_text text) ≡ text
+text_bytes None = refl
+text_bytes (Some text) = refl
+
 -- it is the one that it was
 body_kept : (command : FtpCommand)
     → body_given (command_number command) (name_and_value command).0 (name_and_value command).1
     ≡ canonical_body command
-body_kept (User name) = refl
+body_kept (Listing options path) =
+    ap (λ path. with_optional (codes "LIST") (option_map with_option_end path)) (text_bytes path)
+body_kept (Site name arguments) = ap (site_body name) (text_bytes (unless_empty arguments))
 body_kept _ = refl
 
 -- and so is its value: none is empty
-named_back : (text : Bytes) → IsNonEmptyText text → unless_empty text ≡ Some text
-named_back text named = unless_empty-some text named.0
+choice_back : (choice : Choice) → unless_empty (choice_word choice) ≡ Some (choice_word choice)
+choice_back (choices.Structure File) = refl
+choice_back (choices.Mode Stream) = refl
+choice_back (choices.Protection Clear) = refl
+choice_back (choices.Mechanism Ssl) = refl
+choice_back (choices.Setting (Utf8 true)) = refl
+choice_back choice = refl
 
-optional_back : (path : Option Bytes) → IsOptionalText path
-    → unless_empty (unwrap_or path []) ≡ path
-optional_back None optional = refl
-optional_back (Some text) named = named_back text named
+abbrev IsBack : Value → Type 0
+IsBack value = unless_empty (unwrap_or (value_bytes value) []) ≡ value_bytes value
 
-raw_back : (text : Bytes) → unless_empty (unwrap_or (unless_empty text) []) ≡ unless_empty text
+back : (value : Value) → HasRoom value → IsTyped value → IsBack value
+back Nothing room typed = refl
+back (Raw bytes) room typed = unless_empty-some bytes room.0
+back (Text text) room typed = unless_empty-some text room.0
+back (Chosen choice) room typed = choice_back choice
+back (Number number) room small = unless_empty-some (decimal number)
+    (λ e. omega (arith, decimal_nonempty number small, ap length e))
+
+raw_back : (bytes : Bytes) → IsBack (maybe_raw (unless_empty bytes))
 raw_back [] = refl
-raw_back (b ∷ text) = refl
+raw_back (b ∷ bytes) = refl
 
-same : (value : Option Bytes) → value ≡ value
-same value = refl
+text_back : (text : Bytes) → IsBack (maybe_text (unless_empty text))
+text_back [] = refl
+text_back (b ∷ text) = refl
 
 value_back : (command : FtpCommand) → HasLine command → HasTypedFields command
-    → unless_empty (value_of_command command) ≡ (name_and_value command).1
-unfolding lib.Utf8.encode
-value_back (Stru File) has_line typed = refl
-value_back (Mode Stream) has_line typed = refl
-value_back (Opts (Utf8 true)) has_line typed = refl
-value_back (Auth Ssl) has_line typed = refl
-value_back (Prot Clear) has_line typed = refl
-value_back (Listing options path) has_line typed = optional_back path has_line.1
-value_back (Rest offset) has_line typed = unless_empty-some (decimal offset)
-    (λ e. omega (arith, decimal_nonempty offset typed, ap length e))
-value_back command has_line typed = search (same, named_back, optional_back, raw_back)
+    → IsBack (said command).value
+value_back (User name) has_line typed = raw_back name
+value_back (Pass password) has_line typed = raw_back password
+value_back (Acct account) has_line typed = raw_back account
+value_back (Listing options path) has_line typed = back (maybe_text path) has_line.1 typed.1
+value_back (Site name arguments) has_line typed = text_back arguments
+value_back (Other name arguments) has_line typed = text_back arguments
+value_back command has_line typed = back (said command).value has_line typed
 
 line_kept : (command : FtpCommand) → HasLine command → HasTypedFields command
     → line_given (given_for (Command command)) ≡ canonical_line command

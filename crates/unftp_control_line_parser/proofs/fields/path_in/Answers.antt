@@ -1,12 +1,12 @@
 use Rattle.std.proofs.Common.{◌≡◌, refl, drop, sym, ap, ◌∙◌}
 use Rattle.unftp_control_defs.specs.Paths.{path_of}
-use Rattle.unftp_control_line_parser.specs.Values.{unescaped, value_bytes}
+use Rattle.unftp_control_message.specs.SentValues.{unescaped, sent_value}
 use Rattle.unftp_control_line_parser.proofs.SentPathLemmas.{path_of-unescaped}
 use Rattle.unftp_control_line_parser.proofs.fields.path_in.Goals as goal
 
 pub returns-in-Escaped : goal.returns-in-Escaped
 returns-in-Escaped c =
-    let value : unescaped c.sent-2.result.now ≡ value_bytes c.args.value =
+    let value : unescaped c.sent-2.result.now ≡ sent_value c.args.sent =
     ap unescaped c.sent-2.ensures ∙ rw c.in-Escaped.is refl in
     ap unescaped (c.split_at.ensures.back
     ∙ ap (drop c.path_start.result) (c.sent.ensures ∙ sym c.sent-2.ensures)

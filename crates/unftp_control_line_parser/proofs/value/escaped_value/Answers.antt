@@ -1,5 +1,5 @@
 use Rattle.std.proofs.Common.{Some, ap, sym, ◌∙◌}
-use Rattle.unftp_control_line_parser.specs.Values.{unescaped}
+use Rattle.unftp_control_message.specs.SentValues.{unescaped}
 use Rattle.unftp_control_line_parser.proofs.value.escaped_value.Goals as goal
 
 pub returns : goal.returns

@@ -3,7 +3,7 @@ use Rattle.std.proofs.lemmas.List.{drop-drop}
 use Rattle.unftp_control_defs.specs.Bytes.{Bytes}
 use Rattle.unftp_control_defs.specs.ComputedValue.{Fresh, later_value}
 use Rattle.unftp_control_line_parser.proofs.RunLemmas.{Resumes-part, IsLaterLen-invalid}
-use Rattle.unftp_control_line_parser.proofs.SentLemmas.{Resumes-cr_nul}
+use Rattle.unftp_control_line_parser.proofs.RunLemmas.{Resumes-cr_nul}
 use Rattle.unftp_control_line_parser.proofs.value.parameter_value.Goals as goal
 
 pub returns-then-not-begins_with_cr_nul : goal.returns-then-not-begins_with_cr_nul

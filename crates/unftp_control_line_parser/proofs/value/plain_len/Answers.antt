@@ -1,7 +1,7 @@
 use Rattle.std.proofs.Common.{arith, refl}
 use Rattle.unftp_control_line_parser.specs.Values.{stops}
 use Rattle.unftp_control_line_parser.proofs.RunLemmas.{skip}
-use Rattle.unftp_control_line_parser.proofs.SentLemmas.{lacks_before}
+use Rattle.unftp_control_message.proofs.SentLemmas.{lacks_before}
 use Rattle.unftp_control_line_parser.proofs.value.plain_len.Goals as goal
 
 pub returns-in-Some : goal.returns-in-Some

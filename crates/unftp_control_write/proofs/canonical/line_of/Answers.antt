@@ -3,7 +3,7 @@ use Rattle.unftp_control_write.proofs.canonical.line_of.Goals as goal
 
 pub returns-in_default-clause-line : goal.returns-in_default-clause-line
 returns-in_default-clause-line c =
-    plain_line c.parts_of.result c.line-in_default.result
+    plain_line _ _ c.line-in_default.result
     (record {
       no_type = c.in_default.not-TypeCode;
       no_list = c.in_default.not-List;
@@ -12,4 +12,5 @@ returns-in_default-clause-line c =
       no_site = c.in_default.not-Site;
       no_other = c.in_default.not-Other;
     })
-    c.parts_of.ensures.typed c.parts_of.ensures.parts c.line-in_default.ensures
+    c.name_and_value.ensures.typed c.name_and_value.ensures.name c.name_and_value.ensures.value
+    c.line-in_default.ensures

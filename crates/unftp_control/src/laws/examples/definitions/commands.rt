@@ -1,10 +1,13 @@
 //! Commands: the types of their fields, their lines, and which of them have one.
 #![tactic(auto, unfolding(unftp_control_defs::proofs::Computing::at_bytes))]
 
-ghost use Rattle.std.specs.Prelude.{[], ◌∷◌, Option, Some, None, codes};
+ghost use Rattle.std.specs.Prelude.{◌≡◌, [], ◌∷◌, Err, Ok, Option, Some, None, codes};
 ghost use Rattle.unftp_control_defs.specs.Bytes.{Bytes};
 ghost use Rattle.unftp_control_defs.specs.Canonical.{HasLine, IsUpperCaseName, IsNonEmptyText, IsOptionalText};
-ghost use Rattle.unftp_control_defs.specs.FtpCommand.{User, Noop, Retr, List as Listing, Rest, Site, Other, HasTypedFields};
+ghost use Rattle.unftp_control_defs.specs.FtpCommand.{InvalidCommand, List as Listing, Md5, Noop, Other, Rest, Retr, Site, User};
+ghost use Rattle.unftp_control_defs.specs.Rules.{Nothing, Number, Raw, Text};
+ghost use Rattle.unftp_control_defs.specs.Said.{HasTypedFields, Tells, answer_of, plain, said, word_and_value};
+ghost use Rattle.unftp_control_defs.specs.declared.verb.Verb.TheVariants as verb;
 
 /// Texts are UTF-8, an offset has 64 bits, and of bytes nothing is asked.
 pub fn fields_are_of_their_types()
@@ -16,6 +19,18 @@ pub fn fields_are_of_their_types()
     ensures greatest_rest { HasTypedFields (Rest 18446744073709551615) }
     ensures too_great_rest { ¬ HasTypedFields (Rest 18446744073709551616) }
     ensures ill_formed_site { ¬ HasTypedFields (Site (255 ∷ []) []) }
+{}
+
+/// What a command says, and which command says it.
+pub fn commands_say_a_verb_and_a_value()
+    ensures text { said (Retr (codes "a")) ≡ plain verb.Retr (Text (codes "a")) }
+    ensures empty_name { said (User []) ≡ plain verb.User Nothing }
+    ensures number { answer_of (plain verb.Rest (Number 5)) ≡ Ok (Rest 5) }
+    ensures digits { answer_of (plain verb.Rest (Text (codes "5"))) ≡ Err InvalidCommand }
+    ensures told { Tells (Ok Noop) (plain verb.Noop Nothing) }
+    ensures empty_raw { ¬ Tells (Ok (User [])) (plain verb.User (Raw [])) }
+    ensures subcommand { word_and_value (said (Md5 (codes "a")))
+        ≡ (codes "MD5", Some (codes "a")) }
 {}
 
 /// Texts and names that a line has room for.

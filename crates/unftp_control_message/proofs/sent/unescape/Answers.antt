@@ -1,9 +1,9 @@
 use Rattle.std.proofs.Common.{◌≡◌, ◌+◌, ◌++◌, ◌∷◌, [], ◌∙◌, true, length, length-drop, take, drop, ap, sym, arith, append_assoc}
 use Rattle.std.proofs.lemmas.Grind.{common_steps}
 use Rattle.unftp_control_defs.specs.Bytes.{CR}
-use Rattle.unftp_control_line_parser.specs.Values.{after_nul, begins_with_cr_nul, unescaped}
-use Rattle.unftp_control_line_parser.proofs.SentLemmas.{rest_short, unescaped_at, unescaped_cr_nul, unescaped_lacking, lacks_all}
-use Rattle.unftp_control_line_parser.proofs.value.unescape.Goals as goal
+use Rattle.unftp_control_message.specs.SentValues.{after_nul, begins_with_cr_nul, unescaped}
+use Rattle.unftp_control_message.proofs.SentLemmas.{rest_short, unescaped_at, unescaped_cr_nul, unescaped_lacking, lacks_all}
+use Rattle.unftp_control_message.proofs.sent.unescape.Goals as goal
 
 pub returns-in_default : goal.returns-in_default
 returns-in_default c = c.in_ok-extend_from_slice.ensures.items

@@ -1,6 +1,6 @@
 use Rattle.std.proofs.Common.{◌≡◌, ◌++◌, length, take}
-use Rattle.unftp_control_line_parser.specs.Values.{unescaped}
-use Rattle.unftp_control_line_parser.proofs.value.value_start.Given as goal
+use Rattle.unftp_control_message.specs.SentValues.{unescaped}
+use Rattle.unftp_control_message.proofs.sent.value_start.Given as goal
 
 abbrev pub invariant-loop-at : goal.invariant-loop-at
 invariant-loop-at l = record {

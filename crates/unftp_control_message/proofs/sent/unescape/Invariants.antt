@@ -1,6 +1,6 @@
 use Rattle.std.proofs.Common.{◌≡◌, ◌≤◌, ◌++◌, length}
-use Rattle.unftp_control_line_parser.specs.Values.{unescaped}
-use Rattle.unftp_control_line_parser.proofs.value.unescape.Given as goal
+use Rattle.unftp_control_message.specs.SentValues.{unescaped}
+use Rattle.unftp_control_message.proofs.sent.unescape.Given as goal
 
 abbrev pub invariant-parts : goal.invariant-parts
 invariant-parts l = record {

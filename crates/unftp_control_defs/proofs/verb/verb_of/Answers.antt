@@ -1,7 +1,7 @@
 use Rattle.std.proofs.Common.{sym, arith}
 use Rattle.std.proofs.lemmas.Bool.Decides.{nat_tests}
-use Rattle.unftp_control_line_parser.proofs.VerbLemmas.{no_verb_begins, no_verb_with_p}
-use Rattle.unftp_control_line_parser.proofs.verb.rule_of.Goals as goal
+use Rattle.unftp_control_defs.proofs.WordLemmas.{no_verb_begins, no_verb_with_p}
+use Rattle.unftp_control_defs.proofs.verb.verb_of.Goals as goal
 
 pub returns-in_default-64 : goal.returns-in_default-64
 returns-in_default-64 c = search (no_verb_with_p, arith)

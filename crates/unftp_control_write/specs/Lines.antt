@@ -1,28 +1,10 @@
--- The parts of a command and of its line, and what they say of it.
-use Rattle.std.specs.Prelude.{◌≡◌, Bool, not, ◌&&◌, [], ◌∷◌, ◌++◌, ℕ, Option, Some, None, option_map, decimal}
+-- The parts of a line, and what they are of a command's.
+use Rattle.std.specs.Prelude.{◌≡◌, Bool, not, ◌&&◌, [], ◌∷◌, ◌++◌, ℕ, Option, Some, None, option_map}
 use Rattle.std.specs.Char.{is_ascii_lowercase}
 use Rattle.unftp_control_defs.specs.Bytes.{Bytes, SP}
 use Rattle.unftp_control_defs.specs.Values.{escaped}
 use Rattle.unftp_control_defs.specs.Verbs.{is_separator}
-use Rattle.unftp_control_defs.specs.FtpCommand.{FtpCommand}
-use Rattle.unftp_control_defs.specs.NameAndValue.{command_number, name_and_value}
 use Rattle.unftp_control_write.specs.declared.line.Line.{Line}
-use Rattle.unftp_control_write.specs.declared.parts.Parts.{Parts}
-use Rattle.unftp_control_write.specs.declared.parts.Value.{Value}
-use Rattle.unftp_control_write.specs.declared.parts.Value.TheVariants as value
-
-abbrev pub bytes_of : Value → Bytes
-bytes_of (value.Bytes bytes) = bytes.now
-bytes_of (value.Number number) = decimal number
-
--- this number, this name, and this value, if any
-abbrev pub Says : ℕ → Bytes → Option Bytes → Parts → Type 0
-Says number name value parts = (parts.number ≡ number) × (parts.name.now ≡ name)
-    × (option_map bytes_of parts.value ≡ value)
-
-abbrev pub IsParts : FtpCommand → Parts → Type 0
-IsParts command parts =
-    Says (command_number command) (name_and_value command).0 (name_and_value command).1 parts
 
 -- what follows a space, if there is anything
 abbrev pub spaced_part : Option Bytes → Bytes
@@ -35,7 +17,7 @@ line_body verb word value = verb ++ spaced_part word ++ spaced_part (option_map 
 
 abbrev pub body_of : Line → Bytes
 body_of line = line_body line.verb.now (option_map (λ word. word.now) line.word)
-    (option_map bytes_of line.value)
+    (option_map (λ value. value.now) line.value)
 
 -- Where the command has a line there are parts, which are its body; else there are none.
 abbrev pub ReturnsLine : Type 0 → Bytes → Option Line → Type 0

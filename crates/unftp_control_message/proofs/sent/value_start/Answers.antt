@@ -1,9 +1,9 @@
 use Rattle.std.proofs.Common.{◌≡◌, ◌<◌, ◌++◌, ◌∷◌, [], ◌∙◌, length, take, get_or, ap, sym, arith, append_assoc, append-nil, drop, eqb-true, take_all, take_at}
 use Rattle.std.proofs.lemmas.Bool.{eqb-false}
 use Rattle.std.proofs.lemmas.List.{take_more_set, nil_from_length, length-take-le, length-set}
-use Rattle.unftp_control_line_parser.specs.Values.{unescaped}
-use Rattle.unftp_control_line_parser.proofs.SentLemmas.{unescaped_step}
-use Rattle.unftp_control_line_parser.proofs.value.value_start.Goals as goal
+use Rattle.unftp_control_message.specs.SentValues.{unescaped}
+use Rattle.unftp_control_message.proofs.SentLemmas.{unescaped_step}
+use Rattle.unftp_control_message.proofs.sent.value_start.Goals as goal
 
 pub returns-then-is_empty-clause-bytes : goal.returns-then-is_empty-clause-bytes
 returns-then-is_empty-clause-bytes c =

@@ -1,10 +1,12 @@
 -- Bytes that are sent for a value.
-use Rattle.std.proofs.Common.{◌≡◌, ◌≢◌, ℕ, ◌+◌, ◌≤◌, ◌<◌, Bool, true, false, cond, Option, Some, None, option_map, ◌==◌, ◌&&◌, [], ◌∷◌, ◌++◌, length, take, drop, get_or, refl, sym, ap, subst, ◌∙◌, arith, append_assoc, append-nil, length-drop, ne_eqb, eqb-true, take_all, drop-cons, zero, suc}
+use Rattle.std.proofs.Common.{◌≡◌, ◌≢◌, ℕ, ◌+◌, ◌≤◌, ◌<◌, Bool, true, false, cond, ◌==◌, ◌&&◌, [], ◌∷◌, ◌++◌, length, take, drop, get_or, refl, sym, ap, subst, ◌∙◌, arith, append_assoc, append-nil, length-drop, ne_eqb, eqb-true, take_all, drop-cons, zero, suc}
 use Rattle.std.proofs.lemmas.List.{take-append-drop, take_more}
 use Rattle.std.proofs.lemmas.Bool.{and_parts, false≢true}
 use Rattle.unftp_control_defs.specs.Bytes.{Bytes, NUL, CR, Lacks}
-use Rattle.unftp_control_defs.specs.ComputedValue.{byte_then}
-use Rattle.unftp_control_line_parser.specs.Values.{unescaped, begins_with_cr_nul, first_unit_len, after_nul, IsFirstLen, IsLaterLen, Resumes}
+use Rattle.unftp_control_defs.proofs.LossyLemmas.{kept-utf8_lossy}
+use Rattle.std.specs.Str.Lossy.{utf8_lossy}
+use Rattle.std.proofs.lemmas.Str.{utf8_lossy-IsUtf8, utf8_lossy_empty}
+use Rattle.unftp_control_message.specs.SentValues.{after_nul, begins_with_cr_nul, first_unit_len, unescaped}
 
 pub unescaped_byte : (a : ℕ) (bytes : Bytes) → a ≢ CR → unescaped (a ∷ bytes) ≡ a ∷ unescaped bytes
 unescaped_byte a [] h = refl
@@ -108,27 +110,12 @@ unescaped_step (a ∷ b ∷ bytes) some = by_test ((a == CR) && (b == NUL)) refl
         (sym (eqb-true a CR (and_parts (a == CR) (b == NUL) e).0))
     by_test false e = refl
 
--- a value goes on after a CR NUL that comes first
-pub Resumes-cr_nul : (parameter : Bytes) → begins_with_cr_nul parameter ≡ true → Resumes parameter 2
-Resumes-cr_nul parameter begins later is = subst
-    (λ bytes. IsFirstLen bytes (option_map (λ m. 2 + m) later))
-    (sym (cr_nul_front parameter begins)) (after later is)
-  where
-    after : (later : Option ℕ) → IsLaterLen (drop 2 parameter) later
-        → IsFirstLen (CR ∷ NUL ∷ drop 2 parameter) (option_map (λ m. 2 + m) later)
-    after None is = ap (byte_then CR) is
-    after (Some n) is = let sum : 2 + n ≡ suc (suc n) = omega arith in
-        (omega (arith, is.0), ap (byte_then CR) is.1 ∙ rw sum refl)
+longer : (t : Bytes) → t ≢ [] → 0 < length t
+longer [] some = absurd (some (λ i. []))
+longer (b ∷ t) some = omega arith
 
--- after another first byte it goes on as after a CR NUL
-pub Resumes-byte : (parameter : Bytes) → begins_with_cr_nul parameter ≡ false → Resumes parameter 1
-Resumes-byte [] unread None is = refl
-Resumes-byte [] unread (Some n) is = let none = is.1 in cc
-Resumes-byte (a ∷ []) unread None is = refl
-Resumes-byte (a ∷ []) unread (Some n) is = let none = is.1 in cc
-Resumes-byte (a ∷ b ∷ bytes) unread None is = rw unread (ap (byte_then a) is)
-Resumes-byte (a ∷ b ∷ bytes) unread (Some zero) is =
-    (omega arith, rw unread (ap (byte_then a) is.1))
-Resumes-byte (a ∷ b ∷ bytes) unread (Some (suc n)) is =
-    let sum : 1 + suc n ≡ suc (suc n) = omega arith in
-    (omega (arith, is.0), rw (sum, unread) (ap (byte_then a) is.1))
+pub some_lossy : (v : Bytes) → 0 < length v → 0 < length (utf8_lossy v)
+some_lossy v some =
+    longer (utf8_lossy v) (kept-utf8_lossy v (λ none. omega (arith, some, ap length none)))
+
+pub ruleset texts = (some_lossy, utf8_lossy-IsUtf8, utf8_lossy_empty)

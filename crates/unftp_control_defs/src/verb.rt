@@ -1,0 +1,299 @@
+//! The verbs: their words, and what each takes as its parameter.
+ghost use Rattle.std.specs.Prelude.{◌≡◌, ◌↔◌, IsSome, IsTrue};
+ghost use Rattle.unftp_control_defs.specs.Rules.{kind, number, row_of, verbs, word};
+ghost use Rattle.unftp_control_defs.specs.Verbs.{upper};
+ghost use Rattle.unftp_control_defs.specs.Words.{from_four_bytes, to_four_bytes};
+
+/// What a verb takes as its parameter.
+#[derive(Clone, Copy)]
+pub enum Kind {
+    /// Anything, which it ignores.
+    Ignored,
+    /// No value.
+    Alone,
+    /// Any bytes, or none.
+    Raw,
+    /// A text that is not empty.
+    Text,
+    /// A text, or none.
+    OptionalText,
+    /// The path of LIST after its options, or none where nothing is after them.
+    Listing,
+    /// A value of the verb's own type: a code, a mechanism, an option or a number.
+    Typed,
+    /// SITE: a subcommand and its parameter.
+    Subcommand,
+}
+
+/// Which command it is, in the order of `Command`.
+#[derive(Clone, Copy)]
+pub enum Verb {
+    /// USER: a user name (RFC 959, section 4.1.1).
+    User,
+    /// PASS: a password (RFC 959, section 4.1.1).
+    Pass,
+    /// ACCT: an account (RFC 959, section 4.1.1).
+    Acct,
+    /// SYST (RFC 959, section 4.1.3).
+    Syst,
+    /// STAT: a path or none (RFC 959, section 4.1.3).
+    Stat,
+    /// TYPE (RFC 959, section 4.1.2).
+    TypeCode,
+    /// STRU: a structure (RFC 959, section 4.1.2).
+    Stru,
+    /// MODE: a transfer mode (RFC 959, section 4.1.2).
+    Mode,
+    /// HELP (RFC 959, section 4.1.3).
+    Help,
+    /// NOOP (RFC 959, section 4.1.3).
+    Noop,
+    /// PASV (RFC 959, section 4.1.2).
+    Pasv,
+    /// EPSV (RFC 2428, section 3).
+    Epsv,
+    /// PORT: an address (RFC 959, section 4.1.2).
+    Port,
+    /// RETR: a path (RFC 959, section 4.1.3).
+    Retr,
+    /// STOR: a path (RFC 959, section 4.1.3).
+    Stor,
+    /// APPE: a path (RFC 959, section 4.1.3).
+    Appe,
+    /// LIST: a path or none, after options (RFC 959, section 4.1.3).
+    List,
+    /// NLST: a path or none (RFC 959, section 4.1.3).
+    Nlst,
+    /// MLST: a path or none (RFC 3659, section 7).
+    Mlst,
+    /// MLSD: a path or none (RFC 3659, section 7).
+    Mlsd,
+    /// FEAT (RFC 2389, section 3).
+    Feat,
+    /// PWD (RFC 959, section 4.1.3) or XPWD (RFC 1123, section 4.1.3.1).
+    Pwd,
+    /// CWD (RFC 959, section 4.1.1) or XCWD (RFC 1123, section 4.1.3.1): a path.
+    Cwd,
+    /// CDUP (RFC 959, section 4.1.1).
+    Cdup,
+    /// OPTS: an option and its setting (RFC 2389, section 4).
+    Opts,
+    /// DELE: a path (RFC 959, section 4.1.3).
+    Dele,
+    /// RMD: a path (RFC 959, section 4.1.3).
+    Rmd,
+    /// QUIT (RFC 959, section 4.1.1) or BYE, a word of the field.
+    Quit,
+    /// MKD (RFC 959, section 4.1.3) or XMKD (RFC 1123, section 4.1.3.1): a path.
+    Mkd,
+    /// ALLO (RFC 959, section 4.1.3).
+    Allo,
+    /// ABOR (RFC 959, section 4.1.3).
+    Abor,
+    /// STOU (RFC 959, section 4.1.3).
+    Stou,
+    /// RNFR: a path (RFC 959, section 4.1.3).
+    Rnfr,
+    /// RNTO: a path (RFC 959, section 4.1.3).
+    Rnto,
+    /// AUTH: a mechanism (RFC 2228, section 3).
+    Auth,
+    /// CCC (RFC 2228, section 3).
+    Ccc,
+    /// PBSZ: a size (RFC 2228, section 3).
+    Pbsz,
+    /// PROT: a protection level (RFC 2228, section 3).
+    Prot,
+    /// SIZE: a path (RFC 3659, section 4).
+    Size,
+    /// REST: an offset (RFC 3659, section 5).
+    Rest,
+    /// MDTM: a path (RFC 3659, section 3).
+    Mdtm,
+    /// SITE MD5: a path. Its word is a subcommand of SITE.
+    Md5,
+    /// Another subcommand of SITE and its arguments (RFC 959, section 4.1.3).
+    Site,
+    /// A verb with no rule of its own, and its arguments.
+    Other,
+}
+
+impl Verb {
+    /// Its number for C, its canonical word, and what it takes. Other subcommands of SITE and other
+    /// verbs have no word here.
+    // a caller wants one of the three, and then no tuple is made
+    #[inline(always)]
+    fn row(self) -> (u32, &'static str, Kind)
+        ensures number { result.0 ≡ number self }
+        ensures word { result.1.now ≡ word self }
+        ensures kind { result.2 ≡ kind self }
+    {
+        match self {
+            Verb::User => (1, "USER", Kind::Raw),
+            Verb::Pass => (2, "PASS", Kind::Raw),
+            Verb::Acct => (3, "ACCT", Kind::Raw),
+            Verb::Syst => (4, "SYST", Kind::Ignored),
+            Verb::Stat => (5, "STAT", Kind::Raw),
+            Verb::TypeCode => (6, "TYPE", Kind::Ignored),
+            Verb::Stru => (7, "STRU", Kind::Typed),
+            Verb::Mode => (8, "MODE", Kind::Typed),
+            Verb::Help => (9, "HELP", Kind::Ignored),
+            Verb::Noop => (10, "NOOP", Kind::Alone),
+            Verb::Pasv => (11, "PASV", Kind::Alone),
+            Verb::Epsv => (12, "EPSV", Kind::Ignored),
+            Verb::Port => (13, "PORT", Kind::Text),
+            Verb::Retr => (14, "RETR", Kind::Text),
+            Verb::Stor => (15, "STOR", Kind::Text),
+            Verb::Appe => (16, "APPE", Kind::Text),
+            Verb::List => (17, "LIST", Kind::Listing),
+            Verb::Nlst => (18, "NLST", Kind::OptionalText),
+            Verb::Mlst => (19, "MLST", Kind::OptionalText),
+            Verb::Mlsd => (20, "MLSD", Kind::OptionalText),
+            Verb::Feat => (21, "FEAT", Kind::Alone),
+            Verb::Pwd => (22, "PWD", Kind::Alone),
+            Verb::Cwd => (23, "CWD", Kind::Text),
+            Verb::Cdup => (24, "CDUP", Kind::Alone),
+            Verb::Opts => (25, "OPTS", Kind::Typed),
+            Verb::Dele => (26, "DELE", Kind::Text),
+            Verb::Rmd => (27, "RMD", Kind::Text),
+            Verb::Quit => (28, "QUIT", Kind::Alone),
+            Verb::Mkd => (29, "MKD", Kind::Text),
+            Verb::Allo => (30, "ALLO", Kind::Ignored),
+            Verb::Abor => (31, "ABOR", Kind::Alone),
+            Verb::Stou => (32, "STOU", Kind::Alone),
+            Verb::Rnfr => (33, "RNFR", Kind::Text),
+            Verb::Rnto => (34, "RNTO", Kind::Text),
+            Verb::Auth => (35, "AUTH", Kind::Typed),
+            Verb::Ccc => (36, "CCC", Kind::Alone),
+            Verb::Pbsz => (37, "PBSZ", Kind::Typed),
+            Verb::Prot => (38, "PROT", Kind::Typed),
+            Verb::Size => (39, "SIZE", Kind::Text),
+            Verb::Rest => (40, "REST", Kind::Typed),
+            Verb::Mdtm => (41, "MDTM", Kind::Text),
+            Verb::Md5 => (42, "MD5", Kind::Text),
+            Verb::Site => (43, "", Kind::Subcommand),
+            Verb::Other => (44, "", Kind::OptionalText),
+        }
+    }
+
+    /// Its number for C.
+    pub fn number(self) -> u32
+        ensures { result ≡ number self }
+    {
+        self.row().0
+    }
+
+    /// Its canonical word; of SITE MD5 the subcommand. Empty for other subcommands and other verbs.
+    pub fn word(self) -> &'static str
+        ensures { result.now ≡ word self }
+    {
+        self.row().1
+    }
+
+    /// What it takes.
+    pub fn kind(self) -> Kind
+        ensures { result ≡ kind self }
+    {
+        self.row().2
+    }
+}
+
+/// The word, padded with NUL to four bytes; none where no verb has its length.
+fn to_four_bytes(word: &[u8]) -> Option<[u8; 4]>
+    ensures { result ≡ to_four_bytes word.now }
+{
+    match word {
+        [a, b, c] => Some([*a, *b, *c, 0]),
+        [a, b, c, d] if *d != 0 => Some([*a, *b, *c, *d]),
+        _ => None,
+    }
+}
+
+/// The verb of a word that is padded with NUL to four bytes, if it is one.
+fn verb_of(word: &[u8; 4]) -> Option<Verb>
+    ensures { result ≡ row_of (from_four_bytes word.now) verbs }
+{
+    Some(match word {
+        b"ABOR" => Verb::Abor,
+        b"ACCT" => Verb::Acct,
+        b"ALLO" => Verb::Allo,
+        b"APPE" => Verb::Appe,
+        b"AUTH" => Verb::Auth,
+        b"BYE\0" => Verb::Quit,
+        b"CCC\0" => Verb::Ccc,
+        b"CDUP" => Verb::Cdup,
+        b"CWD\0" => Verb::Cwd,
+        b"DELE" => Verb::Dele,
+        b"EPSV" => Verb::Epsv,
+        b"FEAT" => Verb::Feat,
+        b"HELP" => Verb::Help,
+        b"LIST" => Verb::List,
+        b"MDTM" => Verb::Mdtm,
+        b"MKD\0" => Verb::Mkd,
+        b"MLSD" => Verb::Mlsd,
+        b"MLST" => Verb::Mlst,
+        b"MODE" => Verb::Mode,
+        b"NLST" => Verb::Nlst,
+        b"NOOP" => Verb::Noop,
+        b"OPTS" => Verb::Opts,
+        b"PASS" => Verb::Pass,
+        b"PASV" => Verb::Pasv,
+        b"PBSZ" => Verb::Pbsz,
+        b"PORT" => Verb::Port,
+        b"PROT" => Verb::Prot,
+        b"PWD\0" => Verb::Pwd,
+        b"QUIT" => Verb::Quit,
+        b"REST" => Verb::Rest,
+        b"RETR" => Verb::Retr,
+        b"RMD\0" => Verb::Rmd,
+        b"RNFR" => Verb::Rnfr,
+        b"RNTO" => Verb::Rnto,
+        b"SITE" => Verb::Site,
+        b"SIZE" => Verb::Size,
+        b"STAT" => Verb::Stat,
+        b"STOR" => Verb::Stor,
+        b"STOU" => Verb::Stou,
+        b"STRU" => Verb::Stru,
+        b"SYST" => Verb::Syst,
+        b"TYPE" => Verb::TypeCode,
+        b"USER" => Verb::User,
+        b"XCWD" => Verb::Cwd,
+        b"XMKD" => Verb::Mkd,
+        b"XPWD" => Verb::Pwd,
+        _ => return None,
+    })
+}
+
+/// The bytes, their ASCII letters in upper case.
+fn upper_cased(word: [u8; 4]) -> [u8; 4]
+    ensures { result ≡ upper word }
+{
+    let [a, b, c, d] = word;
+    [
+        a.to_ascii_uppercase(),
+        b.to_ascii_uppercase(),
+        c.to_ascii_uppercase(),
+        d.to_ascii_uppercase(),
+    ]
+}
+
+/// The verb that a word is, ignoring ASCII case.
+#[inline]
+#[tactic(auto, using(crate::proofs::WordLemmas::words))]
+pub fn verb_named(word: &[u8]) -> Option<Verb>
+    ensures { result ≡ row_of (upper word.now) verbs }
+{
+    verb_of(&upper_cased(to_four_bytes(word)?))
+}
+
+/// Whether the word is a verb with a rule of its own, in upper case (RFC 959, section 5.3). It
+/// takes no memory.
+#[tactic(auto, using(crate::proofs::WordLemmas::words))]
+pub fn is_verb(word: &[u8]) -> bool
+    ensures { IsTrue result ↔ IsSome (row_of word.now verbs) }
+{
+    match to_four_bytes(word) {
+        Some(word) => verb_of(&word).is_some(),
+        None => false,
+    }
+}

@@ -1,0 +1,81 @@
+-- What contracts see of parts: what they say, and the command that they give.
+use Rattle.std.specs.Prelude.{◌≡◌, ◌+◌, ◌<◌, ℕ, ⊤, length, Result, Ok, Err}
+use Rattle.std.specs.Str.{IsUtf8}
+use Rattle.std.specs.Str.Lossy.{utf8_lossy}
+use Rattle.unftp_control_defs.specs.FtpCommand.{Answer, InvalidCommand}
+use Rattle.unftp_control_defs.specs.Rules.{Nothing, Number, Raw, Text, Chosen}
+use Rattle.unftp_control_defs.specs.Rules.{Value as SaidValue}
+use Rattle.unftp_control_defs.specs.Said.{Said, answer_of}
+use Rattle.unftp_control_defs.specs.declared.verb.Kind.{Kind}
+use Rattle.unftp_control_defs.specs.declared.verb.Kind.TheVariants as kinds
+use Rattle.unftp_control_defs.specs.Verbs.{upper}
+use Rattle.unftp_control_message.specs.CommandMeaning.{command_of}
+use Rattle.unftp_control_message.specs.SentValues.{sent_value}
+use Rattle.unftp_control_message.specs.declared.Command.{Command}
+use Rattle.unftp_control_message.specs.declared.parts.Parts.{Parts}
+use Rattle.unftp_control_message.specs.declared.parts.Value.{Value}
+use Rattle.unftp_control_message.specs.declared.parts.Value.TheVariants as rust
+use Rattle.unftp_control_message.specs.declared.sent.Sent.TheVariants as sent
+use Rattle.unftp_control_message.specs.declared.reply.error.parse_error.ParseErrorKind.{ParseErrorKind}
+use Rattle.unftp_control_message.specs.declared.reply.error.parse_error.ParseErrorKind.TheVariants as kind
+
+abbrev pub given : Value → SaidValue
+given rust.None = Nothing
+given (rust.Raw value) = Raw (sent_value value)
+given (rust.Text text) = Text text.now
+given (rust.Lossy value) = Text (utf8_lossy (sent_value value))
+given (rust.Chosen choice) = Chosen choice
+given (rust.Number number) = Number number
+
+-- what parts say, their name as it is spelled
+abbrev pub spelled : Parts → Said
+spelled parts = record { verb = parts.verb; name = parts.name.now; value = given parts.value }
+
+-- what parts say, whatever the case of their name
+abbrev pub said_of : Parts → Said
+said_of parts = record (spelled parts) { name = upper parts.name.now }
+
+-- the value is where it was read, as it is
+abbrev pub IsInPlace : Value → Type 0
+IsInPlace (rust.Raw (sent.Escaped bytes)) = ⊥
+IsInPlace (rust.Lossy value) = ⊥
+IsInPlace _ = ⊤
+
+-- A text that could be borrowed is: one that is not in place is ill-formed, or sent with NULs.
+abbrev pub IsBorrowed : Value → Type 0
+IsBorrowed (rust.Lossy (sent.Plain bytes)) = ¬ IsUtf8 bytes.now
+IsBorrowed _ = ⊤
+
+-- So it is of parts, whose name is in upper case.
+abbrev pub AreInPlace : Parts → Type 0
+AreInPlace parts = IsInPlace parts.value × (upper parts.name.now ≡ parts.name.now)
+
+-- how many bytes it holds
+abbrev pub value_len : SaidValue → ℕ
+value_len (Raw bytes) = length bytes
+value_len (Text text) = length text
+value_len _ = 0
+
+abbrev pub said_len : Said → ℕ
+said_len parts = length parts.name + value_len parts.value
+
+-- The answer is a refusal; or memory ran out for so many bytes.
+abbrev pub Fails : Answer → ℕ → ParseErrorKind → Type 0
+Fails answer len kind.InvalidCommand = answer ≡ Err InvalidCommand
+Fails answer len kind.OutOfMemory = 0 < len
+Fails answer len _ = ⊥
+
+-- So does making a command of parts.
+abbrev pub FailsAs : Parts → ParseErrorKind → Type 0
+FailsAs parts error = Fails (answer_of (said_of parts)) (said_len (said_of parts)) error
+
+-- a verb of this kind takes a text, or none
+abbrev pub TakesOptionalText : Kind → Type 0
+TakesOptionalText kinds.OptionalText = ⊤
+TakesOptionalText kinds.Listing = ⊤
+TakesOptionalText kinds.Subcommand = ⊤
+TakesOptionalText _ = ⊥
+
+abbrev pub Makes : Answer → ℕ → Result Command ParseErrorKind → Type 0
+Makes answer len (Ok command) = answer ≡ Ok (command_of command)
+Makes answer len (Err error) = Fails answer len error

@@ -1,0 +1,201 @@
+//! The fields of the command that parts are.
+ghost use Rattle.std.specs.Prelude.{◌≡◌, ◌<◌, [], Ok, Option, IfErr, IfOk, OnErr, length, option_map, string_bytes};
+ghost use Rattle.unftp_control_defs.specs.Bytes.{Bytes as Sequence};
+ghost use Rattle.unftp_control_defs.specs.FtpCommand.{FtpCommand, Rest};
+ghost use Rattle.unftp_control_defs.specs.Rules.{Text, by_buffer_size, by_mechanism, by_mode, by_named_text, by_number, by_protection, by_raw, by_setting, by_structure, kind, maybe_raw, maybe_text};
+ghost use Rattle.unftp_control_defs.specs.Said.{answer_of};
+ghost use Rattle.unftp_control_defs.specs.Verbs.{upper};
+ghost use Rattle.unftp_control_defs.specs.declared.verb.Kind.TheVariants as kinds;
+ghost use Rattle.unftp_control_defs.specs.declared.verb.Verb.TheVariants as verbs;
+ghost use Rattle.unftp_control_message.specs.PartsMeaning.{FailsAs, Makes, TakesOptionalText, given, said_len, said_of};
+
+use crate::Command;
+use crate::parts::{Choice, Parts, Value};
+use crate::reply::error::ParseErrorKind;
+use bytes::Bytes;
+use std::alloc::{AllocError, Global};
+
+/// A text in memory of its own; an empty one takes none.
+#[inline]
+fn owned(alloc: Global, text: &str) -> Result<String, AllocError>
+    ensures ok { IfOk result (λ owned. string_bytes owned ≡ text.now) }
+    ensures memory { OnErr result (0 < length text.now) }
+{
+    if text.is_empty() {
+        return Ok(String::new(alloc));
+    }
+    String::from_str(alloc, text)
+}
+
+/// The name in upper case, in memory of its own; an empty one takes none.
+fn upper_cased(alloc: Global, name: &str) -> Result<String, AllocError>
+    ensures ok { IfOk result (λ upper_cased. string_bytes upper_cased ≡ upper name.now) }
+    ensures memory { OnErr result (0 < length (upper name.now)) }
+{
+    let mut name = owned(alloc, name)?;
+    name.make_ascii_uppercase();
+    Ok(name)
+}
+
+/// The bytes of the value.
+#[tactic(auto, using(crate::proofs::PartsLemmas::taking))]
+pub fn raw(alloc: Global, parts: &Parts<'_>) -> Result<Bytes, ParseErrorKind>
+    requires { kind parts.now.verb ≡ kinds.Raw }
+    ensures ok { IfOk result (λ bytes. (make : Sequence → FtpCommand) (name : Sequence)
+        → by_raw make name (given parts.now.value) ≡ Ok (make bytes)) }
+    ensures err { IfErr result (λ kind. FailsAs parts.now kind) }
+{
+    match parts.value {
+        Value::None => Ok(Bytes::new()),
+        Value::Raw(sent) => Ok(sent.to_bytes(alloc)?),
+        _ => Err(ParseErrorKind::InvalidCommand),
+    }
+}
+
+/// The bytes of the value, or none.
+#[tactic(auto, using(crate::proofs::PartsLemmas::taking))]
+pub fn optional_raw(alloc: Global, parts: &Parts<'_>) -> Result<Option<Bytes>, ParseErrorKind>
+    requires { kind parts.now.verb ≡ kinds.Raw }
+    ensures ok { IfOk result (λ bytes. given parts.now.value ≡ maybe_raw bytes) }
+    ensures err { IfErr result (λ kind. FailsAs parts.now kind) }
+{
+    match parts.value {
+        Value::None => Ok(None),
+        Value::Raw(sent) => Ok(Some(sent.to_bytes(alloc)?)),
+        _ => Err(ParseErrorKind::InvalidCommand),
+    }
+}
+
+/// The text of the value.
+#[tactic(auto, using(crate::proofs::PartsLemmas::taking))]
+pub fn text(alloc: Global, parts: &Parts<'_>) -> Result<String, ParseErrorKind>
+    requires { kind parts.now.verb ≡ kinds.Text }
+    ensures ok { IfOk result (λ text. given parts.now.value ≡ Text (string_bytes text)) }
+    ensures err { IfErr result (λ kind. FailsAs parts.now kind) }
+{
+    match parts.value {
+        Value::Text(text) => Ok(owned(alloc, text)?),
+        Value::Lossy(sent) => Ok(sent.to_text(alloc)?),
+        _ => Err(ParseErrorKind::InvalidCommand),
+    }
+}
+
+/// The text of the value, or none.
+#[tactic(auto, using(crate::proofs::PartsLemmas::taking))]
+pub fn optional_text(alloc: Global, parts: &Parts<'_>) -> Result<Option<String>, ParseErrorKind>
+    requires { TakesOptionalText (kind parts.now.verb) }
+    ensures ok { IfOk result
+        (λ text. given parts.now.value ≡ maybe_text (option_map string_bytes text)) }
+    ensures err { IfErr result (λ kind. FailsAs parts.now kind) }
+{
+    match parts.value {
+        Value::None => Ok(None),
+        Value::Text(text) => Ok(Some(owned(alloc, text)?)),
+        Value::Lossy(sent) => Ok(Some(sent.to_text(alloc)?)),
+        _ => Err(ParseErrorKind::InvalidCommand),
+    }
+}
+
+/// The text after a name; it may be empty.
+#[tactic(auto, using(crate::proofs::PartsLemmas::taking))]
+fn arguments(alloc: Global, parts: &Parts<'_>) -> Result<String, ParseErrorKind>
+    requires { TakesOptionalText (kind parts.now.verb) }
+    ensures ok { IfOk result (λ arguments. (make : Sequence → Sequence → FtpCommand)
+        (name : Sequence) → by_named_text make name (given parts.now.value)
+        ≡ Ok (make name (string_bytes arguments))) }
+    ensures err { IfErr result (λ kind. FailsAs parts.now kind) }
+{
+    match parts.value {
+        Value::None => Ok(String::new(alloc)),
+        Value::Text(text) => Ok(owned(alloc, text)?),
+        Value::Lossy(sent) => Ok(sent.to_text(alloc)?),
+        _ => Err(ParseErrorKind::InvalidCommand),
+    }
+}
+
+pub fn stru(value: Value<'_>) -> Result<Command, ParseErrorKind>
+    ensures { Makes (by_structure [] (given value.entry)) 0 result }
+{
+    match value {
+        Value::Chosen(Choice::Structure(structure)) => Ok(Command::Stru { structure }),
+        _ => Err(ParseErrorKind::InvalidCommand),
+    }
+}
+
+pub fn mode(value: Value<'_>) -> Result<Command, ParseErrorKind>
+    ensures { Makes (by_mode [] (given value.entry)) 0 result }
+{
+    match value {
+        Value::Chosen(Choice::Mode(mode)) => Ok(Command::Mode { mode }),
+        _ => Err(ParseErrorKind::InvalidCommand),
+    }
+}
+
+pub fn opts(value: Value<'_>) -> Result<Command, ParseErrorKind>
+    ensures { Makes (by_setting [] (given value.entry)) 0 result }
+{
+    match value {
+        Value::Chosen(Choice::Setting(option)) => Ok(Command::Opts { option }),
+        _ => Err(ParseErrorKind::InvalidCommand),
+    }
+}
+
+pub fn auth(value: Value<'_>) -> Result<Command, ParseErrorKind>
+    ensures { Makes (by_mechanism [] (given value.entry)) 0 result }
+{
+    match value {
+        Value::Chosen(Choice::Mechanism(protocol)) => Ok(Command::Auth { protocol }),
+        _ => Err(ParseErrorKind::InvalidCommand),
+    }
+}
+
+pub fn prot(value: Value<'_>) -> Result<Command, ParseErrorKind>
+    ensures { Makes (by_protection [] (given value.entry)) 0 result }
+{
+    match value {
+        Value::Chosen(Choice::Protection(param)) => Ok(Command::Prot { param }),
+        _ => Err(ParseErrorKind::InvalidCommand),
+    }
+}
+
+pub fn pbsz(value: Value<'_>) -> Result<Command, ParseErrorKind>
+    ensures { Makes (by_buffer_size [] (given value.entry)) 0 result }
+{
+    match value {
+        Value::Chosen(Choice::NoBuffer) => Ok(Command::Pbsz {}),
+        _ => Err(ParseErrorKind::InvalidCommand),
+    }
+}
+
+pub fn rest(value: Value<'_>) -> Result<Command, ParseErrorKind>
+    ensures { Makes (by_number Rest [] (given value.entry)) 0 result }
+{
+    match value {
+        Value::Number(offset) => Ok(Command::Rest { offset }),
+        _ => Err(ParseErrorKind::InvalidCommand),
+    }
+}
+
+/// SITE with another subcommand.
+pub fn site(alloc: Global, parts: &Parts<'_>) -> Result<Command, ParseErrorKind>
+    requires { parts.now.verb ≡ verbs.Site }
+    ensures { Makes (answer_of (said_of parts.now)) (said_len (said_of parts.now)) result }
+{
+    let arguments = arguments(alloc, parts)?;
+    Ok(Command::Site {
+        command: upper_cased(alloc, parts.name)?,
+        arguments,
+    })
+}
+
+/// A verb with no rule of its own.
+pub fn other(alloc: Global, parts: &Parts<'_>) -> Result<Command, ParseErrorKind>
+    requires { parts.now.verb ≡ verbs.Other }
+    ensures { Makes (answer_of (said_of parts.now)) (said_len (said_of parts.now)) result }
+{
+    let arguments = arguments(alloc, parts)?;
+    Ok(Command::Other {
+        command_name: upper_cased(alloc, parts.name)?,
+        arguments,
+    })
+}

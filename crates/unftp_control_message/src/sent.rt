@@ -1,0 +1,164 @@
+//! A value as it is sent, and as bytes or text.
+ghost use Rattle.std.specs.Prelude.{◌≡◌, ◌≤◌, ◌==◌, ◌<◌, IfOk, OnErr, length, string_bytes, take};
+ghost use Rattle.std.specs.Str.Lossy.{utf8_lossy};
+ghost use Rattle.unftp_control_message.specs.SentValues.{after_nul, begins_with_cr_nul, first_unit_len, sent_bytes, unescaped, sent_value};
+
+use bytes::Bytes;
+use memchr::memchr;
+use std::alloc::{AllocError, Global};
+use std::str::from_utf8;
+
+const CR: u8 = b'\r';
+
+const NUL: u8 = 0;
+
+/// A value, as it is sent (RFC 854).
+#[derive(Clone, Copy)]
+pub enum Sent<'a> {
+    /// The bytes of the value.
+    Plain(&'a [u8]),
+    /// The bytes of the value, with a NUL after some of its carriage returns.
+    Escaped(&'a [u8]),
+}
+
+impl<'a> Sent<'a> {
+    /// The bytes that are sent for it.
+    pub fn sent(self) -> &'a [u8]
+        ensures { result.now ≡ sent_bytes self.entry }
+    {
+        match self {
+            Sent::Plain(bytes) | Sent::Escaped(bytes) => bytes,
+        }
+    }
+
+    /// Whether it has no bytes.
+    #[inline]
+    pub fn is_empty(self) -> bool
+        ensures { result ≡ (length (sent_value self.entry) == 0) }
+    {
+        self.sent().is_empty()
+    }
+
+    /// Its bytes, in new memory; none take none.
+    pub fn to_bytes(self, alloc: Global) -> Result<Bytes, AllocError>
+        ensures ok { IfOk result (λ bytes. bytes ≡ sent_value self.entry) }
+        ensures memory { OnErr result (0 < length (sent_value self.entry)) }
+    {
+        if self.is_empty() {
+            return Ok(Bytes::new());
+        }
+        match self {
+            Sent::Plain(bytes) => Bytes::copy_from_slice(alloc, bytes),
+            Sent::Escaped(sent) => Ok(Bytes::from_vec(unescape(alloc, sent)?)?),
+        }
+    }
+
+    /// Its text in new memory, each ill-formed part of UTF-8 replaced by U+FFFD; an empty one takes
+    /// none.
+    #[inline]
+    #[tactic(auto, using(crate::proofs::SentLemmas::texts))]
+    pub fn to_text(self, alloc: Global) -> Result<String, AllocError>
+        ensures ok { IfOk result (λ text. string_bytes text ≡ utf8_lossy (sent_value self.entry)) }
+        ensures memory { OnErr result (0 < length (utf8_lossy (sent_value self.entry))) }
+    {
+        if self.is_empty() {
+            return Ok(String::new(alloc));
+        }
+        match self {
+            Sent::Plain(bytes) => borrowed_text(alloc, bytes),
+            Sent::Escaped(sent) => owned_text(alloc, unescape(alloc, sent)?),
+        }
+    }
+}
+
+/// The bytes as a new text.
+// for all bytes `from_utf8_lossy` would do, but it is not inlined, which takes some 8 ns more
+#[inline(always)]
+#[tactic(auto, using(crate::proofs::SentLemmas::texts))]
+fn borrowed_text(alloc: Global, bytes: &[u8]) -> Result<String, AllocError>
+    ensures { IfOk result (λ text. string_bytes text ≡ utf8_lossy bytes.now) }
+{
+    match from_utf8(bytes) {
+        Ok(text) => String::from_str(alloc, text),
+        Err(_) => String::from_utf8_lossy(alloc, bytes),
+    }
+}
+
+/// The bytes as text, in their own memory where they are well-formed UTF-8.
+fn owned_text(alloc: Global, bytes: Vec<u8>) -> Result<String, AllocError>
+    ensures { IfOk result (λ text. string_bytes text ≡ utf8_lossy bytes.items) }
+{
+    match String::from_utf8(bytes) {
+        Ok(text) => Ok(text),
+        Err(error) => borrowed_text(alloc, error.as_bytes()),
+    }
+}
+
+/// Whether the bytes begin with CR NUL.
+#[inline]
+pub fn begins_with_cr_nul(bytes: &[u8]) -> bool
+    ensures { result ≡ begins_with_cr_nul bytes.now }
+{
+    match bytes {
+        [first, second, ..] => *first == CR && *second == NUL,
+        _ => false,
+    }
+}
+
+/// How many bytes are sent for the first byte of the value.
+fn first_unit_len(bytes: &[u8]) -> usize
+    ensures { result ≡ first_unit_len bytes.now }
+{
+    if begins_with_cr_nul(bytes) { 2 } else { 1 }
+}
+
+/// The bytes without a NUL at the start.
+fn after_nul(bytes: &[u8]) -> &[u8]
+    ensures { result.now ≡ after_nul bytes.now }
+{
+    match bytes {
+        [first, rest @ ..] if *first == NUL => rest,
+        _ => bytes,
+    }
+}
+
+/// The value for which these bytes are sent, in new memory.
+pub fn unescape(alloc: Global, sent: &[u8]) -> Result<Vec<u8>, AllocError>
+    ensures { IfOk result (λ value. value.items ≡ unescaped sent.now) }
+{
+    let mut value = Vec::with_capacity(alloc, sent.len())?;
+    let mut rest = sent;
+    'parts: loop {
+        if begins_with_cr_nul(rest) {
+            let (_, further) = rest.split_at(2);
+            value.push(CR).map_err(AllocError::from)?;
+            rest = further;
+        } else {
+            let Some(end) = memchr(CR, rest) else {
+                value.extend_from_slice(rest)?;
+                return Ok(value);
+            };
+            let (part, further) = rest.split_at(end + 1);
+            value.extend_from_slice(part)?;
+            rest = after_nul(further);
+        }
+    }
+}
+
+/// The first bytes of the value for which these are sent, at most four, and how many they are.
+pub fn value_start(sent: &[u8]) -> ([u8; 4], usize)
+    ensures len { result.1 ≤ 4 }
+    ensures bytes { take result.1 result.0 ≡ take 4 (unescaped sent.now) }
+{
+    let mut start = [0u8; 4];
+    let mut rest = sent;
+    for at in 0..4usize {
+        if rest.is_empty() {
+            return (start, at);
+        }
+        start[at] = rest[0];
+        let (_, further) = rest.split_at(first_unit_len(rest));
+        rest = further;
+    }
+    (start, 4)
+}
