@@ -436,15 +436,16 @@ def header_numbers():
 
 def check_numbers():
     """The definitions' numbers, which the contracts tie to the code, are those of the header, and those of bindings/rust are among them."""
-    commands = numbers_in("crates/unftp_control_defs/specs/Rules.antt", r"^row verb\.(\w+) = entry (\d+) ")
+    commands = numbers_in("crates/unftp_control_defs/specs/FtpCommand.antt", r"^row verb\.(\w+) = entry (\d+) ")
     statuses = numbers_in("crates/unftp_control_c/specs/Numbers.antt", r"^status_number (\w+) = (\d+)$")
     declared = header_numbers()
     wants_numbers("the header", declared, {**commands, **statuses})
     wants("the number of the header's names", len(declared), len(commands) + len(statuses))
     if RUST.exists():
         used = numbers_in(RUST, r"^pub(?:\(crate\))? const (\w+): u32 = (\d+);")
-        if not commands.items() <= used.items() <= declared.items():
-            raise Wrong(f"{RUST.name} has other numbers: {sorted(set(used.items()) ^ set(declared.items()))}")
+        if not used.items() <= declared.items():
+            raise Wrong(f"{RUST.name} has other numbers: {sorted(set(used.items()) - set(declared.items()))}")
+        wants_numbers("command.rs of bindings/rust", numbers_in("bindings/rust/src/command.rs", r"^ {12}(\d+) (\w+) \w+ \{"), commands)
     return f"{len(commands)} commands, {len(statuses)} other results and {check_codes()}"
 
 

@@ -1,5 +1,4 @@
 use crate::bytes::{Password, RawBytes};
-use crate::ffi;
 use crate::parameters::{AuthParam, ModeParam, Opt, ProtParam, StruParam};
 use crate::shown;
 use std::borrow::Cow;
@@ -214,26 +213,63 @@ pub enum Command<'a> {
     },
 }
 
-/// Gives a macro each variant with its fields, after its other arguments.
-macro_rules! for_each_variant {
+/// Gives a macro each command, after its other arguments: its number in the header, its variant, what
+/// makes its fields of a name and a value, and these fields.
+macro_rules! for_each_command {
     ($call:ident!($($argument:expr),*)) => {
         $call! {
             $($argument,)*
-            User { username } Pass { password } Acct { account } Syst {} Stat { path } Type {}
-            Stru { structure } Mode { mode } Help {} Noop {} Pasv {} Epsv {} Port { addr }
-            Retr { path } Stor { path } Appe { path } List { options, path } Nlst { path }
-            Mlst { path } Mlsd { path } Feat {} Pwd {} Cwd { path } Cdup {} Opts { option }
-            Dele { path } Rmd { path } Quit {} Mkd { path } Allo {} Abor {} Stou {} Rnfr { file }
-            Rnto { file } Auth { protocol } Ccc {} Pbsz {} Prot { param } Size { file }
-            Rest { offset } Mdtm { file } Md5 { file } Site { command, arguments }
-            Other { command_name, arguments }
+            1 User bytes { username }
+            2 Pass password { password }
+            3 Acct bytes { account }
+            4 Syst nothing {}
+            5 Stat optional_bytes { path }
+            6 Type nothing {}
+            7 Stru structure { structure }
+            8 Mode mode { mode }
+            9 Help nothing {}
+            10 Noop nothing {}
+            11 Pasv nothing {}
+            12 Epsv nothing {}
+            13 Port text { addr }
+            14 Retr text { path }
+            15 Stor text { path }
+            16 Appe text { path }
+            17 List listing { options, path }
+            18 Nlst optional_text { path }
+            19 Mlst optional_text { path }
+            20 Mlsd optional_text { path }
+            21 Feat nothing {}
+            22 Pwd nothing {}
+            23 Cwd text { path }
+            24 Cdup nothing {}
+            25 Opts option { option }
+            26 Dele text { path }
+            27 Rmd text { path }
+            28 Quit nothing {}
+            29 Mkd text { path }
+            30 Allo nothing {}
+            31 Abor nothing {}
+            32 Stou nothing {}
+            33 Rnfr text { file }
+            34 Rnto text { file }
+            35 Auth mechanism { protocol }
+            36 Ccc nothing {}
+            37 Pbsz nothing {}
+            38 Prot protection { param }
+            39 Size text { file }
+            40 Rest offset { offset }
+            41 Mdtm text { file }
+            42 Md5 text { file }
+            43 Site named { command, arguments }
+            44 Other named { command_name, arguments }
         }
     };
 }
 
 /// Makes the command of the same variant and fields that owns them.
 macro_rules! owned {
-    ($command:expr, $($variant:ident { $($field:ident),* })*) => {
+    ($command:expr, $($number:literal $variant:ident $makes:ident { $($field:ident),* })*) => {
         match $command {
             $(Command::$variant { $($field),* } => Command::$variant {
                 $($field: $field.into_owned_field()),*
@@ -244,7 +280,7 @@ macro_rules! owned {
 
 /// Writes the variant and its fields, as a derived `Debug` does.
 macro_rules! debug {
-    ($command:expr, $f:expr, $($variant:ident { $($field:ident),* })*) => {
+    ($command:expr, $f:expr, $($number:literal $variant:ident $makes:ident { $($field:ident),* })*) => {
         match $command {
             $(Command::$variant { $($field),* } => {
                 $f.debug_struct(stringify!($variant))$(.field(stringify!($field), $field))*.finish()
@@ -256,7 +292,7 @@ macro_rules! debug {
 impl Command<'_> {
     /// The same command, whose texts and bytes are copied where they are borrowed.
     pub fn into_owned(self) -> Command<'static> {
-        for_each_variant!(owned!(self))
+        for_each_command!(owned!(self))
     }
 }
 
@@ -274,7 +310,7 @@ impl Debug for Command<'_> {
                     .field("arguments", &value)
                     .finish()
             }
-            command => for_each_variant!(debug!(command, f)),
+            command => for_each_command!(debug!(command, f)),
         }
     }
 }
@@ -329,69 +365,59 @@ macro_rules! never {
     };
 }
 
+/// Makes the command of one row of the table.
+macro_rules! made {
+    ($name:expr, $value:expr, $variant:ident nothing {}) => {
+        Command::$variant
+    };
+    ($name:expr, $value:expr, $variant:ident listing { $options:ident, $path:ident }) => {
+        Command::$variant { $options: None, $path: optional_text($value) }
+    };
+    ($name:expr, $value:expr, $variant:ident named { $first:ident, $arguments:ident }) => {
+        Command::$variant { $first: text($name), $arguments: text($value) }
+    };
+    ($name:expr, $value:expr, $variant:ident $makes:ident { $field:ident }) => {
+        Command::$variant { $field: $makes($value) }
+    };
+}
+
+/// Makes the command of a number, a name and a value.
+macro_rules! of_line {
+    ($given:expr, $name:expr, $value:expr,
+        $($number:literal $variant:ident $makes:ident { $($field:ident),* })*) => {
+        match $given {
+            $($number => made!($name, $value, $variant $makes { $($field),* }),)*
+            number => never!("{number} is no `command_number`"),
+        }
+    };
+}
+
 impl<'a> Command<'a> {
     /// The command that `unftp_next` gives by a number, a name and a value.
     pub(crate) fn of_line(number: u32, name: &'a [u8], value: &'a [u8]) -> Command<'a> {
-        match number {
-            ffi::USER => Command::User { username: value.into() },
-            ffi::PASS => Command::Pass { password: value.into() },
-            ffi::ACCT => Command::Acct { account: value.into() },
-            ffi::STAT => Command::Stat { path: unless_empty(value).map(RawBytes::from) },
-            ffi::STRU => Command::Stru { structure: structure(value) },
-            ffi::MODE => Command::Mode { mode: mode(value) },
-            ffi::PORT => Command::Port { addr: text(value) },
-            ffi::RETR => Command::Retr { path: text(value) },
-            ffi::STOR => Command::Stor { path: text(value) },
-            ffi::APPE => Command::Appe { path: text(value) },
-            ffi::LIST => Command::List { options: None, path: unless_empty(value).map(text) },
-            ffi::NLST => Command::Nlst { path: unless_empty(value).map(text) },
-            ffi::MLST => Command::Mlst { path: unless_empty(value).map(text) },
-            ffi::MLSD => Command::Mlsd { path: unless_empty(value).map(text) },
-            ffi::CWD => Command::Cwd { path: text(value) },
-            ffi::OPTS => Command::Opts { option: option(value) },
-            ffi::DELE => Command::Dele { path: text(value) },
-            ffi::RMD => Command::Rmd { path: text(value) },
-            ffi::MKD => Command::Mkd { path: text(value) },
-            ffi::RNFR => Command::Rnfr { file: text(value) },
-            ffi::RNTO => Command::Rnto { file: text(value) },
-            ffi::AUTH => Command::Auth { protocol: mechanism(value) },
-            ffi::PROT => Command::Prot { param: protection(value) },
-            ffi::SIZE => Command::Size { file: text(value) },
-            ffi::REST => Command::Rest { offset: offset(value) },
-            ffi::MDTM => Command::Mdtm { file: text(value) },
-            ffi::MD5 => Command::Md5 { file: text(value) },
-            ffi::SITE => Command::Site { command: text(name), arguments: text(value) },
-            ffi::OTHER => Command::Other { command_name: text(name), arguments: text(value) },
-            _ => Command::without_value(number),
-        }
+        for_each_command!(of_line!(number, name, value))
     }
+}
 
-    /// The command of a number that has no field.
-    fn without_value(number: u32) -> Command<'a> {
-        match number {
-            ffi::SYST => Command::Syst,
-            ffi::TYPE => Command::Type,
-            ffi::HELP => Command::Help,
-            ffi::NOOP => Command::Noop,
-            ffi::PASV => Command::Pasv,
-            ffi::EPSV => Command::Epsv,
-            ffi::FEAT => Command::Feat,
-            ffi::PWD => Command::Pwd,
-            ffi::CDUP => Command::Cdup,
-            ffi::QUIT => Command::Quit,
-            ffi::ALLO => Command::Allo,
-            ffi::ABOR => Command::Abor,
-            ffi::STOU => Command::Stou,
-            ffi::CCC => Command::Ccc,
-            ffi::PBSZ => Command::Pbsz,
-            _ => never!("{number} is no `command_number`"),
-        }
-    }
+fn bytes(value: &[u8]) -> RawBytes<'_> {
+    value.into()
+}
+
+fn password(value: &[u8]) -> Password<'_> {
+    value.into()
 }
 
 /// The value, where there is one: no command has an empty one that it may lack.
 fn unless_empty(value: &[u8]) -> Option<&[u8]> {
     (!value.is_empty()).then_some(value)
+}
+
+fn optional_bytes(value: &[u8]) -> Option<RawBytes<'_>> {
+    unless_empty(value).map(bytes)
+}
+
+fn optional_text(value: &[u8]) -> Option<Cow<'_, str>> {
+    unless_empty(value).map(text)
 }
 
 fn text(value: &[u8]) -> Cow<'_, str> {

@@ -5,3 +5,4 @@ mod CallerLemmas
 mod EventLoopLemmas
 mod ConversingLemmas
 mod TlsLemmas
+mod ReadingLemmas

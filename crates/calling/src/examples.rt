@@ -3,7 +3,7 @@
 ghost use Rattle.std.specs.Prelude.{◌≡◌, Bool, [], ◌∷◌, None, Some, codes, false, true};
 ghost use Rattle.calling.specs.EventLoop.{loop_replies, turn_after};
 ghost use Rattle.calling.specs.FactList.{facts_asked, facts_text};
-ghost use Rattle.calling.specs.Forwarding.{IsReplyInPlace};
+ghost use Rattle.calling.specs.Forwarding.{IsReplyInPlace, only_reads};
 ghost use Rattle.calling.specs.UntilTls.{BeginsTls, EndsWithAuth};
 ghost use Rattle.calling.specs.WholeLine.{AsksFor, all_facts, image_modes, modes_after, no_facts, reply_to};
 ghost use Rattle.unftp_control.specs.Bytes.{Bytes};
@@ -12,6 +12,7 @@ ghost use Rattle.unftp_control.specs.FtpCommand.{Auth, Epsv, InvalidCommand, Pas
 ghost use Rattle.unftp_control.specs.Forwarding.{IsForwardError, IsForwarded};
 ghost use Rattle.unftp_control.specs.FtpReply.{CodeAndMsg};
 ghost use Rattle.unftp_control.specs.Input.{InputState};
+ghost use Rattle.unftp_control.specs.Outcome.{outcome};
 ghost use Rattle.unftp_control.specs.Writing.{OutputState};
 ghost use Rattle.unftp_control.specs.declared.commands.AuthParam.TheVariants.{Ssl, Tls};
 
@@ -53,6 +54,13 @@ pub fn clients_are_replied()
     ensures memory { IsReplyInPlace (codes "NOOP\r\n") (codes "421 Out of memory\r\n") }
     ensures no_memory { IsReplyInPlace (255 ∷ codes "\r\n") (codes "421 Out of memory\r\n")
         → ⊥ }
+{}
+
+/// A line is let through for its command, however the verb is spelled.
+pub fn lines_only_read()
+    ensures lower_case { only_reads (outcome (codes "retr a\n")) ≡ true }
+    ensures delete { only_reads (outcome (codes "DELE a\r\n")) ≡ false }
+    ensures refused { only_reads (outcome (codes "RETR\r\n")) ≡ false }
 {}
 
 /// An event loop agrees to AUTH TLS only where nothing comes after its line.

@@ -1,9 +1,12 @@
 //! A proxy that forwards each line of a client to a server.
 ghost use Rattle.std.specs.Prelude.{◌≡◌, MatchOption};
-ghost use Rattle.calling.specs.Forwarding.{IsReplyInPlace};
+ghost use Rattle.calling.specs.Forwarding.{IsReplyInPlace, only_reads, reads};
 ghost use Rattle.unftp_control.specs.Forwarding.{IsForwarded};
+ghost use Rattle.unftp_control.specs.Outcome.{outcome};
 
 use std::alloc::Global;
+use unftp_control::line_parser::parts;
+use unftp_control::parts::Verb;
 use unftp_control::write::{ForwardError, forward};
 
 /// Forwards a client's line: appends what the server is sent. Where it is not forwarded, nothing is
@@ -18,4 +21,24 @@ pub fn forward_line(alloc: Global, line: &[u8], out: &mut Vec<u8>) -> Option<&'s
         Err(ForwardError::Refused(_)) => Some("500 Not understood\r\n"),
         Err(ForwardError::OutOfMemory) => Some("421 Out of memory\r\n"),
     }
+}
+
+/// Whether a line is a command that gets a file, or asks about one. It takes no memory.
+pub fn only_reads(line: &[u8]) -> bool
+    ensures { result ≡ only_reads (outcome line.now) }
+{
+    match parts(line) {
+        Ok(parts) => reads(parts.verb),
+        Err(_) => false,
+    }
+}
+
+/// Whether the verb gets a file, or asks about one.
+fn reads(verb: Verb) -> bool
+    ensures { result ≡ reads verb }
+{
+    matches!(
+        verb,
+        Verb::Retr | Verb::List | Verb::Nlst | Verb::Mlst | Verb::Mlsd | Verb::Size | Verb::Mdtm
+    )
 }

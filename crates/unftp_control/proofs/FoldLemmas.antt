@@ -4,8 +4,8 @@ use Rattle.std.specs.Str.{is_utf8, chars}
 use Rattle.unftp_control_defs.specs.Bytes.{Bytes}
 use Rattle.unftp_control_defs.specs.Verbs.{Cut, upper}
 use Rattle.unftp_control_defs.specs.ComputedValue.{value_of}
-use Rattle.unftp_control_defs.specs.FtpCommand.{Answer, InvalidUtf8}
-use Rattle.unftp_control_defs.specs.Rules.{row_of, subcommand_answer, verbs}
+use Rattle.unftp_control_defs.specs.FtpCommand.{Answer, InvalidUtf8, verbs}
+use Rattle.unftp_control_defs.specs.Rules.{row_of, subcommand_answer}
 use Rattle.unftp_control_defs.specs.Outcome.{outcome, site_answer, value_answer, word_answer}
 use Rattle.unftp_control_defs.proofs.CaseLemmas.{is_utf8-upper}
 use Rattle.unftp_control_defs.proofs.VerbLemmas.{Cut-unique}

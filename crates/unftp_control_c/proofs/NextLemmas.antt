@@ -5,8 +5,8 @@ use Rattle.std.proofs.lemmas.Bool.Decides.{nat_tests}
 use Rattle.std.proofs.lemmas.List.{length-take-le}
 use Rattle.unftp_control_defs.specs.Bytes.{Bytes}
 use Rattle.unftp_control_defs.specs.Events.{Fault, Refused, event_of, line_too_long, refusal_fault}
-use Rattle.unftp_control_defs.specs.FtpCommand.{Answer, InvalidCommand, InvalidUtf8, InvalidEol}
-use Rattle.unftp_control_defs.specs.Said.{Said, IsSaid}
+use Rattle.unftp_control_defs.specs.FtpCommand.{Answer, InvalidCommand, InvalidUtf8, InvalidEol, Said}
+use Rattle.unftp_control_defs.specs.Said.{IsSaid}
 use Rattle.unftp_control_defs.specs.Outcome.{outcome}
 use Rattle.unftp_control_message.specs.declared.reply.error.parse_error.ParseErrorKind.{ParseErrorKind}
 use Rattle.unftp_control_message.specs.declared.reply.error.parse_error.ParseErrorKind.TheVariants as kind

@@ -2,9 +2,8 @@
 use Rattle.std.specs.Prelude.{◌≡◌, ℕ, ◌==◌, ◌&&◌, ◌||◌, ◌⊎◌, Bool, true, if◌then◌else◌, [], ◌++◌, length, take, nat_le, Option, None, Some, unwrap_or}
 use Rattle.unftp_control_defs.specs.Bytes.{Bytes}
 use Rattle.unftp_control_defs.specs.Events.{FtpEvent, Command, Refused, event_of, line_too_long}
-use Rattle.unftp_control_defs.specs.Rules.{number}
-use Rattle.unftp_control_defs.specs.Said.{Said, said, word_and_value}
-use Rattle.unftp_control_defs.specs.FtpCommand.{Answer}
+use Rattle.unftp_control_defs.specs.Said.{word_and_value}
+use Rattle.unftp_control_defs.specs.FtpCommand.{Answer, number, Said, said}
 use Rattle.unftp_control_defs.specs.Outcome.{outcome}
 use Rattle.unftp_control_line_parser.specs.Memory.{AnswerMayTakeMemory, MayTakeMemory}
 use Rattle.unftp_control_codecs.specs.Codec.{Codec}

@@ -21,7 +21,9 @@ pub fn overwrite_both(text: &[u8], next: &[u8], area: &mut [u8])
 {
     let (front, rest) = area.split_at_mut(text.len());
     front.copy_from_slice(text);
-    overwrite(next, rest);
+    if !next.is_empty() {
+        overwrite(next, rest);
+    }
 }
 
 /// Writes the text to the start of the area, where it has room for it, and reports how long it is:

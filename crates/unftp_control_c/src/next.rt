@@ -138,11 +138,9 @@ fn take_line(
     ensures { (pending : Bytes) → LeavesLine (call_with connection.old pending area.old) bytes.now
         (left_with result connection.new area.new line.new) }
 {
-    // the parts are read where they lie: to move them takes longer than to find them
-    let answer = parts(bytes);
-    match &answer {
+    match parts(bytes) {
         Ok(parts) => give_command(alloc, parts, bytes.len(), connection, area, line),
-        Err(kind) => report(kind_status(kind), bytes.len(), codec, connection, line),
+        Err(kind) => report(kind_status(&kind), bytes.len(), codec, connection, line),
     }
 }
 
@@ -166,33 +164,48 @@ fn report(
     status.number()
 }
 
-/// Gives the command that parts are. Memory is taken only where they are not in the line as they
-/// are: for CR NUL in the value, for ill-formed UTF-8, and for a name in lower case.
+/// Gives the command that parts are.
+#[inline(always)]
 fn give_command(
     alloc: Global,
-    parts: &Parts<'_>,
+    parts: Parts<'_>,
     taken: usize,
     connection: &mut Connection,
     area: &mut [u8],
     line: &mut Line,
 ) -> u32
     requires { line.old ≡ no_lengths }
-    ensures { (answer : Answer) → IsSaid answer (said_of parts.now)
+    ensures { (answer : Answer) → IsSaid answer (said_of parts.entry)
         → (pending : Bytes) → GivesCommand (call_with connection.old pending area.old) taken
-        answer (AreInPlace parts.now) (left_with result connection.new area.new line.new) }
+        answer (AreInPlace parts.entry) (left_with result connection.new area.new line.new) }
 {
-    let mut digits = Buffer::new();
-    if parts.are_in_place() {
-        return give(
-            given_for(*parts, &mut digits),
-            taken,
-            connection,
-            area,
-            line,
-        );
+    if !parts.are_in_place() {
+        return give_made(alloc, parts, taken, connection, area, line);
     }
-    match Command::from_parts(alloc, parts) {
+    let mut digits = Buffer::new();
+    give(given_for(parts, &mut digits), taken, connection, area, line)
+}
+
+/// Gives the command that is made of parts, for the memory that it takes. It is for those that are
+/// not in the line as they are: for CR NUL in the value, for ill-formed UTF-8, and for a name in
+/// lower case.
+#[inline(never)]
+fn give_made(
+    alloc: Global,
+    parts: Parts<'_>,
+    taken: usize,
+    connection: &mut Connection,
+    area: &mut [u8],
+    line: &mut Line,
+) -> u32
+    requires { line.old ≡ no_lengths }
+    ensures { (answer : Answer) → IsSaid answer (said_of parts.entry)
+        → (pending : Bytes) → GivesCommand (call_with connection.old pending area.old) taken
+        answer ⊥ (left_with result connection.new area.new line.new) }
+{
+    match Command::from_parts(alloc, &parts) {
         Ok(command) => {
+            let mut digits = Buffer::new();
             let given = given_for(command.parts(), &mut digits);
             let number = give(given, taken, connection, area, line);
             drop(command);

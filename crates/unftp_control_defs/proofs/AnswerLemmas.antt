@@ -11,9 +11,9 @@ use Rattle.std.proofs.lemmas.Bool.{ltb-true, and_parts}
 use Rattle.unftp_control_defs.specs.Bytes.{Bytes, LF, Lacks}
 use Rattle.unftp_control_defs.specs.Paths.{path_of}
 use Rattle.unftp_control_defs.specs.Verbs.{upper}
-use Rattle.unftp_control_defs.specs.FtpCommand.{FtpCommand, Rest, Answer, Refusal, InvalidCommand, InvalidUtf8}
+use Rattle.unftp_control_defs.specs.FtpCommand.{FtpCommand, Rest, Answer, Refusal, InvalidCommand, InvalidUtf8, Value, Nothing, Raw, Text, Chosen, Number, by_named_text, by_nothing, by_number, by_optional_raw, by_optional_text, by_raw, by_text, command_by, maybe_raw, maybe_text, unless_empty}
 use Rattle.unftp_control_defs.specs.Said.{HasTypedFields, IsMaybeUtf8, IsTyped}
-use Rattle.unftp_control_defs.specs.Rules.{Value, Nothing, Raw, Text, Chosen, Number, auth, buffer_sizes, by_named_text, by_nothing, by_number, by_optional_raw, by_optional_text, by_raw, by_text, chosen, command_by, maybe_raw, maybe_text, mechanisms, modes, offset, optional_text, options, protections, structures, taken, typed_answer, unless_empty}
+use Rattle.unftp_control_defs.specs.Rules.{auth, buffer_sizes, chosen, mechanisms, modes, offset, optional_text, options, protections, structures, taken, typed_answer}
 use Rattle.unftp_control_defs.specs.declared.verb.Kind.{Kind}
 use Rattle.unftp_control_defs.specs.declared.verb.Kind.TheVariants as kinds
 use Rattle.unftp_control_defs.specs.declared.verb.Verb.{Verb}

@@ -3,8 +3,7 @@ use Rattle.std.proofs.Common.{◌≡◌, true, [], ◌∷◌, ◌++◌, Option, 
 use Rattle.unftp_control_defs.specs.Bytes.{Bytes, LF, CR, SP, Lacks}
 use Rattle.unftp_control_defs.specs.Lines.{IsLine}
 use Rattle.unftp_control_defs.specs.Values.{escaped}
-use Rattle.unftp_control_defs.specs.FtpCommand.{FtpCommand, User, Pass, Acct, Stat, Stru, Mode, List as Listing, Nlst, Mlst, Mlsd, Opts, Auth, Prot, Rest, Md5, Site, Other}
-use Rattle.unftp_control_defs.specs.Rules.{unless_empty}
+use Rattle.unftp_control_defs.specs.FtpCommand.{FtpCommand, User, Pass, Acct, Stat, Stru, Mode, List as Listing, Nlst, Mlst, Mlsd, Opts, Auth, Prot, Rest, Md5, Site, Other, unless_empty}
 use Rattle.unftp_control_defs.specs.Canonical.{spaced, spaced_unless_empty, with_option_end, site_body, canonical_body, canonical_line, HasLine, IsOptionalText}
 use Rattle.unftp_control_defs.specs.declared.parameters.AuthParam.TheVariants.{Ssl}
 use Rattle.unftp_control_defs.specs.declared.parameters.ModeParam.TheVariants.{Stream}

@@ -6,8 +6,8 @@ use Rattle.std.proofs.lemmas.Str.{utf8_lossy-IsUtf8}
 use Rattle.unftp_control_defs.specs.Bytes.{Bytes, LF, crlf, Lacks}
 use Rattle.unftp_control_defs.specs.Values.{escaped}
 use Rattle.unftp_control_defs.specs.ComputedValue.{value_of}
-use Rattle.unftp_control_defs.specs.FtpCommand.{FtpCommand, Answer}
-use Rattle.unftp_control_defs.specs.Rules.{Raw, Text, command_by, maybe_raw, maybe_text, optional_text, taken, unless_empty}
+use Rattle.unftp_control_defs.specs.FtpCommand.{FtpCommand, Answer, Raw, Text, command_by, maybe_raw, maybe_text, unless_empty}
+use Rattle.unftp_control_defs.specs.Rules.{optional_text, taken}
 use Rattle.unftp_control_defs.specs.declared.verb.Kind.TheVariants as kinds
 use Rattle.unftp_control_defs.specs.declared.verb.Verb.{Verb}
 use Rattle.unftp_control_defs.specs.Outcome.{value_answer}

@@ -5,8 +5,8 @@ use Rattle.std.proofs.lemmas.Bool.{cases_eq}
 use Rattle.unftp_control_defs.specs.Bytes.{Bytes, LF, CR, SP, crlf, Lacks}
 use Rattle.unftp_control_defs.specs.Values.{ReadsLater, ends_crlf, cr_nul, byte, Reads, ended_crlf, first_cr_nul, first_byte, escaped}
 use Rattle.unftp_control_defs.specs.ComputedValue.{value_of}
-use Rattle.unftp_control_defs.specs.FtpCommand.{User}
-use Rattle.unftp_control_defs.specs.Rules.{command_by, maybe_raw, taken, unless_empty}
+use Rattle.unftp_control_defs.specs.FtpCommand.{User, command_by, maybe_raw, unless_empty}
+use Rattle.unftp_control_defs.specs.Rules.{taken}
 use Rattle.unftp_control_defs.specs.declared.verb.Kind.TheVariants as kinds
 use Rattle.unftp_control_defs.specs.declared.verb.Verb.TheVariants as verb
 use Rattle.unftp_control_defs.specs.Outcome.{outcome, value_answer}

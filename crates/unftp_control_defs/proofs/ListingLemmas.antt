@@ -5,9 +5,9 @@ use Rattle.std.proofs.lemmas.Bool.{cases_eq, cond_both}
 use Rattle.std.proofs.lemmas.Str.{utf8_lossy-IsUtf8, IsUtf8-append, IsUtf8-nil, IsUtf8-from_is_utf8}
 use Rattle.unftp_control_defs.specs.Bytes.{Bytes, LF, DASH, Lacks}
 use Rattle.unftp_control_defs.specs.Paths.{path_of}
-use Rattle.unftp_control_defs.specs.FtpCommand.{List as Listing}
+use Rattle.unftp_control_defs.specs.FtpCommand.{List as Listing, by_optional_text, maybe_text, unless_empty}
 use Rattle.unftp_control_defs.specs.Said.{IsMaybeUtf8}
-use Rattle.unftp_control_defs.specs.Rules.{by_optional_text, maybe_text, taken, unless_empty}
+use Rattle.unftp_control_defs.specs.Rules.{taken}
 use Rattle.unftp_control_defs.specs.declared.verb.Kind.TheVariants as kinds
 use Rattle.unftp_control_defs.specs.declared.verb.Verb.TheVariants as verb
 use Rattle.unftp_control_defs.specs.Outcome.{outcome}

@@ -8,8 +8,8 @@ use Rattle.unftp_control_defs.specs.Bytes.{Bytes, LF, CR, SP, crlf, Lacks}
 use Rattle.unftp_control_defs.specs.Verbs.{is_separator}
 use Rattle.unftp_control_defs.specs.Values.{escaped}
 use Rattle.unftp_control_defs.specs.ComputedValue.{value_of}
-use Rattle.unftp_control_defs.specs.FtpCommand.{FtpCommand, Site, Other, Answer}
-use Rattle.unftp_control_defs.specs.Rules.{command_by, maybe_text, row_of, taken, unless_empty, verbs}
+use Rattle.unftp_control_defs.specs.FtpCommand.{FtpCommand, Site, Other, Answer, command_by, maybe_text, unless_empty, verbs}
+use Rattle.unftp_control_defs.specs.Rules.{row_of, taken}
 use Rattle.unftp_control_defs.specs.declared.verb.Kind.TheVariants as kinds
 use Rattle.unftp_control_defs.specs.declared.verb.Verb.{Verb}
 use Rattle.unftp_control_defs.specs.declared.verb.Verb.TheVariants as verb

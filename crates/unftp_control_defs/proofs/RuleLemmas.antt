@@ -5,8 +5,8 @@ use Rattle.std.specs.List.{AllByRecursion}
 use Rattle.std.specs.Str.{IsUtf8}
 use Rattle.std.proofs.lemmas.Str.{IsUtf8-nil}
 use Rattle.unftp_control_defs.specs.Bytes.{Bytes}
-use Rattle.unftp_control_defs.specs.FtpCommand.{Auth, Mode, Opts, Other, Pbsz, Prot, Site, Stru}
-use Rattle.unftp_control_defs.specs.Rules.{Chosen, by_buffer_size, by_mechanism, by_mode, by_protection, by_setting, by_structure, command_by, row_of, verbs}
+use Rattle.unftp_control_defs.specs.FtpCommand.{Auth, Mode, Opts, Other, Pbsz, Prot, Site, Stru, Chosen, by_buffer_size, by_mechanism, by_mode, by_protection, by_setting, by_structure, command_by, verbs}
+use Rattle.unftp_control_defs.specs.Rules.{row_of}
 use Rattle.unftp_control_defs.specs.declared.parameters.Choice.TheVariants as choices
 use Rattle.unftp_control_defs.specs.declared.verb.Verb.{Verb}
 use Rattle.unftp_control_defs.specs.declared.verb.Verb.TheVariants as verb

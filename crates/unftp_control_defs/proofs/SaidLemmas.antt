@@ -1,7 +1,7 @@
 -- What a verb makes of what it reads says the verb, the name and the value.
 use Rattle.std.proofs.Common.{◌≡◌, [], ◌∷◌, refl}
 use Rattle.unftp_control_defs.specs.Bytes.{Bytes}
-use Rattle.unftp_control_defs.specs.Rules.{kind, maybe_raw, maybe_text, unless_empty}
+use Rattle.unftp_control_defs.specs.FtpCommand.{kind, maybe_raw, maybe_text, unless_empty}
 use Rattle.unftp_control_defs.specs.Said.{KindSaysBack, SaysBack}
 use Rattle.unftp_control_defs.specs.declared.verb.Kind.TheVariants as kinds
 use Rattle.unftp_control_defs.specs.declared.verb.Verb.{Verb}

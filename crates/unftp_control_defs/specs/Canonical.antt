@@ -7,9 +7,9 @@ use Rattle.std.specs.List.{AllByRecursion}
 use Rattle.unftp_control_defs.specs.Bytes.{Bytes, LF, SP, DASH, crlf, Lacks}
 use Rattle.unftp_control_defs.specs.Verbs.{is_separator}
 use Rattle.unftp_control_defs.specs.Values.{escaped}
-use Rattle.unftp_control_defs.specs.Rules.{Value, Raw, Text, maybe_text, row_of, unless_empty, verbs}
-use Rattle.unftp_control_defs.specs.Said.{name_and_value, said}
-use Rattle.unftp_control_defs.specs.FtpCommand.{FtpCommand, User, Pass, Acct, TypeCode, List as Listing, Allo, Md5, Site, Other}
+use Rattle.unftp_control_defs.specs.Rules.{row_of}
+use Rattle.unftp_control_defs.specs.Said.{name_and_value}
+use Rattle.unftp_control_defs.specs.FtpCommand.{FtpCommand, User, Pass, Acct, TypeCode, List as Listing, Allo, Md5, Site, Other, Value, Raw, Text, maybe_text, unless_empty, verbs, said}
 
 -- a word, a space and a parameter
 abbrev pub spaced : Bytes → Bytes → Bytes

@@ -4,8 +4,8 @@
 use Rattle.std.specs.Prelude.{ℕ, Bool, true, false, ◌==◌, ◌&&◌, ◌||◌, if◌then◌else◌, [], ◌∷◌, ◌++◌, Option, Some, None}
 use Rattle.unftp_control_defs.specs.Bytes.{Bytes, LF, CR, SP, crlf}
 use Rattle.unftp_control_defs.specs.Verbs.{verb_of, parameter_of, upper}
-use Rattle.unftp_control_defs.specs.FtpCommand.{FtpCommand}
-use Rattle.unftp_control_defs.specs.Rules.{kind, row_of, verbs}
+use Rattle.unftp_control_defs.specs.FtpCommand.{FtpCommand, kind, verbs}
+use Rattle.unftp_control_defs.specs.Rules.{row_of}
 use Rattle.unftp_control_defs.specs.declared.verb.Kind.{Kind}
 use Rattle.unftp_control_defs.specs.declared.verb.Kind.TheVariants as kinds
 use Rattle.unftp_control_defs.specs.declared.verb.Verb.{Verb}

@@ -5,8 +5,8 @@ use Rattle.std.specs.Str.{is_utf8}
 use Rattle.unftp_control_defs.specs.Bytes.{Bytes}
 use Rattle.unftp_control_defs.specs.Verbs.{verb_of, parameter_of, upper}
 use Rattle.unftp_control_defs.specs.ComputedValue.{value_of}
-use Rattle.unftp_control_defs.specs.FtpCommand.{Answer, InvalidUtf8, InvalidEol}
-use Rattle.unftp_control_defs.specs.Rules.{Nothing, command_by, kind, row_of, subcommand_answer, taken, verbs}
+use Rattle.unftp_control_defs.specs.FtpCommand.{Answer, InvalidUtf8, InvalidEol, Nothing, command_by, kind, verbs}
+use Rattle.unftp_control_defs.specs.Rules.{row_of, subcommand_answer, taken}
 use Rattle.unftp_control_defs.specs.declared.verb.Kind.{Kind}
 use Rattle.unftp_control_defs.specs.declared.verb.Kind.TheVariants as kinds
 use Rattle.unftp_control_defs.specs.declared.verb.Verb.{Verb}

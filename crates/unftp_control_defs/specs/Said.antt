@@ -1,14 +1,12 @@
--- A command as a verb, a name and a value: what its canonical line says (RFC 959, section 5.3). The
--- name is that of another subcommand of SITE or of another verb. Of LIST it is the path alone.
+-- What is said of a command as its canonical line has it (RFC 959, section 5.3): a word, and the
+-- bytes of a value.
 use Rattle.std.specs.Prelude.{◌≡◌, Ok, Err, ℕ, ◌<◌, ◌^◌, ⊤, true, false, [], ◌∷◌, Option, Some, None, codes, decimal}
 use Rattle.std.specs.Str.{IsUtf8}
 use Rattle.unftp_control_defs.specs.Bytes.{Bytes}
-use Rattle.unftp_control_defs.specs.Rules.{Value, Nothing, Raw, Text, Chosen, Number, command_by, maybe_raw, maybe_text, number, unless_empty, word}
 use Rattle.unftp_control_defs.specs.declared.verb.Kind.{Kind}
 use Rattle.unftp_control_defs.specs.declared.verb.Kind.TheVariants as kinds
 use Rattle.unftp_control_defs.specs.declared.verb.Verb.{Verb}
-use Rattle.unftp_control_defs.specs.declared.verb.Verb.TheVariants as verb
-use Rattle.unftp_control_defs.specs.FtpCommand.{Answer, FtpCommand, User, Pass, Acct, Syst, Stat, TypeCode, Stru, Mode, Help, Noop, Pasv, Epsv, Port, Retr, Stor, Appe, List as Listing, Nlst, Mlst, Mlsd, Feat, Pwd, Cwd, Cdup, Opts, Dele, Rmd, Quit, Mkd, Allo, Abor, Stou, Rnfr, Rnto, Auth, Ccc, Pbsz, Prot, Size, Rest, Mdtm, Md5, Site, Other}
+use Rattle.unftp_control_defs.specs.FtpCommand.{Answer, FtpCommand, List as Listing, Site, Other, Said, Value, Nothing, Raw, Text, Chosen, Number, command_by, maybe_raw, maybe_text, number, said, unless_empty, word}
 use Rattle.unftp_control_defs.specs.declared.parameters.AuthParam.{AuthParam}
 use Rattle.unftp_control_defs.specs.declared.parameters.Choice.{Choice}
 use Rattle.unftp_control_defs.specs.declared.parameters.Choice.TheVariants as choices
@@ -53,65 +51,6 @@ choice_word (choices.Protection param) = protection_letter param
 choice_word (choices.Mechanism protocol) = mechanism protocol
 choice_word (choices.Setting option) = setting option
 choice_word choices.NoBuffer = codes "0"
-
--- what is said of a command; the name of most is empty, as the verb has a word
-pub record Said : Type 0 where
-  pub verb : Verb
-  pub name : Bytes
-  pub value : Value
-
-abbrev pub plain : Verb → Value → Said
-plain verb value = record { verb = verb; name = []; value = value }
-
-abbrev pub named : Verb → Bytes → Bytes → Said
-named verb name arguments =
-    record { verb = verb; name = name; value = maybe_text (unless_empty arguments) }
-
-abbrev pub said : FtpCommand → Said
-said (User name) = plain verb.User (maybe_raw (unless_empty name))
-said (Pass password) = plain verb.Pass (maybe_raw (unless_empty password))
-said (Acct account) = plain verb.Acct (maybe_raw (unless_empty account))
-said Syst = plain verb.Syst Nothing
-said (Stat path) = plain verb.Stat (maybe_raw path)
-said TypeCode = plain verb.TypeCode Nothing
-said (Stru structure) = plain verb.Stru (Chosen (choices.Structure structure))
-said (Mode mode) = plain verb.Mode (Chosen (choices.Mode mode))
-said Help = plain verb.Help Nothing
-said Noop = plain verb.Noop Nothing
-said Pasv = plain verb.Pasv Nothing
-said Epsv = plain verb.Epsv Nothing
-said (Port addr) = plain verb.Port (Text addr)
-said (Retr path) = plain verb.Retr (Text path)
-said (Stor path) = plain verb.Stor (Text path)
-said (Appe path) = plain verb.Appe (Text path)
-said (Listing options path) = plain verb.List (maybe_text path)
-said (Nlst path) = plain verb.Nlst (maybe_text path)
-said (Mlst path) = plain verb.Mlst (maybe_text path)
-said (Mlsd path) = plain verb.Mlsd (maybe_text path)
-said Feat = plain verb.Feat Nothing
-said Pwd = plain verb.Pwd Nothing
-said (Cwd path) = plain verb.Cwd (Text path)
-said Cdup = plain verb.Cdup Nothing
-said (Opts option) = plain verb.Opts (Chosen (choices.Setting option))
-said (Dele path) = plain verb.Dele (Text path)
-said (Rmd path) = plain verb.Rmd (Text path)
-said Quit = plain verb.Quit Nothing
-said (Mkd path) = plain verb.Mkd (Text path)
-said Allo = plain verb.Allo Nothing
-said Abor = plain verb.Abor Nothing
-said Stou = plain verb.Stou Nothing
-said (Rnfr file) = plain verb.Rnfr (Text file)
-said (Rnto file) = plain verb.Rnto (Text file)
-said (Auth protocol) = plain verb.Auth (Chosen (choices.Mechanism protocol))
-said Ccc = plain verb.Ccc Nothing
-said Pbsz = plain verb.Pbsz (Chosen choices.NoBuffer)
-said (Prot param) = plain verb.Prot (Chosen (choices.Protection param))
-said (Size file) = plain verb.Size (Text file)
-said (Rest offset) = plain verb.Rest (Number offset)
-said (Mdtm file) = plain verb.Mdtm (Text file)
-said (Md5 file) = plain verb.Md5 (Text file)
-said (Site name arguments) = named verb.Site name arguments
-said (Other name arguments) = named verb.Other name arguments
 
 -- the bytes of a value, a number in decimal
 abbrev pub value_bytes : Value → Option Bytes

@@ -1,6 +1,7 @@
 //! The verbs: their words, and what each takes as its parameter.
 ghost use Rattle.std.specs.Prelude.{◌≡◌, ◌↔◌, IsSome, IsTrue};
-ghost use Rattle.unftp_control_defs.specs.Rules.{kind, number, row_of, verbs, word};
+ghost use Rattle.unftp_control_defs.specs.FtpCommand.{kind, number, verbs, word};
+ghost use Rattle.unftp_control_defs.specs.Rules.{row_of};
 ghost use Rattle.unftp_control_defs.specs.Verbs.{upper};
 ghost use Rattle.unftp_control_defs.specs.Words.{from_four_bytes, to_four_bytes};
 
@@ -210,6 +211,7 @@ fn to_four_bytes(word: &[u8]) -> Option<[u8; 4]>
 }
 
 /// The verb of a word that is padded with NUL to four bytes, if it is one.
+#[tactic(auto, using(crate::proofs::WordLemmas::no_verbs))]
 fn verb_of(word: &[u8; 4]) -> Option<Verb>
     ensures { result ≡ row_of (from_four_bytes word.now) verbs }
 {
@@ -283,7 +285,12 @@ fn upper_cased(word: [u8; 4]) -> [u8; 4]
 pub fn verb_named(word: &[u8]) -> Option<Verb>
     ensures { result ≡ row_of (upper word.now) verbs }
 {
-    verb_of(&upper_cased(to_four_bytes(word)?))
+    let word = to_four_bytes(word)?;
+    // clients send verbs in upper case
+    match verb_of(&word) {
+        Some(verb) => Some(verb),
+        None => verb_of(&upper_cased(word)),
+    }
 }
 
 /// Whether the word is a verb with a rule of its own, in upper case (RFC 959, section 5.3). It

@@ -1,7 +1,7 @@
 -- A command that is made of a line's parts holds what they do.
 use Rattle.std.proofs.Common.{◌<◌, ◌≤◌, [], ◌∷◌, Some, None, Ok, Err, ap, ◌∙◌, arith}
-use Rattle.unftp_control_defs.specs.FtpCommand.{Answer, FtpCommand, User, Pass, Acct, List, Site, Other}
-use Rattle.unftp_control_defs.specs.Said.{Said, IsSaid, Tells, answer_of, said}
+use Rattle.unftp_control_defs.specs.FtpCommand.{Answer, FtpCommand, User, Pass, Acct, List, Site, Other, Said, said}
+use Rattle.unftp_control_defs.specs.Said.{IsSaid, Tells, answer_of}
 use Rattle.unftp_control_message.specs.PartsMeaning.{Fails, said_len}
 use Rattle.unftp_control_message.specs.declared.reply.error.parse_error.ParseErrorKind.{ParseErrorKind}
 use Rattle.unftp_control_message.specs.declared.reply.error.parse_error.ParseErrorKind.TheVariants as kind

@@ -3,7 +3,8 @@ use Rattle.std.proofs.Common.{◌≡◌, ◌<◌, [], ◌∷◌, Some, length, o
 use Rattle.std.specs.Str.Lossy.{utf8_lossy}
 use Rattle.std.proofs.lemmas.Str.{utf8_lossy-IsUtf8, utf8_lossy_empty}
 use Rattle.unftp_control_defs.specs.Bytes.{Bytes}
-use Rattle.unftp_control_defs.specs.Rules.{maybe_text, optional_text, unless_empty}
+use Rattle.unftp_control_defs.specs.FtpCommand.{maybe_text, unless_empty}
+use Rattle.unftp_control_defs.specs.Rules.{optional_text}
 use Rattle.unftp_control_defs.specs.Paths.{path_of}
 use Rattle.unftp_control_defs.specs.Said.{KindSaysBack, SaysBack}
 use Rattle.unftp_control_defs.specs.declared.verb.Kind.TheVariants as kinds

@@ -2,7 +2,8 @@
 ghost use Rattle.std.specs.Prelude.{◌≡◌, ◌≤◌, length, drop};
 ghost use Rattle.std.specs.Str.Lossy.{utf8_lossy};
 ghost use Rattle.unftp_control_defs.specs.Paths.{path_of};
-ghost use Rattle.unftp_control_defs.specs.Rules.{Text, maybe_raw, maybe_text, optional_text, unless_empty};
+ghost use Rattle.unftp_control_defs.specs.FtpCommand.{Text, maybe_raw, maybe_text, unless_empty};
+ghost use Rattle.unftp_control_defs.specs.Rules.{optional_text};
 ghost use Rattle.unftp_control_message.specs.PartsMeaning.{IsBorrowed, given};
 ghost use Rattle.unftp_control_message.specs.SentValues.{sent_value};
 
@@ -11,7 +12,7 @@ use unftp_control_message::parts::Value;
 use unftp_control_message::sent::Sent;
 
 /// The value as text; in the line where it is there as it is.
-#[inline]
+#[inline(always)]
 #[tactic(auto, using(crate::proofs::TextLemmas::texts))]
 pub fn text(sent: Sent<'_>) -> Value<'_>
     ensures value { given result ≡ Text (utf8_lossy (sent_value sent.entry)) }
@@ -27,6 +28,7 @@ pub fn text(sent: Sent<'_>) -> Value<'_>
 }
 
 /// The value as bytes, or none where it is empty.
+#[inline(always)]
 pub fn raw(sent: Sent<'_>) -> Value<'_>
     ensures value { given result ≡ maybe_raw (unless_empty (sent_value sent.entry)) }
     ensures borrowed { IsBorrowed result }
@@ -38,6 +40,7 @@ pub fn raw(sent: Sent<'_>) -> Value<'_>
 }
 
 /// The value as text, or none where it is empty.
+#[inline(always)]
 pub fn optional_text(sent: Sent<'_>) -> Value<'_>
     ensures value { given result ≡ optional_text (sent_value sent.entry) }
     ensures borrowed { IsBorrowed result }

@@ -33,7 +33,19 @@ use unftp_control_message::sent::Sent;
 /// How many bytes the longest verb with a rule of its own has. `memchr3` takes longer over so few.
 const LONGEST_VERB: usize = 4;
 
+/// How many bytes come before the first that ends a word.
+fn word_len(bytes: &[u8]) -> usize
+    ensures place { result ≡ position_or_len is_separator bytes.now }
+    ensures within { result ≤ length bytes.now }
+{
+    match memchr3(b' ', b'\r', b'\n', bytes) {
+        Some(end) => end,
+        None => bytes.len(),
+    }
+}
+
 /// The length of the verb.
+#[inline(always)]
 fn verb_len(line: &[u8]) -> usize
     ensures place { result ≡ position_or_len is_separator line.now }
     ensures within { result ≤ length line.now }
@@ -45,13 +57,11 @@ fn verb_len(line: &[u8]) -> usize
         }
     }
     let (_, rest) = line.split_at(front);
-    match memchr3(b' ', b'\r', b'\n', rest) {
-        Some(end) => front + end,
-        None => line.len(),
-    }
+    front + word_len(rest)
 }
 
 /// The verb, and the parameter bytes after the one byte that ends it.
+#[inline(always)]
 pub fn split<'a>(line: &'a [u8]) -> (&'a [u8], &'a [u8])
     ensures verb { result.0.now ≡ verb_of line.now }
     ensures parameter { result.1.now ≡ parameter_of line.now }
@@ -96,6 +106,8 @@ fn command_in(alloc: Global, line: &[u8]) -> result::Result<Command, ParseErrorK
 
 /// What a line says, as `parse` reads it (RFC 959, section 5.3): its verb, its name and its value,
 /// all of them in the line. It takes no memory, and is refused as by `parse`.
+// it is inlined, and what it calls: to move its result takes as long as to find it
+#[inline(always)]
 pub fn parts(line: &[u8]) -> result::Result<Parts<'_>, ParseErrorKind>
     ensures { PartsTo (outcome line.now) result }
 {
@@ -121,6 +133,7 @@ struct Words<'a> {
 }
 
 /// The words that a line begins with.
+#[inline(always)]
 #[tactic(auto, using(crate::proofs::OutcomeLemmas::outcomes))]
 fn first_words(line: &[u8]) -> result::Result<Words<'_>, ParseErrorKind>
     ensures { BeginsWith (outcome line.now) result }
@@ -146,6 +159,7 @@ fn first_words(line: &[u8]) -> result::Result<Words<'_>, ParseErrorKind>
 }
 
 /// The words of SITE: a subcommand, and the parameter of that (RFC 959, section 4.1.3).
+#[inline(always)]
 #[tactic(auto, using(crate::proofs::OutcomeLemmas::outcomes))]
 fn site(parameter: &[u8]) -> result::Result<Words<'_>, ParseErrorKind>
     ensures { BeginsWith (site_answer parameter.now) result }
@@ -155,6 +169,7 @@ fn site(parameter: &[u8]) -> result::Result<Words<'_>, ParseErrorKind>
 }
 
 /// A SITE subcommand, and its parameter.
+#[inline(always)]
 fn subcommand<'a>(name: &'a str, parameter: &'a [u8]) -> Words<'a>
     ensures { AreWords
         (value_answer (subcommand_answer (upper name.now)) (value_of parameter.now)) result }
@@ -177,6 +192,7 @@ fn subcommand<'a>(name: &'a str, parameter: &'a [u8]) -> Words<'a>
 
 /// What a verb of this kind makes of parameter bytes. A line without a parameter is not read
 /// further.
+#[inline(always)]
 #[tactic(auto, using(crate::proofs::TextLemmas::texts))]
 fn value(kind: Kind, verb: Verb, parameter: &[u8]) -> result::Result<Value<'_>, ParseErrorKind>
     requires { kind ≢ kinds.Subcommand }
@@ -193,6 +209,7 @@ fn value(kind: Kind, verb: Verb, parameter: &[u8]) -> result::Result<Value<'_>, 
 }
 
 /// What a verb of this kind makes of a value.
+#[inline(always)]
 #[tactic(auto, using(crate::proofs::TextLemmas::texts))]
 fn taken<'a>(kind: Kind, verb: Verb, sent: Sent<'a>) -> result::Result<Value<'a>, ParseErrorKind>
     ensures { (name : Bytes) → KindSaysBack kind verb name

@@ -63,6 +63,7 @@ fn later_len(bytes: &[u8]) -> Option<usize>
 }
 
 /// Whether the bytes begin with an end of line: LF or CR LF.
+#[inline]
 fn begins_with_line_end(bytes: &[u8]) -> bool
     ensures { result ≡ begins_with_line_end bytes.now }
 {
@@ -70,6 +71,7 @@ fn begins_with_line_end(bytes: &[u8]) -> bool
 }
 
 /// Whether the value of the parameter is empty: there is only an end of line, or nothing at all.
+#[inline(always)]
 pub fn has_no_value(parameter: &[u8]) -> bool
     ensures { IsTrue result ↔ (value_of parameter.now ≡ Some []) }
 {
@@ -80,6 +82,7 @@ pub fn has_no_value(parameter: &[u8]) -> bool
 }
 
 /// The value of parameter bytes; none after an invalid line ending. It takes no memory.
+#[inline(always)]
 pub fn parameter_value<'a>(parameter: &'a [u8]) -> Option<Sent<'a>>
     ensures { option_map sent_value result ≡ value_of parameter.now }
 {

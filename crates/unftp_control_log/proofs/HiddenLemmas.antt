@@ -6,9 +6,9 @@ use Rattle.std.specs.Str.Lossy.{utf8_lossy}
 use Rattle.unftp_control_defs.specs.Bytes.{Bytes}
 use Rattle.unftp_control_defs.specs.ComputedValue.{value_of}
 use Rattle.unftp_control_defs.specs.Events.{Fault, FtpEvent, Command, Refused, event_for, event_of, exceeds, line_too_long}
-use Rattle.unftp_control_defs.specs.FtpCommand.{Answer, FtpCommand, Acct, InvalidUtf8, Other, Pass, Site}
+use Rattle.unftp_control_defs.specs.FtpCommand.{Answer, FtpCommand, Acct, InvalidUtf8, Other, Pass, Site, unless_empty, verbs}
 use Rattle.unftp_control_defs.specs.Outcome.{outcome, site_answer, value_answer, word_answer}
-use Rattle.unftp_control_defs.specs.Rules.{row_of, subcommand_answer, taken, unless_empty, verbs}
+use Rattle.unftp_control_defs.specs.Rules.{row_of, subcommand_answer, taken}
 use Rattle.unftp_control_defs.specs.declared.verb.Kind.TheVariants as kinds
 use Rattle.unftp_control_defs.specs.declared.verb.Verb.{Verb as Ruled}
 use Rattle.unftp_control_defs.specs.declared.verb.Verb.TheVariants as verbs_of

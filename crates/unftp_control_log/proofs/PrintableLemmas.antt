@@ -10,8 +10,8 @@ use Rattle.std.proofs.lemmas.List.Folds.{list_any-append}
 use Rattle.unftp_control_defs.specs.Bytes.{Bytes}
 use Rattle.unftp_control_defs.specs.Events as fault
 use Rattle.unftp_control_defs.specs.Events.{FaultKind, FaultSource, FtpEvent, Command, Refused, Parse, NoSource, Utf8, Io}
-use Rattle.unftp_control_defs.specs.FtpCommand.{FtpCommand, Site, Other, InvalidCommand, InvalidUtf8, InvalidEol}
-use Rattle.unftp_control_defs.specs.Rules.{row_of, verbs}
+use Rattle.unftp_control_defs.specs.FtpCommand.{FtpCommand, Site, Other, InvalidCommand, InvalidUtf8, InvalidEol, verbs}
+use Rattle.unftp_control_defs.specs.Rules.{row_of}
 use Rattle.unftp_control_defs.specs.Texts.{reading_text}
 use Rattle.unftp_control_defs.specs.Verbs.{upper, verb_of}
 use lib.Pointwise.{bytes_decides}

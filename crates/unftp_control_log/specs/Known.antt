@@ -2,7 +2,8 @@
 use Rattle.std.specs.Prelude.{ℕ, Bool, false, not, ◌&&◌, ◌||◌, is_some, unwrap_or, if◌then◌else◌, Option, Some, None, bytes_eq, codes}
 use Rattle.unftp_control_defs.specs.Bytes.{Bytes}
 use Rattle.unftp_control_defs.specs.Events.{Fault, FtpEvent, Command, Refused, event_for}
-use Rattle.unftp_control_defs.specs.Rules.{row_of, verbs}
+use Rattle.unftp_control_defs.specs.FtpCommand.{verbs}
+use Rattle.unftp_control_defs.specs.Rules.{row_of}
 use Rattle.unftp_control_defs.specs.Verbs.{parameter_of, upper, verb_of}
 use Rattle.unftp_control_log.specs.LogLine.{listed_verb, site_words, unless_too_long}
 

@@ -5,9 +5,9 @@ use Rattle.std.specs.Char.Escape.{escape_ascii}
 use Rattle.std.specs.List.{flat_map, list_any}
 use Rattle.unftp_control_defs.specs.Bytes.{Bytes}
 use Rattle.unftp_control_defs.specs.Events.{FaultKind, FaultSource, FtpEvent, Command, Refused, Parse, UnknownCommand, event_for, exceeds}
-use Rattle.unftp_control_defs.specs.FtpCommand.{FtpCommand, Pass, Acct, Md5, Site, Other}
+use Rattle.unftp_control_defs.specs.FtpCommand.{FtpCommand, Pass, Acct, Md5, Site, Other, unless_empty, verbs}
 use Rattle.unftp_control_defs.specs.Said.{name_and_value}
-use Rattle.unftp_control_defs.specs.Rules.{row_of, unless_empty, verbs}
+use Rattle.unftp_control_defs.specs.Rules.{row_of}
 use Rattle.unftp_control_defs.specs.Texts.{kind_text, reading_text}
 use Rattle.unftp_control_defs.specs.Verbs.{upper, verb_of}
 use Rattle.unftp_control_write.specs.Lines.{spaced_part}

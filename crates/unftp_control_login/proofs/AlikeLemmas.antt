@@ -4,12 +4,11 @@ use Rattle.std.specs.Prelude.{if◌then◌else◌, flat_map, length, Ok, Err}
 use Rattle.std.proofs.lemmas.Bool.{false≢true}
 use Rattle.unftp_control_defs.specs.Bytes.{Bytes}
 use Rattle.unftp_control_defs.specs.Canonical.{canonical_line}
-use Rattle.unftp_control_defs.specs.FtpCommand.{Answer, User, Pass}
+use Rattle.unftp_control_defs.specs.FtpCommand.{Answer, User, Pass, unless_empty}
 use Rattle.unftp_control_defs.specs.Events.{Fault, FtpEvent, Command, Refused, event_of, events, exceeds, line_too_long}
 use Rattle.unftp_control_defs.specs.FtpReply.{FtpReply, Nothing, encoded}
 use Rattle.unftp_control_defs.specs.Lines.{incomplete_line, lines_of}
 use Rattle.unftp_control_defs.specs.Outcome.{outcome}
-use Rattle.unftp_control_defs.specs.Rules.{unless_empty}
 use Rattle.unftp_control_defs.specs.Run.{SessionLaw, after, all_said, at_each, last_state, replies, replies_to, run_of, said, state_after, text_for, text_of, turn}
 use Rattle.unftp_control_defs.proofs.LineEventLemmas.{events-after, events-canonical_line}
 use Rattle.unftp_control_defs.proofs.AnswerLemmas.{IsTyped-raw}

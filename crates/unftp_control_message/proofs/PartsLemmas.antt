@@ -1,8 +1,7 @@
 -- What a verb makes of a value that it doesn't take.
 use Rattle.std.proofs.Common.{◌≡◌, ℕ, Bool, true, false, Err}
 use Rattle.unftp_control_defs.specs.Bytes.{Bytes}
-use Rattle.unftp_control_defs.specs.FtpCommand.{InvalidCommand}
-use Rattle.unftp_control_defs.specs.Rules.{Chosen, Nothing, Number, Raw, Text, Value, command_by, kind}
+use Rattle.unftp_control_defs.specs.FtpCommand.{InvalidCommand, Chosen, Nothing, Number, Raw, Text, Value, command_by, kind}
 use Rattle.unftp_control_defs.specs.declared.parameters.Choice.{Choice}
 use Rattle.unftp_control_defs.specs.declared.verb.Kind.{Kind}
 use Rattle.unftp_control_defs.specs.declared.verb.Kind.TheVariants as kinds

@@ -2,10 +2,8 @@
 use Rattle.std.specs.Prelude.{◌≡◌, ◌+◌, ◌<◌, ℕ, ⊤, length, Result, Ok, Err}
 use Rattle.std.specs.Str.{IsUtf8}
 use Rattle.std.specs.Str.Lossy.{utf8_lossy}
-use Rattle.unftp_control_defs.specs.FtpCommand.{Answer, InvalidCommand}
-use Rattle.unftp_control_defs.specs.Rules.{Nothing, Number, Raw, Text, Chosen}
-use Rattle.unftp_control_defs.specs.Rules.{Value as SaidValue}
-use Rattle.unftp_control_defs.specs.Said.{Said, answer_of}
+use Rattle.unftp_control_defs.specs.FtpCommand.{Answer, InvalidCommand, Nothing, Number, Raw, Text, Chosen, Value as SaidValue, Said}
+use Rattle.unftp_control_defs.specs.Said.{answer_of}
 use Rattle.unftp_control_defs.specs.declared.verb.Kind.{Kind}
 use Rattle.unftp_control_defs.specs.declared.verb.Kind.TheVariants as kinds
 use Rattle.unftp_control_defs.specs.Verbs.{upper}

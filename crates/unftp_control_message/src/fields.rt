@@ -1,8 +1,7 @@
 //! The fields of the command that parts are.
-ghost use Rattle.std.specs.Prelude.{◌≡◌, ◌<◌, [], Ok, Option, IfErr, IfOk, OnErr, length, option_map, string_bytes};
+ghost use Rattle.std.specs.Prelude.{◌≡◌, ◌<◌, Ok, Option, IfErr, IfOk, OnErr, length, option_map, string_bytes};
 ghost use Rattle.unftp_control_defs.specs.Bytes.{Bytes as Sequence};
-ghost use Rattle.unftp_control_defs.specs.FtpCommand.{FtpCommand, Rest};
-ghost use Rattle.unftp_control_defs.specs.Rules.{Text, by_buffer_size, by_mechanism, by_mode, by_named_text, by_number, by_protection, by_raw, by_setting, by_structure, kind, maybe_raw, maybe_text};
+ghost use Rattle.unftp_control_defs.specs.FtpCommand.{FtpCommand, Text, by_named_text, by_raw, kind, maybe_raw, maybe_text};
 ghost use Rattle.unftp_control_defs.specs.Said.{answer_of};
 ghost use Rattle.unftp_control_defs.specs.Verbs.{upper};
 ghost use Rattle.unftp_control_defs.specs.declared.verb.Kind.TheVariants as kinds;
@@ -10,7 +9,7 @@ ghost use Rattle.unftp_control_defs.specs.declared.verb.Verb.TheVariants as verb
 ghost use Rattle.unftp_control_message.specs.PartsMeaning.{FailsAs, Makes, TakesOptionalText, given, said_len, said_of};
 
 use crate::Command;
-use crate::parts::{Choice, Parts, Value};
+use crate::parts::{Parts, Value};
 use crate::reply::error::ParseErrorKind;
 use bytes::Bytes;
 use std::alloc::{AllocError, Global};
@@ -39,7 +38,7 @@ fn upper_cased(alloc: Global, name: &str) -> Result<String, AllocError>
 
 /// The bytes of the value.
 #[tactic(auto, using(crate::proofs::PartsLemmas::taking))]
-pub fn raw(alloc: Global, parts: &Parts<'_>) -> Result<Bytes, ParseErrorKind>
+pub fn bytes(alloc: Global, parts: &Parts<'_>) -> Result<Bytes, ParseErrorKind>
     requires { kind parts.now.verb ≡ kinds.Raw }
     ensures ok { IfOk result (λ bytes. (make : Sequence → FtpCommand) (name : Sequence)
         → by_raw make name (given parts.now.value) ≡ Ok (make bytes)) }
@@ -54,7 +53,7 @@ pub fn raw(alloc: Global, parts: &Parts<'_>) -> Result<Bytes, ParseErrorKind>
 
 /// The bytes of the value, or none.
 #[tactic(auto, using(crate::proofs::PartsLemmas::taking))]
-pub fn optional_raw(alloc: Global, parts: &Parts<'_>) -> Result<Option<Bytes>, ParseErrorKind>
+pub fn optional_bytes(alloc: Global, parts: &Parts<'_>) -> Result<Option<Bytes>, ParseErrorKind>
     requires { kind parts.now.verb ≡ kinds.Raw }
     ensures ok { IfOk result (λ bytes. given parts.now.value ≡ maybe_raw bytes) }
     ensures err { IfErr result (λ kind. FailsAs parts.now kind) }
@@ -109,69 +108,6 @@ fn arguments(alloc: Global, parts: &Parts<'_>) -> Result<String, ParseErrorKind>
         Value::None => Ok(String::new(alloc)),
         Value::Text(text) => Ok(owned(alloc, text)?),
         Value::Lossy(sent) => Ok(sent.to_text(alloc)?),
-        _ => Err(ParseErrorKind::InvalidCommand),
-    }
-}
-
-pub fn stru(value: Value<'_>) -> Result<Command, ParseErrorKind>
-    ensures { Makes (by_structure [] (given value.entry)) 0 result }
-{
-    match value {
-        Value::Chosen(Choice::Structure(structure)) => Ok(Command::Stru { structure }),
-        _ => Err(ParseErrorKind::InvalidCommand),
-    }
-}
-
-pub fn mode(value: Value<'_>) -> Result<Command, ParseErrorKind>
-    ensures { Makes (by_mode [] (given value.entry)) 0 result }
-{
-    match value {
-        Value::Chosen(Choice::Mode(mode)) => Ok(Command::Mode { mode }),
-        _ => Err(ParseErrorKind::InvalidCommand),
-    }
-}
-
-pub fn opts(value: Value<'_>) -> Result<Command, ParseErrorKind>
-    ensures { Makes (by_setting [] (given value.entry)) 0 result }
-{
-    match value {
-        Value::Chosen(Choice::Setting(option)) => Ok(Command::Opts { option }),
-        _ => Err(ParseErrorKind::InvalidCommand),
-    }
-}
-
-pub fn auth(value: Value<'_>) -> Result<Command, ParseErrorKind>
-    ensures { Makes (by_mechanism [] (given value.entry)) 0 result }
-{
-    match value {
-        Value::Chosen(Choice::Mechanism(protocol)) => Ok(Command::Auth { protocol }),
-        _ => Err(ParseErrorKind::InvalidCommand),
-    }
-}
-
-pub fn prot(value: Value<'_>) -> Result<Command, ParseErrorKind>
-    ensures { Makes (by_protection [] (given value.entry)) 0 result }
-{
-    match value {
-        Value::Chosen(Choice::Protection(param)) => Ok(Command::Prot { param }),
-        _ => Err(ParseErrorKind::InvalidCommand),
-    }
-}
-
-pub fn pbsz(value: Value<'_>) -> Result<Command, ParseErrorKind>
-    ensures { Makes (by_buffer_size [] (given value.entry)) 0 result }
-{
-    match value {
-        Value::Chosen(Choice::NoBuffer) => Ok(Command::Pbsz {}),
-        _ => Err(ParseErrorKind::InvalidCommand),
-    }
-}
-
-pub fn rest(value: Value<'_>) -> Result<Command, ParseErrorKind>
-    ensures { Makes (by_number Rest [] (given value.entry)) 0 result }
-{
-    match value {
-        Value::Number(offset) => Ok(Command::Rest { offset }),
         _ => Err(ParseErrorKind::InvalidCommand),
     }
 }

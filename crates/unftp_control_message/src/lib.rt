@@ -5,6 +5,60 @@
 ghost use Rattle.std.specs.Prelude.{◌≡◌, IfOk};
 ghost use Rattle.unftp_control_message.specs.CommandMeaning.{command_of};
 
+/// Gives a macro each command, after its other arguments: its variant, what its verb takes, and its
+/// fields. `chosen` names the variant of `Choice`.
+macro_rules! for_each_command {
+    ($call:ident!($($argument:expr),*)) => {
+        $call! {
+            $($argument,)*
+            User bytes { username }
+            Pass password { password }
+            Acct bytes { account }
+            Syst nothing {}
+            Stat optional_bytes { path }
+            TypeCode nothing {}
+            Stru chosen Structure { structure }
+            Mode chosen Mode { mode }
+            Help nothing {}
+            Noop nothing {}
+            Pasv nothing {}
+            Epsv nothing {}
+            Port text { addr }
+            Retr text { path }
+            Stor text { path }
+            Appe text { path }
+            List listing { options, path }
+            Nlst optional_text { path }
+            Mlst optional_text { path }
+            Mlsd optional_text { path }
+            Feat nothing {}
+            Pwd nothing {}
+            Cwd text { path }
+            Cdup nothing {}
+            Opts chosen Setting { option }
+            Dele text { path }
+            Rmd text { path }
+            Quit nothing {}
+            Mkd text { path }
+            Allo nothing {}
+            Abor nothing {}
+            Stou nothing {}
+            Rnfr text { file }
+            Rnto text { file }
+            Auth chosen Mechanism { protocol }
+            Ccc nothing {}
+            Pbsz no_buffer {}
+            Prot chosen Protection { param }
+            Size text { file }
+            Rest number { offset }
+            Mdtm text { file }
+            Md5 text { file }
+            Site site { command, arguments }
+            Other other { command_name, arguments }
+        }
+    };
+}
+
 mod fields;
 pub mod parts;
 pub mod password;
@@ -210,10 +264,10 @@ pub enum Command {
 
 /// Clones a command by the fields of each variant.
 macro_rules! clone_of {
-    ($command:expr, $($variant:ident $({ $($field:ident),* })?),* $(,)?) => {
+    ($command:expr, $($variant:ident $($takes:ident)+ { $($field:ident),* })*) => {
         match $command {
-            $(Command::$variant $({ $($field),* })? =>
-                Ok(Command::$variant $({ $($field: $field.clone()?),* })?),)*
+            $(Command::$variant { $($field),* } =>
+                Ok(Command::$variant { $($field: $field.clone()?),* }),)*
         }
     };
 }
@@ -225,53 +279,7 @@ impl Command {
         ensures { IfOk result (λ command. command_of command ≡ command_of self.now) }
     {
         // each field has its own allocator
-        clone_of! {
-            self,
-            User { username },
-            Pass { password },
-            Acct { account },
-            Syst,
-            Stat { path },
-            TypeCode,
-            Stru { structure },
-            Mode { mode },
-            Help,
-            Noop,
-            Pasv,
-            Epsv,
-            Port { addr },
-            Retr { path },
-            Stor { path },
-            Appe { path },
-            List { options, path },
-            Nlst { path },
-            Mlst { path },
-            Mlsd { path },
-            Feat,
-            Pwd,
-            Cwd { path },
-            Cdup,
-            Opts { option },
-            Dele { path },
-            Rmd { path },
-            Quit,
-            Mkd { path },
-            Allo {},
-            Abor,
-            Stou,
-            Rnfr { file },
-            Rnto { file },
-            Auth { protocol },
-            Ccc,
-            Pbsz {},
-            Prot { param },
-            Size { file },
-            Rest { offset },
-            Mdtm { file },
-            Md5 { file },
-            Site { command, arguments },
-            Other { command_name, arguments },
-        }
+        for_each_command!(clone_of!(self))
     }
 }
 

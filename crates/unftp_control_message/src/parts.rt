@@ -1,7 +1,7 @@
 //! What a command says: a verb, a name and a value, borrowed from its line or from the command.
 ghost use Rattle.std.specs.Prelude.{◌≡◌, ◌↔◌, IsTrue, option_map, string_bytes};
-ghost use Rattle.unftp_control_defs.specs.Rules.{Chosen, maybe_raw, maybe_text, unless_empty};
-ghost use Rattle.unftp_control_defs.specs.Said.{HasTypedFields, answer_of, name_and_value, named, plain, said, value_bytes, word_and_value};
+ghost use Rattle.unftp_control_defs.specs.FtpCommand.{Chosen, maybe_raw, maybe_text, unless_empty, named, plain, said};
+ghost use Rattle.unftp_control_defs.specs.Said.{HasTypedFields, answer_of, name_and_value, value_bytes, word_and_value};
 ghost use Rattle.unftp_control_message.specs.CommandMeaning.{command_of};
 ghost use Rattle.unftp_control_message.specs.PartsMeaning.{AreInPlace, IsInPlace, Makes, given, said_len, said_of, spelled};
 
@@ -106,12 +106,97 @@ macro_rules! with_field {
     };
 }
 
-/// A command without a field, whose verb takes no value.
-macro_rules! alone {
-    ($value:expr, $command:expr) => {
-        match $value {
-            Value::None => Ok($command),
+/// A command whose verb takes a value of this form.
+macro_rules! of_value {
+    ($parts:expr, $value:pat, $command:expr) => {
+        match $parts.value {
+            $value => Ok($command),
             _ => Err(ParseErrorKind::InvalidCommand),
+        }
+    };
+}
+
+/// The command of one row of the table.
+macro_rules! made {
+    (nothing; $alloc:expr, $parts:expr, $variant:ident {}) => {
+        of_value!($parts, Value::None, Command::$variant {})
+    };
+    (no_buffer; $alloc:expr, $parts:expr, $variant:ident {}) => {
+        of_value!($parts, Value::Chosen(Choice::NoBuffer), Command::$variant {})
+    };
+    (chosen $choice:ident; $alloc:expr, $parts:expr, $variant:ident { $field:ident }) => {
+        of_value!($parts, Value::Chosen(Choice::$choice($field)), Command::$variant { $field })
+    };
+    (number; $alloc:expr, $parts:expr, $variant:ident { $field:ident }) => {
+        of_value!($parts, Value::Number($field), Command::$variant { $field })
+    };
+    (password; $alloc:expr, $parts:expr, $variant:ident { $field:ident }) => {
+        with_field!(fields::bytes($alloc, $parts), bytes, Command::$variant {
+            $field: Password::new(bytes)
+        })
+    };
+    (listing; $alloc:expr, $parts:expr, $variant:ident { $options:ident, $path:ident }) => {
+        with_field!(fields::optional_text($alloc, $parts), $path, Command::$variant {
+            $options: None,
+            $path
+        })
+    };
+    ($takes:ident; $alloc:expr, $parts:expr, $variant:ident { $field:ident }) => {
+        with_field!(fields::$takes($alloc, $parts), $field, Command::$variant { $field })
+    };
+    ($takes:ident; $alloc:expr, $parts:expr, $variant:ident { $name:ident, $arguments:ident }) => {
+        fields::$takes($alloc, $parts)
+    };
+}
+
+/// The command that parts are.
+macro_rules! command_of {
+    ($alloc:expr, $parts:expr, $($variant:ident $($takes:ident)+ { $($field:ident),* })*) => {
+        match $parts.verb {
+            $(Verb::$variant => made!($($takes)+; $alloc, $parts, $variant { $($field),* }),)*
+        }
+    };
+}
+
+/// What a command of one row of the table says.
+macro_rules! said {
+    (nothing; $variant:ident) => {
+        saying(Verb::$variant, Value::None)
+    };
+    (no_buffer; $variant:ident) => {
+        chosen(Verb::$variant, Choice::NoBuffer)
+    };
+    (chosen $choice:ident; $variant:ident $field:ident) => {
+        chosen(Verb::$variant, Choice::$choice(*$field))
+    };
+    (number; $variant:ident $field:ident) => {
+        saying(Verb::$variant, Value::Number(*$field))
+    };
+    (bytes; $variant:ident $field:ident) => {
+        saying(Verb::$variant, bytes($field.as_slice()))
+    };
+    (password; $variant:ident $field:ident) => {
+        saying(Verb::$variant, bytes($field.as_ref()))
+    };
+    (text; $variant:ident $field:ident) => {
+        saying(Verb::$variant, Value::Text($field.as_str()))
+    };
+    (listing; $variant:ident $options:ident $path:ident) => {
+        saying(Verb::$variant, optional_text($path))
+    };
+    ($takes:ident; $variant:ident $field:ident) => {
+        saying(Verb::$variant, $takes($field))
+    };
+    ($takes:ident; $variant:ident $name:ident $arguments:ident) => {
+        named(Verb::$variant, $name.as_str(), $arguments.as_str())
+    };
+}
+
+/// What a command says.
+macro_rules! said_of {
+    ($command:expr, $($variant:ident $($takes:ident)+ { $($field:ident),* })*) => {
+        match $command {
+            $(Command::$variant { $($field),* } => said!($($takes)+; $variant $($field)*),)*
         }
     };
 }
@@ -124,90 +209,7 @@ impl Command {
     pub fn from_parts(alloc: Global, parts: &Parts<'_>) -> Result<Command, ParseErrorKind>
         ensures { Makes (answer_of (said_of parts.now)) (said_len (said_of parts.now)) result }
     {
-        let value = parts.value;
-        match parts.verb {
-            Verb::User => with_field!(
-                fields::raw(alloc, parts),
-                username,
-                Command::User { username }
-            ),
-            Verb::Pass => with_field!(
-                fields::raw(alloc, parts),
-                bytes,
-                Command::Pass {
-                    password: Password::new(bytes)
-                }
-            ),
-            Verb::Acct => with_field!(
-                fields::raw(alloc, parts),
-                account,
-                Command::Acct { account }
-            ),
-            Verb::Syst => alone!(value, Command::Syst),
-            Verb::Stat => with_field!(
-                fields::optional_raw(alloc, parts),
-                path,
-                Command::Stat { path }
-            ),
-            Verb::TypeCode => alone!(value, Command::TypeCode),
-            Verb::Stru => fields::stru(value),
-            Verb::Mode => fields::mode(value),
-            Verb::Help => alone!(value, Command::Help),
-            Verb::Noop => alone!(value, Command::Noop),
-            Verb::Pasv => alone!(value, Command::Pasv),
-            Verb::Epsv => alone!(value, Command::Epsv),
-            Verb::Port => with_field!(fields::text(alloc, parts), addr, Command::Port { addr }),
-            Verb::Retr => with_field!(fields::text(alloc, parts), path, Command::Retr { path }),
-            Verb::Stor => with_field!(fields::text(alloc, parts), path, Command::Stor { path }),
-            Verb::Appe => with_field!(fields::text(alloc, parts), path, Command::Appe { path }),
-            Verb::List => with_field!(
-                fields::optional_text(alloc, parts),
-                path,
-                Command::List {
-                    options: None,
-                    path
-                }
-            ),
-            Verb::Nlst => with_field!(
-                fields::optional_text(alloc, parts),
-                path,
-                Command::Nlst { path }
-            ),
-            Verb::Mlst => with_field!(
-                fields::optional_text(alloc, parts),
-                path,
-                Command::Mlst { path }
-            ),
-            Verb::Mlsd => with_field!(
-                fields::optional_text(alloc, parts),
-                path,
-                Command::Mlsd { path }
-            ),
-            Verb::Feat => alone!(value, Command::Feat),
-            Verb::Pwd => alone!(value, Command::Pwd),
-            Verb::Cwd => with_field!(fields::text(alloc, parts), path, Command::Cwd { path }),
-            Verb::Cdup => alone!(value, Command::Cdup),
-            Verb::Opts => fields::opts(value),
-            Verb::Dele => with_field!(fields::text(alloc, parts), path, Command::Dele { path }),
-            Verb::Rmd => with_field!(fields::text(alloc, parts), path, Command::Rmd { path }),
-            Verb::Quit => alone!(value, Command::Quit),
-            Verb::Mkd => with_field!(fields::text(alloc, parts), path, Command::Mkd { path }),
-            Verb::Allo => alone!(value, Command::Allo {}),
-            Verb::Abor => alone!(value, Command::Abor),
-            Verb::Stou => alone!(value, Command::Stou),
-            Verb::Rnfr => with_field!(fields::text(alloc, parts), file, Command::Rnfr { file }),
-            Verb::Rnto => with_field!(fields::text(alloc, parts), file, Command::Rnto { file }),
-            Verb::Auth => fields::auth(value),
-            Verb::Ccc => alone!(value, Command::Ccc),
-            Verb::Pbsz => fields::pbsz(value),
-            Verb::Prot => fields::prot(value),
-            Verb::Size => with_field!(fields::text(alloc, parts), file, Command::Size { file }),
-            Verb::Rest => fields::rest(value),
-            Verb::Mdtm => with_field!(fields::text(alloc, parts), file, Command::Mdtm { file }),
-            Verb::Md5 => with_field!(fields::text(alloc, parts), file, Command::Md5 { file }),
-            Verb::Site => fields::site(alloc, parts),
-            Verb::Other => fields::other(alloc, parts),
-        }
+        for_each_command!(command_of!(alloc, parts))
     }
 
     /// The word that it has on its line, which is its verb or its subcommand of SITE, and its value
@@ -231,57 +233,7 @@ impl Command {
         // Its texts are UTF-8, and its offset has 64 bits.
         ensures typed { HasTypedFields (command_of self.now) }
     {
-        match self {
-            Command::User { username } => saying(Verb::User, raw(username.as_slice())),
-            Command::Pass { password } => saying(Verb::Pass, raw(password.as_ref())),
-            Command::Acct { account } => saying(Verb::Acct, raw(account.as_slice())),
-            Command::Syst => saying(Verb::Syst, Value::None),
-            Command::Stat { path } => saying(Verb::Stat, optional_raw(path)),
-            Command::TypeCode => saying(Verb::TypeCode, Value::None),
-            Command::Stru { structure } => chosen(Verb::Stru, Choice::Structure(*structure)),
-            Command::Mode { mode } => chosen(Verb::Mode, Choice::Mode(*mode)),
-            Command::Help => saying(Verb::Help, Value::None),
-            Command::Noop => saying(Verb::Noop, Value::None),
-            Command::Pasv => saying(Verb::Pasv, Value::None),
-            Command::Epsv => saying(Verb::Epsv, Value::None),
-            Command::Port { addr } => saying(Verb::Port, Value::Text(addr.as_str())),
-            Command::Retr { path } => saying(Verb::Retr, Value::Text(path.as_str())),
-            Command::Stor { path } => saying(Verb::Stor, Value::Text(path.as_str())),
-            Command::Appe { path } => saying(Verb::Appe, Value::Text(path.as_str())),
-            Command::List { path, .. } => saying(Verb::List, optional_text(path)),
-            Command::Nlst { path } => saying(Verb::Nlst, optional_text(path)),
-            Command::Mlst { path } => saying(Verb::Mlst, optional_text(path)),
-            Command::Mlsd { path } => saying(Verb::Mlsd, optional_text(path)),
-            Command::Feat => saying(Verb::Feat, Value::None),
-            Command::Pwd => saying(Verb::Pwd, Value::None),
-            Command::Cwd { path } => saying(Verb::Cwd, Value::Text(path.as_str())),
-            Command::Cdup => saying(Verb::Cdup, Value::None),
-            Command::Opts { option } => chosen(Verb::Opts, Choice::Setting(*option)),
-            Command::Dele { path } => saying(Verb::Dele, Value::Text(path.as_str())),
-            Command::Rmd { path } => saying(Verb::Rmd, Value::Text(path.as_str())),
-            Command::Quit => saying(Verb::Quit, Value::None),
-            Command::Mkd { path } => saying(Verb::Mkd, Value::Text(path.as_str())),
-            Command::Allo {} => saying(Verb::Allo, Value::None),
-            Command::Abor => saying(Verb::Abor, Value::None),
-            Command::Stou => saying(Verb::Stou, Value::None),
-            Command::Rnfr { file } => saying(Verb::Rnfr, Value::Text(file.as_str())),
-            Command::Rnto { file } => saying(Verb::Rnto, Value::Text(file.as_str())),
-            Command::Auth { protocol } => chosen(Verb::Auth, Choice::Mechanism(*protocol)),
-            Command::Ccc => saying(Verb::Ccc, Value::None),
-            Command::Pbsz {} => chosen(Verb::Pbsz, Choice::NoBuffer),
-            Command::Prot { param } => chosen(Verb::Prot, Choice::Protection(*param)),
-            Command::Size { file } => saying(Verb::Size, Value::Text(file.as_str())),
-            Command::Rest { offset } => saying(Verb::Rest, Value::Number(*offset)),
-            Command::Mdtm { file } => saying(Verb::Mdtm, Value::Text(file.as_str())),
-            Command::Md5 { file } => saying(Verb::Md5, Value::Text(file.as_str())),
-            Command::Site { command, arguments } => {
-                named(Verb::Site, command.as_str(), arguments.as_str())
-            }
-            Command::Other {
-                command_name,
-                arguments,
-            } => named(Verb::Other, command_name.as_str(), arguments.as_str()),
-        }
+        for_each_command!(said_of!(self))
     }
 }
 
@@ -319,7 +271,7 @@ fn named<'a>(verb: Verb, name: &'a str, arguments: &'a str) -> Parts<'a>
 }
 
 /// Bytes, or none where there are none.
-fn raw(bytes: &[u8]) -> Value<'_>
+fn bytes(bytes: &[u8]) -> Value<'_>
     ensures value { given result ≡ maybe_raw (unless_empty bytes.now) }
     ensures in_place { IsInPlace result }
 {
@@ -330,7 +282,7 @@ fn raw(bytes: &[u8]) -> Value<'_>
 }
 
 /// Bytes or none.
-fn optional_raw(bytes: &Option<Bytes>) -> Value<'_>
+fn optional_bytes(bytes: &Option<Bytes>) -> Value<'_>
     ensures value { given result ≡ maybe_raw bytes.now }
     ensures in_place { IsInPlace result }
 {

@@ -3,9 +3,8 @@ use Rattle.std.proofs.Common.{◌≡◌, ◌≢◌, [], ◌∷◌, ◌++◌, Opt
 use Rattle.std.specs.Prelude.{◌↔◌, ⊤}
 use Rattle.std.proofs.lemmas.Fmt.{decimal_nonempty}
 use Rattle.unftp_control_defs.specs.Bytes.{Bytes, LF, SP, Lacks}
-use Rattle.unftp_control_defs.specs.Rules.{Value, Nothing, Raw, Text, Chosen, Number, maybe_raw, unless_empty}
 use Rattle.unftp_control_defs.specs.Values.{escaped}
-use Rattle.unftp_control_defs.specs.FtpCommand.{FtpCommand, User, Pass, Acct, TypeCode, Allo, List as Listing, Md5, Site, Other}
+use Rattle.unftp_control_defs.specs.FtpCommand.{FtpCommand, User, Pass, Acct, TypeCode, Allo, List as Listing, Md5, Site, Other, Value, Nothing, Raw, Text, Chosen, Number, maybe_raw, unless_empty, said}
 use Rattle.unftp_control_defs.specs.declared.parameters.AuthParam.TheVariants.{Ssl, Tls}
 use Rattle.unftp_control_defs.specs.declared.parameters.Choice.{Choice}
 use Rattle.unftp_control_defs.specs.declared.parameters.Choice.TheVariants as choices
@@ -13,7 +12,7 @@ use Rattle.unftp_control_defs.specs.declared.parameters.ModeParam.TheVariants.{S
 use Rattle.unftp_control_defs.specs.declared.parameters.Opt.TheVariants.{Utf8}
 use Rattle.unftp_control_defs.specs.declared.parameters.ProtParam.TheVariants.{Clear, Safe, Confidential, Private}
 use Rattle.unftp_control_defs.specs.declared.parameters.StruParam.TheVariants.{File, Record, Page}
-use Rattle.unftp_control_defs.specs.Said.{HasTypedFields, IsTyped, choice_word, name_and_value, said, value_bytes}
+use Rattle.unftp_control_defs.specs.Said.{HasTypedFields, IsTyped, choice_word, name_and_value, value_bytes}
 use Rattle.unftp_control_defs.specs.Canonical.{HasLine, HasRoom, IsNonEmptyText, IsOptionalText, canonical_body, with_optional}
 use Rattle.unftp_control_defs.proofs.LackLemmas.{Lacks-decimal, Lacks-test}
 use Rattle.unftp_control_message.specs.CommandMeaning.{command_of}

@@ -2,9 +2,9 @@
 ghost use Rattle.std.specs.Prelude.{◌≡◌, ◌≢◌, ◌↔◌, None, IsTrue, codes, option_map, string_bytes};
 ghost use Rattle.unftp_control_message.specs.CommandMeaning.{command_of};
 ghost use Rattle.unftp_control_defs.specs.Canonical.{HasLine, IsNonEmptyText, IsOptionalText, IsUpperCaseName, canonical_body, site_body, with_optional};
-ghost use Rattle.unftp_control_defs.specs.FtpCommand.{List as Listing};
+ghost use Rattle.unftp_control_defs.specs.FtpCommand.{List as Listing, verbs};
 ghost use Rattle.unftp_control_defs.specs.Said.{HasTypedFields};
-ghost use Rattle.unftp_control_defs.specs.Rules.{row_of, verbs};
+ghost use Rattle.unftp_control_defs.specs.Rules.{row_of};
 ghost use Rattle.unftp_control_write.specs.Lines.{ReturnsLine, is_name_byte, line_body};
 
 use crate::line::Line;

@@ -6,11 +6,10 @@ use Rattle.std.proofs.lemmas.Fmt.{decimal_nonempty}
 use Rattle.unftp_control_defs.specs.Bytes.{Bytes, crlf}
 use Rattle.unftp_control_defs.specs.Canonical.{HasLine, HasRoom, canonical_body, canonical_line, site_body, with_option_end, with_optional}
 use Rattle.unftp_control_defs.specs.Events.{Fault, FtpEvent, Command, Refused, event_of, event_for, exceeds, line_too_long, refusal_fault}
-use Rattle.unftp_control_defs.specs.FtpCommand.{FtpCommand, User, Pass, Acct, List as Listing, Site, Other, Answer, Refusal, InvalidCommand, InvalidUtf8, InvalidEol}
-use Rattle.unftp_control_defs.specs.Said.{HasTypedFields, IsTyped, choice_word, command_number, name_and_value, said, value_bytes}
+use Rattle.unftp_control_defs.specs.FtpCommand.{FtpCommand, User, Pass, Acct, List as Listing, Site, Other, Answer, Refusal, InvalidCommand, InvalidUtf8, InvalidEol, Value, Nothing, Raw, Text, Chosen, Number, maybe_raw, maybe_text, unless_empty, said}
+use Rattle.unftp_control_defs.specs.Said.{HasTypedFields, IsTyped, choice_word, command_number, name_and_value, value_bytes}
 use Rattle.unftp_control_defs.specs.Lines.{IsLine}
 use Rattle.unftp_control_defs.specs.Outcome.{outcome}
-use Rattle.unftp_control_defs.specs.Rules.{Value, Nothing, Raw, Text, Chosen, Number, maybe_raw, maybe_text, unless_empty}
 use Rattle.unftp_control_defs.specs.declared.parameters.Choice.{Choice}
 use Rattle.unftp_control_defs.specs.declared.parameters.Choice.TheVariants as choices
 use Rattle.unftp_control_defs.specs.declared.parameters.AuthParam.TheVariants.{Ssl}

@@ -4,9 +4,8 @@
 ghost use Rattle.std.specs.Prelude.{◌≡◌, [], ◌∷◌, Err, Ok, Option, Some, None, codes};
 ghost use Rattle.unftp_control_defs.specs.Bytes.{Bytes};
 ghost use Rattle.unftp_control_defs.specs.Canonical.{HasLine, IsUpperCaseName, IsNonEmptyText, IsOptionalText};
-ghost use Rattle.unftp_control_defs.specs.FtpCommand.{InvalidCommand, List as Listing, Md5, Noop, Other, Rest, Retr, Site, User};
-ghost use Rattle.unftp_control_defs.specs.Rules.{Nothing, Number, Raw, Text};
-ghost use Rattle.unftp_control_defs.specs.Said.{HasTypedFields, Tells, answer_of, plain, said, word_and_value};
+ghost use Rattle.unftp_control_defs.specs.FtpCommand.{InvalidCommand, List as Listing, Md5, Noop, Other, Rest, Retr, Site, User, Nothing, Number, Raw, Text, plain, said};
+ghost use Rattle.unftp_control_defs.specs.Said.{HasTypedFields, Tells, answer_of, word_and_value};
 ghost use Rattle.unftp_control_defs.specs.declared.verb.Verb.TheVariants as verb;
 
 /// Texts are UTF-8, an offset has 64 bits, and of bytes nothing is asked.
