@@ -1,4 +1,4 @@
-use Rattle.std.proofs.Common.{sym, ◌∙◌}
+use Rattle.std.proofs.Common.{◌∙◌}
 use Rattle.unftp_control.specs.Outcome.{outcome}
 use Rattle.unftp_control.specs.PartsMeaning.{said_of}
 use Rattle.calling.proofs.ReadingLemmas.{refused_reads, said_reads}
