@@ -2,11 +2,12 @@
 use Rattle.std.specs.Prelude.{◌≡◌, ℕ, ◌+◌, ◌<◌, ◌≤◌, List, [], ◌++◌, length, drop, Option, Some, None, Result, Ok, Err, MatchResult, MatchOption, IfSome}
 use Rattle.unftp_control_defs.specs.Bytes.{Bytes}
 use Rattle.unftp_control_defs.specs.Buffer.{held_after_piece}
-use Rattle.unftp_control_defs.specs.ReplyReader.{HasFront, IsMalformed, IsPartial}
+use Rattle.unftp_control_defs.specs.ReplyReader.{FrontReply, HasFront, IsMalformed, IsPartial}
 use Rattle.unftp_control_defs.specs.ReplyLimit.{IsTooLongReply, within_limit}
 use Rattle.unftp_control_defs.specs.TakingSteps.{TakesReply}
 use Rattle.unftp_control_read.specs.Reading.{contents}
 use Rattle.unftp_control_read.specs.Search.{IsSearched}
+use Rattle.unftp_control_read.specs.declared.decoder.FirstReply.{FirstReply}
 use Rattle.unftp_control_read.specs.declared.search.Search.{Search}
 use Rattle.unftp_control_read.specs.declared.ReadReplyError.{ReadReplyError}
 use Rattle.unftp_control_read.specs.declared.ReadReplyError.TheVariants as refusal
@@ -79,6 +80,20 @@ pub record TakesFirst (before : PendingReplies) (reply : ℕ × List Bytes)
     (after : PendingReplies) : Type 0 where
   pub takes : TakesReply before.bytes reply after.bytes
   pub within : IfSome before.limit (λ limit. takes.used ≤ limit)
+
+-- The bytes begin with this reply, which has this code and so many bytes, and is not too long.
+pub record BeginsWith (limit : Option ℕ) (bytes : Bytes) (code used : ℕ) : Type 0 where
+  pub lines : List Bytes
+  pub front : FrontReply bytes code lines used
+  pub within : IfSome limit (λ limit. used ≤ limit)
+
+-- The first reply is found where it is; or there is only a part of one; or an error.
+abbrev pub FindsFirst : Option ℕ → Bytes → Result (Option FirstReply) NextReplyError → Type 0
+FindsFirst limit bytes (Ok None) = IsShortPart limit bytes
+FindsFirst limit bytes (Ok (Some reply)) = BeginsWith limit bytes reply.code reply.length
+FindsFirst limit bytes (Err Malformed) = IsMalformed (within_limit limit bytes)
+FindsFirst limit bytes (Err TooLong) = IsTooLongReply limit bytes
+FindsFirst limit bytes (Err OutOfMemory) = ⊥
 
 -- what an error means for the pending bytes: memory is asked for only where a complete reply is
 -- there

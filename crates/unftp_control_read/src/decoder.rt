@@ -1,22 +1,31 @@
 //! The pending bytes, and the replies that they begin with.
-ghost use Rattle.std.specs.Prelude.{◌≡◌, ◌<◌, ◌≤◌, ℕ, List, None, Some, OnOk, OnErr, IfSome, IsTrue, false, length, []};
+ghost use Rattle.std.specs.Prelude.{◌≡◌, ◌<◌, ◌≤◌, ℕ, List, None, Some, OnOk, OnErr, IfSome, IsTrue, false, drop, length, []};
 ghost use Rattle.unftp_control_defs.specs.Bytes.{Bytes};
 ghost use Rattle.unftp_control_defs.specs.Input.{input_state_of};
 ghost use Rattle.unftp_control_defs.specs.ReplyReader.{FrontReply, IsPartial, IsMalformed};
 ghost use Rattle.unftp_control_defs.specs.ReplyLimit.{IsTooLongReply, within_limit};
-ghost use Rattle.unftp_control_read.specs.ReplyDecoding.{IsReturned, TakesNextReply, cleared, held_after, no_bytes, settled, pushed};
+ghost use Rattle.unftp_control_read.specs.ReplyDecoding.{FindsFirst, IsReturned, TakesNextReply, cleared, held_after, no_bytes, settled, pushed};
 ghost use Rattle.unftp_control_read.specs.Receiving.{AppendsPending};
 
 use crate::errors::{NextReplyError, ReceiveError};
 use crate::receiving::{PIECE, read_after};
 use crate::reply::ReceivedReply;
 use crate::search::Search;
-use crate::{Front, read_front};
+use crate::{FoundReply, Front, read_front};
 use std::alloc::{AllocError, Global};
 use std::io::Read;
 use std::marker::Model;
 use unftp_control_defs::buffer::PendingBytes;
 use unftp_control_defs::input::Input;
+
+/// The reply that the pending bytes begin with.
+#[derive(Debug, Clone, Copy, PartialEq, Eq)]
+pub struct FirstReply {
+    /// Its three digits, as a number.
+    pub code: u16,
+    /// How many bytes it has, its last end of line included.
+    pub length: usize,
+}
 
 /// Cuts replies from an input that comes in pieces: for a client with an event loop of its own. A
 /// piece is pushed, and replies are taken until there is none; between two of them the client does
@@ -141,6 +150,39 @@ impl ReplyDecoder {
                 Ok(None)
             }
         }
+    }
+
+    /// Finds the first reply of the pending bytes, and leaves it there (RFC 959, section 4.2); or
+    /// returns `None` where they are only a part of one. The search goes on where it stopped before
+    /// the last piece. No line is copied and no memory is taken, so it is never `OutOfMemory`.
+    ///
+    /// For a proxy, which passes a reply on as it came: `pending` has its bytes, and `consume`
+    /// removes them.
+    pub fn find_first(&mut self) -> Result<Option<FirstReply>, NextReplyError>
+        ensures finds { FindsFirst self.old.limit self.old.bytes result }
+        ensures same { self.new ≡ self.old }
+    {
+        let searched = first_bytes(self.buffer.pending(), self.limit);
+        match self.search.find_front(searched) {
+            FoundReply::Whole { code, used } => Ok(Some(FirstReply { code, length: used })),
+            FoundReply::Malformed => Err(NextReplyError::Malformed),
+            FoundReply::Partial => {
+                if is_full(searched, self.limit) {
+                    return Err(NextReplyError::TooLong);
+                }
+                Ok(None)
+            }
+        }
+    }
+
+    /// Removes so many bytes from the start of the pending bytes, as those of a reply that was
+    /// found.
+    pub fn consume(&mut self, count: usize)
+        requires { count ≤ length self.old.bytes }
+        ensures { self.new ≡ record self.old { bytes = drop count self.old.bytes } }
+    {
+        self.buffer.start += count;
+        self.search.restart();
     }
 
     /// Removes the replies that were taken: the pending bytes move to the start of the buffer.

@@ -20,7 +20,7 @@ mod reply;
 mod search;
 
 use crate::copying::copy_lines;
-pub use crate::decoder::ReplyDecoder;
+pub use crate::decoder::{FirstReply, ReplyDecoder};
 pub use crate::errors::{NextReplyError, ReceiveError};
 pub use crate::receiving::known_input_is_received;
 pub use crate::reply::{ReceivedReply, same_received_replies};
