@@ -1,0 +1,3 @@
+pub mod ClientLemmas
+pub mod OrderLemmas
+pub mod SendLemmas

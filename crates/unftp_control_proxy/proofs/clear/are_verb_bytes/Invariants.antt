@@ -1,0 +1,11 @@
+use Rattle.std.proofs.Common.{◌≡◌, length}
+use Rattle.std.specs.List.{list_all}
+use Rattle.unftp_control_proxy.specs.ClearLines.{is_verb_byte}
+use Rattle.unftp_control_proxy.proofs.clear.are_verb_bytes.Given as goal
+
+abbrev pub invariant-loop-rest : goal.invariant-loop-rest
+invariant-loop-rest l =
+    list_all (is_verb_byte l.form) l.rest ≡ list_all (is_verb_byte l.form) l.verb
+
+abbrev pub decreases-loop-rest : goal.decreases-loop-rest
+decreases-loop-rest l = length l.rest

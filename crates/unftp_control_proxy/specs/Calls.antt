@@ -1,0 +1,151 @@
+-- What the calls of a proxy do to it, and what they append.
+use Rattle.std.specs.Prelude.{⊤, ◌≡◌, ◌⊎◌, ℕ, ◌<◌, ◌≤◌, Bool, true, false, not, [], ◌∷◌, ◌++◌, Option, Some, None, Ok, IsTrue, drop, length, take}
+use Rattle.unftp_control_defs.specs.Bytes.{Bytes}
+use Rattle.unftp_control_defs.specs.Forwarded.{forwarded_line}
+use Rattle.unftp_control_defs.specs.FtpCommand.{FtpCommand}
+use Rattle.unftp_control_defs.specs.FtpReply.{FtpReply, Nothing, encoded}
+use Rattle.unftp_control_defs.specs.Lines.{IsLine}
+use Rattle.unftp_control_defs.specs.Outcome.{outcome}
+use Rattle.unftp_control_defs.specs.Turns.{is_preliminary_reply}
+use Rattle.unftp_control_read.specs.ReplyDecoding.{BeginsWith, PendingReplies, no_bytes}
+use Rattle.unftp_control_write.specs.Forwarding.{IsForwardError}
+use Rattle.unftp_control_write.specs.declared.forwarding.ForwardError.{ForwardError}
+use Rattle.unftp_control_write.specs.declared.forwarding.ForwardError.TheVariants as forward
+use Rattle.unftp_control_proxy.specs.ClearLines.{passes}
+use Rattle.unftp_control_proxy.specs.ClientLines.{line_in, no_client_bytes, without_line}
+use Rattle.unftp_control_proxy.specs.Given.{IsWholeReply, ReplyBytes}
+use Rattle.unftp_control_proxy.specs.Owed.{Owed, IsReplyNext, Reply, after_due, after_reply, due}
+use Rattle.unftp_control_proxy.specs.declared.proxy.Limits.{Limits}
+use Rattle.unftp_control_proxy.specs.declared.proxy.Proxy.{Proxy}
+use Rattle.unftp_control_proxy.specs.declared.clear.Form.{Form}
+use Rattle.unftp_control_proxy.specs.declared.clear.Form.TheVariants.{Clear, Answered}
+use Rattle.unftp_control_proxy.specs.declared.proxy.ServerReply.{ServerReply}
+use Rattle.unftp_control_proxy.specs.declared.proxy.ServerReply.TheVariants as server
+use Rattle.unftp_control_proxy.specs.declared.errors.SendError.{SendError}
+use Rattle.unftp_control_proxy.specs.declared.errors.SendError.TheVariants as send
+
+-- nothing was said: the client is owed the server's greeting
+abbrev pub new_proxy : Limits → Proxy
+new_proxy limits = record {
+  client = no_client_bytes limits.line;
+  server = no_bytes (Some limits.reply);
+  order = Reply ∷ [];
+  alone = false;
+  limits = limits;
+}
+
+-- ---- the client's lines
+
+-- As much is owed as may be; or something is, and the line before is to stand alone.
+abbrev pub WaitsForServer : Proxy → Type 0
+WaitsForServer proxy = (proxy.limits.waiting ≤ length proxy.order)
+    ⊎ (IsTrue proxy.alone × (0 < length proxy.order))
+
+-- a line was found, and may be taken
+abbrev pub IsDecidable : Proxy → Type 0
+IsDecidable proxy = IsTrue proxy.client.found × ¬ WaitsForServer proxy
+
+-- The line is taken, and the client is owed this for it.
+abbrev pub decided : Proxy → Owed → Proxy
+decided proxy owed = record proxy {
+  client = without_line proxy.client;
+  order = proxy.order ++ owed ∷ [];
+  alone = false;
+}
+
+-- the line may be sent
+pub record MayBeSent (form : Form) (limit : ℕ) (line : Bytes) : Type 0 where
+  pub is_line : IsLine line
+  pub short : length line ≤ limit
+  pub passes_by : passes form line ≡ true
+
+-- why a line is not sent
+abbrev pub IsUnsent : Form → ℕ → Bytes → SendError → Type 0
+IsUnsent form limit line send.NotALine = ¬ IsLine line
+IsUnsent form limit line send.TooLong = limit < length line
+IsUnsent form limit line send.Unclear = passes form line ≡ false
+IsUnsent form limit line _ = ⊥
+
+-- why a line is not sent that is not forwarded for this reason
+abbrev pub send_error : ForwardError → SendError
+send_error forward.NotALine = send.NotALine
+send_error (forward.Refused kind) = send.Refused kind
+send_error forward.OutOfMemory = send.OutOfMemory
+
+-- why this line is not sent in place of the client's
+abbrev pub IsSendError : Proxy → Bytes → SendError → Type 0
+IsSendError proxy line send.NoLine = ¬ IsDecidable proxy
+IsSendError proxy line send.OutOfMemory = ⊤
+IsSendError proxy line error = IsUnsent Answered proxy.limits.sent line error
+
+-- The line that would be forwarded is not sent.
+pub record IsForwardedUnsent (proxy : Proxy) (line : Bytes) (error : SendError) : Type 0 where
+  pub command : FtpCommand
+  pub means : outcome line ≡ Ok command
+  pub unsent : IsUnsent Clear proxy.limits.sent (forwarded_line line command) error
+
+-- why the client's line, which is this, is not forwarded
+abbrev pub IsForwardingError : Proxy → Bytes → SendError → Type 0
+IsForwardingError proxy line send.NoLine = ¬ IsDecidable proxy
+IsForwardingError proxy line send.NotALine = ¬ IsLine line
+IsForwardingError proxy line (send.Refused kind) = IsForwardError line (forward.Refused kind)
+IsForwardingError proxy line send.OutOfMemory = ⊤
+IsForwardingError proxy line error = IsForwardedUnsent proxy line error
+
+-- a reply after which no other to the same line follows
+abbrev pub is_final : FtpReply → Bool
+is_final Nothing = false
+is_final reply = not (is_preliminary_reply reply)
+
+-- why a line is not answered with this reply
+abbrev pub IsAnswerError : Proxy → FtpReply → SendError → Type 0
+IsAnswerError proxy reply send.NoLine = ¬ IsDecidable proxy
+IsAnswerError proxy reply send.NotFinal = is_final reply ≡ false
+IsAnswerError proxy reply send.OutOfMemory = ⊤
+IsAnswerError proxy reply _ = ⊥
+
+-- ---- the server's replies
+
+-- Answers that are due are given, all or the first of them.
+pub record GivesDue (before : Proxy) (out out' : Bytes) (later : Proxy) : Type 0 where
+  pub given : Bytes
+  pub appended : out' ≡ out ++ given
+  pub due_is : given ++ due later.order ≡ due before.order
+  pub owed : after_due later.order ≡ after_due before.order
+  pub fewer : length later.order ≤ length before.order
+  pub others : later ≡ record before { order = later.order }
+
+-- all of them
+abbrev pub flushed : Proxy → Proxy
+flushed proxy = record proxy { order = after_due proxy.order }
+
+-- The server's bytes begin with this reply, and these are the bytes after it.
+pub record TakesReplyBytes (before : PendingReplies) (reply : ReplyBytes) (later : PendingReplies)
+    : Type 0 where
+  pub used : ℕ
+  pub begins : BeginsWith before.limit before.bytes reply.code used
+  pub bytes_are : reply.bytes ≡ take used before.bytes
+  pub later_is : later ≡ record before { bytes = drop used before.bytes }
+
+-- It is the reply that is owed next, and the client is given this one for it.
+pub record PassesReply (before : Proxy) (came given : ReplyBytes) (later : Proxy) : Type 0 where
+  pub owed : IsReplyNext before.order
+  pub takes : TakesReplyBytes before.server came later.server
+  pub whole : IsWholeReply given
+  pub same_code : given.code ≡ came.code
+  pub later_is : later ≡ record before {
+    server = later.server;
+    order = after_reply came.code before.order;
+  }
+
+-- There is only a part of a reply; or the reply that is owed next is given as it came; or a reply
+-- came that is not owed, and stays.
+abbrev pub GivesNext : Proxy → Option ServerReply → Bytes → Bytes → Proxy → Type 0
+GivesNext before None out out' later = (out' ≡ out) × (later ≡ before)
+GivesNext before (Some (server.Passed code)) out out' later = (bytes : Bytes)
+    × (out' ≡ out ++ bytes)
+    × PassesReply before (record { code = code; bytes = bytes })
+    (record { code = code; bytes = bytes }) later
+GivesNext before (Some (server.Unasked code)) out out' later = (¬ IsReplyNext before.order)
+    × ((used : ℕ) × BeginsWith before.server.limit before.server.bytes code used)
+    × (out' ≡ out) × (later ≡ before)

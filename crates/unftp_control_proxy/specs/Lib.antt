@@ -1,0 +1,6 @@
+-- To be read in this order.
+pub mod Owed
+pub mod Given
+pub mod ClientLines
+pub mod ClearLines
+pub mod Calls

@@ -1,0 +1,30 @@
+//! Why a line is not decided.
+use thiserror::Error;
+use unftp_control_line_parser::ParseError;
+
+/// Why a line is not decided so. Nothing has changed, and the line is still to be decided.
+#[derive(Debug, Drop, Error)]
+pub enum SendError {
+    /// No line may be decided: none was found by `next_line`, or the proxy waits for the server.
+    #[error("no line to decide")]
+    NoLine,
+    /// What would be sent is not one line; so also where the client's line is longer than the
+    /// limit, since its bytes are not kept.
+    #[error("not one line")]
+    NotALine,
+    /// The line is no command, for this reason.
+    #[error("{0}")]
+    Refused(ParseError),
+    /// Servers don't read what would be sent alike, or some send no reply to it.
+    #[error("line that servers don't read alike")]
+    Unclear,
+    /// What would be sent is longer than a line that is sent may be.
+    #[error("line too long to be sent")]
+    TooLong,
+    /// The answer is no final reply: its code is 1yz, or it has none (RFC 959, section 4.2.1).
+    #[error("not a final reply")]
+    NotFinal,
+    /// An allocation failed.
+    #[error("out of memory")]
+    OutOfMemory,
+}

@@ -1,0 +1,14 @@
+//! A proxy on a control connection, without input and output: it stands between a client and a
+//! server, takes the client's lines, and sends each to the server or answers it itself. The client
+//! is given one exchange for each of its lines, in order (RFC 959, section 5.4).
+#![tactic(auto)]
+
+mod clear;
+mod client;
+mod errors;
+mod order;
+mod proxy;
+
+pub use crate::client::ClientLine;
+pub use crate::errors::SendError;
+pub use crate::proxy::{Limits, Proxy, ServerReply};

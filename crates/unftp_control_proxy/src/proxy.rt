@@ -1,0 +1,380 @@
+//! A client's lines and a server's replies, and what each is sent.
+ghost use Rattle.std.specs.Prelude.{◌≡◌, ◌↔◌, ◌⊎◌, ◌≤◌, ◌<◌, ◌+◌, ◌++◌, true, None, Some, Ok, Err, IfErr, IfOk, IsOk, IsTrue, OnErr, OnOk, drop, is_some, length, vec_len};
+ghost use Rattle.unftp_control_defs.specs.Bytes.{Bytes};
+ghost use Rattle.unftp_control_defs.specs.FtpReply.{encoded};
+ghost use Rattle.unftp_control_defs.specs.Lines.{lines_of};
+ghost use Rattle.unftp_control_message.specs.ReplyMeaning.{reply_of};
+ghost use Rattle.unftp_control_read.specs.ReplyDecoding.{FindsFirst, pushed};
+ghost use Rattle.unftp_control_write.specs.Forwarding.{IsForwarded};
+ghost use Rattle.unftp_control_proxy.specs.Calls.{GivesDue, GivesNext, IsAnswerError, IsDecidable, IsForwardingError, IsSendError, MayBeSent, WaitsForServer, decided, flushed, is_final, new_proxy, send_error};
+ghost use Rattle.unftp_control_proxy.specs.ClientLines.{first_client_line, line_in, with_piece};
+ghost use Rattle.unftp_control_proxy.specs.Owed.{Answer, Reply as ReplyOwed};
+ghost use Rattle.unftp_control_proxy.specs.declared.clear.Form.TheVariants.{Answered, Clear};
+
+use crate::clear::{Form, check};
+use crate::client::{ClientLine, ClientLines};
+use crate::errors::SendError;
+use crate::order::Order;
+use std::alloc::{AllocError, Global};
+use unftp_control_codecs::encode_reply;
+use unftp_control_message::reply::Reply;
+use unftp_control_read::{NextReplyError, ReplyDecoder};
+use unftp_control_write::{ForwardError, forward};
+
+/// What a proxy keeps and sends at most.
+#[derive(Clone, Copy, Debug)]
+pub struct Limits {
+    /// The most bytes of a client's line, its line feed counted.
+    pub line: usize,
+    /// The most bytes of a line that is sent to the server, its line feed counted. A server may
+    /// reply twice to a longer line, or not at all: this has to be no more than it takes.
+    pub sent: usize,
+    /// The most bytes of a server's reply, its line ends counted.
+    pub reply: usize,
+    /// How many lines may be owed their final reply, the greeting counted. While so many are, no
+    /// further line is taken.
+    pub waiting: usize,
+}
+
+/// What came of the server's bytes.
+#[derive(Debug, Clone, Copy, PartialEq, Eq)]
+pub enum ServerReply {
+    /// A reply with this code was given to the client. Where it is 1yz, another reply to the same
+    /// line follows.
+    Passed(u16),
+    /// A reply with this code came that no line is owed, as 421 before a server closes the
+    /// connection (RFC 959, section 5.4). It stays: where it were given to the client, that would
+    /// take it for the reply to its next line.
+    Unasked(u16),
+}
+
+/// A proxy between a client and a server. The caller gives it what both sent, in any pieces, and
+/// takes from it what each is to be sent.
+///
+/// After each piece from either side the caller calls `next_line` until there is none, and decides
+/// each line by `forward`, `send_as_it_is`, `replace` or `answer`; and calls `next_reply` until it
+/// returns `None`.
+#[derive(Drop)]
+pub struct Proxy {
+    client: ClientLines,
+    server: ReplyDecoder,
+    order: Order,
+    alone: bool,
+    limits: Limits,
+}
+
+impl Proxy {
+    /// A proxy that was given nothing. The client is owed the server's greeting first.
+    pub fn new(alloc: Global, limits: Limits) -> Result<Proxy, AllocError>
+        requires { (1 ≤ limits.line) × (1 ≤ limits.reply) }
+        ensures { IfOk result (λ proxy. proxy ≡ new_proxy limits) }
+    {
+        Ok(Proxy {
+            client: ClientLines::new(alloc, limits.line),
+            server: ReplyDecoder::with_limit(alloc, limits.reply),
+            order: Order::new(alloc)?,
+            alone: false,
+            limits,
+        })
+    }
+
+    /// A piece of what the client sent. When out of memory, nothing changes.
+    pub fn from_client(&mut self, piece: &[u8]) -> Result<(), AllocError>
+        ensures ok { OnOk result (self.new ≡ record self.old {
+          client = with_piece self.old.client piece.now self.new.client.held;
+        }) }
+        ensures held { self.new.client.held ≤ self.old.client.held + length piece.now }
+        ensures err { OnErr result (self.new ≡ self.old) }
+    {
+        self.client.push(piece)
+    }
+
+    /// A piece of what the server sent. When out of memory, nothing changes.
+    pub fn from_server(&mut self, piece: &[u8]) -> Result<(), AllocError>
+        ensures ok { OnOk result
+            (self.new ≡ record self.old { server = pushed self.old.server piece.now }) }
+        ensures err { OnErr result (self.new ≡ self.old) }
+    {
+        self.server.push(piece)
+    }
+
+    /// Whether no line is taken now: as many are owed their reply as may be, or a line stands alone
+    /// that is owed one. Nothing should be read from the client then.
+    pub fn waits_for_server(&self) -> bool
+        ensures { IsTrue result ↔ WaitsForServer self.now }
+    {
+        let owed = self.order.len();
+        owed >= self.limits.waiting || (self.alone && owed > 0)
+    }
+
+    /// Takes no further line until all that is owed was given: for a line such as AUTH, since what
+    /// follows a 234 is no line (RFC 4217, section 4).
+    pub fn stand_alone(&mut self)
+        ensures { self.new ≡ record self.old { alone = true } }
+    {
+        self.alone = true;
+    }
+
+    /// What the client's next line is; or `None` where none is complete. `line` then returns its
+    /// bytes, until it is decided. It may be decided only where the proxy doesn't wait for the
+    /// server. It takes no memory.
+    ///
+    /// Where it returns `None`, fewer bytes of the client are held than a line may have: so where
+    /// it does before each piece, never more than the limit and one piece.
+    pub fn next_line(&mut self) -> Option<ClientLine>
+        ensures next { result
+            ≡ first_client_line self.old.client.limit (lines_of self.old.client.bytes) }
+        ensures same { self.new ≡ record self.old {
+          client = record self.old.client { found = is_some result; held = self.new.client.held };
+        } }
+        ensures held { self.new.client.held ≤ self.old.client.held }
+        ensures bounded { result ≡ None → self.new.client.held < self.old.client.limit }
+    {
+        self.client.next()
+    }
+
+    /// The line that `next_line` found, as it came; empty where it is too long, and where none was
+    /// found.
+    pub fn line(&self) -> &[u8]
+        ensures { result.now ≡ line_in self.now.client }
+    {
+        self.client.line()
+    }
+
+    /// Whether a line was found, and may be decided.
+    fn is_decidable(&self) -> bool
+        ensures { IsTrue result ↔ IsDecidable self.now }
+    {
+        self.client.is_found() && !self.waits_for_server()
+    }
+
+    /// Decides the line: appends the line that `forward` of `unftp_control_write` writes for it,
+    /// and the client is owed the server's reply.
+    ///
+    /// `Refused` where the line is no command; `Unclear` where servers may read what would be sent
+    /// in different ways: it has a bare CR, or bytes in its verb that are not visible ASCII, or no
+    /// verb; `TooLong` where it is longer than `Limits::sent`. At an error nothing changes.
+    pub fn forward(&mut self, alloc: Global, to_server: &mut Vec<u8>) -> Result<(), SendError>
+        ensures ok { OnOk result (self.new ≡ decided self.old ReplyOwed) }
+        ensures may { OnOk result (IsDecidable self.old) }
+        ensures forwarded { OnOk result
+            (IsForwarded (line_in self.old.client) to_server.old.items to_server.new.items) }
+        ensures sent { OnOk result (MayBeSent Clear self.old.limits.sent
+            (drop (vec_len to_server.old) to_server.new.items)) }
+        ensures why { IfErr result (IsForwardingError self.old (line_in self.old.client)) }
+        ensures err { OnErr result (self.new ≡ self.old) }
+        ensures out_err { OnErr result (to_server.new.items ≡ to_server.old.items) }
+    {
+        if !self.is_decidable() {
+            return Err(SendError::NoLine);
+        }
+        let length = to_server.len();
+        if let Err(error) = forward(alloc, self.client.line(), to_server) {
+            return Err(send_error(error));
+        }
+        let (_, line) = to_server.as_slice().split_at(length);
+        let checked = check(Form::Clear, self.limits.sent, line);
+        match self.send(checked) {
+            Ok(()) => Ok(()),
+            Err(error) => {
+                to_server.truncate(length);
+                Err(error)
+            }
+        }
+    }
+
+    /// Decides the line: the line itself is sent, as it came, also one that is refused, as `OPTS
+    /// MLST size`. The caller has to know what the server makes of its bytes.
+    ///
+    /// `Unclear` where its verb is empty or has bytes that are not ASCII, as Telnet's: some servers
+    /// send no reply to that, and each later reply would be given to another line. Else as
+    /// `forward`.
+    pub fn send_as_it_is(&mut self, to_server: &mut Vec<u8>) -> Result<(), SendError>
+        ensures ok { OnOk result (self.new ≡ decided self.old ReplyOwed) }
+        ensures may { OnOk result (IsDecidable self.old) }
+        ensures appended { OnOk result
+            (to_server.new.items ≡ to_server.old.items ++ line_in self.old.client) }
+        ensures sent { OnOk result
+            (MayBeSent Answered self.old.limits.sent (line_in self.old.client)) }
+        ensures why { IfErr result (IsSendError self.old (line_in self.old.client)) }
+        ensures err { OnErr result (self.new ≡ self.old) }
+        ensures out_err { OnErr result (to_server.new.items ≡ to_server.old.items) }
+    {
+        if !self.is_decidable() {
+            return Err(SendError::NoLine);
+        }
+        let line = self.client.line();
+        check(Form::Answered, self.limits.sent, line)?;
+        let length = to_server.len();
+        if to_server.extend_from_slice(line).is_err() {
+            return Err(SendError::OutOfMemory);
+        }
+        match self.send(Ok(())) {
+            Ok(()) => Ok(()),
+            Err(error) => {
+                to_server.truncate(length);
+                Err(error)
+            }
+        }
+    }
+
+    /// Decides the line: another one is sent in its place, as PORT with another address. Else as
+    /// `send_as_it_is`, of that line; `NotALine` where it is not one.
+    pub fn replace(&mut self, other: &[u8], to_server: &mut Vec<u8>) -> Result<(), SendError>
+        ensures ok { OnOk result (self.new ≡ decided self.old ReplyOwed) }
+        ensures may { OnOk result (IsDecidable self.old) }
+        ensures appended { OnOk result (to_server.new.items ≡ to_server.old.items ++ other.now) }
+        ensures sent { OnOk result (MayBeSent Answered self.old.limits.sent other.now) }
+        ensures why { IfErr result (IsSendError self.old other.now) }
+        ensures err { OnErr result (self.new ≡ self.old) }
+        ensures out_err { OnErr result (to_server.new.items ≡ to_server.old.items) }
+    {
+        if !self.is_decidable() {
+            return Err(SendError::NoLine);
+        }
+        check(Form::Answered, self.limits.sent, other)?;
+        let length = to_server.len();
+        if to_server.extend_from_slice(other).is_err() {
+            return Err(SendError::OutOfMemory);
+        }
+        match self.send(Ok(())) {
+            Ok(()) => Ok(()),
+            Err(error) => {
+                to_server.truncate(length);
+                Err(error)
+            }
+        }
+    }
+
+    /// Decides the line as one that is sent, where that was checked.
+    fn send(&mut self, checked: Result<(), SendError>) -> Result<(), SendError>
+        requires { IsTrue self.old.client.found }
+        ensures ok { OnOk result (self.new ≡ decided self.old ReplyOwed) }
+        ensures checked { OnOk result (IsOk checked) }
+        ensures why { IfErr result (λ error.
+            (checked ≡ Err error) ⊎ (error ≡ SendError.OutOfMemory)) }
+        ensures err { OnErr result (self.new ≡ self.old) }
+    {
+        checked?;
+        if self.order.owe_reply().is_err() {
+            return Err(SendError::OutOfMemory);
+        }
+        self.client.take();
+        self.alone = false;
+        Ok(())
+    }
+
+    /// Decides the line: the client is owed this reply in its place, and the server is sent nothing.
+    ///
+    /// `NotFinal` where another reply to the same line would have to follow. At an error nothing
+    /// changes.
+    pub fn answer(&mut self, alloc: Global, reply: &Reply) -> Result<(), SendError>
+        ensures ok { OnOk result
+            (self.new ≡ decided self.old (Answer (encoded (reply_of reply.now)))) }
+        ensures may { OnOk result (IsDecidable self.old) }
+        ensures answers { OnOk result (is_final (reply_of reply.now) ≡ true) }
+        ensures why { IfErr result (IsAnswerError self.old (reply_of reply.now)) }
+        ensures err { OnErr result (self.new ≡ self.old) }
+    {
+        if !self.is_decidable() {
+            return Err(SendError::NoLine);
+        }
+        if !is_final(reply) {
+            return Err(SendError::NotFinal);
+        }
+        let mut answer = Vec::new(alloc);
+        if encode_reply(reply, &mut answer).is_err() || self.order.owe_answer(answer).is_err() {
+            return Err(SendError::OutOfMemory);
+        }
+        self.client.take();
+        self.alone = false;
+        Ok(())
+    }
+
+    /// Appends what the client is given next: the answers before which no reply is owed, and then
+    /// the server's next reply, as it came (RFC 959, section 4.2); or `None` where none is complete.
+    ///
+    /// `Malformed` and `TooLong` are returned from then on, and after `OutOfMemory` the next call
+    /// goes on: each answer and reply is given once, and whole.
+    pub fn next_reply(
+        &mut self,
+        to_client: &mut Vec<u8>,
+    ) -> Result<Option<ServerReply>, NextReplyError>
+        ensures ok { IfOk result (λ next. (middle : Bytes)
+            × GivesDue self.old to_client.old.items middle (flushed self.old)
+            × GivesNext (flushed self.old) next middle to_client.new.items self.new) }
+        ensures none { result ≡ Ok None
+            → FindsFirst self.old.server.limit self.old.server.bytes (Ok None) }
+        ensures err { OnErr result
+            (GivesDue self.old to_client.old.items to_client.new.items self.new) }
+        ensures why { IfErr result (λ error. (error ≡ NextReplyError.OutOfMemory)
+            ⊎ FindsFirst self.old.server.limit self.old.server.bytes (Err error)) }
+    {
+        self.flush(to_client)?;
+        self.pass_reply(to_client)
+    }
+
+    /// Appends the answers that are due, or the first of them when out of memory.
+    fn flush(&mut self, to_client: &mut Vec<u8>) -> Result<(), NextReplyError>
+        ensures gives { GivesDue self.old to_client.old.items to_client.new.items self.new }
+        ensures ok { OnOk result (self.new ≡ flushed self.old) }
+        ensures err { IfErr result (λ error. error ≡ NextReplyError.OutOfMemory) }
+    {
+        match self.order.release(to_client) {
+            Ok(()) => Ok(()),
+            Err(_) => Err(NextReplyError::OutOfMemory),
+        }
+    }
+
+    /// Appends the server's next reply, where it is owed and no answer is due.
+    fn pass_reply(
+        &mut self,
+        to_client: &mut Vec<u8>,
+    ) -> Result<Option<ServerReply>, NextReplyError>
+        ensures ok { IfOk result (λ next.
+            GivesNext self.old next to_client.old.items to_client.new.items self.new) }
+        ensures none { result ≡ Ok None
+            → FindsFirst self.old.server.limit self.old.server.bytes (Ok None) }
+        ensures err { OnErr result (self.new ≡ self.old) }
+        ensures out_err { OnErr result (to_client.new.items ≡ to_client.old.items) }
+        ensures why { IfErr result (λ error. (error ≡ NextReplyError.OutOfMemory)
+            ⊎ FindsFirst self.old.server.limit self.old.server.bytes (Err error)) }
+    {
+        let Some(first) = self.server.find_first()? else {
+            return Ok(None);
+        };
+        if !self.order.is_reply_next() {
+            return Ok(Some(ServerReply::Unasked(first.code)));
+        }
+        let (reply, _) = self.server.pending().split_at(first.length);
+        if to_client.extend_from_slice(reply).is_err() {
+            return Err(NextReplyError::OutOfMemory);
+        }
+        self.server.consume(first.length);
+        self.order.replied(first.code);
+        Ok(Some(ServerReply::Passed(first.code)))
+    }
+}
+
+/// Why a line is not sent that is not forwarded for this reason.
+fn send_error(error: ForwardError) -> SendError
+    ensures { result ≡ send_error error }
+{
+    match error {
+        ForwardError::NotALine => SendError::NotALine,
+        ForwardError::Refused(kind) => SendError::Refused(kind),
+        ForwardError::OutOfMemory => SendError::OutOfMemory,
+    }
+}
+
+/// Whether no other reply to the same line follows the reply.
+fn is_final(reply: &Reply) -> bool
+    ensures { result ≡ is_final (reply_of reply.now) }
+{
+    match reply {
+        Reply::None => false,
+        Reply::CodeAndMsg { code, .. } | Reply::MultiLine { code, .. } => {
+            !(100..200).contains(&code.number())
+        }
+    }
+}
