@@ -1,3 +1,4 @@
 pub mod ClientLemmas
 pub mod OrderLemmas
 pub mod SendLemmas
+pub mod TrafficLemmas

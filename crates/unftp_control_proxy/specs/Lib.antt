@@ -4,3 +4,4 @@ pub mod Given
 pub mod ClientLines
 pub mod ClearLines
 pub mod Calls
+pub mod Traffic

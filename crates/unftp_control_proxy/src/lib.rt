@@ -6,6 +6,7 @@
 mod clear;
 mod client;
 mod errors;
+pub mod laws;
 mod order;
 mod proxy;
 
