@@ -237,3 +237,14 @@ pub all_are : (n : ℕ) (dropped pending : Bytes) {dropped' rest : Bytes}
     → rest ≡ drop n pending → dropped' ≡ dropped ++ take n pending
     → dropped' ++ rest ≡ dropped ++ pending
 all_are n dropped pending rest_is dropped_is = rw (dropped_is, rest_is) (same_bytes n dropped pending)
+
+-- the first line is one, where it was found
+pub found_is_line : (limit : ℕ) (codec : Codec) (dropped kept : Bytes) (f : First)
+    → IsFirst limit codec dropped kept f → is_found f ≡ true → IsLine (front_line (dropped ++ kept))
+found_is_line limit codec dropped kept first.Unknown is found = absurd (cc)
+found_is_line limit codec dropped kept (first.Line n) is found =
+    let begins = begins-Line limit codec dropped kept n is in
+    subst IsLine (sym (front_line-is begins)) begins.is_line
+found_is_line limit codec dropped kept first.TooLong is found =
+    let begins = begins-TooLong limit codec dropped kept is in
+    subst IsLine (sym (front_line-is begins)) begins.is_line

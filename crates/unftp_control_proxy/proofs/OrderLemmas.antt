@@ -1,5 +1,5 @@
 -- What a client is owed, and what it is given for it.
-use Rattle.std.proofs.Common.{◌≡◌, ◌≤◌, ℕ, Bool, true, false, List, [], ◌∷◌, ◌++◌, length, take, drop, refl, sym, ap, subst, ◌∙◌, append_assoc, append-nil}
+use Rattle.std.proofs.Common.{◌≡◌, ◌-◌, ℕ, Bool, true, false, List, [], ◌∷◌, ◌++◌, length, take, drop, refl, sym, ap, subst, ◌∙◌, append_assoc, append-nil}
 use Rattle.std.specs.Prelude.{if◌then◌else◌}
 use Rattle.std.proofs.lemmas.List.{append_cancel_left, take-append-drop}
 use Rattle.unftp_control_defs.specs.Bytes.{Bytes}
@@ -15,20 +15,23 @@ use Rattle.unftp_control_proxy.specs.declared.proxy.Proxy.{Proxy}
 pub gives_due : {before later : Proxy} {out out' : Bytes}
     → out' ++ due later.order ≡ out ++ due before.order
     → (n : ℕ) → take n out' ≡ out → after_due later.order ≡ after_due before.order
-    → length later.order ≤ length before.order
+    → later.order ≡ drop (length before.order - length later.order) before.order
     → later ≡ record before { order = later.order }
     → GivesDue before out out' later
-gives_due {before} {later} {out} {out'} all n kept owed fewer is =
+gives_due {before} {later} {out} {out'} whole n kept still rest is =
     let more = drop n out' in
     let split : out' ≡ out ++ more = sym (take-append-drop n out') ∙ ap (λ front. front ++ more) kept in
+    let gone : List Owed = take (length before.order - length later.order) before.order in
     record {
       given = more;
       appended = split;
       due_is = append_cancel_left out (more ++ due later.order) (due before.order)
           (sym (append_assoc out more (due later.order))
-          ∙ ap (λ bytes. bytes ++ due later.order) (sym split) ∙ all);
-      owed = owed;
-      fewer = fewer;
+          ∙ ap (λ bytes. bytes ++ due later.order) (sym split) ∙ whole);
+      still = still;
+      gone = gone;
+      order = sym (take-append-drop (length before.order - length later.order) before.order)
+          ∙ ap (λ owed. gone ++ owed) (sym rest);
       others = is;
     }
 

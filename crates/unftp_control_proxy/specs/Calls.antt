@@ -1,5 +1,5 @@
 -- What the calls of a proxy do to it, and what they append.
-use Rattle.std.specs.Prelude.{⊤, ◌≡◌, ◌⊎◌, ℕ, ◌<◌, ◌≤◌, Bool, true, false, not, [], ◌∷◌, ◌++◌, Option, Some, None, Ok, IsTrue, drop, length, take}
+use Rattle.std.specs.Prelude.{⊤, ◌≡◌, ◌⊎◌, ℕ, ◌<◌, ◌≤◌, Bool, true, false, not, List, [], ◌∷◌, ◌++◌, Option, Some, None, Result, Ok, Err, IsTrue, drop, length, take}
 use Rattle.unftp_control_defs.specs.Bytes.{Bytes}
 use Rattle.unftp_control_defs.specs.Forwarded.{forwarded_line}
 use Rattle.unftp_control_defs.specs.FtpCommand.{FtpCommand}
@@ -7,12 +7,14 @@ use Rattle.unftp_control_defs.specs.FtpReply.{FtpReply, Nothing, encoded}
 use Rattle.unftp_control_defs.specs.Lines.{IsLine}
 use Rattle.unftp_control_defs.specs.Outcome.{outcome}
 use Rattle.unftp_control_defs.specs.Turns.{is_preliminary_reply}
-use Rattle.unftp_control_read.specs.ReplyDecoding.{BeginsWith, PendingReplies, no_bytes}
+use Rattle.unftp_control_read.specs.ReplyDecoding.{BeginsWith, FindsFirst, PendingReplies, no_bytes}
+use Rattle.unftp_control_read.specs.declared.decoder.FirstReply.{FirstReply}
+use Rattle.unftp_control_read.specs.declared.errors.NextReplyError.{NextReplyError}
 use Rattle.unftp_control_write.specs.Forwarding.{IsForwardError}
 use Rattle.unftp_control_write.specs.declared.forwarding.ForwardError.{ForwardError}
 use Rattle.unftp_control_write.specs.declared.forwarding.ForwardError.TheVariants as forward
 use Rattle.unftp_control_proxy.specs.ClearLines.{passes}
-use Rattle.unftp_control_proxy.specs.ClientLines.{line_in, no_client_bytes, without_line}
+use Rattle.unftp_control_proxy.specs.ClientLines.{front_line, no_client_bytes, without_line}
 use Rattle.unftp_control_proxy.specs.Given.{IsWholeReply, ReplyBytes}
 use Rattle.unftp_control_proxy.specs.Owed.{Owed, IsReplyNext, Reply, after_due, after_reply, due}
 use Rattle.unftp_control_proxy.specs.declared.proxy.Limits.{Limits}
@@ -21,6 +23,8 @@ use Rattle.unftp_control_proxy.specs.declared.clear.Form.{Form}
 use Rattle.unftp_control_proxy.specs.declared.clear.Form.TheVariants.{Clear, Answered}
 use Rattle.unftp_control_proxy.specs.declared.proxy.ServerReply.{ServerReply}
 use Rattle.unftp_control_proxy.specs.declared.proxy.ServerReply.TheVariants as server
+use Rattle.unftp_control_proxy.specs.declared.errors.ReplaceError.{ReplaceError}
+use Rattle.unftp_control_proxy.specs.declared.errors.ReplaceError.TheVariants as replace
 use Rattle.unftp_control_proxy.specs.declared.errors.SendError.{SendError}
 use Rattle.unftp_control_proxy.specs.declared.errors.SendError.TheVariants as send
 
@@ -41,9 +45,11 @@ abbrev pub WaitsForServer : Proxy → Type 0
 WaitsForServer proxy = (proxy.limits.waiting ≤ length proxy.order)
     ⊎ (IsTrue proxy.alone × (0 < length proxy.order))
 
--- a line was found, and may be taken
-abbrev pub IsDecidable : Proxy → Type 0
-IsDecidable proxy = IsTrue proxy.client.found × ¬ WaitsForServer proxy
+-- the client's first line was found, and may be taken
+pub record IsDecidable (proxy : Proxy) : Type 0 where
+  pub found : IsTrue proxy.client.found
+  pub is_line : IsLine (front_line proxy.client.bytes)
+  pub goes_on : ¬ WaitsForServer proxy
 
 -- The line is taken, and the client is owed this for it.
 abbrev pub decided : Proxy → Owed → Proxy
@@ -111,8 +117,9 @@ pub record GivesDue (before : Proxy) (out out' : Bytes) (later : Proxy) : Type 0
   pub given : Bytes
   pub appended : out' ≡ out ++ given
   pub due_is : given ++ due later.order ≡ due before.order
-  pub owed : after_due later.order ≡ after_due before.order
-  pub fewer : length later.order ≤ length before.order
+  pub still : after_due later.order ≡ after_due before.order
+  pub gone : List Owed
+  pub order : before.order ≡ gone ++ later.order
   pub others : later ≡ record before { order = later.order }
 
 -- all of them
@@ -149,3 +156,27 @@ GivesNext before (Some (server.Passed code)) out out' later = (bytes : Bytes)
 GivesNext before (Some (server.Unasked code)) out out' later = (¬ IsReplyNext before.order)
     × ((used : ℕ) × BeginsWith before.server.limit before.server.bytes code used)
     × (out' ≡ out) × (later ≡ before)
+
+-- Another one is given in place of it.
+abbrev pub GivesOther : Proxy → Bytes → Bytes → Bytes → Proxy → Type 0
+GivesOther before other out out' later = (out' ≡ out ++ other)
+    × ((came : ReplyBytes)
+    × PassesReply before came (record { code = came.code; bytes = other }) later)
+
+-- No reply is complete, or what the server sent is none.
+abbrev pub IsNoReply : Result (Option FirstReply) NextReplyError → Type 0
+IsNoReply (Ok (Some reply)) = ⊥
+IsNoReply _ = ⊤
+
+abbrev pub HasNoFirstReply : Proxy → Type 0
+HasNoFirstReply proxy = (found : Result (Option FirstReply) NextReplyError)
+    × FindsFirst proxy.server.limit proxy.server.bytes found × IsNoReply found
+
+-- why no other one is given: where no answer is due, and in any state
+abbrev pub IsOtherError : Proxy → ReplaceError → Type 0
+IsOtherError proxy replace.NoReply = HasNoFirstReply proxy
+IsOtherError proxy replace.NotOwed = ¬ IsReplyNext proxy.order
+IsOtherError proxy _ = ⊤
+
+abbrev pub IsReplaceError : Proxy → ReplaceError → Type 0
+IsReplaceError proxy error = IsOtherError (flushed proxy) error

@@ -61,6 +61,28 @@ abbrev pub sent_for : Fate → List Bytes
 sent_for (SentAs line) = line ∷ []
 sent_for (AnsweredBy bytes) = []
 
+-- one piece of either side, one line, one reply, and some answers
+abbrev pub client_piece : Bytes → Traffic
+client_piece piece = record nothing_passed { from_client = piece }
+
+abbrev pub server_piece : Bytes → Traffic
+server_piece piece = record nothing_passed { from_server = piece }
+
+abbrev pub one_line : Bytes → Fate → Traffic
+one_line line fate = record nothing_passed {
+  lines = record { line = line; fate = fate } ∷ [];
+  to_server = concat (sent_for fate);
+}
+
+abbrev pub one_reply : ReplyBytes → ReplyBytes → Traffic
+one_reply came given = record nothing_passed {
+  replies = record { came = came; given = given } ∷ [];
+  to_client = given.bytes;
+}
+
+abbrev pub some_answers : Bytes → Traffic
+some_answers bytes = record nothing_passed { to_client = bytes }
+
 -- and of all lines
 abbrev pub owed_by : List DecidedLine → List Owed
 owed_by lines = map (λ line. owed_for line.fate) lines

@@ -1,9 +1,9 @@
 //! What a client sent, and the first line of it.
-ghost use Rattle.std.specs.Prelude.{◌≡◌, ◌≤◌, ◌<◌, ◌+◌, ◌++◌, None, Some, OnErr, OnOk, if◌then◌else◌, drop, is_some, length, take, true, false};
+ghost use Rattle.std.specs.Prelude.{◌≡◌, ◌≤◌, ◌<◌, ◌+◌, ◌++◌, None, Some, OnErr, OnOk, IsTrue, if◌then◌else◌, drop, is_some, length, take, true, false};
 ghost use Rattle.unftp_control_defs.specs.Buffer.{IsTakenWithin, pending_in};
 ghost use Rattle.unftp_control_defs.specs.Bytes.{Bytes};
-ghost use Rattle.unftp_control_defs.specs.Lines.{lines_of};
-ghost use Rattle.unftp_control_proxy.specs.ClientLines.{first_client_line, line_in, no_client_bytes, with_piece, without_line};
+ghost use Rattle.unftp_control_defs.specs.Lines.{IsLine, lines_of};
+ghost use Rattle.unftp_control_proxy.specs.ClientLines.{first_client_line, front_line, line_in, no_client_bytes, with_piece, without_line};
 
 use std::alloc::{AllocError, Global};
 use std::marker::Model;
@@ -108,9 +108,14 @@ impl ClientLines {
 
     /// Whether the first line was found.
     pub(crate) fn is_found(&self) -> bool
-        ensures { result ≡ self.now.found }
+        ensures found { result ≡ self.now.found }
+        ensures line { IsTrue result → IsLine (front_line self.now.bytes) }
     {
-        !matches!(self.first, First::Unknown)
+        match self.first {
+            First::Unknown => false,
+            First::Line(_) => true,
+            First::TooLong => true,
+        }
     }
 
     /// What the line is that was found, if one was.

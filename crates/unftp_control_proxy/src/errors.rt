@@ -1,4 +1,4 @@
-//! Why a line is not decided.
+//! Why a line is not decided, and why a reply is not replaced.
 use thiserror::Error;
 use unftp_control_line_parser::ParseError;
 
@@ -24,6 +24,23 @@ pub enum SendError {
     /// The answer is no final reply: its code is 1yz, or it has none (RFC 959, section 4.2.1).
     #[error("not a final reply")]
     NotFinal,
+    /// An allocation failed.
+    #[error("out of memory")]
+    OutOfMemory,
+}
+
+/// Why no other reply is given in place of the server's.
+#[derive(Debug, Drop, Error)]
+pub enum ReplaceError {
+    /// No reply is complete, or what the server sent is none.
+    #[error("no reply")]
+    NoReply,
+    /// The reply is not owed.
+    #[error("reply that is not owed")]
+    NotOwed,
+    /// The other one is not one whole reply of the same code.
+    #[error("another reply")]
+    AnotherReply,
     /// An allocation failed.
     #[error("out of memory")]
     OutOfMemory,

@@ -11,5 +11,5 @@ mod order;
 mod proxy;
 
 pub use crate::client::ClientLine;
-pub use crate::errors::SendError;
+pub use crate::errors::{ReplaceError, SendError};
 pub use crate::proxy::{Limits, Proxy, ServerReply};

@@ -1,5 +1,5 @@
 //! What a client is owed, in order.
-ghost use Rattle.std.specs.Prelude.{◌≡◌, ◌≤◌, ◌↔◌, ◌∷◌, ◌++◌, [], IsTrue, IfOk, OnOk, OnErr, length, take, vec_len};
+ghost use Rattle.std.specs.Prelude.{◌≡◌, ◌≤◌, ◌↔◌, ◌-◌, ◌∷◌, ◌++◌, [], IsTrue, IfOk, OnOk, OnErr, drop, length, take, vec_len};
 ghost use Rattle.unftp_control_defs.specs.Turns.{is_preliminary};
 ghost use Rattle.unftp_control_proxy.specs.Owed.{Answer, IsReplyNext, Reply, after_due, after_reply, due};
 
@@ -101,6 +101,7 @@ impl Order {
         ensures kept { take (vec_len out.old) out.new.items ≡ out.old.items }
         ensures owed { after_due self.new ≡ after_due self.old }
         ensures fewer { length self.new ≤ length self.old }
+        ensures rest { self.new ≡ drop (length self.old - length self.new) self.old }
         ensures ok { OnOk result (after_due self.new ≡ self.new) }
     {
         for _ in 0..self.slots.len() {

@@ -1,24 +1,25 @@
 //! A client's lines and a server's replies, and what each is sent.
-ghost use Rattle.std.specs.Prelude.{◌≡◌, ◌↔◌, ◌⊎◌, ◌≤◌, ◌<◌, ◌+◌, ◌++◌, true, None, Some, Ok, Err, IfErr, IfOk, IsOk, IsTrue, OnErr, OnOk, drop, is_some, length, vec_len};
+ghost use Rattle.std.specs.Prelude.{◌≡◌, ◌≢◌, ◌↔◌, ◌⊎◌, ◌≤◌, ◌<◌, ◌+◌, ◌++◌, [], true, None, Some, Ok, Err, IfErr, IfOk, IsOk, IsTrue, OnErr, OnOk, drop, is_some, length, vec_len};
 ghost use Rattle.unftp_control_defs.specs.Bytes.{Bytes};
 ghost use Rattle.unftp_control_defs.specs.FtpReply.{encoded};
 ghost use Rattle.unftp_control_defs.specs.Lines.{lines_of};
 ghost use Rattle.unftp_control_message.specs.ReplyMeaning.{reply_of};
 ghost use Rattle.unftp_control_read.specs.ReplyDecoding.{FindsFirst, pushed};
 ghost use Rattle.unftp_control_write.specs.Forwarding.{IsForwarded};
-ghost use Rattle.unftp_control_proxy.specs.Calls.{GivesDue, GivesNext, IsAnswerError, IsDecidable, IsForwardingError, IsSendError, MayBeSent, WaitsForServer, decided, flushed, is_final, new_proxy, send_error};
+ghost use Rattle.unftp_control_proxy.specs.Calls.{GivesDue, GivesNext, GivesOther, IsAnswerError, IsDecidable, IsForwardingError, IsOtherError, IsReplaceError, IsSendError, MayBeSent, WaitsForServer, decided, flushed, is_final, new_proxy, send_error};
 ghost use Rattle.unftp_control_proxy.specs.ClientLines.{first_client_line, line_in, with_piece};
+ghost use Rattle.unftp_control_proxy.specs.Given.{IsWholeReply};
 ghost use Rattle.unftp_control_proxy.specs.Owed.{Answer, Reply as ReplyOwed};
 ghost use Rattle.unftp_control_proxy.specs.declared.clear.Form.TheVariants.{Answered, Clear};
 
 use crate::clear::{Form, check};
 use crate::client::{ClientLine, ClientLines};
-use crate::errors::SendError;
+use crate::errors::{ReplaceError, SendError};
 use crate::order::Order;
 use std::alloc::{AllocError, Global};
 use unftp_control_codecs::encode_reply;
 use unftp_control_message::reply::Reply;
-use unftp_control_read::{NextReplyError, ReplyDecoder};
+use unftp_control_read::{FirstReply, FoundReply, NextReplyError, ReplyDecoder, find_reply};
 use unftp_control_write::{ForwardError, forward};
 
 /// What a proxy keeps and sends at most.
@@ -157,6 +158,7 @@ impl Proxy {
     pub fn forward(&mut self, alloc: Global, to_server: &mut Vec<u8>) -> Result<(), SendError>
         ensures ok { OnOk result (self.new ≡ decided self.old ReplyOwed) }
         ensures may { OnOk result (IsDecidable self.old) }
+        ensures shown { OnOk result (line_in self.old.client ≢ []) }
         ensures forwarded { OnOk result
             (IsForwarded (line_in self.old.client) to_server.old.items to_server.new.items) }
         ensures sent { OnOk result (MayBeSent Clear self.old.limits.sent
@@ -168,8 +170,12 @@ impl Proxy {
         if !self.is_decidable() {
             return Err(SendError::NoLine);
         }
+        let line = self.client.line();
+        if line.is_empty() {
+            return Err(SendError::NotALine);
+        }
         let length = to_server.len();
-        if let Err(error) = forward(alloc, self.client.line(), to_server) {
+        if let Err(error) = forward(alloc, line, to_server) {
             return Err(send_error(error));
         }
         let (_, line) = to_server.as_slice().split_at(length);
@@ -354,6 +360,88 @@ impl Proxy {
         self.order.replied(first.code);
         Ok(Some(ServerReply::Passed(first.code)))
     }
+
+    /// The first reply of what the server sent, which `server_pending` begins with; or `None` where
+    /// none is complete. It stays. It takes no memory.
+    pub fn first_reply(&mut self) -> Result<Option<FirstReply>, NextReplyError>
+        ensures finds { FindsFirst self.old.server.limit self.old.server.bytes result }
+        ensures same { self.new ≡ self.old }
+    {
+        self.server.find_first()
+    }
+
+    /// As `next_reply`, with these bytes in place of the server's next reply: they have to be one
+    /// whole reply of the same code, as a 227 with another address. It is for a reply that
+    /// `first_reply` found.
+    ///
+    /// At an error the server's reply stays.
+    pub fn replace_reply(
+        &mut self,
+        other: &[u8],
+        to_client: &mut Vec<u8>,
+    ) -> Result<(), ReplaceError>
+        ensures ok { OnOk result ((middle : Bytes)
+            × GivesDue self.old to_client.old.items middle (flushed self.old)
+            × GivesOther (flushed self.old) other.now middle to_client.new.items self.new) }
+        ensures err { OnErr result
+            (GivesDue self.old to_client.old.items to_client.new.items self.new) }
+        ensures why { IfErr result (IsReplaceError self.old) }
+    {
+        if self.flush(to_client).is_err() {
+            return Err(ReplaceError::OutOfMemory);
+        }
+        self.pass_other(other, to_client)
+    }
+
+    /// Appends the other reply in place of the server's next one.
+    fn pass_other(&mut self, other: &[u8], to_client: &mut Vec<u8>) -> Result<(), ReplaceError>
+        ensures ok { OnOk result (GivesOther self.old other.now to_client.old.items
+            to_client.new.items self.new) }
+        ensures err { OnErr result (self.new ≡ self.old) }
+        ensures out_err { OnErr result (to_client.new.items ≡ to_client.old.items) }
+        ensures why { IfErr result (IsOtherError self.old) }
+    {
+        let first = match self.server.find_first() {
+            Ok(Some(first)) => first,
+            Ok(None) => return Err(ReplaceError::NoReply),
+            Err(_) => return Err(ReplaceError::NoReply),
+        };
+        if !self.order.is_reply_next() {
+            return Err(ReplaceError::NotOwed);
+        }
+        if !is_reply_of(first.code, other) {
+            return Err(ReplaceError::AnotherReply);
+        }
+        if to_client.extend_from_slice(other).is_err() {
+            return Err(ReplaceError::OutOfMemory);
+        }
+        self.server.consume(first.length);
+        self.order.replied(first.code);
+        Ok(())
+    }
+
+    /// What the server sent and was not given: a part of a reply; or, after `Unasked`, what it says
+    /// before it closes.
+    pub fn server_pending(&self) -> &[u8]
+        ensures { result.now ≡ self.now.server.bytes }
+    {
+        self.server.pending()
+    }
+
+    /// What is kept of what the client sent and was not decided: after an AUTH to which the server
+    /// agreed, what is for the server as it is (RFC 4217, section 4).
+    pub fn client_pending(&self) -> &[u8]
+        ensures { (dropped : Bytes) × (self.now.client.bytes ≡ dropped ++ result.now) }
+    {
+        self.client.pending()
+    }
+
+    /// How much the client is owed: lines, and the greeting.
+    pub fn owed(&self) -> usize
+        ensures { result ≡ length self.now.order }
+    {
+        self.order.len()
+    }
 }
 
 /// Why a line is not sent that is not forwarded for this reason.
@@ -376,5 +464,15 @@ fn is_final(reply: &Reply) -> bool
         Reply::CodeAndMsg { code, .. } | Reply::MultiLine { code, .. } => {
             !(100..200).contains(&code.number())
         }
+    }
+}
+
+/// Whether the bytes are one whole reply of this code.
+fn is_reply_of(code: u16, bytes: &[u8]) -> bool
+    ensures { IsTrue result → IsWholeReply (record { code = code; bytes = bytes.now }) }
+{
+    match find_reply(bytes) {
+        FoundReply::Whole { code: found, used } => found == code && used == bytes.len(),
+        _ => false,
     }
 }

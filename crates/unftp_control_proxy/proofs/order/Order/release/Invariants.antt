@@ -1,4 +1,4 @@
-use Rattle.std.proofs.Common.{◌≡◌, ◌≤◌, ◌+◌, ◌++◌, length, map, take}
+use Rattle.std.proofs.Common.{◌≡◌, ◌≤◌, ◌+◌, ◌++◌, length, drop, map, take}
 use Rattle.unftp_control_proxy.specs.Owed.{after_due, due, owed_in}
 use Rattle.unftp_control_proxy.proofs.order.Order.release.Given as goal
 
@@ -11,3 +11,5 @@ invariant-loop l =
     × (length l.self-inside.slots.items + l.counter ≡ l.end)
     × (take (length l.initial.out.items) l.out.items ≡ l.initial.out.items)
     × (length l.initial.out.items ≤ length l.out.items)
+    × (l.self-inside.slots.items ≡ drop l.counter l.initial.self-inside.slots.items)
+    × (length l.initial.self-inside.slots.items ≡ l.end)
