@@ -2,3 +2,4 @@ pub mod ClientLemmas
 pub mod OrderLemmas
 pub mod SendLemmas
 pub mod TrafficLemmas
+pub mod CallLemmas

@@ -23,7 +23,7 @@ pub record Client : Type 0 where
 abbrev pub no_client_bytes : ℕ → Client
 no_client_bytes limit = record { bytes = []; limit = limit; found = false; held = 0 }
 
-abbrev head_or_none : List Bytes → Bytes
+abbrev pub head_or_none : List Bytes → Bytes
 head_or_none [] = []
 head_or_none (line ∷ lines) = line
 

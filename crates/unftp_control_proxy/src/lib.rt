@@ -9,6 +9,7 @@ mod errors;
 pub mod laws;
 mod order;
 mod proxy;
+pub mod steps;
 
 pub use crate::client::ClientLine;
 pub use crate::errors::{ReplaceError, SendError};
