@@ -65,6 +65,10 @@ pub record MayBeSent (form : Form) (limit : ℕ) (line : Bytes) : Type 0 where
   pub short : length line ≤ limit
   pub passes_by : passes form line ≡ true
 
+abbrev pub is_out_of_memory : SendError → Bool
+is_out_of_memory send.OutOfMemory = true
+is_out_of_memory _ = false
+
 -- why a line is not sent
 abbrev pub IsUnsent : Form → ℕ → Bytes → SendError → Type 0
 IsUnsent form limit line send.NotALine = ¬ IsLine line

@@ -5,3 +5,4 @@ pub mod ClientLines
 pub mod ClearLines
 pub mod Calls
 pub mod Traffic
+pub mod Filtering

@@ -1,4 +1,7 @@
 //! Why a line is not decided, and why a reply is not replaced.
+ghost use Rattle.std.specs.Prelude.{◌≡◌};
+ghost use Rattle.unftp_control_proxy.specs.Calls.{is_out_of_memory};
+
 use thiserror::Error;
 use unftp_control_line_parser::ParseError;
 
@@ -27,6 +30,15 @@ pub enum SendError {
     /// An allocation failed.
     #[error("out of memory")]
     OutOfMemory,
+}
+
+impl SendError {
+    /// Whether an allocation failed: the line may be decided again.
+    pub fn is_out_of_memory(&self) -> bool
+        ensures { result ≡ is_out_of_memory self.now }
+    {
+        matches!(self, SendError::OutOfMemory)
+    }
 }
 
 /// Why no other reply is given in place of the server's.

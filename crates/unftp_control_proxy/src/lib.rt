@@ -5,7 +5,9 @@
 
 mod clear;
 mod client;
+mod driver;
 mod errors;
+mod filter;
 pub mod laws;
 mod order;
 mod proxy;
@@ -13,4 +15,5 @@ pub mod steps;
 
 pub use crate::client::ClientLine;
 pub use crate::errors::{ReplaceError, SendError};
+pub use crate::filter::{Filter, Verdict};
 pub use crate::proxy::{Limits, Proxy, ServerReply};

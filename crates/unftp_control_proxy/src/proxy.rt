@@ -1,5 +1,5 @@
 //! A client's lines and a server's replies, and what each is sent.
-ghost use Rattle.std.specs.Prelude.{◌≡◌, ◌≢◌, ◌↔◌, ◌⊎◌, ◌≤◌, ◌<◌, ◌+◌, ◌++◌, [], true, None, Some, Ok, Err, IfErr, IfOk, IsOk, IsTrue, OnErr, OnOk, drop, is_some, length, vec_len};
+ghost use Rattle.std.specs.Prelude.{◌≡◌, ◌≢◌, ◌↔◌, ◌⊎◌, ◌≤◌, ◌<◌, ◌+◌, ◌++◌, [], true, None, Some, Ok, Err, IfErr, IfOk, IsOk, IsTrue, OnErr, OnOk, drop, is_some, length};
 ghost use Rattle.unftp_control_defs.specs.Bytes.{Bytes};
 ghost use Rattle.unftp_control_defs.specs.FtpReply.{encoded};
 ghost use Rattle.unftp_control_defs.specs.Lines.{lines_of};
@@ -162,7 +162,7 @@ impl Proxy {
         ensures forwarded { OnOk result
             (IsForwarded (line_in self.old.client) to_server.old.items to_server.new.items) }
         ensures sent { OnOk result (MayBeSent Clear self.old.limits.sent
-            (drop (vec_len to_server.old) to_server.new.items)) }
+            (drop (length to_server.old.items) to_server.new.items)) }
         ensures why { IfErr result (IsForwardingError self.old (line_in self.old.client)) }
         ensures err { OnErr result (self.new ≡ self.old) }
         ensures out_err { OnErr result (to_server.new.items ≡ to_server.old.items) }
