@@ -66,6 +66,7 @@ module _ (line : Bytes) (body : Bor Bytes) (strips : Strips line (LF ∷ []) (So
       ∙ before_end-crlf text.now []
       (Lacks-front text.now (CR ∷ []) (subst (Lacks LF) cut lacks)))
 
+-- where a verb takes no value, or one of a type of its own, the line is its word and its value
 typed_body : (command : FtpCommand) → kind_keeps (kind (said command).verb) ≡ false
     → canonical_body command
     ≡ with_optional (word (said command).verb) (value_bytes (said command).value)
@@ -77,6 +78,7 @@ typed_body (Site name arguments) canonical = absurd (false≢true (sym canonical
 typed_body (Other name arguments) canonical = absurd (false≢true (sym canonical))
 typed_body command canonical = refl
 
+-- the command that is told of
 told : (answer : Answer) (parts : Said) → Tells answer parts
     → (command : FtpCommand) × (answer ≡ Ok command) × (said command ≡ parts)
 told (Ok command) parts tells = (command, refl, tells)
