@@ -287,19 +287,19 @@ enum unftp_result unftp_canonical(const char *line, size_t line_len,
 /*
  * Writes the line that a proxy sends to a server for a client's line, with its CR LF, to the start
  * of out, and *len is how many bytes it has. It means the same, and its one line feed is its last
- * byte. A command doesn't hold all that a line says, and this line keeps what a server has to read:
+ * byte. A command doesn't hold all that a line says, and this line has the verb in upper case and
+ * the bytes of the parameter as they came, up to the line's end: any bytes, also those that are not
+ * UTF-8, and a CR that no LF follows. For a verb that takes no value, or one of a type of its own,
+ * it is the canonical line.
  *
  *     the client's line      unftp_canonical        unftp_forward
  *     type a                 TYPE I                 TYPE a
- *     allo 5 r 3             ALLO 0                 ALLO 5 r 3
- *     epsv all               EPSV                   EPSV all
- *     help retr              HELP                   HELP retr
- *     syst x                 SYST                   SYST x
  *     list -la x             LIST x                 LIST -la x
- *     any other, as xcwd a   CWD a                  CWD a
- *
- * The bytes of these six verbs' parameters are those that came, up to the line's end: any bytes,
- * also a CR that no LF follows.
+ *     retr \xe9              RETR \xef\xbf\xbd      RETR \xe9
+ *     xcwd a                 CWD a                  XCWD a
+ *     site help a            SITE HELP a            SITE help a
+ *     bye                    QUIT                   QUIT
+ *     rest +07               REST 7                 REST 7
  *
  * It returns UNFTP_DONE; UNFTP_NO_LINE exactly where the bytes have no line feed at their end, or
  * one before it; UNFTP_INVALID_COMMAND, UNFTP_INVALID_UTF8 or UNFTP_INVALID_EOL for a line that is

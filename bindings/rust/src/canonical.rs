@@ -22,14 +22,16 @@ pub fn canonical(line: &[u8]) -> Result<Vec<u8>, Error> {
 }
 
 /// The line that a proxy sends to a server for a client's line, with its CR LF: a line that means
-/// the same, and keeps what no command holds. The lines of SYST, TYPE, HELP, EPSV, ALLO and LIST
-/// have the bytes of their parameter as they came; any other line is the canonical one.
+/// the same, and keeps what no command holds. It is the verb in upper case and the bytes of the
+/// parameter as they came; for a verb that takes no value, or one of a type of its own, it is the
+/// canonical line.
 ///
 /// ```
 /// use unftp_control::forward;
 ///
-/// assert_eq!(forward(b"xcwd a\n")?, b"CWD a\r\n");
+/// assert_eq!(forward(b"retr a\xe9\n")?, b"RETR a\xe9\r\n");
 /// assert_eq!(forward(b"list -la x\r\n")?, b"LIST -la x\r\n");
+/// assert_eq!(forward(b"rest +07\r\n")?, b"REST 7\r\n");
 /// # Ok::<(), unftp_control::Error>(())
 /// ```
 ///

@@ -96,9 +96,8 @@ impl Encoder<Reply> for FtpCodec {
 
 /// The codec of a client's control connection: bytes become [`ReceivedReply`]s, and each command
 /// line, with its line end, becomes the bytes of [`forward`]. So a line that is no command is never
-/// sent, nor are two lines in one, as a file name with a line feed would make. A bare CR in the
-/// parameter of TYPE, ALLO, HELP, EPSV, SYST or LIST is sent as it is: for a server that ends a line
-/// at one, refuse such a line first.
+/// sent, nor are two lines in one, as a file name with a line feed would make. A bare CR in a
+/// parameter is sent as it is: for a server that ends a line at one, refuse such a line first.
 ///
 /// A reply that is malformed or too long is an error, since nothing says where the next one begins.
 ///

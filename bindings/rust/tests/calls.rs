@@ -269,7 +269,9 @@ fn a_canonical_line_says_the_same() -> Result<(), Error> {
 fn a_forwarded_line_keeps_what_its_command_drops() -> Result<(), Error> {
     assert_eq!(forward(b"type a\n")?, b"TYPE a\r\n");
     assert_eq!(forward(b"LIST -la x\r\n")?, b"LIST -la x\r\n");
-    assert_eq!(forward(b"xcwd a\n")?, b"CWD a\r\n");
+    assert_eq!(forward(b"RETR a\xe9\r\n")?, b"RETR a\xe9\r\n");
+    assert_eq!(forward(b"xcwd a\n")?, b"XCWD a\r\n");
+    assert_eq!(forward(b"noop \n")?, b"NOOP\r\n");
     assert_eq!(forward(b"TYPE A"), Err(Error::NotALine));
     assert_eq!(forward(b"NOOP x\r\n"), Err(Error::Refused(Refusal::InvalidCommand)));
     Ok(())

@@ -39,10 +39,12 @@ pub fn lines_are_refused()
         (ForwardError.Refused ParseErrorKind.OutOfMemory) → ⊥ }
 {}
 
-/// What is sent is the canonical line, and not the line as it came; but with the parameter of TYPE.
+/// What is sent is the verb in upper case and the parameter; of a verb without a value it is the
+/// canonical line.
 pub fn lines_are_forwarded()
-    ensures canonical { IsForwarded (codes "xcwd a\n") (codes "NOOP\r\n")
-        (codes "NOOP\r\nCWD a\r\n") }
+    ensures parameter { IsForwarded (codes "xcwd a\n") (codes "NOOP\r\n")
+        (codes "NOOP\r\nXCWD a\r\n") }
+    ensures canonical { IsForwarded (codes "xpwd \n") [] (codes "PWD\r\n") }
     ensures as_it_came { IsForwarded (codes "xcwd a\n") [] (codes "xcwd a\n") → ⊥ }
     ensures refused { (sent : Bytes) → IsForwarded (codes "RETR\r\n") [] sent → ⊥ }
 {}

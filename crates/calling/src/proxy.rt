@@ -4,18 +4,17 @@ ghost use Rattle.calling.specs.Forwarding.{IsReplyInPlace, only_reads, reads};
 ghost use Rattle.unftp_control.specs.Forwarding.{IsForwarded};
 ghost use Rattle.unftp_control.specs.Outcome.{outcome};
 
-use std::alloc::Global;
 use unftp_control::line_parser::parts;
 use unftp_control::parts::Verb;
 use unftp_control::write::{ForwardError, forward};
 
 /// Forwards a client's line: appends what the server is sent. Where it is not forwarded, nothing is
 /// appended, and the client gets the reply that is returned.
-pub fn forward_line(alloc: Global, line: &[u8], out: &mut Vec<u8>) -> Option<&'static str>
+pub fn forward_line(line: &[u8], out: &mut Vec<u8>) -> Option<&'static str>
     ensures { MatchOption result (IsForwarded line.now out.old.items out.new.items)
         (λ reply. (out.new.items ≡ out.old.items) × IsReplyInPlace line.now reply.now) }
 {
-    match forward(alloc, line, out) {
+    match forward(line, out) {
         Ok(()) => None,
         Err(ForwardError::NotALine) => Some("500 Not one line\r\n"),
         Err(ForwardError::Refused(_)) => Some("500 Not understood\r\n"),

@@ -34,7 +34,7 @@ fn forwarded_line(alloc: Global, line: &[u8]) -> Result<Vec<u8>, Status>
     ensures read_back { IfOk result (λ buf. outcome buf.items ≡ outcome line.now) }
 {
     let mut buf = Vec::new(alloc);
-    match forward(alloc, line, &mut buf) {
+    match forward(line, &mut buf) {
         Ok(()) => Ok(buf),
         Err(error) => Err(forward_status(&error)),
     }

@@ -9,14 +9,15 @@ use Rattle.unftp_control_defs.specs.Lines.{IsLine}
 use Rattle.unftp_control_defs.specs.Verbs.{is_separator, verb_of, parameter_of, upper}
 use Rattle.unftp_control_defs.specs.Values.{ReadsLater, ends_crlf, ends_lf, cr_nul, byte, Reads, nothing, ended, ended_crlf, one_byte, first_cr_nul, first_byte}
 use Rattle.unftp_control_defs.specs.ComputedValue.{value_of}
-use Rattle.unftp_control_defs.specs.FtpCommand.{FtpCommand, InvalidUtf8, kind, verbs}
-use Rattle.unftp_control_defs.specs.Rules.{row_of, taken}
+use Rattle.unftp_control_defs.specs.FtpCommand.{Answer, FtpCommand, InvalidUtf8, kind, verbs}
+use Rattle.unftp_control_defs.specs.Rules.{row_of, subcommand_answer, taken}
 use Rattle.unftp_control_defs.specs.declared.verb.Kind.{Kind}
 use Rattle.unftp_control_defs.specs.declared.verb.Kind.TheVariants as kinds
 use Rattle.unftp_control_defs.specs.declared.verb.Verb.{Verb}
-use Rattle.unftp_control_defs.specs.Outcome.{outcome, parameter_answer, value_answer, word_answer}
+use Rattle.unftp_control_defs.specs.declared.verb.Verb.TheVariants as verb
+use Rattle.unftp_control_defs.specs.Outcome.{outcome, parameter_answer, site_answer, value_answer, word_answer}
 use Rattle.unftp_control_defs.specs.Canonical.{canonical_line, HasLine}
-use Rattle.unftp_control_defs.specs.Forwarded.{keeps, keeps_parameter, kind_keeps, begins_with_lf, begins_end, before_end, with_parameter, kept_line, forwarded_line}
+use Rattle.unftp_control_defs.specs.Forwarded.{keeps_parameter, begins_with_lf, begins_end, before_end, with_parameter, kept_line, forwarded_line}
 use Rattle.unftp_control_defs.proofs.AnswerLemmas.{passed}
 use Rattle.unftp_control_defs.proofs.CanonicalLineLemmas.{outcome-canonical_line}
 use Rattle.unftp_control_defs.proofs.CanonicalLineEndLemmas.{IsLine-canonical_line}
@@ -112,148 +113,6 @@ value_kept : (parameter v : Bytes) → EndsAtLf parameter → value_of parameter
     → value_of (before_end parameter ++ crlf) ≡ Some v
 value_kept parameter v ends h = value_of-Reads (reads_kept ends (Reads-value_of parameter v h))
 
-abbrev is_site : Kind → Bool
-is_site kinds.Subcommand = true
-is_site _ = false
-
--- the parameter bytes of the line that is made
-abbrev made_parameter : Bytes → Bytes
-made_parameter [] = LF ∷ []
-made_parameter (b ∷ text) = b ∷ text ++ crlf
-
-value_of-made_parameter : (text : Bytes) → value_of (made_parameter text) ≡ value_of (text ++ crlf)
-value_of-made_parameter [] = refl
-value_of-made_parameter (b ∷ text) = refl
-
-before_end-made_parameter : (text : Bytes) → Lacks LF text → before_end (made_parameter text) ≡ text
-before_end-made_parameter [] h = refl
-before_end-made_parameter (b ∷ text) h = before_end-crlf (b ∷ text) [] h
-
--- the verb makes the same of them
-answer_kept : (kind : Kind) (verb : Verb) (word parameter : Bytes) {command : FtpCommand}
-    → is_site kind ≡ false → EndsAtLf parameter
-    → parameter_answer kind verb word parameter ≡ Ok command
-    → parameter_answer kind verb word (made_parameter (before_end parameter)) ≡ Ok command
-answer_kept kinds.Ignored verb word parameter other ends e = e
-answer_kept kinds.Subcommand verb word parameter other ends e = cc
-answer_kept kind verb word parameter {command} other ends e = by_option (value_of parameter) refl e
-  where
-    by_option : (o : Option Bytes) → value_of parameter ≡ o
-        → value_answer (taken kind verb word) o ≡ Ok command
-        → value_answer (taken kind verb word) (value_of (made_parameter (before_end parameter)))
-        ≡ Ok command
-    by_option None q f = cc
-    by_option (Some v) q f =
-        ap (value_answer (taken kind verb word)) (value_of-made_parameter (before_end parameter)
-        ∙ value_kept parameter v ends q) ∙ f
-
--- The line that is made of a name.
-module _ (name : Bytes) (bare : AllByRecursion (λ b. is_separator b ≡ false) name) where
-  made_cut : (text : Bytes) → (verb_of (with_parameter name text ++ crlf) ≡ name)
-      × (parameter_of (with_parameter name text ++ crlf) ≡ made_parameter text)
-  made_cut [] = parted_cut name CR (LF ∷ []) bare refl
-  made_cut (b ∷ text) =
-      let joined = append_assoc name (SP ∷ b ∷ text) crlf in
-      let cut = parted_cut name SP (b ∷ text ++ crlf) bare refl in
-      (ap verb_of joined ∙ cut.0, ap parameter_of joined ∙ cut.1)
-
-bare_verb : (line : Bytes) → AllByRecursion (λ b. is_separator b ≡ false) (upper (verb_of line))
-bare_verb line = bare_name (upper (verb_of line)) (uppercased_name line)
-
--- The verb and the parameter of a line that keeps it are those of the line.
-kept_cut : (line : Bytes) → (verb_of (kept_line line) ≡ upper (verb_of line))
-    × (before_end (parameter_of (kept_line line)) ≡ before_end (parameter_of line))
-kept_cut line =
-    let text : Bytes = before_end (parameter_of line) in
-    let cut = made_cut (upper (verb_of line)) (bare_verb line) text in (
-      cut.0,
-      ap before_end cut.1
-          ∙ before_end-made_parameter text (Lacks-before_end (parameter_of line)),
-    )
-
-pub verb_of-forwarded_line : (line : Bytes) (command : FtpCommand)
-    → keeps_parameter (upper (verb_of line)) ≡ true → verb_of (forwarded_line line command)
-    ≡ upper (verb_of line)
-verb_of-forwarded_line line command keeps = rw keeps (kept_cut line).0
-
-pub parameter_of-forwarded_line : (line : Bytes) (command : FtpCommand)
-    → keeps_parameter (upper (verb_of line)) ≡ true
-    → before_end (parameter_of (forwarded_line line command)) ≡ before_end (parameter_of line)
-parameter_of-forwarded_line line command keeps = rw keeps (kept_cut line).1
-
--- a verb that keeps its parameter is not SITE
-not_site : (kind : Kind) → kind_keeps kind ≡ true → is_site kind ≡ false
-not_site kinds.Subcommand keeps = cc
-not_site kind keeps = refl
-
-module _ (line : Bytes) (command : FtpCommand) (is_line : IsLine line)
-    (means : outcome line ≡ Ok command) where
-  abbrev name : Bytes
-  name = upper (verb_of line)
-
-  abbrev text : Bytes
-  text = before_end (parameter_of line)
-
-  abbrev row : Option Verb
-  row = row_of name verbs
-
-  read : (is_utf8 (verb_of line) ≡ true) × (word_answer name row (parameter_of line) ≡ Ok command)
-  read = passed (is_utf8 (verb_of line)) (word_answer name row (parameter_of line)) InvalidUtf8
-      command means
-
-  kept_answer : outcome (kept_line line) ≡ word_answer name row (made_parameter text)
-  kept_answer =
-      let cut = made_cut name (bare_verb line) text in
-      rw (
-        cut.0,
-        cut.1,
-        is_utf8-from_IsUtf8 name (uppercased_utf8 line read.0),
-        upper-IsUpperCaseName name (uppercased_name line),
-      )
-
-  kept_back : keeps_parameter name ≡ true → outcome (kept_line line) ≡ Ok command
-  kept_back kept = kept_answer ∙ by_row row kept read.1
-    where
-      by_row : (row : Option Verb) → keeps row ≡ true
-          → word_answer name row (parameter_of line) ≡ Ok command
-          → word_answer name row (made_parameter text) ≡ Ok command
-      by_row None kept e = cc
-      by_row (Some verb) kept e = answer_kept (kind verb) verb [] (parameter_of line)
-          (not_site (kind verb) kept) (parameter_of-ends line (IsLine-ends line is_line)) e
-
-  kept_lacks : (t : Bytes) → Lacks LF t → Lacks LF (with_parameter name t)
-  kept_lacks [] h = Lacks-name name (uppercased_name line)
-  kept_lacks (b ∷ t) h = Lacks-append LF name (SP ∷ b ∷ t) (Lacks-name name (uppercased_name line))
-      ((λ e. omega arith), h)
-
-  kept_is_line : IsLine (kept_line line)
-  kept_is_line = record {
-    body = with_parameter name text ++ CR ∷ [];
-    whole = sym (append_assoc (with_parameter name text) (CR ∷ []) (LF ∷ []));
-    one_end = Lacks-append LF (with_parameter name text) (CR ∷ [])
-        (kept_lacks text (Lacks-before_end (parameter_of line))) ((λ e. omega arith), tt);
-  }
-
-  by_verb : (P : Bytes → Type 0) → (keeps_parameter name ≡ true → P (kept_line line))
-      → P (canonical_line command) → P (forwarded_line line command)
-  by_verb P kept canonical = by_test (keeps_parameter name) refl
-    where
-      by_test : (test : Bool) → keeps_parameter name ≡ test
-          → P (cond test (kept_line line) (canonical_line command))
-      by_test true e = kept e
-      by_test false e = canonical
-
-  has_line : HasLine command
-  has_line = HasLine-outcome line command is_line means
-
-  pub IsLine-forwarded_line : IsLine (forwarded_line line command)
-  IsLine-forwarded_line =
-      by_verb IsLine (λ _. kept_is_line) (IsLine-canonical_line command has_line)
-
-  pub outcome-forwarded_line : outcome (forwarded_line line command) ≡ Ok command
-  outcome-forwarded_line = by_verb (λ sent. outcome sent ≡ Ok command) kept_back
-      (outcome-canonical_line command has_line (HasTypedFields-outcome line command is_line means))
-
 -- The end of a whole line.
 pub before_end-lf : (text : Bytes) → Lacks LF text → ((front : Bytes) → text ≢ front ++ CR ∷ [])
     → before_end (text ++ LF ∷ []) ≡ text
@@ -314,3 +173,178 @@ pub cut-before_end : (line : Bytes) → EndsAtLf line → (verb_of (before_end l
     × (parameter_of (before_end line) ≡ before_end (parameter_of line))
 cut-before_end [] ends = (refl, refl)
 cut-before_end (b ∷ bytes) ends = cut_byte b bytes ends.0 (cut-before_end bytes ends.1)
+
+-- the parameter bytes of the line that is made
+abbrev made_parameter : Bytes → Bytes
+made_parameter [] = LF ∷ []
+made_parameter (b ∷ text) = b ∷ text ++ crlf
+
+value_of-made_parameter : (text : Bytes) → value_of (made_parameter text) ≡ value_of (text ++ crlf)
+value_of-made_parameter [] = refl
+value_of-made_parameter (b ∷ text) = refl
+
+before_end-made_parameter : (text : Bytes) → Lacks LF text → before_end (made_parameter text) ≡ text
+before_end-made_parameter [] h = refl
+before_end-made_parameter (b ∷ text) h = before_end-crlf (b ∷ text) [] h
+
+-- Bytes without an end have the same verb with one; and the value of what follows it is that of
+-- what follows it there, with an end.
+ended_cut : (text : Bytes) → (verb_of (text ++ crlf) ≡ verb_of text)
+    × (value_of (parameter_of (text ++ crlf)) ≡ value_of (parameter_of text ++ crlf))
+ended_cut [] = (refl, refl)
+ended_cut (b ∷ text) = by_separator (is_separator b) refl (ended_cut text)
+  where
+    by_separator : (test : Bool) → is_separator b ≡ test
+        → (verb_of (text ++ crlf) ≡ verb_of text)
+        × (value_of (parameter_of (text ++ crlf)) ≡ value_of (parameter_of text ++ crlf))
+        → (verb_of (b ∷ text ++ crlf) ≡ verb_of (b ∷ text))
+        × (value_of (parameter_of (b ∷ text ++ crlf)) ≡ value_of (parameter_of (b ∷ text) ++ crlf))
+    by_separator true e more =
+        let cut = parted_cut [] b text tt e in
+        let ended = parted_cut [] b (text ++ crlf) tt e in
+        (ended.0 ∙ sym cut.0, ap value_of (ended.1 ∙ ap (λ t. t ++ crlf) (sym cut.1)))
+    by_separator false e more = (
+      verb_step b (text ++ crlf) e ∙ ap (λ v. b ∷ v) more.0 ∙ sym (verb_step b text e),
+      ap value_of (parameter_step b (text ++ crlf) e) ∙ more.1
+          ∙ ap (λ t. value_of (t ++ crlf)) (sym (parameter_step b text e)),
+    )
+
+-- The same subcommand and value are read of them, with an LF alone where there are none.
+made_cut_again : (text : Bytes) → (verb_of (made_parameter text) ≡ verb_of text)
+    × (value_of (parameter_of (made_parameter text)) ≡ value_of (parameter_of text ++ crlf))
+made_cut_again [] = (refl, refl)
+made_cut_again (b ∷ text) = ended_cut (b ∷ text)
+
+value_answer_kept : (answer : Bytes → Answer) (parameter : Bytes) {command : FtpCommand}
+    → EndsAtLf parameter → value_answer answer (value_of parameter) ≡ Ok command
+    → value_answer answer (value_of (before_end parameter ++ crlf)) ≡ Ok command
+value_answer_kept answer parameter {command} ends e = by_option (value_of parameter) refl e
+  where
+    by_option : (o : Option Bytes) → value_of parameter ≡ o → value_answer answer o ≡ Ok command
+        → value_answer answer (value_of (before_end parameter ++ crlf)) ≡ Ok command
+    by_option None q f = cc
+    by_option (Some v) q f = ap (value_answer answer) (value_kept parameter v ends q) ∙ f
+
+site_kept : (parameter : Bytes) {command : FtpCommand} → EndsAtLf parameter
+    → site_answer parameter ≡ Ok command
+    → site_answer (made_parameter (before_end parameter)) ≡ Ok command
+site_kept parameter {command} ends e =
+    let cut = cut-before_end parameter ends in
+    let made = made_cut_again (before_end parameter) in
+    let answer : Bytes → Answer = subcommand_answer (upper (verb_of parameter)) in
+    let read = passed (is_utf8 (verb_of parameter))
+    (value_answer answer (value_of (parameter_of parameter))) InvalidUtf8 command e in
+    rw (made.0 ∙ cut.0, made.1 ∙ ap (λ text. value_of (text ++ crlf)) cut.1, read.0)
+    (value_answer_kept answer (parameter_of parameter) (parameter_of-ends parameter ends) read.1)
+
+-- the verb makes the same of them
+answer_kept : (kind : Kind) (verb : Verb) (word parameter : Bytes) {command : FtpCommand}
+    → EndsAtLf parameter → parameter_answer kind verb word parameter ≡ Ok command
+    → parameter_answer kind verb word (made_parameter (before_end parameter)) ≡ Ok command
+answer_kept kinds.Ignored verb word parameter ends e = e
+answer_kept kinds.Subcommand verb word parameter ends e = site_kept parameter ends e
+answer_kept kind verb word parameter ends e =
+    ap (value_answer (taken kind verb word)) (value_of-made_parameter (before_end parameter))
+    ∙ value_answer_kept (taken kind verb word) parameter ends e
+
+-- The line that is made of a name.
+module _ (name : Bytes) (bare : AllByRecursion (λ b. is_separator b ≡ false) name) where
+  made_cut : (text : Bytes) → (verb_of (with_parameter name text ++ crlf) ≡ name)
+      × (parameter_of (with_parameter name text ++ crlf) ≡ made_parameter text)
+  made_cut [] = parted_cut name CR (LF ∷ []) bare refl
+  made_cut (b ∷ text) =
+      let joined = append_assoc name (SP ∷ b ∷ text) crlf in
+      let cut = parted_cut name SP (b ∷ text ++ crlf) bare refl in
+      (ap verb_of joined ∙ cut.0, ap parameter_of joined ∙ cut.1)
+
+bare_verb : (line : Bytes) → AllByRecursion (λ b. is_separator b ≡ false) (upper (verb_of line))
+bare_verb line = bare_name (upper (verb_of line)) (uppercased_name line)
+
+-- The verb and the parameter of a line that keeps it are those of the line.
+kept_cut : (line : Bytes) → (verb_of (kept_line line) ≡ upper (verb_of line))
+    × (before_end (parameter_of (kept_line line)) ≡ before_end (parameter_of line))
+kept_cut line =
+    let text : Bytes = before_end (parameter_of line) in
+    let cut = made_cut (upper (verb_of line)) (bare_verb line) text in (
+      cut.0,
+      ap before_end cut.1
+          ∙ before_end-made_parameter text (Lacks-before_end (parameter_of line)),
+    )
+
+pub verb_of-forwarded_line : (line : Bytes) (command : FtpCommand)
+    → keeps_parameter (upper (verb_of line)) ≡ true → verb_of (forwarded_line line command)
+    ≡ upper (verb_of line)
+verb_of-forwarded_line line command keeps = rw keeps (kept_cut line).0
+
+pub parameter_of-forwarded_line : (line : Bytes) (command : FtpCommand)
+    → keeps_parameter (upper (verb_of line)) ≡ true
+    → before_end (parameter_of (forwarded_line line command)) ≡ before_end (parameter_of line)
+parameter_of-forwarded_line line command keeps = rw keeps (kept_cut line).1
+
+module _ (line : Bytes) (command : FtpCommand) (is_line : IsLine line)
+    (means : outcome line ≡ Ok command) where
+  abbrev name : Bytes
+  name = upper (verb_of line)
+
+  abbrev text : Bytes
+  text = before_end (parameter_of line)
+
+  abbrev row : Option Verb
+  row = row_of name verbs
+
+  read : (is_utf8 (verb_of line) ≡ true) × (word_answer name row (parameter_of line) ≡ Ok command)
+  read = passed (is_utf8 (verb_of line)) (word_answer name row (parameter_of line)) InvalidUtf8
+      command means
+
+  kept_answer : outcome (kept_line line) ≡ word_answer name row (made_parameter text)
+  kept_answer =
+      let cut = made_cut name (bare_verb line) text in
+      rw (
+        cut.0,
+        cut.1,
+        is_utf8-from_IsUtf8 name (uppercased_utf8 line read.0),
+        upper-IsUpperCaseName name (uppercased_name line),
+      )
+
+  kept_back : outcome (kept_line line) ≡ Ok command
+  kept_back = kept_answer ∙ by_row row read.1
+    where
+      ends : EndsAtLf (parameter_of line)
+      ends = parameter_of-ends line (IsLine-ends line is_line)
+
+      by_row : (row : Option Verb) → word_answer name row (parameter_of line) ≡ Ok command
+          → word_answer name row (made_parameter text) ≡ Ok command
+      by_row None e = answer_kept kinds.OptionalText verb.Other name (parameter_of line) ends e
+      by_row (Some verb) e = answer_kept (kind verb) verb [] (parameter_of line) ends e
+
+  kept_lacks : (t : Bytes) → Lacks LF t → Lacks LF (with_parameter name t)
+  kept_lacks [] h = Lacks-name name (uppercased_name line)
+  kept_lacks (b ∷ t) h = Lacks-append LF name (SP ∷ b ∷ t) (Lacks-name name (uppercased_name line))
+      ((λ e. omega arith), h)
+
+  kept_is_line : IsLine (kept_line line)
+  kept_is_line = record {
+    body = with_parameter name text ++ CR ∷ [];
+    whole = sym (append_assoc (with_parameter name text) (CR ∷ []) (LF ∷ []));
+    one_end = Lacks-append LF (with_parameter name text) (CR ∷ [])
+        (kept_lacks text (Lacks-before_end (parameter_of line))) ((λ e. omega arith), tt);
+  }
+
+  by_verb : (P : Bytes → Type 0) → P (kept_line line) → P (canonical_line command)
+      → P (forwarded_line line command)
+  by_verb P kept canonical = by_test (keeps_parameter name)
+    where
+      by_test : (test : Bool) → P (cond test (kept_line line) (canonical_line command))
+      by_test true = kept
+      by_test false = canonical
+
+  has_line : HasLine command
+  has_line = HasLine-outcome line command is_line means
+
+  pub IsLine-forwarded_line : IsLine (forwarded_line line command)
+  IsLine-forwarded_line =
+      by_verb IsLine kept_is_line (IsLine-canonical_line command has_line)
+
+  pub outcome-forwarded_line : outcome (forwarded_line line command) ≡ Ok command
+  outcome-forwarded_line = by_verb (λ sent. outcome sent ≡ Ok command) kept_back
+      (outcome-canonical_line command has_line (HasTypedFields-outcome line command is_line means))

@@ -26,6 +26,7 @@ pub mod AnswerLemmas
 pub mod RuleLemmas
 pub mod CommandLineLemmas
 pub mod ForwardedLineLemmas
+pub mod KeptKindLemmas
 pub mod Computing
 pub mod LineEventLemmas
 pub mod TraceLemmas

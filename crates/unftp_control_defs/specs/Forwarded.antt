@@ -1,6 +1,6 @@
--- The line that a proxy sends to a server for a client's line (RFC 959, section 5.3). It is the
--- canonical line of the line's command; but a command holds nothing of a parameter that is ignored,
--- and of LIST only the path, so the lines of these verbs keep the bytes of their parameter.
+-- The line that a proxy sends to a server for a client's line (RFC 959, section 5.3). It has the
+-- bytes of the line's parameter: the command may hold less, as of a name that is not UTF-8. Only
+-- where the command holds all that the line says is it the canonical line.
 use Rattle.std.specs.Prelude.{ℕ, Bool, true, false, ◌==◌, ◌&&◌, ◌||◌, if◌then◌else◌, [], ◌∷◌, ◌++◌, Option, Some, None}
 use Rattle.unftp_control_defs.specs.Bytes.{Bytes, LF, CR, SP, crlf}
 use Rattle.unftp_control_defs.specs.Verbs.{verb_of, parameter_of, upper}
@@ -12,13 +12,13 @@ use Rattle.unftp_control_defs.specs.declared.verb.Verb.{Verb}
 use Rattle.unftp_control_defs.specs.Canonical.{canonical_line}
 
 abbrev pub kind_keeps : Kind → Bool
-kind_keeps kinds.Ignored = true
-kind_keeps kinds.Listing = true
-kind_keeps _ = false
+kind_keeps kinds.Alone = false
+kind_keeps kinds.Typed = false
+kind_keeps _ = true
 
--- The parameter of such a verb is forwarded as it came: it says more than the command.
+-- The parameter of such a verb is forwarded as it came; so is that of a verb without a row.
 abbrev pub keeps : Option Verb → Bool
-keeps None = false
+keeps None = true
 keeps (Some verb) = kind_keeps (kind verb)
 
 abbrev pub keeps_parameter : Bytes → Bool

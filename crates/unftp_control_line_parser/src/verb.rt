@@ -1,6 +1,6 @@
 //! Verbs of lines.
 ghost use Rattle.std.specs.Prelude.{◌≡◌, bytes_eq};
-ghost use Rattle.unftp_control_defs.specs.Forwarded.{keeps_parameter};
+ghost use Rattle.unftp_control_defs.specs.Forwarded.{keeps_parameter, kind_keeps};
 ghost use Rattle.unftp_control_defs.specs.Verbs.{upper};
 
 use unftp_control_defs::verb::{Kind, verb_named};
@@ -14,12 +14,19 @@ pub fn is_same_word(word: &[u8], other: &[u8]) -> bool
 }
 
 /// Whether a line of this verb, ignoring ASCII case, is forwarded with its own parameter, since its
-/// command holds nothing of that, or only a part (RFC 959, section 5.3). It takes no memory.
+/// command may hold less than that (RFC 959, section 5.3). It takes no memory.
 pub fn keeps_parameter(word: &[u8]) -> bool
     ensures { result ≡ keeps_parameter (upper word.now) }
 {
     match verb_named(word) {
-        Some(verb) => matches!(verb.kind(), Kind::Ignored | Kind::Listing),
-        None => false,
+        Some(verb) => kind_keeps(verb.kind()),
+        None => true,
     }
+}
+
+/// Whether a line of a verb of this kind is forwarded with its own parameter.
+pub fn kind_keeps(kind: Kind) -> bool
+    ensures { result ≡ kind_keeps kind }
+{
+    !matches!(kind, Kind::Alone | Kind::Typed)
 }

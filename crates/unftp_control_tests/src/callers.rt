@@ -43,8 +43,8 @@ fn lines_are_logged(rt: HostRuntime) {
 #[test]
 fn lines_are_forwarded(rt: HostRuntime) {
     let mut out = Vec::new(rt.alloc());
-    assert!(rt; forward_line(rt.alloc(), b"list -la -- -x\n", &mut out).is_none());
-    let refused = forward_line(rt.alloc(), b"RETR\r\n", &mut out);
+    assert!(rt; forward_line(b"list -la -- -x\n", &mut out).is_none());
+    let refused = forward_line(b"RETR\r\n", &mut out);
     assert!(rt; refused == Some("500 Not understood\r\n"));
     assert_held(&rt, out, b"LIST -la -- -x\r\n");
 }

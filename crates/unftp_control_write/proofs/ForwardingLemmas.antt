@@ -1,23 +1,26 @@
 -- What is left of a line without its end, and what is forwarded for it.
-use Rattle.std.proofs.Common.{◌≡◌, ◌-◌, ◌+◌, true, false, cond, [], ◌∷◌, ◌++◌, length, take, drop, Option, Some, None, Ok, Err, refl, sym, ap, subst, ◌∙◌, eq-eqb, eqb-true, Bor, append_assoc, unwrap_or}
-use Rattle.std.specs.Prelude.{IsOk, MatchOption, nat_eq}
+use Rattle.std.proofs.Common.{◌≡◌, ◌-◌, ◌+◌, ℕ, Bool, true, false, [], ◌∷◌, ◌++◌, length, take, drop, Option, Some, None, Ok, Err, refl, sym, ap, subst, ◌∙◌, eq-eqb, eqb-true, Bor, append_assoc, unwrap_or}
+use Rattle.std.specs.Prelude.{MatchOption, nat_eq}
 use Rattle.std.specs.Cmp.Lexicographic.{pointwise}
+use Rattle.std.specs.Global.{Vec}
+use Rattle.std.proofs.lemmas.Bool.{false≢true}
 use Rattle.std.proofs.lemmas.List.{append_cancel_right}
 use Rattle.std.proofs.lemmas.Slice.Eq.{strip_suffix_is}
 use Rattle.unftp_control_defs.specs.Bytes.{Bytes, LF, CR, crlf, Lacks}
 use Rattle.unftp_control_defs.specs.Lines.{IsLine}
 use Rattle.unftp_control_defs.specs.Verbs.{verb_of, parameter_of, upper}
-use Rattle.unftp_control_defs.specs.FtpCommand.{FtpCommand, Answer, InvalidCommand, InvalidUtf8, InvalidEol}
+use Rattle.unftp_control_defs.specs.FtpCommand.{FtpCommand, Answer, List as Listing, TypeCode, Allo, Md5, Site, Other, Said, kind, said, word}
+use Rattle.unftp_control_defs.specs.Said.{IsSaid, Tells, value_bytes}
 use Rattle.unftp_control_defs.specs.Outcome.{outcome}
-use Rattle.unftp_control_defs.specs.Canonical.{canonical_line}
-use Rattle.unftp_control_defs.specs.Forwarded.{before_end, keeps_parameter, with_parameter}
+use Rattle.unftp_control_defs.specs.Canonical.{canonical_body, with_optional}
+use Rattle.unftp_control_defs.specs.Forwarded.{before_end, forwarded_line, keeps_parameter, kind_keeps, with_parameter}
 use Rattle.unftp_control_defs.proofs.LineEndLemmas.{IsLine-ends}
 use Rattle.unftp_control_defs.proofs.ForwardedLineLemmas.{before_end-crlf, before_end-lf, cut-before_end, IsLine-forwarded_line, outcome-forwarded_line}
-use Rattle.unftp_control_message.specs.declared.reply.error.parse_error.ParseErrorKind.{ParseErrorKind}
-use Rattle.unftp_control_message.specs.declared.reply.error.parse_error.ParseErrorKind.TheVariants as kind
-use Rattle.unftp_control_line_parser.specs.Memory.{AnswerMayTakeMemory, IfOutOfMemory, MayTakeMemory}
-use Rattle.unftp_control_line_parser.specs.ParseAnswer.{Refuses}
-use Rattle.unftp_control_write.specs.Forwarding.{IsForwarded, IsForwardError, forward_error}
+use Rattle.unftp_control_defs.proofs.KeptKindLemmas.{keeps_parameter-command}
+use Rattle.unftp_control_message.specs.PartsMeaning.{given, said_of}
+use Rattle.unftp_control_message.specs.declared.parts.Parts.{Parts}
+use Rattle.unftp_control_write.specs.Forwarding.{IsForwarded, LacksRoomFor, sent_line}
+use Rattle.unftp_control_write.specs.Room.{LacksRoom}
 
 -- what `strip_suffix` returns
 abbrev pub Strips : Bytes → Bytes → Option (Bor Bytes) → Type 0
@@ -63,38 +66,73 @@ module _ (line : Bytes) (body : Bor Bytes) (strips : Strips line (LF ∷ []) (So
       ∙ before_end-crlf text.now []
       (Lacks-front text.now (CR ∷ []) (subst (Lacks LF) cut lacks)))
 
--- what was appended is the line that is forwarded
-pub forwarded : {line text verb parameter before after : Bytes} {command : FtpCommand} → IsLine line
-    → text ≡ before_end line → outcome line ≡ Ok command
-    → verb ≡ verb_of text → parameter ≡ parameter_of text
-    → after ≡ before ++ cond (keeps_parameter (upper verb))
-    (with_parameter (upper verb) parameter ++ crlf) (canonical_line command)
-    → IsForwarded line before after
-forwarded {line} {verb} {parameter} {before} {command} is_line text_is means verb_is parameter_is
-    after_is =
-    let cut = cut-before_end line (IsLine-ends line is_line) in
-    let same_verb : verb ≡ verb_of line = verb_is ∙ ap verb_of text_is ∙ cut.0 in
-    let same_parameter : parameter ≡ before_end (parameter_of line) = parameter_is
-    ∙ ap parameter_of text_is ∙ cut.1 in
-    record {
-      command = command;
-      means = means;
-      appended = after_is
-          ∙ (λ i. before ++ cond (keeps_parameter (upper (same_verb i)))
-          (with_parameter (upper (same_verb i)) (same_parameter i) ++ crlf)
-          (canonical_line command));
-      is_line = IsLine-forwarded_line line command is_line means;
-      read_back = outcome-forwarded_line line command is_line means;
+-- where a verb takes no value, or one of a type of its own, the line is its word and its value
+typed_body : (command : FtpCommand) → kind_keeps (kind (said command).verb) ≡ false
+    → canonical_body command
+    ≡ with_optional (word (said command).verb) (value_bytes (said command).value)
+typed_body TypeCode canonical = absurd (false≢true (sym canonical))
+typed_body Allo canonical = absurd (false≢true (sym canonical))
+typed_body (Listing options path) canonical = absurd (false≢true (sym canonical))
+typed_body (Md5 file) canonical = absurd (false≢true (sym canonical))
+typed_body (Site name arguments) canonical = absurd (false≢true (sym canonical))
+typed_body (Other name arguments) canonical = absurd (false≢true (sym canonical))
+typed_body command canonical = refl
+
+-- the command that is told of
+told : (answer : Answer) (parts : Said) → Tells answer parts
+    → (command : FtpCommand) × (answer ≡ Ok command) × (said command ≡ parts)
+told (Ok command) parts tells = (command, refl, tells)
+told (Err refusal) parts tells = absurd tells
+
+-- What is appended for the parts of a line is the line that is forwarded.
+module _ (line text : Bytes) (parts : Parts) (read : IsSaid (outcome line) (said_of parts)) where
+  command : (command : FtpCommand) × (outcome line ≡ Ok command) × (said command ≡ said_of parts)
+  command = told (outcome line) (said_of parts) read.1
+
+  verb_said : (said command.0).verb ≡ parts.verb
+  verb_said = ap (λ parts. parts.verb) command.2
+
+  value_said : (said command.0).value ≡ given parts.value
+  value_said = ap (λ parts. parts.value) command.2
+
+  module _ (is_line : IsLine line) (text_is : text ≡ before_end line) where
+    same_line : sent_line text parts.verb parts.value ≡ forwarded_line line command.0
+    same_line = by_test (kind_keeps (kind parts.verb)) refl
+      where
+        verb_is : verb_of text ≡ verb_of line
+        verb_is = ap verb_of text_is ∙ (cut-before_end line (IsLine-ends line is_line)).0
+
+        parameter_is : parameter_of text ≡ before_end (parameter_of line)
+        parameter_is =
+            ap parameter_of text_is ∙ (cut-before_end line (IsLine-ends line is_line)).1
+
+        same : keeps_parameter (upper (verb_of line)) ≡ kind_keeps (kind parts.verb)
+        same = sym (keeps_parameter-command line command.0 command.1)
+            ∙ ap (λ verb. kind_keeps (kind verb)) verb_said
+
+        by_test : (test : Bool) → kind_keeps (kind parts.verb) ≡ test
+            → sent_line text parts.verb parts.value ≡ forwarded_line line command.0
+        by_test true e =
+            rw (same, e) (λ i. with_parameter (upper (verb_is i)) (parameter_is i) ++ crlf)
+        by_test false e =
+            rw (same, e) (sym ((λ i. typed_body command.0
+            (ap (λ verb. kind_keeps (kind verb)) verb_said ∙ e) i ++ crlf)
+            ∙ (λ i. with_optional (word (verb_said i)) (value_bytes (value_said i)) ++ crlf)))
+
+    pub forwarded : (before after : Bytes)
+        → after ≡ before ++ sent_line text parts.verb parts.value → IsForwarded line before after
+    forwarded before after after_is = record {
+      command = command.0;
+      means = command.1;
+      appended = after_is ∙ ap (λ sent. before ++ sent) same_line;
+      is_line = IsLine-forwarded_line line command.0 is_line command.1;
+      read_back = outcome-forwarded_line line command.0 is_line command.1;
     }
 
--- why a line is not forwarded where the parser refuses it
-has_command : (answer : Answer) → AnswerMayTakeMemory answer → IsOk answer
-has_command (Ok command) may = refl
-has_command (Err refusal) may = absurd may
-
-pub not_forwarded : (line : Bytes) (error : ParseErrorKind) → Refuses (outcome line) error
-    → IfOutOfMemory error (MayTakeMemory line) → IsForwardError line (forward_error error)
-not_forwarded line kind.InvalidCommand refuses may = (InvalidCommand, refl, refuses)
-not_forwarded line kind.InvalidUtf8 refuses may = (InvalidUtf8, refl, refuses)
-not_forwarded line kind.InvalidEol refuses may = (InvalidEol, refl, refuses)
-not_forwarded line kind.OutOfMemory refuses may = has_command (outcome line) may
+    pub lacks_room : (buf : Vec ℕ) → LacksRoom buf (sent_line text parts.verb parts.value)
+        → LacksRoomFor line buf
+    lacks_room buf lacks = record {
+      command = command.0;
+      means = command.1;
+      room = subst (LacksRoom buf) same_line lacks;
+    }

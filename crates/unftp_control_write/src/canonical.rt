@@ -21,19 +21,19 @@ pub(crate) fn line_of<'a>(command: &'a Command, digits: &'a mut Buffer) -> Optio
 {
     let (name, value) = command.name_and_value(digits);
     match command {
-        Command::TypeCode => line(name, None, Some(b"I")),
-        Command::Allo {} => line(name, None, Some(b"0")),
+        Command::TypeCode => line(name.as_bytes(), None, Some(b"I")),
+        Command::Allo {} => line(name.as_bytes(), None, Some(b"0")),
         Command::List { options, path } => list_line(options, path),
-        Command::Md5 { .. } => line("SITE", Some(name), value),
+        Command::Md5 { .. } => line(b"SITE", Some(name.as_bytes()), value),
         Command::Site { .. } => site_line(name, value),
         Command::Other { .. } => other_line(name, value),
-        _ => line(name, None, value),
+        _ => line(name.as_bytes(), None, value),
     }
 }
 
 /// The line with this verb, a word and a value, where it has them; none where the value is empty or
 /// has a line feed.
-fn line<'a>(verb: &'a str, word: Option<&'a str>, value: Option<&'a [u8]>) -> Option<Line<'a>>
+fn line<'a>(verb: &'a [u8], word: Option<&'a [u8]>, value: Option<&'a [u8]>) -> Option<Line<'a>>
     ensures { ReturnsLine (IsOptionalText (option_map (λ value. value.now) value.entry))
         (line_body verb.now (option_map (λ word. word.now) word.entry)
         (option_map (λ value. value.now) value.entry)) result }
@@ -55,14 +55,14 @@ fn list_line<'a>(options: &'a Option<String>, path: &'a Option<String>) -> Optio
         return None;
     }
     let Some(path) = path else {
-        return line("LIST", None, None);
+        return line(b"LIST", None, None);
     };
     let mark = if path.as_str().starts_with('-') {
-        Some("--")
+        Some(b"--".as_slice())
     } else {
         None
     };
-    line("LIST", mark, Some(path.as_bytes()))
+    line(b"LIST", mark, Some(path.as_bytes()))
 }
 
 /// SITE with a name and its arguments; only SITE where there is neither.
@@ -76,9 +76,9 @@ fn site_line<'a>(name: &'a str, arguments: Option<&'a [u8]>) -> Option<Line<'a>>
         return None;
     }
     if name.is_empty() && arguments.is_none() {
-        return line("SITE", None, None);
+        return line(b"SITE", None, None);
     }
-    line("SITE", Some(name), arguments)
+    line(b"SITE", Some(name.as_bytes()), arguments)
 }
 
 /// A verb with no rule of its own, and its arguments.
@@ -91,7 +91,7 @@ fn other_line<'a>(name: &'a str, arguments: Option<&'a [u8]>) -> Option<Line<'a>
     if !is_upper_case_name(name) || is_verb(name.as_bytes()) {
         return None;
     }
-    line(name, None, arguments)
+    line(name.as_bytes(), None, arguments)
 }
 
 /// Whether the text is not empty and has no line feed.

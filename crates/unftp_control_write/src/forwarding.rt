@@ -1,21 +1,20 @@
 //! The line that a proxy sends to a server for a client's line.
-ghost use Rattle.std.specs.Prelude.{◌≡◌, ◌↔◌, ◌++◌, if◌then◌else◌, Err, IfErr, IsTrue, MatchOption, OnErr, OnOk, take, vec_len};
-ghost use Rattle.unftp_control_message.specs.CommandMeaning.{command_of};
+ghost use Rattle.std.specs.Prelude.{◌≡◌, ◌↔◌, ◌++◌, false, Err, IfErr, IsTrue, MatchOption, OnErr, OnOk, option_map, take, vec_len};
+ghost use Rattle.unftp_control_message.specs.PartsMeaning.{IsInPlace};
 ghost use Rattle.unftp_control_defs.specs.Bytes.{LF, Lacks, crlf};
-ghost use Rattle.unftp_control_defs.specs.Canonical.{canonical_line};
-ghost use Rattle.unftp_control_defs.specs.Forwarded.{before_end, keeps_parameter, with_parameter};
+ghost use Rattle.unftp_control_defs.specs.Forwarded.{before_end, kind_keeps, with_parameter};
+ghost use Rattle.unftp_control_defs.specs.FtpCommand.{kind, unless_empty};
 ghost use Rattle.unftp_control_defs.specs.Lines.{IsLine};
 ghost use Rattle.unftp_control_defs.specs.Verbs.{upper};
-ghost use Rattle.unftp_control_write.specs.Forwarding.{IsForwardError, IsForwarded, forward_error};
+ghost use Rattle.unftp_control_write.specs.Forwarding.{IsForwardError, IsForwarded, LacksRoomFor, sent_line};
+ghost use Rattle.unftp_control_write.specs.Room.{LacksRoom};
 
-use crate::write_command;
-use std::alloc::{AllocError, Global};
+use crate::line::Line;
+use itoa::Buffer;
+use std::alloc::AllocError;
 use thiserror::Error;
-use unftp_control_line_parser::{ParseError, ParseErrorKind, keeps_parameter, parse, split};
-use unftp_control_message::Command;
-
-/// More bytes than a line has beside its verb and its parameter: a space, and CR LF.
-const ROOM_BESIDE_PARAMETER: usize = 3;
+use unftp_control_line_parser::{ParseError, kind_keeps, parts, split};
+use unftp_control_message::parts::Parts;
 
 /// Why no line is forwarded.
 #[derive(Debug, Drop, Error)]
@@ -26,46 +25,46 @@ pub enum ForwardError {
     /// The line is no command, for this reason.
     #[error("{0}")]
     Refused(ParseError),
-    /// An allocation failed.
+    /// The buffer has to grow, and can't.
     #[error("out of memory")]
     OutOfMemory,
 }
 
 /// Forwards a client's line: appends to `buf` the line that a server is sent for it, and changes no
-/// earlier byte. A line of SYST, TYPE, HELP, EPSV, ALLO or LIST is its verb in upper case and the
-/// bytes of its parameter as they came, also a bare carriage return, up to the line's end, which
-/// becomes CR LF: a command holds none of that parameter, and of LIST not the options. Any other
-/// line is the canonical line of its command, as `write_command` writes it (RFC 959, section 5.3).
-/// What is sent has one line feed, its last byte, and means the same. That of PASS has the
-/// password's bytes.
+/// earlier byte. It is the verb in upper case, a space and the parameter's bytes as they came, up to
+/// the line's end, which becomes CR LF: also bytes that are not UTF-8, and a bare carriage return.
+/// For a verb that takes no value, or one of a type of its own, as a number, it is the canonical
+/// line of the command, as `write_command` writes it: that says all that the line says (RFC 959,
+/// section 5.3). What is sent has one line feed, its last byte, and means the same. That of PASS
+/// has the password's bytes.
 ///
 /// Bytes without a line feed at their end, or with another before it, are refused with `NotALine`,
 /// so that no second line is sent with the first. A line that `parse` refuses is refused with
-/// `Refused` and the parser's error. It returns `OutOfMemory` where reading the line takes memory,
-/// or `buf` has to grow, which it does once at most, and can't; never for a line that is refused.
+/// `Refused` and the parser's error. It takes no memory but what `buf` needs: `OutOfMemory` is
+/// returned only where `buf` has no room for the line and can't grow, which it does once at most.
 /// At each error `buf` is as it was.
-pub fn forward(alloc: Global, line: &[u8], buf: &mut Vec<u8>) -> Result<(), ForwardError>
+pub fn forward(line: &[u8], buf: &mut Vec<u8>) -> Result<(), ForwardError>
     ensures ok { OnOk result (IsForwarded line.now buf.old.items buf.new.items) }
     ensures err { OnErr result (buf.new.items ≡ buf.old.items) }
     ensures why { IfErr result (λ error. IsForwardError line.now error) }
+    ensures memory { result ≡ Err ForwardError.OutOfMemory → LacksRoomFor line.now buf.old }
     ensures not_a_line { ¬ IsLine line.now → result ≡ Err ForwardError.NotALine }
 {
     let Some(text) = without_end(line) else {
         return Err(ForwardError::NotALine);
     };
-    let command = match parse(alloc, line) {
-        Ok(command) => command,
-        Err(refused) => return Err(forward_error(refused)),
+    let parts = match parts(line) {
+        Ok(parts) => parts,
+        Err(refusal) => return Err(ForwardError::Refused(ParseError::from(refusal))),
     };
-    let (verb, parameter) = split(text);
     let length = buf.len();
-    let is_appended = append_line(verb, parameter, &command, buf);
-    drop(command);
-    if !is_appended {
-        buf.truncate(length);
-        return Err(ForwardError::OutOfMemory);
+    match append_line(text, parts, buf) {
+        Ok(()) => Ok(()),
+        Err(_) => {
+            buf.truncate(length);
+            Err(ForwardError::OutOfMemory)
+        }
     }
-    Ok(())
 }
 
 /// The line without its end, a line feed and a carriage return before it; none where the bytes are
@@ -95,61 +94,61 @@ fn lacks_line_feed(text: &[u8]) -> bool
     !text.contains(&b'\n')
 }
 
-/// Why a line is not forwarded where the parser returns this error.
-fn forward_error(error: ParseError) -> ForwardError
-    ensures { result ≡ forward_error error }
-{
-    if *error.kind() == ParseErrorKind::OutOfMemory {
-        ForwardError::OutOfMemory
-    } else {
-        ForwardError::Refused(error)
-    }
-}
-
-/// Appends the line with this verb and parameter, or the command's, and reports whether it did;
+/// Appends the line that is forwarded for a text, a line without its end, that is these parts; or
 /// perhaps a part of it when out of memory.
-fn append_line(verb: &[u8], parameter: &[u8], command: &Command, buf: &mut Vec<u8>) -> bool
-    ensures ok { IsTrue result → buf.new.items ≡ buf.old.items
-        ++ (if keeps_parameter (upper verb.now)
-        then with_parameter (upper verb.now) parameter.now ++ crlf
-        else canonical_line (command_of command.now)) }
+fn append_line(text: &[u8], parts: Parts<'_>, buf: &mut Vec<u8>) -> Result<(), AllocError>
+    requires { kind_keeps (kind parts.verb) ≡ false → IsInPlace parts.value }
+    ensures ok { OnOk result (buf.new.items
+        ≡ buf.old.items ++ sent_line text.now parts.entry.verb parts.entry.value) }
     ensures kept { take (vec_len buf.old) buf.new.items ≡ buf.old.items }
+    ensures memory { OnErr result
+        (LacksRoom buf.old (sent_line text.now parts.entry.verb parts.entry.value)) }
 {
-    if keeps_parameter(verb) {
-        append_kept_line(verb, parameter, buf).is_ok()
-    } else {
-        write_command(command, buf).is_ok()
+    if kind_keeps(parts.verb.kind()) {
+        let (verb, parameter) = split(text);
+        return append_kept_line(verb, parameter, buf);
     }
+    let mut digits = Buffer::new();
+    let line = Line {
+        verb: parts.verb.word().as_bytes(),
+        word: None,
+        value: parts.value.bytes(&mut digits),
+    };
+    line.append(buf)
 }
 
-/// Appends the verb in upper case, the parameter after a space, if there is one, and CR LF; perhaps
-/// a part of them when out of memory. The buffer grows once at most.
-fn append_kept_line(verb: &[u8], parameter: &[u8], buf: &mut Vec<u8>) -> Result<(), AllocError>
+/// Appends the verb in upper case, the parameter after a space, if there is one, and CR LF; or
+/// perhaps a part of them when out of memory.
+fn append_kept_line<'a>(
+    verb: &'a [u8],
+    parameter: &'a [u8],
+    buf: &mut Vec<u8>,
+) -> Result<(), AllocError>
     ensures ok { OnOk result (buf.new.items ≡ buf.old.items
         ++ (with_parameter (upper verb.now) parameter.now ++ crlf)) }
     ensures kept { take (vec_len buf.old) buf.new.items ≡ buf.old.items }
-{
-    buf.reserve(
-        ROOM_BESIDE_PARAMETER
-            .saturating_add(verb.len())
-            .saturating_add(parameter.len()),
-    )?;
-    append_upper_cased(verb, buf)?;
-    if !parameter.is_empty() {
-        buf.push(b' ')?;
-        buf.extend_from_slice(parameter)?;
-    }
-    buf.extend_from_slice(b"\r\n")
-}
-
-/// Appends the verb in upper case, or nothing when out of memory.
-fn append_upper_cased(verb: &[u8], buf: &mut Vec<u8>) -> Result<(), AllocError>
-    ensures ok { OnOk result (buf.new.items ≡ buf.old.items ++ upper verb.now) }
-    ensures err { OnErr result (buf.new.items ≡ buf.old.items) }
+    ensures memory { OnErr result
+        (LacksRoom buf.old (with_parameter (upper verb.now) parameter.now ++ crlf)) }
 {
     let length = buf.len();
-    buf.extend_from_slice(verb)?;
+    let line = Line {
+        verb,
+        word: unless_empty(parameter),
+        value: None,
+    };
+    line.append(buf)?;
     let (_, appended) = buf.split_at_mut(length);
-    appended.make_ascii_uppercase();
+    let (verb, _) = appended.split_at_mut(verb.len());
+    verb.make_ascii_uppercase();
     Ok(())
+}
+
+/// The bytes, or none where there are none.
+fn unless_empty(bytes: &[u8]) -> Option<&[u8]>
+    ensures { option_map (λ bytes. bytes.now) result ≡ unless_empty bytes.now }
+{
+    if bytes.is_empty() {
+        return None;
+    }
+    Some(bytes)
 }

@@ -14,9 +14,10 @@ const LINE_END: usize = 2;
 #[derive(Drop)]
 pub(crate) struct Line<'a> {
     /// The verb.
-    pub(crate) verb: &'a str,
-    /// A subcommand of SITE, or the mark before a path of LIST, where there is one.
-    pub(crate) word: Option<&'a str>,
+    pub(crate) verb: &'a [u8],
+    /// A subcommand of SITE, the mark before a path of LIST, or a parameter as it is written, where
+    /// there is one.
+    pub(crate) word: Option<&'a [u8]>,
     /// The value, where there is one; each CR of it is written as CR NUL.
     pub(crate) value: Option<&'a [u8]>,
 }
@@ -30,7 +31,7 @@ impl<'a> Line<'a> {
         ensures memory { OnErr result (LacksRoom buf.old (body_of self.now ++ crlf)) }
     {
         buf.reserve(self.room())?;
-        buf.extend_from_slice(self.verb.as_bytes())?;
+        buf.extend_from_slice(self.verb)?;
         self.append_word(buf)?;
         self.append_value(buf)?;
         buf.extend_from_slice(b"\r\n")
@@ -49,7 +50,7 @@ impl<'a> Line<'a> {
             return Ok(());
         };
         buf.push(b' ')?;
-        buf.extend_from_slice(word.as_bytes())
+        buf.extend_from_slice(word)
     }
 
     /// Appends a space and the value, if there is one.

@@ -160,7 +160,7 @@ pub fn answer_canonical(line: &[u8], answers: &mut Answers) -> Answered {
 pub fn answer_forward(line: &[u8], answers: &mut Answers) -> Answered {
     let mut buf = Vec::from_slice(answers.alloc, b"x")?;
     answers.begin();
-    let forwarded = once_more!(answers, forward(answers.alloc, line, &mut buf));
+    let forwarded = once_more!(answers, forward(line, &mut buf));
     match (&forwarded, buf.as_slice()) {
         (Ok(()), buf) => answers.put_appended(None, buf),
         (Err(ForwardError::Refused(error)), [b'x']) => put_refused(error, answers),

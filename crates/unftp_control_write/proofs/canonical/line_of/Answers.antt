@@ -1,3 +1,4 @@
+use Rattle.std.proofs.Common.{◌∙◌}
 use Rattle.unftp_control_write.proofs.LineLemmas.{plain_line}
 use Rattle.unftp_control_write.proofs.canonical.line_of.Goals as goal
 
@@ -12,5 +13,7 @@ returns-in_default-clause-line c =
       no_site = c.in_default.not-Site;
       no_other = c.in_default.not-Other;
     })
-    c.name_and_value.ensures.typed c.name_and_value.ensures.name c.name_and_value.ensures.value
+    c.name_and_value.ensures.typed
+    (c.as_bytes-in_default.ensures.value ∙ c.name_and_value.ensures.name)
+    c.name_and_value.ensures.value
     c.line-in_default.ensures

@@ -1,15 +1,13 @@
-use Rattle.std.proofs.Common.{sym, subst}
-use Rattle.unftp_control_write.specs.Forwarding.{IsForwardError}
-use Rattle.unftp_control_write.proofs.ForwardingLemmas.{forwarded, not_forwarded}
+use Rattle.unftp_control_write.proofs.ForwardingLemmas.{forwarded, lacks_room}
 use Rattle.unftp_control_write.proofs.forwarding.forward.Goals as goal
 
-pub returns-clause-ok : goal.returns-clause-ok
-returns-clause-ok c =
-    forwarded c.in-Some.ensures.0 c.in-Some.ensures.1 c.in-Ok.ensures.answer c.split.ensures.verb
-    c.split.ensures.parameter (c.append_line-is_appended.ensures.ok c.if-not-is_appended.false)
+pub returns-in-Ok-append_line-clause-ok : goal.returns-in-Ok-append_line-clause-ok
+returns-in-Ok-append_line-clause-ok c =
+    forwarded c.args.line.now c.in-Some.text.now c.in-Ok.parts c.in-Ok.ensures.0
+    c.in-Some.ensures.0 c.in-Some.ensures.1 c.args.buf.now.items _
+    c.in-Ok-append_line.ensures.ok
 
-pub returns-in-Err-clause-why : goal.returns-in-Err-clause-why
-returns-in-Err-clause-why c =
-    subst (IsForwardError c.args.line.now) (sym c.forward_error.ensures)
-    (not_forwarded c.args.line.now c.in-Err.refused c.in-Err.ensures.answer
-    c.in-Err.ensures.memory)
+pub returns-in-Err-append_line-clause-memory : goal.returns-in-Err-append_line-clause-memory
+returns-in-Err-append_line-clause-memory c = λ _.
+    lacks_room c.args.line.now c.in-Some.text.now c.in-Ok.parts c.in-Ok.ensures.0
+    c.in-Some.ensures.0 c.in-Some.ensures.1 c.args.buf.now c.in-Err-append_line.ensures.memory
