@@ -6,8 +6,8 @@ use Rattle.std.proofs.Math.Seq.{take-add}
 use Rattle.unftp_control_defs.specs.Bytes.{Bytes, NUL, LF, CR}
 use Rattle.unftp_control_defs.specs.ComputedValue.{Fresh, Plain, byte_then, later_value}
 use Rattle.unftp_control_message.specs.SentValues.{begins_with_cr_nul, unescaped}
-use Rattle.unftp_control_message.proofs.SentLemmas.{cr_nul_front, unescaped_front, unescaped_lacking}
-use Rattle.unftp_control_line_parser.specs.Values.{stops, begins_with_line_end, IsFirstLen, IsLaterLen, IsRunEnd, Resumes}
+use Rattle.unftp_control_message.proofs.SentLemmas.{cr_nul_front, lacks_before, unescaped_front, unescaped_lacking}
+use Rattle.unftp_control_line_parser.specs.Values.{stops, begins_with_line_end, IsFirstLen, IsLaterLen, IsPlainEnd, IsRunEnd, NoStop, Resumes}
 
 option_nil : (o : Option Bytes) → o ≡ option_map (λ w. [] ++ w) o
 option_nil None = refl
@@ -18,8 +18,7 @@ option_joined : (v w : Bytes) (o : Option Bytes)
 option_joined v w None = refl
 option_joined v w (Some x) = ap Some (sym (append_assoc v w x))
 
-pub skip : (bytes : Bytes) (n : ℕ) → n ≤ length bytes
-    → ((k : ℕ) → 0 ≤ k → k < n → ¬ (stops (get_or bytes k 0) ≡ true))
+skip : (bytes : Bytes) (n : ℕ) → n ≤ length bytes → NoStop bytes 0 n
     → later_value Plain bytes ≡ option_map (λ w. take n bytes ++ w)
     (later_value Plain (drop n bytes))
 skip bytes zero h none = option_nil (later_value Plain bytes)
@@ -30,6 +29,16 @@ skip (b ∷ bytes) (suc n) h none =
     let more = skip bytes n (omega arith) (λ k _ lt. none (suc k) (omega arith) (omega arith)) in
     rw (on.0, on.1) (ap (byte_then b) more
     ∙ option_joined (b ∷ []) (take n bytes) (later_value Plain (drop n bytes)))
+
+-- a run that ends at the first byte that stops one
+pub run_end : (bytes : Bytes) (n : ℕ) → n ≤ length bytes → NoStop bytes 0 n
+    → (n < length bytes → stops (get_or bytes n 0) ≡ true) → IsPlainEnd bytes n
+run_end bytes n within none stop = record {
+  within = within;
+  goes_on = skip bytes n within none;
+  stop = stop;
+  no_return = lacks_before stops refl bytes n within none;
+}
 
 -- at the end of the bytes, or at one that stops a run
 abbrev Ends : Bytes → Type 0
