@@ -1,6 +1,6 @@
 use Rattle.std.proofs.Common.{◌-◌, ◌+◌, ◌≤◌}
 use Rattle.unftp_control_line_parser.specs.Values.{NoStop}
-use Rattle.unftp_control_line_parser.proofs.value.many_are_plain.Given as goal
+use Rattle.unftp_control_line_parser.proofs.plain.many_are_plain.Given as goal
 
 abbrev pub invariant-loop-at : goal.invariant-loop-at
 invariant-loop-at l = record {
