@@ -42,4 +42,5 @@ no_separator_found bytes n room few none k lt =
     let within : 0 + n ≤ length bytes = omega (arith, room) in
     let none_at_most = none_from_empty_mask (λ b. leb b 32) bytes 0 n 0 within
     (sym (bitmask_splat w8 leb (chunk 0 n bytes) n 32 (length-chunk 0 n bytes within) few) ∙ none) in
-    no_separator (get_or bytes k 0) (leb-false (get_or bytes k 0) 32 (none_at_most k (omega arith) (omega (arith, lt))))
+    let above = none_at_most k (omega arith) (omega (arith, lt)) in
+    no_separator (get_or bytes k 0) (leb-false (get_or bytes k 0) 32 above)
