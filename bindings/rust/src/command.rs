@@ -291,6 +291,7 @@ macro_rules! debug {
 
 impl Command<'_> {
     /// The same command, whose texts and bytes are copied where they are borrowed.
+    #[inline]
     pub fn into_owned(self) -> Command<'static> {
         for_each_command!(owned!(self))
     }
@@ -394,6 +395,8 @@ macro_rules! of_line {
 
 impl<'a> Command<'a> {
     /// The command that `unftp_next` gives by a number, a name and a value.
+    // inlined, it is not moved before it is owned
+    #[inline]
     pub(crate) fn of_line(number: u32, name: &'a [u8], value: &'a [u8]) -> Command<'a> {
         for_each_command!(of_line!(number, name, value))
     }

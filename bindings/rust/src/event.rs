@@ -14,6 +14,7 @@ pub enum Event<'a> {
 
 impl Event<'_> {
     /// The same event, whose texts and bytes are copied where they are borrowed.
+    #[inline]
     pub fn into_owned(self) -> Event<'static> {
         match self {
             Event::Command(command) => Event::Command(command.into_owned()),

@@ -8,7 +8,7 @@ use unftp_control_defs::count::Count;
 const LINE_FEED: u8 = b'\n';
 
 /// How many bytes are scanned in a row: the compiler unrolls a loop over so many.
-const GROUP: usize = 4;
+const GROUP: usize = 8;
 
 /// How many bytes were scanned, a number that only contracts see.
 #[derive(Drop)]

@@ -1,5 +1,5 @@
 //! The verbs: their words, and what each takes as its parameter.
-ghost use Rattle.std.specs.Prelude.{◌≡◌, ◌↔◌, IsSome, IsTrue};
+ghost use Rattle.std.specs.Prelude.{◌≡◌, ◌↔◌, IsSome, IsTrue, false};
 ghost use Rattle.unftp_control_defs.specs.FtpCommand.{kind, number, verbs, word};
 ghost use Rattle.unftp_control_defs.specs.Rules.{row_of};
 ghost use Rattle.unftp_control_defs.specs.Verbs.{upper};
@@ -279,6 +279,14 @@ fn upper_cased(word: [u8; 4]) -> [u8; 4]
     ]
 }
 
+/// Whether a byte may be a letter in lower case. If none is, the word is in upper case.
+fn may_have_lower_case(word: [u8; 4]) -> bool
+    ensures { result ≡ false → upper word ≡ word }
+{
+    let [a, b, c, d] = word;
+    a >= b'a' || b >= b'a' || c >= b'a' || d >= b'a'
+}
+
 /// The verb that a word is, ignoring ASCII case.
 #[inline]
 #[tactic(auto, using(crate::proofs::WordLemmas::words))]
@@ -289,7 +297,8 @@ pub fn verb_named(word: &[u8]) -> Option<Verb>
     // clients send verbs in upper case
     match verb_of(&word) {
         Some(verb) => Some(verb),
-        None => verb_of(&upper_cased(word)),
+        None if may_have_lower_case(word) => verb_of(&upper_cased(word)),
+        None => None,
     }
 }
 

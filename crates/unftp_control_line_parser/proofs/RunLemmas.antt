@@ -1,13 +1,14 @@
 -- Runs of bytes that are written as they are, and what comes after them.
-use Rattle.std.proofs.Common.{◌≡◌, ℕ, zero, suc, ◌+◌, ◌<◌, ◌≤◌, true, false, ◌==◌, if◌then◌else◌, [], ◌∷◌, ◌++◌, length, take, drop, get_or, Option, Some, None, option_map, refl, sym, ap, subst, ◌∙◌, ⊎_elim, append_assoc, append-nil, length-drop, get_or-drop, arith, eqb-true}
+use Rattle.std.proofs.Common.{Bool, not, ◌≡◌, ℕ, zero, suc, ◌+◌, ◌<◌, ◌≤◌, true, false, ◌==◌, if◌then◌else◌, [], ◌∷◌, ◌++◌, length, take, drop, get_or, Option, Some, None, option_map, refl, sym, ap, subst, ◌∙◌, ⊎_elim, append_assoc, append-nil, length-drop, get_or-drop, arith, eqb-true}
 use Rattle.std.proofs.lemmas.List.{drop-drop}
 use Rattle.std.proofs.lemmas.Bool.{false_from_ne_true, or_cases, or_parts}
+use Rattle.std.proofs.Math.Bool.{and-false}
 use Rattle.std.proofs.Math.Seq.{take-add}
-use Rattle.unftp_control_defs.specs.Bytes.{Bytes, NUL, LF, CR}
-use Rattle.unftp_control_defs.specs.ComputedValue.{Fresh, Plain, byte_then, later_value}
+use Rattle.unftp_control_defs.specs.Bytes.{Bytes, NUL, LF, CR, crlf}
+use Rattle.unftp_control_defs.specs.ComputedValue.{After, Fresh, Plain, byte_then, later_value, value_of}
 use Rattle.unftp_control_message.specs.SentValues.{begins_with_cr_nul, unescaped}
-use Rattle.unftp_control_message.proofs.SentLemmas.{cr_nul_front, unescaped_front, unescaped_lacking}
-use Rattle.unftp_control_line_parser.specs.Values.{stops, begins_with_line_end, IsFirstLen, IsLaterLen, IsRunEnd, Resumes}
+use Rattle.unftp_control_message.proofs.SentLemmas.{cr_nul_front, lacks_before, unescaped_front, unescaped_lacking}
+use Rattle.unftp_control_line_parser.specs.Values.{stops, begins_with_line_end, IsFirstLen, IsLaterLen, IsPlainEnd, IsRunEnd, NoStop, Resumes}
 
 option_nil : (o : Option Bytes) → o ≡ option_map (λ w. [] ++ w) o
 option_nil None = refl
@@ -18,8 +19,7 @@ option_joined : (v w : Bytes) (o : Option Bytes)
 option_joined v w None = refl
 option_joined v w (Some x) = ap Some (sym (append_assoc v w x))
 
-pub skip : (bytes : Bytes) (n : ℕ) → n ≤ length bytes
-    → ((k : ℕ) → 0 ≤ k → k < n → ¬ (stops (get_or bytes k 0) ≡ true))
+skip : (bytes : Bytes) (n : ℕ) → n ≤ length bytes → NoStop bytes 0 n
     → later_value Plain bytes ≡ option_map (λ w. take n bytes ++ w)
     (later_value Plain (drop n bytes))
 skip bytes zero h none = option_nil (later_value Plain bytes)
@@ -30,6 +30,41 @@ skip (b ∷ bytes) (suc n) h none =
     let more = skip bytes n (omega arith) (λ k _ lt. none (suc k) (omega arith) (omega arith)) in
     rw (on.0, on.1) (ap (byte_then b) more
     ∙ option_joined (b ∷ []) (take n bytes) (later_value Plain (drop n bytes)))
+
+-- a run that ends at the first byte that stops one
+pub run_end : (bytes : Bytes) (n : ℕ) → n ≤ length bytes → NoStop bytes 0 n
+    → (n < length bytes → stops (get_or bytes n 0) ≡ true) → IsPlainEnd bytes n
+run_end bytes n within none stop = record {
+  within = within;
+  goes_on = skip bytes n within none;
+  stop = stop;
+  no_return = lacks_before stops refl bytes n within none;
+}
+
+-- a value with no CR and no LF, and its line end
+later_value-usual : (fresh : Bool) (value : Bytes) → NoStop value 0 (length value)
+    → later_value (After fresh) (value ++ crlf) ≡ Some value
+later_value-usual fresh [] none = refl
+later_value-usual fresh (b ∷ value) none =
+    let on = or_parts (b == CR) (b == LF)
+    (false_from_ne_true (stops b) (none 0 (omega arith) (omega arith))) in
+    rw (on.0, on.1, and-false (not fresh)) (ap (byte_then b) (later_value-usual false value
+    (λ k _ lt. none (suc k) (omega arith) (omega arith))))
+
+pub value_of-usual : (value : Bytes) → NoStop value 0 (length value)
+    → value_of (value ++ crlf) ≡ Some value
+value_of-usual [] none = refl
+value_of-usual (a ∷ []) none =
+    let on = or_parts (a == CR) (a == LF)
+    (false_from_ne_true (stops a) (none 0 (omega arith) (omega arith))) in
+    rw (on.0, on.1) refl
+value_of-usual (a ∷ b ∷ value) none =
+    let on = or_parts (a == CR) (a == LF)
+    (false_from_ne_true (stops a) (none 0 (omega arith) (omega arith))) in
+    let next = or_parts (b == CR) (b == LF)
+    (false_from_ne_true (stops b) (none 1 (omega arith) (omega arith))) in
+    rw (on.0, on.1, next.1) (ap (byte_then a) (later_value-usual true (b ∷ value)
+    (λ k _ lt. none (suc k) (omega arith) (omega arith))))
 
 -- at the end of the bytes, or at one that stops a run
 abbrev Ends : Bytes → Type 0

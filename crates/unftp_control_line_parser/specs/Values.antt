@@ -29,6 +29,10 @@ Resumes bytes n = (later : Option ℕ) → IsLaterLen (drop n bytes) later
 abbrev pub stops : ℕ → Bool
 stops b = (b == CR) || (b == LF)
 
+-- None of the bytes from i up to j ends a run.
+abbrev pub NoStop : Bytes → ℕ → ℕ → Type 0
+NoStop bytes i j = (k : ℕ) → i ≤ k → k < j → ¬ (stops (slice_index bytes k) ≡ true)
+
 -- So many bytes are written as they are, and then there is nothing more or one that ends the run.
 pub record IsRunEnd (context : Context) (bytes : Bytes) (n : ℕ) : Type 0 where
   pub within : n ≤ length bytes

@@ -3,6 +3,7 @@
 
 mod fields;
 mod parser;
+mod plain;
 mod typed;
 mod value;
 mod verb;

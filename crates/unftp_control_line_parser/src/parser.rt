@@ -1,5 +1,5 @@
 //! A line's verb and parameter, what it says, and the command that it is.
-ghost use Rattle.std.specs.Prelude.{◌≡◌, ◌≢◌, ◌≤◌, length, IfOk};
+ghost use Rattle.std.specs.Prelude.{◌≡◌, ◌≢◌, ◌≤◌, ◌<◌, ℕ, IsTrue, false, length, slice_index, IfOk};
 ghost use Rattle.std.specs.List.{position_or_len};
 ghost use Rattle.unftp_control_message.specs.CommandMeaning.{command_of};
 ghost use Rattle.unftp_control_message.specs.SentValues.{sent_value};
@@ -23,6 +23,7 @@ use crate::verb::is_same_word;
 use memchr::memchr3;
 use std::alloc::Global;
 use std::result;
+use std::simd::prelude::*;
 use std::str::from_utf8;
 use unftp_control_defs::verb::verb_named;
 use unftp_control_message::Command;
@@ -44,9 +45,33 @@ fn word_len(bytes: &[u8]) -> usize
     }
 }
 
+/// Whether the first four bytes are greater than a space, so that none of them ends a verb.
+#[inline(always)]
+fn four_go_on(line: &[u8]) -> bool
+    requires { 4 ≤ length line.now }
+    ensures { IsTrue result
+        → (k : ℕ) → k < 4 → is_separator (slice_index line.now k) ≡ false }
+{
+    let four = u8x4::from_slice(line);
+    four.simd_le(u8x4::splat(b' ')).to_bitmask() == 0
+}
+
 /// The length of the verb.
 #[inline(always)]
 fn verb_len(line: &[u8]) -> usize
+    ensures place { result ≡ position_or_len is_separator line.now }
+    ensures within { result ≤ length line.now }
+{
+    // most verbs have four letters
+    if line.len() > 4 && four_go_on(line) && matches!(line[4], b' ' | b'\r' | b'\n') {
+        return 4;
+    }
+    any_verb_len(line)
+}
+
+/// The length of a verb of any length.
+#[inline(never)]
+fn any_verb_len(line: &[u8]) -> usize
     ensures place { result ≡ position_or_len is_separator line.now }
     ensures within { result ≤ length line.now }
 {

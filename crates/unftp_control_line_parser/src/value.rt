@@ -1,9 +1,11 @@
 //! The value of a parameter.
-ghost use Rattle.std.specs.Prelude.{◌≡◌, ◌≤◌, ◌↔◌, IsTrue, option_map, length, []};
+ghost use Rattle.std.specs.Prelude.{◌≡◌, ◌≢◌, ◌≤◌, ◌↔◌, ◌+◌, IsTrue, IfSome, option_map, length, []};
+ghost use Rattle.unftp_control_defs.specs.Bytes.{crlf};
 ghost use Rattle.unftp_control_defs.specs.ComputedValue.{value_of};
 ghost use Rattle.unftp_control_message.specs.SentValues.{sent_value};
 ghost use Rattle.unftp_control_line_parser.specs.Values.{IsFreshEnd, IsLaterLen, IsPlainEnd, Resumes, begins_with_line_end, first_value_of};
 
+use crate::plain::is_short_and_plain;
 use memchr::memchr2;
 use unftp_control_message::sent::{Sent, begins_with_cr_nul};
 
@@ -81,6 +83,29 @@ pub fn has_no_value(parameter: &[u8]) -> bool
     }
 }
 
+/// Whether the bytes are CR LF.
+#[inline(always)]
+fn is_crlf(bytes: &[u8]) -> bool
+    ensures { IsTrue result → bytes.now ≡ crlf }
+{
+    matches!(bytes, [CR, LF])
+}
+
+/// The value of the usual parameter, which is short, and has a CR and an LF only at its end.
+#[inline(always)]
+fn usual_value(parameter: &[u8]) -> Option<&[u8]>
+    ensures { IfSome result (λ value. value_of parameter.now ≡ Some value.now) }
+{
+    let (value, end) = parameter.split_at(parameter.len().saturating_sub(2));
+    if !is_crlf(end) {
+        return None;
+    }
+    if is_short_and_plain(value) {
+        return Some(value);
+    }
+    None
+}
+
 /// The value of parameter bytes; none after an invalid line ending. It takes no memory.
 #[inline(always)]
 pub fn parameter_value<'a>(parameter: &'a [u8]) -> Option<Sent<'a>>
@@ -89,6 +114,18 @@ pub fn parameter_value<'a>(parameter: &'a [u8]) -> Option<Sent<'a>>
     if has_no_value(parameter) {
         return Some(Sent::Plain(b""));
     }
+    match usual_value(parameter) {
+        Some(value) => Some(Sent::Plain(value)),
+        None => some_value(parameter),
+    }
+}
+
+/// The value of parameter bytes where it is not empty; none after an invalid line ending.
+#[inline(never)]
+fn some_value<'a>(parameter: &'a [u8]) -> Option<Sent<'a>>
+    requires { value_of parameter.now ≢ Some [] }
+    ensures { option_map sent_value result ≡ value_of parameter.now }
+{
     let (first, rest) = parameter.split_at(1);
     if rest == b"\n".as_slice() {
         return Some(Sent::Plain(first));
@@ -96,7 +133,7 @@ pub fn parameter_value<'a>(parameter: &'a [u8]) -> Option<Sent<'a>>
     if begins_with_cr_nul(parameter) {
         return escaped_value(parameter, 2);
     }
-    // the usual case: there is no CR within the value
+    // there is no CR within the value
     let end = 1 + fresh_len(rest);
     let (value, after) = parameter.split_at(end);
     if begins_with_line_end(after) {

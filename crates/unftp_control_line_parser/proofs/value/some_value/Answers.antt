@@ -4,7 +4,7 @@ use Rattle.unftp_control_defs.specs.Bytes.{Bytes}
 use Rattle.unftp_control_defs.specs.ComputedValue.{Fresh, later_value}
 use Rattle.unftp_control_line_parser.proofs.RunLemmas.{Resumes-part, IsLaterLen-invalid}
 use Rattle.unftp_control_line_parser.proofs.RunLemmas.{Resumes-cr_nul}
-use Rattle.unftp_control_line_parser.proofs.value.parameter_value.Goals as goal
+use Rattle.unftp_control_line_parser.proofs.value.some_value.Goals as goal
 
 pub returns-then-not-begins_with_cr_nul : goal.returns-then-not-begins_with_cr_nul
 returns-then-not-begins_with_cr_nul c =
