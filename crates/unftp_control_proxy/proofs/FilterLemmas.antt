@@ -10,8 +10,8 @@ use Rattle.unftp_control_defs.specs.Forwarded.{forwarded_line}
 use Rattle.unftp_control_defs.specs.FtpReply.{FtpReply, encoded}
 use Rattle.unftp_control_defs.specs.Lines.{IsLine}
 use Rattle.unftp_control_defs.specs.Outcome.{outcome}
+use Rattle.unftp_control_defs.proofs.ForwardedLineLemmas.{IsLine-forwarded_line}
 use Rattle.unftp_control_write.specs.Forwarding.{IsForwarded}
-use Rattle.unftp_control_message.specs.ParseRefusal.{refusal_of}
 use Rattle.unftp_control_proxy.specs.Calls.{IsAnswerError, IsDecidable, IsForwardingError, IsSendError, IsUnsent, MayBeSent, decided, is_final, is_out_of_memory}
 use Rattle.unftp_control_proxy.specs.ClearLines.{passes}
 use Rattle.unftp_control_proxy.specs.Filtering.{AnswerWith, AreFiltered, AsItIs, Becomes, FilterLaw, Forward, Instead, fate_by, fate_of, filtered, forwarded_or_refused, long_line, refused_line, sent_or_refused, state_after, state_then}
@@ -67,9 +67,13 @@ module _ (proxy : Proxy) (may : IsDecidable proxy) where
       → fate_by proxy.limits.sent Forward line ≡ refused_line
   forward_refused line send.NoLine is_line why some = absurd (why may)
   forward_refused line send.NotALine is_line why some = absurd (why is_line)
-  forward_refused line (send.Refused kind) is_line why some = rw why.1.1 refl
-  forward_refused line send.Unclear is_line why some = ?
-  forward_refused line send.TooLong is_line why some = ?
+  forward_refused line (send.Refused kind) is_line why some = rw why.2 refl
+  forward_refused line send.Unclear is_line why some = rw why.means
+      (unsent Clear proxy.limits.sent (forwarded_line line why.command) send.Unclear
+      (IsLine-forwarded_line line why.command is_line why.means) why.unsent)
+  forward_refused line send.TooLong is_line why some = rw why.means
+      (unsent Clear proxy.limits.sent (forwarded_line line why.command) send.TooLong
+      (IsLine-forwarded_line line why.command is_line why.means) why.unsent)
   forward_refused line send.NotFinal is_line why some = absurd why.unsent
   forward_refused line send.OutOfMemory is_line why some = absurd (cc)
 
@@ -83,3 +87,23 @@ module _ (proxy : Proxy) (may : IsDecidable proxy) where
   answer_refused reply send.TooLong why some = absurd why
   answer_refused reply send.NotFinal why some = rw why refl
   answer_refused reply send.OutOfMemory why some = absurd (cc)
+
+-- ---- a line that was sent
+
+  pub forward_sent : (before after : Bytes) (line : Bytes)
+      → IsForwarded line before after
+      → MayBeSent Clear proxy.limits.sent (drop (length before) after) → (later : Proxy)
+      → later ≡ decided proxy Reply
+      → Becomes (fate_by proxy.limits.sent Forward line) proxy before after later
+  forward_sent before after line forwarded may_be later is =
+      let sent_line : Bytes = forwarded_line line forwarded.command in
+      let same : drop (length before) after ≡ sent_line =
+      ap (drop (length before)) forwarded.appended ∙ drop-append_seam before sent_line in
+      let fate : fate_by proxy.limits.sent Forward line ≡ SentAs sent_line =
+      ap (forwarded_or_refused proxy.limits.sent line) forwarded.means
+      ∙ sent Clear proxy.limits.sent sent_line (subst (MayBeSent Clear proxy.limits.sent) same may_be) in
+      subst (λ fate. Becomes fate proxy before after later) (sym fate) (record {
+        later_is = is;
+        appended = forwarded.appended ∙ ap (λ bytes. before ++ bytes) (sym (append-nil sent_line));
+        one = forwarded.is_line;
+      })

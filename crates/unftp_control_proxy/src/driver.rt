@@ -66,7 +66,7 @@ fn forward_or_refuse(
     ensures err { OnErr result (proxy.new ≡ proxy.old) }
     ensures out_err { OnErr result (to_server.new.items ≡ to_server.old.items) }
 {
-    match proxy.forward(alloc, to_server) {
+    match proxy.forward(to_server) {
         Ok(()) => Ok(()),
         Err(error) => refuse_for(&error, proxy, alloc),
     }

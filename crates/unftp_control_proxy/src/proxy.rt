@@ -155,7 +155,7 @@ impl Proxy {
     /// `Refused` where the line is no command; `Unclear` where servers may read what would be sent
     /// in different ways: it has a bare CR, or bytes in its verb that are not visible ASCII, or no
     /// verb; `TooLong` where it is longer than `Limits::sent`. At an error nothing changes.
-    pub fn forward(&mut self, alloc: Global, to_server: &mut Vec<u8>) -> Result<(), SendError>
+    pub fn forward(&mut self, to_server: &mut Vec<u8>) -> Result<(), SendError>
         ensures ok { OnOk result (self.new ≡ decided self.old ReplyOwed) }
         ensures may { OnOk result (IsDecidable self.old) }
         ensures shown { OnOk result (line_in self.old.client ≢ []) }
@@ -175,7 +175,7 @@ impl Proxy {
             return Err(SendError::NotALine);
         }
         let length = to_server.len();
-        if let Err(error) = forward(alloc, line, to_server) {
+        if let Err(error) = forward(line, to_server) {
             return Err(send_error(error));
         }
         let (_, line) = to_server.as_slice().split_at(length);
