@@ -1,24 +1,23 @@
 -- What the calls of a proxy ensure says what passes in them.
-use Rattle.std.proofs.Common.{◌≡◌, ◌≢◌, ◌<◌, ◌≤◌, ℕ, Bool, true, false, List, [], ◌∷◌, ◌++◌, length, take, drop, Some, Ok, refl, sym, ap, subst, ◌∙◌, append_assoc, append-nil, inl, arith}
+use Rattle.std.proofs.Common.{◌≡◌, ◌≢◌, ◌≤◌, ℕ, Bool, true, false, List, [], ◌∷◌, ◌++◌, length, take, Some, Ok, refl, sym, ap, subst, ◌∙◌, append_assoc, append-nil, inl, arith}
 use Rattle.std.specs.Prelude.{if◌then◌else◌}
 use Rattle.std.specs.List.{concat}
-use Rattle.std.proofs.Math.Seq.{drop-append_seam}
 use Rattle.std.proofs.lemmas.List.{length-append, take-append-drop, take_at}
 use Rattle.unftp_control_defs.specs.Bytes.{Bytes, LF}
 use Rattle.unftp_control_defs.specs.Events.{exceeds}
 use Rattle.unftp_control_defs.specs.Forwarded.{forwarded_line}
 use Rattle.unftp_control_defs.specs.FtpCommand.{FtpCommand}
-use Rattle.unftp_control_defs.specs.Lines.{IsLine, Lines, incomplete_line, lines_of}
+use Rattle.unftp_control_defs.specs.Lines.{IsLine, incomplete_line, lines_of}
 use Rattle.unftp_control_defs.specs.Outcome.{outcome}
 use Rattle.unftp_control_defs.specs.Turns.{is_preliminary}
 use Rattle.unftp_control_defs.proofs.LineLemmas.{Lines-lines_of}
-use Rattle.unftp_control_read.specs.ReplyDecoding.{PendingReplies, pushed}
+use Rattle.unftp_control_read.specs.ReplyDecoding.{PendingReplies}
 use Rattle.unftp_control_write.specs.Forwarding.{IsForwarded}
 use Rattle.unftp_control_proxy.specs.Calls.{GivesDue, IsDecidable, PassesReply, TakesReplyBytes, decided}
 use Rattle.unftp_control_proxy.specs.ClientLines.{after_front_line, front_line, head_or_none, line_in, shown_line}
 use Rattle.unftp_control_proxy.specs.Given.{IsWholeReply, ReplyBytes}
 use Rattle.unftp_control_proxy.specs.Owed.{Owed, Answer, IsReplyNext, Reply, after_due, after_reply, due}
-use Rattle.unftp_control_proxy.specs.Traffic.{AnsweredBy, Fate, IsOneLine, IsTraffic, SentAs, Traffic, client_piece, nothing_passed, one_line, one_reply, owed_for, sent_for, server_piece, some_answers}
+use Rattle.unftp_control_proxy.specs.Traffic.{Fate, IsOneLine, IsTraffic, SentAs, nothing_passed, one_line, one_reply, owed_for, sent_for, some_answers}
 use Rattle.unftp_control_proxy.specs.declared.proxy.Proxy.{Proxy}
 use Rattle.unftp_control_proxy.proofs.ClientLemmas.{BeginsWithLine, after_front_line-is, front_line-is}
 
@@ -26,27 +25,38 @@ use Rattle.unftp_control_proxy.proofs.ClientLemmas.{BeginsWithLine, after_front_
 
 -- only the bytes of both sides differ
 module _ (before later : Proxy) (order : later.order ≡ before.order)
-    (limits : later.limits ≡ before.limits) where
-  pub pieces : (from_client from_server : Bytes)
-      → before.client.bytes ++ from_client ≡ later.client.bytes
-      → before.server.bytes ++ from_server ≡ later.server.bytes
-      → IsTraffic before (record nothing_passed { from_client = from_client; from_server = from_server }) later
-  pieces from_client from_server client server =
-      let same : before.order ++ [] ≡ before.order = append-nil before.order in
-      record {
-        client = client;
-        lines = tt;
-        server = server;
-        replies = tt;
-        to_server = refl;
-        to_client = ap due (order ∙ sym same);
-        still = ap after_due (order ∙ sym same);
-        asked = tt;
-        gone = [];
-        order = same ∙ sym order;
-        bounded = omega (arith, ap length order);
-        limits = limits;
-      }
+    (limits : later.limits ≡ before.limits) (line_limit : later.client.limit ≡ before.client.limit)
+  where
+    pub pieces : (from_client from_server : Bytes)
+        → before.client.bytes ++ from_client ≡ later.client.bytes
+        → before.server.bytes ++ from_server ≡ later.server.bytes
+        → IsTraffic before (record nothing_passed { from_client = from_client; from_server = from_server }) later
+    pieces from_client from_server client server =
+        let same : before.order ++ [] ≡ before.order = append-nil before.order in
+        record {
+          client = client;
+          lines = tt;
+          server = server;
+          replies = tt;
+          to_server = refl;
+          to_client = ap due (order ∙ sym same);
+          still = ap after_due (order ∙ sym same);
+          asked = tt;
+          gone = [];
+          order = same ∙ sym order;
+          bounded = omega (arith, ap length order);
+          limits = limits;
+          line_limit = line_limit;
+        }
+
+pub found_only : (before later : Proxy) (found : Bool) (held : ℕ)
+    → later ≡ record before { client = record before.client { found = found; held = held } }
+    → IsTraffic before nothing_passed later
+found_only before later found held is = pieces before later
+    (ap (λ (p : Proxy). p.order) is) (ap (λ (p : Proxy). p.limits) is)
+    (ap (λ (p : Proxy). p.client.limit) is) [] []
+    (append-nil before.client.bytes ∙ sym (ap (λ (p : Proxy). p.client.bytes) is))
+    (append-nil before.server.bytes ∙ sym (ap (λ (p : Proxy). p.server.bytes) is))
 
 -- ---- a line that is decided
 
@@ -114,6 +124,7 @@ module _ (before later : Proxy) (fate : Fate) (may : IsDecidable before) (one : 
           not_full,
         );
         limits = ap (λ (proxy : Proxy). proxy.limits) is;
+        line_limit = ap (λ (proxy : Proxy). proxy.client.limit) is;
       }
 
 module _ (before later : Proxy) (sent sent_later : Bytes) (may : IsDecidable before)
@@ -162,6 +173,7 @@ answers before later out out' gives =
       order = same ∙ gives.order;
       bounded = omega (arith, ap length gives.order, length-append gives.gone later.order);
       limits = ap (λ (proxy : Proxy). proxy.limits) gives.others;
+      line_limit = ap (λ (proxy : Proxy). proxy.client.limit) gives.others;
     }
 
 takes_first : (before : PendingReplies) (reply : ReplyBytes) (later : PendingReplies)
@@ -245,4 +257,5 @@ module _ (before later : Proxy) (came reply : ReplyBytes) (passes : PassesReply 
           ap length order_then,
         );
         limits = ap (λ (proxy : Proxy). proxy.limits) passes.later_is;
+        line_limit = ap (λ (proxy : Proxy). proxy.client.limit) passes.later_is;
       }

@@ -1,12 +1,11 @@
 -- The first line of what a client sent, as it is kept.
-use Rattle.std.proofs.Common.{◌≡◌, ◌<◌, ◌≤◌, ℕ, Bool, true, false, List, [], ◌∷◌, ◌++◌, length, take, drop, Option, Some, None, refl, sym, ap, subst, ◌∙◌, arith, append_assoc}
-use Rattle.std.specs.Prelude.{if◌then◌else◌, is_some}
+use Rattle.std.proofs.Common.{◌≡◌, ◌≤◌, ℕ, true, false, [], ◌++◌, length, take, drop, Option, Some, None, refl, sym, ap, subst, ◌∙◌, arith, append_assoc}
+use Rattle.std.specs.Prelude.{if◌then◌else◌}
 use Rattle.std.proofs.Math.Seq.{drop-append_seam}
-use Rattle.std.proofs.lemmas.List.{append_cancel_right, take-append-drop, drop-drop}
-use Rattle.unftp_control_defs.specs.Bytes.{Bytes, LF, Lacks}
-use Rattle.unftp_control_defs.specs.Events.{Refused, event_for, exceeds, line_too_long}
+use Rattle.std.proofs.lemmas.List.{append_cancel_right, take-append-drop}
+use Rattle.unftp_control_defs.specs.Bytes.{Bytes}
+use Rattle.unftp_control_defs.specs.Events.{exceeds}
 use Rattle.unftp_control_defs.specs.Lines.{IsLine, lines_of}
-use Rattle.unftp_control_defs.specs.TakingSteps.{TakesEvent}
 use Rattle.unftp_control_defs.proofs.LineLemmas.{line_first, lines_of-incomplete}
 use Rattle.unftp_control_codecs.specs.Codec.{Codec}
 use Rattle.unftp_control_codecs.specs.FirstLine.{IsScannedWithin, first_line, goes_on, goes_on_by}

@@ -1,5 +1,5 @@
 -- Why a line is not sent.
-use Rattle.std.proofs.Common.{◌≡◌, ◌++◌, ℕ, Some, length, drop, sym, ap, subst, ◌∙◌}
+use Rattle.std.proofs.Common.{◌≡◌, length, drop, ap, subst, ◌∙◌}
 use Rattle.std.proofs.Math.Seq.{drop-append_seam}
 use Rattle.unftp_control_defs.specs.Bytes.{Bytes}
 use Rattle.unftp_control_defs.specs.Forwarded.{forwarded_line}

@@ -1,9 +1,9 @@
 -- What passes a proxy in one call after the other passes in all.
-use Rattle.std.proofs.Common.{◌≡◌, ◌≤◌, ℕ, Bool, true, false, List, [], ◌∷◌, ◌++◌, flat_map, length, map, max, None, refl, sym, ap, subst, ◌∙◌, append_assoc, append-nil, arith}
+use Rattle.std.proofs.Common.{◌≡◌, ℕ, Bool, true, false, List, [], ◌∷◌, ◌++◌, map, None, refl, sym, ap, subst, ◌∙◌, append_assoc, append-nil, arith}
 use Rattle.std.specs.Prelude.{if◌then◌else◌}
 use Rattle.std.specs.List.{AllByRecursion, concat}
 use Rattle.std.proofs.lemmas.Grind.{flat_map-append}
-use Rattle.std.proofs.lemmas.List.{length-append, map-append}
+use Rattle.std.proofs.lemmas.List.{map-append}
 use Rattle.std.proofs.lemmas.List.Folds.{concat-append}
 use Rattle.unftp_control_defs.specs.Bytes.{Bytes}
 use Rattle.unftp_control_defs.specs.Events.{event_for, event_of, events}
@@ -12,7 +12,7 @@ use Rattle.unftp_control_defs.specs.Turns.{is_preliminary}
 use Rattle.unftp_control_defs.proofs.LineLemmas.{lines_of-concat}
 use Rattle.unftp_control_proxy.specs.Calls.{new_proxy}
 use Rattle.unftp_control_proxy.specs.Given.{AreAsked, ReplyBytes, given, still_owed}
-use Rattle.unftp_control_proxy.specs.Owed.{Owed, Answer, IsReplyNext, Reply, after_due, after_reply, due}
+use Rattle.unftp_control_proxy.specs.Owed.{Owed, Answer, Reply, after_due, after_reply, due}
 use Rattle.unftp_control_proxy.specs.Traffic.{AnsweredBy, AreLines, AreReplies, ChangesNothing, DecidedLine, Fate, IsOneLine, IsTraffic, KeepsLine, PassedReply, SentAs, Traffic, all_bytes, came_in, client_lines, given_in, joined, nothing_passed, owed_by, owed_for, sent_by, sent_for}
 use Rattle.unftp_control_proxy.specs.declared.proxy.Limits.{Limits}
 use Rattle.unftp_control_proxy.specs.declared.proxy.Proxy.{Proxy}
@@ -52,6 +52,7 @@ nothing proxy =
       order = same;
       bounded = omega arith;
       limits = refl;
+      line_limit = refl;
     }
 
 module _ {before middle later : Proxy} {first second : Traffic}
@@ -130,6 +131,7 @@ module _ {before middle later : Proxy} {first second : Traffic}
         later.order one.order two.order;
     bounded = omega (arith, one.bounded, two.bounded, ap (λ limits. limits.waiting) one.limits);
     limits = two.limits ∙ one.limits;
+    line_limit = two.line_limit ∙ one.line_limit;
   }
 
 -- ---- what the server is sent

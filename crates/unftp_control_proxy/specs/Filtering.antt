@@ -1,5 +1,5 @@
 -- What a filter decides, line by line, and what follows from that alone.
-use Rattle.std.specs.Prelude.{⊤, ◌≡◌, ℕ, Bool, if◌then◌else◌, ◌&&◌, nat_le, List, [], ◌∷◌, ◌++◌, Some, Ok, Err, codes, length}
+use Rattle.std.specs.Prelude.{⊤, ◌≡◌, ℕ, if◌then◌else◌, ◌&&◌, nat_le, List, [], ◌∷◌, ◌++◌, Some, Ok, Err, codes, length}
 use Rattle.std.specs.List.{concat}
 use Rattle.unftp_control_defs.specs.Bytes.{Bytes}
 use Rattle.unftp_control_defs.specs.Events.{exceeds}
@@ -11,12 +11,11 @@ use Rattle.unftp_control_defs.specs.Outcome.{outcome}
 use Rattle.unftp_control_message.specs.ReplyMeaning.{reply_of}
 use Rattle.unftp_control_proxy.specs.Calls.{decided, is_final}
 use Rattle.unftp_control_proxy.specs.ClearLines.{passes}
-use Rattle.unftp_control_proxy.specs.Traffic.{AnsweredBy, DecidedLine, Fate, IsOneLine, SentAs, client_lines, owed_for, sent_for}
+use Rattle.unftp_control_proxy.specs.Traffic.{AnsweredBy, DecidedLine, Fate, IsOneLine, SentAs, owed_for, sent_for}
 use Rattle.unftp_control_proxy.specs.declared.clear.Form.{Form}
 use Rattle.unftp_control_proxy.specs.declared.clear.Form.TheVariants.{Clear, Answered}
 use Rattle.unftp_control_proxy.specs.declared.filter.Verdict.{Verdict}
 use Rattle.unftp_control_proxy.specs.declared.filter.Verdict.TheVariants as verdict
-use Rattle.unftp_control_proxy.specs.declared.proxy.Limits.{Limits}
 use Rattle.unftp_control_proxy.specs.declared.proxy.Proxy.{Proxy}
 
 -- A line is forwarded as its command; it is sent as it is; this other line is sent; or it is
@@ -69,14 +68,15 @@ fate_by limit (Instead other) line = sent_or_refused Answered limit other
 fate_by limit (AnswerWith reply) line =
     if is_final reply then AnsweredBy (encoded reply) else refused_line
 
-module _ {S : Type 0} (law : FilterLaw S) (limits : Limits) where
-  -- what becomes of a line by the law, and the state that follows
+-- By a law, under limits on the client's lines and on those that are sent.
+module _ {S : Type 0} (law : FilterLaw S) (limit sent : ℕ) where
+  -- what becomes of a line, and the state that follows
   abbrev pub fate_of : S → Bytes → Fate
-  fate_of s line = if exceeds (Some limits.line) (length line) then long_line
-      else fate_by limits.sent (law.says s line) line
+  fate_of s line = if exceeds (Some limit) (length line) then long_line
+      else fate_by sent (law.says s line) line
 
   abbrev pub state_then : S → Bytes → S
-  state_then s line = if exceeds (Some limits.line) (length line) then s else law.next s line
+  state_then s line = if exceeds (Some limit) (length line) then s else law.next s line
 
   -- and of lines, one after the other
   abbrev pub filtered : S → List Bytes → List DecidedLine
@@ -84,14 +84,11 @@ module _ {S : Type 0} (law : FilterLaw S) (limits : Limits) where
   filtered s (line ∷ lines) =
       record { line = line; fate = fate_of s line } ∷ filtered (state_then s line) lines
 
-  abbrev pub state_after : S → List Bytes → S
-  state_after s [] = s
-  state_after s (line ∷ lines) = state_after (state_then s line) lines
-
-  -- The lines were decided by the law, from this state to that.
-  pub record AreFiltered (s : S) (lines : List DecidedLine) (s' : S) : Type 0 where
-    pub decided_so : lines ≡ filtered s (client_lines lines)
-    pub state_is : s' ≡ state_after s (client_lines lines)
+  -- The lines were decided so, from this state to that.
+  abbrev pub AreFiltered : S → List DecidedLine → S → Type 0
+  AreFiltered s [] s' = s' ≡ s
+  AreFiltered s (decided ∷ lines) s' = (decided.fate ≡ fate_of s decided.line)
+      × AreFiltered (state_then s decided.line) lines s'
 
 -- The client's line is taken, with this fate.
 pub record Becomes (fate : Fate) (before : Proxy) (sent sent' : Bytes) (later : Proxy) : Type 0 where

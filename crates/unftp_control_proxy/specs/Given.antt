@@ -2,7 +2,7 @@
 use Rattle.std.specs.Prelude.{⊤, ℕ, List, [], ◌∷◌, ◌++◌, length}
 use Rattle.unftp_control_defs.specs.Bytes.{Bytes}
 use Rattle.unftp_control_defs.specs.ReplyReader.{FrontReply}
-use Rattle.unftp_control_proxy.specs.Owed.{Owed, Answer, Reply, IsReplyNext, after_due, after_reply, due}
+use Rattle.unftp_control_proxy.specs.Owed.{Owed, IsReplyNext, after_due, after_reply, due}
 
 -- a reply of a server: its code, and all its bytes
 pub record ReplyBytes : Type 0 where

@@ -137,6 +137,7 @@ pub record IsTraffic (before : Proxy) (traffic : Traffic) (later : Proxy) : Type
   pub order : before.order ++ owed_by traffic.lines ≡ gone ++ later.order
   pub bounded : length later.order ≤ max (length before.order) before.limits.waiting
   pub limits : later.limits ≡ before.limits
+  pub line_limit : later.client.limit ≡ before.client.limit
 
 -- ---- where nothing is changed
 

@@ -1,13 +1,13 @@
 //! Takes lines, and does with each what a filter says.
-ghost use Rattle.std.specs.Prelude.{◌≡◌, ◌∷◌, ◌++◌, [], None, false, true, codes, IfErr, IfOk, OnErr, OnOk};
+ghost use Rattle.std.specs.Prelude.{◌≡◌, ◌≢◌, ◌∷◌, ◌++◌, [], None, Ok, false, true, OnErr, OnOk};
 ghost use Rattle.std.specs.List.{concat};
 ghost use Rattle.unftp_control_defs.specs.FtpReply.{CodeAndMsg, encoded};
 ghost use Rattle.unftp_control_defs.specs.Lines.{IsLine, lines_of};
 ghost use Rattle.unftp_control_message.specs.ReplyMeaning.{reply_of};
 ghost use Rattle.unftp_control_proxy.specs.Calls.{IsDecidable, WaitsForServer, is_out_of_memory};
-ghost use Rattle.unftp_control_proxy.specs.ClientLines.{front_line, line_in};
+ghost use Rattle.unftp_control_proxy.specs.ClientLines.{first_client_line, front_line, line_in};
 ghost use Rattle.unftp_control_proxy.specs.Filtering.{AnswerWith, AreFiltered, AsItIs, Becomes, Forward, Instead, IsSendable, decision_of, fate_by, refused_line};
-ghost use Rattle.unftp_control_proxy.specs.Traffic.{AnsweredBy, DecidedLine, Fate, IsTraffic, one_line, sent_for};
+ghost use Rattle.unftp_control_proxy.specs.Traffic.{AnsweredBy, Fate, IsTraffic, nothing_passed, one_line, sent_for};
 
 use crate::client::ClientLine;
 use crate::errors::SendError;
@@ -154,6 +154,66 @@ fn carry_out(
             let carried_out = answer_or_refuse(proxy, alloc, &reply);
             drop(reply);
             carried_out
+        }
+    }
+}
+
+/// Decides the line that was found by the filter, and does what it says.
+fn decide_line<F: Filter>(
+    proxy: &mut Proxy,
+    alloc: Global,
+    filter: &mut F,
+    to_server: &mut Vec<u8>,
+) -> Result<(), AllocError>
+    requires decidable { IsDecidable proxy.old }
+    requires line { IsLine (line_in proxy.old.client) }
+    ensures ok { OnOk result (Becomes (fate_by proxy.old.limits.sent
+        (F.law.says (F.state filter.old) (line_in proxy.old.client)) (line_in proxy.old.client))
+        proxy.old to_server.old.items to_server.new.items proxy.new) }
+    ensures state { OnOk result (F.state filter.new
+        ≡ F.law.next (F.state filter.old) (line_in proxy.old.client)) }
+    ensures err { OnErr result (proxy.new ≡ proxy.old) }
+    ensures out_err { OnErr result (to_server.new.items ≡ to_server.old.items) }
+{
+    let verdict = filter.decide(alloc, proxy.line())?;
+    carry_out(proxy, alloc, verdict, to_server)
+}
+
+/// Takes the client's next line, where there is one and the proxy doesn't wait for the server, does
+/// with it what the filter says, and reports whether it did. A line that is too long is answered
+/// with 500, and the filter isn't asked.
+///
+/// When out of memory, no line is taken; but the filter may have moved on, so the session is to end.
+pub fn filter_line<F: Filter>(
+    proxy: &mut Proxy,
+    alloc: Global,
+    filter: &mut F,
+    to_server: &mut Vec<u8>,
+) -> Result<bool, AllocError>
+    ensures took { result ≡ Ok true → (fate : Fate)
+        × IsTraffic proxy.old (one_line (front_line proxy.old.client.bytes) fate) proxy.new
+        × AreFiltered F.law proxy.old.client.limit proxy.old.limits.sent (F.state filter.old)
+        (record { line = front_line proxy.old.client.bytes; fate = fate } ∷ []) (F.state filter.new)
+        × (to_server.new.items ≡ to_server.old.items ++ concat (sent_for fate)) }
+    // There is none only where no line is complete, or where it may not be taken.
+    ensures waits { result ≡ Ok false → ¬ WaitsForServer proxy.old
+        → first_client_line proxy.old.client.limit (lines_of proxy.old.client.bytes) ≡ None }
+    ensures none { result ≡ Ok false → F.state filter.new ≡ F.state filter.old }
+    ensures not_taken { result ≢ Ok true → IsTraffic proxy.old nothing_passed proxy.new
+        × (to_server.new.items ≡ to_server.old.items) }
+{
+    if proxy.waits_for_server() {
+        return Ok(false);
+    }
+    match proxy.next_line() {
+        None => Ok(false),
+        Some(ClientLine::TooLong) => {
+            refuse(proxy, alloc, TOO_LONG)?;
+            Ok(true)
+        }
+        Some(ClientLine::Complete) => {
+            decide_line(proxy, alloc, filter, to_server)?;
+            Ok(true)
         }
     }
 }

@@ -14,6 +14,7 @@ mod proxy;
 pub mod steps;
 
 pub use crate::client::ClientLine;
+pub use crate::driver::filter_line;
 pub use crate::errors::{ReplaceError, SendError};
 pub use crate::filter::{Filter, Verdict};
 pub use crate::proxy::{Limits, Proxy, ServerReply};

@@ -333,10 +333,7 @@ impl Proxy {
     }
 
     /// Appends the server's next reply, where it is owed and no answer is due.
-    fn pass_reply(
-        &mut self,
-        to_client: &mut Vec<u8>,
-    ) -> Result<Option<ServerReply>, NextReplyError>
+    fn pass_reply(&mut self, to_client: &mut Vec<u8>) -> Result<Option<ServerReply>, NextReplyError>
         ensures ok { IfOk result (λ next.
             GivesNext self.old next to_client.old.items to_client.new.items self.new) }
         ensures none { result ≡ Ok None

@@ -1,6 +1,5 @@
-use Rattle.std.proofs.Common.{refl, sym, ◌∙◌, ap}
-use Rattle.unftp_control_proxy.specs.ClientLines.{line_in}
-use Rattle.unftp_control_proxy.proofs.ClientLemmas.{seen, seen-is}
+use Rattle.std.proofs.Common.{refl, sym, ◌∙◌}
+use Rattle.unftp_control_proxy.proofs.ClientLemmas.{seen-is}
 use Rattle.unftp_control_proxy.proofs.client.ClientLines.line.Goals as goal
 
 pub returns-in-Line : goal.returns-in-Line

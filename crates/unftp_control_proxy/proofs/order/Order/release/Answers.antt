@@ -1,6 +1,6 @@
-use Rattle.std.proofs.Common.{◌≡◌, ◌+◌, ◌-◌, ℕ, List, drop, length, map, refl, sym, ap, ◌∙◌, arith}
+use Rattle.std.proofs.Common.{◌≡◌, ◌+◌, ◌-◌, ℕ, List, drop, length, map, sym, ap, ◌∙◌, arith}
 use Rattle.std.proofs.lemmas.List.{drop-map, length-map}
-use Rattle.unftp_control_proxy.specs.Owed.{Owed, owed_in}
+use Rattle.unftp_control_proxy.specs.Owed.{owed_in}
 use Rattle.unftp_control_proxy.specs.declared.order.Slot.{Slot}
 use Rattle.unftp_control_proxy.proofs.order.Order.release.Goals as goal
 use Rattle.unftp_control_proxy.proofs.order.Order.release.Goals.{in_default-via-in-Some+in_default, in_default-via-in_default}
@@ -23,9 +23,9 @@ returns-in_default-clause-rest c =
     let left = rest c.loop.counter c.self.inside.slots.items c.loop.self-inside.slots.items
     c.loop.invariant.5 (c.loop.invariant.2 ∙ sym c.loop.invariant.6) in
     elim c.in_default.branch [
-      in_default-via-in-Some+in_default w ↦ rw (w.self-inside-is, ← c.self.view_is) left
+      | in_default-via-in-Some+in_default w ↦ rw (w.self-inside-is, ← c.self.view_is) left
       | in_default-via-in_default w ↦ rw (w.self-inside-is, ← c.self.view_is) left
-      ]
+    ]
 
 pub returns-in_err-extend_from_slice-clause-rest :
     goal.returns-in_err-extend_from_slice-clause-rest

@@ -1,8 +1,6 @@
-use Rattle.std.proofs.Common.{rules, ◌≡◌, ◌⊎◌, Err, inl, inr, refl, sym, ap, subst, ◌∙◌}
-use Rattle.std.specs.Prelude.{IfErr}
+use Rattle.std.proofs.Common.{rules, ◌≡◌, ◌⊎◌, Err, inl, inr}
 use Rattle.unftp_control_proxy.specs.Calls.{IsForwardingError}
 use Rattle.unftp_control_proxy.specs.ClientLines.{line_in}
-use Rattle.unftp_control_proxy.specs.declared.clear.Form.TheVariants.{Clear}
 use Rattle.unftp_control_proxy.specs.declared.errors.SendError.TheVariants.{OutOfMemory}
 use Rattle.unftp_control_proxy.proofs.SendLemmas.{not_forwarded, not_sent}
 use Rattle.unftp_control_proxy.proofs.proxy.Proxy.forward.Goals as goal
