@@ -69,3 +69,10 @@ pub use Rattle.unftp_control_client.specs.Exchange
 pub use Rattle.unftp_control_client.specs.Steps
 pub use Rattle.unftp_control_log.specs.LogLine
 pub use Rattle.unftp_control_log.specs.Known
+pub use Rattle.unftp_control_proxy.specs.Owed
+pub use Rattle.unftp_control_proxy.specs.Given
+pub use Rattle.unftp_control_proxy.specs.ClientLines
+pub use Rattle.unftp_control_proxy.specs.ClearLines
+pub use Rattle.unftp_control_proxy.specs.ProxyCalls
+pub use Rattle.unftp_control_proxy.specs.Traffic
+pub use Rattle.unftp_control_proxy.specs.Filtering

@@ -18,5 +18,6 @@ pub use unftp_control_line_parser as line_parser;
 pub use unftp_control_log as log;
 pub use unftp_control_login as login;
 pub use unftp_control_message::{parts, password, reply, sent};
+pub use unftp_control_proxy as proxy;
 pub use unftp_control_read as read;
 pub use unftp_control_serve as serve;

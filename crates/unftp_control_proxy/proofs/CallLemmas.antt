@@ -13,7 +13,7 @@ use Rattle.unftp_control_defs.specs.Turns.{is_preliminary}
 use Rattle.unftp_control_defs.proofs.LineLemmas.{Lines-lines_of}
 use Rattle.unftp_control_read.specs.ReplyDecoding.{PendingReplies}
 use Rattle.unftp_control_write.specs.Forwarding.{IsForwarded}
-use Rattle.unftp_control_proxy.specs.Calls.{GivesDue, IsDecidable, PassesReply, TakesReplyBytes, decided}
+use Rattle.unftp_control_proxy.specs.ProxyCalls.{GivesDue, IsDecidable, PassesReply, TakesReplyBytes, decided}
 use Rattle.unftp_control_proxy.specs.ClientLines.{after_front_line, front_line, head_or_none, line_in, shown_line}
 use Rattle.unftp_control_proxy.specs.Given.{IsWholeReply, ReplyBytes}
 use Rattle.unftp_control_proxy.specs.Owed.{Owed, Answer, IsReplyNext, Reply, after_due, after_reply, due}

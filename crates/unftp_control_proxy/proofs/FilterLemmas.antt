@@ -13,7 +13,7 @@ use Rattle.unftp_control_defs.specs.Lines.{IsLine, lines_of}
 use Rattle.unftp_control_defs.proofs.ForwardedLineLemmas.{IsLine-forwarded_line}
 use Rattle.unftp_control_defs.proofs.LineLemmas.{Lines-lines_of}
 use Rattle.unftp_control_write.specs.Forwarding.{IsForwarded}
-use Rattle.unftp_control_proxy.specs.Calls.{IsDecidable, IsForwardingError, IsUnsent, MayBeSent, WaitsForServer, decided, is_out_of_memory}
+use Rattle.unftp_control_proxy.specs.ProxyCalls.{IsDecidable, IsForwardingError, IsUnsent, MayBeSent, WaitsForServer, decided, is_out_of_memory}
 use Rattle.unftp_control_proxy.specs.ClearLines.{passes}
 use Rattle.unftp_control_proxy.specs.ClientLines.{first_client_line, front_line, head_or_none, line_in}
 use Rattle.unftp_control_proxy.specs.Filtering.{AreFiltered, Becomes, FilterLaw, Forward, fate_by, filtered, forwarded_or_refused, long_line, refused_line, sent_or_refused, state_then}

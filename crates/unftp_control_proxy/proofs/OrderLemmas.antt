@@ -6,7 +6,7 @@ use Rattle.unftp_control_defs.specs.Bytes.{Bytes}
 use Rattle.unftp_control_defs.specs.Turns.{is_preliminary}
 use Rattle.unftp_control_proxy.specs.Owed.{Owed, Answer, Reply, IsReplyNext, after_due, after_reply, due}
 use Rattle.unftp_control_proxy.specs.Given.{AreAsked, ReplyBytes, given, still_owed}
-use Rattle.unftp_control_proxy.specs.Calls.{GivesDue}
+use Rattle.unftp_control_proxy.specs.ProxyCalls.{GivesDue}
 use Rattle.unftp_control_proxy.specs.declared.proxy.Proxy.{Proxy}
 
 -- ---- answers that are given

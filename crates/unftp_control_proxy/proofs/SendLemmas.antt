@@ -6,7 +6,7 @@ use Rattle.unftp_control_defs.specs.Forwarded.{forwarded_line}
 use Rattle.unftp_control_write.specs.Forwarding.{IsForwardError, IsForwarded}
 use Rattle.unftp_control_write.specs.declared.forwarding.ForwardError.{ForwardError}
 use Rattle.unftp_control_write.specs.declared.forwarding.ForwardError.TheVariants as forward
-use Rattle.unftp_control_proxy.specs.Calls.{IsForwardingError, IsUnsent, send_error}
+use Rattle.unftp_control_proxy.specs.ProxyCalls.{IsForwardingError, IsUnsent, send_error}
 use Rattle.unftp_control_proxy.specs.declared.clear.Form.TheVariants.{Clear}
 use Rattle.unftp_control_proxy.specs.declared.errors.SendError.{SendError}
 use Rattle.unftp_control_proxy.specs.declared.errors.SendError.TheVariants as send

@@ -10,7 +10,7 @@ use Rattle.unftp_control_defs.specs.Events.{event_for, event_of, events}
 use Rattle.unftp_control_defs.specs.Lines.{IsLine, lines_of}
 use Rattle.unftp_control_defs.specs.Turns.{is_preliminary}
 use Rattle.unftp_control_defs.proofs.LineLemmas.{lines_of-concat}
-use Rattle.unftp_control_proxy.specs.Calls.{new_proxy}
+use Rattle.unftp_control_proxy.specs.ProxyCalls.{new_proxy}
 use Rattle.unftp_control_proxy.specs.Given.{AreAsked, ReplyBytes, given, still_owed}
 use Rattle.unftp_control_proxy.specs.Owed.{Owed, Answer, Reply, after_due, after_reply, due}
 use Rattle.unftp_control_proxy.specs.Traffic.{AnsweredBy, AreLines, AreReplies, ChangesNothing, DecidedLine, Fate, IsOneLine, IsTraffic, KeepsLine, PassedReply, SentAs, Traffic, all_bytes, came_in, client_lines, given_in, joined, nothing_passed, owed_by, owed_for, sent_by, sent_for}

@@ -3,6 +3,6 @@ pub mod Owed
 pub mod Given
 pub mod ClientLines
 pub mod ClearLines
-pub mod Calls
+pub mod ProxyCalls
 pub mod Traffic
 pub mod Filtering

@@ -1,7 +1,7 @@
 //! Lines that a server may be sent.
 ghost use Rattle.std.specs.Prelude.{◌≡◌, IfErr, IsOk};
 ghost use Rattle.std.specs.List.{list_all};
-ghost use Rattle.unftp_control_proxy.specs.Calls.{IsUnsent, MayBeSent};
+ghost use Rattle.unftp_control_proxy.specs.ProxyCalls.{IsUnsent, MayBeSent};
 ghost use Rattle.unftp_control_proxy.specs.ClearLines.{goes_with_cr, is_verb_byte, lacks_bare_cr, passes};
 
 use crate::errors::SendError;

@@ -4,7 +4,7 @@ ghost use Rattle.std.specs.List.{concat};
 ghost use Rattle.unftp_control_defs.specs.FtpReply.{CodeAndMsg, encoded};
 ghost use Rattle.unftp_control_defs.specs.Lines.{IsLine, lines_of};
 ghost use Rattle.unftp_control_message.specs.ReplyMeaning.{reply_of};
-ghost use Rattle.unftp_control_proxy.specs.Calls.{IsDecidable, WaitsForServer, is_out_of_memory};
+ghost use Rattle.unftp_control_proxy.specs.ProxyCalls.{IsDecidable, WaitsForServer, is_out_of_memory};
 ghost use Rattle.unftp_control_proxy.specs.ClientLines.{first_client_line, front_line, line_in};
 ghost use Rattle.unftp_control_proxy.specs.Filtering.{AnswerWith, AreFiltered, AsItIs, Becomes, Forward, Instead, IsSendable, decision_of, fate_by, refused_line};
 ghost use Rattle.unftp_control_proxy.specs.Traffic.{AnsweredBy, Fate, IsTraffic, nothing_passed, one_line, sent_for};

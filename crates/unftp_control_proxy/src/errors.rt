@@ -1,6 +1,6 @@
 //! Why a line is not decided, and why a reply is not replaced.
 ghost use Rattle.std.specs.Prelude.{◌≡◌};
-ghost use Rattle.unftp_control_proxy.specs.Calls.{is_out_of_memory};
+ghost use Rattle.unftp_control_proxy.specs.ProxyCalls.{is_out_of_memory};
 
 use thiserror::Error;
 use unftp_control_line_parser::ParseError;

@@ -5,7 +5,7 @@ ghost use Rattle.unftp_control_defs.specs.Bytes.{Bytes};
 ghost use Rattle.unftp_control_defs.specs.Events.{events};
 ghost use Rattle.unftp_control_defs.specs.Lines.{lines_of};
 ghost use Rattle.unftp_control_defs.specs.Run.{as_session, text_for};
-ghost use Rattle.unftp_control_proxy.specs.Calls.{new_proxy};
+ghost use Rattle.unftp_control_proxy.specs.ProxyCalls.{new_proxy};
 ghost use Rattle.unftp_control_proxy.specs.Filtering.{AreFiltered, filtered};
 ghost use Rattle.unftp_control_proxy.specs.Given.{AreAsked, given};
 ghost use Rattle.unftp_control_proxy.specs.Owed.{Reply, due};

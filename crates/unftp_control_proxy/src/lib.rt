@@ -7,6 +7,7 @@ mod clear;
 mod client;
 mod driver;
 mod errors;
+pub mod examples;
 mod filter;
 pub mod laws;
 mod order;

@@ -6,7 +6,7 @@ ghost use Rattle.unftp_control_defs.specs.Lines.{lines_of};
 ghost use Rattle.unftp_control_message.specs.ReplyMeaning.{reply_of};
 ghost use Rattle.unftp_control_read.specs.ReplyDecoding.{FindsFirst, pushed};
 ghost use Rattle.unftp_control_write.specs.Forwarding.{IsForwarded};
-ghost use Rattle.unftp_control_proxy.specs.Calls.{GivesDue, GivesNext, GivesOther, IsAnswerError, IsDecidable, IsForwardingError, IsOtherError, IsReplaceError, IsSendError, MayBeSent, WaitsForServer, decided, flushed, is_final, new_proxy, send_error};
+ghost use Rattle.unftp_control_proxy.specs.ProxyCalls.{GivesDue, GivesNext, GivesOther, IsAnswerError, IsDecidable, IsForwardingError, IsOtherError, IsReplaceError, IsSendError, MayBeSent, WaitsForServer, decided, flushed, is_final, new_proxy, send_error};
 ghost use Rattle.unftp_control_proxy.specs.ClientLines.{first_client_line, line_in, with_piece};
 ghost use Rattle.unftp_control_proxy.specs.Given.{IsWholeReply};
 ghost use Rattle.unftp_control_proxy.specs.Owed.{Answer, Reply as ReplyOwed};

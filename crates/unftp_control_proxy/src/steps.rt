@@ -7,7 +7,7 @@ ghost use Rattle.unftp_control_defs.specs.Lines.{IsLine};
 ghost use Rattle.unftp_control_defs.specs.Outcome.{outcome};
 ghost use Rattle.unftp_control_read.specs.ReplyDecoding.{pushed};
 ghost use Rattle.unftp_control_write.specs.Forwarding.{IsForwarded};
-ghost use Rattle.unftp_control_proxy.specs.Calls.{GivesDue, IsDecidable, PassesReply, decided};
+ghost use Rattle.unftp_control_proxy.specs.ProxyCalls.{GivesDue, IsDecidable, PassesReply, decided};
 ghost use Rattle.unftp_control_proxy.specs.ClientLines.{front_line, line_in, with_piece};
 ghost use Rattle.unftp_control_proxy.specs.Given.{ReplyBytes};
 ghost use Rattle.unftp_control_proxy.specs.Owed.{Answer, Reply};

@@ -1,7 +1,7 @@
 use Rattle.std.proofs.Common.{Some, refl, sym, ap, ◌∙◌}
 use Rattle.std.specs.Prelude.{is_some}
 use Rattle.std.proofs.lemmas.Bool.{false≢true}
-use Rattle.unftp_control_proxy.specs.Calls.{WaitsForServer}
+use Rattle.unftp_control_proxy.specs.ProxyCalls.{WaitsForServer}
 use Rattle.unftp_control_proxy.specs.declared.client.ClientLine.TheVariants.{Complete, TooLong}
 use Rattle.unftp_control_proxy.proofs.FilterLemmas.{long_first, may_decide, short_line, took_long, took_short}
 use Rattle.unftp_control_proxy.proofs.driver.filter_line.Goals as goal

@@ -1,5 +1,5 @@
 use Rattle.std.proofs.Common.{rules, ◌≡◌, ◌⊎◌, Err, inl, inr}
-use Rattle.unftp_control_proxy.specs.Calls.{IsForwardingError}
+use Rattle.unftp_control_proxy.specs.ProxyCalls.{IsForwardingError}
 use Rattle.unftp_control_proxy.specs.ClientLines.{line_in}
 use Rattle.unftp_control_proxy.specs.declared.errors.SendError.TheVariants.{OutOfMemory}
 use Rattle.unftp_control_proxy.proofs.SendLemmas.{not_forwarded, not_sent}
