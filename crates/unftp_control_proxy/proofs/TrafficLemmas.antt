@@ -13,7 +13,7 @@ use Rattle.unftp_control_defs.proofs.LineLemmas.{lines_of-concat}
 use Rattle.unftp_control_proxy.specs.ProxyCalls.{new_proxy}
 use Rattle.unftp_control_proxy.specs.Given.{AreAsked, ReplyBytes, given, still_owed}
 use Rattle.unftp_control_proxy.specs.Owed.{Owed, Answer, Reply, after_due, after_reply, due}
-use Rattle.unftp_control_proxy.specs.Traffic.{AnsweredBy, AreLines, AreReplies, ChangesNothing, DecidedLine, Fate, IsOneLine, IsTraffic, KeepsLine, PassedReply, SentAs, Traffic, all_bytes, came_in, client_lines, given_in, joined, nothing_passed, owed_by, owed_for, sent_by, sent_for}
+use Rattle.unftp_control_proxy.specs.Traffic.{AnsweredBy, IsDecidedLine, IsPassedReply, ChangesNothing, DecidedLine, Fate, IsOneLine, IsTraffic, KeepsLine, PassedReply, SentAs, Traffic, all_bytes, came_in, client_lines, given_in, joined, nothing_passed, owed_by, owed_for, sent_by, sent_for}
 use Rattle.unftp_control_proxy.specs.declared.proxy.Limits.{Limits}
 use Rattle.unftp_control_proxy.specs.declared.proxy.Proxy.{Proxy}
 use Rattle.unftp_control_proxy.proofs.OrderLemmas.{Parts, asked-undue, given-due, parts, still-due}
@@ -112,13 +112,13 @@ module _ {before middle later : Proxy} {first second : Traffic}
         later.client.bytes one.client two.client ∙ ap (λ bytes. bytes ++ later.client.bytes)
         (sym (concat-append (client_lines first.lines) (client_lines second.lines))
         ∙ ap concat (sym (map-append _ first.lines second.lines)));
-    lines = all-append AreLines first.lines second.lines one.lines two.lines;
+    lines = all-append IsDecidedLine first.lines second.lines one.lines two.lines;
     server = taken_in_turn before.server.bytes first.from_server (all_bytes (came_in first.replies))
         middle.server.bytes second.from_server (all_bytes (came_in second.replies))
         later.server.bytes one.server two.server ∙ ap (λ bytes. bytes ++ later.server.bytes)
         (sym (flat_map-append _ (came_in first.replies) (came_in second.replies))
         ∙ ap all_bytes (sym (map-append _ first.replies second.replies)));
-    replies = all-append AreReplies first.replies second.replies one.replies two.replies;
+    replies = all-append IsPassedReply first.replies second.replies one.replies two.replies;
     to_server = (λ i. one.to_server i ++ two.to_server i)
         ∙ sym (concat-append (sent_by first.lines) (sent_by second.lines))
         ∙ ap concat (sym (flat_map-append _ first.lines second.lines));
@@ -136,7 +136,7 @@ module _ {before middle later : Proxy} {first second : Traffic}
 
 -- ---- what the server is sent
 
-sent-lines : (lines : List DecidedLine) → AllByRecursion AreLines lines
+sent-lines : (lines : List DecidedLine) → AllByRecursion IsDecidedLine lines
     → AllByRecursion IsLine (sent_by lines)
 sent-lines [] all = tt
 sent-lines (decided ∷ lines) all = by_fate decided.fate all.0.1 (sent-lines lines all.1)
@@ -146,7 +146,7 @@ sent-lines (decided ∷ lines) all = by_fate decided.fate all.0.1 (sent-lines li
     by_fate (SentAs line) one others = (one, others)
     by_fate (AnsweredBy bytes) one others = others
 
-taken-lines : (lines : List DecidedLine) → AllByRecursion AreLines lines
+taken-lines : (lines : List DecidedLine) → AllByRecursion IsDecidedLine lines
     → AllByRecursion IsLine (client_lines lines)
 taken-lines [] all = tt
 taken-lines (decided ∷ lines) all = (all.0.0, taken-lines lines all.1)

@@ -107,12 +107,12 @@ abbrev pub IsOneLine : Fate → Type 0
 IsOneLine (SentAs line) = IsLine line
 IsOneLine (AnsweredBy bytes) = ⊤
 
-abbrev pub AreLines : DecidedLine → Type 0
-AreLines decided = IsLine decided.line × IsOneLine decided.fate
+abbrev pub IsDecidedLine : DecidedLine → Type 0
+IsDecidedLine decided = IsLine decided.line × IsOneLine decided.fate
 
 -- both are one reply, of the same code
-abbrev pub AreReplies : PassedReply → Type 0
-AreReplies passed = IsWholeReply passed.came × IsWholeReply passed.given
+abbrev pub IsPassedReply : PassedReply → Type 0
+IsPassedReply passed = IsWholeReply passed.came × IsWholeReply passed.given
     × (passed.given.code ≡ passed.came.code)
 
 -- All of this passed between two states of a proxy.
@@ -120,10 +120,10 @@ pub record IsTraffic (before : Proxy) (traffic : Traffic) (later : Proxy) : Type
   -- the lines are the first ones of what the client sent, and the replies those of the server
   pub client : before.client.bytes ++ traffic.from_client
       ≡ concat (client_lines traffic.lines) ++ later.client.bytes
-  pub lines : AllByRecursion AreLines traffic.lines
+  pub lines : AllByRecursion IsDecidedLine traffic.lines
   pub server : before.server.bytes ++ traffic.from_server
       ≡ all_bytes (came_in traffic.replies) ++ later.server.bytes
-  pub replies : AllByRecursion AreReplies traffic.replies
+  pub replies : AllByRecursion IsPassedReply traffic.replies
   -- the server is sent the lines that were decided for it, and nothing else
   pub to_server : traffic.to_server ≡ concat (sent_by traffic.lines)
   -- the client is given what it is owed, with the answers that are due

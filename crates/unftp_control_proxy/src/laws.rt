@@ -9,7 +9,7 @@ ghost use Rattle.unftp_control_proxy.specs.ProxyCalls.{new_proxy};
 ghost use Rattle.unftp_control_proxy.specs.Filtering.{AreFiltered, filtered};
 ghost use Rattle.unftp_control_proxy.specs.Given.{AreAsked, given};
 ghost use Rattle.unftp_control_proxy.specs.Owed.{Reply, due};
-ghost use Rattle.unftp_control_proxy.specs.Traffic.{AreLines, AreReplies, ChangesNothing, DecidedLine, IsTraffic, Traffic, all_bytes, came_in, client_lines, given_in, joined, nothing_passed, owed_by, sent_by};
+ghost use Rattle.unftp_control_proxy.specs.Traffic.{IsDecidedLine, IsPassedReply, ChangesNothing, DecidedLine, IsTraffic, Traffic, all_bytes, came_in, client_lines, given_in, joined, nothing_passed, owed_by, sent_by};
 ghost use Rattle.unftp_control_proxy.specs.declared.proxy.Limits.{Limits as RustLimits};
 ghost use Rattle.unftp_control_proxy.specs.declared.proxy.Proxy.{Proxy as RustProxy};
 
@@ -32,10 +32,10 @@ pub fn one_exchange_for_each_line()
     // The lines are the first ones of what the client sent, and the replies, each whole, those of
     // what the server sent; another that is given in place of one has its code.
     ensures lines { (limits : RustLimits) (traffic : Traffic) (later : RustProxy)
-        → IsTraffic (new_proxy limits) traffic later → AllByRecursion AreLines traffic.lines
+        → IsTraffic (new_proxy limits) traffic later → AllByRecursion IsDecidedLine traffic.lines
         × (traffic.from_client ≡ concat (client_lines traffic.lines) ++ later.client.bytes) }
     ensures replies { (limits : RustLimits) (traffic : Traffic) (later : RustProxy)
-        → IsTraffic (new_proxy limits) traffic later → AllByRecursion AreReplies traffic.replies
+        → IsTraffic (new_proxy limits) traffic later → AllByRecursion IsPassedReply traffic.replies
         × (traffic.from_server ≡ all_bytes (came_in traffic.replies) ++ later.server.bytes) }
     ensures bounded { (limits : RustLimits) (traffic : Traffic) (later : RustProxy)
         → IsTraffic (new_proxy limits) traffic later → length later.order ≤ max 1 limits.waiting }
