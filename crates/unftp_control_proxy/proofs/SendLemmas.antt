@@ -1,5 +1,6 @@
 -- Why a line is not sent.
-use Rattle.std.proofs.Common.{◌≡◌, length, drop, ap, subst, ◌∙◌}
+use Rattle.std.proofs.Common.{◌⊎◌, Result, Ok, Err, OnOk, inl, inr, ◌≡◌, length, drop, ap, subst, ◌∙◌}
+use Rattle.std.specs.Prelude.{IfErr}
 use Rattle.std.proofs.Math.Seq.{drop-append_seam}
 use Rattle.unftp_control_defs.specs.Bytes.{Bytes}
 use Rattle.unftp_control_defs.specs.Forwarded.{forwarded_line}
@@ -42,3 +43,17 @@ module _ (proxy : Proxy) (line : Bytes) where
           record { command = forwarded.command; means = forwarded.means; unsent = why }
       by_error send.NotFinal why = absurd why
       by_error send.OutOfMemory why = absurd why
+
+  -- so is why it is not sent, as `send_appended` returns it
+  pub send_appended : {T : Type 0} (result : Result T SendError) {before after sent : Bytes}
+      → IsForwarded line before after → sent ≡ drop (length before) after
+      → IfErr result (λ error. (error ≡ send.OutOfMemory)
+      ⊎ IsUnsent Clear proxy.limits.sent sent error)
+      → IfErr result (IsForwardingError proxy line)
+  send_appended (Ok done) forwarded is why = tt
+  send_appended (Err error) forwarded is (inl out) = rw out tt
+  send_appended (Err error) forwarded is (inr why) = not_sent forwarded is error why
+
+pub on_ok : {T E : Type 0} (result : Result T E) {P : Type 0} → P → OnOk result P
+on_ok (Ok done) holds = holds
+on_ok (Err error) holds = tt

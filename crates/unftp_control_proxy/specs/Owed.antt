@@ -1,5 +1,5 @@
--- What a client is still owed, in the order of its lines: a reply of the server, or an answer of the
--- proxy's own, which is held until all that comes before it was given (RFC 959, section 5.4).
+-- What a client is still owed, in the order of its lines: a reply of the server, or an answer of
+-- the proxy's own, which is held until all that comes before it was given (RFC 959, section 5.4).
 use Rattle.std.specs.Prelude.{⊤, ℕ, List, [], ◌∷◌, ◌++◌, if◌then◌else◌}
 use Rattle.unftp_control_defs.specs.Bytes.{Bytes}
 use Rattle.unftp_control_defs.specs.Turns.{is_preliminary}

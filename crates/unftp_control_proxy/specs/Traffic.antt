@@ -9,7 +9,7 @@ use Rattle.unftp_control_proxy.specs.Owed.{Owed, Answer, Reply, after_due, due}
 use Rattle.unftp_control_proxy.specs.Given.{AreAsked, IsWholeReply, ReplyBytes, given, still_owed}
 use Rattle.unftp_control_proxy.specs.declared.proxy.Proxy.{Proxy}
 
--- This line is sent to the server for the client's; or the client is given these bytes in its place.
+-- This line is sent to the server for the client's; or the client is given these bytes instead.
 pub data Fate : Type 0 where
   SentAs : Bytes → Fate
   AnsweredBy : Bytes → Fate

@@ -180,10 +180,10 @@ fn decide_line<F: Filter>(
 }
 
 /// Takes the client's next line, where there is one and the proxy doesn't wait for the server, does
-/// with it what the filter says, and reports whether it did. A line that is too long is answered
+/// with it what the filter says, and returns whether it did. A line that is too long is answered
 /// with 500, and the filter isn't asked.
 ///
-/// When out of memory, no line is taken; but the filter may have moved on, so the session is to end.
+/// When out of memory, no line is taken; but the filter may have moved on: the session is to end.
 pub fn filter_line<F: Filter>(
     proxy: &mut Proxy,
     alloc: Global,

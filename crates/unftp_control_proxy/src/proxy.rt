@@ -1,12 +1,12 @@
 //! A client's lines and a server's replies, and what each is sent.
-ghost use Rattle.std.specs.Prelude.{◌≡◌, ◌≢◌, ◌↔◌, ◌⊎◌, ◌≤◌, ◌<◌, ◌+◌, ◌++◌, [], true, None, Some, Ok, Err, IfErr, IfOk, IsOk, IsTrue, OnErr, OnOk, drop, is_some, length};
+ghost use Rattle.std.specs.Prelude.{◌≡◌, ◌≢◌, ◌↔◌, ◌⊎◌, ◌≤◌, ◌<◌, ◌+◌, ◌++◌, [], true, None, Some, Ok, Err, IfErr, IfOk, IsTrue, OnErr, OnOk, drop, is_some, length, take, vec_len};
 ghost use Rattle.unftp_control_defs.specs.Bytes.{Bytes};
 ghost use Rattle.unftp_control_defs.specs.FtpReply.{encoded};
 ghost use Rattle.unftp_control_defs.specs.Lines.{lines_of};
 ghost use Rattle.unftp_control_message.specs.ReplyMeaning.{reply_of};
 ghost use Rattle.unftp_control_read.specs.ReplyDecoding.{FindsFirst, pushed};
 ghost use Rattle.unftp_control_write.specs.Forwarding.{IsForwarded};
-ghost use Rattle.unftp_control_proxy.specs.ProxyCalls.{GivesDue, GivesNext, GivesOther, IsAnswerError, IsDecidable, IsForwardingError, IsOtherError, IsReplaceError, IsSendError, MayBeSent, WaitsForServer, decided, flushed, is_final, new_proxy, send_error};
+ghost use Rattle.unftp_control_proxy.specs.ProxyCalls.{GivesDue, GivesNext, GivesOther, IsAnswerError, IsDecidable, IsForwardingError, IsOtherError, IsReplaceError, IsSendError, IsUnsent, MayBeSent, WaitsForServer, decided, flushed, is_final, new_proxy, send_error};
 ghost use Rattle.unftp_control_proxy.specs.ClientLines.{first_client_line, line_in, with_piece};
 ghost use Rattle.unftp_control_proxy.specs.Given.{IsWholeReply};
 ghost use Rattle.unftp_control_proxy.specs.Owed.{Answer, Reply as ReplyOwed};
@@ -178,15 +178,7 @@ impl Proxy {
         if let Err(error) = forward(line, to_server) {
             return Err(send_error(error));
         }
-        let (_, line) = to_server.as_slice().split_at(length);
-        let checked = check(Form::Clear, self.limits.sent, line);
-        match self.send(checked) {
-            Ok(()) => Ok(()),
-            Err(error) => {
-                to_server.truncate(length);
-                Err(error)
-            }
-        }
+        self.send_appended(Form::Clear, length, to_server)
     }
 
     /// Decides the line: the line itself is sent, as it came, also one that is refused, as `OPTS
@@ -209,19 +201,11 @@ impl Proxy {
         if !self.is_decidable() {
             return Err(SendError::NoLine);
         }
-        let line = self.client.line();
-        check(Form::Answered, self.limits.sent, line)?;
         let length = to_server.len();
-        if to_server.extend_from_slice(line).is_err() {
+        if to_server.extend_from_slice(self.client.line()).is_err() {
             return Err(SendError::OutOfMemory);
         }
-        match self.send(Ok(())) {
-            Ok(()) => Ok(()),
-            Err(error) => {
-                to_server.truncate(length);
-                Err(error)
-            }
-        }
+        self.send_appended(Form::Answered, length, to_server)
     }
 
     /// Decides the line: another one is sent in its place, as PORT with another address. Else as
@@ -238,31 +222,39 @@ impl Proxy {
         if !self.is_decidable() {
             return Err(SendError::NoLine);
         }
-        check(Form::Answered, self.limits.sent, other)?;
         let length = to_server.len();
         if to_server.extend_from_slice(other).is_err() {
             return Err(SendError::OutOfMemory);
         }
-        match self.send(Ok(())) {
-            Ok(()) => Ok(()),
-            Err(error) => {
-                to_server.truncate(length);
-                Err(error)
-            }
-        }
+        self.send_appended(Form::Answered, length, to_server)
     }
 
-    /// Decides the line as one that is sent, where that was checked.
-    fn send(&mut self, checked: Result<(), SendError>) -> Result<(), SendError>
-        requires { IsTrue self.old.client.found }
+    /// Decides the line as one that is sent, where the bytes from `length` on may be sent for it;
+    /// else removes these.
+    fn send_appended(
+        &mut self,
+        form: Form,
+        length: usize,
+        to_server: &mut Vec<u8>,
+    ) -> Result<(), SendError>
+        requires found { IsTrue self.old.client.found }
+        requires within { length ≤ vec_len to_server.old }
         ensures ok { OnOk result (self.new ≡ decided self.old ReplyOwed) }
-        ensures checked { OnOk result (IsOk checked) }
-        ensures why { IfErr result (λ error.
-            (checked ≡ Err error) ⊎ (error ≡ SendError.OutOfMemory)) }
+        ensures kept { OnOk result (to_server.new.items ≡ to_server.old.items) }
+        ensures sent { OnOk result
+            (MayBeSent form self.old.limits.sent (drop length to_server.old.items)) }
+        ensures why { IfErr result (λ error. (error ≡ SendError.OutOfMemory)
+            ⊎ IsUnsent form self.old.limits.sent (drop length to_server.old.items) error) }
         ensures err { OnErr result (self.new ≡ self.old) }
+        ensures removed { OnErr result (to_server.new.items ≡ take length to_server.old.items) }
     {
-        checked?;
+        let (_, line) = to_server.as_slice().split_at(length);
+        if let Err(error) = check(form, self.limits.sent, line) {
+            to_server.truncate(length);
+            return Err(error);
+        }
         if self.order.owe_reply().is_err() {
+            to_server.truncate(length);
             return Err(SendError::OutOfMemory);
         }
         self.client.take();
@@ -270,7 +262,7 @@ impl Proxy {
         Ok(())
     }
 
-    /// Decides the line: the client is owed this reply in its place, and the server is sent nothing.
+    /// Decides the line: the client is owed this reply in its place, and nothing is sent for it.
     ///
     /// `NotFinal` where another reply to the same line would have to follow. At an error nothing
     /// changes.
@@ -298,7 +290,7 @@ impl Proxy {
     }
 
     /// Appends what the client is given next: the answers before which no reply is owed, and then
-    /// the server's next reply, as it came (RFC 959, section 4.2); or `None` where none is complete.
+    /// the server's next reply, as it came (RFC 959, section 4.2). `None` where none is complete.
     ///
     /// `Malformed` and `TooLong` are returned from then on, and after `OutOfMemory` the next call
     /// goes on: each answer and reply is given once, and whole.
