@@ -72,8 +72,9 @@ fn is_verb_byte(form: Form, byte: u8) -> bool
     }
 }
 
-/// Whether a NUL or a line feed follows each carriage return.
-fn lacks_bare_cr(bytes: &[u8]) -> bool
+/// Whether a NUL or a line feed follows each carriage return (RFC 854): so no server that ends a
+/// line at a bare one reads two lines in this one. It takes no memory.
+pub fn lacks_bare_cr(bytes: &[u8]) -> bool
     ensures { result ≡ lacks_bare_cr bytes.now }
 {
     let mut rest = bytes;
