@@ -9,7 +9,7 @@ ghost use Rattle.unftp_control_write.specs.Forwarding.{IsForwarded};
 ghost use Rattle.unftp_control_proxy.specs.ProxyCalls.{GivesDue, GivesNext, GivesOther, IsAnswerError, IsDecidable, IsForwardingError, IsOtherError, IsReplaceError, IsSendError, IsUnsent, MayBeSent, WaitsForServer, decided, flushed, is_final, new_proxy, send_error};
 ghost use Rattle.unftp_control_proxy.specs.ClientLines.{first_client_line, line_in, with_piece};
 ghost use Rattle.unftp_control_proxy.specs.Given.{IsWholeReply};
-ghost use Rattle.unftp_control_proxy.specs.Owed.{Answer, Reply as ReplyOwed};
+ghost use Rattle.unftp_control_proxy.specs.Owed.{Answer, IsReplyNext, Reply as ReplyOwed, after_reply};
 ghost use Rattle.unftp_control_proxy.specs.declared.clear.Form.TheVariants.{Answered, Clear};
 
 use crate::clear::{Form, check};
@@ -345,9 +345,22 @@ impl Proxy {
         if to_client.extend_from_slice(reply).is_err() {
             return Err(NextReplyError::OutOfMemory);
         }
+        self.settle(first);
+        Ok(Some(ServerReply::Passed(first.code)))
+    }
+
+    /// The server's first reply was given, or another one in its place: it is owed no longer, and
+    /// its bytes are removed.
+    fn settle(&mut self, first: FirstReply)
+        requires owed { IsReplyNext self.old.order }
+        requires within { first.length ≤ length self.old.server.bytes }
+        ensures { self.new ≡ record self.old {
+          server = record self.old.server { bytes = drop first.length self.old.server.bytes };
+          order = after_reply first.code self.old.order;
+        } }
+    {
         self.server.consume(first.length);
         self.order.replied(first.code);
-        Ok(Some(ServerReply::Passed(first.code)))
     }
 
     /// The first reply of what the server sent, which `server_pending` begins with; or `None` where
@@ -404,8 +417,7 @@ impl Proxy {
         if to_client.extend_from_slice(other).is_err() {
             return Err(ReplaceError::OutOfMemory);
         }
-        self.server.consume(first.length);
-        self.order.replied(first.code);
+        self.settle(first);
         Ok(())
     }
 
