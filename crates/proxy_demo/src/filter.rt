@@ -1,0 +1,102 @@
+//! Which lines of a client are sent to the server.
+ghost use Rattle.std.specs.Prelude.{◌≡◌, ⊤, IfOk};
+ghost use Rattle.unftp_control_defs.specs.FtpReply.{CodeAndMsg};
+ghost use Rattle.unftp_control_defs.specs.Outcome.{outcome};
+ghost use Rattle.unftp_control_message.specs.ReplyMeaning.{number_of};
+ghost use Rattle.unftp_control_proxy.specs.ClearLines.{goes_with_cr, lacks_bare_cr};
+ghost use Rattle.unftp_control_proxy.specs.Filtering.{AnswerWith, decision_of};
+ghost use Rattle.proxy_demo.specs.Allowed.{allows, decided, may_go_as_it_is, only_reads};
+
+use std::alloc::{AllocError, Global};
+use unftp_control_defs::verb::{Verb, verb_named};
+use unftp_control_line_parser::{parts, split};
+use unftp_control_message::reply::{Reply, ReplyCode};
+use unftp_control_proxy::{Filter, Verdict};
+
+/// Whether a line of this verb may go to the server: one that logs in, asks or reads.
+fn allows(verb: Verb) -> bool
+    ensures { result ≡ allows verb }
+{
+    match verb {
+        Verb::User | Verb::Pass | Verb::Acct | Verb::Quit | Verb::Noop => true,
+        Verb::Syst | Verb::Feat | Verb::Help | Verb::Stat | Verb::Opts => true,
+        Verb::TypeCode | Verb::Stru | Verb::Mode | Verb::Allo | Verb::Rest => true,
+        Verb::Pasv | Verb::Epsv | Verb::Port | Verb::Abor => true,
+        Verb::Pwd | Verb::Cwd | Verb::Cdup => true,
+        Verb::Retr | Verb::List | Verb::Nlst | Verb::Mlst | Verb::Mlsd => true,
+        Verb::Size | Verb::Mdtm => true,
+        _ => false,
+    }
+}
+
+/// Whether a line that is no command may go to the server as it is: its verb is allowed, and all
+/// servers read one line in it.
+fn may_go_as_it_is(line: &[u8]) -> bool
+    ensures { result ≡ may_go_as_it_is line.now }
+{
+    let (word, _) = split(line);
+    match verb_named(word) {
+        Some(verb) => allows(verb) && lacks_bare_cr(line),
+        None => false,
+    }
+}
+
+/// Whether a NUL or a line feed follows each carriage return.
+fn lacks_bare_cr(bytes: &[u8]) -> bool
+    ensures { result ≡ lacks_bare_cr bytes.now }
+{
+    let mut rest = bytes;
+    while let [byte, after @ ..] = rest {
+        if *byte == b'\r' && !goes_with_cr(after) {
+            return false;
+        }
+        rest = after;
+    }
+    true
+}
+
+/// Whether the bytes begin with NUL or a line feed.
+fn goes_with_cr(bytes: &[u8]) -> bool
+    ensures { result ≡ goes_with_cr bytes.now }
+{
+    matches!(bytes, [b'\0' | b'\n', ..])
+}
+
+/// An answer of this code and text.
+fn answer(alloc: Global, code: ReplyCode, text: &str) -> Result<Verdict, AllocError>
+    ensures { IfOk result (λ verdict.
+        decision_of verdict ≡ AnswerWith (CodeAndMsg (number_of code) text.now)) }
+{
+    match Reply::new(alloc, code, text) {
+        Ok(reply) => Ok(Verdict::Answer(reply)),
+        Err(_) => Err(AllocError),
+    }
+}
+
+/// What is done with a line.
+fn decide(alloc: Global, line: &[u8]) -> Result<Verdict, AllocError>
+    ensures { IfOk result (λ verdict. decision_of verdict ≡ decided line.now (outcome line.now)) }
+{
+    match parts(line) {
+        Ok(parts) if allows(parts.verb) => Ok(Verdict::Forward),
+        Ok(_) => answer(alloc, ReplyCode::CommandNotImplemented, "Not allowed here"),
+        Err(_) if may_go_as_it_is(line) => Ok(Verdict::SendAsItIs),
+        Err(_) => answer(alloc, ReplyCode::CommandSyntaxError, "Not understood"),
+    }
+}
+
+/// Lets through what only reads.
+#[derive(Clone, Copy)]
+pub struct OnlyReads;
+
+impl Filter for OnlyReads {
+    ghost State = { ⊤ };
+
+    ghost state = { λ filter. tt };
+
+    ghost law = { only_reads };
+
+    fn decide(&mut self, alloc: Global, line: &[u8]) -> Result<Verdict, AllocError> {
+        decide(alloc, line)
+    }
+}
