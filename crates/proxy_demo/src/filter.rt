@@ -3,7 +3,6 @@ ghost use Rattle.std.specs.Prelude.{◌≡◌, ⊤, IfOk};
 ghost use Rattle.unftp_control_defs.specs.FtpReply.{CodeAndMsg};
 ghost use Rattle.unftp_control_defs.specs.Outcome.{outcome};
 ghost use Rattle.unftp_control_message.specs.ReplyMeaning.{number_of};
-ghost use Rattle.unftp_control_proxy.specs.ClearLines.{goes_with_cr, lacks_bare_cr};
 ghost use Rattle.unftp_control_proxy.specs.Filtering.{AnswerWith, decision_of};
 ghost use Rattle.proxy_demo.specs.Allowed.{allows, decided, may_go_as_it_is, only_reads};
 
@@ -11,7 +10,7 @@ use std::alloc::{AllocError, Global};
 use unftp_control_defs::verb::{Verb, verb_named};
 use unftp_control_line_parser::{parts, split};
 use unftp_control_message::reply::{Reply, ReplyCode};
-use unftp_control_proxy::{Filter, Verdict};
+use unftp_control_proxy::{Filter, Verdict, lacks_bare_cr};
 
 /// Whether a line of this verb may go to the server: one that logs in, asks or reads.
 fn allows(verb: Verb) -> bool
@@ -39,27 +38,6 @@ fn may_go_as_it_is(line: &[u8]) -> bool
         Some(verb) => allows(verb) && lacks_bare_cr(line),
         None => false,
     }
-}
-
-/// Whether a NUL or a line feed follows each carriage return.
-fn lacks_bare_cr(bytes: &[u8]) -> bool
-    ensures { result ≡ lacks_bare_cr bytes.now }
-{
-    let mut rest = bytes;
-    while let [byte, after @ ..] = rest {
-        if *byte == b'\r' && !goes_with_cr(after) {
-            return false;
-        }
-        rest = after;
-    }
-    true
-}
-
-/// Whether the bytes begin with NUL or a line feed.
-fn goes_with_cr(bytes: &[u8]) -> bool
-    ensures { result ≡ goes_with_cr bytes.now }
-{
-    matches!(bytes, [b'\0' | b'\n', ..])
 }
 
 /// An answer of this code and text.
