@@ -30,7 +30,8 @@ module _ (before later : Proxy) (order : later.order ≡ before.order)
     pub pieces : (from_client from_server : Bytes)
         → before.client.bytes ++ from_client ≡ later.client.bytes
         → before.server.bytes ++ from_server ≡ later.server.bytes
-        → IsTraffic before (record nothing_passed { from_client = from_client; from_server = from_server }) later
+        → IsTraffic before
+        (record nothing_passed { from_client = from_client; from_server = from_server }) later
     pieces from_client from_server client server =
         let same : before.order ++ [] ≡ before.order = append-nil before.order in
         record {
@@ -93,7 +94,8 @@ pub line_in-is : (proxy : Proxy) → IsDecidable proxy → line_in proxy.client 
 line_in-is proxy may some =
     let shown : line_in proxy.client ≡ shown_line proxy.client.limit (front_line proxy.client.bytes)
     = rw may.found refl in
-    shown ∙ shown_is proxy.client.limit (front_line proxy.client.bytes) (subst (λ line. line ≢ []) shown some)
+    shown ∙ shown_is proxy.client.limit (front_line proxy.client.bytes) (subst (λ line. line ≢
+    []) shown some)
 
 module _ (before later : Proxy) (fate : Fate) (may : IsDecidable before) (one : IsOneLine fate)
     (is : later ≡ decided before (owed_for fate)) where
@@ -107,9 +109,11 @@ module _ (before later : Proxy) (fate : Fate) (may : IsDecidable before) (one : 
       λ full. may.goes_on (inl full) in
       record {
         client = append-nil before.client.bytes ∙ cut_front before.client.bytes may.is_line
-            ∙ (λ i. sym (append-nil line) i ++ sym (ap (λ (proxy : Proxy). proxy.client.bytes) is) i);
+            ∙ (λ i. sym (append-nil line) i ++ sym (ap
+            (λ (proxy : Proxy). proxy.client.bytes) is) i);
         lines = ((may.is_line, one), tt);
-        server = append-nil before.server.bytes ∙ sym (ap (λ (proxy : Proxy). proxy.server.bytes) is);
+        server = append-nil before.server.bytes ∙ sym (ap
+            (λ (proxy : Proxy). proxy.server.bytes) is);
         replies = tt;
         to_server = ap concat (sym (append-nil (sent_for fate)));
         to_client = ap due order_is;
@@ -147,7 +151,8 @@ module _ (before later : Proxy) (sent sent_later : Bytes) (may : IsDecidable bef
         command,
         means,
         forwarded.appended ∙ ap (λ line. sent ++ forwarded_line line command) same,
-        ap (λ line. outcome (forwarded_line line command)) (sym same) ∙ forwarded.read_back ∙ sym means,
+        ap (λ line. outcome (forwarded_line line command)) (sym same) ∙ forwarded.read_back
+            ∙ sym means,
         decides before later (SentAs (forwarded_line line command)) may
             (subst (λ line. IsLine (forwarded_line line command)) same forwarded.is_line) is,
       )
@@ -205,7 +210,8 @@ next_is [] next = absurd next
 next_is (Reply ∷ owed) next = (refl, refl)
 next_is (Answer bytes ∷ owed) next = absurd next
 
-replied : (code : ℕ) (owed : List Owed) → (gone : List Owed) × (owed ≡ gone ++ after_reply code owed)
+replied : (code : ℕ) (owed : List Owed) → (gone : List Owed) × (owed
+    ≡ gone ++ after_reply code owed)
 replied code [] = ([], refl)
 replied code (first ∷ owed) = by_test (is_preliminary code)
   where
@@ -214,7 +220,8 @@ replied code (first ∷ owed) = by_test (is_preliminary code)
     by_test true = ([], refl)
     by_test false = (first ∷ [], refl)
 
-module _ (before later : Proxy) (came reply : ReplyBytes) (passes : PassesReply before came reply later) where
+module _ (before later : Proxy) (came reply : ReplyBytes)
+    (passes : PassesReply before came reply later) where
   order_then : later.order ≡ after_reply came.code before.order
   order_then = ap (λ (proxy : Proxy). proxy.order) passes.later_is
 
@@ -236,7 +243,8 @@ module _ (before later : Proxy) (came reply : ReplyBytes) (passes : PassesReply 
         client = append-nil before.client.bytes
             ∙ sym (ap (λ (proxy : Proxy). proxy.client.bytes) passes.later_is);
         lines = tt;
-        server = append-nil before.server.bytes ∙ takes_first before.server came later.server passes.takes
+        server = append-nil before.server.bytes
+            ∙ takes_first before.server came later.server passes.takes
             ∙ ap (λ bytes. bytes ++ later.server.bytes) (sym (append-nil came.bytes));
         replies = (
           (takes_whole before.server came later.server passes.takes, passes.whole, passes.same_code),
@@ -244,7 +252,8 @@ module _ (before later : Proxy) (came reply : ReplyBytes) (passes : PassesReply 
         );
         to_server = refl;
         to_client = ap (λ order. reply.bytes ++ due order) (order_then ∙ sym code_is)
-            ∙ ap (λ bytes. bytes ++ (reply.bytes ++ due (after_reply reply.code (after_due (before.order ++ [])))))
+            ∙ ap (λ bytes. bytes ++ (reply.bytes ++ due (after_reply reply.code (after_due
+            (before.order ++ [])))))
             (sym none_before.0);
         still = ap after_due (order_then ∙ sym code_is);
         asked = (subst IsReplyNext (sym none_before.1) passes.owed, tt);

@@ -47,7 +47,8 @@ module _ {bytes line rest : Bytes} (begins : BeginsWithLine bytes line rest) whe
   pub first_client_line-is : (limit : ℕ) → first_client_line limit (lines_of bytes)
       ≡ Some (if exceeds (Some limit) (length line) then TooLong else Complete)
   first_client_line-is limit =
-      ap (first_client_line limit) (ap lines_of begins.whole ∙ (line_first line rest begins.is_line).0)
+      ap (first_client_line limit) (ap lines_of begins.whole
+      ∙ (line_first line rest begins.is_line).0)
 
 -- ---- what is known of the first line
 
@@ -235,7 +236,8 @@ module _ {limit : ℕ} {old new : Codec} {dropped buf bytes : Bytes} {start : �
 pub all_are : (n : ℕ) (dropped pending : Bytes) {dropped' rest : Bytes}
     → rest ≡ drop n pending → dropped' ≡ dropped ++ take n pending
     → dropped' ++ rest ≡ dropped ++ pending
-all_are n dropped pending rest_is dropped_is = rw (dropped_is, rest_is) (same_bytes n dropped pending)
+all_are n dropped pending rest_is dropped_is = rw (dropped_is, rest_is)
+    (same_bytes n dropped pending)
 
 -- the first line is one, where it was found
 pub found_is_line : (limit : ℕ) (codec : Codec) (dropped kept : Bytes) (f : First)

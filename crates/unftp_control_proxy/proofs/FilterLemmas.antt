@@ -81,7 +81,8 @@ module _ (proxy : Proxy) (may : IsDecidable proxy) where
       ap (drop (length before)) forwarded.appended ∙ drop-append_seam before sent_line in
       let fate : fate_by proxy.limits.sent Forward line ≡ SentAs sent_line =
       ap (forwarded_or_refused proxy.limits.sent line) forwarded.means
-      ∙ sent Clear proxy.limits.sent sent_line (subst (MayBeSent Clear proxy.limits.sent) same may_be) in
+      ∙ sent Clear proxy.limits.sent sent_line (subst
+      (MayBeSent Clear proxy.limits.sent) same may_be) in
       subst (λ fate. Becomes fate proxy before after later) (sym fate) (record {
         later_is = is;
         appended = forwarded.appended ∙ ap (λ bytes. before ++ bytes) (sym (append-nil sent_line));
@@ -97,7 +98,8 @@ pub refused_becomes : {T E : Type 0} (result : Result T E) (error : SendError)
     → OnOk result (Becomes fate before out out' later)
 refused_becomes (Ok done) error before before' later {out} {out'} becomes same out_is some refused =
     subst (λ fate. Becomes fate before out out' later) (sym (refused some)) (record {
-      later_is = subst (λ before. later ≡ decided before (owed_for refused_line)) same becomes.later_is;
+      later_is = subst (λ before. later ≡ decided before
+          (owed_for refused_line)) same becomes.later_is;
       appended = out_is ∙ sym (append-nil out);
       one = tt;
     })
@@ -113,7 +115,8 @@ first_line limit bytes kind = by_lines (lines_of bytes) (Lines-lines_of bytes).e
   where
     by_lines : (lines : List Bytes) → AllByRecursion IsLine lines
         → first_client_line limit lines ≡ Some kind → IsLine (head_or_none lines)
-        × ((if exceeds (Some limit) (length (head_or_none lines)) then TooLong else Complete) ≡ kind)
+        × ((if exceeds (Some limit) (length (head_or_none lines)) then TooLong else Complete)
+        ≡ kind)
     by_lines [] each is = absurd (none-some _ is)
     by_lines (line ∷ lines) each is = (each.0, same_Some _ kind is)
 
@@ -137,7 +140,8 @@ module _ (before now : Proxy) (found : Bool) (held : ℕ)
       × (exceeds (Some before.client.limit) (length (front_line before.client.bytes)) ≡ false)
   short_line there is =
       let first = first_line before.client.limit before.client.bytes Complete is in
-      let short = by_test (exceeds (Some before.client.limit) (length (front_line before.client.bytes)))
+      let short = by_test (exceeds (Some before.client.limit) (length
+      (front_line before.client.bytes)))
       first.1 in
       let same : line_in now.client ≡ front_line before.client.bytes =
       rw (now_is, there, short) refl in
@@ -147,9 +151,11 @@ module _ (before now : Proxy) (found : Bool) (held : ℕ)
       by_test true e = absurd (cc)
       by_test false e = refl
 
-  pub long_first : first_client_line before.client.limit (lines_of before.client.bytes) ≡ Some TooLong
+  pub long_first : first_client_line before.client.limit (lines_of before.client.bytes)
+      ≡ Some TooLong
       → exceeds (Some before.client.limit) (length (front_line before.client.bytes)) ≡ true
-  long_first is = by_test (exceeds (Some before.client.limit) (length (front_line before.client.bytes)))
+  long_first is = by_test (exceeds (Some before.client.limit) (length
+      (front_line before.client.bytes)))
       (first_line before.client.limit before.client.bytes TooLong is).1
     where
       by_test : (long : Bool) → (if long then TooLong else Complete) ≡ TooLong → long ≡ true
@@ -172,7 +178,8 @@ module _ {S : Type 0} (law : FilterLaw S) (before now later : Proxy) (found : Bo
 
   passed : (fate : Fate) (sent sent' : Bytes) → Becomes fate now sent sent' later
       → IsTraffic before (one_line line fate) later
-  passed fate sent sent' becomes = subst (λ bytes. IsTraffic before (one_line (front_line bytes) fate) later)
+  passed fate sent sent' becomes = subst (λ bytes. IsTraffic before (one_line
+      (front_line bytes) fate) later)
       (ap (λ (proxy : Proxy). proxy.client.bytes) now_is)
       (in_turn (found_only before now found held now_is)
       (decides now later fate may becomes.one becomes.later_is))
@@ -214,7 +221,8 @@ module _ {S : Type 0} (law : FilterLaw S) (limit sent_limit : ℕ) where
     filtered_in_turn (state_then law limit sent_limit s decided.line) s' s'' first later one.1 two,
   )
 
-  pub decided_so : (s s' : S) (lines : List DecidedLine) → AreFiltered law limit sent_limit s lines s'
+  pub decided_so : (s s' : S) (lines : List DecidedLine)
+      → AreFiltered law limit sent_limit s lines s'
       → lines ≡ filtered law limit sent_limit s (client_lines lines)
   decided_so s s' [] are = refl
   decided_so s s' (decided ∷ lines) are = λ i. record { line = decided.line; fate = are.0 i }

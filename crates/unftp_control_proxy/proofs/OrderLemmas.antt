@@ -20,7 +20,8 @@ pub gives_due : {before later : Proxy} {out out' : Bytes}
     → GivesDue before out out' later
 gives_due {before} {later} {out} {out'} whole n kept still rest is =
     let more = drop n out' in
-    let split : out' ≡ out ++ more = sym (take-append-drop n out') ∙ ap (λ front. front ++ more) kept in
+    let split : out' ≡ out ++ more = sym (take-append-drop n out') ∙ ap
+    (λ front. front ++ more) kept in
     let gone : List Owed = take (length before.order - length later.order) before.order in
     record {
       given = more;
@@ -110,7 +111,8 @@ pub record Parts (owed more : List Owed) (first later : List ReplyBytes) : Type 
       ≡ given owed first ++ given (still_owed owed first ++ more) later
   pub still_is : still_owed (owed ++ more) (first ++ later)
       ≡ still_owed (still_owed owed first ++ more) later
-  pub asked : AreAsked (still_owed owed first ++ more) later → AreAsked (owed ++ more) (first ++ later)
+  pub asked : AreAsked (still_owed owed first ++ more) later → AreAsked (owed ++ more)
+      (first ++ later)
 
 pub parts : (first : List ReplyBytes) (owed more : List Owed) (later : List ReplyBytes)
     → AreAsked owed first → Parts owed more first later

@@ -86,8 +86,10 @@ module _ {before middle later : Proxy} {first second : Traffic}
       ≡ given (before.order ++ owed_by whole.lines) (given_in whole.replies)
   to_client_is =
       append_assoc first.to_client second.to_client (due later.order)
-      ∙ ap (λ bytes. first.to_client ++ bytes) (two.to_client ∙ given-due middle.order more later_replies)
-      ∙ sym (append_assoc first.to_client (due middle.order) (given (after_due middle.order ++ more) later_replies))
+      ∙ ap (λ bytes. first.to_client ++ bytes) (two.to_client
+      ∙ given-due middle.order more later_replies)
+      ∙ sym (append_assoc first.to_client (due middle.order) (given
+      (after_due middle.order ++ more) later_replies))
       ∙ ap (λ bytes. bytes ++ given (after_due middle.order ++ more) later_replies) one.to_client
       ∙ ap (λ left. given first_owed replies ++ given (left ++ more) later_replies) one.still
       ∙ sym cut.given_is
@@ -152,7 +154,8 @@ taken-lines [] all = tt
 taken-lines (decided ∷ lines) all = (all.0.0, taken-lines lines all.1)
 
 -- these lines are the lines of their bytes
-lines_of-lines : (lines : List Bytes) → AllByRecursion IsLine lines → lines_of (concat lines) ≡ lines
+lines_of-lines : (lines : List Bytes) → AllByRecursion IsLine lines → lines_of (concat lines)
+    ≡ lines
 lines_of-lines lines all = ap lines_of (sym (append-nil (concat lines)))
     ∙ (lines_of-concat lines [] all tt).0
 
@@ -236,7 +239,8 @@ pub same_bytes : {limits : Limits} {later : Proxy} {traffic : Traffic}
     → IsTraffic (new_proxy limits) traffic later → ChangesNothing traffic
     → traffic.to_client ++ later.server.bytes ≡ traffic.from_server
 same_bytes {limits} {later} {traffic} is same =
-    let sent : AllSent (Reply ∷ owed_by traffic.lines) = (refl, all_sent traffic.lines same.lines) in
+    let sent : AllSent
+    (Reply ∷ owed_by traffic.lines) = (refl, all_sent traffic.lines same.lines) in
     let left = none_due later.order (all_last is.gone later.order (subst AllSent is.order sent)) in
     ap (λ bytes. bytes ++ later.server.bytes)
     (sym (append-nil traffic.to_client) ∙ ap (λ due. traffic.to_client ++ due) (sym left.0)

@@ -91,7 +91,8 @@ module _ {S : Type 0} (law : FilterLaw S) (limit sent : ℕ) where
       × AreFiltered (state_then s decided.line) lines s'
 
 -- The client's line is taken, with this fate.
-pub record Becomes (fate : Fate) (before : Proxy) (sent sent' : Bytes) (later : Proxy) : Type 0 where
+pub record Becomes (fate : Fate) (before : Proxy) (sent sent' : Bytes)
+    (later : Proxy) : Type 0 where
   pub later_is : later ≡ decided before (owed_for fate)
   pub appended : sent' ≡ sent ++ concat (sent_for fate)
   pub one : IsOneLine fate

@@ -64,7 +64,8 @@ returns-in-TooLong-clause-found c =
     let left = c.drop_front-in-TooLong.ensures in
     let same = all_are c.in-TooLong.length d.dropped _ left.buffer left.dropped in
     rw (← c.self.view_is) (shows d.limit _ same
-    (is_there d.limit _ (kind-is d.limit c.find_line.new.self _ _ first.TooLong (invariant_of-self-in-TooLong c).first_is refl)
+    (is_there d.limit _ (kind-is d.limit c.find_line.new.self _ _ first.TooLong
+    (invariant_of-self-in-TooLong c).first_is refl)
     same))
 
 pub returns-in-Complete-clause-found : goal.returns-in-Complete-clause-found
@@ -72,5 +73,6 @@ returns-in-Complete-clause-found c =
     let d = c.self.inside in
     let kept : Bytes = drop d.buffer.start d.buffer.bytes.items in
     rw (← c.self.view_is) (shows d.limit _ refl
-    (is_there d.limit {bytes = d.dropped ++ kept} _ (kind-is d.limit c.find_line.new.self d.dropped kept
+    (is_there d.limit {bytes = d.dropped ++ kept} _
+    (kind-is d.limit c.find_line.new.self d.dropped kept
     (first.Line c.in-Complete.length) (invariant_of-self-in-Complete c).first_is refl) refl))

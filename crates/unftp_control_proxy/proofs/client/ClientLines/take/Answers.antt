@@ -18,7 +18,8 @@ returns c =
           let first = rw w.in-Line.is at c.self.invariant.first_is in
           rw (w.self-inside-is, ← c.self.view_is)
           (ap (λ bytes. record { bytes = bytes; limit = d.limit; found = false; held = length d.buffer.bytes.items })
-          (ap (λ dropped. dropped ++ drop (d.buffer.start + w.in-Line.length) d.buffer.bytes.items) first.0
+          (ap (λ dropped. dropped ++ drop
+          (d.buffer.start + w.in-Line.length) d.buffer.bytes.items) first.0
           ∙ sym (drop-drop w.in-Line.length d.buffer.start d.buffer.bytes.items)
           ∙ sym (rw w.in-Line.is at after)))
       | in-TooLong w ↦
