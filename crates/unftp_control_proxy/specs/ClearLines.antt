@@ -1,9 +1,9 @@
 -- Lines that a proxy lets a server see. Servers differ in how they read a bare CR, a tab or a byte
--- that is not ASCII before the parameter, and some send no reply to a line without a verb or with
--- Telnet's bytes in it (RFC 854): then each later reply would be given to another line.
-use Rattle.std.specs.Prelude.{ℕ, Bool, true, false, not, ◌==◌, ◌&&◌, ◌||◌, if◌then◌else◌, nat_lt, [], ◌∷◌, length}
+-- that is not ASCII before the parameter. Some send no reply to a line without a verb, with Telnet's
+-- bytes in it (RFC 854), or that ends by LF alone: each later reply would be given to another line.
+use Rattle.std.specs.Prelude.{ℕ, ◌-◌, Bool, true, false, not, ◌==◌, ◌&&◌, ◌||◌, if◌then◌else◌, nat_lt, [], ◌∷◌, bytes_eq, drop, length}
 use Rattle.std.specs.List.{list_all}
-use Rattle.unftp_control_defs.specs.Bytes.{Bytes, CR, LF, NUL}
+use Rattle.unftp_control_defs.specs.Bytes.{Bytes, CR, LF, NUL, crlf}
 use Rattle.unftp_control_defs.specs.Verbs.{verb_of}
 use Rattle.unftp_control_proxy.specs.declared.clear.Form.{Form}
 use Rattle.unftp_control_proxy.specs.declared.clear.Form.TheVariants.{Clear, Answered}
@@ -35,7 +35,10 @@ abbrev pub is_verb_byte : Form → ℕ → Bool
 is_verb_byte Clear b = is_visible b
 is_verb_byte Answered b = is_in_ascii b
 
+abbrev pub ends_by_crlf : Bytes → Bool
+ends_by_crlf line = bytes_eq (drop (length line - 2) line) crlf
+
 -- What is asked of a line that is sent: that all servers read it alike, or reply to it.
 abbrev pub passes : Form → Bytes → Bool
 passes Clear line = has_verb_of is_visible line && lacks_bare_cr line
-passes Answered line = has_verb_of is_in_ascii line
+passes Answered line = has_verb_of is_in_ascii line && ends_by_crlf line

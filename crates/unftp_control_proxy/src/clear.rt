@@ -2,7 +2,7 @@
 ghost use Rattle.std.specs.Prelude.{◌≡◌, IfErr, IsOk};
 ghost use Rattle.std.specs.List.{list_all};
 ghost use Rattle.unftp_control_proxy.specs.ProxyCalls.{IsUnsent, MayBeSent};
-ghost use Rattle.unftp_control_proxy.specs.ClearLines.{goes_with_cr, is_verb_byte, lacks_bare_cr, passes};
+ghost use Rattle.unftp_control_proxy.specs.ClearLines.{ends_by_crlf, goes_with_cr, is_verb_byte, lacks_bare_cr, passes};
 
 use crate::errors::SendError;
 use unftp_control_line_parser::split;
@@ -44,8 +44,16 @@ fn passes(form: Form, line: &[u8]) -> bool
     }
     match form {
         Form::Clear => lacks_bare_cr(line),
-        Form::Answered => true,
+        Form::Answered => ends_by_crlf(line),
     }
+}
+
+/// Whether the line ends by CR LF: some servers send no reply to one that ends by LF alone.
+fn ends_by_crlf(line: &[u8]) -> bool
+    ensures { result ≡ ends_by_crlf line.now }
+{
+    let (_, end) = line.split_at(line.len().saturating_sub(2));
+    end == b"\r\n".as_slice()
 }
 
 /// Whether each byte may be one of the verb.

@@ -15,6 +15,7 @@ pub fn lines_are_clear()
     ensures bare_cr { passes Clear (codes "TYPE A\rSITE x\r\n") ≡ false }
     ensures tab { passes Clear (codes "SITE\tx\r\n") ≡ false }
     ensures tab_by_name { passes Answered (codes "SITE\tx\r\n") ≡ true }
+    ensures lf_alone { passes Answered (codes "SITE x\n") ≡ false }
     ensures no_verb { passes Answered (codes " SITE x\r\n") ≡ false }
     ensures empty { passes Answered (codes "\r\n") ≡ false }
 {}

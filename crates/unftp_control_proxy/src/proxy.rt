@@ -184,9 +184,9 @@ impl Proxy {
     /// Decides the line: the line itself is sent, as it came, also one that is refused, as `OPTS
     /// MLST size`. The caller has to know what the server makes of its bytes.
     ///
-    /// `Unclear` where its verb is empty or has bytes that are not ASCII, as Telnet's: some servers
-    /// send no reply to that, and each later reply would be given to another line. Else as
-    /// `forward`.
+    /// `Unclear` where its verb is empty or has bytes that are not ASCII, as Telnet's, or where it
+    /// ends by LF alone: some servers send no reply to that, and each later reply would be given to
+    /// another line. Else as `forward`.
     pub fn send_as_it_is(&mut self, to_server: &mut Vec<u8>) -> Result<(), SendError>
         ensures ok { OnOk result (self.new ≡ decided self.old ReplyOwed) }
         ensures may { OnOk result (IsDecidable self.old) }
