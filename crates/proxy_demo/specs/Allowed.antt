@@ -1,5 +1,5 @@
 -- Which lines of a client are sent to the server, and what is answered to the others.
-use Rattle.std.specs.Prelude.{⊤, Bool, true, false, if◌then◌else◌, ◌&&◌, Option, Some, None, Ok, Err, codes}
+use Rattle.std.specs.Prelude.{⊤, Bool, true, false, if◌then◌else◌, Option, Some, None, Ok, Err, codes}
 use Rattle.unftp_control_defs.specs.Bytes.{Bytes}
 use Rattle.unftp_control_defs.specs.FtpCommand.{Answer, said, verbs}
 use Rattle.unftp_control_defs.specs.FtpReply.{CodeAndMsg}
@@ -8,7 +8,6 @@ use Rattle.unftp_control_defs.specs.Rules.{row_of}
 use Rattle.unftp_control_defs.specs.Verbs.{upper, verb_of}
 use Rattle.unftp_control_defs.specs.declared.verb.Verb.{Verb}
 use Rattle.unftp_control_defs.specs.declared.verb.Verb.TheVariants as verb
-use Rattle.unftp_control_proxy.specs.ClearLines.{lacks_bare_cr}
 use Rattle.unftp_control_proxy.specs.Filtering.{AnswerWith, AsItIs, Decision, FilterLaw, Forward}
 
 -- the verbs that log in, ask or read
@@ -48,9 +47,9 @@ abbrev pub allows_word : Option Verb → Bool
 allows_word None = false
 allows_word (Some verb) = allows verb
 
--- its verb is allowed, and all servers read one line in it
+-- its verb is allowed
 abbrev pub may_go_as_it_is : Bytes → Bool
-may_go_as_it_is line = allows_word (row_of (upper (verb_of line)) verbs) && lacks_bare_cr line
+may_go_as_it_is line = allows_word (row_of (upper (verb_of line)) verbs)
 
 -- A line that is a command is forwarded where its verb is allowed. One that is none is sent as it
 -- is, where it may go so.

@@ -10,7 +10,7 @@ use std::alloc::{AllocError, Global};
 use unftp_control_defs::verb::{Verb, verb_named};
 use unftp_control_line_parser::{parts, split};
 use unftp_control_message::reply::{Reply, ReplyCode};
-use unftp_control_proxy::{Filter, Verdict, lacks_bare_cr};
+use unftp_control_proxy::{Filter, Verdict};
 
 /// Whether a line of this verb may go to the server: one that logs in, asks or reads.
 fn allows(verb: Verb) -> bool
@@ -28,14 +28,13 @@ fn allows(verb: Verb) -> bool
     }
 }
 
-/// Whether a line that is no command may go to the server as it is: its verb is allowed, and all
-/// servers read one line in it.
+/// Whether a line that is no command may go to the server as it is: its verb is allowed.
 fn may_go_as_it_is(line: &[u8]) -> bool
     ensures { result ≡ may_go_as_it_is line.now }
 {
     let (word, _) = split(line);
     match verb_named(word) {
-        Some(verb) => allows(verb) && lacks_bare_cr(line),
+        Some(verb) => allows(verb),
         None => false,
     }
 }

@@ -14,15 +14,13 @@ use Rattle.unftp_control_defs.proofs.ForwardedLineLemmas.{IsLine-forwarded_line}
 use Rattle.unftp_control_defs.proofs.LineLemmas.{Lines-lines_of}
 use Rattle.unftp_control_write.specs.Forwarding.{IsForwarded}
 use Rattle.unftp_control_proxy.specs.ProxyCalls.{IsDecidable, IsForwardingError, IsUnsent, MayBeSent, WaitsForServer, decided, is_out_of_memory}
-use Rattle.unftp_control_proxy.specs.ClearLines.{passes}
+use Rattle.unftp_control_proxy.specs.ClearLines.{is_clear}
 use Rattle.unftp_control_proxy.specs.ClientLines.{first_client_line, front_line, head_or_none, line_in}
 use Rattle.unftp_control_proxy.specs.Filtering.{AreFiltered, Becomes, FilterLaw, Forward, fate_by, filtered, forwarded_or_refused, long_line, refused_line, sent_or_refused, state_then}
 use Rattle.unftp_control_proxy.specs.Owed.{Reply}
 use Rattle.unftp_control_proxy.specs.Traffic.{DecidedLine, Fate, IsTraffic, SentAs, client_lines, one_line, owed_for, sent_for}
 use Rattle.unftp_control_proxy.specs.declared.client.ClientLine.{ClientLine}
 use Rattle.unftp_control_proxy.specs.declared.client.ClientLine.TheVariants.{Complete, TooLong}
-use Rattle.unftp_control_proxy.specs.declared.clear.Form.{Form}
-use Rattle.unftp_control_proxy.specs.declared.clear.Form.TheVariants.{Clear}
 use Rattle.unftp_control_proxy.specs.declared.errors.SendError.{SendError}
 use Rattle.unftp_control_proxy.specs.declared.errors.SendError.TheVariants as send
 use Rattle.unftp_control_proxy.specs.declared.proxy.Proxy.{Proxy}
@@ -31,25 +29,25 @@ use Rattle.unftp_control_proxy.proofs.TrafficLemmas.{in_turn}
 
 -- ---- a line that is sent, or not
 
-sent : (form : Form) (limit : ℕ) (line : Bytes) → MayBeSent form limit line
-    → sent_or_refused form limit line ≡ SentAs line
-sent form limit line may = rw (le-leb (length line) limit may.short, may.passes_by) refl
+sent : (limit : ℕ) (line : Bytes) → MayBeSent limit line
+    → sent_or_refused limit line ≡ SentAs line
+sent limit line may = rw (le-leb (length line) limit may.short, may.clear) refl
 
-unsent : (form : Form) (limit : ℕ) (line : Bytes) (error : SendError) → IsLine line
-    → IsUnsent form limit line error → sent_or_refused form limit line ≡ refused_line
-unsent form limit line send.NoLine is_line why = absurd why
-unsent form limit line send.NotALine is_line why = absurd (why is_line)
-unsent form limit line (send.Refused kind) is_line why = absurd why
-unsent form limit line send.Unclear is_line why = by_length (nat_le (length line) limit)
+unsent : (limit : ℕ) (line : Bytes) (error : SendError) → IsLine line
+    → IsUnsent limit line error → sent_or_refused limit line ≡ refused_line
+unsent limit line send.NoLine is_line why = absurd why
+unsent limit line send.NotALine is_line why = absurd (why is_line)
+unsent limit line (send.Refused kind) is_line why = absurd why
+unsent limit line send.Unclear is_line why = by_length (nat_le (length line) limit)
   where
-    by_length : (short : Bool) → (if short && passes form line then SentAs line else refused_line)
+    by_length : (short : Bool) → (if short && is_clear line then SentAs line else refused_line)
         ≡ refused_line
     by_length true = rw why refl
     by_length false = refl
-unsent form limit line send.TooLong is_line why =
+unsent limit line send.TooLong is_line why =
     let long : nat_le (length line) limit ≡ false = grind (arith, nat_tests, why) in rw long refl
-unsent form limit line send.NotFinal is_line why = absurd why
-unsent form limit line send.OutOfMemory is_line why = absurd why
+unsent limit line send.NotFinal is_line why = absurd why
+unsent limit line send.OutOfMemory is_line why = absurd why
 
 -- Why a line is not sent says that it is refused.
 module _ (proxy : Proxy) (may : IsDecidable proxy) where
@@ -60,10 +58,10 @@ module _ (proxy : Proxy) (may : IsDecidable proxy) where
   forward_refused line send.NotALine is_line why some = absurd (why is_line)
   forward_refused line (send.Refused kind) is_line why some = rw why.2 refl
   forward_refused line send.Unclear is_line why some = rw why.means
-      (unsent Clear proxy.limits.sent (forwarded_line line why.command) send.Unclear
+      (unsent proxy.limits.sent (forwarded_line line why.command) send.Unclear
       (IsLine-forwarded_line line why.command is_line why.means) why.unsent)
   forward_refused line send.TooLong is_line why some = rw why.means
-      (unsent Clear proxy.limits.sent (forwarded_line line why.command) send.TooLong
+      (unsent proxy.limits.sent (forwarded_line line why.command) send.TooLong
       (IsLine-forwarded_line line why.command is_line why.means) why.unsent)
   forward_refused line send.NotFinal is_line why some = absurd why.unsent
   forward_refused line send.OutOfMemory is_line why some = absurd (cc)
@@ -72,7 +70,7 @@ module _ (proxy : Proxy) (may : IsDecidable proxy) where
 
   pub forward_sent : (before after : Bytes) (line : Bytes)
       → IsForwarded line before after
-      → MayBeSent Clear proxy.limits.sent (drop (length before) after) → (later : Proxy)
+      → MayBeSent proxy.limits.sent (drop (length before) after) → (later : Proxy)
       → later ≡ decided proxy Reply
       → Becomes (fate_by proxy.limits.sent Forward line) proxy before after later
   forward_sent before after line forwarded may_be later is =
@@ -81,8 +79,8 @@ module _ (proxy : Proxy) (may : IsDecidable proxy) where
       ap (drop (length before)) forwarded.appended ∙ drop-append_seam before sent_line in
       let fate : fate_by proxy.limits.sent Forward line ≡ SentAs sent_line =
       ap (forwarded_or_refused proxy.limits.sent line) forwarded.means
-      ∙ sent Clear proxy.limits.sent sent_line (subst
-      (MayBeSent Clear proxy.limits.sent) same may_be) in
+      ∙ sent proxy.limits.sent sent_line (subst
+      (MayBeSent proxy.limits.sent) same may_be) in
       subst (λ fate. Becomes fate proxy before after later) (sym fate) (record {
         later_is = is;
         appended = forwarded.appended ∙ ap (λ bytes. before ++ bytes) (sym (append-nil sent_line));

@@ -8,7 +8,6 @@ use Rattle.unftp_control_write.specs.Forwarding.{IsForwardError, IsForwarded}
 use Rattle.unftp_control_write.specs.declared.forwarding.ForwardError.{ForwardError}
 use Rattle.unftp_control_write.specs.declared.forwarding.ForwardError.TheVariants as forward
 use Rattle.unftp_control_proxy.specs.ProxyCalls.{IsForwardingError, IsUnsent, send_error}
-use Rattle.unftp_control_proxy.specs.declared.clear.Form.TheVariants.{Clear}
 use Rattle.unftp_control_proxy.specs.declared.errors.SendError.{SendError}
 use Rattle.unftp_control_proxy.specs.declared.errors.SendError.TheVariants as send
 use Rattle.unftp_control_proxy.specs.declared.proxy.Proxy.{Proxy}
@@ -23,16 +22,16 @@ module _ (proxy : Proxy) (line : Bytes) where
   -- what would be forwarded is not sent
   pub not_sent : {before after sent : Bytes} → IsForwarded line before after
       → sent ≡ drop (length before) after → (error : SendError)
-      → IsUnsent Clear proxy.limits.sent sent error → IsForwardingError proxy line error
+      → IsUnsent proxy.limits.sent sent error → IsForwardingError proxy line error
   not_sent {before} {after} {sent} forwarded is error why =
-      by_error error (subst (λ sent. IsUnsent Clear proxy.limits.sent sent error) appended why)
+      by_error error (subst (λ sent. IsUnsent proxy.limits.sent sent error) appended why)
     where
       appended : sent ≡ forwarded_line line forwarded.command
       appended = is ∙ ap (drop (length before)) forwarded.appended
           ∙ drop-append_seam before (forwarded_line line forwarded.command)
 
       by_error : (error : SendError)
-          → IsUnsent Clear proxy.limits.sent (forwarded_line line forwarded.command) error
+          → IsUnsent proxy.limits.sent (forwarded_line line forwarded.command) error
           → IsForwardingError proxy line error
       by_error send.NoLine why = absurd why
       by_error send.NotALine why = absurd (why forwarded.is_line)
@@ -48,7 +47,7 @@ module _ (proxy : Proxy) (line : Bytes) where
   pub send_appended : {T : Type 0} (result : Result T SendError) {before after sent : Bytes}
       → IsForwarded line before after → sent ≡ drop (length before) after
       → IfErr result (λ error. (error ≡ send.OutOfMemory)
-      ⊎ IsUnsent Clear proxy.limits.sent sent error)
+      ⊎ IsUnsent proxy.limits.sent sent error)
       → IfErr result (IsForwardingError proxy line)
   send_appended (Ok done) forwarded is why = tt
   send_appended (Err error) forwarded is (inl out) = rw out tt

@@ -10,10 +10,8 @@ use Rattle.unftp_control_defs.specs.Lines.{IsLine}
 use Rattle.unftp_control_defs.specs.Outcome.{outcome}
 use Rattle.unftp_control_message.specs.ReplyMeaning.{reply_of}
 use Rattle.unftp_control_proxy.specs.ProxyCalls.{decided, is_final}
-use Rattle.unftp_control_proxy.specs.ClearLines.{passes}
+use Rattle.unftp_control_proxy.specs.ClearLines.{is_clear}
 use Rattle.unftp_control_proxy.specs.Traffic.{AnsweredBy, DecidedLine, Fate, IsOneLine, SentAs, owed_for, sent_for}
-use Rattle.unftp_control_proxy.specs.declared.clear.Form.{Form}
-use Rattle.unftp_control_proxy.specs.declared.clear.Form.TheVariants.{Clear, Answered}
 use Rattle.unftp_control_proxy.specs.declared.filter.Verdict.{Verdict}
 use Rattle.unftp_control_proxy.specs.declared.filter.Verdict.TheVariants as verdict
 use Rattle.unftp_control_proxy.specs.declared.proxy.Proxy.{Proxy}
@@ -51,20 +49,20 @@ abbrev pub long_line : Fate
 long_line = AnsweredBy (encoded (CodeAndMsg 500 (codes "Line too long")))
 
 -- this line is sent, if it may be
-abbrev pub sent_or_refused : Form → ℕ → Bytes → Fate
-sent_or_refused form limit line =
-    if nat_le (length line) limit && passes form line then SentAs line else refused_line
+abbrev pub sent_or_refused : ℕ → Bytes → Fate
+sent_or_refused limit line =
+    if nat_le (length line) limit && is_clear line then SentAs line else refused_line
 
 abbrev pub forwarded_or_refused : ℕ → Bytes → Answer → Fate
 forwarded_or_refused limit line (Ok command) =
-    sent_or_refused Clear limit (forwarded_line line command)
+    sent_or_refused limit (forwarded_line line command)
 forwarded_or_refused limit line (Err refusal) = refused_line
 
 -- what becomes of a line of which this is decided
 abbrev pub fate_by : ℕ → Decision → Bytes → Fate
 fate_by limit Forward line = forwarded_or_refused limit line (outcome line)
-fate_by limit AsItIs line = sent_or_refused Answered limit line
-fate_by limit (Instead other) line = sent_or_refused Answered limit other
+fate_by limit AsItIs line = sent_or_refused limit line
+fate_by limit (Instead other) line = sent_or_refused limit other
 fate_by limit (AnswerWith reply) line =
     if is_final reply then AnsweredBy (encoded reply) else refused_line
 

@@ -13,14 +13,12 @@ use Rattle.unftp_control_read.specs.declared.errors.NextReplyError.{NextReplyErr
 use Rattle.unftp_control_write.specs.Forwarding.{IsForwardError}
 use Rattle.unftp_control_write.specs.declared.forwarding.ForwardError.{ForwardError}
 use Rattle.unftp_control_write.specs.declared.forwarding.ForwardError.TheVariants as forward
-use Rattle.unftp_control_proxy.specs.ClearLines.{passes}
+use Rattle.unftp_control_proxy.specs.ClearLines.{is_clear}
 use Rattle.unftp_control_proxy.specs.ClientLines.{front_line, no_client_bytes, without_line}
 use Rattle.unftp_control_proxy.specs.Given.{IsWholeReply, ReplyBytes}
 use Rattle.unftp_control_proxy.specs.Owed.{Owed, IsReplyNext, Reply, after_due, after_reply, due}
 use Rattle.unftp_control_proxy.specs.declared.proxy.Limits.{Limits}
 use Rattle.unftp_control_proxy.specs.declared.proxy.Proxy.{Proxy}
-use Rattle.unftp_control_proxy.specs.declared.clear.Form.{Form}
-use Rattle.unftp_control_proxy.specs.declared.clear.Form.TheVariants.{Clear, Answered}
 use Rattle.unftp_control_proxy.specs.declared.proxy.ServerReply.{ServerReply}
 use Rattle.unftp_control_proxy.specs.declared.proxy.ServerReply.TheVariants as server
 use Rattle.unftp_control_proxy.specs.declared.errors.ReplaceError.{ReplaceError}
@@ -60,21 +58,21 @@ decided proxy owed = record proxy {
 }
 
 -- the line may be sent
-pub record MayBeSent (form : Form) (limit : ℕ) (line : Bytes) : Type 0 where
+pub record MayBeSent (limit : ℕ) (line : Bytes) : Type 0 where
   pub is_line : IsLine line
   pub short : length line ≤ limit
-  pub passes_by : passes form line ≡ true
+  pub clear : is_clear line ≡ true
 
 abbrev pub is_out_of_memory : SendError → Bool
 is_out_of_memory send.OutOfMemory = true
 is_out_of_memory _ = false
 
 -- why a line is not sent
-abbrev pub IsUnsent : Form → ℕ → Bytes → SendError → Type 0
-IsUnsent form limit line send.NotALine = ¬ IsLine line
-IsUnsent form limit line send.TooLong = limit < length line
-IsUnsent form limit line send.Unclear = passes form line ≡ false
-IsUnsent form limit line _ = ⊥
+abbrev pub IsUnsent : ℕ → Bytes → SendError → Type 0
+IsUnsent limit line send.NotALine = ¬ IsLine line
+IsUnsent limit line send.TooLong = limit < length line
+IsUnsent limit line send.Unclear = is_clear line ≡ false
+IsUnsent limit line _ = ⊥
 
 -- why a line is not sent that is not forwarded for this reason
 abbrev pub send_error : ForwardError → SendError
@@ -86,13 +84,13 @@ send_error forward.OutOfMemory = send.OutOfMemory
 abbrev pub IsSendError : Proxy → Bytes → SendError → Type 0
 IsSendError proxy line send.NoLine = ¬ IsDecidable proxy
 IsSendError proxy line send.OutOfMemory = ⊤
-IsSendError proxy line error = IsUnsent Answered proxy.limits.sent line error
+IsSendError proxy line error = IsUnsent proxy.limits.sent line error
 
 -- The line that would be forwarded is not sent.
 pub record IsForwardedUnsent (proxy : Proxy) (line : Bytes) (error : SendError) : Type 0 where
   pub command : FtpCommand
   pub means : outcome line ≡ Ok command
-  pub unsent : IsUnsent Clear proxy.limits.sent (forwarded_line line command) error
+  pub unsent : IsUnsent proxy.limits.sent (forwarded_line line command) error
 
 -- why the client's line, which is this, is not forwarded
 abbrev pub IsForwardingError : Proxy → Bytes → SendError → Type 0

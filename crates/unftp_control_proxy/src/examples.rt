@@ -2,22 +2,24 @@
 ghost use Rattle.std.specs.Prelude.{◌≡◌, ◌∷◌, ◌++◌, [], Some, None, codes, false, true};
 ghost use Rattle.unftp_control_defs.specs.FtpReply.{CodeAndMsg, MultiLine, Nothing};
 ghost use Rattle.unftp_control_proxy.specs.ProxyCalls.{is_final};
-ghost use Rattle.unftp_control_proxy.specs.ClearLines.{passes};
+ghost use Rattle.unftp_control_proxy.specs.ClearLines.{is_clear};
 ghost use Rattle.unftp_control_proxy.specs.ClientLines.{after_front_line, front_line, shown_line};
 ghost use Rattle.unftp_control_proxy.specs.Given.{AreAsked, given};
 ghost use Rattle.unftp_control_proxy.specs.Owed.{Answer, Reply};
-ghost use Rattle.unftp_control_proxy.specs.declared.clear.Form.TheVariants.{Answered, Clear};
 
-/// Lines that all servers read alike, or reply to.
+/// Lines that all servers read alike.
 pub fn lines_are_clear()
-    ensures clear { passes Clear (codes "SITE CHMOD 777 a\r\n") ≡ true }
-    ensures cr_nul { passes Clear (codes "RETR a\r\0b\r\n") ≡ true }
-    ensures bare_cr { passes Clear (codes "TYPE A\rSITE x\r\n") ≡ false }
-    ensures tab { passes Clear (codes "SITE\tx\r\n") ≡ false }
-    ensures tab_by_name { passes Answered (codes "SITE\tx\r\n") ≡ true }
-    ensures lf_alone { passes Answered (codes "SITE x\n") ≡ false }
-    ensures no_verb { passes Answered (codes " SITE x\r\n") ≡ false }
-    ensures empty { passes Answered (codes "\r\n") ≡ false }
+    ensures clear { is_clear (codes "SITE CHMOD 777 a\r\n") ≡ true }
+    ensures tab_in_a_path { is_clear (codes "RETR a\tb\r\n") ≡ true }
+    ensures bare_cr { is_clear (codes "TYPE A\rSITE x\r\n") ≡ false }
+    ensures cr_after_verb { is_clear (codes "NOOP\rSITE x\r\n") ≡ false }
+    ensures cr_nul { is_clear (codes "RETR a\r\0b\r\n") ≡ false }
+    ensures telnet { is_clear (codes "CWD " ++ 255 ∷ 244 ∷ codes "b\r\n") ≡ false }
+    ensures tab { is_clear (codes "SITE\tx\r\n") ≡ false }
+    ensures underscore { is_clear (codes "FOO_BAR x\r\n") ≡ false }
+    ensures lf_alone { is_clear (codes "SITE x\n") ≡ false }
+    ensures no_verb { is_clear (codes " SITE x\r\n") ≡ false }
+    ensures empty { is_clear (codes "\r\n") ≡ false }
 {}
 
 /// An answer waits for the replies that are owed before it, and a preliminary reply is not final.

@@ -14,7 +14,6 @@ mod order;
 mod proxy;
 pub mod steps;
 
-pub use crate::clear::lacks_bare_cr;
 pub use crate::client::ClientLine;
 pub use crate::driver::filter_line;
 pub use crate::errors::{ReplaceError, SendError};

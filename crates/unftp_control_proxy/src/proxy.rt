@@ -10,9 +10,8 @@ ghost use Rattle.unftp_control_proxy.specs.ProxyCalls.{GivesDue, GivesNext, Give
 ghost use Rattle.unftp_control_proxy.specs.ClientLines.{first_client_line, line_in, with_piece};
 ghost use Rattle.unftp_control_proxy.specs.Given.{IsWholeReply};
 ghost use Rattle.unftp_control_proxy.specs.Owed.{Answer, IsReplyNext, Reply as ReplyOwed, after_reply};
-ghost use Rattle.unftp_control_proxy.specs.declared.clear.Form.TheVariants.{Answered, Clear};
 
-use crate::clear::{Form, check};
+use crate::clear::check;
 use crate::client::{ClientLine, ClientLines};
 use crate::errors::{ReplaceError, SendError};
 use crate::order::Order;
@@ -52,9 +51,10 @@ pub enum ServerReply {
 /// A proxy between a client and a server. The caller gives it what both sent, in any pieces, and
 /// takes from it what each is to be sent.
 ///
-/// After each piece from either side the caller calls `next_line` until there is none, and decides
-/// each line by `forward`, `send_as_it_is`, `replace` or `answer`; and calls `next_reply` until it
-/// returns `None`.
+/// After each piece from either side the caller calls `next_reply` until it returns `None`, then
+/// `next_line` once, and decides the line by `forward`, `send_as_it_is`, `replace` or `answer`; and
+/// so on until no line is taken. A reply that is given makes room for a line, and an answer is given
+/// only by `next_reply`.
 #[derive(Drop)]
 pub struct Proxy {
     client: ClientLines,
@@ -152,16 +152,17 @@ impl Proxy {
     /// Decides the line: appends the line that `forward` of `unftp_control_write` writes for it,
     /// and the client is owed the server's reply.
     ///
-    /// `Refused` where the line is no command; `Unclear` where servers may read what would be sent
-    /// in different ways: it has a bare CR, or bytes in its verb that are not visible ASCII, or no
-    /// verb; `TooLong` where it is longer than `Limits::sent`. At an error nothing changes.
+    /// `Refused` where the line is no command; `Unclear` where servers don't read alike what would
+    /// be sent: its verb is empty or has bytes that are no letters and digits of ASCII, or there is
+    /// a CR, a NUL or a 255 (Telnet's, RFC 854) before its end; `TooLong` where it is longer than
+    /// `Limits::sent`. At an error nothing changes.
     pub fn forward(&mut self, to_server: &mut Vec<u8>) -> Result<(), SendError>
         ensures ok { OnOk result (self.new ≡ decided self.old ReplyOwed) }
         ensures may { OnOk result (IsDecidable self.old) }
         ensures shown { OnOk result (line_in self.old.client ≢ []) }
         ensures forwarded { OnOk result
             (IsForwarded (line_in self.old.client) to_server.old.items to_server.new.items) }
-        ensures sent { OnOk result (MayBeSent Clear self.old.limits.sent
+        ensures sent { OnOk result (MayBeSent self.old.limits.sent
             (drop (length to_server.old.items) to_server.new.items)) }
         ensures why { IfErr result (IsForwardingError self.old (line_in self.old.client)) }
         ensures err { OnErr result (self.new ≡ self.old) }
@@ -178,22 +179,22 @@ impl Proxy {
         if let Err(error) = forward(line, to_server) {
             return Err(send_error(error));
         }
-        self.send_appended(Form::Clear, length, to_server)
+        self.send_appended(length, to_server)
     }
 
     /// Decides the line: the line itself is sent, as it came, also one that is refused, as `OPTS
-    /// MLST size`. The caller has to know what the server makes of its bytes.
+    /// MLST size`.
     ///
-    /// `Unclear` where its verb is empty or has bytes that are not ASCII, as Telnet's, or where it
-    /// ends by LF alone: some servers send no reply to that, and each later reply would be given to
-    /// another line. Else as `forward`.
+    /// `Unclear` as with `forward`, of the line itself, and where it ends by LF alone: some servers
+    /// send no reply to that, and each later reply would be given to another line. Else as
+    /// `forward`.
     pub fn send_as_it_is(&mut self, to_server: &mut Vec<u8>) -> Result<(), SendError>
         ensures ok { OnOk result (self.new ≡ decided self.old ReplyOwed) }
         ensures may { OnOk result (IsDecidable self.old) }
         ensures appended { OnOk result
             (to_server.new.items ≡ to_server.old.items ++ line_in self.old.client) }
         ensures sent { OnOk result
-            (MayBeSent Answered self.old.limits.sent (line_in self.old.client)) }
+            (MayBeSent self.old.limits.sent (line_in self.old.client)) }
         ensures why { IfErr result (IsSendError self.old (line_in self.old.client)) }
         ensures err { OnErr result (self.new ≡ self.old) }
         ensures out_err { OnErr result (to_server.new.items ≡ to_server.old.items) }
@@ -205,7 +206,7 @@ impl Proxy {
         if to_server.extend_from_slice(self.client.line()).is_err() {
             return Err(SendError::OutOfMemory);
         }
-        self.send_appended(Form::Answered, length, to_server)
+        self.send_appended(length, to_server)
     }
 
     /// Decides the line: another one is sent in its place, as PORT with another address. Else as
@@ -214,7 +215,7 @@ impl Proxy {
         ensures ok { OnOk result (self.new ≡ decided self.old ReplyOwed) }
         ensures may { OnOk result (IsDecidable self.old) }
         ensures appended { OnOk result (to_server.new.items ≡ to_server.old.items ++ other.now) }
-        ensures sent { OnOk result (MayBeSent Answered self.old.limits.sent other.now) }
+        ensures sent { OnOk result (MayBeSent self.old.limits.sent other.now) }
         ensures why { IfErr result (IsSendError self.old other.now) }
         ensures err { OnErr result (self.new ≡ self.old) }
         ensures out_err { OnErr result (to_server.new.items ≡ to_server.old.items) }
@@ -226,30 +227,25 @@ impl Proxy {
         if to_server.extend_from_slice(other).is_err() {
             return Err(SendError::OutOfMemory);
         }
-        self.send_appended(Form::Answered, length, to_server)
+        self.send_appended(length, to_server)
     }
 
     /// Decides the line as one that is sent, where the bytes from `length` on may be sent for it;
     /// else removes these.
-    fn send_appended(
-        &mut self,
-        form: Form,
-        length: usize,
-        to_server: &mut Vec<u8>,
-    ) -> Result<(), SendError>
+    fn send_appended(&mut self, length: usize, to_server: &mut Vec<u8>) -> Result<(), SendError>
         requires found { IsTrue self.old.client.found }
         requires within { length ≤ vec_len to_server.old }
         ensures ok { OnOk result (self.new ≡ decided self.old ReplyOwed) }
         ensures kept { OnOk result (to_server.new.items ≡ to_server.old.items) }
         ensures sent { OnOk result
-            (MayBeSent form self.old.limits.sent (drop length to_server.old.items)) }
+            (MayBeSent self.old.limits.sent (drop length to_server.old.items)) }
         ensures why { IfErr result (λ error. (error ≡ SendError.OutOfMemory)
-            ⊎ IsUnsent form self.old.limits.sent (drop length to_server.old.items) error) }
+            ⊎ IsUnsent self.old.limits.sent (drop length to_server.old.items) error) }
         ensures err { OnErr result (self.new ≡ self.old) }
         ensures removed { OnErr result (to_server.new.items ≡ take length to_server.old.items) }
     {
         let (_, line) = to_server.as_slice().split_at(length);
-        if let Err(error) = check(form, self.limits.sent, line) {
+        if let Err(error) = check(self.limits.sent, line) {
             to_server.truncate(length);
             return Err(error);
         }
