@@ -1,6 +1,6 @@
 -- Lines that a proxy lets a server see. Servers differ in how they read a bare CR, a NUL, Telnet's
--- bytes (RFC 854) or a tab after the verb. Some send no reply to a line that has one of these in its
--- verb, or no verb, or that ends by LF alone: each later reply would be given to another line.
+-- bytes (RFC 854) or a tab after the verb. Some send no reply to a line without a verb, with one of
+-- these in it, or that ends by LF alone: each later reply would be given to another line.
 use Rattle.std.specs.Prelude.{ℕ, ◌-◌, Bool, not, ◌==◌, ◌&&◌, ◌||◌, bytes_eq, drop, length, take}
 use Rattle.std.specs.Char.{is_ascii_alphanumeric}
 use Rattle.std.specs.List.{list_all}

@@ -3,7 +3,8 @@ ghost use Rattle.std.specs.Prelude.{◌≡◌, IfErr, IsOk};
 ghost use Rattle.std.specs.Char.{is_ascii_alphanumeric};
 ghost use Rattle.std.specs.List.{list_all};
 ghost use Rattle.unftp_control_proxy.specs.ProxyCalls.{IsUnsent, MayBeSent};
-ghost use Rattle.unftp_control_proxy.specs.ClearLines.{has_clear_verb, is_clear, is_plain, is_plain_line};
+ghost use Rattle.unftp_control_proxy.specs.ClearLines.{has_clear_verb, is_clear};
+ghost use Rattle.unftp_control_proxy.specs.ClearLines.{is_plain, is_plain_line};
 
 use crate::errors::SendError;
 use unftp_control_line_parser::split;

@@ -53,8 +53,8 @@ pub enum ServerReply {
 ///
 /// After each piece from either side the caller calls `next_reply` until it returns `None`, then
 /// `next_line` once, and decides the line by `forward`, `send_as_it_is`, `replace` or `answer`; and
-/// so on until no line is taken. A reply that is given makes room for a line, and an answer is given
-/// only by `next_reply`.
+/// so on until no line is taken. A reply that is given makes room for a line, and only `next_reply`
+/// gives an answer.
 #[derive(Drop)]
 pub struct Proxy {
     client: ClientLines,
