@@ -1,16 +1,17 @@
 //! Which lines of a client are sent to the server.
 ghost use Rattle.std.specs.Prelude.{◌≡◌, ⊤, IfOk};
-ghost use Rattle.unftp_control_defs.specs.FtpReply.{CodeAndMsg};
 ghost use Rattle.unftp_control_defs.specs.Outcome.{outcome};
-ghost use Rattle.unftp_control_message.specs.ReplyMeaning.{number_of};
-ghost use Rattle.unftp_control_proxy.specs.Filtering.{AnswerWith, decision_of};
+ghost use Rattle.unftp_control_line_parser.specs.Memory.{PartsTo};
+ghost use Rattle.unftp_control_relay.specs.Filtering.{decision_of};
 ghost use Rattle.proxy_demo.specs.Allowed.{allows, decided, may_go_as_it_is, only_reads};
 
 use std::alloc::{AllocError, Global};
 use unftp_control_defs::verb::{Verb, verb_named};
-use unftp_control_line_parser::{parts, split};
-use unftp_control_message::reply::{Reply, ReplyCode};
-use unftp_control_proxy::{Filter, Verdict};
+use unftp_control_line_parser::split;
+use unftp_control_message::parts::Parts;
+use unftp_control_message::reply::ReplyCode;
+use unftp_control_message::reply::error::ParseErrorKind;
+use unftp_control_relay::{Filter, Verdict};
 
 /// Whether a line of this verb may go to the server: one that logs in, asks or reads.
 fn allows(verb: Verb) -> bool
@@ -39,26 +40,20 @@ fn may_go_as_it_is(line: &[u8]) -> bool
     }
 }
 
-/// An answer of this code and text.
-fn answer(alloc: Global, code: ReplyCode, text: &str) -> Result<Verdict, AllocError>
-    ensures { IfOk result (λ verdict.
-        decision_of verdict ≡ AnswerWith (CodeAndMsg (number_of code) text.now)) }
-{
-    match Reply::new(alloc, code, text) {
-        Ok(reply) => Ok(Verdict::Answer(reply)),
-        Err(_) => Err(AllocError),
-    }
-}
-
 /// What is done with a line.
-fn decide(alloc: Global, line: &[u8]) -> Result<Verdict, AllocError>
+fn decide(
+    alloc: Global,
+    line: &[u8],
+    parts: &Result<Parts<'_>, ParseErrorKind>,
+) -> Result<Verdict, AllocError>
+    requires { PartsTo (outcome line.now) parts.now }
     ensures { IfOk result (λ verdict. decision_of verdict ≡ decided line.now (outcome line.now)) }
 {
-    match parts(line) {
+    match parts {
         Ok(parts) if allows(parts.verb) => Ok(Verdict::Forward),
-        Ok(_) => answer(alloc, ReplyCode::CommandNotImplemented, "Not allowed here"),
+        Ok(_) => Verdict::answer(alloc, ReplyCode::CommandNotImplemented, "Not allowed here"),
         Err(_) if may_go_as_it_is(line) => Ok(Verdict::SendAsItIs),
-        Err(_) => answer(alloc, ReplyCode::CommandSyntaxError, "Not understood"),
+        Err(_) => Verdict::answer(alloc, ReplyCode::CommandSyntaxError, "Not understood"),
     }
 }
 
@@ -73,7 +68,12 @@ impl Filter for OnlyReads {
 
     ghost law = { only_reads };
 
-    fn decide(&mut self, alloc: Global, line: &[u8]) -> Result<Verdict, AllocError> {
-        decide(alloc, line)
+    fn decide(
+        &mut self,
+        alloc: Global,
+        line: &[u8],
+        parts: &Result<Parts<'_>, ParseErrorKind>,
+    ) -> Result<Verdict, AllocError> {
+        decide(alloc, line, parts)
     }
 }

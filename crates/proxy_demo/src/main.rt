@@ -1,4 +1,4 @@
-//! A proxy in front of a server that is only to be read from, without sockets: each line of
+//! A proxy before a server that is only to be read from, without sockets: each line of
 //! standard input is a piece of what one side sent, `client "TEXT"` or `server "TEXT"`, and the
 //! lines up to `.` are what came of it (`vectors/README.md`). It ends where its input ends, or after
 //! a line `end`.

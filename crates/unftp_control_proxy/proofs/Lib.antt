@@ -3,4 +3,3 @@ pub mod OrderLemmas
 pub mod SendLemmas
 pub mod TrafficLemmas
 pub mod CallLemmas
-pub mod FilterLemmas

@@ -1,5 +1,5 @@
 -- Why a line is not sent.
-use Rattle.std.proofs.Common.{◌⊎◌, Result, Ok, Err, OnOk, inl, inr, ◌≡◌, length, drop, ap, subst, ◌∙◌}
+use Rattle.std.proofs.Common.{Result, Ok, Err, OnOk, ◌≡◌, length, drop, ap, subst, ◌∙◌}
 use Rattle.std.specs.Prelude.{IfErr}
 use Rattle.std.proofs.Math.Seq.{drop-append_seam}
 use Rattle.unftp_control_defs.specs.Bytes.{Bytes}
@@ -7,7 +7,7 @@ use Rattle.unftp_control_defs.specs.Forwarded.{forwarded_line}
 use Rattle.unftp_control_write.specs.Forwarding.{IsForwardError, IsForwarded}
 use Rattle.unftp_control_write.specs.declared.forwarding.ForwardError.{ForwardError}
 use Rattle.unftp_control_write.specs.declared.forwarding.ForwardError.TheVariants as forward
-use Rattle.unftp_control_proxy.specs.ProxyCalls.{IsForwardingError, IsUnsent, send_error}
+use Rattle.unftp_control_proxy.specs.ProxyCalls.{IsForwardingError, IsSendError, send_error}
 use Rattle.unftp_control_proxy.specs.declared.errors.SendError.{SendError}
 use Rattle.unftp_control_proxy.specs.declared.errors.SendError.TheVariants as send
 use Rattle.unftp_control_proxy.specs.declared.proxy.Proxy.{Proxy}
@@ -19,21 +19,21 @@ module _ (proxy : Proxy) (line : Bytes) where
   not_forwarded (forward.Refused kind) why = why
   not_forwarded forward.OutOfMemory why = tt
 
-  -- what would be forwarded is not sent
+  -- what would be forwarded is not sent, for the reason that `send_appended` returns
   pub not_sent : {before after sent : Bytes} → IsForwarded line before after
       → sent ≡ drop (length before) after → (error : SendError)
-      → IsUnsent proxy.limits.sent sent error → IsForwardingError proxy line error
+      → IsSendError proxy sent error → IsForwardingError proxy line error
   not_sent {before} {after} {sent} forwarded is error why =
-      by_error error (subst (λ sent. IsUnsent proxy.limits.sent sent error) appended why)
+      by_error error (subst (λ sent. IsSendError proxy sent error) appended why)
     where
       appended : sent ≡ forwarded_line line forwarded.command
       appended = is ∙ ap (drop (length before)) forwarded.appended
           ∙ drop-append_seam before (forwarded_line line forwarded.command)
 
       by_error : (error : SendError)
-          → IsUnsent proxy.limits.sent (forwarded_line line forwarded.command) error
+          → IsSendError proxy (forwarded_line line forwarded.command) error
           → IsForwardingError proxy line error
-      by_error send.NoLine why = absurd why
+      by_error send.NoLine why = why
       by_error send.NotALine why = absurd (why forwarded.is_line)
       by_error (send.Refused kind) why = absurd why
       by_error send.Unclear why =
@@ -41,17 +41,13 @@ module _ (proxy : Proxy) (line : Bytes) where
       by_error send.TooLong why =
           record { command = forwarded.command; means = forwarded.means; unsent = why }
       by_error send.NotFinal why = absurd why
-      by_error send.OutOfMemory why = absurd why
+      by_error send.OutOfMemory why = tt
 
-  -- so is why it is not sent, as `send_appended` returns it
   pub send_appended : {T : Type 0} (result : Result T SendError) {before after sent : Bytes}
       → IsForwarded line before after → sent ≡ drop (length before) after
-      → IfErr result (λ error. (error ≡ send.OutOfMemory)
-      ⊎ IsUnsent proxy.limits.sent sent error)
-      → IfErr result (IsForwardingError proxy line)
+      → IfErr result (IsSendError proxy sent) → IfErr result (IsForwardingError proxy line)
   send_appended (Ok done) forwarded is why = tt
-  send_appended (Err error) forwarded is (inl out) = rw out tt
-  send_appended (Err error) forwarded is (inr why) = not_sent forwarded is error why
+  send_appended (Err error) forwarded is why = not_sent forwarded is error why
 
 pub on_ok : {T E : Type 0} (result : Result T E) {P : Type 0} → P → OnOk result P
 on_ok (Ok done) holds = holds

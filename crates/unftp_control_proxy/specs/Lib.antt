@@ -5,4 +5,3 @@ pub mod ClientLines
 pub mod ClearLines
 pub mod ProxyCalls
 pub mod Traffic
-pub mod Filtering

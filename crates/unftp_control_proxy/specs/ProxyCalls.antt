@@ -70,7 +70,7 @@ is_out_of_memory _ = false
 -- why a line is not sent
 abbrev pub IsUnsent : ℕ → Bytes → SendError → Type 0
 IsUnsent limit line send.NotALine = ¬ IsLine line
-IsUnsent limit line send.TooLong = limit < length line
+IsUnsent limit line send.TooLong = (is_clear line ≡ true) × (limit < length line)
 IsUnsent limit line send.Unclear = is_clear line ≡ false
 IsUnsent limit line _ = ⊥
 
@@ -85,6 +85,14 @@ abbrev pub IsSendError : Proxy → Bytes → SendError → Type 0
 IsSendError proxy line send.NoLine = ¬ IsDecidable proxy
 IsSendError proxy line send.OutOfMemory = ⊤
 IsSendError proxy line error = IsUnsent proxy.limits.sent line error
+
+-- why the client's line, which is this, is not sent, clear or not
+abbrev pub IsUnclearError : Proxy → Bytes → SendError → Type 0
+IsUnclearError proxy line send.NoLine = ¬ IsDecidable proxy
+IsUnclearError proxy line send.NotALine = ¬ IsLine line
+IsUnclearError proxy line send.TooLong = proxy.limits.sent < length line
+IsUnclearError proxy line send.OutOfMemory = ⊤
+IsUnclearError proxy line _ = ⊥
 
 -- The line that would be forwarded is not sent.
 pub record IsForwardedUnsent (proxy : Proxy) (line : Bytes) (error : SendError) : Type 0 where

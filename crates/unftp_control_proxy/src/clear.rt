@@ -21,11 +21,11 @@ pub(crate) fn check(limit: usize, line: &[u8]) -> Result<(), SendError>
     if !is_line(line) {
         return Err(SendError::NotALine);
     }
-    if line.len() > limit {
-        return Err(SendError::TooLong);
-    }
     if !is_clear(line) {
         return Err(SendError::Unclear);
+    }
+    if line.len() > limit {
+        return Err(SendError::TooLong);
     }
     Ok(())
 }

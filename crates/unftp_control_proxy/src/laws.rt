@@ -1,19 +1,17 @@
 //! What holds of all that passes a proxy, each the contract of a function that does nothing.
-ghost use Rattle.std.specs.Prelude.{◌≡◌, ◌≤◌, ◌++◌, ◌∷◌, ℕ, List, None, length, max};
+ghost use Rattle.std.specs.Prelude.{◌≡◌, ◌≤◌, ◌++◌, ◌∷◌, None, length, max};
 ghost use Rattle.std.specs.List.{AllByRecursion, concat};
 ghost use Rattle.unftp_control_defs.specs.Bytes.{Bytes};
 ghost use Rattle.unftp_control_defs.specs.Events.{events};
 ghost use Rattle.unftp_control_defs.specs.Lines.{lines_of};
 ghost use Rattle.unftp_control_defs.specs.Run.{as_session, text_for};
 ghost use Rattle.unftp_control_proxy.specs.ProxyCalls.{new_proxy};
-ghost use Rattle.unftp_control_proxy.specs.Filtering.{AreFiltered, filtered};
 ghost use Rattle.unftp_control_proxy.specs.Given.{AreAsked, given};
 ghost use Rattle.unftp_control_proxy.specs.Owed.{Reply, due};
-ghost use Rattle.unftp_control_proxy.specs.Traffic.{IsDecidedLine, IsPassedReply, ChangesNothing, DecidedLine, IsTraffic, Traffic, all_bytes, came_in, client_lines, given_in, joined, nothing_passed, owed_by, sent_by};
+ghost use Rattle.unftp_control_proxy.specs.Traffic.{IsDecidedLine, IsPassedReply, ChangesNothing, IsTraffic, Traffic, all_bytes, came_in, client_lines, given_in, joined, nothing_passed, owed_by, sent_by};
 ghost use Rattle.unftp_control_proxy.specs.declared.proxy.Limits.{Limits as RustLimits};
 ghost use Rattle.unftp_control_proxy.specs.declared.proxy.Proxy.{Proxy as RustProxy};
 
-use crate::filter::Filter;
 use unftp_control_serve::Handler;
 
 /// Whatever comes from both sides, in whatever pieces, and in whatever order the calls are made:
@@ -79,26 +77,4 @@ pub fn traffic_is_joined()
     ensures joined { (before middle later : RustProxy) (first second : Traffic)
         → IsTraffic before first middle → IsTraffic middle second later
         → IsTraffic before (joined first second) later }
-{}
-
-/// Where a filter decides the lines, by `filter_line`: what the server is sent follows from the
-/// client's lines and the filter's law alone; and what the client is given, from these and the
-/// server's replies, whenever anything came.
-pub fn filtered_by_its_law<F: Filter>()
-    ensures sent { (limits : RustLimits) (traffic : Traffic) (later : RustProxy) (s s' : F.State)
-        → IsTraffic (new_proxy limits) traffic later
-        → AreFiltered F.law limits.line limits.sent s traffic.lines s'
-        → lines_of traffic.to_server
-        ≡ sent_by (filtered F.law limits.line limits.sent s (client_lines traffic.lines)) }
-    ensures given { (limits : RustLimits) (traffic : Traffic) (later : RustProxy) (s s' : F.State)
-        → IsTraffic (new_proxy limits) traffic later
-        → AreFiltered F.law limits.line limits.sent s traffic.lines s'
-        → traffic.to_client ++ due later.order ≡ given (Reply ∷ owed_by
-        (filtered F.law limits.line limits.sent s (client_lines traffic.lines)))
-        (given_in traffic.replies) }
-    // Lines that it decides one after the other are decided so in all.
-    ensures in_turn { (limit sent_limit : ℕ) (s s' s'' : F.State) (first later : List DecidedLine)
-        → AreFiltered F.law limit sent_limit s first s'
-        → AreFiltered F.law limit sent_limit s' later s''
-        → AreFiltered F.law limit sent_limit s (first ++ later) s'' }
 {}

@@ -5,17 +5,13 @@
 
 mod clear;
 mod client;
-mod driver;
 mod errors;
 pub mod examples;
-mod filter;
 pub mod laws;
 mod order;
 mod proxy;
 pub mod steps;
 
 pub use crate::client::ClientLine;
-pub use crate::driver::filter_line;
 pub use crate::errors::{ReplaceError, SendError};
-pub use crate::filter::{Filter, Verdict};
 pub use crate::proxy::{Limits, Proxy, ServerReply};

@@ -2,11 +2,11 @@
 ghost use Rattle.std.specs.Prelude.{◌≡◌, ◌≢◌, ◌↔◌, ◌⊎◌, ◌≤◌, ◌<◌, ◌+◌, ◌++◌, [], true, None, Some, Ok, Err, IfErr, IfOk, IsTrue, OnErr, OnOk, drop, is_some, length, take, vec_len};
 ghost use Rattle.unftp_control_defs.specs.Bytes.{Bytes};
 ghost use Rattle.unftp_control_defs.specs.FtpReply.{encoded};
-ghost use Rattle.unftp_control_defs.specs.Lines.{lines_of};
+ghost use Rattle.unftp_control_defs.specs.Lines.{IsLine, lines_of};
 ghost use Rattle.unftp_control_message.specs.ReplyMeaning.{reply_of};
 ghost use Rattle.unftp_control_read.specs.ReplyDecoding.{FindsFirst, pushed};
 ghost use Rattle.unftp_control_write.specs.Forwarding.{IsForwarded};
-ghost use Rattle.unftp_control_proxy.specs.ProxyCalls.{GivesDue, GivesNext, GivesOther, IsAnswerError, IsDecidable, IsForwardingError, IsOtherError, IsReplaceError, IsSendError, IsUnsent, MayBeSent, WaitsForServer, decided, flushed, is_final, new_proxy, send_error};
+ghost use Rattle.unftp_control_proxy.specs.ProxyCalls.{GivesDue, GivesNext, GivesOther, IsAnswerError, IsDecidable, IsForwardingError, IsOtherError, IsReplaceError, IsSendError, IsUnclearError, MayBeSent, WaitsForServer, decided, flushed, is_final, new_proxy, send_error};
 ghost use Rattle.unftp_control_proxy.specs.ClientLines.{first_client_line, line_in, with_piece};
 ghost use Rattle.unftp_control_proxy.specs.Given.{IsWholeReply};
 ghost use Rattle.unftp_control_proxy.specs.Owed.{Answer, IsReplyNext, Reply as ReplyOwed, after_reply};
@@ -19,7 +19,7 @@ use std::alloc::{AllocError, Global};
 use unftp_control_codecs::encode_reply;
 use unftp_control_message::reply::Reply;
 use unftp_control_read::{FirstReply, FoundReply, NextReplyError, ReplyDecoder, find_reply};
-use unftp_control_write::{ForwardError, forward};
+use unftp_control_write::{ForwardError, forward, is_line};
 
 /// What a proxy keeps and sends at most.
 #[derive(Clone, Copy, Debug)]
@@ -230,27 +230,87 @@ impl Proxy {
         self.send_appended(length, to_server)
     }
 
-    /// Decides the line as one that is sent, where the bytes from `length` on may be sent for it;
-    /// else removes these.
-    fn send_appended(&mut self, length: usize, to_server: &mut Vec<u8>) -> Result<(), SendError>
-        requires found { IsTrue self.old.client.found }
-        requires within { length ≤ vec_len to_server.old }
+    /// Decides the line: the line itself is sent, as it came, also where servers don't read it
+    /// alike. It is for a caller that knows its server, and that it replies once to such a line: if
+    /// it doesn't, each later reply is given to another line.
+    ///
+    /// Never `Unclear`. Else as `send_as_it_is`.
+    pub fn send_unclear(&mut self, to_server: &mut Vec<u8>) -> Result<(), SendError>
         ensures ok { OnOk result (self.new ≡ decided self.old ReplyOwed) }
+        ensures may { OnOk result (IsDecidable self.old) }
+        ensures appended { OnOk result
+            (to_server.new.items ≡ to_server.old.items ++ line_in self.old.client) }
+        ensures sent { OnOk result (IsLine (line_in self.old.client)) }
+        ensures short { OnOk result (length (line_in self.old.client) ≤ self.old.limits.sent) }
+        ensures why { IfErr result (IsUnclearError self.old (line_in self.old.client)) }
+        ensures err { OnErr result (self.new ≡ self.old) }
+        ensures out_err { OnErr result (to_server.new.items ≡ to_server.old.items) }
+    {
+        if !self.is_decidable() {
+            return Err(SendError::NoLine);
+        }
+        let line = self.client.line();
+        if !is_line(line) {
+            return Err(SendError::NotALine);
+        }
+        if line.len() > self.limits.sent {
+            return Err(SendError::TooLong);
+        }
+        let length = to_server.len();
+        if to_server.extend_from_slice(line).is_err() {
+            return Err(SendError::OutOfMemory);
+        }
+        if self.owe_reply().is_err() {
+            to_server.truncate(length);
+            return Err(SendError::OutOfMemory);
+        }
+        Ok(())
+    }
+
+    /// Decides the line: the bytes of `to_server` from `length` on, which the caller appended, are
+    /// what is sent for it. Else as `send_as_it_is`, of these bytes; at an error they are removed.
+    pub fn send_appended(&mut self, length: usize, to_server: &mut Vec<u8>) -> Result<(), SendError>
+        requires { length ≤ vec_len to_server.old }
+        ensures ok { OnOk result (self.new ≡ decided self.old ReplyOwed) }
+        ensures may { OnOk result (IsDecidable self.old) }
         ensures kept { OnOk result (to_server.new.items ≡ to_server.old.items) }
         ensures sent { OnOk result
             (MayBeSent self.old.limits.sent (drop length to_server.old.items)) }
-        ensures why { IfErr result (λ error. (error ≡ SendError.OutOfMemory)
-            ⊎ IsUnsent self.old.limits.sent (drop length to_server.old.items) error) }
+        ensures why { IfErr result (IsSendError self.old (drop length to_server.old.items)) }
         ensures err { OnErr result (self.new ≡ self.old) }
         ensures removed { OnErr result (to_server.new.items ≡ take length to_server.old.items) }
     {
         let (_, line) = to_server.as_slice().split_at(length);
-        if let Err(error) = check(self.limits.sent, line) {
+        if let Err(error) = self.owe_reply_to(line) {
             to_server.truncate(length);
             return Err(error);
         }
+        Ok(())
+    }
+
+    /// Decides the line as one for which this one is sent, if it may be.
+    fn owe_reply_to(&mut self, line: &[u8]) -> Result<(), SendError>
+        ensures ok { OnOk result (self.new ≡ decided self.old ReplyOwed) }
+        ensures may { OnOk result (IsDecidable self.old) }
+        ensures sent { OnOk result (MayBeSent self.old.limits.sent line.now) }
+        ensures why { IfErr result (IsSendError self.old line.now) }
+        ensures err { OnErr result (self.new ≡ self.old) }
+    {
+        if !self.is_decidable() {
+            return Err(SendError::NoLine);
+        }
+        check(self.limits.sent, line)?;
+        self.owe_reply()
+    }
+
+    /// Takes the line that was found, and owes the client the server's reply to it.
+    fn owe_reply(&mut self) -> Result<(), SendError>
+        requires { IsTrue self.old.client.found }
+        ensures ok { OnOk result (self.new ≡ decided self.old ReplyOwed) }
+        ensures why { IfErr result (λ error. error ≡ SendError.OutOfMemory) }
+        ensures err { OnErr result (self.new ≡ self.old) }
+    {
         if self.order.owe_reply().is_err() {
-            to_server.truncate(length);
             return Err(SendError::OutOfMemory);
         }
         self.client.take();

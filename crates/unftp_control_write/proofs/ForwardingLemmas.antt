@@ -1,6 +1,6 @@
 -- What is left of a line without its end, and what is forwarded for it.
-use Rattle.std.proofs.Common.{◌≡◌, ◌-◌, ◌+◌, ℕ, Bool, true, false, [], ◌∷◌, ◌++◌, length, take, drop, Option, Some, None, Ok, Err, refl, sym, ap, subst, ◌∙◌, eq-eqb, eqb-true, Bor, append_assoc, unwrap_or}
-use Rattle.std.specs.Prelude.{MatchOption, nat_eq}
+use Rattle.std.proofs.Common.{◌≡◌, ◌-◌, ◌+◌, ℕ, Bool, true, false, [], ◌∷◌, ◌++◌, length, take, drop, Option, Some, None, Result, Ok, Err, OnOk, refl, sym, ap, subst, ◌∙◌, eq-eqb, eqb-true, Bor, append_assoc, unwrap_or}
+use Rattle.std.specs.Prelude.{IfErr, MatchOption, nat_eq}
 use Rattle.std.specs.Cmp.Lexicographic.{pointwise}
 use Rattle.std.specs.Global.{Vec}
 use Rattle.std.proofs.lemmas.Bool.{false≢true}
@@ -21,6 +21,8 @@ use Rattle.unftp_control_message.specs.PartsMeaning.{given, said_of}
 use Rattle.unftp_control_message.specs.declared.parts.Parts.{Parts}
 use Rattle.unftp_control_write.specs.Forwarding.{IsForwarded, LacksRoomFor, sent_line}
 use Rattle.unftp_control_write.specs.Room.{LacksRoom}
+use Rattle.unftp_control_write.specs.declared.forwarding.ForwardError.{ForwardError}
+use Rattle.unftp_control_write.specs.declared.forwarding.ForwardError.TheVariants.{OutOfMemory}
 
 -- what `strip_suffix` returns
 abbrev pub Strips : Bytes → Bytes → Option (Bor Bytes) → Type 0
@@ -119,7 +121,7 @@ module _ (line text : Bytes) (parts : Parts) (read : IsSaid (outcome line) (said
             (ap (λ verb. kind_keeps (kind verb)) verb_said ∙ e) i ++ crlf)
             ∙ (λ i. with_optional (word (verb_said i)) (value_bytes (value_said i)) ++ crlf)))
 
-    pub forwarded : (before after : Bytes)
+    forwarded : (before after : Bytes)
         → after ≡ before ++ sent_line text parts.verb parts.value → IsForwarded line before after
     forwarded before after after_is = record {
       command = command.0;
@@ -129,10 +131,19 @@ module _ (line text : Bytes) (parts : Parts) (read : IsSaid (outcome line) (said
       read_back = outcome-forwarded_line line command.0 is_line command.1;
     }
 
-    pub lacks_room : (buf : Vec ℕ) → LacksRoom buf (sent_line text parts.verb parts.value)
-        → LacksRoomFor line buf
-    lacks_room buf lacks = record {
+    pub all_forwarded : {T E : Type 0} (result : Result T E) (before after : Bytes)
+        → OnOk result (after ≡ before ++ sent_line text parts.verb parts.value)
+        → OnOk result (IsForwarded line before after)
+    all_forwarded (Ok done) before after after_is = forwarded before after after_is
+    all_forwarded (Err error) before after after_is = tt
+
+    pub lacks_room : {T : Type 0} (result : Result T ForwardError) (buf : Vec ℕ)
+        → IfErr result (λ error. (error ≡ OutOfMemory)
+        × LacksRoom buf (sent_line text parts.verb parts.value))
+        → result ≡ Err OutOfMemory → LacksRoomFor line buf
+    lacks_room (Ok done) buf why is = absurd (cc)
+    lacks_room (Err error) buf why is = record {
       command = command.0;
       means = command.1;
-      room = subst (LacksRoom buf) same_line lacks;
+      room = subst (LacksRoom buf) same_line why.1;
     }

@@ -1,11 +1,13 @@
 //! The line that a proxy sends to a server for a client's line.
-ghost use Rattle.std.specs.Prelude.{◌≡◌, ◌↔◌, ◌++◌, false, Err, IfErr, IsTrue, MatchOption, OnErr, OnOk, option_map, take, vec_len};
+ghost use Rattle.std.specs.Prelude.{◌≡◌, ◌↔◌, ◌++◌, false, Ok, Err, IfErr, IsTrue, MatchOption, OnErr, OnOk, option_map, take, vec_len};
 ghost use Rattle.unftp_control_message.specs.PartsMeaning.{IsInPlace};
 ghost use Rattle.unftp_control_defs.specs.Bytes.{LF, Lacks, crlf};
 ghost use Rattle.unftp_control_defs.specs.Forwarded.{before_end, kind_keeps, with_parameter};
 ghost use Rattle.unftp_control_defs.specs.FtpCommand.{kind, unless_empty};
 ghost use Rattle.unftp_control_defs.specs.Lines.{IsLine};
+ghost use Rattle.unftp_control_defs.specs.Outcome.{outcome};
 ghost use Rattle.unftp_control_defs.specs.Verbs.{upper};
+ghost use Rattle.unftp_control_line_parser.specs.Memory.{PartsTo};
 ghost use Rattle.unftp_control_write.specs.Forwarding.{IsForwardError, IsForwarded, LacksRoomFor, sent_line};
 ghost use Rattle.unftp_control_write.specs.Room.{LacksRoom};
 
@@ -57,6 +59,38 @@ pub fn forward(line: &[u8], buf: &mut Vec<u8>) -> Result<(), ForwardError>
         Ok(parts) => parts,
         Err(refusal) => return Err(ForwardError::Refused(ParseError::from(refusal))),
     };
+    append_or_nothing(text, parts, buf)
+}
+
+/// As `forward`, of a line that was read already: `parts` is what `parts` of
+/// `unftp_control_line_parser` returned for it. So it is read once.
+///
+/// `NotALine` and `OutOfMemory` come as with `forward`, and it is never `Refused`. At each error
+/// `buf` is as it was.
+pub fn forward_parts(line: &[u8], parts: Parts<'_>, buf: &mut Vec<u8>) -> Result<(), ForwardError>
+    requires { PartsTo (outcome line.now) (Ok parts) }
+    ensures ok { OnOk result (IsForwarded line.now buf.old.items buf.new.items) }
+    ensures err { OnErr result (buf.new.items ≡ buf.old.items) }
+    ensures why { IfErr result (λ error. IsForwardError line.now error) }
+    ensures memory { result ≡ Err ForwardError.OutOfMemory → LacksRoomFor line.now buf.old }
+    ensures not_a_line { ¬ IsLine line.now → result ≡ Err ForwardError.NotALine }
+{
+    let Some(text) = without_end(line) else {
+        return Err(ForwardError::NotALine);
+    };
+    append_or_nothing(text, parts, buf)
+}
+
+/// Appends the line that is forwarded for a text, a line without its end, that is these parts; or
+/// nothing when out of memory.
+fn append_or_nothing(text: &[u8], parts: Parts<'_>, buf: &mut Vec<u8>) -> Result<(), ForwardError>
+    requires { kind_keeps (kind parts.verb) ≡ false → IsInPlace parts.value }
+    ensures ok { OnOk result (buf.new.items
+        ≡ buf.old.items ++ sent_line text.now parts.entry.verb parts.entry.value) }
+    ensures err { OnErr result (buf.new.items ≡ buf.old.items) }
+    ensures memory { IfErr result (λ error. (error ≡ ForwardError.OutOfMemory)
+        × LacksRoom buf.old (sent_line text.now parts.entry.verb parts.entry.value)) }
+{
     let length = buf.len();
     match append_line(text, parts, buf) {
         Ok(()) => Ok(()),

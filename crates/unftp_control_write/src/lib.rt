@@ -13,7 +13,7 @@ mod forwarding;
 mod line;
 
 use crate::canonical::line_of;
-pub use forwarding::{ForwardError, forward, is_line};
+pub use forwarding::{ForwardError, forward, forward_parts, is_line};
 use itoa::Buffer;
 use thiserror::Error;
 use unftp_control_message::Command;

@@ -1,0 +1,2 @@
+pub mod FilterLemmas
+pub mod RelayLemmas

@@ -1,0 +1,3 @@
+-- To be read in this order.
+pub mod Filtering
+pub mod Relaying

@@ -1,0 +1,279 @@
+//! Takes lines, and does with each what a filter says.
+ghost use Rattle.std.specs.Prelude.{◌≡◌, ◌≢◌, ◌≤◌, ◌<◌, ◌∷◌, ◌++◌, [], None, Ok, false, true, IfOk, OnErr, OnOk, drop, take, vec_len};
+ghost use Rattle.std.specs.List.{concat};
+ghost use Rattle.unftp_control_defs.specs.FtpReply.{CodeAndMsg, encoded};
+ghost use Rattle.unftp_control_defs.specs.Lines.{IsLine, lines_of};
+ghost use Rattle.unftp_control_defs.specs.Outcome.{outcome};
+ghost use Rattle.unftp_control_line_parser.specs.Memory.{PartsTo};
+ghost use Rattle.unftp_control_message.specs.ReplyMeaning.{reply_of};
+ghost use Rattle.unftp_control_proxy.specs.ProxyCalls.{IsDecidable, WaitsForServer, is_out_of_memory};
+ghost use Rattle.unftp_control_proxy.specs.ClientLines.{first_client_line, front_line, line_in};
+ghost use Rattle.unftp_control_proxy.specs.Traffic.{AnsweredBy, Fate, IsTraffic, one_line, sent_for};
+ghost use Rattle.unftp_control_relay.specs.Filtering.{AreFiltered, Becomes, IsStep, Reply as ReplyStep, Send, Step as StepFor, decision_of, fate_by, forwarding_step, step_for, told_of};
+
+use crate::filter::{Filter, Verdict};
+use std::alloc::{AllocError, Global};
+use unftp_control_line_parser::parts;
+use unftp_control_message::parts::Parts;
+use unftp_control_message::reply::error::ParseErrorKind;
+use unftp_control_message::reply::{Reply, ReplyCode};
+use unftp_control_proxy::{ClientLine, Proxy, SendError};
+use unftp_control_write::forward_parts;
+
+/// What the client is told of a line that can't be sent as was decided.
+const REFUSED: &str = "Not understood";
+
+/// What the client is told of a line that is longer than a limit.
+const TOO_LONG: &str = "Line too long";
+
+/// What is to be done with a line.
+#[derive(Drop)]
+pub(crate) enum Step {
+    /// What was appended is sent for it.
+    Appended,
+    /// It is answered with this reply.
+    Answer(Reply),
+    /// It is refused: it is no command that could be forwarded.
+    Refuse,
+}
+
+/// Appends what is to be sent for a line of which this was decided, if anything is.
+fn append_for(
+    line: &[u8],
+    parts: &Result<Parts<'_>, ParseErrorKind>,
+    verdict: Verdict,
+    to_server: &mut Vec<u8>,
+) -> Result<Step, AllocError>
+    requires line { IsLine line.now }
+    requires parts { PartsTo (outcome line.now) parts.now }
+    ensures ok { IfOk result (λ step. IsStep (step_for (decision_of verdict) line.now) step
+        to_server.old.items to_server.new.items) }
+    ensures err { OnErr result (to_server.new.items ≡ to_server.old.items) }
+{
+    match verdict {
+        Verdict::Forward => append_forwarded(line, parts, to_server),
+        Verdict::SendAsItIs => append(line, to_server),
+        Verdict::Instead(other) => {
+            let step = append(other.as_slice(), to_server);
+            drop(other);
+            step
+        }
+        Verdict::Answer(reply) => Ok(Step::Answer(reply)),
+    }
+}
+
+/// Appends the line that is forwarded for this one, where it is a command.
+fn append_forwarded(
+    line: &[u8],
+    parts: &Result<Parts<'_>, ParseErrorKind>,
+    to_server: &mut Vec<u8>,
+) -> Result<Step, AllocError>
+    requires line { IsLine line.now }
+    requires parts { PartsTo (outcome line.now) parts.now }
+    ensures ok { IfOk result (λ step. IsStep (forwarding_step line.now (outcome line.now)) step
+        to_server.old.items to_server.new.items) }
+    ensures err { OnErr result (to_server.new.items ≡ to_server.old.items) }
+{
+    match parts {
+        Ok(parts) => match forward_parts(line, *parts, to_server) {
+            Ok(()) => Ok(Step::Appended),
+            Err(_) => Err(AllocError),
+        },
+        Err(_) => Ok(Step::Refuse),
+    }
+}
+
+/// Appends these bytes.
+fn append(bytes: &[u8], to_server: &mut Vec<u8>) -> Result<Step, AllocError>
+    ensures ok { IfOk result (λ step. IsStep (Send bytes.now) step
+        to_server.old.items to_server.new.items) }
+    ensures err { OnErr result (to_server.new.items ≡ to_server.old.items) }
+{
+    to_server.extend_from_slice(bytes)?;
+    Ok(Step::Appended)
+}
+
+/// Asks the filter of the line, and appends what is to be sent for it, if anything is.
+fn ask<F: Filter>(
+    alloc: Global,
+    filter: &mut F,
+    line: &[u8],
+    to_server: &mut Vec<u8>,
+) -> Result<Step, AllocError>
+    requires { IsLine line.now }
+    ensures ok { IfOk result (λ step.
+        IsStep (step_for (F.law.says (F.state filter.old) line.now) line.now) step
+        to_server.old.items to_server.new.items) }
+    ensures state { OnOk result
+        (F.state filter.new ≡ F.law.next (F.state filter.old) line.now) }
+    ensures err { OnErr result (to_server.new.items ≡ to_server.old.items) }
+{
+    let parts = parts(line);
+    let verdict = filter.decide(alloc, line, &parts)?;
+    append_for(line, &parts, verdict, to_server)
+}
+
+/// Answers the line with 500 and this text.
+fn refuse(proxy: &mut Proxy, alloc: Global, text: &str) -> Result<(), AllocError>
+    requires { IsDecidable proxy.old }
+    ensures ok { OnOk result (Becomes (AnsweredBy (encoded (CodeAndMsg 500 text.now)))
+        proxy.old [] [] proxy.new) }
+    ensures err { OnErr result (proxy.new ≡ proxy.old) }
+{
+    let Ok(reply) = Reply::new(alloc, ReplyCode::CommandSyntaxError, text) else {
+        return Err(AllocError);
+    };
+    match proxy.answer(alloc, &reply) {
+        Ok(()) => Ok(()),
+        Err(_) => Err(AllocError),
+    }
+}
+
+/// Answers the line with 500, since it can't be sent or answered so for this reason; or hands on
+/// that memory ran out.
+fn refuse_for(error: &SendError, proxy: &mut Proxy, alloc: Global) -> Result<(), AllocError>
+    requires { IsDecidable proxy.old }
+    ensures ok { OnOk result (Becomes (told_of error.now) proxy.old [] [] proxy.new) }
+    ensures some { OnOk result (is_out_of_memory error.now ≡ false) }
+    ensures err { OnErr result (proxy.new ≡ proxy.old) }
+{
+    match error {
+        SendError::OutOfMemory => Err(AllocError),
+        SendError::TooLong => refuse(proxy, alloc, TOO_LONG),
+        _ => refuse(proxy, alloc, REFUSED),
+    }
+}
+
+/// Sends what was appended for the line, or answers the line where that can't be sent.
+fn send_or_refuse(
+    proxy: &mut Proxy,
+    alloc: Global,
+    length: usize,
+    to_server: &mut Vec<u8>,
+) -> Result<(), AllocError>
+    requires decidable { IsDecidable proxy.old }
+    requires within { length ≤ vec_len to_server.old }
+    ensures ok { OnOk result (Becomes
+        (fate_by proxy.old.limits.sent (Send (drop length to_server.old.items)))
+        proxy.old (take length to_server.old.items) to_server.new.items proxy.new) }
+    ensures err { OnErr result (proxy.new ≡ proxy.old) }
+    ensures out_err { OnErr result (to_server.new.items ≡ take length to_server.old.items) }
+{
+    match proxy.send_appended(length, to_server) {
+        Ok(()) => Ok(()),
+        Err(error) => refuse_for(&error, proxy, alloc),
+    }
+}
+
+/// Answers the line with the reply, or with 500 where that is not final.
+fn answer_or_refuse(proxy: &mut Proxy, alloc: Global, reply: &Reply) -> Result<(), AllocError>
+    requires { IsDecidable proxy.old }
+    ensures ok { OnOk result (Becomes
+        (fate_by proxy.old.limits.sent (ReplyStep (reply_of reply.now)))
+        proxy.old [] [] proxy.new) }
+    ensures err { OnErr result (proxy.new ≡ proxy.old) }
+{
+    match proxy.answer(alloc, reply) {
+        Ok(()) => Ok(()),
+        Err(error) => refuse_for(&error, proxy, alloc),
+    }
+}
+
+/// Does with the line what is to be done, where what was appended for it begins at `length`.
+fn carry_out(
+    proxy: &mut Proxy,
+    alloc: Global,
+    step: Step,
+    length: usize,
+    to_server: &mut Vec<u8>,
+) -> Result<(), AllocError>
+    requires decidable { IsDecidable proxy.old }
+    requires within { length ≤ vec_len to_server.old }
+    ensures ok { (meant : StepFor)
+        → IsStep meant step (take length to_server.old.items) to_server.old.items
+        → OnOk result (Becomes (fate_by proxy.old.limits.sent meant)
+        proxy.old (take length to_server.old.items) to_server.new.items proxy.new) }
+    ensures err { OnErr result (proxy.new ≡ proxy.old) }
+    ensures out_err { (meant : StepFor)
+        → IsStep meant step (take length to_server.old.items) to_server.old.items
+        → OnErr result (to_server.new.items ≡ take length to_server.old.items) }
+{
+    match step {
+        Step::Appended => send_or_refuse(proxy, alloc, length, to_server),
+        Step::Answer(reply) => {
+            let carried_out = answer_or_refuse(proxy, alloc, &reply);
+            drop(reply);
+            carried_out
+        }
+        Step::Refuse => refuse(proxy, alloc, REFUSED),
+    }
+}
+
+/// Decides the line that was found by the filter, and does what it says.
+fn decide_line<F: Filter>(
+    proxy: &mut Proxy,
+    alloc: Global,
+    filter: &mut F,
+    to_server: &mut Vec<u8>,
+) -> Result<(), AllocError>
+    requires decidable { IsDecidable proxy.old }
+    requires line { IsLine (line_in proxy.old.client) }
+    ensures ok { OnOk result (Becomes (fate_by proxy.old.limits.sent
+        (step_for (F.law.says (F.state filter.old) (line_in proxy.old.client))
+        (line_in proxy.old.client)))
+        proxy.old to_server.old.items to_server.new.items proxy.new) }
+    ensures state { OnOk result (F.state filter.new
+        ≡ F.law.next (F.state filter.old) (line_in proxy.old.client)) }
+    ensures err { OnErr result (proxy.new ≡ proxy.old) }
+    ensures out_err { OnErr result (to_server.new.items ≡ to_server.old.items) }
+{
+    let length = to_server.len();
+    let step = ask(alloc, filter, proxy.line(), to_server)?;
+    carry_out(proxy, alloc, step, length, to_server)
+}
+
+/// Takes the client's next line, where there is one and the proxy doesn't wait for the server, does
+/// with it what the filter says, and returns whether it did. A line that is too long is answered
+/// with 500, and the filter isn't asked.
+///
+/// When out of memory, no line is taken; but the filter may have moved on: the session is to end.
+pub fn filter_line<F: Filter>(
+    proxy: &mut Proxy,
+    alloc: Global,
+    filter: &mut F,
+    to_server: &mut Vec<u8>,
+) -> Result<bool, AllocError>
+    ensures took { result ≡ Ok true → (fate : Fate)
+        × IsTraffic proxy.old (one_line (front_line proxy.old.client.bytes) fate) proxy.new
+        × AreFiltered F.law proxy.old.client.limit proxy.old.limits.sent (F.state filter.old)
+        (record { line = front_line proxy.old.client.bytes; fate = fate } ∷ []) (F.state filter.new)
+        × (to_server.new.items ≡ to_server.old.items ++ concat (sent_for fate)) }
+    // There is none only where no line is complete, or where it may not be taken.
+    ensures waits { result ≡ Ok false → ¬ WaitsForServer proxy.old
+        → first_client_line proxy.old.client.limit (lines_of proxy.old.client.bytes) ≡ None }
+    ensures none { result ≡ Ok false → F.state filter.new ≡ F.state filter.old }
+    ensures not_taken { result ≢ Ok true → (proxy.new ≡ record proxy.old {
+      client = record proxy.old.client {
+        found = proxy.new.client.found;
+        held = proxy.new.client.held;
+      };
+    }) × (to_server.new.items ≡ to_server.old.items) }
+    ensures held { proxy.new.client.held ≤ proxy.old.client.held }
+    ensures bounded { result ≡ Ok false → ¬ WaitsForServer proxy.old
+        → proxy.new.client.held < proxy.old.client.limit }
+{
+    if proxy.waits_for_server() {
+        return Ok(false);
+    }
+    match proxy.next_line() {
+        None => Ok(false),
+        Some(ClientLine::TooLong) => {
+            refuse(proxy, alloc, TOO_LONG)?;
+            Ok(true)
+        }
+        Some(ClientLine::Complete) => {
+            decide_line(proxy, alloc, filter, to_server)?;
+            Ok(true)
+        }
+    }
+}
