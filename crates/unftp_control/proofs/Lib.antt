@@ -9,6 +9,7 @@ mod EventStepLemmas
 mod ReplyStepLemmas
 mod ConversationLemmas
 pub mod ActLemmas
+mod ProxiedLemmas
 pub use Rattle.unftp_control_defs.proofs.EncodingLemmas
 pub use Rattle.unftp_control_defs.proofs.ReplyLemmas
 pub use Rattle.unftp_control_defs.proofs.LineLemmas

@@ -30,9 +30,11 @@ ghost use Rattle.unftp_control.specs.RunEnd.{EndsAfter, EndsNowhere};
 
 pub mod both_ends;
 pub mod examples;
+pub mod proxied;
 pub mod replies;
 
 pub use both_ends::{any_order, canonical_lines_change_nothing, conversation};
+pub use proxied::conversation_through_a_proxy;
 pub use replies::{
     any_cutting_of_replies, one_front, one_reading, replies_read_back, replies_stay,
     too_long_replies_stay,
