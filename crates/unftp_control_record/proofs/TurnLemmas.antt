@@ -1,0 +1,88 @@
+-- Replies that are taken to the next exchange.
+use Rattle.std.proofs.Common.{◌≡◌, ◌<◌, Vec, Global, Result, Ok, Err, length, length-drop, arith, Bool, true, false, List, [], ◌∷◌, ◌++◌, map, refl, sym, ap, subst, ◌∙◌, append_assoc}
+use Rattle.std.specs.Prelude.{if◌then◌else◌, is_err, is_ok, not}
+use Rattle.std.proofs.lemmas.List.{map-append}
+use Rattle.unftp_control_defs.specs.Bytes.{Bytes}
+use Rattle.unftp_control_defs.specs.TakingSteps.{AreReplies, TakesReply}
+use Rattle.unftp_control_defs.specs.Turns.{is_preliminary_read}
+use Rattle.unftp_control_defs.proofs.ReplyLemmas.{TakesReply-append, front_within}
+use Rattle.unftp_control_read.specs.ReplyDecoding.{PendingReplies, content}
+use Rattle.unftp_control_read.specs.declared.reply.ReceivedReply.{ReceivedReply}
+use Rattle.unftp_control_record.specs.Exchanges.{Read, complete_after, complete_exchanges}
+use Rattle.unftp_control_record.specs.ToCome.{TakesReplies, exchanges_from, exchanges_to_come, replies_so_far}
+use Rattle.unftp_control_record.specs.declared.turn.Turn.{Turn}
+
+pub AreReplies-append : (first later : List Read) (before middle after : Bytes)
+    → AreReplies before first middle → AreReplies middle later after
+    → AreReplies before (first ++ later) after
+AreReplies-append [] later before middle after are more =
+    subst (λ bytes. AreReplies bytes later after) are more
+AreReplies-append (reply ∷ first) later before middle after (next, takes, are) more =
+    (next, takes, AreReplies-append first later next middle after are more)
+
+-- the state of a turn after no reply,
+pub no_reply : {before after : Turn} {pending left : PendingReplies}
+    → replies_so_far after ≡ replies_so_far before → after.is_complete ≡ before.is_complete
+    → left.bytes ≡ pending.bytes → left.limit ≡ pending.limit
+    → TakesReplies before pending after left
+no_reply {before} {after} same complete bytes limit = record {
+  taken = [];
+  read = λ more. ap (λ bytes. bytes ++ more) bytes;
+  exchanges = λ more. λ i. exchanges_from (sym complete i) (sym same i) more;
+  limit = limit;
+}
+
+-- after one,
+exchanges-reply : (so_far : List Read) (reply : Read) (preliminary : Bool) (more : List Read)
+    → (if preliminary then complete_after (so_far ++ reply ∷ []) more
+    else (so_far ++ reply ∷ []) ∷ complete_exchanges more)
+    ≡ exchanges_from (not preliminary) (so_far ++ reply ∷ []) more
+exchanges-reply so_far reply true more = refl
+exchanges-reply so_far reply false more = refl
+
+pub one_reply : {before after : Turn} {pending left : PendingReplies} (reply : Read)
+    → before.is_complete ≡ false
+    → replies_so_far after ≡ replies_so_far before ++ reply ∷ []
+    → after.is_complete ≡ not (is_preliminary_read reply)
+    → TakesReply pending.bytes reply left.bytes → left.limit ≡ pending.limit
+    → TakesReplies before pending after left
+one_reply {before} {after} {pending} {left} reply incomplete replies complete takes limit = record {
+  taken = reply ∷ [];
+  read = λ more. (left.bytes ++ more, TakesReply-append more takes, refl);
+  exchanges = λ more.
+      ap (λ complete. exchanges_from complete (replies_so_far before) (reply ∷ more)) incomplete
+      ∙ exchanges-reply (replies_so_far before) reply (is_preliminary_read reply) more
+      ∙ (λ i. exchanges_from (sym complete i) (sym replies i) more);
+  limit = limit;
+}
+
+-- and after some, and then others.
+pub replies_in_turn : {before middle after : Turn} {pending between left : PendingReplies}
+    → TakesReplies before pending middle between → TakesReplies middle between after left
+    → TakesReplies before pending after left
+replies_in_turn {before} {middle} {after} {pending} {between} {left} one two = record {
+  taken = one.taken ++ two.taken;
+  read = λ more. AreReplies-append one.taken two.taken (pending.bytes ++ more)
+      (between.bytes ++ more) (left.bytes ++ more) (one.read more) (two.read more);
+  exchanges = λ more.
+      ap (exchanges_to_come before) (append_assoc one.taken two.taken more)
+      ∙ one.exchanges (two.taken ++ more) ∙ two.exchanges more;
+  limit = two.limit ∙ one.limit;
+}
+
+-- the replies, with one more
+pub pushed_reply : {E : Type 0} (old room new : Vec ReceivedReply Global) (reply : ReceivedReply)
+    (result : Result (Unit {0}) E) → room.items ≡ old.items
+    → new.items ≡ (if is_ok result then room.items ++ reply ∷ [] else room.items)
+    → {test : Bool} → test ≡ false → test ≡ is_err result
+    → map content new.items ≡ map content old.items ++ content reply ∷ []
+pushed_reply old room new reply (Ok done) same is kept value =
+    ap (map content) (is ∙ ap (λ items. items ++ reply ∷ []) same)
+    ∙ map-append content old.items (reply ∷ [])
+pushed_reply old room new reply (Err error) same is kept value = absurd (cc)
+
+pub fewer_bytes : {bytes left : Bytes} {reply : Read} → TakesReply bytes reply left
+    → length left < length bytes
+fewer_bytes {bytes} {left} {reply} takes =
+    let within = front_within bytes reply.0 reply.1 takes.used takes.front in
+    omega (arith, ap length takes.after_is, length-drop takes.used bytes, within.0, within.1)

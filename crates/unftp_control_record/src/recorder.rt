@@ -1,0 +1,111 @@
+//! The recorder.
+ghost use Rattle.std.specs.Prelude.{◌≡◌, ◌≤◌, OnErr, OnOk};
+ghost use Rattle.unftp_control_record.specs.Recording.{IsNew, IsRecorded, Records, TakesUnanswered, given_piece, nothing_passed, sent_piece};
+
+use crate::sent::SentLines;
+use crate::turn::Turn;
+use std::alloc::{AllocError, Global};
+use unftp_control_read::{NextReplyError, ReceivedReply, ReplyDecoder};
+
+/// What a recorder keeps at most.
+#[derive(Clone, Copy, Debug)]
+pub struct Limits {
+    /// The most bytes of a line, its line feed counted. A longer one is logged as a refused line.
+    pub line: usize,
+    /// The most bytes of a reply, its line ends counted.
+    pub reply: usize,
+}
+
+/// A line of the client, or the greeting, with its replies (RFC 959, section 5.4).
+#[derive(Debug, Drop)]
+pub struct Exchange {
+    /// The line as a log shows it: printable ASCII without a line end, and no password. `None` is
+    /// the connection, which the server greets.
+    pub line: Option<Vec<u8>>,
+    /// The preliminary replies to it, and then the final one.
+    pub replies: Vec<ReceivedReply>,
+}
+
+/// A recorder of one control connection. It is given what the client sent and what the client was
+/// given, each in any pieces, and returns the exchanges in the order of the lines. What it returns
+/// follows from the bytes of both sides, and not from when they came.
+///
+/// It holds the client's lines until they have their replies, and the preliminary replies of an
+/// exchange until its final one came. RFC 959 bounds neither.
+#[derive(Drop)]
+pub struct Recorder {
+    sent: SentLines,
+    given: ReplyDecoder,
+    turn: Turn,
+}
+
+impl Recorder {
+    /// A recorder that was given nothing. The first exchange is that of the greeting.
+    pub fn new(alloc: Global, limits: Limits) -> Recorder
+        requires { (1 ≤ limits.line) × (1 ≤ limits.reply) }
+        ensures { IsNew limits result }
+    {
+        Recorder {
+            sent: SentLines::new(alloc, limits.line),
+            given: ReplyDecoder::with_limit(alloc, limits.reply),
+            turn: Turn::new(alloc),
+        }
+    }
+
+    /// Appends a piece of what the client sent. When out of memory, the piece is not appended, and
+    /// nothing else is lost.
+    pub fn sent(&mut self, piece: &[u8]) -> Result<(), AllocError>
+        ensures ok { OnOk result (IsRecorded self.old (sent_piece piece.now) self.new) }
+        ensures err { OnErr result (IsRecorded self.old nothing_passed self.new) }
+    {
+        self.sent.push(piece)
+    }
+
+    /// Appends a piece of what the client was given. When out of memory, nothing changes.
+    pub fn given(&mut self, piece: &[u8]) -> Result<(), AllocError>
+        ensures ok { OnOk result (IsRecorded self.old (given_piece piece.now) self.new) }
+        ensures err { OnErr result (self.new ≡ self.old) }
+    {
+        self.given.push(piece)
+    }
+
+    /// Returns the next exchange, or `None` where its final reply is not complete, or has no
+    /// complete line yet that it is to (RFC 959, sections 4.2 and 5.4).
+    ///
+    /// At an error nothing is lost. `Malformed` and `TooLong` are returned from then on, once the
+    /// exchanges before are. After `OutOfMemory`, which may also come where no exchange is complete,
+    /// the call can be made again.
+    ///
+    /// Where it returns `None`, either no more than a part of a reply is held of what the client was
+    /// given, within the limit; or no more than an incomplete line of what it sent, within the
+    /// limit.
+    pub fn next_exchange(&mut self) -> Result<Option<Exchange>, NextReplyError>
+        ensures { Records self.old result self.new }
+    {
+        if !self.turn.complete(&mut self.given)? {
+            return Ok(None);
+        }
+        match self.sent.next_line() {
+            Ok(Some(line)) => {
+                let replies = self.turn.take();
+                Ok(Some(Exchange { line, replies }))
+            }
+            Ok(None) => Ok(None),
+            Err(_) => Err(NextReplyError::OutOfMemory),
+        }
+    }
+
+    /// Returns, where the connection has ended and `next_exchange` returned `None`, a line that has
+    /// no final reply, with the preliminary ones that came to it; or `None` where no complete line is
+    /// left. The first one is the greeting, where that has none. When out of memory, nothing is lost,
+    /// and the call can be made again.
+    pub fn next_unanswered(&mut self) -> Result<Option<Exchange>, AllocError>
+        ensures { TakesUnanswered self.old result self.new }
+    {
+        let Some(line) = self.sent.next_line()? else {
+            return Ok(None);
+        };
+        let replies = self.turn.take();
+        Ok(Some(Exchange { line, replies }))
+    }
+}
