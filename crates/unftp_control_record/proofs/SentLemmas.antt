@@ -1,5 +1,5 @@
 -- What is still to come of the client's lines.
-use Rattle.std.proofs.Common.{◌≡◌, ℕ, List, [], ◌∷◌, ◌++◌, map, Option, None, Some, Ok, Vec, Global, subst, refl, sym, ap, ◌∙◌, append_assoc}
+use Rattle.std.proofs.Common.{append-nil, ◌≡◌, ℕ, List, [], ◌∷◌, ◌++◌, map, Option, None, Some, Ok, Vec, Global, subst, refl, sym, ap, ◌∙◌, append_assoc}
 use Rattle.std.specs.Prelude.{if◌then◌else◌}
 use Rattle.unftp_control_defs.specs.Bytes.{Bytes, LF, Lacks}
 use Rattle.unftp_control_defs.proofs.LineLemmas.{line_first}
@@ -8,9 +8,10 @@ use Rattle.unftp_control_serve.specs.Decoder as decoder
 use Rattle.unftp_control_serve.specs.Decoder.{kept_length, line_after}
 use Rattle.unftp_control_serve.specs.EventMeaning.{event_meant, refuses_length}
 use Rattle.unftp_control_serve.specs.declared.event.Event.{Event}
+use Rattle.unftp_control_serve.proofs.DecoderLemmas.{MayRunOut-taken}
 use Rattle.unftp_control_serve.proofs.EventLineLemmas.{line_after-taken, refuses_length-exceeds}
 use Rattle.unftp_control_record.specs.Exchanges.{log_lines}
-use Rattle.unftp_control_record.specs.ToCome.{HasNoLine, SameToCome, TakesLine, lines_to_come, taken_first, taken_texts, text_of}
+use Rattle.unftp_control_record.specs.ToCome.{HasNext, HasNoLine, IsLogged, SameToCome, TakesLine, lines_to_come, taken_first, taken_texts, text_of}
 use Rattle.unftp_control_record.specs.declared.sent.First.{First}
 use Rattle.unftp_control_record.specs.declared.sent.First.TheVariants.{Connection, Pending, Taken, Logged}
 use Rattle.unftp_control_record.specs.declared.sent.SentLines.{SentLines}
@@ -124,3 +125,43 @@ taken-same E before first after event pending taken takes limit line more =
     ∙ log_lines-taken E event takes limit line more
     ∙ ap (λ first. taken_first after.line first
     ++ log_lines after.limit (after.bytes ++ more)) (sym taken)
+
+-- ---- a line that is there
+
+-- one that was taken, and is not logged yet
+pub taken-next : (lines : SentLines) → ¬ IsLogged lines.first → HasNext lines
+taken-next lines taken = by_first lines.first refl taken
+  where
+    by_first : (first : First) → lines.first ≡ first → ¬ IsLogged first → HasNext lines
+    by_first Connection is taken = absurd (taken tt)
+    by_first Pending is taken = absurd (taken tt)
+    by_first (Logged text) is taken = absurd (taken tt)
+    by_first (Taken event) is taken = record {
+      line = Some (log_line (event_meant event) lines.decoder.line);
+      later = log_lines lines.decoder.limit (lines.decoder.bytes ++ []);
+      next = ap (λ first. taken_first lines.decoder.line first
+          ++ log_lines lines.decoder.limit (lines.decoder.bytes ++ [])) is;
+    }
+
+-- one for whose event memory ran out
+pub pending-next : (lines : SentLines) → lines.first ≡ Pending
+    → decoder.MayRunOut lines.decoder.limit lines.decoder.bytes → HasNext lines
+pending-next lines pending may =
+    let first = MayRunOut-taken lines.decoder.bytes may in
+    let takes = first.2 in
+    record {
+      line = Some (logged lines.decoder.limit takes.line);
+      later = log_lines lines.decoder.limit first.1;
+      next = ap (λ first. taken_first lines.decoder.line first
+          ++ log_lines lines.decoder.limit (lines.decoder.bytes ++ [])) pending
+          ∙ ap (log_lines lines.decoder.limit)
+          (append-nil lines.decoder.bytes ∙ takes.whole)
+          ∙ ap (map (λ line. Some (logged lines.decoder.limit line)))
+          (line_first takes.line first.1 takes.is_line).0;
+    }
+
+-- the same line is there
+pub same-next : (before after : SentLines) → SameToCome before after → HasNext before
+    → HasNext after
+same-next before after same next =
+    record { line = next.line; later = next.later; next = sym (same []) ∙ next.next }

@@ -1,12 +1,15 @@
 -- Replies that are taken to the next exchange.
-use Rattle.std.proofs.Common.{◌≡◌, ◌<◌, Vec, Global, Result, Ok, Err, length, length-drop, arith, Bool, true, false, List, [], ◌∷◌, ◌++◌, map, refl, sym, ap, subst, ◌∙◌, append_assoc}
-use Rattle.std.specs.Prelude.{if◌then◌else◌, is_err, is_ok, not}
+use Rattle.std.proofs.Common.{Option, ℕ, ◌≤◌, ◌+◌, vec_capacity, vec_len, ◌≡◌, ◌<◌, Vec, Global, Result, Ok, Err, length, length-drop, arith, Bool, true, false, List, [], ◌∷◌, ◌++◌, map, refl, sym, ap, subst, ◌∙◌, append_assoc}
+use Rattle.std.specs.Prelude.{if◌then◌else◌, is_err, is_ok, not, OnErr}
 use Rattle.std.proofs.lemmas.List.{map-append}
 use Rattle.unftp_control_defs.specs.Bytes.{Bytes}
+use Rattle.unftp_control_defs.specs.ReplyLimit.{within_limit}
+use Rattle.unftp_control_defs.specs.ReplyReader.{HasFront}
 use Rattle.unftp_control_defs.specs.TakingSteps.{AreReplies, TakesReply}
 use Rattle.unftp_control_defs.specs.Turns.{is_preliminary_read}
+use Rattle.unftp_control_defs.proofs.ReplyLimitLemmas.{FrontReply-within}
 use Rattle.unftp_control_defs.proofs.ReplyLemmas.{TakesReply-append, front_within}
-use Rattle.unftp_control_read.specs.ReplyDecoding.{PendingReplies, content}
+use Rattle.unftp_control_read.specs.ReplyDecoding.{BeginsWith, IsShortPart, PendingReplies, TakesFirst, content}
 use Rattle.unftp_control_read.specs.declared.reply.ReceivedReply.{ReceivedReply}
 use Rattle.unftp_control_record.specs.Exchanges.{Read, complete_after, complete_exchanges}
 use Rattle.unftp_control_record.specs.ToCome.{TakesReplies, exchanges_from, exchanges_to_come, replies_so_far}
@@ -86,3 +89,36 @@ pub fewer_bytes : {bytes left : Bytes} {reply : Read} → TakesReply bytes reply
 fewer_bytes {bytes} {left} {reply} takes =
     let within = front_within bytes reply.0 reply.1 takes.used takes.front in
     omega (arith, ap length takes.after_is, length-drop takes.used bytes, within.0, within.1)
+
+-- ---- whether a complete reply is there
+
+pub begins-front : (limit : Option ℕ) (bytes : Bytes) (code used : ℕ)
+    → BeginsWith limit bytes code used → HasFront (within_limit limit bytes)
+begins-front limit bytes code used begins = (
+  code,
+  begins.lines,
+  used,
+  (FrontReply-within limit bytes).1 (begins.front, begins.within),
+)
+
+pub part-no_front : (limit : Option ℕ) (bytes : Bytes) → IsShortPart limit bytes
+    → ¬ HasFront (within_limit limit bytes)
+part-no_front limit bytes part (code, lines, used, front) =
+    part.0.0 (code, lines, used, ((FrontReply-within limit bytes).0 front).0)
+
+pub taken-front : (before : PendingReplies) (reply : Read) (after : PendingReplies)
+    → TakesFirst before reply after → HasFront (within_limit before.limit before.bytes)
+taken-front before reply after first = (
+  reply.0,
+  reply.1,
+  first.takes.used,
+  (FrontReply-within before.limit before.bytes).1 (first.takes.front, first.within),
+)
+
+-- where there is room for one more, it is pushed
+pub has_room : {E : Type 0} (room : Vec ReceivedReply Global) (result : Result (Unit {0}) E)
+    → OnErr result (vec_capacity room ≤ vec_len room)
+    → vec_len room + 1 ≤ vec_capacity room → {test : Bool} → test ≡ true
+    → test ≡ is_err result → ⊥
+has_room room (Ok done) full some failed value = absurd (cc)
+has_room room (Err error) full some failed value = omega (arith, full, some)

@@ -2,11 +2,11 @@
 use Rattle.std.specs.Prelude.{◌≡◌, Bool, true, false, List, [], ◌∷◌, ◌++◌, map, Option, Some, Result, MatchOption, MatchResult}
 use Rattle.unftp_control_defs.specs.Bytes.{Bytes}
 use Rattle.unftp_control_defs.specs.TakingSteps.{AreReplies}
-use Rattle.unftp_control_read.specs.ReplyDecoding.{content, no_bytes}
+use Rattle.unftp_control_read.specs.ReplyDecoding.{HasError, content, no_bytes}
 use Rattle.unftp_control_read.specs.declared.errors.NextReplyError.{NextReplyError}
 use Rattle.unftp_control_read.specs.declared.errors.NextReplyError.TheVariants.{OutOfMemory}
 use Rattle.unftp_control_record.specs.Exchanges.{Entry, Read, lines_in, replies_in}
-use Rattle.unftp_control_record.specs.ToCome.{HasNoLine, HasNoReply, MeansError, exchanges_to_come, lines_to_come, new_lines, replies_so_far, text_of}
+use Rattle.unftp_control_record.specs.ToCome.{HasNext, HasNoLine, HasNoReply, exchanges_to_come, lines_to_come, new_lines, replies_so_far, text_of}
 use Rattle.unftp_control_record.specs.declared.sent.First.TheVariants.{Connection, Pending}
 use Rattle.unftp_control_record.specs.declared.recorder.Exchange.{Exchange}
 use Rattle.unftp_control_record.specs.declared.recorder.Limits.{Limits}
@@ -75,10 +75,11 @@ Lacks true recorder = (recorder.sent.first ≡ Pending) × HasNoLine recorder.se
 abbrev pub IsWaiting : Recorder → Type 0
 IsWaiting recorder = Lacks recorder.turn.is_complete recorder
 
--- an error of a recorder: of the replies, while the exchange has no final one; or out of memory
-abbrev pub HasError : Bool → Recorder → NextReplyError → Type 0
-HasError false recorder error = MeansError recorder.given error
-HasError true recorder error = error ≡ OutOfMemory
+-- What an error means: it is one of the pending replies, while the next exchange has no final one;
+-- and else it comes where that exchange is complete.
+abbrev pub MeansError : Bool → Recorder → NextReplyError → Type 0
+MeansError false recorder error = HasError recorder.given.limit recorder.given.bytes error
+MeansError true recorder error = (error ≡ OutOfMemory) × HasNext recorder.sent
 
 -- The next exchange is returned, as soon as it is complete.
 abbrev pub Records : Recorder → Result (Option Exchange) NextReplyError → Recorder → Type 0
@@ -87,7 +88,7 @@ Records before result after = MatchResult result
     (IsRecorded before nothing_passed after × IsWaiting after)
     (λ exchange. IsRecorded before (one_entry (entry_of exchange)) after))
     (λ error. IsRecorded before nothing_passed after
-    × HasError after.turn.is_complete after error)
+    × MeansError after.turn.is_complete after error)
 
 -- a line without its final reply, and the replies that came to it so far
 pub record IsUnanswered (before : Recorder) (entry : Entry) (after : Recorder) : Type 0 where
@@ -105,4 +106,4 @@ TakesUnanswered before result after = MatchResult result
     (λ next. MatchOption next
     (IsRecorded before nothing_passed after × Lacks true after)
     (λ exchange. IsUnanswered before (entry_of exchange) after))
-    (λ _. IsRecorded before nothing_passed after)
+    (λ _. IsRecorded before nothing_passed after × HasNext after.sent)

@@ -4,12 +4,8 @@ use Rattle.std.specs.declared.vec.Vec.{Vec}
 use Rattle.std.specs.declared.alloc.Global.{Global}
 use Rattle.unftp_control_defs.specs.Bytes.{Bytes, LF, Lacks}
 use Rattle.unftp_control_defs.specs.TakingSteps.{AreReplies}
-use Rattle.unftp_control_defs.specs.ReplyLimit.{IsTooLongReply, within_limit}
-use Rattle.unftp_control_defs.specs.ReplyReader.{IsMalformed}
 use Rattle.unftp_control_log.specs.LogLine.{log_line}
 use Rattle.unftp_control_read.specs.ReplyDecoding.{IsShortPart, PendingReplies, content}
-use Rattle.unftp_control_read.specs.declared.errors.NextReplyError.{NextReplyError}
-use Rattle.unftp_control_read.specs.declared.errors.NextReplyError.TheVariants.{Malformed, TooLong, OutOfMemory}
 use Rattle.unftp_control_serve.specs.Decoder as decoder
 use Rattle.unftp_control_serve.specs.Decoder.{kept_length}
 use Rattle.unftp_control_serve.specs.EventMeaning.{event_meant}
@@ -54,6 +50,12 @@ new_lines alloc limit =
 abbrev pub SameToCome : SentLines → SentLines → Type 0
 SameToCome before after = (more : Bytes) → lines_to_come before more ≡ lines_to_come after more
 
+-- It is known what the next exchange is to, or a line is complete.
+pub record HasNext (lines : SentLines) : Type 0 where
+  pub line : Option Bytes
+  pub later : List (Option Bytes)
+  pub next : lines_to_come lines [] ≡ line ∷ later
+
 -- No line is complete, and of the incomplete one no more is held than the limit.
 pub record HasNoLine (pending : decoder.Pending) : Type 0 where
   pub unended : Lacks LF pending.bytes
@@ -67,7 +69,7 @@ TakesLine before result after = MatchResult result
     (SameToCome before after × (after.first ≡ Pending) × HasNoLine after.decoder)
     (λ line. (more : Bytes)
     → lines_to_come before more ≡ text_of line ∷ lines_to_come after more))
-    (λ _. SameToCome before after)
+    (λ _. SameToCome before after × HasNext after)
 
 -- ---- of the replies
 
@@ -96,9 +98,3 @@ pub record TakesReplies (before : Turn) (pending : PendingReplies) (after : Turn
 pub record HasNoReply (pending : PendingReplies) : Type 0 where
   pub part : IsShortPart pending.limit pending.bytes
   pub held : pending.buffered ≡ length pending.bytes
-
--- what an error means for the pending bytes: room for the next reply is asked for before it is there
-abbrev pub MeansError : PendingReplies → NextReplyError → Type 0
-MeansError pending Malformed = IsMalformed (within_limit pending.limit pending.bytes)
-MeansError pending TooLong = IsTooLongReply pending.limit pending.bytes
-MeansError pending OutOfMemory = ⊤

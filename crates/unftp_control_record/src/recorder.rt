@@ -1,5 +1,5 @@
 //! The recorder.
-ghost use Rattle.std.specs.Prelude.{◌≡◌, ◌≤◌, OnErr, OnOk};
+ghost use Rattle.std.specs.Prelude.{◌≡◌, ◌≤◌, [], OnErr, OnOk};
 ghost use Rattle.unftp_control_record.specs.Recording.{IsNew, IsRecorded, Records, TakesUnanswered, given_piece, nothing_passed, sent_piece};
 
 use crate::sent::SentLines;
@@ -61,10 +61,12 @@ impl Recorder {
         self.sent.push(piece)
     }
 
-    /// Appends a piece of what the client was given. When out of memory, nothing changes.
+    /// Appends a piece of what the client was given. When out of memory, nothing changes; it
+    /// never is for an empty piece.
     pub fn given(&mut self, piece: &[u8]) -> Result<(), AllocError>
         ensures ok { OnOk result (IsRecorded self.old (given_piece piece.now) self.new) }
         ensures err { OnErr result (self.new ≡ self.old) }
+        ensures some { OnErr result (¬ (piece.now ≡ [])) }
     {
         self.given.push(piece)
     }
@@ -72,9 +74,9 @@ impl Recorder {
     /// Returns the next exchange, or `None` where its final reply is not complete, or has no
     /// complete line yet that it is to (RFC 959, sections 4.2 and 5.4).
     ///
-    /// At an error nothing is lost. `Malformed` and `TooLong` are returned from then on, once the
-    /// exchanges before are. After `OutOfMemory`, which may also come where no exchange is complete,
-    /// the call can be made again.
+    /// At an error nothing is lost. `Malformed` and `TooLong` are returned from then on: no exchange
+    /// comes after them. `OutOfMemory` is returned only where a complete reply is pending, or the
+    /// exchange is complete; the call can be made again.
     ///
     /// Where it returns `None`, either no more than a part of a reply is held of what the client was
     /// given, within the limit; or no more than an incomplete line of what it sent, within the

@@ -1,7 +1,7 @@
 //! What the client sent.
 ghost use Rattle.std.specs.Prelude.{◌≡◌, ◌≤◌, ◌++◌, [], OnErr, OnOk};
 ghost use Rattle.unftp_control_defs.specs.Bytes.{Bytes};
-ghost use Rattle.unftp_control_record.specs.ToCome.{HasNoLine, IsLogged, SameToCome, TakesLine, lines_to_come, new_lines, taken_first, taken_texts};
+ghost use Rattle.unftp_control_record.specs.ToCome.{HasNext, HasNoLine, IsLogged, SameToCome, TakesLine, lines_to_come, new_lines, taken_first, taken_texts};
 ghost use Rattle.unftp_control_record.specs.declared.sent.First.TheVariants.{Pending as NotTaken};
 
 use std::alloc::{AllocError, Global};
@@ -69,6 +69,7 @@ impl SentLines {
     fn take_first(&mut self) -> Result<(), AllocError>
         ensures same { SameToCome self.old self.new }
         ensures none { OnOk result (self.new.first ≡ NotTaken → HasNoLine self.new.decoder) }
+        ensures err { OnErr result (HasNext self.new) }
         ensures limit { self.new.decoder.limit ≡ self.old.decoder.limit }
     {
         let First::Pending = &self.first else {
@@ -88,6 +89,7 @@ fn log_first(first: &mut First, line: &[u8], alloc: Global) -> Result<(), AllocE
         ((other : Bytes) → taken_first line.now first.old ≡ taken_first other first.new) }
     ensures logged { OnOk result (IsLogged first.new) }
     ensures err { OnErr result (first.new ≡ first.old) }
+    ensures taken { OnErr result (¬ IsLogged first.old) }
 {
     let First::Taken(event) = &*first else {
         return Ok(());

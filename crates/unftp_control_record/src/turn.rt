@@ -1,8 +1,10 @@
 //! The replies of an exchange.
-ghost use Rattle.std.specs.Prelude.{◌≡◌, ◌<◌, [], IfErr, Ok, false, true, length, map};
+ghost use Rattle.std.specs.Prelude.{◌≡◌, ◌+◌, ◌<◌, ◌≤◌, [], IfErr, Ok, OnOk, false, true, length, map, vec_capacity, vec_len};
+ghost use Rattle.unftp_control_defs.specs.ReplyLimit.{within_limit};
+ghost use Rattle.unftp_control_defs.specs.ReplyReader.{HasFront};
 ghost use Rattle.unftp_control_defs.specs.Turns.{is_preliminary};
-ghost use Rattle.unftp_control_read.specs.ReplyDecoding.{content};
-ghost use Rattle.unftp_control_record.specs.ToCome.{HasNoReply, MeansError, TakesReplies, replies_so_far};
+ghost use Rattle.unftp_control_read.specs.ReplyDecoding.{HasError, content};
+ghost use Rattle.unftp_control_record.specs.ToCome.{HasNoReply, TakesReplies, replies_so_far};
 
 use std::alloc::Global;
 use std::mem;
@@ -20,6 +22,26 @@ fn is_preliminary(code: u16) -> bool
     ensures { result ≡ is_preliminary code }
 {
     (100..200).contains(&code)
+}
+
+/// Asks for room for the next reply. It is no error that there is none where that is not complete.
+fn add_room(
+    replies: &mut Vec<ReceivedReply>,
+    pending: &mut ReplyDecoder,
+) -> Result<(), NextReplyError>
+    ensures room { OnOk result (HasFront (within_limit pending.new.limit pending.new.bytes)
+        → vec_len replies.new + 1 ≤ vec_capacity replies.new) }
+    ensures err { IfErr result (HasError pending.old.limit pending.old.bytes) }
+    ensures items { replies.new.items ≡ replies.old.items }
+    ensures pending { pending.new ≡ pending.old }
+{
+    if replies.try_reserve(1).is_ok() {
+        return Ok(());
+    }
+    match pending.find_first()? {
+        Some(_) => Err(NextReplyError::OutOfMemory),
+        None => Ok(()),
+    }
 }
 
 impl Turn {
@@ -40,7 +62,8 @@ impl Turn {
         ensures done { result ≡ Ok true → self.new.is_complete ≡ true }
         ensures incomplete { result ≡ Ok false → self.new.is_complete ≡ false }
         ensures none { result ≡ Ok false → HasNoReply pending.new }
-        ensures err { IfErr result (MeansError pending.new) }
+        ensures err { IfErr result
+            (HasError pending.new.limit pending.new.bytes) }
         ensures err_incomplete { IfErr result (λ _. self.new.is_complete ≡ false) }
     {
         while !self.is_complete {
@@ -59,12 +82,11 @@ impl Turn {
         ensures fewer { result ≡ Ok true → length pending.new.bytes < length pending.old.bytes }
         ensures incomplete { result ≡ Ok false → self.new.is_complete ≡ false }
         ensures none { result ≡ Ok false → HasNoReply pending.new }
-        ensures err { IfErr result (MeansError pending.new) }
+        ensures err { IfErr result
+            (HasError pending.new.limit pending.new.bytes) }
         ensures err_incomplete { IfErr result (λ _. self.new.is_complete ≡ false) }
     {
-        if self.replies.try_reserve(1).is_err() {
-            return Err(NextReplyError::OutOfMemory);
-        }
+        add_room(&mut self.replies, pending)?;
         let Some(reply) = pending.next_reply()? else {
             return Ok(false);
         };
