@@ -5,12 +5,11 @@ use Rattle.std.specs.List.{AllByRecursion}
 use Rattle.std.specs.Option.{IfSome}
 use Rattle.std.proofs.lemmas.Bool.{ltb-false}
 use Rattle.unftp_control_defs.specs.Bytes.{Bytes}
-use Rattle.unftp_control_defs.specs.TakingSteps.{AreReplies}
 use Rattle.unftp_control_defs.proofs.LineLemmas.{lines_of-incomplete}
 use Rattle.unftp_control_serve.specs.Decoder.{kept_length, no_bytes}
 use Rattle.unftp_control_record.specs.Exchanges.{IsWhole, Read, all_asked, complete_exchanges, entries, log_lines}
 use Rattle.unftp_control_record.specs.Recording.{IsNew, IsRecorded, IsWaiting, Lacks, Passed}
-use Rattle.unftp_control_record.specs.ToCome.{exchanges_from, exchanges_to_come, lines_to_come, replies_so_far, taken_first}
+use Rattle.unftp_control_record.specs.ToCome.{AreRead, exchanges_from, exchanges_to_come, lines_to_come, replies_so_far, taken_first}
 use Rattle.unftp_control_record.specs.declared.sent.SentLines.{SentLines}
 use Rattle.unftp_control_record.specs.declared.recorder.Limits.{Limits}
 use Rattle.unftp_control_record.specs.declared.recorder.Recorder.{Recorder}
@@ -85,12 +84,15 @@ module _ {limits : Limits} {recorder later : Recorder} {passed : Passed}
       ∙ ap (λ left. passed.recorded ++ left) (nothing_left later.turn.is_complete refl waiting)
       ∙ append-nil passed.recorded)
 
-  pub replies_are : AreReplies passed.given is.replies later.given.bytes
+  pub replies_are : AreRead (Some limits.reply) passed.given is.replies later.given.bytes
   replies_are =
-      subst (λ bytes. AreReplies passed.given is.replies bytes) (append-nil later.given.bytes)
-      (subst (λ bytes. AreReplies bytes is.replies (later.given.bytes ++ []))
+      subst (λ limit. AreRead limit passed.given is.replies later.given.bytes)
+      (ap (λ p. p.limit) new.pending)
+      (subst (λ bytes. AreRead recorder.given.limit passed.given is.replies bytes)
+      (append-nil later.given.bytes)
+      (subst (λ bytes. AreRead recorder.given.limit bytes is.replies (later.given.bytes ++ []))
       (ap (λ bytes. bytes ++ (passed.given ++ [])) (ap (λ p. p.bytes) new.pending)
-      ∙ append-nil passed.given) (is.read []))
+      ∙ append-nil passed.given) (is.read [])))
 
   pub all_whole : AllByRecursion (λ entry. IsWhole entry.replies) passed.recorded
   all_whole = mapped_first IsWhole (λ entry. entry.replies) passed.recorded (exchanges_to_come later.turn [])

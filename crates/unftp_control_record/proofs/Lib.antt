@@ -5,3 +5,4 @@ pub mod RecordLemmas
 pub mod LawLemmas
 pub mod SameLemmas
 pub mod TextLemmas
+pub mod BrokenLemmas

@@ -2,12 +2,11 @@
 use Rattle.std.proofs.Common.{◌≡◌, List, [], ◌∷◌, ◌++◌, Option, refl, sym, ap, subst, ◌∙◌, append_assoc}
 use Rattle.std.proofs.lemmas.List.{map-append}
 use Rattle.unftp_control_defs.specs.Bytes.{Bytes}
-use Rattle.unftp_control_defs.specs.TakingSteps.{AreReplies}
 use Rattle.unftp_control_record.specs.Exchanges.{Entry, Read, entries, lines_in, replies_in}
 use Rattle.unftp_control_record.specs.Recording.{IsRecorded, Passed, joined, nothing_passed}
-use Rattle.unftp_control_record.specs.ToCome.{exchanges_to_come, lines_to_come}
+use Rattle.unftp_control_record.specs.ToCome.{AreRead, exchanges_to_come, lines_to_come}
 use Rattle.unftp_control_record.specs.declared.recorder.Recorder.{Recorder}
-use Rattle.unftp_control_record.proofs.TurnLemmas.{AreReplies-append}
+use Rattle.unftp_control_record.proofs.TurnLemmas.{AreRead-append}
 
 pub nothing : (recorder : Recorder) → IsRecorded recorder nothing_passed recorder
 nothing recorder = record {
@@ -32,11 +31,12 @@ in_turn {before} {middle} {after} {first} {later} one two = record {
       ∙ ap (λ lines. lines ++ lines_to_come after.sent more)
       (sym (map-append _ first.recorded later.recorded));
   replies = one.replies ++ two.replies;
-  read = λ more. AreReplies-append one.replies two.replies _ _ _
-      (subst (λ bytes. AreReplies (before.given.bytes ++ bytes) one.replies
+  read = λ more. AreRead-append before.given.limit one.replies two.replies _ _ _
+      (subst (λ bytes. AreRead before.given.limit (before.given.bytes ++ bytes) one.replies
       (middle.given.bytes ++ (later.given ++ more)))
       (sym (append_assoc first.given later.given more)) (one.read (later.given ++ more)))
-      (two.read more);
+      (subst (λ limit. AreRead limit (middle.given.bytes ++ (later.given ++ more)) two.replies
+      (after.given.bytes ++ more)) one.reply_limit (two.read more));
   exchanges = λ more.
       ap (exchanges_to_come before.turn) (append_assoc one.replies two.replies more)
       ∙ one.exchanges (two.replies ++ more)

@@ -1,45 +1,46 @@
 -- Recorders that were given the same bytes.
-use Rattle.std.proofs.Common.{◌≡◌, ◌⊎◌, inl, inr, Bool, true, false, List, [], ◌∷◌, ◌++◌, Some, drop, refl, sym, ap, subst, ◌∙◌, append-nil}
+use Rattle.std.proofs.Common.{ℕ, ◌≡◌, ◌⊎◌, inl, inr, Bool, true, false, Option, List, [], ◌∷◌, ◌++◌, Some, drop, refl, sym, ap, subst, ◌∙◌, append-nil}
 use Rattle.unftp_control_defs.specs.Bytes.{Bytes}
-use Rattle.unftp_control_defs.specs.TakingSteps.{AreReplies}
 use Rattle.unftp_control_defs.proofs.ReplyLemmas.{FrontReply-unique}
 use Rattle.unftp_control_record.specs.Exchanges.{Read, all_asked, complete_exchanges, entries}
 use Rattle.unftp_control_record.specs.Recording.{IsNew, IsRecorded, IsWaiting, Lacks, Passed}
-use Rattle.unftp_control_record.specs.ToCome.{exchanges_to_come}
+use Rattle.unftp_control_record.specs.ToCome.{AreRead, exchanges_to_come}
 use Rattle.unftp_control_record.specs.declared.recorder.Limits.{Limits}
 use Rattle.unftp_control_record.specs.declared.recorder.Recorder.{Recorder}
 use Rattle.unftp_control_record.proofs.LawLemmas.{all_entries, entries_with, no_lines_left, replies_are}
 
 -- these replies are the first of those, and the others are read after them
-pub record AreFirst (first all : List Read) (middle after : Bytes) : Type 0 where
+pub record AreFirst (limit : Option ℕ) (first all : List Read) (middle after : Bytes)
+    : Type 0 where
   pub later : List Read
   pub whole : all ≡ first ++ later
-  pub read : AreReplies middle later after
+  pub read : AreRead limit middle later after
 
 -- of two readings of the same bytes one goes on where the other stops
-read_on : (one two : List Read) (bytes after after' : Bytes) → AreReplies bytes one after
-    → AreReplies bytes two after' → AreFirst one two after after' ⊎ AreFirst two one after' after
-read_on [] two bytes after after' is is' = inl (record {
+read_on : (limit : Option ℕ) (one two : List Read) (bytes after after' : Bytes) → AreRead limit bytes one after
+    → AreRead limit bytes two after' → AreFirst limit one two after after' ⊎ AreFirst limit two one after' after
+read_on limit [] two bytes after after' is is' = inl (record {
   later = two;
   whole = refl;
-  read = subst (λ bytes. AreReplies bytes two after') (sym is) is';
+  read = subst (λ bytes. AreRead limit bytes two after') (sym is) is';
 })
-read_on (reply ∷ one) [] bytes after after' is is' = inr (record {
+read_on limit (reply ∷ one) [] bytes after after' is is' = inr (record {
   later = reply ∷ one;
   whole = refl;
-  read = subst (λ bytes. AreReplies bytes (reply ∷ one) after) (sym is') is;
+  read = subst (λ bytes. AreRead limit bytes (reply ∷ one) after) (sym is') is;
 })
-read_on (reply ∷ one) (other ∷ two) bytes after after' (next, takes, is) (next', takes', is') =
+read_on limit (reply ∷ one) (other ∷ two) bytes after after' (next, takes, within, is)
+    (next', takes', within', is') =
     let same = FrontReply-unique takes.front takes'.front in
     let reply_same : reply ≡ other = λ i. (same.0 i, same.1 i) in
     let bytes_same : next' ≡ next = takes'.after_is
     ∙ ap (λ used. drop used bytes) (sym same.2) ∙ sym takes.after_is in
-    by_case reply_same (read_on one two next after after' is
-    (subst (λ bytes. AreReplies bytes two after') bytes_same is'))
+    by_case reply_same (read_on limit one two next after after' is
+    (subst (λ bytes. AreRead limit bytes two after') bytes_same is'))
   where
-    by_case : reply ≡ other → AreFirst one two after after' ⊎ AreFirst two one after' after
-        → AreFirst (reply ∷ one) (other ∷ two) after after'
-        ⊎ AreFirst (other ∷ two) (reply ∷ one) after' after
+    by_case : reply ≡ other → AreFirst limit one two after after' ⊎ AreFirst limit two one after' after
+        → AreFirst limit (reply ∷ one) (other ∷ two) after after'
+        ⊎ AreFirst limit (other ∷ two) (reply ∷ one) after' after
     by_case e (inl first) = inl (record {
       later = first.later;
       whole = λ i. sym e i ∷ first.whole i;
@@ -52,10 +53,10 @@ read_on (reply ∷ one) (other ∷ two) bytes after after' (next, takes, is) (ne
     })
 
 -- where it waits for a reply, none is read after its own
-none_after : (recorder : Recorder) → Lacks false recorder → (later : List Read) (after : Bytes)
-    → AreReplies recorder.given.bytes later after → later ≡ []
-none_after recorder lacks [] after are = refl
-none_after recorder lacks (reply ∷ later) after (next, takes, are) =
+none_after : (limit : Option ℕ) (recorder : Recorder) → Lacks false recorder → (later : List Read) (after : Bytes)
+    → AreRead limit recorder.given.bytes later after → later ≡ []
+none_after limit recorder lacks [] after are = refl
+none_after limit recorder lacks (reply ∷ later) after (next, takes, within, are) =
     absurd (lacks.part.0.0 (reply.0, reply.1, takes.used, takes.front))
 
 module _ {limits : Limits} {recorder later : Recorder} {passed : Passed}
@@ -63,7 +64,7 @@ module _ {limits : Limits} {recorder later : Recorder} {passed : Passed}
     (waiting : IsWaiting later) where
   -- its exchanges are all of those that more replies could make
   pub enough : {all : List Read} {after : Bytes}
-      → AreFirst is.replies all later.given.bytes after
+      → AreFirst (Some limits.reply) is.replies all later.given.bytes after
       → passed.recorded
       ≡ entries (all_asked (Some limits.line) passed.sent) (complete_exchanges all)
   enough {all} {after} first = by_case later.turn.is_complete refl waiting
@@ -77,7 +78,7 @@ module _ {limits : Limits} {recorder later : Recorder} {passed : Passed}
           (complete_exchanges replies))
           (sym (append-nil is.replies)
           ∙ ap (λ later. is.replies ++ later)
-          (sym (none_after later lacks first.later after first.read))
+          (sym (none_after (Some limits.reply) later lacks first.later after first.read))
           ∙ sym first.whole)
       by_case true complete lacks = sym (
           ap (λ replies. entries (all_asked (Some limits.line) passed.sent)
@@ -95,13 +96,13 @@ pub same_recorded : {limits : Limits} {recorder other later other_later : Record
     → passed.recorded ≡ others.recorded
 same_recorded {limits} {recorder} {other} {later} {other_later} {passed} {others} new new' is is'
     waiting waiting' sent given =
-    by_case (read_on is.replies is'.replies passed.given later.given.bytes other_later.given.bytes
+    by_case (read_on (Some limits.reply) is.replies is'.replies passed.given later.given.bytes other_later.given.bytes
     (replies_are new is)
-    (subst (λ bytes. AreReplies bytes is'.replies other_later.given.bytes) (sym given)
+    (subst (λ bytes. AreRead (Some limits.reply) bytes is'.replies other_later.given.bytes) (sym given)
     (replies_are new' is')))
   where
-    by_case : AreFirst is.replies is'.replies later.given.bytes other_later.given.bytes
-        ⊎ AreFirst is'.replies is.replies other_later.given.bytes later.given.bytes
+    by_case : AreFirst (Some limits.reply) is.replies is'.replies later.given.bytes other_later.given.bytes
+        ⊎ AreFirst (Some limits.reply) is'.replies is.replies other_later.given.bytes later.given.bytes
         → passed.recorded ≡ others.recorded
     by_case (inl first) = enough new is waiting first
         ∙ ap (λ sent. entries (all_asked (Some limits.line) sent)

@@ -1,6 +1,7 @@
 -- Replies that are taken to the next exchange.
 use Rattle.std.proofs.Common.{Option, ℕ, ◌≤◌, ◌+◌, vec_capacity, vec_len, ◌≡◌, ◌<◌, Vec, Global, Result, Ok, Err, length, length-drop, arith, Bool, true, false, List, [], ◌∷◌, ◌++◌, map, refl, sym, ap, subst, ◌∙◌, append_assoc}
 use Rattle.std.specs.Prelude.{if◌then◌else◌, is_err, is_ok, not, OnErr}
+use Rattle.std.specs.Option.{IfSome}
 use Rattle.std.proofs.lemmas.List.{map-append}
 use Rattle.unftp_control_defs.specs.Bytes.{Bytes}
 use Rattle.unftp_control_defs.specs.ReplyLimit.{within_limit}
@@ -8,20 +9,36 @@ use Rattle.unftp_control_defs.specs.ReplyReader.{HasFront}
 use Rattle.unftp_control_defs.specs.TakingSteps.{AreReplies, TakesReply}
 use Rattle.unftp_control_defs.specs.Turns.{is_preliminary_read}
 use Rattle.unftp_control_defs.proofs.ReplyLimitLemmas.{FrontReply-within}
-use Rattle.unftp_control_defs.proofs.ReplyLemmas.{TakesReply-append, front_within}
+use Rattle.unftp_control_defs.proofs.ReplyLemmas.{FrontReply-append, FrontReply-unique, TakesReply-append, front_within}
 use Rattle.unftp_control_read.specs.ReplyDecoding.{BeginsWith, IsShortPart, PendingReplies, TakesFirst, content}
 use Rattle.unftp_control_read.specs.declared.reply.ReceivedReply.{ReceivedReply}
 use Rattle.unftp_control_record.specs.Exchanges.{Read, complete_after, complete_exchanges}
-use Rattle.unftp_control_record.specs.ToCome.{TakesReplies, exchanges_from, exchanges_to_come, replies_so_far}
+use Rattle.unftp_control_record.specs.ToCome.{AreRead, TakesReplies, exchanges_from, exchanges_to_come, replies_so_far}
 use Rattle.unftp_control_record.specs.declared.turn.Turn.{Turn}
 
-pub AreReplies-append : (first later : List Read) (before middle after : Bytes)
-    → AreReplies before first middle → AreReplies middle later after
-    → AreReplies before (first ++ later) after
-AreReplies-append [] later before middle after are more =
-    subst (λ bytes. AreReplies bytes later after) are more
-AreReplies-append (reply ∷ first) later before middle after (next, takes, are) more =
-    (next, takes, AreReplies-append first later next middle after are more)
+pub AreRead-append : (limit : Option ℕ) (first later : List Read) (before middle after : Bytes)
+    → AreRead limit before first middle → AreRead limit middle later after
+    → AreRead limit before (first ++ later) after
+AreRead-append limit [] later before middle after are more =
+    subst (λ bytes. AreRead limit bytes later after) are more
+AreRead-append limit (reply ∷ first) later before middle after (next, takes, within, are) more =
+    (next, takes, within, AreRead-append limit first later next middle after are more)
+
+-- they are replies
+pub AreRead-replies : (limit : Option ℕ) (replies : List Read) (before after : Bytes)
+    → AreRead limit before replies after → AreReplies before replies after
+AreRead-replies limit [] before after are = are
+AreRead-replies limit (reply ∷ replies) before after (next, takes, within, are) =
+    (next, takes, AreRead-replies limit replies next after are)
+
+within-append : (limit : Option ℕ) {before after : Bytes} (more : Bytes) {reply : Read}
+    (takes : TakesReply before reply after) → IfSome limit (λ limit. takes.used ≤ limit)
+    → IfSome limit (λ limit. (TakesReply-append more takes).used ≤ limit)
+within-append limit {before} more {reply} takes within =
+    subst (λ used. IfSome limit (λ limit. used ≤ limit))
+    (FrontReply-unique
+    (FrontReply-append before more reply.0 reply.1 takes.used takes.front)
+    (TakesReply-append more takes).front).2 within
 
 -- the state of a turn after no reply,
 pub no_reply : {before after : Turn} {pending left : PendingReplies}
@@ -47,11 +64,11 @@ pub one_reply : {before after : Turn} {pending left : PendingReplies} (reply : R
     → before.is_complete ≡ false
     → replies_so_far after ≡ replies_so_far before ++ reply ∷ []
     → after.is_complete ≡ not (is_preliminary_read reply)
-    → TakesReply pending.bytes reply left.bytes → left.limit ≡ pending.limit
+    → TakesFirst pending reply left → left.limit ≡ pending.limit
     → TakesReplies before pending after left
-one_reply {before} {after} {pending} {left} reply incomplete replies complete takes limit = record {
+one_reply {before} {after} {pending} {left} reply incomplete replies complete first limit = record {
   taken = reply ∷ [];
-  read = λ more. (left.bytes ++ more, TakesReply-append more takes, refl);
+  read = λ more. (left.bytes ++ more, TakesReply-append more first.takes, within-append pending.limit more first.takes first.within, refl);
   exchanges = λ more.
       ap (λ complete. exchanges_from complete (replies_so_far before) (reply ∷ more)) incomplete
       ∙ exchanges-reply (replies_so_far before) reply (is_preliminary_read reply) more
@@ -65,8 +82,10 @@ pub replies_in_turn : {before middle after : Turn} {pending between left : Pendi
     → TakesReplies before pending after left
 replies_in_turn {before} {middle} {after} {pending} {between} {left} one two = record {
   taken = one.taken ++ two.taken;
-  read = λ more. AreReplies-append one.taken two.taken (pending.bytes ++ more)
-      (between.bytes ++ more) (left.bytes ++ more) (one.read more) (two.read more);
+  read = λ more. AreRead-append pending.limit one.taken two.taken (pending.bytes ++ more)
+      (between.bytes ++ more) (left.bytes ++ more) (one.read more)
+      (subst (λ limit. AreRead limit (between.bytes ++ more) two.taken (left.bytes ++ more))
+      one.limit (two.read more));
   exchanges = λ more.
       ap (exchanges_to_come before) (append_assoc one.taken two.taken more)
       ∙ one.exchanges (two.taken ++ more) ∙ two.exchanges more;

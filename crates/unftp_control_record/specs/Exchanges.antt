@@ -11,8 +11,8 @@ use Rattle.unftp_control_log.specs.LogLine.{logged}
 abbrev pub Read : Type 0
 Read = ℕ × List Bytes
 
--- What the exchange is to, as a log shows it: a line, or, where there is none, the connection, which
--- the server greets; and its replies.
+-- What the exchange is to: a line, as a log shows it, or, where there is none, the connection,
+-- which the server greets; and its replies.
 pub record Entry : Type 0 where
   pub line : Option Bytes
   pub replies : List Read

@@ -1,12 +1,11 @@
 -- What a recorder is given, and which exchanges it returns.
-use Rattle.std.specs.Prelude.{◌≡◌, Bool, true, false, List, [], ◌∷◌, ◌++◌, map, Option, Some, Result, MatchOption, MatchResult}
+use Rattle.std.specs.Prelude.{◌≢◌, ◌≡◌, Bool, true, false, List, [], ◌∷◌, ◌++◌, map, Option, Some, Result, MatchOption, MatchResult}
 use Rattle.unftp_control_defs.specs.Bytes.{Bytes}
-use Rattle.unftp_control_defs.specs.TakingSteps.{AreReplies}
 use Rattle.unftp_control_read.specs.ReplyDecoding.{HasError, content, no_bytes}
 use Rattle.unftp_control_read.specs.declared.errors.NextReplyError.{NextReplyError}
 use Rattle.unftp_control_read.specs.declared.errors.NextReplyError.TheVariants.{OutOfMemory}
 use Rattle.unftp_control_record.specs.Exchanges.{Entry, Read, lines_in, replies_in}
-use Rattle.unftp_control_record.specs.ToCome.{HasNext, HasNoLine, HasNoReply, exchanges_to_come, lines_to_come, new_lines, replies_so_far, text_of}
+use Rattle.unftp_control_record.specs.ToCome.{AreRead, HasNext, HasNoLine, HasNoReply, exchanges_to_come, lines_to_come, new_lines, replies_so_far, text_of}
 use Rattle.unftp_control_record.specs.declared.sent.First.TheVariants.{Connection, Pending}
 use Rattle.unftp_control_record.specs.declared.recorder.Exchange.{Exchange}
 use Rattle.unftp_control_record.specs.declared.recorder.Limits.{Limits}
@@ -53,15 +52,15 @@ pub record IsNew (limits : Limits) (recorder : Recorder) : Type 0 where
   pub none : replies_so_far recorder.turn ≡ []
   pub incomplete : recorder.turn.is_complete ≡ false
 
--- All of this passed between two states of a recorder: whatever comes later, the exchanges that were
--- returned are the first of those that were to come, and those after them are still to come.
+-- All of this passed between two states of a recorder: whatever comes later, the exchanges that
+-- were returned are the first of those that were to come, and the others are still to come.
 pub record IsRecorded (before : Recorder) (passed : Passed) (after : Recorder) : Type 0 where
   pub lines : (more : Bytes) → lines_to_come before.sent (passed.sent ++ more)
       ≡ lines_in passed.recorded ++ lines_to_come after.sent more
   -- the replies that were read of what the client was given
   pub replies : List Read
-  pub read : (more : Bytes) → AreReplies (before.given.bytes ++ (passed.given ++ more)) replies
-      (after.given.bytes ++ more)
+  pub read : (more : Bytes) → AreRead before.given.limit (before.given.bytes ++ (passed.given ++ more))
+      replies (after.given.bytes ++ more)
   pub exchanges : (more : List Read) → exchanges_to_come before.turn (replies ++ more)
       ≡ replies_in passed.recorded ++ exchanges_to_come after.turn more
   pub line_limit : after.sent.decoder.limit ≡ before.sent.decoder.limit
@@ -107,3 +106,9 @@ TakesUnanswered before result after = MatchResult result
     (IsRecorded before nothing_passed after × Lacks true after)
     (λ exchange. IsUnanswered before (entry_of exchange) after))
     (λ _. IsRecorded before nothing_passed after × HasNext after.sent)
+
+-- The replies have an error, other than out of memory.
+pub record IsBroken (recorder : Recorder) (error : NextReplyError) : Type 0 where
+  pub incomplete : recorder.turn.is_complete ≡ false
+  pub has : HasError recorder.given.limit recorder.given.bytes error
+  pub not_memory : error ≢ OutOfMemory

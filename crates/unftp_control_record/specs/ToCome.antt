@@ -1,9 +1,9 @@
 -- What is still to come of what a recorder holds.
-use Rattle.std.specs.Prelude.{⊤, ◌≡◌, ℕ, Bool, true, false, List, [], ◌∷◌, ◌++◌, length, map, Option, None, Some, option_map, Result, MatchOption, MatchResult}
+use Rattle.std.specs.Prelude.{⊤, ◌≡◌, ℕ, Bool, true, false, List, [], ◌∷◌, ◌++◌, length, map, Option, None, Some, IfSome, ◌≤◌, option_map, Result, MatchOption, MatchResult}
 use Rattle.std.specs.declared.vec.Vec.{Vec}
 use Rattle.std.specs.declared.alloc.Global.{Global}
 use Rattle.unftp_control_defs.specs.Bytes.{Bytes, LF, Lacks}
-use Rattle.unftp_control_defs.specs.TakingSteps.{AreReplies}
+use Rattle.unftp_control_defs.specs.TakingSteps.{TakesReply}
 use Rattle.unftp_control_log.specs.LogLine.{log_line}
 use Rattle.unftp_control_read.specs.ReplyDecoding.{IsShortPart, PendingReplies, content}
 use Rattle.unftp_control_serve.specs.Decoder as decoder
@@ -77,7 +77,7 @@ TakesLine before result after = MatchResult result
 abbrev pub replies_so_far : Turn → List Read
 replies_so_far turn = map content turn.replies.items
 
--- the replies of the next exchanges, where these are still to be read; the first may have come whole
+-- the replies of the next exchanges, where these are still to be read; the first may be complete
 abbrev pub exchanges_from : Bool → List Read → List Read → List (List Read)
 exchanges_from true before more = before ∷ complete_exchanges more
 exchanges_from false before more = complete_after before more
@@ -85,11 +85,19 @@ exchanges_from false before more = complete_after before more
 abbrev pub exchanges_to_come : Turn → List Read → List (List Read)
 exchanges_to_come turn more = exchanges_from turn.is_complete (replies_so_far turn) more
 
+-- The bytes are these replies, one after the other, each within the limit, and then these bytes.
+abbrev pub AreRead : Option ℕ → Bytes → List Read → Bytes → Type 0
+AreRead limit bytes [] after = after ≡ bytes
+AreRead limit bytes (reply ∷ replies) after = (following : Bytes)
+    × (takes : TakesReply bytes reply following)
+    × IfSome limit (λ limit. takes.used ≤ limit) × AreRead limit following replies after
+
 -- Some replies were taken from the pending bytes, to the exchange that is not complete.
 pub record TakesReplies (before : Turn) (pending : PendingReplies) (after : Turn)
     (left : PendingReplies) : Type 0 where
   pub taken : List Read
-  pub read : (more : Bytes) → AreReplies (pending.bytes ++ more) taken (left.bytes ++ more)
+  pub read : (more : Bytes) → AreRead pending.limit (pending.bytes ++ more) taken
+      (left.bytes ++ more)
   pub exchanges : (more : List Read)
       → exchanges_to_come before (taken ++ more) ≡ exchanges_to_come after more
   pub limit : left.limit ≡ pending.limit

@@ -10,8 +10,8 @@ ghost use Rattle.unftp_control_serve.specs.Decoder.{no_bytes, pushed};
 ghost use Rattle.unftp_control_serve.specs.declared.event.Event.{Event as RustEvent};
 ghost use Rattle.unftp_control_record.specs.ExchangeLine.{exchange_line, lines_text, replies_text, reply_text};
 ghost use Rattle.unftp_control_record.specs.Exchanges.{Entry, IsWhole, all_asked, complete_exchanges, entries, log_lines, open_after, open_part};
-ghost use Rattle.unftp_control_record.specs.Recording.{IsNew, IsRecorded, IsUnanswered, IsWaiting, MeansError, joined, one_entry, sent_piece};
-ghost use Rattle.unftp_control_record.specs.ToCome.{HasNext, HasNoLine, HasNoReply, IsLogged, exchanges_from, exchanges_to_come, lines_to_come, new_lines, replies_so_far, taken_first};
+ghost use Rattle.unftp_control_record.specs.Recording.{IsBroken, IsNew, IsRecorded, IsUnanswered, IsWaiting, MeansError, joined, one_entry, sent_piece};
+ghost use Rattle.unftp_control_record.specs.ToCome.{AreRead, HasNext, HasNoLine, HasNoReply, IsLogged, exchanges_from, exchanges_to_come, lines_to_come, new_lines, replies_so_far, taken_first};
 ghost use Rattle.unftp_control_record.specs.declared.recorder.Limits.{Limits as RustLimits};
 ghost use Rattle.unftp_control_record.specs.declared.recorder.Recorder.{Recorder as RustRecorder};
 ghost use Rattle.unftp_control_record.specs.declared.sent.First.TheVariants as First;
@@ -99,6 +99,10 @@ pub fn exchanges_are_to_come()
     ensures complete { exchanges_from true ((220, []) ∷ []) ((331, []) ∷ [])
         ≡ ((220, []) ∷ []) ∷ ((331, []) ∷ []) ∷ [] }
     ensures not_complete { exchanges_from false ((150, []) ∷ []) [] ≡ [] }
+    ensures none_read { AreRead (Some 6) (codes "220 a") [] (codes "220 a") }
+    ensures too_long { (after : Bytes)
+        → AreRead (Some 6) (codes "220 a\r\n") ((220, codes "a" ∷ []) ∷ []) after → ⊥ }
+    ensures within { AreRead (Some 7) (codes "220 a\r\n") ((220, codes "a" ∷ []) ∷ []) [] }
     ensures at_the_limit { (pending : PendingReplies) → HasNoReply pending
         → pending.limit ≡ Some 6 → length pending.bytes ≡ 6 → ⊥ }
     ensures too_much_held { (pending : PendingReplies) → HasNoReply pending
@@ -120,6 +124,8 @@ pub fn recorders_wait()
         → recorder.sent.first ≡ First.Connection → IsWaiting recorder → ⊥ }
     ensures error { (recorder : RustRecorder)
         → MeansError true recorder NextReplyError.Malformed → ⊥ }
+    ensures memory { (recorder : RustRecorder)
+        → IsBroken recorder NextReplyError.OutOfMemory → ⊥ }
     ensures unanswered { (before after : RustRecorder) (entry : Entry)
         → IsUnanswered before entry after → replies_so_far after.turn ≡ entry.replies
         → replies_so_far before.turn ≡ [] }

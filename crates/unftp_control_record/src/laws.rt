@@ -1,6 +1,6 @@
 //! What holds of all exchanges that a recorder returns, each the contract of a function that does
 //! nothing.
-ghost use Rattle.std.specs.Prelude.{◌≡◌, ◌<◌, ◌≤◌, ◌++◌, [], List, Some, IfSome, true, false};
+ghost use Rattle.std.specs.Prelude.{◌≡◌, ◌≢◌, ◌<◌, ◌≤◌, ◌++◌, [], Err, IfSome, List, Option, Result, Some, false, true};
 ghost use Rattle.std.specs.List.{AllByRecursion};
 ghost use Rattle.unftp_control_defs.specs.Bytes.{Bytes};
 ghost use Rattle.unftp_control_defs.specs.TakingSteps.{AreReplies};
@@ -8,8 +8,11 @@ ghost use Rattle.unftp_control_defs.specs.Turns.{cut_reads};
 ghost use Rattle.unftp_control_log.specs.LogLine.{IsPrintable};
 ghost use Rattle.unftp_control_record.specs.ExchangeLine.{exchange_line};
 ghost use Rattle.unftp_control_record.specs.Exchanges.{Entry, ArePreliminary, IsWhole, Read, all_asked, complete_exchanges, entries, open_after, open_part};
-ghost use Rattle.unftp_control_record.specs.Recording.{IsNew, IsRecorded, IsWaiting, Passed, joined, nothing_passed};
-ghost use Rattle.unftp_control_record.specs.ToCome.{exchanges_to_come, lines_to_come};
+ghost use Rattle.unftp_control_record.specs.Recording.{IsBroken, IsNew, IsRecorded, IsWaiting, Passed, joined, nothing_passed, Records};
+ghost use Rattle.unftp_control_record.specs.ToCome.{AreRead, exchanges_to_come, lines_to_come};
+ghost use Rattle.unftp_control_read.specs.declared.errors.NextReplyError.{NextReplyError as RustError};
+ghost use Rattle.unftp_control_read.specs.declared.errors.NextReplyError.TheVariants as NextReplyError;
+ghost use Rattle.unftp_control_record.specs.declared.recorder.Exchange.{Exchange as RustExchange};
 ghost use Rattle.unftp_control_record.specs.declared.recorder.Limits.{Limits as RustLimits};
 ghost use Rattle.unftp_control_record.specs.declared.recorder.Recorder.{Recorder as RustRecorder};
 
@@ -23,9 +26,9 @@ pub fn calls_are_joined()
         → IsRecorded before (joined first later) after }
 {}
 
-/// In whatever pieces both sides' bytes came: the exchanges that were returned are the first ones of
-/// all, where the greeting has the first replies of what the client was given, up to a final one,
-/// and each line of what it sent the next ones (RFC 959, sections 4.2 and 5.4).
+/// In whatever pieces both sides' bytes came: the exchanges that were returned are the first ones
+/// of all. There the greeting has the first replies of what the client was given, up to a final
+/// one, and each line of what it sent the next ones (RFC 959, sections 4.2 and 5.4).
 pub fn each_line_has_its_replies()
     ensures first { (limits : RustLimits) (recorder later : RustRecorder) (passed : Passed)
         → IsNew limits recorder → (is : IsRecorded recorder passed later)
@@ -37,9 +40,12 @@ pub fn each_line_has_its_replies()
         → IsNew limits recorder → (is : IsRecorded recorder passed later) → IsWaiting later
         → passed.recorded
         ≡ entries (all_asked (Some limits.line) passed.sent) (complete_exchanges is.replies) }
-    // The replies are those at the start of what the client was given.
+    // The replies are those at the start of what the client was given, each within the limit.
     ensures replies { (limits : RustLimits) (recorder later : RustRecorder) (passed : Passed)
         → IsNew limits recorder → (is : IsRecorded recorder passed later)
+        → AreRead (Some limits.reply) passed.given is.replies later.given.bytes }
+    ensures one_after_the_other { (limits : RustLimits) (recorder later : RustRecorder)
+        (passed : Passed) → IsNew limits recorder → (is : IsRecorded recorder passed later)
         → AreReplies passed.given is.replies later.given.bytes }
     // Each has some preliminary replies and then a final one.
     ensures whole { (limits : RustLimits) (recorder later : RustRecorder) (passed : Passed)
@@ -68,8 +74,8 @@ pub fn exchanges_depend_on_the_bytes()
         → passed.recorded ≡ others.recorded }
 {}
 
-/// The replies of the exchanges are the parts that `cut_reads` cuts, without the last one where that
-/// lacks its final reply.
+/// The replies of the exchanges are the parts that `cut_reads` cuts, without the last one where
+/// that lacks its final reply.
 pub fn exchanges_are_cut_after_final_replies()
     ensures parts { (replies : List Read)
         → cut_reads replies ≡ complete_exchanges replies ++ open_part (open_after [] replies) }
@@ -85,4 +91,18 @@ pub fn exchange_lines_are_printable()
         → IsNew limits recorder → IsRecorded recorder passed later
         → AllByRecursion (λ entry. AllByRecursion IsPrintable (exchange_line entry))
         passed.recorded }
+{}
+
+/// `Malformed` and `TooLong` are returned from then on, whatever comes, and no exchange comes after
+/// them.
+pub fn errors_of_replies_stay()
+    ensures returned { (before after : RustRecorder) (error : RustError)
+        → Records before (Err error) after → error ≢ NextReplyError.OutOfMemory
+        → IsBroken after error }
+    ensures stays { (before after : RustRecorder) (passed : Passed) (error : RustError)
+        → IsBroken before error → IsRecorded before passed after
+        → IsBroken after error × (passed.recorded ≡ []) }
+    ensures again { (before after : RustRecorder) (error : RustError)
+        (result : Result (Option RustExchange) RustError)
+        → IsBroken before error → Records before result after → result ≡ Err error }
 {}

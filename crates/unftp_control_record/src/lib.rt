@@ -1,6 +1,6 @@
 //! A recorder of a control connection, without input and output: it is given what a client sent and
-//! what that client was given, each in any pieces, and returns each exchange: a line, as a log shows
-//! it, with its replies.
+//! what that client was given, each in any pieces, and returns each exchange: the greeting, or a
+//! line, as a log shows it, with its replies.
 #![tactic(auto)]
 
 pub mod examples;

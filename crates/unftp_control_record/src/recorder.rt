@@ -1,5 +1,6 @@
 //! The recorder.
 ghost use Rattle.std.specs.Prelude.{◌≡◌, ◌≤◌, [], OnErr, OnOk};
+ghost use Rattle.unftp_control_record.specs.ToCome.{IsLogged};
 ghost use Rattle.unftp_control_record.specs.Recording.{IsNew, IsRecorded, Records, TakesUnanswered, given_piece, nothing_passed, sent_piece};
 
 use crate::sent::SentLines;
@@ -30,8 +31,10 @@ pub struct Exchange {
 /// given, each in any pieces, and returns the exchanges in the order of the lines. What it returns
 /// follows from the bytes of both sides, and not from when they came.
 ///
-/// It holds the client's lines until they have their replies, and the preliminary replies of an
-/// exchange until its final one came. RFC 959 bounds neither.
+/// After each piece the caller calls `next_exchange` until it returns `None`. What the recorder
+/// holds of a line or a reply is within the limits; but it holds the client's lines until they have
+/// their replies, the replies until they have their line, and the preliminary replies of an exchange
+/// until its final one came. RFC 959 bounds none of them.
 #[derive(Drop)]
 pub struct Recorder {
     sent: SentLines,
@@ -53,10 +56,12 @@ impl Recorder {
     }
 
     /// Appends a piece of what the client sent. When out of memory, the piece is not appended, and
-    /// nothing else is lost.
+    /// nothing else is lost; it never is for an empty piece, but where `next_exchange` was for the
+    /// line before.
     pub fn sent(&mut self, piece: &[u8]) -> Result<(), AllocError>
         ensures ok { OnOk result (IsRecorded self.old (sent_piece piece.now) self.new) }
         ensures err { OnErr result (IsRecorded self.old nothing_passed self.new) }
+        ensures some { OnErr result (piece.now ≡ [] → ¬ IsLogged self.old.sent.first) }
     {
         self.sent.push(piece)
     }
@@ -74,13 +79,13 @@ impl Recorder {
     /// Returns the next exchange, or `None` where its final reply is not complete, or has no
     /// complete line yet that it is to (RFC 959, sections 4.2 and 5.4).
     ///
-    /// At an error nothing is lost. `Malformed` and `TooLong` are returned from then on: no exchange
-    /// comes after them. `OutOfMemory` is returned only where a complete reply is pending, or the
-    /// exchange is complete; the call can be made again.
+    /// At an error nothing is lost. `Malformed` and `TooLong` are returned from then on, and no
+    /// exchange comes after them. `OutOfMemory` is returned only where a complete reply is pending,
+    /// or the exchange is complete; the call can be made again.
     ///
-    /// Where it returns `None`, either no more than a part of a reply is held of what the client was
-    /// given, within the limit; or no more than an incomplete line of what it sent, within the
-    /// limit.
+    /// Where it returns `None`, its buffer of what the client was given holds only a part of a
+    /// reply, within the limit; or its buffer of what the client sent holds only an incomplete line,
+    /// within the limit.
     pub fn next_exchange(&mut self) -> Result<Option<Exchange>, NextReplyError>
         ensures { Records self.old result self.new }
     {
@@ -97,10 +102,10 @@ impl Recorder {
         }
     }
 
-    /// Returns, where the connection has ended and `next_exchange` returned `None`, a line that has
-    /// no final reply, with the preliminary ones that came to it; or `None` where no complete line is
-    /// left. The first one is the greeting, where that has none. When out of memory, nothing is lost,
-    /// and the call can be made again.
+    /// Returns a line that has no final reply, with the preliminary ones that came to it, or `None`
+    /// where no complete line is left: for the end of the connection, after `next_exchange` has
+    /// returned `None`. The greeting comes first, where it has no final reply. When out of memory,
+    /// nothing is lost, and the call can be made again; it never is where there is no such line.
     pub fn next_unanswered(&mut self) -> Result<Option<Exchange>, AllocError>
         ensures { TakesUnanswered self.old result self.new }
     {

@@ -49,6 +49,7 @@ impl SentLines {
             → lines_to_come self.old (piece.now ++ more) ≡ lines_to_come self.new more) }
         ensures err { OnErr result (SameToCome self.old self.new) }
         ensures limit { self.new.decoder.limit ≡ self.old.decoder.limit }
+        ensures some { OnErr result (piece.now ≡ [] → ¬ IsLogged self.old.first) }
     {
         log_first(&mut self.first, self.decoder.line(), self.alloc)?;
         self.decoder.push(piece)

@@ -26,7 +26,7 @@ returns-clause-takes c =
     c.push.result c.add_room.ensures.items c.push.ensures.items c.if-is_err.false
     c.is_err.ensures.value)
     (ap not c.is_preliminary-is_final.ensures)
-    here.takes (c.in_ok-reply.ensures.limit ∙ ap (λ p. p.limit) c.add_room.ensures.pending)
+    here (c.in_ok-reply.ensures.limit ∙ ap (λ p. p.limit) c.add_room.ensures.pending)
 
 pub returns-clause-fewer : goal.returns-clause-fewer
 returns-clause-fewer c is =
