@@ -95,8 +95,8 @@ module _ {limits : Limits} {recorder later : Recorder} {passed : Passed}
       ∙ append-nil passed.given) (is.read [])))
 
   pub all_whole : AllByRecursion (λ entry. IsWhole entry.replies) passed.recorded
-  all_whole = mapped_first IsWhole (λ entry. entry.replies) passed.recorded (exchanges_to_come later.turn [])
-      (subst (AllByRecursion IsWhole)
+  all_whole = mapped_first IsWhole (λ entry. entry.replies) passed.recorded
+      (exchanges_to_come later.turn []) (subst (AllByRecursion IsWhole)
       (sym (new_exchanges_are (is.replies ++ [])) ∙ is.exchanges [])
       (complete-whole (is.replies ++ []) [] tt))
 

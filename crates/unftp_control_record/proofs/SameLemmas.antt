@@ -17,8 +17,9 @@ pub record AreFirst (limit : Option ℕ) (first all : List Read) (middle after :
   pub read : AreRead limit middle later after
 
 -- of two readings of the same bytes one goes on where the other stops
-read_on : (limit : Option ℕ) (one two : List Read) (bytes after after' : Bytes) → AreRead limit bytes one after
-    → AreRead limit bytes two after' → AreFirst limit one two after after' ⊎ AreFirst limit two one after' after
+read_on : (limit : Option ℕ) (one two : List Read) (bytes after after' : Bytes)
+    → AreRead limit bytes one after → AreRead limit bytes two after'
+    → AreFirst limit one two after after' ⊎ AreFirst limit two one after' after
 read_on limit [] two bytes after after' is is' = inl (record {
   later = two;
   whole = refl;
@@ -38,7 +39,8 @@ read_on limit (reply ∷ one) (other ∷ two) bytes after after' (next, takes, w
     by_case reply_same (read_on limit one two next after after' is
     (subst (λ bytes. AreRead limit bytes two after') bytes_same is'))
   where
-    by_case : reply ≡ other → AreFirst limit one two after after' ⊎ AreFirst limit two one after' after
+    by_case : reply ≡ other
+        → AreFirst limit one two after after' ⊎ AreFirst limit two one after' after
         → AreFirst limit (reply ∷ one) (other ∷ two) after after'
         ⊎ AreFirst limit (other ∷ two) (reply ∷ one) after' after
     by_case e (inl first) = inl (record {
@@ -53,8 +55,8 @@ read_on limit (reply ∷ one) (other ∷ two) bytes after after' (next, takes, w
     })
 
 -- where it waits for a reply, none is read after its own
-none_after : (limit : Option ℕ) (recorder : Recorder) → Lacks false recorder → (later : List Read) (after : Bytes)
-    → AreRead limit recorder.given.bytes later after → later ≡ []
+none_after : (limit : Option ℕ) (recorder : Recorder) → Lacks false recorder
+    → (later : List Read) (after : Bytes) → AreRead limit recorder.given.bytes later after → later ≡ []
 none_after limit recorder lacks [] after are = refl
 none_after limit recorder lacks (reply ∷ later) after (next, takes, within, are) =
     absurd (lacks.part.0.0 (reply.0, reply.1, takes.used, takes.front))
@@ -96,13 +98,15 @@ pub same_recorded : {limits : Limits} {recorder other later other_later : Record
     → passed.recorded ≡ others.recorded
 same_recorded {limits} {recorder} {other} {later} {other_later} {passed} {others} new new' is is'
     waiting waiting' sent given =
-    by_case (read_on (Some limits.reply) is.replies is'.replies passed.given later.given.bytes other_later.given.bytes
-    (replies_are new is)
-    (subst (λ bytes. AreRead (Some limits.reply) bytes is'.replies other_later.given.bytes) (sym given)
-    (replies_are new' is')))
+    by_case (read_on (Some limits.reply) is.replies is'.replies passed.given later.given.bytes
+    other_later.given.bytes (replies_are new is)
+    (subst (λ bytes. AreRead (Some limits.reply) bytes is'.replies other_later.given.bytes)
+    (sym given) (replies_are new' is')))
   where
-    by_case : AreFirst (Some limits.reply) is.replies is'.replies later.given.bytes other_later.given.bytes
-        ⊎ AreFirst (Some limits.reply) is'.replies is.replies other_later.given.bytes later.given.bytes
+    by_case : AreFirst (Some limits.reply) is.replies is'.replies later.given.bytes
+        other_later.given.bytes
+        ⊎ AreFirst (Some limits.reply) is'.replies is.replies other_later.given.bytes
+        later.given.bytes
         → passed.recorded ≡ others.recorded
     by_case (inl first) = enough new is waiting first
         ∙ ap (λ sent. entries (all_asked (Some limits.line) sent)

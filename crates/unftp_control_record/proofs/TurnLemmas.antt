@@ -68,7 +68,12 @@ pub one_reply : {before after : Turn} {pending left : PendingReplies} (reply : R
     → TakesReplies before pending after left
 one_reply {before} {after} {pending} {left} reply incomplete replies complete first limit = record {
   taken = reply ∷ [];
-  read = λ more. (left.bytes ++ more, TakesReply-append more first.takes, within-append pending.limit more first.takes first.within, refl);
+  read = λ more. (
+    left.bytes ++ more,
+    TakesReply-append more first.takes,
+    within-append pending.limit more first.takes first.within,
+    refl,
+  );
   exchanges = λ more.
       ap (λ complete. exchanges_from complete (replies_so_far before) (reply ∷ more)) incomplete
       ∙ exchanges-reply (replies_so_far before) reply (is_preliminary_read reply) more

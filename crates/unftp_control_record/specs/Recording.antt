@@ -59,8 +59,8 @@ pub record IsRecorded (before : Recorder) (passed : Passed) (after : Recorder) :
       ≡ lines_in passed.recorded ++ lines_to_come after.sent more
   -- the replies that were read of what the client was given
   pub replies : List Read
-  pub read : (more : Bytes) → AreRead before.given.limit (before.given.bytes ++ (passed.given ++ more))
-      replies (after.given.bytes ++ more)
+  pub read : (more : Bytes) → AreRead before.given.limit
+      (before.given.bytes ++ (passed.given ++ more)) replies (after.given.bytes ++ more)
   pub exchanges : (more : List Read) → exchanges_to_come before.turn (replies ++ more)
       ≡ replies_in passed.recorded ++ exchanges_to_come after.turn more
   pub line_limit : after.sent.decoder.limit ≡ before.sent.decoder.limit

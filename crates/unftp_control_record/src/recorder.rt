@@ -32,9 +32,9 @@ pub struct Exchange {
 /// follows from the bytes of both sides, and not from when they came.
 ///
 /// After each piece the caller calls `next_exchange` until it returns `None`. What the recorder
-/// holds of a line or a reply is within the limits; but it holds the client's lines until they have
-/// their replies, the replies until they have their line, and the preliminary replies of an exchange
-/// until its final one came. RFC 959 bounds none of them.
+/// holds of one line or one reply is within the limits. It holds the client's lines until they have
+/// their replies, the replies until they have their line, and the preliminary replies of an
+/// exchange until its final one came: RFC 959 doesn't say how many these may be.
 #[derive(Drop)]
 pub struct Recorder {
     sent: SentLines,
@@ -84,8 +84,8 @@ impl Recorder {
     /// or the exchange is complete; the call can be made again.
     ///
     /// Where it returns `None`, its buffer of what the client was given holds only a part of a
-    /// reply, within the limit; or its buffer of what the client sent holds only an incomplete line,
-    /// within the limit.
+    /// reply, within the limit; or its buffer of what the client sent holds only an incomplete
+    /// line, within the limit.
     pub fn next_exchange(&mut self) -> Result<Option<Exchange>, NextReplyError>
         ensures { Records self.old result self.new }
     {

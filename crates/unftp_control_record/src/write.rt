@@ -95,9 +95,9 @@ fn append_line(line: &Option<Vec<u8>>, buf: &mut Vec<u8>) -> Result<(), AllocErr
 
 /// Appends the exchange as one line of a log, without a line end, and changes no earlier byte of
 /// `buf`: its line, `->`, and its replies with ` | ` between two of them. A reply is its code, and
-/// after a space its text in the escapes of Rust's `escape_ascii`, with an escaped CR LF between two
-/// lines: `USER bob -> 331 Need password`, `RETR a -> 150 Opening | 226 Done`, and for the greeting
-/// `-> 220 Ready`.
+/// after a space its text in the escapes of Rust's `escape_ascii`, with an escaped CR LF between
+/// two lines. So it is `USER bob -> 331 Need password`, `RETR a -> 150 Opening | 226 Done`, and for
+/// the greeting `-> 220 Ready`.
 ///
 /// It fails only when out of memory, and `buf` is then as it was.
 pub fn write_exchange(exchange: &Exchange, buf: &mut Vec<u8>) -> Result<(), AllocError>

@@ -3,7 +3,8 @@ use Rattle.unftp_control_record.proofs.laws.no_more_is_held_than_a_limit.Goals a
 
 pub returns : goal.returns
 returns c = record {
-  replies = λ limits recorder later passed new is waiting incomplete. replies_held new is waiting incomplete;
+  replies = λ limits recorder later passed new is waiting incomplete.
+      replies_held new is waiting incomplete;
   lines = λ limits recorder later passed new is waiting complete.
       lines_held new is waiting complete;
 }
