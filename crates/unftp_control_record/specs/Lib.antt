@@ -1,0 +1,5 @@
+-- To be read in this order.
+pub mod Exchanges
+pub mod ToCome
+pub mod Recording
+pub mod ExchangeLine

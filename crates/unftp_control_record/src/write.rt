@@ -1,0 +1,113 @@
+//! An exchange as a line of a log.
+ghost use Rattle.std.specs.Prelude.{◌≡◌, ◌++◌, OnErr, OnOk, decimal, map};
+ghost use Rattle.unftp_control_log.specs.LogLine.{shown};
+ghost use Rattle.unftp_control_read.specs.Reading.{contents};
+ghost use Rattle.unftp_control_read.specs.ReplyDecoding.{content};
+ghost use Rattle.unftp_control_record.specs.ExchangeLine.{exchange_line, further_line, further_reply, line_text, lines_text, replies_text, reply_text};
+ghost use Rattle.unftp_control_record.specs.Recording.{entry_of};
+ghost use Rattle.unftp_control_record.specs.ToCome.{text_of};
+
+use crate::recorder::Exchange;
+use itoa::Buffer;
+use std::alloc::AllocError;
+use unftp_control_read::ReceivedReply;
+
+/// How long the text is in the escapes of `escape_ascii`.
+fn shown_length(text: &[u8]) -> usize {
+    text.escape_ascii()
+        .fold(0, |length: usize, _| length.saturating_add(1))
+}
+
+/// Appends the text in the escapes of `escape_ascii`. Its memory is asked for at once.
+fn append_shown(text: &[u8], buf: &mut Vec<u8>) -> Result<(), AllocError>
+    ensures { OnOk result (buf.new.items ≡ buf.old.items ++ shown text.now) }
+{
+    buf.reserve(shown_length(text))?;
+    buf.extend(text.escape_ascii())
+}
+
+/// Appends a line of a reply after the first one.
+fn append_further_line(line: &[u8], buf: &mut Vec<u8>) -> Result<(), AllocError>
+    ensures { OnOk result (buf.new.items ≡ buf.old.items ++ further_line line.now) }
+{
+    buf.extend_from_slice(b"\\r\\n")?;
+    append_shown(line, buf)
+}
+
+/// Appends the lines of a reply.
+fn append_lines(lines: &Vec<Vec<u8>>, buf: &mut Vec<u8>) -> Result<(), AllocError>
+    ensures { OnOk result (buf.new.items ≡ buf.old.items ++ lines_text (contents lines.now)) }
+{
+    let Some((first, further)) = lines.as_slice().split_first() else {
+        return Ok(());
+    };
+    buf.push(b' ')?;
+    append_shown(first.as_slice(), buf)?;
+    for line in further {
+        append_further_line(line.as_slice(), buf)?;
+    }
+    Ok(())
+}
+
+/// Appends a reply: its code and its lines.
+fn append_reply(reply: &ReceivedReply, buf: &mut Vec<u8>) -> Result<(), AllocError>
+    ensures { OnOk result (buf.new.items ≡ buf.old.items ++ reply_text (content reply.now)) }
+{
+    let mut digits = Buffer::new();
+    buf.extend_from_slice(digits.format(reply.code).as_bytes())?;
+    append_lines(&reply.lines, buf)
+}
+
+/// Appends a reply after the first one.
+fn append_further_reply(reply: &ReceivedReply, buf: &mut Vec<u8>) -> Result<(), AllocError>
+    ensures { OnOk result (buf.new.items ≡ buf.old.items ++ further_reply (content reply.now)) }
+{
+    buf.extend_from_slice(b" | ")?;
+    append_reply(reply, buf)
+}
+
+/// Appends the replies.
+fn append_replies(replies: &Vec<ReceivedReply>, buf: &mut Vec<u8>) -> Result<(), AllocError>
+    ensures { OnOk result
+        (buf.new.items ≡ buf.old.items ++ replies_text (map content replies.now.items)) }
+{
+    let Some((first, further)) = replies.as_slice().split_first() else {
+        return Ok(());
+    };
+    buf.push(b' ')?;
+    append_reply(first, buf)?;
+    for reply in further {
+        append_further_reply(reply, buf)?;
+    }
+    Ok(())
+}
+
+/// Appends what the exchange is to.
+fn append_line(line: &Option<Vec<u8>>, buf: &mut Vec<u8>) -> Result<(), AllocError>
+    ensures { OnOk result (buf.new.items ≡ buf.old.items ++ line_text (text_of line.now)) }
+{
+    let Some(line) = line else {
+        return Ok(());
+    };
+    buf.extend_from_slice(line.as_slice())?;
+    Ok(buf.push(b' ')?)
+}
+
+/// Appends the exchange as one line of a log, without a line end, and changes no earlier byte of
+/// `buf`: its line, `->`, and its replies with ` | ` between two of them. A reply is its code, and
+/// after a space its text in the escapes of Rust's `escape_ascii`, with an escaped CR LF between
+/// two lines. So it is `USER bob -> 331 Need password`, `RETR a -> 150 Opening | 226 Done`, and for
+/// the greeting `-> 220 Ready`.
+///
+/// It fails only when out of memory, and `buf` is then as it was.
+pub fn write_exchange(exchange: &Exchange, buf: &mut Vec<u8>) -> Result<(), AllocError>
+    ensures ok { OnOk result
+        (buf.new.items ≡ buf.old.items ++ exchange_line (entry_of exchange.now)) }
+    ensures err { OnErr result (buf.new.items ≡ buf.old.items) }
+{
+    let mut text = Vec::new(*buf.allocator());
+    append_line(&exchange.line, &mut text)?;
+    text.extend_from_slice(b"->")?;
+    append_replies(&exchange.replies, &mut text)?;
+    buf.extend_from_slice(text.as_slice())
+}
