@@ -75,4 +75,9 @@ pub use Rattle.unftp_control_proxy.specs.ClientLines
 pub use Rattle.unftp_control_proxy.specs.ClearLines
 pub use Rattle.unftp_control_proxy.specs.ProxyCalls
 pub use Rattle.unftp_control_proxy.specs.Traffic
-pub use Rattle.unftp_control_proxy.specs.Filtering
+pub use Rattle.unftp_control_relay.specs.Filtering
+pub use Rattle.unftp_control_relay.specs.Relaying
+pub use Rattle.unftp_control_record.specs.Exchanges
+pub use Rattle.unftp_control_record.specs.ToCome
+pub use Rattle.unftp_control_record.specs.Recording
+pub use Rattle.unftp_control_record.specs.ExchangeLine

@@ -10,7 +10,7 @@ use Rattle.unftp_control_read.specs.declared.errors.NextReplyError.{NextReplyErr
 use Rattle.unftp_control_read.specs.declared.errors.NextReplyError.TheVariants.{Malformed, TooLong, OutOfMemory}
 use Rattle.std.specs.Option.{IfSome}
 use Rattle.unftp_control_record.specs.Exchanges.{Entry, Read, replies_in}
-use Rattle.unftp_control_record.specs.Recording.{IsBroken, IsRecorded, Lacks, MeansError, Passed, Records, entry_of}
+use Rattle.unftp_control_record.specs.Recording.{IsBroken, IsRecorded, LacksNext, MeansError, Passed, Records, entry_of}
 use Rattle.unftp_control_record.specs.ToCome.{AreRead, exchanges_from, replies_so_far}
 use Rattle.unftp_control_record.specs.declared.recorder.Exchange.{Exchange}
 use Rattle.unftp_control_record.specs.declared.recorder.Recorder.{Recorder}
@@ -117,7 +117,7 @@ pub broken_again : (before : Recorder) (result : Result (Option Exchange) NextRe
     → Records before result after → result ≡ Err error
 broken_again before (Ok None) after error broken records =
     let still = (stays_broken error broken records.0).0 in
-    let lacks = subst (λ complete. Lacks complete after) still.incomplete records.1 in
+    let lacks = subst (λ complete. LacksNext complete after) still.incomplete records.1 in
     absurd (no_part after.given.limit after.given.bytes error still.not_memory still.has
     lacks.part)
 broken_again before (Ok (Some exchange)) after error broken records =

@@ -8,7 +8,7 @@ use Rattle.unftp_control_defs.specs.Bytes.{Bytes}
 use Rattle.unftp_control_defs.proofs.LineLemmas.{lines_of-incomplete}
 use Rattle.unftp_control_serve.specs.Decoder.{kept_length, no_bytes}
 use Rattle.unftp_control_record.specs.Exchanges.{IsWhole, Read, all_asked, complete_exchanges, entries, log_lines}
-use Rattle.unftp_control_record.specs.Recording.{IsNew, IsRecorded, IsWaiting, Lacks, Passed}
+use Rattle.unftp_control_record.specs.Recording.{IsNew, IsRecorded, IsWaiting, LacksNext, Passed}
 use Rattle.unftp_control_record.specs.ToCome.{AreRead, exchanges_from, exchanges_to_come, lines_to_come, replies_so_far, taken_first}
 use Rattle.unftp_control_record.specs.declared.sent.SentLines.{SentLines}
 use Rattle.unftp_control_record.specs.declared.recorder.Limits.{Limits}
@@ -31,7 +31,7 @@ taken-first : {lines : SentLines} (first : _) → lines.first ≡ first
 taken-first first is decoder same more =
     λ i. taken_first (same i).line (is i) ++ log_lines (same i).limit ((same i).bytes ++ more)
 
-pub no_lines_left : (recorder : Recorder) → Lacks true recorder
+pub no_lines_left : (recorder : Recorder) → LacksNext true recorder
     → lines_to_come recorder.sent [] ≡ []
 no_lines_left recorder lacks =
     taken-first _ lacks.0 recorder.sent.decoder refl []
@@ -69,7 +69,7 @@ module _ {limits : Limits} {recorder later : Recorder} {passed : Passed}
       ap (λ replies. entries (all_asked (Some limits.line) passed.sent)
       (complete_exchanges replies)) (sym (append-nil is.replies)) ∙ entries_with []
 
-  nothing_left : (complete : Bool) → later.turn.is_complete ≡ complete → Lacks complete later
+  nothing_left : (complete : Bool) → later.turn.is_complete ≡ complete → LacksNext complete later
       → entries (lines_to_come later.sent []) (exchanges_to_come later.turn []) ≡ []
   nothing_left false incomplete lacks =
       ap (λ complete. entries (lines_to_come later.sent [])
@@ -105,7 +105,7 @@ module _ {limits : Limits} {recorder later : Recorder} {passed : Passed}
   pub replies_held : IsWaiting later → later.turn.is_complete ≡ false
       → later.given.buffered < limits.reply
   replies_held waiting incomplete =
-      let lacks = subst (λ complete. Lacks complete later) incomplete waiting in
+      let lacks = subst (λ complete. LacksNext complete later) incomplete waiting in
       let limit = is.reply_limit ∙ ap (λ p. p.limit) new.pending in
       let short = subst (λ limit. IfSome limit (λ limit. length later.given.bytes < limit)) limit
       lacks.part.1 in
@@ -122,7 +122,7 @@ module _ {limits : Limits} {recorder later : Recorder} {passed : Passed}
   pub lines_held : IsWaiting later → later.turn.is_complete ≡ true
       → later.sent.decoder.buffered ≤ limits.line
   lines_held waiting complete =
-      let lacks = subst (λ complete. Lacks complete later) complete waiting in
+      let lacks = subst (λ complete. LacksNext complete later) complete waiting in
       let limit = is.line_limit ∙ ap (λ d. d.limit) new.decoder in
       subst (λ n. n ≤ limits.line) (sym (lacks.1.held
       ∙ ap (λ limit. kept_length limit later.sent.decoder.bytes) limit))

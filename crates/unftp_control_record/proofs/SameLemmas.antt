@@ -3,7 +3,7 @@ use Rattle.std.proofs.Common.{ℕ, ◌≡◌, ◌⊎◌, inl, inr, Bool, true, f
 use Rattle.unftp_control_defs.specs.Bytes.{Bytes}
 use Rattle.unftp_control_defs.proofs.ReplyLemmas.{FrontReply-unique}
 use Rattle.unftp_control_record.specs.Exchanges.{Read, all_asked, complete_exchanges, entries}
-use Rattle.unftp_control_record.specs.Recording.{IsNew, IsRecorded, IsWaiting, Lacks, Passed}
+use Rattle.unftp_control_record.specs.Recording.{IsNew, IsRecorded, IsWaiting, LacksNext, Passed}
 use Rattle.unftp_control_record.specs.ToCome.{AreRead, exchanges_to_come}
 use Rattle.unftp_control_record.specs.declared.recorder.Limits.{Limits}
 use Rattle.unftp_control_record.specs.declared.recorder.Recorder.{Recorder}
@@ -55,7 +55,7 @@ read_on limit (reply ∷ one) (other ∷ two) bytes after after' (next, takes, w
     })
 
 -- where it waits for a reply, none is read after its own
-none_after : (limit : Option ℕ) (recorder : Recorder) → Lacks false recorder
+none_after : (limit : Option ℕ) (recorder : Recorder) → LacksNext false recorder
     → (later : List Read) (after : Bytes) → AreRead limit recorder.given.bytes later after → later ≡ []
 none_after limit recorder lacks [] after are = refl
 none_after limit recorder lacks (reply ∷ later) after (next, takes, within, are) =
@@ -71,7 +71,7 @@ module _ {limits : Limits} {recorder later : Recorder} {passed : Passed}
       ≡ entries (all_asked (Some limits.line) passed.sent) (complete_exchanges all)
   enough {all} {after} first = by_case later.turn.is_complete refl waiting
     where
-      by_case : (complete : Bool) → later.turn.is_complete ≡ complete → Lacks complete later
+      by_case : (complete : Bool) → later.turn.is_complete ≡ complete → LacksNext complete later
           → passed.recorded
           ≡ entries (all_asked (Some limits.line) passed.sent) (complete_exchanges all)
       by_case false incomplete lacks =

@@ -11,7 +11,7 @@ use Rattle.unftp_control_serve.specs.declared.event.Event.{Event}
 use Rattle.unftp_control_serve.proofs.DecoderLemmas.{MayRunOut-taken}
 use Rattle.unftp_control_serve.proofs.EventLineLemmas.{line_after-taken, refuses_length-exceeds}
 use Rattle.unftp_control_record.specs.Exchanges.{log_lines}
-use Rattle.unftp_control_record.specs.ToCome.{HasNext, HasNoLine, IsLogged, SameToCome, TakesLine, lines_to_come, taken_first, taken_texts, text_of}
+use Rattle.unftp_control_record.specs.ToCome.{HasNext, HasNoLine, IsLogged, SameToCome, TakesLine, lines_to_come, taken_first, taken_texts, held_text}
 use Rattle.unftp_control_record.specs.declared.sent.First.{First}
 use Rattle.unftp_control_record.specs.declared.sent.First.TheVariants.{Connection, Pending, Taken, Logged}
 use Rattle.unftp_control_record.specs.declared.sent.SentLines.{SentLines}
@@ -110,7 +110,7 @@ takes-line E before middle after first result same none as_logged texts pending 
       subst HasNoLine (sym decoder)
           (none (nothing_taken middle.decoder.line middle.first (as_logged [] ∙ texts []))),
     )
-    by_case (Some line) texts = with_texts (text_of line ∷ []) (texts after.decoder.line)
+    by_case (Some line) texts = with_texts (held_text line ∷ []) (texts after.decoder.line)
 
 -- The first line is taken.
 pub taken-same : (E : Type 0) (before : SentLines) (first : First) (after : decoder.Pending)

@@ -5,7 +5,7 @@ use Rattle.unftp_control_read.specs.ReplyDecoding.{HasError, content, no_bytes}
 use Rattle.unftp_control_read.specs.declared.errors.NextReplyError.{NextReplyError}
 use Rattle.unftp_control_read.specs.declared.errors.NextReplyError.TheVariants.{OutOfMemory}
 use Rattle.unftp_control_record.specs.Exchanges.{Entry, Read, lines_in, replies_in}
-use Rattle.unftp_control_record.specs.ToCome.{AreRead, HasNext, HasNoLine, HasNoReply, exchanges_to_come, lines_to_come, new_lines, replies_so_far, text_of}
+use Rattle.unftp_control_record.specs.ToCome.{AreRead, HasNext, HasNoLine, HasNoReply, exchanges_to_come, lines_to_come, new_lines, replies_so_far, held_text}
 use Rattle.unftp_control_record.specs.declared.sent.First.TheVariants.{Connection, Pending}
 use Rattle.unftp_control_record.specs.declared.recorder.Exchange.{Exchange}
 use Rattle.unftp_control_record.specs.declared.recorder.Limits.{Limits}
@@ -14,7 +14,7 @@ use Rattle.unftp_control_record.specs.declared.recorder.Recorder.{Recorder}
 -- what an exchange holds, whatever the capacity of its texts
 abbrev pub entry_of : Exchange → Entry
 entry_of exchange = record {
-  line = text_of exchange.line;
+  line = held_text exchange.line;
   replies = map content exchange.replies.items;
 }
 
@@ -67,12 +67,12 @@ pub record IsRecorded (before : Recorder) (passed : Passed) (after : Recorder) :
   pub reply_limit : after.given.limit ≡ before.given.limit
 
 -- The next exchange has no final reply yet; or it has, and no complete line came that it is to.
-abbrev pub Lacks : Bool → Recorder → Type 0
-Lacks false recorder = HasNoReply recorder.given
-Lacks true recorder = (recorder.sent.first ≡ Pending) × HasNoLine recorder.sent.decoder
+abbrev pub LacksNext : Bool → Recorder → Type 0
+LacksNext false recorder = HasNoReply recorder.given
+LacksNext true recorder = (recorder.sent.first ≡ Pending) × HasNoLine recorder.sent.decoder
 
 abbrev pub IsWaiting : Recorder → Type 0
-IsWaiting recorder = Lacks recorder.turn.is_complete recorder
+IsWaiting recorder = LacksNext recorder.turn.is_complete recorder
 
 -- What an error means: it is one of the pending replies, while the next exchange has no final one;
 -- and else it comes where that exchange is complete.
@@ -103,7 +103,7 @@ abbrev pub TakesUnanswered : {E : Type 0} → Recorder → Result (Option Exchan
     → Type 0
 TakesUnanswered before result after = MatchResult result
     (λ next. MatchOption next
-    (IsRecorded before nothing_passed after × Lacks true after)
+    (IsRecorded before nothing_passed after × LacksNext true after)
     (λ exchange. IsUnanswered before (entry_of exchange) after))
     (λ _. IsRecorded before nothing_passed after × HasNext after.sent)
 

@@ -18,8 +18,8 @@ use Rattle.unftp_control_record.specs.declared.turn.Turn.{Turn}
 -- ---- of the client's lines
 
 -- the text of a line, whatever its capacity
-abbrev pub text_of : Option (Vec ℕ Global) → Option Bytes
-text_of line = option_map (λ line. line.items) line
+abbrev pub held_text : Option (Vec ℕ Global) → Option Bytes
+held_text line = option_map (λ line. line.items) line
 
 -- what the next exchange is to, where that was taken from what the client sent; a line that is not
 -- logged yet has these bytes
@@ -31,7 +31,7 @@ taken_first line (Logged text) = Some text.items ∷ []
 
 abbrev pub taken_texts : Option (Option (Vec ℕ Global)) → List (Option Bytes)
 taken_texts None = []
-taken_texts (Some line) = text_of line ∷ []
+taken_texts (Some line) = held_text line ∷ []
 
 -- no line was taken that is not logged yet
 abbrev pub IsLogged : First → Type 0
@@ -68,7 +68,7 @@ TakesLine before result after = MatchResult result
     (λ next. MatchOption next
     (SameToCome before after × (after.first ≡ Pending) × HasNoLine after.decoder)
     (λ line. (more : Bytes)
-    → lines_to_come before more ≡ text_of line ∷ lines_to_come after more))
+    → lines_to_come before more ≡ held_text line ∷ lines_to_come after more))
     (λ _. SameToCome before after × HasNext after)
 
 -- ---- of the replies

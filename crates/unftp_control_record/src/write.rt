@@ -5,7 +5,7 @@ ghost use Rattle.unftp_control_read.specs.Reading.{contents};
 ghost use Rattle.unftp_control_read.specs.ReplyDecoding.{content};
 ghost use Rattle.unftp_control_record.specs.ExchangeLine.{exchange_line, further_line, further_reply, line_text, lines_text, replies_text, reply_text};
 ghost use Rattle.unftp_control_record.specs.Recording.{entry_of};
-ghost use Rattle.unftp_control_record.specs.ToCome.{text_of};
+ghost use Rattle.unftp_control_record.specs.ToCome.{held_text};
 
 use crate::recorder::Exchange;
 use itoa::Buffer;
@@ -84,7 +84,7 @@ fn append_replies(replies: &Vec<ReceivedReply>, buf: &mut Vec<u8>) -> Result<(),
 
 /// Appends what the exchange is to.
 fn append_line(line: &Option<Vec<u8>>, buf: &mut Vec<u8>) -> Result<(), AllocError>
-    ensures { OnOk result (buf.new.items ≡ buf.old.items ++ line_text (text_of line.now)) }
+    ensures { OnOk result (buf.new.items ≡ buf.old.items ++ line_text (held_text line.now)) }
 {
     let Some(line) = line else {
         return Ok(());

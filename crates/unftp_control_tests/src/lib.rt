@@ -11,4 +11,6 @@ mod held;
 #[cfg(test)]
 mod receiving;
 #[cfg(test)]
+mod recording;
+#[cfg(test)]
 mod values;
