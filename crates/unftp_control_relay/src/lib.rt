@@ -2,6 +2,7 @@
 #![tactic(auto)]
 
 mod driver;
+pub mod examples;
 mod filter;
 pub mod laws;
 mod relay;

@@ -1,0 +1,42 @@
+//! Examples of the definitions, at the boundary and next to it.
+#![tactic(auto, unfolding(unftp_control_defs::proofs::Computing::at_bytes))]
+
+ghost use Rattle.std.specs.Prelude.{◌≡◌, ◌∷◌, [], codes};
+ghost use Rattle.unftp_control_defs.specs.FtpReply.{CodeAndMsg, Nothing, encoded};
+ghost use Rattle.unftp_control_proxy.specs.Owed.{Answer};
+ghost use Rattle.unftp_control_proxy.specs.ProxyCalls.{WaitsForServer};
+ghost use Rattle.unftp_control_proxy.specs.Traffic.{AnsweredBy, SentAs};
+ghost use Rattle.unftp_control_proxy.specs.declared.proxy.Proxy.{Proxy as RustProxy};
+ghost use Rattle.unftp_control_relay.specs.Filtering.{AsItIs, Forward, Instead, Refuse, Reply, Send, fate_by, long_line, refused_line, step_for};
+ghost use Rattle.unftp_control_relay.specs.Relaying.{HoldsLittle, IsGiven};
+
+/// What is to be done with a line of which something was decided.
+pub fn lines_have_a_step()
+    ensures forwarded { step_for Forward (codes "noop\n") ≡ Send (codes "NOOP\r\n") }
+    ensures no_command { step_for Forward (codes "NOOP x\r\n") ≡ Refuse }
+    ensures as_it_is { step_for AsItIs (codes "NOOP x\r\n") ≡ Send (codes "NOOP x\r\n") }
+    ensures instead { step_for (Instead (codes "PWD\r\n")) (codes "NOOP\r\n")
+        ≡ Send (codes "PWD\r\n") }
+{}
+
+/// What becomes of it: a line is sent up to the limit, and only where servers read it alike.
+pub fn steps_have_a_fate()
+    ensures sent { fate_by 6 (Send (codes "NOOP\r\n")) ≡ SentAs (codes "NOOP\r\n") }
+    ensures too_long { fate_by 5 (Send (codes "NOOP\r\n")) ≡ long_line }
+    ensures unclear { fate_by 6 (Send (codes "NO\rP\r\n")) ≡ refused_line }
+    ensures no_line { fate_by 6 (Send (codes "NOOP")) ≡ refused_line }
+    ensures final_reply { fate_by 6 (Reply (CodeAndMsg 200 (codes "OK")))
+        ≡ AnsweredBy (encoded (CodeAndMsg 200 (codes "OK"))) }
+    ensures preliminary { fate_by 6 (Reply (CodeAndMsg 199 (codes "OK"))) ≡ refused_line }
+    ensures none { fate_by 6 (Reply Nothing) ≡ refused_line }
+{}
+
+/// How much is held, and when the client was given all that it can be given.
+pub fn relays_hold_little()
+    ensures little { (proxy : RustProxy) → WaitsForServer proxy → proxy.client.limit ≡ 6
+        → proxy.client.held ≡ 4101 → HoldsLittle proxy }
+    ensures too_much { (proxy : RustProxy) → proxy.client.limit ≡ 6
+        → proxy.client.held ≡ 4102 → HoldsLittle proxy → ⊥ }
+    ensures not_given { (proxy : RustProxy) → proxy.order ≡ Answer (codes "502 No\r\n") ∷ []
+        → IsGiven proxy → ⊥ }
+{}
