@@ -18,7 +18,8 @@ use Rattle.unftp_control_proxy.specs.declared.proxy.ServerReply.TheVariants as r
 use Rattle.unftp_control_proxy.proofs.CallLemmas.{answers, found_only, passes_reply, pieces}
 use Rattle.unftp_control_proxy.proofs.TrafficLemmas.{all-append, in_turn, nothing, sends_only}
 use Rattle.unftp_control_relay.specs.Filtering.{AreFiltered, FilterLaw, filtered}
-use Rattle.unftp_control_relay.specs.Relaying.{after_written, new_relay, IsGiven, IsSettled, RelayState, Relays, RelaysInPart}
+use Rattle.unftp_control_relay.specs.Relaying.{after_written, new_relay, IsGiven, IsSettled, RelayState, Relays, RelaysInPart, IsEnd}
+use Rattle.unftp_control_relay.specs.declared.relay.End.TheVariants as end
 use Rattle.unftp_control_relay.proofs.FilterLemmas.{TookLine, filtered_in_turn, decided_so}
 
 as_they_came : (replies : List PassedReply)
@@ -327,6 +328,22 @@ module _ (before later : Proxy) (out out' : Bytes) where
       (record { none_due = none_due_after before.order; no_reply = none refl })
   none_is_given (Ok (Some reply)) ok none is = absurd (cc)
   none_is_given (Err error) ok none is = absurd (cc)
+
+-- the code of a reply that is not owed
+abbrev code_in : Result (Option ServerReply) NextReplyError → ℕ
+code_in (Ok (Some (reply.Unasked code))) = code
+code_in _ = 0
+
+pub ends_unasked : (before later : Proxy) (out out' : Bytes)
+    (result : Result (Option ServerReply) NextReplyError)
+    → IfOk result (GivesAll before out out' later) → (code : ℕ)
+    → result ≡ Ok (Some (reply.Unasked code)) → IsEnd later (end.Unasked code)
+ends_unasked before later out out' (Ok None) ok code is = absurd (cc)
+ends_unasked before later out out' (Ok (Some (reply.Passed other))) ok code is = absurd (cc)
+ends_unasked before later out out' (Ok (Some (reply.Unasked other))) ok code is =
+    subst (λ code. IsEnd later (end.Unasked code)) (ap code_in is)
+    (subst (λ proxy. IsEnd proxy (end.Unasked other)) (sym ok.2.3) (ok.2.0, ok.2.1))
+ends_unasked before later out out' (Err error) ok code is = absurd (cc)
 
 pub settled : (before later : Proxy) (found : Bool) (held : ℕ)
     → later ≡ record before { client = record before.client { found = found; held = held } }

@@ -1,19 +1,24 @@
 -- What a relay does: it takes pieces from both sides, lets its filter decide each line, gives each
 -- reply as it came, and holds what each side is to be sent until that is written.
-use Rattle.std.specs.Prelude.{◌≡◌, ◌+◌, ◌<◌, [], ◌++◌, None, Ok}
+use Rattle.std.specs.Prelude.{◌≡◌, ℕ, ◌+◌, ◌<◌, [], ◌++◌, None, Err, Ok}
 use Rattle.std.specs.List.{AllByRecursion}
 use Rattle.unftp_control_defs.specs.Bytes.{Bytes}
-use Rattle.unftp_control_defs.specs.Input.{HasRead, InputState}
+use Rattle.unftp_control_defs.specs.Input.{HasEnded, HasRead, InputState}
 use Rattle.unftp_control_defs.specs.Lines.{lines_of}
-use Rattle.unftp_control_read.specs.ReplyDecoding.{FindsFirst}
+use Rattle.unftp_control_read.specs.ReplyDecoding.{BeginsWith, FindsFirst}
+use Rattle.unftp_control_read.specs.declared.errors.NextReplyError.TheVariants as next
 use Rattle.unftp_control_proxy.specs.ClientLines.{first_client_line}
-use Rattle.unftp_control_proxy.specs.Owed.{due}
+use Rattle.unftp_control_proxy.specs.Owed.{IsReplyNext, due}
 use Rattle.unftp_control_proxy.specs.ProxyCalls.{WaitsForServer, new_proxy}
 use Rattle.unftp_control_proxy.specs.Traffic.{IsTraffic, Traffic}
 use Rattle.unftp_control_proxy.specs.declared.proxy.Limits.{Limits}
 use Rattle.unftp_control_proxy.specs.declared.proxy.Proxy.{Proxy}
 use Rattle.unftp_control_relay.specs.Filtering.{AreFiltered, FilterLaw}
+use Rattle.unftp_control_relay.specs.declared.relay.End.{End}
+use Rattle.unftp_control_relay.specs.declared.relay.End.TheVariants as end
 use Rattle.unftp_control_relay.specs.declared.relay.Relay.{Relay}
+use Rattle.unftp_control_serve.specs.declared.error.ServeError.{ServeError}
+use Rattle.unftp_control_serve.specs.declared.error.ServeError.TheVariants as serve
 
 -- What contracts see of a relay: its proxy, the state of its filter, and what each side is to be
 -- sent.
@@ -87,6 +92,30 @@ pub record IsSettled (proxy : Proxy) : Type 0 where
   pub given : IsGiven proxy
   pub no_line : ¬ WaitsForServer proxy
       → first_client_line proxy.client.limit (lines_of proxy.client.bytes) ≡ None
+
+-- Why nothing more passes: the server's next reply is not owed, or what it sent is no reply, or is
+-- longer than a reply may be.
+abbrev pub IsEnd : Proxy → End → Type 0
+IsEnd proxy (end.Unasked code) = (¬ IsReplyNext proxy.order)
+    × ((used : ℕ) × BeginsWith proxy.server.limit proxy.server.bytes code used)
+IsEnd proxy end.Malformed =
+    FindsFirst proxy.server.limit proxy.server.bytes (Err next.Malformed)
+IsEnd proxy end.TooLong = FindsFirst proxy.server.limit proxy.server.bytes (Err next.TooLong)
+IsEnd proxy end.Closed = ⊥
+
+-- Or the side that was read sends no more.
+abbrev pub IsReadEnd : InputState → Proxy → End → Type 0
+IsReadEnd input proxy end.Closed = HasEnded input
+IsReadEnd input proxy reason = IsEnd proxy reason
+
+-- Why a read is not relayed: it failed, and nothing has changed; or memory ran out for these bytes.
+abbrev pub ReadFails : {S : Type 0} → FilterLaw S → InputState → InputState → RelayState S
+    → RelayState S → ServeError → Type 0
+ReadFails law input input' before after (serve.Read error) = HasRead input input' []
+    × (input'.failures ≡ input.failures + 1) × (after ≡ before)
+ReadFails law input input' before after serve.OutOfMemory =
+    (piece : Bytes) × HasRead input input' piece × RelaysInPart law before after
+ReadFails law input input' before after _ = ⊥
 
 -- At most the limit and one read of the client's bytes are held; less than the limit, where another
 -- line could be taken.

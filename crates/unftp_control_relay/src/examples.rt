@@ -3,12 +3,13 @@
 
 ghost use Rattle.std.specs.Prelude.{◌≡◌, ◌∷◌, [], codes};
 ghost use Rattle.unftp_control_defs.specs.FtpReply.{CodeAndMsg, Nothing, encoded};
-ghost use Rattle.unftp_control_proxy.specs.Owed.{Answer};
+ghost use Rattle.unftp_control_proxy.specs.Owed.{Answer, IsReplyNext};
 ghost use Rattle.unftp_control_proxy.specs.ProxyCalls.{WaitsForServer};
 ghost use Rattle.unftp_control_proxy.specs.Traffic.{AnsweredBy, SentAs};
 ghost use Rattle.unftp_control_proxy.specs.declared.proxy.Proxy.{Proxy as RustProxy};
 ghost use Rattle.unftp_control_relay.specs.Filtering.{AsItIs, Forward, Instead, Refuse, Reply, Send, fate_by, long_line, refused_line, step_for};
-ghost use Rattle.unftp_control_relay.specs.Relaying.{HoldsLittle, IsGiven};
+ghost use Rattle.unftp_control_relay.specs.Relaying.{HoldsLittle, IsEnd, IsGiven};
+ghost use Rattle.unftp_control_relay.specs.declared.relay.End.TheVariants as End;
 
 /// What is to be done with a line of which something was decided.
 pub fn lines_have_a_step()
@@ -31,12 +32,14 @@ pub fn steps_have_a_fate()
     ensures none { fate_by 6 (Reply Nothing) ≡ refused_line }
 {}
 
-/// How much is held, and when the client was given all that it can be given.
+/// How much is held, when the client was given all that it can be given, and when it ends.
 pub fn relays_hold_little()
     ensures little { (proxy : RustProxy) → WaitsForServer proxy → proxy.client.limit ≡ 6
         → proxy.client.held ≡ 4101 → HoldsLittle proxy }
     ensures too_much { (proxy : RustProxy) → proxy.client.limit ≡ 6
         → proxy.client.held ≡ 4102 → HoldsLittle proxy → ⊥ }
+    ensures owed { (proxy : RustProxy) → IsReplyNext proxy.order
+        → IsEnd proxy (End.Unasked 421) → ⊥ }
     ensures not_given { (proxy : RustProxy) → proxy.order ≡ Answer (codes "502 No\r\n") ∷ []
         → IsGiven proxy → ⊥ }
 {}

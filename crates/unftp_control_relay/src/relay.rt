@@ -1,8 +1,8 @@
 //! A proxy with its filter, between two streams that the caller reads in turn.
-ghost use Rattle.std.specs.Prelude.{◌≡◌, ◌<◌, ◌+◌, ◌≤◌, [], None, Ok, IfOk, OnErr, OnOk, length};
+ghost use Rattle.std.specs.Prelude.{◌≡◌, ◌<◌, ◌+◌, ◌≤◌, [], None, Ok, IfErr, IfOk, IfSome, OnErr, OnOk, length};
 ghost use Rattle.unftp_control_defs.specs.Input.{input_state_of};
 ghost use Rattle.unftp_control_proxy.specs.ProxyCalls.{WaitsForServer};
-ghost use Rattle.unftp_control_relay.specs.Relaying.{HoldsLittle, IsGiven, IsSettled, Relays, RelaysClient, RelaysInPart, RelaysServer, new_relay, relay_state_of};
+ghost use Rattle.unftp_control_relay.specs.Relaying.{HoldsLittle, IsEnd, IsGiven, IsReadEnd, IsSettled, ReadFails, Relays, RelaysClient, RelaysInPart, RelaysServer, new_relay, relay_state_of};
 ghost use Rattle.unftp_control_serve.specs.Writing.{Sends, output_state_of};
 
 use crate::driver::filter_line;
@@ -66,6 +66,7 @@ impl<F: Filter + Drop> Relay<F> {
     pub fn from_client(&mut self, alloc: Global, piece: &[u8]) -> Result<Option<End>, AllocError>
         ensures ok { OnOk result (Relays F.law piece.now []
             (relay_state_of F.state self.old) (relay_state_of F.state self.new)) }
+        ensures ended { IfOk result (λ ended. IfSome ended (λ end. IsEnd self.new.proxy end)) }
         ensures settled { result ≡ Ok None → IsSettled self.new.proxy }
         ensures held { self.new.proxy.client.held ≤ self.old.proxy.client.held + length piece.now }
         ensures less { result ≡ Ok None → ¬ WaitsForServer self.new.proxy
@@ -81,6 +82,7 @@ impl<F: Filter + Drop> Relay<F> {
     pub fn from_server(&mut self, alloc: Global, piece: &[u8]) -> Result<Option<End>, AllocError>
         ensures ok { OnOk result (Relays F.law [] piece.now
             (relay_state_of F.state self.old) (relay_state_of F.state self.new)) }
+        ensures ended { IfOk result (λ ended. IfSome ended (λ end. IsEnd self.new.proxy end)) }
         ensures settled { result ≡ Ok None → IsSettled self.new.proxy }
         ensures held { self.new.proxy.client.held ≤ self.old.proxy.client.held }
         ensures less { result ≡ Ok None → ¬ WaitsForServer self.new.proxy
@@ -106,7 +108,12 @@ impl<F: Filter + Drop> Relay<F> {
         ensures ok { OnOk result (RelaysClient F.law
             (input_state_of R.remaining reader.old) (input_state_of R.remaining reader.new)
             (relay_state_of F.state self.old) (relay_state_of F.state self.new)) }
+        ensures ended { IfOk result (λ ended. IfSome ended (λ end.
+            IsReadEnd (input_state_of R.remaining reader.new) self.new.proxy end)) }
         ensures settled { result ≡ Ok None → IsSettled self.new.proxy }
+        ensures err { IfErr result (ReadFails F.law
+            (input_state_of R.remaining reader.old) (input_state_of R.remaining reader.new)
+            (relay_state_of F.state self.old) (relay_state_of F.state self.new)) }
         ensures bounded { HoldsLittle self.old.proxy → result ≡ Ok None
             → HoldsLittle self.new.proxy }
     {
@@ -134,7 +141,12 @@ impl<F: Filter + Drop> Relay<F> {
         ensures ok { OnOk result (RelaysServer F.law
             (input_state_of R.remaining reader.old) (input_state_of R.remaining reader.new)
             (relay_state_of F.state self.old) (relay_state_of F.state self.new)) }
+        ensures ended { IfOk result (λ ended. IfSome ended (λ end.
+            IsReadEnd (input_state_of R.remaining reader.new) self.new.proxy end)) }
         ensures settled { result ≡ Ok None → IsSettled self.new.proxy }
+        ensures err { IfErr result (ReadFails F.law
+            (input_state_of R.remaining reader.old) (input_state_of R.remaining reader.new)
+            (relay_state_of F.state self.old) (relay_state_of F.state self.new)) }
         ensures bounded { HoldsLittle self.old.proxy → result ≡ Ok None
             → HoldsLittle self.new.proxy }
     {
@@ -184,6 +196,7 @@ impl<F: Filter + Drop> Relay<F> {
     fn pass_all(&mut self, alloc: Global) -> Result<Option<End>, AllocError>
         ensures ok { OnOk result (Relays F.law [] []
             (relay_state_of F.state self.old) (relay_state_of F.state self.new)) }
+        ensures ended { IfOk result (λ ended. IfSome ended (λ end. IsEnd self.new.proxy end)) }
         ensures settled { result ≡ Ok None → IsSettled self.new.proxy }
         ensures held { self.new.proxy.client.held ≤ self.old.proxy.client.held }
         ensures less { result ≡ Ok None → ¬ WaitsForServer self.new.proxy
@@ -208,6 +221,7 @@ impl<F: Filter + Drop> Relay<F> {
             (relay_state_of F.state self.old) (relay_state_of F.state self.new) }
         ensures client { self.new.proxy.client ≡ self.old.proxy.client }
         ensures given { result ≡ Ok None → IsGiven self.new.proxy }
+        ensures ended { IfOk result (λ ended. IfSome ended (λ end. IsEnd self.new.proxy end)) }
     {
         loop {
             match self.proxy.next_reply(&mut self.to_client) {

@@ -9,5 +9,6 @@ returns c = record {
     less = λ goes_on. absurd (goes_on waits);
   };
   too_much = λ proxy limit held little. omega (arith, limit, held, little.held);
+  owed = λ proxy owed end. end.0 owed;
   not_given = λ proxy order given. let none = sym (ap due order) ∙ given.none_due in absurd (cc);
 }

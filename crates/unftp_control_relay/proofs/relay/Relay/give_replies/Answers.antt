@@ -1,6 +1,6 @@
-use Rattle.std.proofs.Common.{Ok, Some, ap, refl, ◌∙◌}
+use Rattle.std.proofs.Common.{rules, Ok, Some, ap, refl, ◌∙◌}
 use Rattle.unftp_control_relay.specs.Relaying.{relay_state_of}
-use Rattle.unftp_control_relay.proofs.RelayLemmas.{client_stays, fewer_of_server, none_is_given, relays_in_turn, relays_next, relays_nothing}
+use Rattle.unftp_control_relay.proofs.RelayLemmas.{client_stays, fewer_of_server, none_is_given, relays_in_turn, relays_next, relays_nothing, ends_unasked}
 use Rattle.unftp_control_relay.proofs.relay.Relay.give_replies.Goals as goal
 
 pub loop-code-init : goal.loop-code-init
@@ -67,3 +67,8 @@ returns-in-Err-OutOfMemory-clause-gives g c = relays_in_turn g.F.Filter.law c.lo
     c.loop-code.self.to_server.items c.loop-code.self.proxy c.next_reply.new.self
     c.loop-code.self.to_client.items c.next_reply.new.to_client.items c.next_reply.result
     c.next_reply.ensures.ok c.next_reply.ensures.err)
+
+pub returns-in-Ok-Some-Unasked-clause-ended : goal.returns-in-Ok-Some-Unasked-clause-ended
+returns-in-Ok-Some-Unasked-clause-ended g c = ends_unasked c.loop-code.self.proxy
+    c.next_reply.new.self c.loop-code.self.to_client.items c.next_reply.new.to_client.items
+    c.next_reply.result c.next_reply.ensures.ok c.in-Ok-Some-Unasked.code (search rules)
