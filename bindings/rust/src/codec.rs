@@ -22,7 +22,7 @@ use tokio_util::codec::{Decoder, Encoder};
 ///
 /// A server that turns to TLS makes a new codec for the new stream, and drops the read buffer of
 /// the old one. One that needs the parameter of TYPE, which is in no command, uses
-/// [`Pending`](crate::Pending). The line feed of an ABOR may come as urgent data;
+/// [`FtpLineCodec`](crate::FtpLineCodec). The line feed of an ABOR may come as urgent data;
 /// `examples/server.rs` takes it in line.
 ///
 /// ```
@@ -169,7 +169,7 @@ impl Encoder<&[u8]> for FtpClientCodec {
     }
 }
 
-fn incomplete<T>(src: &BytesMut) -> Result<T, CodecError> {
+pub(crate) fn incomplete<T>(src: &BytesMut) -> Result<T, CodecError> {
     Err(CodecError::Incomplete { left: src.len() })
 }
 

@@ -1,7 +1,7 @@
 use crate::command::Command;
 use crate::ffi;
 use std::error::Error;
-use std::fmt::{self, Display, Formatter};
+use std::fmt::{self, Debug, Display, Formatter};
 
 /// What a line is.
 #[derive(Clone, Debug, PartialEq, Eq)]
@@ -20,6 +20,26 @@ impl Event<'_> {
             Event::Command(command) => Event::Command(command.into_owned()),
             Event::Refused(refusal) => Event::Refused(refusal),
         }
+    }
+}
+
+/// A line of a client: what it is, and its bytes.
+#[derive(Clone)]
+#[non_exhaustive]
+pub struct Line<'a> {
+    /// What it is.
+    pub event: Event<'a>,
+    /// Its bytes, its line feed among them: also those that its command ignores, as the `A` of
+    /// `TYPE A`. There are none where the line is longer than the limit. Those of PASS hold the
+    /// password.
+    pub bytes: &'a [u8],
+}
+
+/// Shows how many bytes there are and not which, since a password may be among them.
+impl Debug for Line<'_> {
+    fn fmt(&self, f: &mut Formatter<'_>) -> fmt::Result {
+        let mut line = f.debug_struct("Line");
+        line.field("event", &self.event).field("len", &self.bytes.len()).finish_non_exhaustive()
     }
 }
 

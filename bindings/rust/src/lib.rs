@@ -72,6 +72,8 @@ mod error;
 mod event;
 #[allow(unsafe_code)]
 mod ffi;
+#[cfg(feature = "tokio-util")]
+mod line_codec;
 mod lines;
 mod parameters;
 mod pending;
@@ -88,7 +90,9 @@ pub use code::{ReplyCode, UnknownCode};
 pub use codec::{CodecError, FtpClientCodec, FtpCodec};
 pub use command::Command;
 pub use error::Error;
-pub use event::{Event, Refusal};
+pub use event::{Event, Line, Refusal};
+#[cfg(feature = "tokio-util")]
+pub use line_codec::{FtpLineCodec, OwnedLine};
 pub use lines::LINE_LIMIT;
 pub use parameters::{AuthParam, ModeParam, Opt, ProtParam, StruParam};
 pub use pending::Pending;

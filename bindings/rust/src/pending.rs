@@ -1,5 +1,5 @@
 use crate::error::Error;
-use crate::event::{Event, Refusal};
+use crate::event::{Event, Line, Refusal};
 use crate::lines::{Lines, LINE_LIMIT};
 use std::fmt::{self, Debug, Formatter};
 
@@ -57,13 +57,37 @@ impl Pending {
     ///
     /// [`Error::OutOfMemory`]; the line is then still pending.
     pub fn next_event(&mut self) -> Result<Option<Event<'_>>, Error> {
+        Ok(self.next_line()?.map(|line| line.event))
+    }
+
+    /// As [`next_event`](Pending::next_event), with the bytes of the line.
+    ///
+    /// ```
+    /// use unftp_control::{Command, Event, Pending};
+    ///
+    /// let mut pending = Pending::new();
+    /// pending.push(b"TYPE A\r\n")?;
+    /// let line = pending.next_line()?.expect("a line");
+    /// assert_eq!(line.event, Event::Command(Command::Type));
+    /// assert_eq!(line.bytes, b"TYPE A\r\n");
+    /// # Ok::<(), unftp_control::Error>(())
+    /// ```
+    ///
+    /// # Errors
+    ///
+    /// [`Error::OutOfMemory`]; the line is then still pending.
+    pub fn next_line(&mut self) -> Result<Option<Line<'_>>, Error> {
         self.line = 0;
-        let taken = self.lines.take(&self.received[self.used..])?;
+        let start = self.used;
+        let taken = self.lines.take(&self.received[start..])?;
         self.used += taken.used;
-        if !matches!(taken.event, None | Some(Event::Refused(Refusal::LineTooLong))) {
+        let Some(event) = taken.event else {
+            return Ok(None);
+        };
+        if !matches!(event, Event::Refused(Refusal::LineTooLong)) {
             self.line = taken.used;
         }
-        Ok(taken.event)
+        Ok(Some(Line { event, bytes: &self.received[self.used - self.line..self.used] }))
     }
 
     /// The bytes of the line whose event the last call returned, its line feed among them: also

@@ -1,7 +1,8 @@
 //! The calls on inputs whose answers are known.
 use unftp_control::{
     canonical, forward, front_reply, library_version, reply, Command, Error, Event, FrontReply,
-    Pending, Refusal, Reply, ReplyCode, ReplyDecoder, UnknownCode, LINE_LIMIT, REPLY_LIMIT,
+    ModeParam, Pending, Refusal, Reply, ReplyCode, ReplyDecoder, UnknownCode, LINE_LIMIT,
+    REPLY_LIMIT,
 };
 
 fn command(command: Command) -> Option<Event> {
@@ -78,9 +79,14 @@ fn there_is_a_limit_where_none_is_named() -> Result<(), Error> {
 fn the_line_has_what_its_command_drops() -> Result<(), Error> {
     let mut pending = Pending::with_limit(10);
     pending.push(b"TYPE A\r\nMODE s\r\nNOOP NOOP NOOP\r\nNO")?;
-    for line in [&b"TYPE A\r\n"[..], b"MODE s\r\n", b"", b""] {
-        pending.next_event()?;
-        assert_eq!(pending.line(), line);
+    let refused = Event::Refused(Refusal::LineTooLong);
+    let mode = Event::Command(Command::Mode { mode: ModeParam::Stream });
+    let events = [Some(Event::Command(Command::Type)), Some(mode), Some(refused), None];
+    for (event, bytes) in events.into_iter().zip([&b"TYPE A\r\n"[..], b"MODE s\r\n", b"", b""]) {
+        let line = pending.next_line()?;
+        assert_eq!(line.as_ref().map_or(&b""[..], |line| line.bytes), bytes);
+        assert_eq!(line.map(|line| line.event), event);
+        assert_eq!(pending.line(), bytes);
     }
     pending.push(b"OP\n")?;
     assert_eq!(pending.line(), b"");

@@ -11,7 +11,8 @@ use std::task::{Context, Poll};
 use tokio::io::{AsyncRead, AsyncWriteExt, ReadBuf};
 use tokio_util::codec::{Decoder, Encoder, Framed, FramedRead};
 use unftp_control::{
-    CodecError, Command, Error, Event, FtpClientCodec, FtpCodec, Refusal, Reply, ReplyCode,
+    CodecError, Command, Error, Event, FtpClientCodec, FtpCodec, FtpLineCodec, Refusal, Reply,
+    ReplyCode,
 };
 
 /// A reader that gives one piece after the other, and then the end or an error.
@@ -339,4 +340,26 @@ async fn a_client_and_a_server_talk() -> Result<(), CodecError> {
     assert_eq!(codes, [220, 211, 200, 200, 500]);
     assert!(replies[1].lines().eq([&b"Features:"[..], b" UTF8", b"End"]));
     Ok(())
+}
+
+#[tokio::test]
+async fn a_line_comes_with_its_event() {
+    let input = b"type a\r\nNOOP NOOP NOOP\r\nPASS secret\r\nQU";
+    let mut framed = FramedRead::new(&input[..], FtpLineCodec::with_limit(13));
+    let mut lines = Vec::new();
+    while let Some(Ok(line)) = framed.next().await {
+        assert!(!format!("{line:?}").contains("secret"));
+        lines.push((line.event, line.bytes));
+    }
+    let password = b"secret".to_vec().into();
+    let expected = [
+        (Event::Command(Command::Type), &b"type a\r\n"[..]),
+        (Event::Refused(Refusal::LineTooLong), b""),
+        (Event::Command(Command::Pass { password }), b"PASS secret\r\n"),
+    ];
+    assert!(lines
+        .iter()
+        .map(|(event, bytes)| (event, &bytes[..]))
+        .eq(expected.iter().map(|(event, bytes)| (event, *bytes))));
+    assert_eq!(framed.read_buffer(), &b"QU"[..]);
 }

@@ -1,0 +1,100 @@
+use crate::codec::{incomplete, CodecError};
+use crate::event::{Event, Refusal};
+use crate::lines::{Lines, LINE_LIMIT};
+use crate::reply::Reply;
+use bytes::{Bytes, BytesMut};
+use std::fmt::{self, Debug, Formatter};
+use tokio_util::codec::{Decoder, Encoder};
+
+/// A line of a client that a codec has taken: what it is, and its bytes.
+#[derive(Clone)]
+#[non_exhaustive]
+pub struct OwnedLine {
+    /// What it is.
+    pub event: Event<'static>,
+    /// Its bytes, its line feed among them: also those that its command ignores, as the `A` of
+    /// `TYPE A`. There are none where the line is longer than the limit. Those of PASS hold the
+    /// password.
+    ///
+    /// They share the read buffer's memory until they are dropped.
+    pub bytes: Bytes,
+}
+
+/// Shows how many bytes there are and not which, since a password may be among them.
+impl Debug for OwnedLine {
+    fn fmt(&self, f: &mut Formatter<'_>) -> fmt::Result {
+        let mut line = f.debug_struct("OwnedLine");
+        line.field("event", &self.event).field("len", &self.bytes.len()).finish_non_exhaustive()
+    }
+}
+
+/// As [`FtpCodec`](crate::FtpCodec), with the bytes of each line beside its event: for a server
+/// that needs the parameter of TYPE, and for a proxy or a log.
+///
+/// ```
+/// use bytes::BytesMut;
+/// use tokio_util::codec::Decoder;
+/// use unftp_control::{Command, Event, FtpLineCodec};
+///
+/// let mut codec = FtpLineCodec::new();
+/// let mut input = BytesMut::from("TYPE A\r\nQU");
+/// let line = codec.decode(&mut input)?.expect("a line");
+/// assert_eq!(line.event, Event::Command(Command::Type));
+/// assert_eq!(line.bytes, "TYPE A\r\n");
+/// assert!(codec.decode(&mut input)?.is_none());
+/// # Ok::<(), unftp_control::CodecError>(())
+/// ```
+#[derive(Clone, Debug)]
+pub struct FtpLineCodec {
+    lines: Lines,
+}
+
+impl FtpLineCodec {
+    /// For a connection whose lines may have [`LINE_LIMIT`] bytes.
+    pub fn new() -> FtpLineCodec {
+        FtpLineCodec::with_limit(LINE_LIMIT)
+    }
+
+    /// The same with another limit; 0 is none. A line of more bytes, its line feed counted, is
+    /// refused when it ends, and its bytes are dropped before.
+    pub fn with_limit(limit: usize) -> FtpLineCodec {
+        FtpLineCodec { lines: Lines::new(limit) }
+    }
+}
+
+impl Default for FtpLineCodec {
+    fn default() -> FtpLineCodec {
+        FtpLineCodec::new()
+    }
+}
+
+impl Decoder for FtpLineCodec {
+    type Item = OwnedLine;
+    type Error = CodecError;
+
+    fn decode(&mut self, src: &mut BytesMut) -> Result<Option<OwnedLine>, CodecError> {
+        let taken = self.lines.take(src)?;
+        let (used, event) = (taken.used, taken.event.map(Event::into_owned));
+        let bytes = src.split_to(used).freeze();
+        Ok(event.map(|event| match event {
+            Event::Refused(Refusal::LineTooLong) => OwnedLine { event, bytes: Bytes::new() },
+            event => OwnedLine { event, bytes },
+        }))
+    }
+
+    fn decode_eof(&mut self, src: &mut BytesMut) -> Result<Option<OwnedLine>, CodecError> {
+        match self.decode(src)? {
+            None if !src.is_empty() || self.lines.is_skipping() => incomplete(src),
+            line => Ok(line),
+        }
+    }
+}
+
+/// As that of [`FtpCodec`](crate::FtpCodec).
+impl Encoder<Reply> for FtpLineCodec {
+    type Error = CodecError;
+
+    fn encode(&mut self, reply: Reply, dst: &mut BytesMut) -> Result<(), CodecError> {
+        Ok(reply.encode(dst)?)
+    }
+}
