@@ -1,8 +1,7 @@
 //! The calls on inputs whose answers are known.
 use unftp_control::{
     canonical, forward, front_reply, library_version, reply, Command, Error, Event, FrontReply,
-    ModeParam, Pending, Refusal, Reply, ReplyCode, ReplyDecoder, UnknownCode, LINE_LIMIT,
-    REPLY_LIMIT,
+    Pending, Refusal, Reply, ReplyCode, ReplyDecoder, UnknownCode, LINE_LIMIT, REPLY_LIMIT,
 };
 
 fn command(command: Command) -> Option<Event> {
@@ -79,9 +78,9 @@ fn there_is_a_limit_where_none_is_named() -> Result<(), Error> {
 fn the_line_has_what_its_command_drops() -> Result<(), Error> {
     let mut pending = Pending::with_limit(10);
     pending.push(b"TYPE A\r\nMODE s\r\nNOOP NOOP NOOP\r\nNO")?;
-    let refused = Event::Refused(Refusal::LineTooLong);
-    let mode = Event::Command(Command::Mode { mode: ModeParam::Stream });
-    let events = [Some(Event::Command(Command::Type)), Some(mode), Some(refused), None];
+    let refused = |why| Some(Event::Refused(why));
+    let (mode, long) = (refused(Refusal::InvalidCommand), refused(Refusal::LineTooLong));
+    let events = [command(Command::Type), mode, long, None];
     for (event, bytes) in events.into_iter().zip([&b"TYPE A\r\n"[..], b"MODE s\r\n", b"", b""]) {
         let line = pending.next_line()?;
         assert_eq!(line.as_ref().map_or(&b""[..], |line| line.bytes), bytes);
