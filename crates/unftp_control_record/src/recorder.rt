@@ -1,6 +1,7 @@
 //! The recorder.
-ghost use Rattle.std.specs.Prelude.{◌≡◌, ◌≤◌, [], OnErr, OnOk};
-ghost use Rattle.unftp_control_record.specs.ToCome.{IsLogged};
+ghost use Rattle.std.specs.Prelude.{◌≡◌, ◌≤◌, [], OnErr, OnOk, false, map};
+ghost use Rattle.unftp_control_read.specs.ReplyDecoding.{content};
+ghost use Rattle.unftp_control_record.specs.ToCome.{IsLogged, replies_so_far};
 ghost use Rattle.unftp_control_record.specs.Recording.{IsNew, IsRecorded, Records, TakesUnanswered, given_piece, nothing_passed, sent_piece};
 
 use crate::sent::SentLines;
@@ -114,5 +115,18 @@ impl Recorder {
         };
         let replies = self.turn.take();
         Ok(Some(Exchange { line, replies }))
+    }
+
+    /// Returns replies that came to no line, as a 421 before a server closes the connection (RFC
+    /// 959, section 5.4): for its end, after `next_unanswered` has returned `None`. They are those
+    /// up to a final one, and are recorded no more.
+    pub fn take_unasked(&mut self) -> Vec<ReceivedReply>
+        ensures all { map content result.items ≡ replies_so_far self.old.turn }
+        ensures none { replies_so_far self.new.turn ≡ [] }
+        ensures incomplete { self.new.turn.is_complete ≡ false }
+        ensures lines { self.new.sent ≡ self.old.sent }
+        ensures replies { self.new.given ≡ self.old.given }
+    {
+        self.turn.take()
     }
 }

@@ -44,5 +44,8 @@ fn exchanges_are_recorded_in_any_pieces(rt: HostRuntime) {
     let left = recorder.next_unanswered().expect(&rt, "memory");
     let quit = left.expect(&rt, "a line without a reply");
     write_exchange(&quit, &mut log).expect(&rt, "memory");
+    recorder.given(b"421 Timeout\r\n").expect(&rt, "memory");
+    append_exchanges(&rt, &mut recorder, &mut log);
+    assert_eq!(rt; recorder.take_unasked().len(), 1);
     assert_held(&rt, log, RECORDED);
 }
