@@ -1,7 +1,7 @@
-//! A proxy before a server that is only to be read from, without sockets: each line of
-//! standard input is a piece of what one side sent, `client "TEXT"` or `server "TEXT"`, and the
-//! lines up to `.` are what came of it (`vectors/README.md`). It ends where its input ends, or after
-//! a line `end`.
+//! A proxy before a server that is only to be read from, without sockets: each line of standard
+//! input is a piece of what one side sent, `client "TEXT"` or `server "TEXT"`, and the lines up to
+//! `.` are what came of it (`vectors/README.md`). It ends where its input ends, or after a line
+//! `end`.
 //!
 //! A failed read or write, and a line that is no piece, end the program with status 1 and a line on
 //! standard error.

@@ -71,7 +71,7 @@ impl Session {
             }
             End::Malformed => writer.write_all(b"malformed\n")?,
             End::TooLong => writer.write_all(b"too-long\n")?,
-            End::Closed => writer.write_all(b"closed\n")?,
+            End::Closed => {} // it reads no stream
         }
         writer.write_all(b"end\n")
     }

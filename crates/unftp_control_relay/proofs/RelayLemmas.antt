@@ -1,7 +1,8 @@
 -- What a relay lets pass in one step after the other passes in all.
 use Rattle.std.specs.List.{AllByRecursion}
-use Rattle.std.proofs.Common.{◌≡◌, ◌<◌, ℕ, Bool, List, [], ◌∷◌, ◌++◌, length, length-append, length-drop, drop, Option, Some, None, Result, Ok, Err, IfOk, OnErr, OnOk, refl, sym, ap, subst, ◌∙◌, append_assoc, append-nil, arith}
+use Rattle.std.proofs.Common.{◌≡◌, ◌⊎◌, ◌≤◌, ◌<◌, ℕ, Bool, List, [], ◌∷◌, ◌++◌, length, length-append, length-drop, drop, Option, Some, None, Result, Ok, Err, IfOk, OnErr, OnOk, inl, inr, refl, sym, ap, subst, ◌∙◌, append_assoc, append-nil, arith}
 use Rattle.unftp_control_defs.specs.Bytes.{Bytes, LF}
+use Rattle.unftp_control_defs.specs.Input.{HasRead, InputState}
 use Rattle.unftp_control_defs.specs.Lines.{IsLine, lines_of}
 use Rattle.unftp_control_defs.proofs.ReplyLemmas.{front_within}
 use Rattle.unftp_control_read.specs.ReplyDecoding.{FindsFirst, pushed}
@@ -18,7 +19,7 @@ use Rattle.unftp_control_proxy.specs.declared.proxy.ServerReply.TheVariants as r
 use Rattle.unftp_control_proxy.proofs.CallLemmas.{answers, found_only, passes_reply, pieces}
 use Rattle.unftp_control_proxy.proofs.TrafficLemmas.{all-append, in_turn, nothing, sends_only}
 use Rattle.unftp_control_relay.specs.Filtering.{AreFiltered, FilterLaw, filtered}
-use Rattle.unftp_control_relay.specs.Relaying.{after_written, new_relay, IsGiven, IsSettled, RelayState, Relays, RelaysInPart, IsEnd}
+use Rattle.unftp_control_relay.specs.Relaying.{after_written, new_relay, IsGiven, IsSettled, RelayState, Relays, RelaysInPart, IsEnd, ReadsClient, ReadsPiece}
 use Rattle.unftp_control_relay.specs.declared.relay.End.TheVariants as end
 use Rattle.unftp_control_relay.proofs.FilterLemmas.{TookLine, filtered_in_turn, decided_so}
 
@@ -83,11 +84,15 @@ module _ {S : Type 0} (law : FilterLaw S) where
   all_then (Err error) z one two = tt
 
   pub part_then : {T E : Type 0} (result : Result T E) {c s : Bytes} {x y : RelayState S}
-      (z : RelayState S) → Relays law c s x y → OnErr result (RelaysInPart law y z)
-      → OnErr result (RelaysInPart law x z)
+      (z : RelayState S) → Relays law c s x y → OnErr result (RelaysInPart law [] [] y z)
+      → OnErr result (RelaysInPart law c s x z)
   part_then (Ok done) z one two = tt
-  part_then (Err error) {c} {s} z one two =
-      (c ++ two.0, s ++ two.1, two.2, relays_in_turn one two.3)
+  part_then (Err error) {c} {s} {x} {y} z one two = (two.0, by_part two.1)
+    where
+      by_part : (Relays law [] [] y (record z { filter = two.0 }) ⊎ (record z { filter = two.0 } ≡ y))
+          → Relays law c s x (record z { filter = two.0 }) ⊎ (record z { filter = two.0 } ≡ x)
+      by_part (inl relays) = inl (relays_then one relays)
+      by_part (inr same) = inl (subst (Relays law c s x) (sym same) one)
 
   -- ---- a piece of either side
 
@@ -126,12 +131,6 @@ module _ {S : Type 0} (law : FilterLaw S) where
       to_client = sym (append-nil x.to_client);
       to_server = sym (append-nil x.to_server);
     }
-
-    pub relays_unchanged : later ≡ x.proxy
-        → Relays law [] [] x (record x { proxy = later })
-    relays_unchanged same =
-        subst (λ proxy. Relays law [] [] x (record x { proxy = proxy })) (sym same)
-        (relays_nothing x)
 
   -- ---- answers and replies that are given
 
@@ -356,3 +355,26 @@ settled before later found held is given none =
       given = record { none_due = given.none_due; no_reply = given.no_reply };
       no_line = none;
     })
+
+-- ---- what was read
+
+pub reads_piece : (before after : InputState) (piece : Bytes) (count : ℕ)
+    → HasRead before after piece → after.reads ≡ before.reads ++ count ∷ []
+    → after.failures ≡ before.failures → length piece ≡ count → count ≤ 4096
+    → ReadsPiece before after piece
+reads_piece before after piece count read once no_failure is short = record {
+  read = read;
+  once = once ∙ ap (λ count. before.reads ++ count ∷ []) (sym is);
+  short = omega (arith, is, short);
+  no_failure = no_failure;
+}
+
+pub reads_client : (proxy : Proxy) (before after : InputState) (piece : Bytes)
+    → ¬ WaitsForServer proxy → ReadsPiece before after piece → ReadsClient proxy before after piece
+reads_client proxy before after piece goes_on reads =
+    record { waits = λ waits. absurd (goes_on waits); reads = λ goes_on. reads }
+
+pub reads_nothing : (proxy : Proxy) (input : InputState) → WaitsForServer proxy
+    → ReadsClient proxy input input []
+reads_nothing proxy input waits =
+    record { waits = λ waits. (refl, refl); reads = λ goes_on. absurd (goes_on waits) }

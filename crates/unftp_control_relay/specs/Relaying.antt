@@ -1,6 +1,6 @@
 -- What a relay does: it takes pieces from both sides, lets its filter decide each line, gives each
 -- reply as it came, and holds what each side is to be sent until that is written.
-use Rattle.std.specs.Prelude.{◌≡◌, ℕ, ◌+◌, ◌<◌, [], ◌++◌, None, Err, Ok}
+use Rattle.std.specs.Prelude.{◌≡◌, ◌⊎◌, ℕ, ◌+◌, ◌<◌, ◌≤◌, [], ◌∷◌, ◌++◌, length, None, Err, Ok}
 use Rattle.std.specs.List.{AllByRecursion}
 use Rattle.unftp_control_defs.specs.Bytes.{Bytes}
 use Rattle.unftp_control_defs.specs.Input.{HasEnded, HasRead, InputState}
@@ -65,22 +65,47 @@ pub record Relays {S : Type 0} (law : FilterLaw S) (from_client from_server : By
   pub to_client : after.to_client ≡ before.to_client ++ traffic.to_client
   pub to_server : after.to_server ≡ before.to_server ++ traffic.to_server
 
--- These bytes were read from the client, or from the server, and relayed.
+-- When out of memory: the pieces came, and lines and replies passed as far as memory went; or
+-- nothing came. The filter may have moved on.
+abbrev pub RelaysInPart : {S : Type 0} → FilterLaw S → Bytes → Bytes → RelayState S → RelayState S
+    → Type 0
+RelaysInPart {S} law from_client from_server before after = (s : S)
+    × (Relays law from_client from_server before (record after { filter = s })
+    ⊎ (record after { filter = s } ≡ before))
+
+-- One read gave this piece.
+pub record ReadsPiece (before after : InputState) (piece : Bytes) : Type 0 where
+  pub read : HasRead before after piece
+  pub once : after.reads ≡ before.reads ++ length piece ∷ []
+  pub short : length piece ≤ 4096
+  pub no_failure : after.failures ≡ before.failures
+
+-- So the client is read, unless the proxy waits for the server: then it isn't read.
+pub record ReadsClient (proxy : Proxy) (before after : InputState) (piece : Bytes) : Type 0 where
+  pub waits : WaitsForServer proxy → (after ≡ before) × (piece ≡ [])
+  pub reads : ¬ WaitsForServer proxy → ReadsPiece before after piece
+
+-- what was read was relayed
 abbrev pub RelaysClient : {S : Type 0} → FilterLaw S → InputState → InputState → RelayState S
     → RelayState S → Type 0
-RelaysClient law input input' before after =
-    (piece : Bytes) × HasRead input input' piece × Relays law piece [] before after
+RelaysClient law input input' before after = (piece : Bytes)
+    × ReadsClient before.proxy input input' piece × Relays law piece [] before after
 
 abbrev pub RelaysServer : {S : Type 0} → FilterLaw S → InputState → InputState → RelayState S
     → RelayState S → Type 0
-RelaysServer law input input' before after =
-    (piece : Bytes) × HasRead input input' piece × Relays law [] piece before after
+RelaysServer law input input' before after = (piece : Bytes)
+    × ReadsPiece input input' piece × Relays law [] piece before after
 
--- When out of memory, all of the pieces passed or a beginning of them, but the filter may have
--- moved on.
-abbrev pub RelaysInPart : {S : Type 0} → FilterLaw S → RelayState S → RelayState S → Type 0
-RelaysInPart {S} law before after = (from_client from_server : Bytes) × (s : S)
-    × Relays law from_client from_server before (record after { filter = s })
+-- memory ran out for it
+abbrev pub ClientInPart : {S : Type 0} → FilterLaw S → InputState → InputState → RelayState S
+    → RelayState S → Type 0
+ClientInPart law input input' before after = (piece : Bytes)
+    × ReadsClient before.proxy input input' piece × RelaysInPart law piece [] before after
+
+abbrev pub ServerInPart : {S : Type 0} → FilterLaw S → InputState → InputState → RelayState S
+    → RelayState S → Type 0
+ServerInPart law input input' before after = (piece : Bytes)
+    × ReadsPiece input input' piece × RelaysInPart law [] piece before after
 
 -- The client was given all that it can be given: no answer is due, and no reply is complete.
 pub record IsGiven (proxy : Proxy) : Type 0 where
@@ -108,14 +133,21 @@ abbrev pub IsReadEnd : InputState → Proxy → End → Type 0
 IsReadEnd input proxy end.Closed = HasEnded input
 IsReadEnd input proxy reason = IsEnd proxy reason
 
--- Why a read is not relayed: it failed, and nothing has changed; or memory ran out for these bytes.
-abbrev pub ReadFails : {S : Type 0} → FilterLaw S → InputState → InputState → RelayState S
-    → RelayState S → ServeError → Type 0
-ReadFails law input input' before after (serve.Read error) = HasRead input input' []
-    × (input'.failures ≡ input.failures + 1) × (after ≡ before)
-ReadFails law input input' before after serve.OutOfMemory =
-    (piece : Bytes) × HasRead input input' piece × RelaysInPart law before after
-ReadFails law input input' before after _ = ⊥
+-- One read failed, and nothing has changed.
+pub record OneReadFails {S : Type 0} (input input' : InputState) (before after : RelayState S)
+    : Type 0 where
+  pub nothing : HasRead input input' []
+  pub reads : input'.reads ≡ input.reads
+  pub failure : input'.failures ≡ input.failures + 1
+  pub same : after ≡ before
+
+-- Why a read is not relayed: it failed; or memory ran out.
+abbrev pub ReadFails : {S : Type 0} → InputState → InputState → RelayState S → RelayState S → Type 0
+    → ServeError → Type 0
+ReadFails input input' before after in_part (serve.Read error) =
+    OneReadFails input input' before after
+ReadFails input input' before after in_part serve.OutOfMemory = in_part
+ReadFails input input' before after in_part _ = ⊥
 
 -- At most the limit and one read of the client's bytes are held; less than the limit, where another
 -- line could be taken.

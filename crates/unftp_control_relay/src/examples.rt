@@ -1,14 +1,16 @@
 //! Examples of the definitions, at the boundary and next to it.
 #![tactic(auto, unfolding(unftp_control_defs::proofs::Computing::at_bytes))]
 
-ghost use Rattle.std.specs.Prelude.{◌≡◌, ◌∷◌, [], codes};
+ghost use Rattle.std.specs.Prelude.{◌≡◌, ◌∷◌, [], None, codes, length};
+ghost use Rattle.unftp_control_defs.specs.Bytes.{Bytes};
+ghost use Rattle.unftp_control_defs.specs.Input.{InputState};
 ghost use Rattle.unftp_control_defs.specs.FtpReply.{CodeAndMsg, Nothing, encoded};
 ghost use Rattle.unftp_control_proxy.specs.Owed.{Answer, IsReplyNext};
 ghost use Rattle.unftp_control_proxy.specs.ProxyCalls.{WaitsForServer};
 ghost use Rattle.unftp_control_proxy.specs.Traffic.{AnsweredBy, SentAs};
 ghost use Rattle.unftp_control_proxy.specs.declared.proxy.Proxy.{Proxy as RustProxy};
 ghost use Rattle.unftp_control_relay.specs.Filtering.{AsItIs, Forward, Instead, Refuse, Reply, Send, fate_by, long_line, refused_line, step_for};
-ghost use Rattle.unftp_control_relay.specs.Relaying.{HoldsLittle, IsEnd, IsGiven};
+ghost use Rattle.unftp_control_relay.specs.Relaying.{HoldsLittle, IsEnd, IsGiven, ReadsClient, ReadsPiece};
 ghost use Rattle.unftp_control_relay.specs.declared.relay.End.TheVariants as End;
 
 /// What is to be done with a line of which something was decided.
@@ -42,4 +44,22 @@ pub fn relays_hold_little()
         → IsEnd proxy (End.Unasked 421) → ⊥ }
     ensures not_given { (proxy : RustProxy) → proxy.order ≡ Answer (codes "502 No\r\n") ∷ []
         → IsGiven proxy → ⊥ }
+{}
+
+/// What one read gives: the client is not read while the proxy waits for the server.
+pub fn pieces_are_read_once()
+    ensures once { ReadsPiece
+        (record { given = []; reads = []; failures = 0; remaining = None })
+        (record { given = codes "PWD\r\n"; reads = 5 ∷ []; failures = 0; remaining = None })
+        (codes "PWD\r\n") }
+    ensures twice { ReadsPiece
+        (record { given = []; reads = []; failures = 0; remaining = None })
+        (record { given = codes "PWD\r\n"; reads = 5 ∷ 0 ∷ []; failures = 0; remaining = None })
+        (codes "PWD\r\n") → ⊥ }
+    ensures too_long { (before after : InputState) (piece : Bytes) → length piece ≡ 4097
+        → ReadsPiece before after piece → ⊥ }
+    ensures waiting { (proxy : RustProxy) (before after : InputState) (piece : Bytes)
+        → WaitsForServer proxy → ReadsClient proxy before after piece → piece ≡ [] }
+    ensures not_waiting { (proxy : RustProxy) (input : InputState) → ¬ WaitsForServer proxy
+        → ReadsClient proxy input input [] → ⊥ }
 {}

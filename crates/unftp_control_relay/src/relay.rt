@@ -2,7 +2,7 @@
 ghost use Rattle.std.specs.Prelude.{◌≡◌, ◌<◌, ◌+◌, ◌≤◌, [], None, Ok, IfErr, IfOk, IfSome, OnErr, OnOk, length};
 ghost use Rattle.unftp_control_defs.specs.Input.{input_state_of};
 ghost use Rattle.unftp_control_proxy.specs.ProxyCalls.{WaitsForServer};
-ghost use Rattle.unftp_control_relay.specs.Relaying.{HoldsLittle, IsEnd, IsGiven, IsReadEnd, IsSettled, ReadFails, Relays, RelaysClient, RelaysInPart, RelaysServer, new_relay, relay_state_of};
+ghost use Rattle.unftp_control_relay.specs.Relaying.{ClientInPart, HoldsLittle, IsEnd, IsGiven, IsReadEnd, IsSettled, ReadFails, Relays, RelaysClient, RelaysInPart, RelaysServer, ServerInPart, new_relay, relay_state_of};
 ghost use Rattle.unftp_control_serve.specs.Writing.{Sends, output_state_of};
 
 use crate::driver::filter_line;
@@ -62,7 +62,8 @@ impl<F: Filter + Drop> Relay<F> {
     /// Takes a piece of what the client sent, and lets pass all that can: appends to `to_server`
     /// and `to_client` what each is to be sent. Returns why nothing more passes, if that is so.
     ///
-    /// When out of memory, the session is to end: what was appended may be sent.
+    /// When out of memory, the session is to end, since the filter may have moved on: what was
+    /// appended may be sent.
     pub fn from_client(&mut self, alloc: Global, piece: &[u8]) -> Result<Option<End>, AllocError>
         ensures ok { OnOk result (Relays F.law piece.now []
             (relay_state_of F.state self.old) (relay_state_of F.state self.new)) }
@@ -71,7 +72,7 @@ impl<F: Filter + Drop> Relay<F> {
         ensures held { self.new.proxy.client.held ≤ self.old.proxy.client.held + length piece.now }
         ensures less { result ≡ Ok None → ¬ WaitsForServer self.new.proxy
             → self.new.proxy.client.held < self.new.proxy.client.limit }
-        ensures err { OnErr result (RelaysInPart F.law
+        ensures err { OnErr result (RelaysInPart F.law piece.now []
             (relay_state_of F.state self.old) (relay_state_of F.state self.new)) }
     {
         self.proxy.from_client(piece)?;
@@ -87,7 +88,7 @@ impl<F: Filter + Drop> Relay<F> {
         ensures held { self.new.proxy.client.held ≤ self.old.proxy.client.held }
         ensures less { result ≡ Ok None → ¬ WaitsForServer self.new.proxy
             → self.new.proxy.client.held < self.new.proxy.client.limit }
-        ensures err { OnErr result (RelaysInPart F.law
+        ensures err { OnErr result (RelaysInPart F.law [] piece.now
             (relay_state_of F.state self.old) (relay_state_of F.state self.new)) }
     {
         self.proxy.from_server(piece)?;
@@ -111,9 +112,12 @@ impl<F: Filter + Drop> Relay<F> {
         ensures ended { IfOk result (λ ended. IfSome ended (λ end.
             IsReadEnd (input_state_of R.remaining reader.new) self.new.proxy end)) }
         ensures settled { result ≡ Ok None → IsSettled self.new.proxy }
-        ensures err { IfErr result (ReadFails F.law
+        ensures err { IfErr result (ReadFails
             (input_state_of R.remaining reader.old) (input_state_of R.remaining reader.new)
-            (relay_state_of F.state self.old) (relay_state_of F.state self.new)) }
+            (relay_state_of F.state self.old) (relay_state_of F.state self.new)
+            (ClientInPart F.law
+            (input_state_of R.remaining reader.old) (input_state_of R.remaining reader.new)
+            (relay_state_of F.state self.old) (relay_state_of F.state self.new))) }
         ensures bounded { HoldsLittle self.old.proxy → result ≡ Ok None
             → HoldsLittle self.new.proxy }
     {
@@ -144,9 +148,12 @@ impl<F: Filter + Drop> Relay<F> {
         ensures ended { IfOk result (λ ended. IfSome ended (λ end.
             IsReadEnd (input_state_of R.remaining reader.new) self.new.proxy end)) }
         ensures settled { result ≡ Ok None → IsSettled self.new.proxy }
-        ensures err { IfErr result (ReadFails F.law
+        ensures err { IfErr result (ReadFails
             (input_state_of R.remaining reader.old) (input_state_of R.remaining reader.new)
-            (relay_state_of F.state self.old) (relay_state_of F.state self.new)) }
+            (relay_state_of F.state self.old) (relay_state_of F.state self.new)
+            (ServerInPart F.law
+            (input_state_of R.remaining reader.old) (input_state_of R.remaining reader.new)
+            (relay_state_of F.state self.old) (relay_state_of F.state self.new))) }
         ensures bounded { HoldsLittle self.old.proxy → result ≡ Ok None
             → HoldsLittle self.new.proxy }
     {
@@ -201,7 +208,7 @@ impl<F: Filter + Drop> Relay<F> {
         ensures held { self.new.proxy.client.held ≤ self.old.proxy.client.held }
         ensures less { result ≡ Ok None → ¬ WaitsForServer self.new.proxy
             → self.new.proxy.client.held < self.new.proxy.client.limit }
-        ensures err { OnErr result (RelaysInPart F.law
+        ensures err { OnErr result (RelaysInPart F.law [] []
             (relay_state_of F.state self.old) (relay_state_of F.state self.new)) }
     {
         loop {

@@ -1,15 +1,14 @@
-use Rattle.std.proofs.Common.{[]}
+use Rattle.std.proofs.Common.{ap, inr}
 use Rattle.unftp_control_relay.specs.Relaying.{relay_state_of}
-use Rattle.unftp_control_relay.proofs.RelayLemmas.{all_then, on_err, part_then, relays_from_server, relays_unchanged}
+use Rattle.unftp_control_relay.proofs.RelayLemmas.{all_then, on_err, part_then, relays_from_server}
 use Rattle.unftp_control_relay.proofs.relay.Relay.from_server.Goals as goal
 
 pub returns-in_err-from_server-clause-err : goal.returns-in_err-from_server-clause-err
 returns-in_err-from_server-clause-err g c = on_err c.from_residual.result (
-  [],
-  [],
   g.F.Filter.state c.args.self.now.filter,
-  relays_unchanged g.F.Filter.law (relay_state_of g.F.Filter.state c.args.self.now)
-      c.from_server.new.self [] c.in_err-from_server.ensures.err,
+  inr (ap
+      (λ proxy. record (relay_state_of g.F.Filter.state c.args.self.now) { proxy = proxy })
+      c.in_err-from_server.ensures.err),
 )
 
 pub returns-clause-ok : goal.returns-clause-ok

@@ -1,4 +1,4 @@
-use Rattle.std.proofs.Common.{◌≡◌, ◌≢◌, ◌∙◌, [], Ok, ap, arith, refl, rules, sym, true, false}
+use Rattle.std.proofs.Common.{◌≡◌, ◌≢◌, ◌∙◌, Ok, ap, arith, inl, refl, rules, sym, true, false}
 use Rattle.unftp_control_relay.specs.Relaying.{relay_state_of}
 use Rattle.unftp_control_relay.proofs.RelayLemmas.{on_err, relays_in_turn, relays_line, relays_none, relays_nothing}
 use Rattle.unftp_control_relay.proofs.relay.Relay.pass_all.Goals as goal
@@ -11,10 +11,8 @@ loop-end-init g c = record {
 
 pub returns-in_err-end-clause-err : goal.returns-in_err-end-clause-err
 returns-in_err-end-clause-err g c = on_err c.from_residual.result (
-  [],
-  [],
   _,
-  relays_in_turn g.F.Filter.law c.loop-end.invariant.relays c.give_replies.ensures.gives,
+  inl (relays_in_turn g.F.Filter.law c.loop-end.invariant.relays c.give_replies.ensures.gives),
 )
 
 pub returns-in-Some-clause-ok : goal.returns-in-Some-clause-ok
@@ -26,13 +24,11 @@ returns-in_err-filter_line-clause-err g c =
     let not_taken : c.filter_line.result ≢ Ok true = λ is. let e = sym c.in_err-filter_line.was ∙ is in absurd (cc) in
     let same = c.filter_line.ensures.not_taken not_taken in
     on_err c.from_residual-in_err-filter_line.result (
-      [],
-      [],
       g.F.Filter.state c.give_replies.new.self.filter,
-      relays_in_turn g.F.Filter.law (relays_in_turn g.F.Filter.law c.loop-end.invariant.relays
+      inl (relays_in_turn g.F.Filter.law (relays_in_turn g.F.Filter.law c.loop-end.invariant.relays
           c.give_replies.ensures.gives)
           (relays_none g.F.Filter.law (relay_state_of g.F.Filter.state c.give_replies.new.self)
-          c.filter_line.new.proxy _ c.filter_line.new.to_server.items _ _ same.0 same.1 refl),
+          c.filter_line.new.proxy _ c.filter_line.new.to_server.items _ _ same.0 same.1 refl)),
     )
 
 pub returns-then-not-branch-clause-ok : goal.returns-then-not-branch-clause-ok
