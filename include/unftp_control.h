@@ -120,7 +120,8 @@ enum unftp_result {
     /* No reply has this code: it is not from 100 to 599. */
     UNFTP_UNKNOWN_CODE = 110,
     /* No call leaves such a connection: its offset is past the bytes, or is not 0 while bytes are
-       skipped, or skipping is greater than 1. */
+       skipped, or skipping is greater than 1. Or as many lines were noted as 64 bits count; or the
+       accounts were not asked. */
     UNFTP_INVALID_ARGUMENT = 111
 };
 
@@ -216,6 +217,53 @@ struct unftp_found_reply {
     uint32_t code;
 };
 
+/* What a client keeps of its dialogue with a server, beside the bytes. At the start all is 0. */
+struct unftp_client {
+    /* How many lines were noted. */
+    uint64_t sent;
+    /* How many of them have their final reply, where greeted is not 0. */
+    uint64_t answered;
+    /* The place of the last line that asks for TLS, where asks is not 0. */
+    uint64_t asked;
+    /* 0 until the greeting is complete. */
+    uint32_t greeted;
+    /* 0 until a line asks for TLS. */
+    uint32_t asks;
+    /* Not 0 where the last reply was a 234 to that line. */
+    uint32_t agreed;
+};
+
+/* What a reply is to. */
+enum unftp_to {
+    /* The connection: the server greets the client. */
+    UNFTP_TO_GREETING = 0,
+    /* A line that was noted. */
+    UNFTP_TO_COMMAND = 1,
+    /* Nothing: no reply was owed. A server may say 421 so before it closes the connection. */
+    UNFTP_TO_NOTHING = 2
+};
+
+/* What a server keeps of a login, beside the last name that was given. At the start it is 0. */
+struct unftp_login {
+    /* 1 after a name, 2 after a login, 3 while the accounts are asked; else there is no name. */
+    uint32_t stage;
+};
+
+/* What a server does with an event. */
+enum unftp_login_step {
+    /* It answers the event as it would without a login. */
+    UNFTP_LOGIN_PASS_ON = 0,
+    /* It keeps the name, and answers 331. */
+    UNFTP_LOGIN_NEED_PASSWORD = 1,
+    /* It asks its accounts whether this is the password of the name that it keeps, tells
+       unftp_login_answer, and answers 230 or 530. */
+    UNFTP_LOGIN_ASK_ACCOUNTS = 2,
+    /* It answers 503: a name has to come before the password. */
+    UNFTP_LOGIN_NEED_NAME = 3,
+    /* It answers 530: the command needs a login. */
+    UNFTP_LOGIN_NEED_LOGIN = 4
+};
+
 /*
  * Takes the next line of the pending bytes (RFC 959, section 5.3). It returns the number of a
  * command, UNFTP_INVALID_COMMAND, UNFTP_INVALID_UTF8, UNFTP_INVALID_EOL, UNFTP_LINE_TOO_LONG or
@@ -308,6 +356,69 @@ enum unftp_result unftp_canonical(const char *line, size_t line_len,
  */
 enum unftp_result unftp_forward(const char *line, size_t line_len,
                                 char *out, size_t out_room, size_t *len) UNFTP_NONNULL;
+
+/*
+ * Writes what a log shows of a client's line to the start of out, without a line end, and *len is
+ * how many bytes it has. Each byte is printable ASCII. The number is what unftp_next returned, and
+ * the line is what it used up; at UNFTP_LINE_TOO_LONG nothing of the line is looked at.
+ *
+ * A command is its verb in upper case and its value after a space, with what is not printable
+ * escaped as in Rust: \t, \r, \n, \', \", \\, or \x and two digits. The value of PASS and ACCT is
+ * ***, also an empty one. A verb with no rule of its own may be a mistyped PASS, or a password: it
+ * is *** unless it is a word of the registry of FTP's commands (RFC 5797, section 3), whose
+ * arguments are ***. So it is with the subcommands of SITE but CHMOD, IDLE, MD5, UMASK and UTIME.
+ * A refused line is `refused`, its verb where that is such a word, and why; nothing is shown of its
+ * parameter.
+ *
+ * It returns UNFTP_DONE; UNFTP_NO_ROOM, where *len is the room that is needed; or
+ * UNFTP_OUT_OF_MEMORY. out is as it was but at UNFTP_DONE.
+ */
+enum unftp_result unftp_log_line(uint32_t number, const char *line, size_t line_len,
+                                 char *out, size_t out_room, size_t *len) UNFTP_NONNULL;
+
+/*
+ * Notes the line of a command that a client sends: call it once for each line, in the order in
+ * which they are sent. *place is how many were noted before. It returns UNFTP_DONE; UNFTP_NO_LINE
+ * where no line feed is the last byte, or one comes before it; or UNFTP_INVALID_ARGUMENT where
+ * 2^64 - 1 lines were noted. But at UNFTP_DONE nothing changes, and *place is 0.
+ */
+enum unftp_result unftp_client_line(struct unftp_client *client, const char *line, size_t line_len,
+                                    uint64_t *place) UNFTP_NONNULL;
+
+/*
+ * Notes a reply that a client has received, by its code, and returns what it is to; *place is the
+ * place of the line, and 0 where it is to none. Call it once for each reply that unftp_front_reply
+ * finds. A server replies in order (RFC 959, sections 4.2 and 5.4): the greeting comes first, then
+ * the replies to each line. After one whose code is from 100 to 199 another follows to the same.
+ */
+enum unftp_to unftp_client_reply(struct unftp_client *client, uint32_t code,
+                                 uint64_t *place) UNFTP_NONNULL;
+
+/* How many lines are owed their final reply. */
+uint64_t unftp_client_owed(const struct unftp_client *client) UNFTP_NONNULL;
+
+/*
+ * 1 where TLS may begin, and else 0, where so many bytes are pending after the last reply: that was
+ * a 234 to the last line, which asks for TLS (AUTH TLS or AUTH SSL; RFC 4217, section 4), and no
+ * byte is pending, since what came in clear text is not to be read as if it had come under TLS.
+ */
+uint32_t unftp_client_may_begin_tls(const struct unftp_client *client,
+                                    size_t pending) UNFTP_NONNULL;
+
+/*
+ * Says what a server that wants a login does with an event, by the number that unftp_next returned
+ * for it (RFC 959, section 4.1.1). QUIT, AUTH, PBSZ, PROT, FEAT, HELP, NOOP and SYST need no login,
+ * and neither does a refused line; each other command does. USER and AUTH flush the login. After a
+ * password that the accounts refuse the client begins again with USER.
+ */
+enum unftp_login_step unftp_login_event(struct unftp_login *login, uint32_t event) UNFTP_NONNULL;
+
+/*
+ * Tells what the accounts say of a password, before the next event: accepted is not 0 where it is
+ * that of the name. It returns UNFTP_DONE, or UNFTP_INVALID_ARGUMENT where the last event didn't
+ * ask for it, and the login is then as it was.
+ */
+enum unftp_result unftp_login_answer(struct unftp_login *login, uint32_t accepted) UNFTP_NONNULL;
 
 /* The version of the library, as UNFTP_VERSION is that of the header. */
 uint32_t unftp_version(void);

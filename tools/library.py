@@ -29,7 +29,7 @@ def version():
 
 def calls():
     """The functions that the header declares, but does not define."""
-    return re.findall(r"^(?:enum unftp_result|uint32_t) (unftp_\w+)\([^{;]*\;", header(), re.M)
+    return re.findall(r"^(?:enum unftp_\w+|uint\d+_t) (unftp_\w+)\([^{;]*\;", header(), re.M)
 
 
 def listed(pattern):

@@ -431,7 +431,24 @@ def check_codes():
 
 def header_numbers():
     """The results of the header, with their numbers."""
-    return numbers_in("include/unftp_control.h", r"^    UNFTP_(?!CODE_)(\w+) = (\d+)")
+    return numbers_in("include/unftp_control.h", r"^    UNFTP_(?!CODE_|TO_|LOGIN_)(\w+) = (\d+)")
+
+
+# the other enums of the header: what their names begin with, and the definition that has their numbers
+ENUMS = {
+    "TO": ("Clients", "to_number"),
+    "LOGIN": ("Logins", "step_number"),
+}
+
+
+def check_enums():
+    """The numbers of the header's other enums are those of the definitions."""
+    for prefix, (module, function) in ENUMS.items():
+        defined = numbers_in(f"crates/unftp_control_c/specs/{module}.antt", rf"^{function} \(?(\w+)(?: \w+\))? = (\d+)$")
+        wants_numbers(f"UNFTP_{prefix}", numbers_in("include/unftp_control.h", rf"^    UNFTP_{prefix}_(\w+) = (\d+)"), defined)
+        if not defined:
+            raise Wrong(f"{function} has no number")
+    return f"{len(ENUMS)} other enums"
 
 
 def check_numbers():
@@ -446,18 +463,20 @@ def check_numbers():
         if not used.items() <= declared.items():
             raise Wrong(f"{RUST.name} has other numbers: {sorted(set(used.items()) - set(declared.items()))}")
         wants_numbers("command.rs of bindings/rust", numbers_in("bindings/rust/src/command.rs", r"^ {12}(\d+) (\w+) \w+ \{"), commands)
-    return f"{len(commands)} commands, {len(statuses)} other results and {check_codes()}"
+    return f"{len(commands)} commands, {len(statuses)} other results, {check_enums()} and {check_codes()}"
 
 
 # what a type of the library's functions and structs is to C: the type, and what follows the name, for each parameter that it is; a u32
-# as a result is the enum too, which results.c finds to have the size of a uint32_t
+# as a result is an enum too, each of which results.c finds to have the size of a uint32_t
 IN_C = {
     "Global": [],
     "&[u8]": [("const char *", ""), ("size_t", "_len")],
     "&mut [u8]": [("char *", ""), ("size_t", "_room")],
     "&mut usize": [("size_t *", "")],
+    "&mut u64": [("uint64_t *", "")],
     "usize": [("size_t", "")],
     "u32": [("uint32_t", "")],
+    "u64": [("uint64_t", "")],
 }
 
 # what a type of bindings/rust is to C
@@ -465,12 +484,14 @@ FROM_RUST = {
     "*const u8": "const char *",
     "*mut u8": "char *",
     "*mut usize": "size_t *",
+    "*mut u64": "uint64_t *",
     "usize": "size_t",
     "u32": "uint32_t",
+    "u64": "uint64_t",
 }
 
-# the types of results in the header
-RESULTS = ["enum unftp_result", "uint32_t"]
+# the types of results in the header, and what each is in Rust
+RESULTS = {"enum unftp_result": "u32", "enum unftp_to": "u32", "enum unftp_login_step": "u32", "uint32_t": "u32", "uint64_t": "u64"}
 
 
 def struct_name(name):
@@ -480,17 +501,17 @@ def struct_name(name):
 
 def type_in_c(kind):
     """What a type of the library is to C."""
-    reference = re.fullmatch(r"&mut ([A-Z]\w*)", kind)
+    reference = re.fullmatch(r"&(mut )?([A-Z]\w*)", kind)
     if kind not in IN_C and reference:
-        return [(f"{struct_name(reference[1])} *", "")]
+        return [(f"{'' if reference[1] else 'const '}{struct_name(reference[2])} *", "")]
     return IN_C[kind]
 
 
 def type_from_rust(kind):
     """What a type of bindings/rust is to C."""
-    pointer = re.fullmatch(r"\*mut ([A-Z]\w*)", kind)
+    pointer = re.fullmatch(r"\*(mut|const) ([A-Z]\w*)", kind)
     if kind not in FROM_RUST and pointer:
-        return f"{struct_name(pointer[1])} *"
+        return f"{'' if pointer[1] == 'mut' else 'const '}{struct_name(pointer[2])} *"
     return FROM_RUST[kind]
 
 
@@ -516,21 +537,18 @@ def functions_in(text, pattern):
 
 
 def in_the_library(parameters, result):
-    """The parameters of a function of the library, and its result, as C has them."""
-    wants("the result", result, "u32")
-    return [(kind, name + end) for name, source in names_and_types(parameters) for kind, end in type_in_c(source)]
+    """The result of a function of the library, and its parameters, as C has them."""
+    return [result] + [(kind, name + end) for name, source in names_and_types(parameters) for kind, end in type_in_c(source)]
 
 
 def in_the_header(parameters, result):
     """The same of the header."""
-    wants("whether the result is a known one", result in RESULTS, True)
-    return [re.fullmatch(r"(.*?) ?(\w+)", parameter).groups() for parameter in parameters if parameter != "void"]
+    return [RESULTS[result]] + [re.fullmatch(r"(.*?) ?(\w+)", parameter).groups() for parameter in parameters if parameter != "void"]
 
 
 def in_rust(parameters, result):
     """The same of bindings/rust."""
-    wants("the result", result, "u32")
-    return [(type_from_rust(kind), name) for name, kind in names_and_types(parameters)]
+    return [result] + [(type_from_rust(kind), name) for name, kind in names_and_types(parameters)]
 
 
 def library_text():
@@ -547,7 +565,7 @@ def rust_text():
 def exported():
     """The functions of the library, of the header and of bindings/rust, each with what reads its parameters."""
     exports = functions_in(library_text(), r'extern "C" fn (?P<name>\w+)\((?P<parameters>[^)]*)\) -> (?P<result>\w+)')
-    declares = functions_in(header(), r"(?P<result>enum unftp_result|\w+) (?P<name>unftp_\w+)\((?P<parameters>[^)]*)\)[\w\s]*;")
+    declares = functions_in(header(), r"(?P<result>enum unftp_\w+|\w+) (?P<name>unftp_\w+)\((?P<parameters>[^)]*)\)[\w\s]*;")
     found = {"the library": (in_the_library, exports), "the header": (in_the_header, declares)}
     if RUST.exists():
         text = rust_text()
@@ -580,7 +598,7 @@ def check_parameters(name):
             raise Wrong(f"{where}: a parameter of {name} has another form: {error}") from error
     for where, parameters in found.items():
         wants(where, parameters, found["the library"])
-    return f"{len(found['the library'])} parameters in {', '.join(found)}"
+    return f"{len(found['the library']) - 1} parameters in {', '.join(found)}"
 
 
 def structs_in(text):

@@ -19,11 +19,11 @@ use Rattle.unftp_control_defs.proofs.ExchangeLemmas.{length-replies_by_event, re
 use Rattle.unftp_control_serve.specs.Writing.{Begins}
 use Rattle.unftp_control_defs.specs.Turns.{IsExchange, cut_reads, is_preliminary_read}
 use Rattle.unftp_control_client.specs.Exchange.{new_client}
-use Rattle.unftp_control_client.specs.Steps.{AreExchanges, AreSteps, ClientStep, ReplyTo, Received, Sent, Took, after_to, decoder_steps, is_final, is_something, lines_sent, replies_taken, sent_by, taken_by, was_owed}
+use Rattle.unftp_control_client.specs.Steps.{AreDialogueSteps, AreExchanges, AreSteps, ClientStep, ReplyTo, Received, Sent, Took, after_to, decoder_steps, is_final, is_something, lines_sent, replies_taken, sent_by, taken_by, was_owed}
 use Rattle.unftp_control_client.specs.declared.Client.{Client}
 use Rattle.unftp_control_client.specs.declared.dialogue.To.{To}
 use Rattle.unftp_control_client.specs.declared.dialogue.To.TheVariants.{Greeting, Command, Nothing}
-use Rattle.unftp_control_client.proofs.ClientStepLemmas.{none_owed, steps-append, steps-exchanges, steps-taken}
+use Rattle.unftp_control_client.proofs.ClientStepLemmas.{none_owed, steps-append, steps-dialogue, steps-exchanges, steps-taken}
 use Rattle.unftp_control.specs.Conversation.{Show}
 use Rattle.unftp_control.specs.Acts.{AreFirst, AtClient, AtServer, IsConversation, IsUnderstood, Server, Act, at_client, came_to_client, came_to_server, client_steps, exchanges, lines_of_client, reply_at, sent_by_client, taken_by_client, turns_to, written_by}
 use Rattle.unftp_control.proofs.ConversationLemmas.{events-lines, length-cut_by, length-onto_first, read_all, read_so_far, shown_turns}
@@ -245,10 +245,11 @@ module _ {S : Type 0} (server : Server S) (limit : Option ℕ) (acts : List Act)
   not_nothing before later taken middle next split are is Greeting e = refl
   not_nothing before later taken middle next split are is (Command place) e = refl
   not_nothing before later taken middle next split are is Nothing e =
-      let unasked = none_owed start next (client_steps before) [] taken.reply refl refl
-      (subst (λ to. AreSteps start (client_steps before
-      ++ Took (record { to = to; reply = taken.reply }) ∷ []) next) e
-      (steps-append (client_steps before) (Took taken ∷ []) start middle next are is)) in
+      let unasked = none_owed start.dialogue next.dialogue (client_steps before) [] taken.reply
+      refl refl (subst (λ to. AreDialogueSteps start.dialogue (client_steps before
+      ++ Took (record { to = to; reply = taken.reply }) ∷ []) next.dialogue) e
+      (steps-dialogue (client_steps before ++ Took taken ∷ []) start next
+      (steps-append (client_steps before) (Took taken ∷ []) start middle next are is))) in
       let both = filter_map-append at_client before (AtClient (Took taken) ∷ []) in
       let all = few (before ++ AtClient (Took taken) ∷ []) later split next
       (later_steps before middle next (Took taken) are is) in

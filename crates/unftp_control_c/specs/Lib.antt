@@ -7,3 +7,6 @@ pub mod Rows
 pub mod Replies
 pub mod CanonicalLines
 pub mod ForwardedLines
+pub mod LogLines
+pub mod Clients
+pub mod Logins

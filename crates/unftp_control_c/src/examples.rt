@@ -11,6 +11,7 @@ ghost use Rattle.unftp_control_c.specs.Replies.{EncodesReply, IsReplyOf, text_li
 ghost use Rattle.unftp_control_c.specs.declared.status.Status.TheVariants.{InvalidCommand, InvalidUtf8, NoLine, OutOfMemory, UnknownCode};
 
 pub mod calls;
+pub mod sessions;
 
 /// Complete lines. `a_call` has the pending bytes, the offset, whether bytes were dropped, the
 /// limit and the area; `leaving` the result, how many bytes are used, the offset, whether bytes

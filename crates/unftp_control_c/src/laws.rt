@@ -1,20 +1,33 @@
 //! What the calls promise one after the other, and what is given says: each the contract of a
 //! function that does nothing.
-ghost use Rattle.std.specs.Prelude.{◌≡◌, ◌≢◌, ◌<◌, ◌≤◌, ◌+◌, ◌*◌, ◌++◌, ◌⊎◌, ℕ, List, Option, Some, true, false, map, length};
-ghost use Rattle.std.specs.List.{count_by};
+ghost use Rattle.std.specs.Prelude.{◌≡◌, ◌≢◌, ◌<◌, ◌≤◌, ◌+◌, ◌*◌, ◌++◌, ◌⊎◌, ℕ, List, [], ◌∷◌, Option, None, Some, true, false, IsTrue, map, length};
+ghost use Rattle.std.specs.List.{AllByRecursion, count_by};
 ghost use Rattle.unftp_control_defs.specs.Bytes.{Bytes, LF, Lacks};
 ghost use Rattle.unftp_control_defs.specs.Canonical.{HasLine};
-ghost use Rattle.unftp_control_defs.specs.Events.{Command, Fault, Refused, event_for, events};
+ghost use Rattle.unftp_control_defs.specs.Events.{Command, Fault, FtpEvent, Refused, event_for, events};
 ghost use Rattle.unftp_control_defs.specs.FtpCommand.{FtpCommand};
 ghost use Rattle.unftp_control_defs.specs.Said.{HasTypedFields};
 ghost use Rattle.unftp_control_defs.specs.Lines.{IsLine};
 ghost use Rattle.unftp_control_codecs.specs.LineFeed.{is_line_feed, line_feed_from};
+ghost use Rattle.unftp_control_client.specs.Dialogue.{after_line, after_reply, next_to};
+ghost use Rattle.unftp_control_client.specs.Steps.{AreDialogueSteps, AreExchanges, ClientStep, EndsInAgreement, ReplyTo, Sent, Took, replies_owed};
+ghost use Rattle.unftp_control_client.specs.declared.dialogue.To.TheVariants.{Greeting};
+ghost use Rattle.unftp_control_log.specs.Known.{known};
+ghost use Rattle.unftp_control_log.specs.LogLine.{IsPrintable, logged};
+ghost use Rattle.unftp_control_login.specs.Gate.{decided, stage_after};
+ghost use Rattle.unftp_control_login.specs.Login.{Accounts, IsLoggedIn, is_login, needs_login};
 ghost use Rattle.unftp_control_c.specs.Areas.{Made, written};
+ghost use Rattle.unftp_control_c.specs.Clients.{dialogue_of, may_begin_tls, new_client, place_in, to_number};
+ghost use Rattle.unftp_control_c.specs.LogLines.{numbered_log_line};
+ghost use Rattle.unftp_control_c.specs.Logins.{Kept, decision_at, kept_after, kept_after_all, login_step, nobody, progress_of, stage_number, stage_of};
 ghost use Rattle.unftp_control_c.specs.Next.{Call, Given, Leaves, Left, given_for, line_limit, scans};
 ghost use Rattle.unftp_control_c.specs.Numbers.{status_number};
 ghost use Rattle.unftp_control_c.specs.Replies.{EncodesReply};
 ghost use Rattle.unftp_control_c.specs.Taking.{AreCallerSteps, Caller, CallerStep, IsNumberOf, after_call, all_given, call_of, gives_none, input_of, new_caller, scanned_by, unscanned};
-ghost use Rattle.unftp_control_c.specs.declared.status.Status.TheVariants.{More, NoRoom, OutOfMemory};
+ghost use Rattle.unftp_control_c.specs.declared.client.Client.{Client as RustClient};
+ghost use Rattle.unftp_control_c.specs.declared.login.Progress.{Progress};
+ghost use Rattle.unftp_control_c.specs.declared.login.Step.TheVariants.{PassOn};
+ghost use Rattle.unftp_control_c.specs.declared.status.Status.TheVariants.{LineTooLong, More, NoRoom, OutOfMemory};
 
 /// Whatever a caller receives, and whenever it calls `unftp_next`, with whatever areas: its calls
 /// give the events of what it received, in order, each by its number, name and value.
@@ -109,4 +122,69 @@ pub fn rooms_are_bounded()
     ensures reply { (code : ℕ) (text : Bytes) (bytes : Made) (out : Bytes)
         → EncodesReply code text bytes → (written bytes out).text_length
         ≤ length text + 2 * count_by is_line_feed text + 10 }
+{}
+
+/// A log line is that of the log of the library in Rattle, whose laws hold of it.
+pub fn log_lines_are_logged()
+    // The number that `unftp_next` returns for a line gives the line's own.
+    ensures same { (limit : Option ℕ) (line : Bytes) → IsLine line
+        → numbered_log_line (given_for (event_for limit line)).number line ≡ logged limit line }
+    // Of a line that is too long it is the same, whatever is left of the line.
+    ensures too_long { (line other : Bytes)
+        → numbered_log_line (status_number LineTooLong) line
+        ≡ numbered_log_line (status_number LineTooLong) other }
+    ensures printable { (number : ℕ) (line : Bytes)
+        → AllByRecursion IsPrintable (numbered_log_line number line) }
+    ensures secrets { (number : ℕ) (line other : Bytes) → known None line ≡ known None other
+        → numbered_log_line number line ≡ numbered_log_line number other }
+{}
+
+/// The calls of a client are steps of one dialogue: whatever lines it notes and replies it reports,
+/// the replies that were owed are those to the greeting, to line 0, to line 1 and so on, some
+/// preliminary ones and then a final one each (RFC 959, sections 4.2 and 5.4).
+pub fn client_calls_are_a_dialogue()
+    ensures line { (before after : RustClient) (line : Bytes)
+        → dialogue_of after ≡ after_line line (dialogue_of before)
+        → AreDialogueSteps (dialogue_of before) (Sent line ∷ []) (dialogue_of after) }
+    // The number and the place say what the reply is to.
+    ensures reply { (before after : RustClient) (taken : ReplyTo)
+        → to_number taken.to ≡ to_number (next_to (dialogue_of before))
+        → place_in taken.to ≡ place_in (next_to (dialogue_of before))
+        → dialogue_of after ≡ after_reply (dialogue_of before) taken.reply.0
+        → AreDialogueSteps (dialogue_of before) (Took taken ∷ []) (dialogue_of after) }
+    ensures in_turn { (first later : List ClientStep) (before middle after : RustClient)
+        → AreDialogueSteps (dialogue_of before) first (dialogue_of middle)
+        → AreDialogueSteps (dialogue_of middle) later (dialogue_of after)
+        → AreDialogueSteps (dialogue_of before) (first ++ later) (dialogue_of after) }
+    ensures exchanges { (steps : List ClientStep) (after : RustClient)
+        → AreDialogueSteps (dialogue_of new_client) steps (dialogue_of after)
+        → AreExchanges Greeting (replies_owed steps) }
+    // TLS may begin only where the last line asks for it, and the last reply agrees.
+    ensures tls { (steps : List ClientStep) (after : RustClient) (pending : ℕ)
+        → AreDialogueSteps (dialogue_of new_client) steps (dialogue_of after)
+        → IsTrue (may_begin_tls (dialogue_of after) pending)
+        → EndsInAgreement steps × (pending ≡ 0) }
+{}
+
+/// A server that does at each event what `unftp_login_event` says, keeps the name of each USER, and
+/// asks the accounts where it is to, does what a login gate does (RFC 959, section 4.1.1).
+pub fn logins_are_gated()
+    ensures decided { (accepts : Accounts) (kept : Kept) (event : FtpEvent)
+        → decided accepts (stage_of kept) event
+        ≡ decision_at (login_step kept.progress (given_for event).number) accepts kept.name event }
+    ensures stage { (accepts : Accounts) (kept : Kept) (event : FtpEvent)
+        → stage_of (kept_after accepts kept event) ≡ stage_after accepts (stage_of kept) event }
+    // An event that needs a login is passed on only after one,
+    ensures members { (accepts : Accounts) (before : List FtpEvent) (event : FtpEvent)
+        → IsTrue (needs_login event)
+        → login_step (kept_after_all accepts nobody before).progress (given_for event).number
+        ≡ PassOn → IsLoggedIn accepts before }
+    // and after one each event is, but those of a login.
+    ensures served { (accepts : Accounts) (before : List FtpEvent) (event : FtpEvent)
+        → IsLoggedIn accepts before → is_login event ≡ false
+        → login_step (kept_after_all accepts nobody before).progress (given_for event).number
+        ≡ PassOn }
+    // A number that a call leaves is read as what was left, and 0 is nobody.
+    ensures numbers { (progress : Progress) → progress_of (stage_number progress) ≡ progress }
+    ensures zero { progress_of 0 ≡ nobody.progress }
 {}

@@ -3,9 +3,12 @@
 
 mod areas;
 mod canonical;
+mod client;
 pub mod examples;
 mod forwarding;
 pub mod laws;
+mod log;
+mod login;
 mod next;
 mod reply;
 mod status;

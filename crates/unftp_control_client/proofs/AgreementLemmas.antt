@@ -3,8 +3,7 @@ use Rattle.std.proofs.Common.{◌≡◌, ◌&&◌, ◌==◌, ℕ, suc, Bool, tru
 use Rattle.unftp_control_defs.specs.Bytes.{Bytes}
 use Rattle.unftp_control_defs.specs.Turns.{is_preliminary}
 use Rattle.unftp_control_client.specs.Dialogue.{agrees, after_final, after_line, after_reply, asks_for_tls, commands_owed, is_place, next_to}
-use Rattle.unftp_control_client.specs.Steps.{AreSteps, ClientStep, EndsInAgreement, ReplyTo, Sent, Received, Took, lines_sent, replies_taken}
-use Rattle.unftp_control_client.specs.declared.Client.{Client}
+use Rattle.unftp_control_client.specs.Steps.{AreDialogueSteps, ClientStep, EndsInAgreement, ReplyTo, Sent, Received, Took, lines_sent, replies_taken}
 use Rattle.unftp_control_client.specs.declared.dialogue.Dialogue.{Dialogue}
 use Rattle.unftp_control_client.specs.declared.dialogue.To.{To}
 use Rattle.unftp_control_client.specs.declared.dialogue.To.TheVariants.{Greeting, Command, Nothing}
@@ -135,39 +134,39 @@ module _ (lines : List Bytes) (replies : List ReplyTo) (d : Dialogue) (kept : Ke
 
 -- ---- all steps
 
-steps-kept : (steps : List ClientStep) (before after : Client) (lines : List Bytes)
-    (replies : List ReplyTo) → Kept lines replies before.dialogue → AreSteps before steps after
-    → Kept (lines ++ lines_sent steps) (replies ++ replies_taken steps) after.dialogue
+steps-kept : (steps : List ClientStep) (before after : Dialogue) (lines : List Bytes)
+    (replies : List ReplyTo) → Kept lines replies before → AreDialogueSteps before steps after
+    → Kept (lines ++ lines_sent steps) (replies ++ replies_taken steps) after
 steps-kept [] before after lines replies kept are =
-    subst (λ lines. Kept lines (replies ++ []) after.dialogue) (sym (append-nil lines))
-    (subst (λ replies. Kept lines replies after.dialogue) (sym (append-nil replies))
-    (subst (λ d. Kept lines replies d) (sym are.0) kept))
+    subst (λ lines. Kept lines (replies ++ []) after) (sym (append-nil lines))
+    (subst (λ replies. Kept lines replies after) (sym (append-nil replies))
+    (subst (λ d. Kept lines replies d) (sym are) kept))
 steps-kept (Sent line ∷ steps) before after lines replies kept (next, step, are) =
-    subst (λ lines. Kept lines (replies ++ replies_taken steps) after.dialogue)
+    subst (λ lines. Kept lines (replies ++ replies_taken steps) after)
     (append_assoc lines (line ∷ []) (lines_sent steps))
     (steps-kept steps next after (lines ++ line ∷ []) replies
-    (subst (λ d. Kept (lines ++ line ∷ []) replies d) (sym step.0)
-    (Kept-sent lines replies before.dialogue kept line)) are)
+    (subst (λ d. Kept (lines ++ line ∷ []) replies d) (sym step)
+    (Kept-sent lines replies before kept line)) are)
 steps-kept (Received piece ∷ steps) before after lines replies kept (next, step, are) =
     steps-kept steps next after lines replies
-    (subst (λ d. Kept lines replies d) (sym step.0) kept) are
+    (subst (λ d. Kept lines replies d) (sym step) kept) are
 steps-kept (Took taken ∷ steps) before after lines replies kept (next, step, are) =
-    subst (λ replies. Kept (lines ++ lines_sent steps) replies after.dialogue)
+    subst (λ replies. Kept (lines ++ lines_sent steps) replies after)
     (append_assoc replies (taken ∷ []) (replies_taken steps))
     (steps-kept steps next after lines (replies ++ taken ∷ [])
     (subst (λ d. Kept lines (replies ++ taken ∷ []) d) (sym step.1)
-    (Kept-took lines replies before.dialogue kept taken step.0)) are)
+    (Kept-took lines replies before kept taken step.0)) are)
 
 none_later : (later : List Bytes) → length later ≡ 0 → later ≡ []
 none_later [] e = refl
 none_later (line ∷ later) e = absurd (omega (arith, e))
 
-pub ends_in_agreement : (steps : List ClientStep) (start after : Client)
-    → start.dialogue.sent ≡ 0 → start.dialogue.asked ≡ None → start.dialogue.agreed ≡ false
-    → AreSteps start steps after
-    → after.dialogue.agreed ≡ true → commands_owed after.dialogue ≡ 0 → EndsInAgreement steps
+pub ends_in_agreement : (steps : List ClientStep) (start after : Dialogue)
+    → start.sent ≡ 0 → start.asked ≡ None → start.agreed ≡ false
+    → AreDialogueSteps start steps after
+    → after.agreed ≡ true → commands_owed after ≡ 0 → EndsInAgreement steps
 ends_in_agreement steps start after none_sent none_asked not_agreed are agreed none_owed =
-    let first : Kept [] [] start.dialogue = record {
+    let first : Kept [] [] start = record {
       count = none_sent;
       asked = λ place e. absurd (cc);
       agreed = λ e. absurd (cc);
@@ -175,7 +174,7 @@ ends_in_agreement steps start after none_sent none_asked not_agreed are agreed n
     let kept = steps-kept steps start after [] [] first are in
     let a = kept.agreed agreed in
     let asks = a.asks in
-    let owed = ap (λ answered. after.dialogue.sent - unwrap_or answered 0) a.answered in
+    let owed = ap (λ answered. after.sent - unwrap_or answered 0) a.answered in
     let none : asks.later ≡ [] = none_later asks.later (omega (
       arith,
       none_owed,

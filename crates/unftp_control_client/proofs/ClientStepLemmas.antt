@@ -6,7 +6,7 @@ use Rattle.unftp_control_defs.specs.Bytes.{Bytes}
 use Rattle.unftp_control_defs.specs.TakingSteps.{AreTakingSteps, TakesReply}
 use Rattle.unftp_control_defs.specs.Turns.{is_preliminary}
 use Rattle.unftp_control_client.specs.Dialogue.{after_line, after_final, after_reply, first_owed, next_to}
-use Rattle.unftp_control_client.specs.Steps.{AreExchanges, AreSteps, ClientStep, IsStep, ReplyTo, Sent, Received, Took, lines_sent, decoder_steps, is_final, replies_owed, replies_taken, was_owed}
+use Rattle.unftp_control_client.specs.Steps.{AreDialogueSteps, AreExchanges, AreSteps, ClientStep, IsDialogueStep, ReplyTo, Sent, Received, Took, lines_sent, decoder_steps, is_final, replies_owed, replies_taken, was_owed}
 use Rattle.unftp_control_client.specs.declared.Client.{Client}
 use Rattle.unftp_control_client.specs.declared.dialogue.Dialogue.{Dialogue}
 use Rattle.unftp_control_client.specs.declared.dialogue.To.{To}
@@ -91,10 +91,7 @@ module _ (replies : List ReplyTo) (reply : ℕ × List Bytes) where
   complete-took (Some answered) false false e = refl
 
 -- a reply that is taken
-module _ (before next : Client) (taken : ReplyTo) (step : IsStep before (Took taken) next) where
-  abbrev d : Dialogue
-  d = before.dialogue
-
+module _ (d next : Dialogue) (taken : ReplyTo) (step : IsDialogueStep d (Took taken) next) where
   abbrev owed : Bool
   owed = is_owed d.answered d.sent
 
@@ -104,17 +101,17 @@ module _ (before next : Client) (taken : ReplyTo) (step : IsStep before (Took ta
   is_to : taken.to ≡ owed_where d.answered owed
   is_to = step.0 ∙ first-owed d.answered d.sent
 
-  now_answered : next.dialogue.answered
+  now_answered : next.answered
       ≡ answered_after preliminary (owed_where d.answered owed) d.answered
   now_answered = ap (λ (d : Dialogue). d.answered) step.1
       ∙ answered-after_final preliminary (next_to d) d
       ∙ ap (λ to. answered_after preliminary to d.answered) (first-owed d.answered d.sent)
 
-  now_sent : next.dialogue.sent ≡ d.sent
+  now_sent : next.sent ≡ d.sent
   now_sent = ap (λ (d : Dialogue). d.sent) step.1 ∙ sent-after_final preliminary (next_to d) d
 
   took-exchanges : (replies : List ReplyTo)
-      → AreExchanges (open_exchange next.dialogue.answered) (filter was_owed replies)
+      → AreExchanges (open_exchange next.answered) (filter was_owed replies)
       → AreExchanges (open_exchange d.answered) (filter was_owed (taken ∷ replies))
   took-exchanges replies h =
       subst (λ to. AreExchanges (open_exchange d.answered)
@@ -124,7 +121,7 @@ module _ (before next : Client) (taken : ReplyTo) (step : IsStep before (Took ta
       now_answered h))
 
   took-complete : (replies : List ReplyTo)
-      → complete next.dialogue.answered + length (filter is_final (filter was_owed replies))
+      → complete next.answered + length (filter is_final (filter was_owed replies))
       ≡ complete d.answered + length (filter is_final (filter was_owed (taken ∷ replies)))
   took-complete replies =
       ap (λ answered. complete answered + length (filter is_final (filter was_owed replies)))
@@ -135,50 +132,65 @@ module _ (before next : Client) (taken : ReplyTo) (step : IsStep before (Took ta
 
 -- ---- all steps
 
+pub dialogue-exchanges : (steps : List ClientStep) (before after : Dialogue)
+    → AreDialogueSteps before steps after
+    → AreExchanges (open_exchange before.answered) (replies_owed steps)
+dialogue-exchanges [] before after are = tt
+dialogue-exchanges (Sent line ∷ steps) before after (next, step, are) =
+    subst (λ (d : Dialogue). AreExchanges (open_exchange d.answered) (replies_owed steps)) step
+    (dialogue-exchanges steps next after are)
+dialogue-exchanges (Received piece ∷ steps) before after (next, step, are) =
+    subst (λ (d : Dialogue). AreExchanges (open_exchange d.answered) (replies_owed steps)) step
+    (dialogue-exchanges steps next after are)
+dialogue-exchanges (Took taken ∷ steps) before after (next, step, are) =
+    took-exchanges before next taken step (replies_taken steps)
+    (dialogue-exchanges steps next after are)
+
+dialogue-sent : (steps : List ClientStep) (before after : Dialogue)
+    → AreDialogueSteps before steps after
+    → after.sent ≡ before.sent + length (lines_sent steps)
+dialogue-sent [] before after are = omega (arith, ap (λ (d : Dialogue). d.sent) are)
+dialogue-sent (Sent line ∷ steps) before after (next, step, are) =
+    omega (arith, ap (λ (d : Dialogue). d.sent) step, dialogue-sent steps next after are)
+dialogue-sent (Received piece ∷ steps) before after (next, step, are) =
+    omega (arith, ap (λ (d : Dialogue). d.sent) step, dialogue-sent steps next after are)
+dialogue-sent (Took taken ∷ steps) before after (next, step, are) =
+    omega (arith, now_sent before next taken step, dialogue-sent steps next after are)
+
+dialogue-complete : (steps : List ClientStep) (before after : Dialogue)
+    → AreDialogueSteps before steps after
+    → complete after.answered
+    ≡ complete before.answered + length (filter is_final (replies_owed steps))
+dialogue-complete [] before after are =
+    omega (arith, ap (λ (d : Dialogue). complete d.answered) are)
+dialogue-complete (Sent line ∷ steps) before after (next, step, are) =
+    omega (
+      arith,
+      ap (λ (d : Dialogue). complete d.answered) step,
+      dialogue-complete steps next after are,
+    )
+dialogue-complete (Received piece ∷ steps) before after (next, step, are) =
+    omega (
+      arith,
+      ap (λ (d : Dialogue). complete d.answered) step,
+      dialogue-complete steps next after are,
+    )
+dialogue-complete (Took taken ∷ steps) before after (next, step, are) =
+    dialogue-complete steps next after are
+    ∙ took-complete before next taken step (replies_taken steps)
+
+-- Steps of a client are steps of its dialogue.
+pub steps-dialogue : (steps : List ClientStep) (before after : Client)
+    → AreSteps before steps after → AreDialogueSteps before.dialogue steps after.dialogue
+steps-dialogue [] before after are = are.0
+steps-dialogue (step ∷ steps) before after (next, is, are) =
+    (next.dialogue, is.0, steps-dialogue steps next after are)
+
 pub steps-exchanges : (steps : List ClientStep) (before after : Client)
     → AreSteps before steps after
     → AreExchanges (open_exchange before.dialogue.answered) (replies_owed steps)
-steps-exchanges [] before after are = tt
-steps-exchanges (Sent line ∷ steps) before after (next, step, are) =
-    subst (λ (d : Dialogue). AreExchanges (open_exchange d.answered) (replies_owed steps)) step.0
-    (steps-exchanges steps next after are)
-steps-exchanges (Received piece ∷ steps) before after (next, step, are) =
-    subst (λ (d : Dialogue). AreExchanges (open_exchange d.answered) (replies_owed steps)) step.0
-    (steps-exchanges steps next after are)
-steps-exchanges (Took taken ∷ steps) before after (next, step, are) =
-    took-exchanges before next taken step (replies_taken steps)
-    (steps-exchanges steps next after are)
-
-pub steps-sent : (steps : List ClientStep) (before after : Client) → AreSteps before steps after
-    → after.dialogue.sent ≡ before.dialogue.sent + length (lines_sent steps)
-steps-sent [] before after are = omega (arith, ap (λ (d : Dialogue). d.sent) are.0)
-steps-sent (Sent line ∷ steps) before after (next, step, are) =
-    omega (arith, ap (λ (d : Dialogue). d.sent) step.0, steps-sent steps next after are)
-steps-sent (Received piece ∷ steps) before after (next, step, are) =
-    omega (arith, ap (λ (d : Dialogue). d.sent) step.0, steps-sent steps next after are)
-steps-sent (Took taken ∷ steps) before after (next, step, are) =
-    omega (arith, now_sent before next taken step, steps-sent steps next after are)
-
-steps-complete : (steps : List ClientStep) (before after : Client) → AreSteps before steps after
-    → complete after.dialogue.answered
-    ≡ complete before.dialogue.answered + length (filter is_final (replies_owed steps))
-steps-complete [] before after are =
-    omega (arith, ap (λ (d : Dialogue). complete d.answered) are.0)
-steps-complete (Sent line ∷ steps) before after (next, step, are) =
-    omega (
-      arith,
-      ap (λ (d : Dialogue). complete d.answered) step.0,
-      steps-complete steps next after are,
-    )
-steps-complete (Received piece ∷ steps) before after (next, step, are) =
-    omega (
-      arith,
-      ap (λ (d : Dialogue). complete d.answered) step.0,
-      steps-complete steps next after are,
-    )
-steps-complete (Took taken ∷ steps) before after (next, step, are) =
-    steps-complete steps next after are
-    ∙ took-complete before next taken step (replies_taken steps)
+steps-exchanges steps before after are = dialogue-exchanges steps before.dialogue after.dialogue
+    (steps-dialogue steps before after are)
 
 pub steps-taken : (steps : List ClientStep) (before after : Client) → AreSteps before steps after
     → AreTakingSteps TakesReply before.replies.bytes (decoder_steps steps) after.replies.bytes
@@ -190,7 +202,7 @@ steps-taken (Received piece ∷ steps) before after (next, step, are) =
     subst (λ bytes. AreTakingSteps TakesReply bytes (decoder_steps steps) after.replies.bytes)
     step.1 (steps-taken steps next after are)
 steps-taken (Took taken ∷ steps) before after (next, step, are) =
-    (next.replies.bytes, step.2, steps-taken steps next after are)
+    (next.replies.bytes, step.1, steps-taken steps next after are)
 
 -- ---- steps after some others
 
@@ -203,12 +215,11 @@ from_same (Sent line ∷ steps) before same after d b (next, step, are) =
     (next, (step.0 ∙ ap (after_line line) d, step.1 ∙ b), are)
 from_same (Received piece ∷ steps) before same after d b (next, step, are) =
     (next, (step.0 ∙ d, step.1 ∙ ap (λ bytes. bytes ++ piece) b), are)
-from_same (Took taken ∷ steps) before same after d b (next, step, are) = (
+from_same (Took taken ∷ steps) before same after d b (next, (step, takes), are) = (
   next,
   (
-    step.0 ∙ ap next_to d,
-    step.1 ∙ ap (λ d. after_reply d taken.reply.0) d,
-    subst (λ bytes. TakesReply bytes taken.reply next.replies.bytes) b step.2,
+    (step.0 ∙ ap next_to d, step.1 ∙ ap (λ d. after_reply d taken.reply.0) d),
+    subst (λ bytes. TakesReply bytes taken.reply next.replies.bytes) b takes,
   ),
   are,
 )
@@ -221,10 +232,11 @@ steps-append [] later before middle after are more =
 steps-append (step ∷ first) later before middle after (next, is, are) more =
     (next, is, steps-append first later next middle after are more)
 
-split : (first steps : List ClientStep) (before after : Client)
-    → AreSteps before (first ++ steps) after
-    → (middle : Client) × AreSteps before first middle × AreSteps middle steps after
-split [] steps before after are = (before, (refl, refl), are)
+split : (first steps : List ClientStep) (before after : Dialogue)
+    → AreDialogueSteps before (first ++ steps) after
+    → (middle : Dialogue) × AreDialogueSteps before first middle
+    × AreDialogueSteps middle steps after
+split [] steps before after are = (before, refl, are)
 split (step ∷ first) steps before after (next, is, are) =
     let s = split first steps next after are in (s.0, (next, is, s.1), s.2)
 
@@ -251,10 +263,10 @@ unasked_of None sent to = absurd (cc)
 unasked_of (Some answered) sent to =
     omega (arith, unasked answered sent (nat_lt answered sent) refl to)
 
-module _ (start after : Client) (before later : List ClientStep) (reply : ℕ × List Bytes)
-    (none_sent : start.dialogue.sent ≡ 0) (none : start.dialogue.answered ≡ None) where
-  pub sent_before : (place : ℕ)
-      → AreSteps start (before ++ Took (record { to = Command place; reply = reply }) ∷ later) after
+module _ (start after : Dialogue) (before later : List ClientStep) (reply : ℕ × List Bytes)
+    (none_sent : start.sent ≡ 0) (none : start.answered ≡ None) where
+  pub sent_before : (place : ℕ) → AreDialogueSteps start
+      (before ++ Took (record { to = Command place; reply = reply }) ∷ later) after
       → place < length (lines_sent before)
   sent_before place are =
       let s = split before (Took (record { to = Command place; reply = reply }) ∷ later) start after
@@ -262,12 +274,12 @@ module _ (start after : Client) (before later : List ClientStep) (reply : ℕ ×
       omega (
         arith,
         none_sent,
-        steps-sent before start s.0 s.1,
-        asked_of s.0.dialogue.answered s.0.dialogue.sent place s.2.1.0,
+        dialogue-sent before start s.0 s.1,
+        asked_of s.0.answered s.0.sent place s.2.1.0,
       )
 
-  pub none_owed :
-      AreSteps start (before ++ Took (record { to = Nothing; reply = reply }) ∷ later) after
+  pub none_owed : AreDialogueSteps start
+      (before ++ Took (record { to = Nothing; reply = reply }) ∷ later) after
       → suc (length (lines_sent before)) ≤ length (filter is_final (replies_owed before))
   none_owed are =
       let s = split before (Took (record { to = Nothing; reply = reply }) ∷ later) start after
@@ -276,7 +288,7 @@ module _ (start after : Client) (before later : List ClientStep) (reply : ℕ ×
         arith,
         none_sent,
         ap complete none,
-        steps-sent before start s.0 s.1,
-        steps-complete before start s.0 s.1,
-        unasked_of s.0.dialogue.answered s.0.dialogue.sent s.2.1.0,
+        dialogue-sent before start s.0 s.1,
+        dialogue-complete before start s.0 s.1,
+        unasked_of s.0.answered s.0.sent s.2.1.0,
       )

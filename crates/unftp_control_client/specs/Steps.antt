@@ -8,6 +8,7 @@ use Rattle.unftp_control_defs.specs.Turns.{is_preliminary}
 use Rattle.unftp_control_client.specs.Dialogue.{after_line, after_reply, asks_for_tls, next_to}
 use Rattle.unftp_control_client.specs.declared.Client.{Client}
 use Rattle.unftp_control_client.specs.declared.dialogue.ClientReply.{ClientReply}
+use Rattle.unftp_control_client.specs.declared.dialogue.Dialogue.{Dialogue}
 use Rattle.unftp_control_client.specs.declared.dialogue.To.{To}
 use Rattle.unftp_control_client.specs.declared.dialogue.To.TheVariants.{Greeting, Command, Nothing}
 
@@ -26,15 +27,22 @@ pub data ClientStep : Type 0 where
   Received : Bytes → ClientStep
   Took : ReplyTo → ClientStep
 
--- what each changes
+-- what each changes of how far the dialogue has come
+abbrev pub IsDialogueStep : Dialogue → ClientStep → Dialogue → Type 0
+IsDialogueStep before (Sent line) after = after ≡ after_line line before
+IsDialogueStep before (Received piece) after = after ≡ before
+IsDialogueStep before (Took taken) after =
+    (taken.to ≡ next_to before) × (after ≡ after_reply before taken.reply.0)
+
+-- and of the pending bytes
+abbrev pub ChangesBytes : Bytes → ClientStep → Bytes → Type 0
+ChangesBytes before (Sent line) after = after ≡ before
+ChangesBytes before (Received piece) after = after ≡ before ++ piece
+ChangesBytes before (Took taken) after = TakesReply before taken.reply after
+
 abbrev pub IsStep : Client → ClientStep → Client → Type 0
-IsStep before (Sent line) after = (after.dialogue ≡ after_line line before.dialogue)
-    × (after.replies.bytes ≡ before.replies.bytes)
-IsStep before (Received piece) after = (after.dialogue ≡ before.dialogue)
-    × (after.replies.bytes ≡ before.replies.bytes ++ piece)
-IsStep before (Took taken) after = (taken.to ≡ next_to before.dialogue)
-    × (after.dialogue ≡ after_reply before.dialogue taken.reply.0)
-    × TakesReply before.replies.bytes taken.reply after.replies.bytes
+IsStep before step after = IsDialogueStep before.dialogue step after.dialogue
+    × ChangesBytes before.replies.bytes step after.replies.bytes
 
 -- one after the other
 abbrev pub AreSteps : Client → List ClientStep → Client → Type 0
@@ -42,6 +50,12 @@ AreSteps before [] after = (after.dialogue ≡ before.dialogue)
     × (after.replies.bytes ≡ before.replies.bytes)
 AreSteps before (step ∷ steps) after =
     (next : Client) × IsStep before step next × AreSteps next steps after
+
+-- of a caller that keeps the bytes itself
+abbrev pub AreDialogueSteps : Dialogue → List ClientStep → Dialogue → Type 0
+AreDialogueSteps before [] after = after ≡ before
+AreDialogueSteps before (step ∷ steps) after =
+    (next : Dialogue) × IsDialogueStep before step next × AreDialogueSteps next steps after
 
 -- the lines that were sent
 abbrev pub sent_by : ClientStep → Option Bytes

@@ -40,21 +40,22 @@ pub fn same_client_replies()
     same_received_replies();
 }
 
-/// How far the dialogue with a server has come (RFC 959, section 5.4).
-#[derive(Drop)]
-pub(crate) struct Dialogue {
+/// How far the dialogue with a server has come (RFC 959, section 5.4): what a `Client` keeps beside
+/// the bytes, for a caller that keeps these itself.
+#[derive(Clone, Copy)]
+pub struct Dialogue {
     /// How many commands were sent.
-    sent: u64,
+    pub sent: u64,
     /// How many of them have their final reply, once the greeting is complete.
-    answered: Option<u64>,
+    pub answered: Option<u64>,
     /// The place of the last command that asks for TLS.
-    asked: Option<u64>,
+    pub asked: Option<u64>,
     /// Whether the last reply was a 234 to that command.
-    agreed: bool,
+    pub agreed: bool,
 }
 
 /// Whether another reply to the same command follows one with this code (RFC 959, section 4.2.1).
-fn is_preliminary(code: u16) -> bool
+fn is_preliminary(code: u32) -> bool
     ensures { result ≡ is_preliminary code }
 {
     (100..200).contains(&code)
@@ -80,7 +81,7 @@ fn is_spelled(line: &[u8], text: &[u8]) -> bool
 
 impl Dialogue {
     /// Nothing was sent or received.
-    pub(crate) fn new() -> Dialogue
+    pub fn new() -> Dialogue
         ensures { result ≡ at_start }
     {
         Dialogue {
@@ -92,22 +93,15 @@ impl Dialogue {
     }
 
     /// How many commands are owed their final reply.
-    pub(crate) fn owed(&self) -> u64
+    pub fn owed(&self) -> u64
         ensures { result ≡ commands_owed self.now }
     {
         self.sent.saturating_sub(self.answered.unwrap_or(0))
     }
 
-    /// Whether the last reply was a 234 to the last command that asks for TLS.
-    pub(crate) fn agreed(&self) -> bool
-        ensures { result ≡ self.now.agreed }
-    {
-        self.agreed
-    }
-
-    /// Notes that the line of a command is sent, and returns the command's place, unless 64 bits
-    /// don't count it.
-    pub(crate) fn add_line(&mut self, line: &[u8]) -> Option<u64>
+    /// Notes that the line of a command is sent, and returns the command's place. Where 64 bits don't
+    /// count it, it returns `None`, and nothing changes.
+    pub fn add_line(&mut self, line: &[u8]) -> Option<u64>
         ensures { MatchOption result
             ((self.new ≡ self.old) × (self.old.sent ≡ 2 ^ 64 - 1))
             (λ place. (self.new ≡ after_line line.now self.old) × (place ≡ self.old.sent)) }
@@ -125,12 +119,12 @@ impl Dialogue {
         ensures to { result ≡ record { to = next_to self.old; reply = reply } }
         ensures after { self.new ≡ after_reply self.old reply.code }
     {
-        let to = self.add_code(reply.code);
+        let to = self.add_code(u32::from(reply.code));
         ClientReply { to, reply }
     }
 
     /// Notes that a reply with this code came, and returns what it is to.
-    fn add_code(&mut self, code: u16) -> To
+    pub fn add_code(&mut self, code: u32) -> To
         ensures to { result ≡ next_to self.old }
         ensures after { self.new ≡ after_reply self.old code }
     {

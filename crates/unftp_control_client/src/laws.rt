@@ -8,11 +8,12 @@ ghost use Rattle.unftp_control_read.specs.ReplyDecoding.{TakesFirst, TakesNextRe
 ghost use Rattle.unftp_control_read.specs.Receiving.{Receives};
 ghost use Rattle.unftp_control_read.specs.declared.errors.NextReplyError.{NextReplyError};
 ghost use Rattle.unftp_control_read.specs.declared.errors.ReceiveError.{ReceiveError};
-ghost use Rattle.unftp_control_client.specs.Dialogue.{after_line, commands_owed};
+ghost use Rattle.unftp_control_client.specs.Dialogue.{after_line, at_start, commands_owed};
 ghost use Rattle.unftp_control_client.specs.Exchange.{IsNext, new_client};
-ghost use Rattle.unftp_control_client.specs.Steps.{AreExchanges, AreSteps, ClientStep, EndsInAgreement, Received, Sent, Took, lines_sent, decoder_steps, is_final, replies_owed, reply_to};
+ghost use Rattle.unftp_control_client.specs.Steps.{AreDialogueSteps, AreExchanges, AreSteps, ClientStep, EndsInAgreement, Received, Sent, Took, lines_sent, decoder_steps, is_final, replies_owed, reply_to};
 ghost use Rattle.unftp_control_client.specs.declared.Client.{Client as RustClient};
 ghost use Rattle.unftp_control_client.specs.declared.dialogue.ClientReply.{ClientReply as RustReply};
+ghost use Rattle.unftp_control_client.specs.declared.dialogue.Dialogue.{Dialogue as RustDialogue};
 ghost use Rattle.unftp_control_client.specs.declared.dialogue.To.TheVariants.{Greeting, Command, Nothing};
 
 /// What the contract of each call ensures makes it a step, or none where it takes no reply or
@@ -88,4 +89,22 @@ pub fn tls_begins_after_234()
         → AreSteps (new_client limit) steps client
         → IsTrue client.dialogue.agreed → commands_owed client.dialogue ≡ 0
         → EndsInAgreement steps }
+{}
+
+/// It is so of a caller that keeps the bytes itself, and beside them a `Dialogue` to which it adds
+/// each line that it sends and the code of each reply that it finds.
+pub fn dialogues_are_exchanges()
+    ensures exchanges { (steps : List ClientStep) (dialogue : RustDialogue)
+        → AreDialogueSteps at_start steps dialogue → AreExchanges Greeting (replies_owed steps) }
+    ensures sent_before { (before later : List ClientStep) (place : ℕ) (reply : ℕ × List Bytes)
+        (dialogue : RustDialogue) → AreDialogueSteps at_start
+        (before ++ Took (record { to = Command place; reply = reply }) ∷ later) dialogue
+        → place < length (lines_sent before) }
+    ensures unasked { (before later : List ClientStep) (reply : ℕ × List Bytes)
+        (dialogue : RustDialogue) → AreDialogueSteps at_start
+        (before ++ Took (record { to = Nothing; reply = reply }) ∷ later) dialogue
+        → suc (length (lines_sent before)) ≤ length (filter is_final (replies_owed before)) }
+    ensures agreed { (steps : List ClientStep) (dialogue : RustDialogue)
+        → AreDialogueSteps at_start steps dialogue → IsTrue dialogue.agreed
+        → commands_owed dialogue ≡ 0 → EndsInAgreement steps }
 {}

@@ -21,8 +21,7 @@ mod dialogue;
 mod errors;
 pub mod laws;
 
-use crate::dialogue::Dialogue;
-pub use crate::dialogue::{ClientReply, To, same_client_replies};
+pub use crate::dialogue::{ClientReply, Dialogue, To, same_client_replies};
 pub use crate::errors::SendError;
 use std::alloc::{AllocError, Global};
 use std::io::Read;
@@ -239,6 +238,6 @@ impl Client {
     pub fn tls_agreed(&self) -> bool
         ensures { IsTrue result ↔ MayBeginTls self.now }
     {
-        self.dialogue.agreed() && self.owed() == 0 && self.pending().is_empty()
+        self.dialogue.agreed && self.owed() == 0 && self.pending().is_empty()
     }
 }

@@ -17,11 +17,11 @@ returns c = record {
     (ap (λ (c : Client). c.dialogue) is, ap (λ (c : Client). c.replies.bytes) is),
     (refl, refl),
   );
-  next_reply = λ before after taken takes is. (after, (is.0, is.1, takes.takes), (refl, refl));
+  next_reply = λ before after taken takes is. (after, (is, takes.takes), (refl, refl));
   read_reply = λ before after taken input left receives is. (
     record before { replies = appended before.replies (concat receives.pieces) },
     (refl, refl),
-    (after, (is.0, is.1, receives.takes_next.takes), (refl, refl)),
+    (after, (is, receives.takes_next.takes), (refl, refl)),
   );
   none = λ before after takes is. (is, takes.same);
   failed = λ before after error takes is. (is, takes.1);

@@ -14,10 +14,10 @@ returns-clause-unasked c = (
   (refl, refl),
   (
     client_with (dialogue 0 (Some 0)) (codes "421\r\n"),
-    (refl, refl, record { used = 5; front = FrontReply-front_of refl; after_is = refl }),
+    ((refl, refl), record { used = 5; front = FrontReply-front_of refl; after_is = refl }),
     (
       client_with (dialogue 0 (Some 0)) [],
-      (refl, refl, record { used = 5; front = FrontReply-front_of refl; after_is = refl }),
+      ((refl, refl), record { used = 5; front = FrontReply-front_of refl; after_is = refl }),
       (refl, refl),
     ),
   ),

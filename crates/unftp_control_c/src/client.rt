@@ -1,0 +1,129 @@
+//! A client's dialogue with a server: to which line each reply is.
+ghost use Rattle.std.specs.Prelude.{◌≡◌, ◌≢◌, ◌<◌, ◌-◌, ◌^◌, if◌then◌else◌};
+ghost use Rattle.unftp_control_defs.specs.Lines.{IsLine};
+ghost use Rattle.unftp_control_client.specs.Dialogue.{after_line, after_reply, commands_owed, next_to};
+ghost use Rattle.unftp_control_c.specs.Clients.{dialogue_of, may_begin_tls, place_in, to_number};
+ghost use Rattle.unftp_control_c.specs.Numbers.{status_number};
+ghost use Rattle.unftp_control_c.specs.declared.status.Status.TheVariants.{Done, InvalidArgument, NoLine};
+
+use crate::status::Status;
+use unftp_control_client::{Dialogue, To};
+use unftp_control_write::is_line;
+
+/// What a client keeps beside its bytes: `struct unftp_client` of include/unftp_control.h.
+#[repr(C)]
+#[derive(Clone, Copy)]
+pub struct Client {
+    /// How many lines were sent.
+    pub sent: u64,
+    /// How many of them have their final reply, once the greeting is complete.
+    pub answered: u64,
+    /// The place of the last line that asks for TLS, if there is one.
+    pub asked: u64,
+    /// 0 until the greeting is complete.
+    pub greeted: u32,
+    /// 0 until a line asks for TLS.
+    pub asks: u32,
+    /// 1 where the last reply was a 234 to that line, else 0.
+    pub agreed: u32,
+}
+
+impl Client {
+    /// What keeps this.
+    fn of(dialogue: Dialogue) -> Client
+        ensures { dialogue_of result ≡ dialogue }
+    {
+        Client {
+            sent: dialogue.sent,
+            answered: dialogue.answered.unwrap_or(0),
+            asked: dialogue.asked.unwrap_or(0),
+            greeted: u32::from(dialogue.answered.is_some()),
+            asks: u32::from(dialogue.asked.is_some()),
+            agreed: u32::from(dialogue.agreed),
+        }
+    }
+
+    /// What it keeps.
+    fn dialogue(&self) -> Dialogue
+        ensures { result ≡ dialogue_of self.now }
+    {
+        Dialogue {
+            sent: self.sent,
+            answered: if self.greeted == 0 {
+                None
+            } else {
+                Some(self.answered)
+            },
+            asked: if self.asks == 0 {
+                None
+            } else {
+                Some(self.asked)
+            },
+            agreed: self.agreed != 0,
+        }
+    }
+}
+
+/// Notes a line that is sent: `unftp_client_line` of include/unftp_control.h.
+#[unsafe(no_mangle)]
+pub extern "C" fn unftp_client_line(client: &mut Client, line: &[u8], place: &mut u64) -> u32
+    ensures not_a_line { ¬ IsLine line.now → result ≡ status_number NoLine }
+    ensures full { IsLine line.now → client.old.sent ≡ 2 ^ 64 - 1
+        → result ≡ status_number InvalidArgument }
+    ensures kept { result ≢ status_number Done
+        → (client.new ≡ client.old) × (place.new ≡ 0) }
+    ensures is_line { IsLine line.now → client.old.sent < 2 ^ 64 - 1
+        → (result ≡ status_number Done) × (place.new ≡ client.old.sent)
+        × (dialogue_of client.new ≡ after_line line.now (dialogue_of client.old)) }
+{
+    *place = 0;
+    if !is_line(line) {
+        return Status::NoLine.number();
+    }
+    let mut dialogue = client.dialogue();
+    let Some(sent) = dialogue.add_line(line) else {
+        return Status::InvalidArgument.number();
+    };
+    *client = Client::of(dialogue);
+    *place = sent;
+    Status::Done.number()
+}
+
+/// Notes a reply that came, and says what it is to: `unftp_client_reply` of
+/// include/unftp_control.h.
+#[unsafe(no_mangle)]
+pub extern "C" fn unftp_client_reply(client: &mut Client, code: u32, place: &mut u64) -> u32
+    ensures to { result ≡ to_number (next_to (dialogue_of client.old)) }
+    ensures place { place.new ≡ place_in (next_to (dialogue_of client.old)) }
+    ensures after { dialogue_of client.new ≡ after_reply (dialogue_of client.old) code }
+{
+    let mut dialogue = client.dialogue();
+    let to = dialogue.add_code(code);
+    *client = Client::of(dialogue);
+    let (number, sent) = match to {
+        To::Greeting => (0, 0),
+        To::Command(sent) => (1, sent),
+        To::Nothing => (2, 0),
+    };
+    *place = sent;
+    number
+}
+
+/// How many lines are owed their final reply: `unftp_client_owed` of include/unftp_control.h.
+#[unsafe(no_mangle)]
+pub extern "C" fn unftp_client_owed(client: &Client) -> u64
+    ensures { result ≡ commands_owed (dialogue_of client.now) }
+{
+    client.dialogue().owed()
+}
+
+/// Whether TLS may begin, where so many bytes are pending: `unftp_client_may_begin_tls` of
+/// include/unftp_control.h.
+#[unsafe(no_mangle)]
+pub extern "C" fn unftp_client_may_begin_tls(client: &Client, pending: usize) -> u32
+    ensures { result
+        ≡ (if may_begin_tls (dialogue_of client.now) pending then 1 else 0) }
+{
+    let dialogue = client.dialogue();
+    u32::from(dialogue.agreed && dialogue.owed() == 0 && pending == 0)
+}

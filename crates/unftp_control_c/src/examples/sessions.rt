@@ -1,0 +1,94 @@
+//! What a log, a client and a login in C keep and report.
+#![tactic(auto, unfolding(unftp_control_defs::proofs::Computing::at_bytes))]
+
+ghost use Rattle.std.specs.Prelude.{◌≡◌, ◌∷◌, [], true, false, bytes_eq, codes, Err, None, Ok, Some};
+ghost use Rattle.unftp_control_defs.specs.Bytes.{Bytes};
+ghost use Rattle.unftp_control_defs.specs.Events.{Command as Event};
+ghost use Rattle.unftp_control_defs.specs.FtpCommand.{Auth, Pass, User};
+ghost use Rattle.unftp_control_defs.specs.declared.parameters.AuthParam.TheVariants.{Tls};
+ghost use Rattle.unftp_control_client.specs.Dialogue.{at_start};
+ghost use Rattle.unftp_control_client.specs.declared.dialogue.To.TheVariants.{Command, Greeting, Nothing};
+ghost use Rattle.unftp_control_c.specs.Clients.{dialogue_of, may_begin_tls, new_client, place_in, to_number};
+ghost use Rattle.unftp_control_c.specs.LogLines.{IsLogLine, numbered_log_line};
+ghost use Rattle.unftp_control_c.specs.Logins.{after_answer, after_event, kept_after_all, login_step, nobody, progress_of};
+ghost use Rattle.unftp_control_c.specs.declared.login.Progress.TheVariants.{Asked, LoggedIn, Named, NoName};
+ghost use Rattle.unftp_control_c.specs.declared.login.Step.TheVariants.{AskAccounts, NeedLogin, NeedName, NeedPassword, PassOn};
+ghost use Rattle.unftp_control_c.specs.declared.status.Status.TheVariants.{NoLine, OutOfMemory};
+
+/// Log lines, by what `unftp_next` returned: 2 is PASS, and 105 a line that is too long.
+pub fn lines_are_logged()
+    ensures password { numbered_log_line 2 (codes "PASS a\r\n") ≡ codes "PASS ***" }
+    ensures end_of_a_line { numbered_log_line 105 (codes "PASS a\r\n")
+        ≡ codes "refused: Line too long" }
+    ensures refused { numbered_log_line 104 (codes "PASS a\rb\r\n")
+        ≡ codes "refused PASS: Invalid end-of-line" }
+    ensures memory { IsLogLine 10 (codes "NOOP\n") (Err OutOfMemory) }
+    ensures always { ¬ IsLogLine 10 (codes "NOOP\n") (Err NoLine) }
+    ensures raw { ¬ IsLogLine 2 (codes "PASS a\n") (Ok (codes "PASS a")) }
+{}
+
+/// What a client keeps: a flag says whether a number is there.
+pub fn clients_keep_a_dialogue()
+    ensures start { dialogue_of new_client ≡ at_start }
+    ensures greeted { dialogue_of (record new_client { greeted = 1 })
+        ≡ record at_start { answered = Some 0 } }
+    ensures not_greeted { dialogue_of (record new_client { answered = 1 }) ≡ at_start }
+    ensures asks { dialogue_of (record new_client { sent = 1; asks = 1 })
+        ≡ record at_start { sent = 1; asked = Some 0 } }
+    ensures place { place_in (Command 3) ≡ 3 }
+    ensures no_place { place_in Nothing ≡ 0 }
+    ensures numbers { to_number Greeting ∷ to_number (Command 3) ∷ to_number Nothing ∷ []
+        ≡ 0 ∷ 1 ∷ 2 ∷ [] }
+{}
+
+/// When TLS may begin.
+pub fn tls_may_begin()
+    ensures agreed { may_begin_tls
+        (record { sent = 1; answered = Some 1; asked = Some 0; agreed = true }) 0 ≡ true }
+    ensures pending { may_begin_tls
+        (record { sent = 1; answered = Some 1; asked = Some 0; agreed = true }) 1 ≡ false }
+    ensures owed { may_begin_tls
+        (record { sent = 2; answered = Some 1; asked = Some 0; agreed = true }) 0 ≡ false }
+    ensures not_agreed { may_begin_tls
+        (record { sent = 1; answered = Some 1; asked = Some 0; agreed = false }) 0 ≡ false }
+{}
+
+/// What is done with an event: 1 is USER, 2 PASS, 10 NOOP, 14 RETR, and from 101 on no command.
+pub fn logins_have_steps()
+    ensures stranger { login_step NoName 14 ≡ NeedLogin }
+    ensures named { login_step Named 14 ≡ NeedLogin }
+    ensures member { login_step LoggedIn 14 ≡ PassOn }
+    ensures needs_none { login_step NoName 10 ≡ PassOn }
+    ensures refused { login_step NoName 101 ≡ PassOn }
+    ensures no_number { login_step NoName 100 ≡ NeedLogin }
+    ensures name { login_step LoggedIn 1 ≡ NeedPassword }
+    ensures password { login_step Named 2 ≡ AskAccounts }
+    ensures no_name { login_step NoName 2 ≡ NeedName }
+{}
+
+/// How far a login has come after an event and an answer: 35 is AUTH.
+pub fn logins_come_on()
+    ensures again { after_event LoggedIn 1 ≡ Named }
+    ensures asked { after_event Named 2 ≡ Asked }
+    ensures stays { after_event LoggedIn 2 ≡ LoggedIn }
+    ensures flushed { after_event LoggedIn 35 ≡ NoName }
+    ensures late { after_event Asked 10 ≡ NoName }
+    ensures accepted { after_answer true Asked ≡ LoggedIn }
+    ensures refused { after_answer false Asked ≡ NoName }
+    ensures not_asked { after_answer true Named ≡ Named }
+    ensures last { progress_of 3 ≡ Asked }
+    ensures unknown { progress_of 4 ≡ NoName }
+{}
+
+/// Whole logins, where the accounts accept each password of one name, or of all.
+pub fn sessions_log_in()
+    ensures member { kept_after_all (λ name password. bytes_eq name (codes "anna")) nobody
+        (Event (User (codes "anna")) ∷ Event (Pass (codes "secret")) ∷ [])
+        ≡ record { progress = LoggedIn; name = codes "anna" } }
+    ensures other_name { kept_after_all (λ name password. bytes_eq name (codes "anna")) nobody
+        (Event (User (codes "otto")) ∷ Event (Pass (codes "secret")) ∷ [])
+        ≡ record { progress = NoName; name = codes "otto" } }
+    ensures tls { kept_after_all (λ name password. true) nobody
+        (Event (User (codes "anna")) ∷ Event (Pass []) ∷ Event (Auth Tls) ∷ [])
+        ≡ record { progress = NoName; name = codes "anna" } }
+{}
