@@ -1,4 +1,6 @@
 use crate::canonical::forward;
+use crate::client::{ClientReply, Dialogue};
+use crate::command::Command;
 use crate::error::Error;
 use crate::event::Event;
 use crate::lines::{Lines, LINE_LIMIT};
@@ -94,17 +96,20 @@ impl Encoder<Reply> for FtpCodec {
     }
 }
 
-/// The codec of a client's control connection: bytes become [`ReceivedReply`]s, and each command
-/// line, with its line end, becomes the bytes of [`forward`]. So a line that is no command is never
-/// sent, nor are two lines in one, as a file name with a line feed would make. A bare CR in a
-/// parameter is sent as it is: for a server that ends a line at one, refuse such a line first.
+/// The codec of a client's control connection: bytes become replies, each with what it is to, as of
+/// a [`Client`](crate::Client). A command becomes its [line](Command::to_line), and a line, with its
+/// line end, becomes the bytes of [`forward`]. So a line that is no command is never sent, nor are
+/// two lines in one, as a file name with a line feed would make. A bare CR in the parameter of a
+/// line is sent as it is: for a server that ends a line at one, refuse such a line first.
+///
+/// Reading and writing are one codec's, also after `Framed::split`.
 ///
 /// A reply that is malformed or too long is an error, since nothing says where the next one begins.
 ///
 /// ```
 /// use bytes::BytesMut;
 /// use tokio_util::codec::{Decoder, Encoder};
-/// use unftp_control::FtpClientCodec;
+/// use unftp_control::{FtpClientCodec, To};
 ///
 /// let mut codec = FtpClientCodec::new();
 /// let mut output = BytesMut::new();
@@ -112,14 +117,17 @@ impl Encoder<Reply> for FtpCodec {
 /// assert_eq!(output, "RETR a.txt\r\n");
 /// assert!(codec.encode(b"RETR a\nDELE b\r\n", &mut output).is_err());
 ///
-/// let mut input = BytesMut::from("150 Opening\r\n226 Do");
-/// assert_eq!(codec.decode(&mut input)?.map(|reply| reply.code()), Some(150));
+/// let mut input = BytesMut::from("220 Ready\r\n150 Opening\r\n226 Do");
+/// assert_eq!(codec.decode(&mut input)?.map(|reply| reply.to), Some(To::Greeting));
+/// let reply = codec.decode(&mut input)?.expect("a reply");
+/// assert_eq!((reply.to, reply.reply.code()), (To::Command(0), 150));
 /// assert_eq!(codec.decode(&mut input)?, None);
 /// # Ok::<(), unftp_control::CodecError>(())
 /// ```
 #[derive(Clone, Debug)]
 pub struct FtpClientCodec {
     search: Search,
+    dialogue: Dialogue,
 }
 
 impl FtpClientCodec {
@@ -130,7 +138,25 @@ impl FtpClientCodec {
 
     /// The same with another limit; 0 is none.
     pub fn with_limit(limit: usize) -> FtpClientCodec {
-        FtpClientCodec { search: Search::new(limit) }
+        FtpClientCodec { search: Search::new(limit), dialogue: Dialogue::default() }
+    }
+
+    /// How many commands are owed their final reply.
+    pub fn owed(&self) -> u64 {
+        self.dialogue.owed()
+    }
+
+    /// Whether TLS may begin, where these bytes are in the read buffer: the last reply was a 234 to
+    /// the last command, which asks for TLS, and no byte is pending (RFC 4217, section 4).
+    pub fn tls_agreed(&self, read_buffer: &[u8]) -> bool {
+        self.dialogue.may_begin_tls(read_buffer.len())
+    }
+
+    /// Appends a line, and notes that it is sent.
+    fn append(&mut self, line: &[u8], dst: &mut BytesMut) -> Result<(), CodecError> {
+        self.dialogue.line(line)?;
+        dst.extend_from_slice(line);
+        Ok(())
     }
 }
 
@@ -141,15 +167,15 @@ impl Default for FtpClientCodec {
 }
 
 impl Decoder for FtpClientCodec {
-    type Item = ReceivedReply<'static>;
+    type Item = ClientReply<'static>;
     type Error = CodecError;
 
     fn decode(&mut self, src: &mut BytesMut) -> Result<Option<Self::Item>, CodecError> {
-        let reply = self.search.find(src)?.map(ReceivedReply::into_owned);
-        if let Some(reply) = &reply {
-            src.advance(reply.bytes().len());
-        }
-        Ok(reply)
+        let Some(reply) = self.search.find(src)?.map(ReceivedReply::into_owned) else {
+            return Ok(None);
+        };
+        src.advance(reply.bytes().len());
+        Ok(Some(self.dialogue.reply(reply)))
     }
 
     fn decode_eof(&mut self, src: &mut BytesMut) -> Result<Option<Self::Item>, CodecError> {
@@ -164,8 +190,31 @@ impl Encoder<&[u8]> for FtpClientCodec {
     type Error = CodecError;
 
     fn encode(&mut self, line: &[u8], dst: &mut BytesMut) -> Result<(), CodecError> {
-        dst.extend_from_slice(&forward(line)?);
-        Ok(())
+        self.append(&forward(line)?, dst)
+    }
+}
+
+impl<const N: usize> Encoder<&[u8; N]> for FtpClientCodec {
+    type Error = CodecError;
+
+    fn encode(&mut self, line: &[u8; N], dst: &mut BytesMut) -> Result<(), CodecError> {
+        self.append(&forward(line)?, dst)
+    }
+}
+
+impl Encoder<Vec<u8>> for FtpClientCodec {
+    type Error = CodecError;
+
+    fn encode(&mut self, line: Vec<u8>, dst: &mut BytesMut) -> Result<(), CodecError> {
+        self.append(&forward(&line)?, dst)
+    }
+}
+
+impl Encoder<Command<'_>> for FtpClientCodec {
+    type Error = CodecError;
+
+    fn encode(&mut self, command: Command<'_>, dst: &mut BytesMut) -> Result<(), CodecError> {
+        self.append(&command.to_line()?, dst)
     }
 }
 

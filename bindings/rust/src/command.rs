@@ -1,8 +1,12 @@
 use crate::bytes::{Password, RawBytes};
+use crate::error::Error;
+use crate::event::{Event, Line};
+use crate::log;
 use crate::parameters::{AuthParam, ModeParam, Opt, ProtParam, StruParam};
+use crate::pending::Pending;
 use crate::shown;
 use std::borrow::Cow;
-use std::fmt::{self, Debug, Formatter};
+use std::fmt::{self, Debug, Display, Formatter};
 use std::str;
 
 /// A command that a client sends on the control connection. Its texts and bytes are borrowed from
@@ -213,63 +217,63 @@ pub enum Command<'a> {
     },
 }
 
-/// Gives a macro each command, after its other arguments: its number in the header, its variant, what
-/// makes its fields of a name and a value, and these fields.
+/// Gives a macro each command, after its other arguments: its number in the header, its variant, its
+/// verb, what makes its fields of a name and a value, and these fields.
 macro_rules! for_each_command {
     ($call:ident!($($argument:expr),*)) => {
         $call! {
             $($argument,)*
-            1 User bytes { username }
-            2 Pass password { password }
-            3 Acct bytes { account }
-            4 Syst nothing {}
-            5 Stat optional_bytes { path }
-            6 Type nothing {}
-            7 Stru structure { structure }
-            8 Mode mode { mode }
-            9 Help nothing {}
-            10 Noop nothing {}
-            11 Pasv nothing {}
-            12 Epsv nothing {}
-            13 Port text { addr }
-            14 Retr text { path }
-            15 Stor text { path }
-            16 Appe text { path }
-            17 List listing { options, path }
-            18 Nlst optional_text { path }
-            19 Mlst optional_text { path }
-            20 Mlsd optional_text { path }
-            21 Feat nothing {}
-            22 Pwd nothing {}
-            23 Cwd text { path }
-            24 Cdup nothing {}
-            25 Opts option { option }
-            26 Dele text { path }
-            27 Rmd text { path }
-            28 Quit nothing {}
-            29 Mkd text { path }
-            30 Allo nothing {}
-            31 Abor nothing {}
-            32 Stou nothing {}
-            33 Rnfr text { file }
-            34 Rnto text { file }
-            35 Auth mechanism { protocol }
-            36 Ccc nothing {}
-            37 Pbsz nothing {}
-            38 Prot protection { param }
-            39 Size text { file }
-            40 Rest offset { offset }
-            41 Mdtm text { file }
-            42 Md5 text { file }
-            43 Site named { command, arguments }
-            44 Other named { command_name, arguments }
+            1 User "USER" bytes { username }
+            2 Pass "PASS" password { password }
+            3 Acct "ACCT" bytes { account }
+            4 Syst "SYST" nothing {}
+            5 Stat "STAT" optional_bytes { path }
+            6 Type "TYPE" nothing {}
+            7 Stru "STRU" structure { structure }
+            8 Mode "MODE" mode { mode }
+            9 Help "HELP" nothing {}
+            10 Noop "NOOP" nothing {}
+            11 Pasv "PASV" nothing {}
+            12 Epsv "EPSV" nothing {}
+            13 Port "PORT" text { addr }
+            14 Retr "RETR" text { path }
+            15 Stor "STOR" text { path }
+            16 Appe "APPE" text { path }
+            17 List "LIST" listing { options, path }
+            18 Nlst "NLST" optional_text { path }
+            19 Mlst "MLST" optional_text { path }
+            20 Mlsd "MLSD" optional_text { path }
+            21 Feat "FEAT" nothing {}
+            22 Pwd "PWD" nothing {}
+            23 Cwd "CWD" text { path }
+            24 Cdup "CDUP" nothing {}
+            25 Opts "OPTS" option { option }
+            26 Dele "DELE" text { path }
+            27 Rmd "RMD" text { path }
+            28 Quit "QUIT" nothing {}
+            29 Mkd "MKD" text { path }
+            30 Allo "ALLO" nothing {}
+            31 Abor "ABOR" nothing {}
+            32 Stou "STOU" nothing {}
+            33 Rnfr "RNFR" text { file }
+            34 Rnto "RNTO" text { file }
+            35 Auth "AUTH" mechanism { protocol }
+            36 Ccc "CCC" nothing {}
+            37 Pbsz "PBSZ" nothing {}
+            38 Prot "PROT" protection { param }
+            39 Size "SIZE" text { file }
+            40 Rest "REST" offset { offset }
+            41 Mdtm "MDTM" text { file }
+            42 Md5 "SITE" text { file }
+            43 Site "SITE" named { command, arguments }
+            44 Other "" named { command_name, arguments }
         }
     };
 }
 
 /// Makes the command of the same variant and fields that owns them.
 macro_rules! owned {
-    ($command:expr, $($number:literal $variant:ident $makes:ident { $($field:ident),* })*) => {
+    ($command:expr, $($number:literal $variant:ident $verb:literal $makes:ident { $($field:ident),* })*) => {
         match $command {
             $(Command::$variant { $($field),* } => Command::$variant {
                 $($field: $field.into_owned_field()),*
@@ -278,9 +282,50 @@ macro_rules! owned {
     };
 }
 
+/// The number of a command.
+macro_rules! number {
+    ($command:expr, $($number:literal $variant:ident $verb:literal $makes:ident $fields:tt)*) => {
+        match $command {
+            $(Command::$variant { .. } => $number,)*
+        }
+    };
+}
+
+/// The verb of a command, where that is not a field of it.
+macro_rules! verb {
+    ($command:expr, $($number:literal $variant:ident $verb:literal $makes:ident $fields:tt)*) => {
+        match $command {
+            $(Command::$variant { .. } => $verb,)*
+        }
+    };
+}
+
+/// The value of a command, as its line has it.
+macro_rules! value {
+    ($command:expr, $($number:literal $variant:ident $verb:literal $makes:ident { $($field:ident),* })*) => {
+        match $command {
+            $(Command::$variant { $($field),* } => last_of!($($field),*),)*
+        }
+    };
+}
+
+/// The value of the last field: none, where there is no field.
+macro_rules! last_of {
+    () => {
+        None
+    };
+    ($field:ident) => {
+        $field.value()
+    };
+    ($first:ident, $field:ident) => {{
+        let _ = $first;
+        $field.value()
+    }};
+}
+
 /// Writes the variant and its fields, as a derived `Debug` does.
 macro_rules! debug {
-    ($command:expr, $f:expr, $($number:literal $variant:ident $makes:ident { $($field:ident),* })*) => {
+    ($command:expr, $f:expr, $($number:literal $variant:ident $verb:literal $makes:ident { $($field:ident),* })*) => {
         match $command {
             $(Command::$variant { $($field),* } => {
                 $f.debug_struct(stringify!($variant))$(.field(stringify!($field), $field))*.finish()
@@ -294,6 +339,97 @@ impl Command<'_> {
     #[inline]
     pub fn into_owned(self) -> Command<'static> {
         for_each_command!(owned!(self))
+    }
+
+    /// Its verb, in upper case: SITE also of `Md5`, and of `Other` its own, which may be empty.
+    pub fn verb(&self) -> &str {
+        match self {
+            Command::Other { command_name, .. } => command_name,
+            command => for_each_command!(verb!(command)),
+        }
+    }
+
+    /// Its number in the header.
+    pub(crate) fn number(&self) -> u32 {
+        for_each_command!(number!(self))
+    }
+
+    /// Its canonical line, with its CR LF: one that is read as exactly this command (RFC 959,
+    /// section 5.3). A carriage return in a value is written as CR NUL. Before a path of LIST that
+    /// begins with a dash it has `--`.
+    ///
+    /// ```
+    /// use unftp_control::{Command, Error};
+    ///
+    /// assert_eq!(Command::Retr { path: "a b".into() }.to_line()?, b"RETR a b\r\n");
+    /// let two_lines = Command::Retr { path: "a\r\nDELE b".into() };
+    /// assert_eq!(two_lines.to_line(), Err(Error::NoLine));
+    /// # Ok::<(), Error>(())
+    /// ```
+    ///
+    /// # Errors
+    ///
+    /// [`Error::NoLine`] where no line is read as this command, as where a value has a line feed or
+    /// a path is empty; and [`Error::OutOfMemory`].
+    pub fn to_line(&self) -> Result<Vec<u8>, Error> {
+        let line = self.composed();
+        let mut pending = Pending::with_limit(0);
+        pending.push(&line)?;
+        let is_read_back = match pending.next_line()? {
+            Some(Line { event: Event::Command(command), bytes }) => {
+                command == *self && bytes.len() == line.len()
+            }
+            _ => false,
+        };
+        is_read_back.then_some(line).ok_or(Error::NoLine)
+    }
+
+    /// The line that it has, if it has one.
+    fn composed(&self) -> Vec<u8> {
+        let words: [&[u8]; 2] = match self {
+            Command::Md5 { .. } => [b"SITE", b"MD5"],
+            Command::Site { command, .. } => [b"SITE", command.as_bytes()],
+            command => [command.verb().as_bytes(), b""],
+        };
+        let mut line = words[0].to_vec();
+        let value = match self {
+            Command::Type => Some(Cow::Borrowed(&b"I"[..])),
+            Command::Allo | Command::Pbsz => Some(Cow::Borrowed(&b"0"[..])),
+            command => for_each_command!(value!(command)),
+        };
+        let value = value.filter(|value| !value.is_empty());
+        if !words[1].is_empty() || (words[0] == b"SITE" && value.is_some()) {
+            line.push(b' ');
+            line.extend_from_slice(words[1]);
+        }
+        if let Some(value) = value {
+            line.push(b' ');
+            if matches!(self, Command::List { .. }) && value.first() == Some(&b'-') {
+                line.extend_from_slice(b"-- ");
+            }
+            for byte in value.iter() {
+                line.push(*byte);
+                if *byte == b'\r' {
+                    line.push(0);
+                }
+            }
+        }
+        line.extend_from_slice(b"\r\n");
+        line
+    }
+}
+
+/// What a log shows of it, as [`log_line`](crate::log_line): no password and no account. Of one that
+/// no line gives, only the verb.
+impl Display for Command<'_> {
+    fn fmt(&self, f: &mut Formatter<'_>) -> fmt::Result {
+        let line = self.to_line().or_else(|error| match (error, self) {
+            (Error::NoLine, Command::Other { .. }) => Ok(b"\r\n".to_vec()),
+            (Error::NoLine, command) => Ok(format!("{}\r\n", command.verb()).into_bytes()),
+            (error, _) => Err(error),
+        });
+        let text = line.and_then(|line| log::shown(self.number(), &line));
+        f.write_str(&text.map_err(|_| fmt::Error)?)
     }
 }
 
@@ -321,10 +457,13 @@ trait Field {
     type Owned;
 
     fn into_owned_field(self) -> Self::Owned;
+
+    /// Its bytes in a line.
+    fn value(&self) -> Option<Cow<'_, [u8]>>;
 }
 
 macro_rules! fields {
-    ($($field:ty => $owned:ty, $this:ident: $value:expr;)*) => {
+    ($($field:ty => $owned:ty, $this:ident: $value:expr, $bytes:expr;)*) => {
         $(impl Field for $field {
             type Owned = $owned;
 
@@ -332,20 +471,25 @@ macro_rules! fields {
                 let $this = self;
                 $value
             }
+
+            fn value(&self) -> Option<Cow<'_, [u8]>> {
+                let $this = self;
+                Some(Cow::from($bytes))
+            }
         })*
     };
 }
 
 fields! {
-    RawBytes<'_> => RawBytes<'static>, bytes: bytes.into_owned();
-    Password<'_> => Password<'static>, password: password.into_owned();
-    Cow<'_, str> => Cow<'static, str>, text: Cow::Owned(text.into_owned());
-    StruParam => StruParam, param: param;
-    ModeParam => ModeParam, param: param;
-    AuthParam => AuthParam, param: param;
-    ProtParam => ProtParam, param: param;
-    Opt => Opt, option: option;
-    u64 => u64, offset: offset;
+    RawBytes<'_> => RawBytes<'static>, bytes: bytes.into_owned(), &bytes[..];
+    Password<'_> => Password<'static>, password: password.into_owned(), password.as_bytes();
+    Cow<'_, str> => Cow<'static, str>, text: Cow::Owned(text.into_owned()), text.as_bytes();
+    StruParam => StruParam, param: param, structure_letter(*param);
+    ModeParam => ModeParam, param: param, mode_letter(*param);
+    AuthParam => AuthParam, param: param, mechanism_word(*param);
+    ProtParam => ProtParam, param: param, protection_letter(*param);
+    Opt => Opt, option: option, setting(*option);
+    u64 => u64, offset: offset, offset.to_string().into_bytes();
 }
 
 impl<F: Field> Field for Option<F> {
@@ -353,6 +497,10 @@ impl<F: Field> Field for Option<F> {
 
     fn into_owned_field(self) -> Option<F::Owned> {
         self.map(F::into_owned_field)
+    }
+
+    fn value(&self) -> Option<Cow<'_, [u8]>> {
+        self.as_ref()?.value()
     }
 }
 
@@ -363,6 +511,24 @@ macro_rules! never {
             "{}: `Leaves` of unftp_next gives what `name_and_value` does",
             format_args!($($clause)*)
         )
+    };
+}
+
+/// Both ways between the words of a line and a parameter that names one of a few choices.
+macro_rules! choices {
+    ($($reads:ident $writes:ident $param:ident: $($word:literal $choice:pat => $value:expr),*;)*) => {
+        $(fn $writes(param: $param) -> &'static [u8] {
+            match param {
+                $($choice => $word,)*
+            }
+        }
+
+        fn $reads(value: &[u8]) -> $param {
+            match value {
+                $($word => $value,)*
+                _ => never!("the value of {} is one of its words", stringify!($param)),
+            }
+        })*
     };
 }
 
@@ -385,7 +551,7 @@ macro_rules! made {
 /// Makes the command of a number, a name and a value.
 macro_rules! of_line {
     ($given:expr, $name:expr, $value:expr,
-        $($number:literal $variant:ident $makes:ident { $($field:ident),* })*) => {
+        $($number:literal $variant:ident $verb:literal $makes:ident { $($field:ident),* })*) => {
         match $given {
             $($number => made!($name, $value, $variant $makes { $($field),* }),)*
             number => never!("{number} is no `command_number`"),
@@ -430,48 +596,26 @@ fn text(value: &[u8]) -> Cow<'_, str> {
     }
 }
 
-fn structure(value: &[u8]) -> StruParam {
-    match value {
-        b"F" => StruParam::File,
-        b"R" => StruParam::Record,
-        b"P" => StruParam::Page,
-        _ => never!("`structure_letter` is F, R or P"),
-    }
-}
-
-fn mode(value: &[u8]) -> ModeParam {
-    match value {
-        b"S" => ModeParam::Stream,
-        b"B" => ModeParam::Block,
-        b"C" => ModeParam::Compressed,
-        _ => never!("`mode_letter` is S, B or C"),
-    }
-}
-
-fn option(value: &[u8]) -> Opt {
-    match value {
-        b"UTF8 ON" => Opt::Utf8 { on: true },
-        b"UTF8 OFF" => Opt::Utf8 { on: false },
-        _ => never!("`setting` is UTF8 ON or UTF8 OFF"),
-    }
-}
-
-fn mechanism(value: &[u8]) -> AuthParam {
-    match value {
-        b"SSL" => AuthParam::Ssl,
-        b"TLS" => AuthParam::Tls,
-        _ => never!("`mechanism` is SSL or TLS"),
-    }
-}
-
-fn protection(value: &[u8]) -> ProtParam {
-    match value {
-        b"C" => ProtParam::Clear,
-        b"S" => ProtParam::Safe,
-        b"E" => ProtParam::Confidential,
-        b"P" => ProtParam::Private,
-        _ => never!("`protection_letter` is C, S, E or P"),
-    }
+choices! {
+    structure structure_letter StruParam:
+        b"F" StruParam::File => StruParam::File,
+        b"R" StruParam::Record => StruParam::Record,
+        b"P" StruParam::Page => StruParam::Page;
+    mode mode_letter ModeParam:
+        b"S" ModeParam::Stream => ModeParam::Stream,
+        b"B" ModeParam::Block => ModeParam::Block,
+        b"C" ModeParam::Compressed => ModeParam::Compressed;
+    option setting Opt:
+        b"UTF8 ON" Opt::Utf8 { on: true } => Opt::Utf8 { on: true },
+        b"UTF8 OFF" Opt::Utf8 { on: false } => Opt::Utf8 { on: false };
+    mechanism mechanism_word AuthParam:
+        b"SSL" AuthParam::Ssl => AuthParam::Ssl,
+        b"TLS" AuthParam::Tls => AuthParam::Tls;
+    protection protection_letter ProtParam:
+        b"C" ProtParam::Clear => ProtParam::Clear,
+        b"S" ProtParam::Safe => ProtParam::Safe,
+        b"E" ProtParam::Confidential => ProtParam::Confidential,
+        b"P" ProtParam::Private => ProtParam::Private;
 }
 
 fn offset(value: &[u8]) -> u64 {

@@ -19,6 +19,8 @@ pub enum Error {
     MalformedReply,
     /// The first reply of what a server sent has more bytes than the limit.
     ReplyTooLong,
+    /// As many lines were sent as 64 bits count.
+    TooManyCommands,
 }
 
 impl Error {
@@ -47,6 +49,7 @@ impl Display for Error {
             Error::NotALine => f.write_str("not one line"),
             Error::MalformedReply => f.write_str("malformed reply"),
             Error::ReplyTooLong => f.write_str("reply too long"),
+            Error::TooManyCommands => f.write_str("too many commands"),
         }
     }
 }

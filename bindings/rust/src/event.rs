@@ -13,6 +13,14 @@ pub enum Event<'a> {
 }
 
 impl Event<'_> {
+    /// What `unftp_next` returned for it.
+    pub(crate) fn number(&self) -> u32 {
+        match self {
+            Event::Command(command) => command.number(),
+            Event::Refused(refusal) => refusal.number(),
+        }
+    }
+
     /// The same event, whose texts and bytes are copied where they are borrowed.
     #[inline]
     pub fn into_owned(self) -> Event<'static> {
@@ -58,6 +66,15 @@ pub enum Refusal {
 }
 
 impl Refusal {
+    fn number(self) -> u32 {
+        match self {
+            Refusal::InvalidCommand => ffi::INVALID_COMMAND,
+            Refusal::InvalidUtf8 => ffi::INVALID_UTF8,
+            Refusal::InvalidEol => ffi::INVALID_EOL,
+            Refusal::LineTooLong => ffi::LINE_TOO_LONG,
+        }
+    }
+
     pub(crate) fn of_status(status: u32) -> Option<Refusal> {
         Some(match status {
             ffi::INVALID_COMMAND => Refusal::InvalidCommand,

@@ -24,6 +24,19 @@ pub(crate) const OUT_OF_MEMORY: u32 = 106;
 pub(crate) const NO_ROOM: u32 = 107;
 pub(crate) const NO_LINE: u32 = 108;
 pub(crate) const MALFORMED: u32 = 109;
+pub(crate) const INVALID_ARGUMENT: u32 = 111;
+
+/// What `unftp_client_reply` returns.
+pub(crate) const TO_GREETING: u32 = 0;
+pub(crate) const TO_COMMAND: u32 = 1;
+pub(crate) const TO_NOTHING: u32 = 2;
+
+/// What `unftp_login_event` returns.
+pub(crate) const LOGIN_PASS_ON: u32 = 0;
+pub(crate) const LOGIN_NEED_PASSWORD: u32 = 1;
+pub(crate) const LOGIN_ASK_ACCOUNTS: u32 = 2;
+pub(crate) const LOGIN_NEED_NAME: u32 = 3;
+pub(crate) const LOGIN_NEED_LOGIN: u32 = 4;
 
 /// `struct unftp_connection`.
 #[repr(C)]
@@ -49,6 +62,25 @@ pub(crate) struct Line {
 pub(crate) struct FoundReply {
     pub(crate) used: usize,
     pub(crate) code: u32,
+}
+
+/// `struct unftp_client`.
+#[repr(C)]
+#[derive(Clone, Debug, Default)]
+pub(crate) struct Client {
+    pub(crate) sent: u64,
+    pub(crate) answered: u64,
+    pub(crate) asked: u64,
+    pub(crate) greeted: u32,
+    pub(crate) asks: u32,
+    pub(crate) agreed: u32,
+}
+
+/// `struct unftp_login`.
+#[repr(C)]
+#[derive(Clone, Debug, Default)]
+pub(crate) struct Login {
+    pub(crate) stage: u32,
 }
 
 extern "C" {
@@ -87,6 +119,32 @@ extern "C" {
         out_room: usize,
         len: *mut usize,
     ) -> u32;
+
+    fn unftp_log_line(
+        number: u32,
+        line: *const u8,
+        line_len: usize,
+        out: *mut u8,
+        out_room: usize,
+        len: *mut usize,
+    ) -> u32;
+
+    fn unftp_client_line(
+        client: *mut Client,
+        line: *const u8,
+        line_len: usize,
+        place: *mut u64,
+    ) -> u32;
+
+    fn unftp_client_reply(client: *mut Client, code: u32, place: *mut u64) -> u32;
+
+    fn unftp_client_owed(client: *const Client) -> u64;
+
+    fn unftp_client_may_begin_tls(client: *const Client, pending: usize) -> u32;
+
+    fn unftp_login_event(login: *mut Login, event: u32) -> u32;
+
+    fn unftp_login_answer(login: *mut Login, accepted: u32) -> u32;
 
     fn unftp_version() -> u32;
 }
@@ -168,6 +226,67 @@ pub(crate) fn forward(line: &[u8], out: &mut [u8]) -> (u32, usize) {
     let status =
         unsafe { unftp_forward(line.as_ptr(), line.len(), out.as_mut_ptr(), out.len(), &mut len) };
     (status, len)
+}
+
+/// Calls `unftp_log_line`: what it returns, and the length.
+pub(crate) fn log_line(number: u32, line: &[u8], out: &mut [u8]) -> (u32, usize) {
+    check_version();
+    let mut len = 0;
+    // SAFETY: no pointer is null, since each is of a reference, and each length is that of the
+    // slice beside it. Nothing overlaps: `out` is mutably borrowed, and `len` is a variable here.
+    let status = unsafe {
+        unftp_log_line(number, line.as_ptr(), line.len(), out.as_mut_ptr(), out.len(), &mut len)
+    };
+    (status, len)
+}
+
+/// Calls `unftp_client_line`: what it returns, and the place.
+pub(crate) fn client_line(client: &mut Client, line: &[u8]) -> (u32, u64) {
+    check_version();
+    let mut place = 0;
+    // SAFETY: no pointer is null, since each is of a reference, and the length is that of the
+    // slice. Nothing overlaps: the client is mutably borrowed, and has the header's form, and
+    // `place` is a variable of this function.
+    let status = unsafe { unftp_client_line(client, line.as_ptr(), line.len(), &mut place) };
+    (status, place)
+}
+
+/// Calls `unftp_client_reply`: what it returns, and the place.
+pub(crate) fn client_reply(client: &mut Client, code: u32) -> (u32, u64) {
+    check_version();
+    let mut place = 0;
+    // SAFETY: no pointer is null, since each is of a reference. They don't overlap: the client is
+    // mutably borrowed, and has the header's form, and `place` is a variable of this function.
+    let to = unsafe { unftp_client_reply(client, code, &mut place) };
+    (to, place)
+}
+
+/// Calls `unftp_client_owed`.
+pub(crate) fn client_owed(client: &Client) -> u64 {
+    check_version();
+    // SAFETY: the pointer is of a reference, and the struct has the header's form.
+    unsafe { unftp_client_owed(client) }
+}
+
+/// Calls `unftp_client_may_begin_tls`.
+pub(crate) fn client_may_begin_tls(client: &Client, pending: usize) -> bool {
+    check_version();
+    // SAFETY: the pointer is of a reference, and the struct has the header's form.
+    unsafe { unftp_client_may_begin_tls(client, pending) != 0 }
+}
+
+/// Calls `unftp_login_event`.
+pub(crate) fn login_event(login: &mut Login, event: u32) -> u32 {
+    check_version();
+    // SAFETY: the pointer is of a mutable reference, and the struct has the header's form.
+    unsafe { unftp_login_event(login, event) }
+}
+
+/// Calls `unftp_login_answer`.
+pub(crate) fn login_answer(login: &mut Login, accepted: bool) -> u32 {
+    check_version();
+    // SAFETY: the pointer is of a mutable reference, and the struct has the header's form.
+    unsafe { unftp_login_answer(login, u32::from(accepted)) }
 }
 
 /// Calls `unftp_version`.

@@ -64,6 +64,7 @@
 mod area;
 mod bytes;
 mod canonical;
+mod client;
 mod code;
 #[cfg(feature = "tokio-util")]
 mod codec;
@@ -75,6 +76,8 @@ mod ffi;
 #[cfg(feature = "tokio-util")]
 mod line_codec;
 mod lines;
+mod log;
+mod login;
 mod parameters;
 mod pending;
 mod received;
@@ -85,6 +88,7 @@ mod version;
 
 pub use crate::bytes::{Password, RawBytes};
 pub use canonical::{canonical, forward};
+pub use client::{Client, ClientReply, To};
 pub use code::{ReplyCode, UnknownCode};
 #[cfg(feature = "tokio-util")]
 pub use codec::{CodecError, FtpClientCodec, FtpCodec};
@@ -94,6 +98,8 @@ pub use event::{Event, Line, Refusal};
 #[cfg(feature = "tokio-util")]
 pub use line_codec::{FtpLineCodec, OwnedLine};
 pub use lines::LINE_LIMIT;
+pub use log::log_line;
+pub use login::{Login, LoginStep};
 pub use parameters::{AuthParam, ModeParam, Opt, ProtParam, StruParam};
 pub use pending::Pending;
 pub use received::ReceivedReply;

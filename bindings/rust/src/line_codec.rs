@@ -1,6 +1,7 @@
 use crate::codec::{incomplete, CodecError};
 use crate::event::{Event, Refusal};
 use crate::lines::{Lines, LINE_LIMIT};
+use crate::log::log_line;
 use crate::reply::Reply;
 use bytes::{Bytes, BytesMut};
 use std::fmt::{self, Debug, Formatter};
@@ -18,6 +19,17 @@ pub struct OwnedLine {
     ///
     /// They share the read buffer's memory until they are dropped.
     pub bytes: Bytes,
+}
+
+impl OwnedLine {
+    /// Its [`log_line`].
+    ///
+    /// # Errors
+    ///
+    /// [`Error::OutOfMemory`](crate::Error::OutOfMemory).
+    pub fn log_line(&self) -> Result<String, crate::Error> {
+        log_line(&self.event, &self.bytes)
+    }
 }
 
 /// Shows how many bytes there are and not which, since a password may be among them.

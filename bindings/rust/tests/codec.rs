@@ -12,7 +12,7 @@ use tokio::io::{AsyncRead, AsyncWriteExt, ReadBuf};
 use tokio_util::codec::{Decoder, Encoder, Framed, FramedRead};
 use unftp_control::{
     CodecError, Command, Error, Event, FtpClientCodec, FtpCodec, FtpLineCodec, Refusal, Reply,
-    ReplyCode,
+    ReplyCode, To,
 };
 
 /// A reader that gives one piece after the other, and then the end or an error.
@@ -91,7 +91,7 @@ async fn any_pieces_give_the_replies_of_the_vectors() {
             let (mut replies, mut end) = (Vec::new(), " rest=0".to_string());
             while let Some(reply) = framed.next().await {
                 match reply {
-                    Ok(reply) => replies.push(shown_reply(&reply)),
+                    Ok(reply) => replies.push(shown_reply(&reply.reply)),
                     Err(CodecError::Incomplete { left }) => end = format!(" rest={left}"),
                     Err(CodecError::Control(Error::MalformedReply)) => {
                         end = format!(" rest={} malformed", framed.read_buffer().len());
@@ -259,7 +259,7 @@ fn a_buffer_that_was_cleared_is_read_from_its_start() {
     assert_eq!(codec.decode(&mut input).unwrap(), None);
     input.clear();
     input.extend_from_slice(b"331 b\r\n");
-    assert_eq!(codec.decode(&mut input).unwrap().map(|reply| reply.code()), Some(331));
+    assert_eq!(codec.decode(&mut input).unwrap().map(|reply| reply.reply.code()), Some(331));
 }
 
 #[test]
@@ -336,9 +336,13 @@ async fn a_client_and_a_server_talk() -> Result<(), CodecError> {
     replies.push(client.next().await.expect("a reply")?);
     drop(client);
     server.await.expect("the server ends")?;
-    let codes: Vec<u16> = replies.iter().map(|reply| reply.code()).collect();
+    let codes: Vec<u16> = replies.iter().map(|reply| reply.reply.code()).collect();
     assert_eq!(codes, [220, 211, 200, 200, 500]);
-    assert!(replies[1].lines().eq([&b"Features:"[..], b" UTF8", b"End"]));
+    let to: Vec<To> = replies.iter().map(|reply| reply.to).collect();
+    assert_eq!(to[..4], [To::Greeting, To::Command(0), To::Command(1), To::Command(2)]);
+    // this line was not sent by the codec
+    assert_eq!(to[4], To::Nothing);
+    assert!(replies[1].reply.lines().eq([&b"Features:"[..], b" UTF8", b"End"]));
     Ok(())
 }
 

@@ -1,0 +1,121 @@
+use crate::bytes::RawBytes;
+use crate::code::ReplyCode;
+use crate::command::Command;
+use crate::event::Event;
+use crate::ffi;
+use crate::reply::Reply;
+use std::fmt::{self, Debug, Formatter};
+
+/// What a server that wants a login does with an event.
+#[must_use]
+#[derive(Debug, PartialEq, Eq)]
+pub enum LoginStep<'a> {
+    /// It answers the event as it would without a login.
+    PassOn,
+    /// It answers the event with this reply.
+    Answer(Reply),
+    /// It asks its accounts whether this is the password of the name, tells [`Login::answer`], and
+    /// sends the reply which that returns.
+    AskAccounts {
+        /// The name that was given.
+        name: &'a [u8],
+        /// What PASS gave.
+        password: crate::Password<'a>,
+    },
+}
+
+/// A login before a server's commands (RFC 959, section 4.1.1): which events the server may answer,
+/// and the replies to the others. What it does is proved: an event that needs a login is passed on
+/// only after one.
+///
+/// QUIT, AUTH, PBSZ, PROT, FEAT, HELP, NOOP and SYST need no login, and neither does a refused line;
+/// each other command does. USER and AUTH flush the login. After a password that is refused the
+/// client begins again with USER.
+///
+/// ```
+/// use unftp_control::{Login, LoginStep, Pending};
+///
+/// let mut login = Login::new();
+/// let mut pending = Pending::new();
+/// pending.push(b"PWD\r\nUSER anna\r\nPASS secret\r\nPWD\r\n")?;
+/// let mut codes = Vec::new();
+/// while let Some(event) = pending.next_event()? {
+///     let accepted = match login.event(&event) {
+///         LoginStep::PassOn => false,
+///         LoginStep::Answer(reply) => {
+///             codes.push(reply.code().get());
+///             continue;
+///         }
+///         LoginStep::AskAccounts { name, password } => {
+///             name == b"anna" && password.as_bytes() == b"secret"
+///         }
+///     };
+///     if accepted {
+///         codes.push(login.answer(accepted).code().get());
+///     }
+/// }
+/// assert_eq!(codes, [530, 331, 230]);
+/// assert_eq!(login.name(), Some(&b"anna"[..]));
+/// # Ok::<(), unftp_control::Error>(())
+/// ```
+#[derive(Clone, Default)]
+pub struct Login {
+    login: ffi::Login,
+    /// The last name that was given.
+    name: RawBytes<'static>,
+}
+
+impl Login {
+    /// Nobody has logged in.
+    pub fn new() -> Login {
+        Login::default()
+    }
+
+    /// Takes an event, and returns what is done with it.
+    pub fn event<'a>(&'a mut self, event: &'a Event<'_>) -> LoginStep<'a> {
+        if let Event::Command(Command::User { username }) = event {
+            self.name = username.clone().into_owned();
+        }
+        match (ffi::login_event(&mut self.login, event.number()), event) {
+            (ffi::LOGIN_PASS_ON, _) => LoginStep::PassOn,
+            (ffi::LOGIN_ASK_ACCOUNTS, Event::Command(Command::Pass { password })) => {
+                LoginStep::AskAccounts { name: &self.name, password: password.as_bytes().into() }
+            }
+            (ffi::LOGIN_NEED_PASSWORD, _) => {
+                answer(ReplyCode::NEED_PASSWORD, "User name okay, need password")
+            }
+            (ffi::LOGIN_NEED_NAME, _) => answer(ReplyCode::BAD_COMMAND_SEQUENCE, "Send USER first"),
+            (ffi::LOGIN_NEED_LOGIN, _) => {
+                answer(ReplyCode::NOT_LOGGED_IN, "Log in with USER and PASS")
+            }
+            (step, _) => unreachable!("`step_number` of unftp_login_event gives no {step}"),
+        }
+    }
+
+    /// Takes what the accounts say of a password, before the next event, and returns the reply to
+    /// PASS: 230 or 530. Where the last event didn't ask for it, nobody is logged in by this, and
+    /// the reply is 503.
+    pub fn answer(&mut self, accepted: bool) -> Reply {
+        match (ffi::login_answer(&mut self.login, accepted), accepted) {
+            (ffi::DONE, true) => Reply::new(ReplyCode::USER_LOGGED_IN, "User logged in, proceed"),
+            (ffi::DONE, false) => Reply::new(ReplyCode::NOT_LOGGED_IN, "Login incorrect"),
+            _ => Reply::new(ReplyCode::BAD_COMMAND_SEQUENCE, "Send USER first"),
+        }
+    }
+
+    /// The name of who is logged in.
+    pub fn name(&self) -> Option<&[u8]> {
+        (self.login.stage == 2).then_some(&*self.name)
+    }
+}
+
+/// Shows how far the login has come.
+impl Debug for Login {
+    fn fmt(&self, f: &mut Formatter<'_>) -> fmt::Result {
+        f.debug_struct("Login").field("logged_in", &self.name().is_some()).finish_non_exhaustive()
+    }
+}
+
+fn answer(code: ReplyCode, text: &'static str) -> LoginStep<'static> {
+    LoginStep::Answer(Reply::new(code, text))
+}

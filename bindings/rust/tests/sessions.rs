@@ -1,0 +1,249 @@
+//! What a log, a client and a login do, beside what the library in Rattle does: the rows of
+//! `vectors/`.
+mod common;
+
+use common::{bytes, calls, limit, rows, shown_decoded};
+use unftp_control::{
+    canonical, log_line, Client, Command, Error, Event, Login, LoginStep, Pending, To,
+};
+
+#[test]
+fn each_line_has_its_log_line() {
+    for (words, answer) in calls("worked.tsv", &["log"]) {
+        let mut pending = Pending::with_limit(limit(&words[0]));
+        pending.push(&bytes(&words[1])).expect("memory is there");
+        let line = pending.next_line().expect("memory is there").expect("a line");
+        let logged = line.log_line().expect("memory is there");
+        assert_eq!(logged.as_bytes(), bytes(&answer), "{words:?}");
+    }
+}
+
+#[test]
+fn a_command_is_shown_as_its_log_line() {
+    let mut compared = 0;
+    for file in ["parse.tsv", "client_lines.tsv"] {
+        for (words, _) in calls(file, &["parse"]) {
+            let Ok(written) = canonical(&bytes(&words[0])) else { continue };
+            let mut pending = Pending::with_limit(0);
+            pending.push(&written).expect("memory is there");
+            let line = pending.next_line().expect("memory is there").expect("a line");
+            let Event::Command(command) = &line.event else { panic!("{words:?}") };
+            assert_eq!(command.to_string(), line.log_line().expect("memory is there"));
+            compared += 1;
+        }
+    }
+    assert!(compared > 1000, "{compared} commands");
+}
+
+/// The command of this variant and these fields, of those that the rows write.
+fn command<'a>(variant: &str, fields: &'a [Option<Vec<u8>>]) -> Command<'a> {
+    let text = |at: usize| {
+        let field: Option<&'a Vec<u8>> = fields[at].as_ref();
+        field.map(|bytes| std::str::from_utf8(bytes).expect("a text").into())
+    };
+    let some = |at: usize| text(at).expect("a field");
+    match variant {
+        "User" => Command::User { username: fields[0].as_ref().expect("a field").into() },
+        "Stat" => Command::Stat { path: fields[0].as_ref().map(Into::into) },
+        "Retr" => Command::Retr { path: some(0) },
+        "Md5" => Command::Md5 { file: some(0) },
+        "Nlst" => Command::Nlst { path: text(0) },
+        "List" => Command::List { options: text(0), path: text(1) },
+        "Site" => Command::Site { command: some(0), arguments: some(1) },
+        "Other" => Command::Other { command_name: some(0), arguments: some(1) },
+        _ => panic!("no field of {variant} is read here"),
+    }
+}
+
+#[test]
+fn each_command_has_its_line_or_none() {
+    for (words, answer) in calls("worked.tsv", &["write"]) {
+        let field = |word: &String| (word != "none").then(|| bytes(word));
+        let fields: Vec<Option<Vec<u8>>> = words[1..].iter().map(field).collect();
+        match command(&words[0], &fields).to_line() {
+            Ok(line) => assert_eq!(line, bytes(&answer), "{words:?}"),
+            Err(error) => assert_eq!((error, answer.as_str()), (Error::NoLine, "no-line")),
+        }
+    }
+}
+
+#[test]
+fn each_command_has_its_canonical_line() {
+    for file in ["parse.tsv", "client_lines.tsv", "worked.tsv"] {
+        for (words, _) in calls(file, &["parse"]) {
+            let line = bytes(&words[0]);
+            if !common::cases::is_one_line(&line) {
+                continue;
+            }
+            let mut pending = Pending::with_limit(0);
+            pending.push(&line).expect("memory is there");
+            if let Some(Event::Command(command)) = pending.next_event().expect("memory is there") {
+                assert_eq!(command.to_line(), canonical(&line), "{words:?}");
+            }
+        }
+    }
+}
+
+/// Sends the line of a command as the command itself, or a line as it is.
+fn send(client: &mut Client, act: &str, line: &[u8]) -> Result<u64, Error> {
+    let mut output = Vec::new();
+    if act == "send" {
+        let place = client.send_line(line, &mut output)?;
+        assert_eq!(output, line);
+        return Ok(place);
+    }
+    let mut pending = Pending::with_limit(0);
+    pending.push(line)?;
+    match pending.next_event()? {
+        Some(Event::Command(command)) => client.send(&command, &mut output),
+        other => panic!("{other:?} is no command"),
+    }
+}
+
+/// Takes all complete replies.
+fn take_replies(client: &mut Client, parts: &mut Vec<String>) {
+    loop {
+        match client.next_reply() {
+            Ok(Some(taken)) => {
+                let code = taken.reply.code();
+                parts.push(match taken.to {
+                    To::Greeting => format!("greeting {code:03}"),
+                    To::Command(place) => format!("{place} {code:03}"),
+                    To::Nothing => format!("nothing {code:03}"),
+                });
+            }
+            Ok(None) => return,
+            Err(error) => {
+                let is_long = error == Error::ReplyTooLong;
+                parts.push(if is_long { "too-long" } else { "malformed" }.to_string());
+                return;
+            }
+        }
+    }
+}
+
+#[test]
+fn each_reply_is_to_its_command() {
+    let mut replies = 0;
+    for file in ["connections.tsv", "worked.tsv"] {
+        for (words, answer) in calls(file, &["client"]) {
+            let mut client = Client::with_limit(limit(&words[0]));
+            let mut parts = Vec::new();
+            let mut acts = words[1..].iter();
+            while let Some(act) = acts.next() {
+                if act == "send" || act == "command" {
+                    let line = bytes(acts.next().expect("a line"));
+                    if send(&mut client, act, &line).is_err() {
+                        parts.push("not sent".to_string());
+                    }
+                    continue;
+                }
+                client.receive(&bytes(act)).expect("memory is there");
+                take_replies(&mut client, &mut parts);
+            }
+            let tls = if client.tls_agreed() { " tls" } else { "" };
+            let left = client.bytes().len();
+            parts.push(format!("owed={} left={left}{tls}", client.owed()));
+            assert_eq!(parts.join(" | "), answer, "{words:?}");
+            replies += parts.len();
+        }
+    }
+    assert!(replies > 5000, "{replies} replies");
+}
+
+/// The accounts of `login_demo`.
+const ACCOUNTS: [(&[u8], &[u8]); 2] = [(b"anna", b"secret"), (b"ben", b"other")];
+
+/// The codes of the replies that a login gives to events, and a dash for each that it passes on.
+fn answers(input: &[u8]) -> Vec<String> {
+    let (mut login, mut pending) = (Login::new(), Pending::new());
+    pending.push(input).expect("memory is there");
+    let mut answers = Vec::new();
+    while let Some(event) = pending.next_event().expect("memory is there") {
+        let is_last = matches!(event, Event::Command(Command::Quit));
+        answers.push(match login.event(&event) {
+            LoginStep::PassOn => "-".to_string(),
+            LoginStep::Answer(reply) => reply.code().get().to_string(),
+            LoginStep::AskAccounts { name, password } => {
+                let is_known = ACCOUNTS.contains(&(name, password.as_bytes()));
+                login.answer(is_known).code().get().to_string()
+            }
+        });
+        if is_last {
+            break;
+        }
+    }
+    answers
+}
+
+/// The codes of the replies in an output, the greeting left out.
+fn codes(output: &[u8]) -> Vec<String> {
+    let mut decoder = unftp_control::ReplyDecoder::new();
+    decoder.push(output).expect("memory is there");
+    let mut codes = Vec::new();
+    while let Some(reply) = decoder.next_reply().expect("they are replies") {
+        codes.push(reply.code().to_string());
+    }
+    codes.split_off(1)
+}
+
+/// `login_demo` has the gate of the library in Rattle, so each reply of the login is one of its own.
+#[test]
+fn a_login_answers_as_a_gate_does() {
+    let mut compared = 0;
+    for mut row in rows("programs.tsv") {
+        let output = row.pop().expect("an output");
+        if row[1] != "login_demo" || !output.starts_with('"') {
+            continue;
+        }
+        let input: Vec<u8> = row[2..].iter().flat_map(|word| bytes(word)).collect();
+        let codes = codes(&bytes(&output));
+        let answers = answers(&input);
+        if codes.len() != answers.len() || codes.iter().any(|code| code == "421") {
+            // the handler has replies of several parts, or the limit has ended the session
+            continue;
+        }
+        for (code, answer) in codes.iter().zip(&answers) {
+            assert!(answer == "-" && code != "530" || answer == code, "{row:?}: {code} {answer}");
+            compared += 1;
+        }
+    }
+    assert!(compared > 50, "{compared} replies");
+}
+
+#[test]
+fn an_answer_that_was_not_asked_for_logs_nobody_in() {
+    let mut login = Login::new();
+    assert_eq!(login.answer(true).code().get(), 503);
+    assert_eq!(login.name(), None);
+    let user = Event::Command(Command::User { username: b"anna".into() });
+    let pass = Event::Command(Command::Pass { password: b"secret".into() });
+    assert!(matches!(login.event(&user), LoginStep::Answer(_)));
+    assert!(matches!(login.event(&pass), LoginStep::AskAccounts { .. }));
+    // the next event comes before the answer, which is then too late
+    assert_eq!(login.event(&Event::Command(Command::Noop)), LoginStep::PassOn);
+    assert_eq!(login.answer(true).code().get(), 503);
+    assert_eq!(login.name(), None);
+}
+
+#[test]
+fn nothing_shows_a_password() {
+    let mut pending = Pending::new();
+    pending.push(b"USER anna\r\nPASS s3cret\r\n").expect("memory is there");
+    let mut login = Login::new();
+    let mut shown = String::new();
+    while let Some(event) = pending.next_event().expect("memory is there") {
+        shown += &format!("{event:?} {:?}", login.event(&event));
+        shown += &format!("{login:?} {}", shown_decoded(&event).len());
+        if let Event::Command(command) = &event {
+            shown += &command.to_string();
+        }
+        shown += &log_line(&event, b"PASS s3cret\r\n").expect("memory is there");
+    }
+    let other = Command::Other { command_name: "PSAS".into(), arguments: "s3cret\n".into() };
+    shown += &format!("{other} {other:?}");
+    let lost = Command::Pass { password: b"s3cret\n".into() };
+    shown += &format!("{lost} {lost:?}");
+    assert!(!shown.contains("s3cret"), "{shown}");
+    assert_eq!((other.to_string(), lost.to_string()), ("***".into(), "PASS ***".into()));
+}
