@@ -2,6 +2,7 @@ pub mod AreaLemmas
 pub mod CallLemmas
 pub mod CanonicalLineLemmas
 pub mod ForwardedLineLemmas
+pub mod FoundRoomLemmas
 pub mod LineLemmas
 pub mod NextLemmas
 pub mod ReplyLemmas

@@ -7,8 +7,8 @@ ghost use Rattle.unftp_control_c.specs.CanonicalLines.{CanonicalMayTakeMemory, I
 ghost use Rattle.unftp_control_c.specs.ForwardedLines.{IsForwardedLine};
 ghost use Rattle.unftp_control_c.specs.Next.{Leaves, LineMayTakeMemory, next_of, scans};
 ghost use Rattle.unftp_control_c.specs.Rows.{a_call, leaving};
-ghost use Rattle.unftp_control_c.specs.Replies.{EncodesReply, IsReplyOf, text_lines};
-ghost use Rattle.unftp_control_c.specs.declared.status.Status.TheVariants.{InvalidCommand, InvalidUtf8, NoLine, OutOfMemory, UnknownCode};
+ghost use Rattle.unftp_control_c.specs.Replies.{EncodesReply, IsFoundText, IsReplyOf, found_text, text_lines};
+ghost use Rattle.unftp_control_c.specs.declared.status.Status.TheVariants.{InvalidCommand, InvalidUtf8, Malformed, More, NoLine, OutOfMemory, UnknownCode};
 
 pub mod calls;
 pub mod sessions;
@@ -75,6 +75,16 @@ pub fn replies_have_codes_and_lines()
     ensures two_lines { IsReplyOf 200 (codes "a\n") (MultiLine 200 (codes "a" ∷ [] ∷ [])) }
     ensures cr_of_no_line { ¬ IsReplyOf 200 (codes "a\r\nb")
         (MultiLine 200 (codes "a\r" ∷ codes "b" ∷ [])) }
+{}
+
+/// The lines of replies that were received.
+pub fn replies_have_lines()
+    ensures several { found_text (codes "a" ∷ [] ∷ codes " b" ∷ []) ≡ codes "a\r\n\r\n b\r\n" }
+    ensures code_only { IsFoundText (codes "200\r\n5") (Ok (codes "\r\n")) }
+    ensures more { IsFoundText (codes "200 a") (Err More) }
+    ensures not_all { ¬ IsFoundText (codes "200 a") (Ok (codes "a\r\n")) }
+    ensures malformed { IsFoundText (codes "a\r\n") (Err Malformed) }
+    ensures no_reply { ¬ IsFoundText (codes "a\r\n") (Err OutOfMemory) }
 {}
 
 /// The lines of texts: a CR directly before an LF belongs to the line's end, and no other does.

@@ -22,7 +22,7 @@ ghost use Rattle.unftp_control_c.specs.LogLines.{numbered_log_line};
 ghost use Rattle.unftp_control_c.specs.Logins.{Kept, decision_at, kept_after, kept_after_all, login_step, nobody, progress_of, stage_number, stage_of};
 ghost use Rattle.unftp_control_c.specs.Next.{Call, Given, Leaves, Left, given_for, line_limit, scans};
 ghost use Rattle.unftp_control_c.specs.Numbers.{status_number};
-ghost use Rattle.unftp_control_c.specs.Replies.{EncodesReply};
+ghost use Rattle.unftp_control_c.specs.Replies.{EncodesReply, IsFoundText};
 ghost use Rattle.unftp_control_c.specs.Taking.{AreCallerSteps, Caller, CallerStep, IsNumberOf, after_call, all_given, call_of, gives_none, input_of, new_caller, scanned_by, unscanned};
 ghost use Rattle.unftp_control_c.specs.declared.client.Client.{Client as RustClient};
 ghost use Rattle.unftp_control_c.specs.declared.login.Progress.{Progress};
@@ -122,6 +122,9 @@ pub fn rooms_are_bounded()
     ensures reply { (code : ℕ) (text : Bytes) (bytes : Made) (out : Bytes)
         → EncodesReply code text bytes → (written bytes out).text_length
         ≤ length text + 2 * count_by is_line_feed text + 10 }
+    // The lines of a reply have at most as many bytes as it.
+    ensures lines { (bytes : Bytes) (text : Made) (out : Bytes)
+        → IsFoundText bytes text → (written text out).text_length ≤ length bytes }
 {}
 
 /// A log line is that of the log of the library in Rattle, whose laws hold of it.

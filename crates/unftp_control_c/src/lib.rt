@@ -6,6 +6,7 @@ mod canonical;
 mod client;
 pub mod examples;
 mod forwarding;
+mod found;
 pub mod laws;
 mod log;
 mod login;
