@@ -460,9 +460,10 @@ def check_numbers():
     wants("the number of the header's names", len(declared), len(commands) + len(statuses))
     if RUST.exists():
         used = numbers_in(RUST, r"^pub(?:\(crate\))? const (\w+): u32 = (\d+);")
-        if not used.items() <= declared.items():
-            raise Wrong(f"{RUST.name} has other numbers: {sorted(set(used.items()) - set(declared.items()))}")
-        wants_numbers("command.rs of bindings/rust", numbers_in("bindings/rust/src/command.rs", r"^ {12}(\d+) (\w+) \w+ \{"), commands)
+        all_declared = numbers_in("include/unftp_control.h", r"^    UNFTP_(?!CODE_)(\w+) = (\d+)")
+        if not used.items() <= all_declared.items():
+            raise Wrong(f"{RUST.name} has other numbers: {sorted(set(used.items()) - set(all_declared.items()))}")
+        wants_numbers("command.rs of bindings/rust", numbers_in("bindings/rust/src/command.rs", r'^ {12}(\d+) (\w+) "\w*" \w+ \{'), commands)
     return f"{len(commands)} commands, {len(statuses)} other results, {check_enums()} and {check_codes()}"
 
 

@@ -1,7 +1,7 @@
 -- How many bytes the lines of a reply have.
 use Rattle.std.proofs.Common.{◌≡◌, ℕ, ◌+◌, ◌≤◌, List, [], ◌∷◌, ◌++◌, length, Ok, Err, arith, ap, length-append}
 use Rattle.unftp_control_defs.specs.Bytes.{Bytes, SP, DASH, crlf}
-use Rattle.unftp_control_defs.specs.ReplyReader.{AreLaterLines, FrontReply, IsReply, SpellsCode, code_only, goes_on, last, several, single, with_crlf}
+use Rattle.unftp_control_defs.specs.ReplyReader.{AreLaterLines, IsReply, code_only, goes_on, last, several, single, with_crlf}
 use Rattle.unftp_control_c.specs.Areas.{Made, written}
 use Rattle.unftp_control_c.specs.Replies.{IsFoundText, found_text}
 use Rattle.unftp_control_c.proofs.AreaLemmas.{filled_length}
