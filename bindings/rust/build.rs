@@ -16,7 +16,8 @@ fn main() {
     if env::var_os("DOCS_RS").is_some() {
         return; // documentation links nothing
     }
-    let Some(folder) = named_folder().or_else(installed_folder).or_else(built_folder) else {
+    let found = named_folder().or_else(packed_folder).or_else(installed_folder);
+    let Some(folder) = found.or_else(built_folder) else {
         panic!(
             "{LIBRARY}, {}, is not found: install it so that `pkg-config unftp_control` finds it, \
              or set {VARIABLE} to its folder{}.",
@@ -29,13 +30,24 @@ fn main() {
     println!("cargo:rustc-link-lib=static=unftp_control");
 }
 
-/// The folder that the environment names.
+/// The folder that the environment names, or the one of libraries in it.
 fn named_folder() -> Option<PathBuf> {
-    let folder = PathBuf::from(env::var_os(VARIABLE)?);
-    if !folder.join(LIBRARY).is_file() {
-        panic!("{VARIABLE} has to name the folder of {LIBRARY}, and {folder:?} has none.");
+    let named = PathBuf::from(env::var_os(VARIABLE)?);
+    let folder = [named.clone(), named.join("lib")].into_iter().find(has_library);
+    if folder.is_none() {
+        panic!("{VARIABLE} has to name the folder of {LIBRARY}, and {named:?} has none.");
     }
-    Some(folder)
+    folder
+}
+
+fn has_library(folder: &PathBuf) -> bool {
+    folder.join(LIBRARY).is_file()
+}
+
+/// Where it is in the archive that this package is in.
+fn packed_folder() -> Option<PathBuf> {
+    let folder = PathBuf::from(env::var_os("CARGO_MANIFEST_DIR")?).join("../lib");
+    has_library(&folder).then_some(folder)
 }
 
 /// The folder that pkg-config knows, where the version fits.
@@ -49,7 +61,7 @@ fn installed_folder() -> Option<PathBuf> {
         return None;
     }
     let folder = PathBuf::from(pkg_config("--variable=libdir")?);
-    folder.join(LIBRARY).is_file().then_some(folder)
+    has_library(&folder).then_some(folder)
 }
 
 /// What pkg-config says of the library.
@@ -75,7 +87,7 @@ fn number(version: &str) -> Option<u32> {
 /// Where `tools/c_library` puts it, in the repository that this package is in.
 fn built_folder() -> Option<PathBuf> {
     let folder = top()?.join("crates/unftp_control_c/out");
-    folder.join(LIBRARY).is_file().then_some(folder)
+    has_library(&folder).then_some(folder)
 }
 
 fn top() -> Option<PathBuf> {

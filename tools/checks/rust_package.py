@@ -2,7 +2,7 @@
 """Makes the checks of tools/checks/rust_package that are no test of the package itself, most of them on its server.
 
 usage: tools/checks/rust_package.py codes              the package's codes of replies are the header's
-       tools/checks/rust_package.py words              the names that its Debug texts show are those that a log shows
+       tools/checks/rust_package.py public [--write]   what is public of the package is what bindings/rust/public.txt lists
        tools/checks/rust_package.py memory PRELOAD REPLAY     the answer at each failed allocation: PRELOAD is tools/checks/fail_allocation.c
        tools/checks/rust_package.py version REPLAY     each call over a library of another version, 9.9.9
        tools/checks/rust_package.py arguments SERVER..      addresses, and what is no argument, of each of these servers
@@ -59,30 +59,32 @@ def check_codes():
     return f"{len(found[0])} codes"
 
 
-def words_between(path, begin, end, pattern):
-    """What the pattern finds in a file from one text up to another."""
-    text = (TOP / path).read_text(encoding="utf-8")
-    if begin not in text:
-        raise Wrong(f"{path} has no {begin!r}")
-    return re.findall(pattern, text.split(begin, 1)[1].split(end, 1)[0])
+RUST = TOP / "bindings/rust"
+# what other packages may use of a source: nothing else is declared pub, which a lint of the package sees to
+PUBLIC = re.compile(r"^ *(?:#\[cfg\((?P<feature>.*)\)\]\n *)?(?P<item>pub (?:fn|struct|enum|const|type|use) [^{;=]*|pub \w+: [^,\n]*|(?:unsafe )?impl\b[^{;]* for [^{;]*)", re.M)
+HIDDEN = re.compile(r"^pub use ")
 
 
-def check_words():
-    """The tables of shown.rs are those of LogLine.antt."""
-    log, shown = "crates/unftp_control_log/specs/LogLine.antt", "bindings/rust/src/shown.rs"
-    verbs = words_between(log, "\nfurther_verbs =", "[]", r'codes "(\w+)"')
-    subcommands = words_between(log, "\nsite_words =", "[]", r'codes "(\w+)", (true|false)')
-    for name, wanted in [
-        ("VERBS", verbs),
-        ("PLAIN_SUBCOMMANDS", [name for name, plain in subcommands if plain == "true"]),
-        ("OTHER_SUBCOMMANDS", [name for name, plain in subcommands if plain == "false"]),
-    ]:
-        wants(name, sorted(words_between(shown, f"const {name}:", ";\n", r'"(\w+)"')), sorted(wanted))
-        wants(f"whether there are {name}", len(wanted) > 0, True)
-    return f"{len(verbs)} verbs and {len(subcommands)} subcommands of SITE"
+def public_items():
+    """The items that are public, with the file that each is in."""
+    for path in sorted((RUST / "src").glob("*.rs")):
+        for found in PUBLIC.finditer(path.read_text(encoding="utf-8")):
+            item = " ".join(found["item"].split())
+            if not HIDDEN.match(item) or path.name == "lib.rs":
+                yield f"{path.stem}: {item}" + (f" [{found['feature']}]" if found["feature"] else "")
 
 
-CASE, ANSWER = 'parse\t"RETR a\\r\\0b\\r\\n"\n', 'ok Retr path="a\\rb"\n'
+def check_public(*arguments):
+    """A change of what is public shows in a change of public.txt."""
+    listed, items = RUST / "public.txt", [*public_items()]
+    if arguments == ("--write",):
+        listed.write_text("".join(f"{item}\n" for item in items), encoding="utf-8")
+    wants("public.txt", listed.read_text(encoding="utf-8").splitlines(), items)
+    return f"{len(items)} public items"
+
+
+# each calls a function of the library that takes memory
+CASE, ANSWER = 'parse\t"RETR a\\r\\0b\\r\\n"\nlog\tnone\t"retr a\\r\\0b\\r\\n"\n', 'ok Retr path="a\\rb"\n"RETR a\\\\rb"\n'
 
 
 def check_memory(preload, program):
@@ -345,7 +347,7 @@ def check_speed(program, count="100000", connections="4"):
 
 CHECKS = {
     "codes": check_codes,
-    "words": check_words,
+    "public": check_public,
     "memory": check_memory,
     "version": check_version,
     "arguments": check_arguments,

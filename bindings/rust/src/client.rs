@@ -16,6 +16,7 @@ pub enum To {
 }
 
 /// A reply that a client has received, and what it is to.
+#[must_use]
 #[derive(Clone, Debug, PartialEq, Eq)]
 #[non_exhaustive]
 pub struct ClientReply<'a> {

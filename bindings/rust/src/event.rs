@@ -4,6 +4,7 @@ use std::error::Error;
 use std::fmt::{self, Debug, Display, Formatter};
 
 /// What a line is.
+#[must_use]
 #[derive(Clone, Debug, PartialEq, Eq)]
 pub enum Event<'a> {
     /// A command.
@@ -32,6 +33,7 @@ impl Event<'_> {
 }
 
 /// A line of a client: what it is, and its bytes.
+#[must_use]
 #[derive(Clone)]
 #[non_exhaustive]
 pub struct Line<'a> {
@@ -53,6 +55,7 @@ impl Debug for Line<'_> {
 
 /// Why a line is no command.
 #[derive(Clone, Copy, Debug, PartialEq, Eq, Hash)]
+#[non_exhaustive]
 pub enum Refusal {
     /// The verb doesn't take this parameter.
     InvalidCommand,

@@ -37,21 +37,27 @@
     doc = "With the feature `tokio-util`, `FtpCodec` does both for tokio, under `Framed`."
 )]
 //!
-//! # A client or a proxy
+//! A [`Login`] says which events need a login, and answers those that come without one. [`log_line`]
+//! is what a log may show of a line: no password and no account.
 //!
-//! A [`ReplyDecoder`] takes the replies that a server has sent, and [`front_reply`] finds the first
-//! one of a slice. [`canonical`] writes the one line that means what a client's line does, and
-//! [`forward`] the line that a proxy sends to a server.
-#![cfg_attr(
-    feature = "tokio-util",
-    doc = "[`FtpClientCodec`] reads replies and writes lines for tokio."
-)]
+//! # A client
+//!
+//! A [`Client`] writes the lines of commands, and says to which of them each reply is.
+#![cfg_attr(feature = "tokio-util", doc = "[`FtpClientCodec`] does it for tokio.")]
+//! A [`ReplyDecoder`] only takes replies, and [`front_reply`] finds the first one of a slice.
+//!
+//! # A proxy
+//!
+//! [`forward`] is the line that a proxy sends to a server for a client's line, and [`canonical`] the
+//! one line that means what a client's line does. With a [`Client`] toward the server, a line that
+//! the proxy answers itself waits until [`owed`](Client::owed) is 0.
 //!
 //! # Linking
 //!
-//! The build script looks for the library in the folder that `UNFTP_CONTROL_LIB` names, then by
-//! `pkg-config unftp_control`, where the version is 0.1.x, and then in the repository that the crate
-//! is in, where `tools/c_library` builds it. The first call asks the library for its version, and
+//! The build script looks for the library in the folder that `UNFTP_CONTROL_LIB` names, or in `lib`
+//! there, then in the archive that the crate is in, then by `pkg-config unftp_control`, where the
+//! version is 0.1.x, and then in the repository that the crate is in, where `tools/c_library` builds
+//! it. The first call asks the library for its version, and
 //! panics where that is not 0.1.x. The crate without features has no dependencies.
 //!
 //! # Memory

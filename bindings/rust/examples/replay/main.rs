@@ -1,6 +1,6 @@
 //! Answers the cases of a vector file (`vectors/README.md`): reads one a line from standard input,
-//! and writes its answer. It has the calls `parse`, `decode`, `encode`, `read`, `canonical` and
-//! `forward`. A case that its call doesn't take is answered by `skipped`, and what is no case by
+//! and writes its answer. It has the calls `parse`, `decode`, `encode`, `read`, `canonical`,
+//! `forward` and `log`. A case that its call doesn't take is answered by `skipped`, and what is no case by
 //! `bad-case`.
 
 mod cases;
@@ -25,6 +25,7 @@ fn answer(case: &str) -> Option<Answer> {
         ["read", stream] => answer_read(&read_bytes(stream)?),
         ["canonical", line] => answer_written(canonical(&read_bytes(line)?)),
         ["forward", line] => answer_written(forward(&read_bytes(line)?)),
+        ["log", limit, line] => answer_log(limit, &read_bytes(line)?),
         _ => return None,
     })
 }
@@ -80,6 +81,16 @@ fn answer_read(stream: &[u8]) -> Answer {
         }
     };
     Ok(Some(format!("{} rest={}{end}", replies.join(";"), rest.len())))
+}
+
+/// What a log shows of a line, under a limit or none.
+fn answer_log(limit: &str, line: &[u8]) -> Answer {
+    let mut pending = Pending::with_limit(limit.parse().unwrap_or(0));
+    pending.push(line)?;
+    match pending.next_line()? {
+        Some(line) => Ok(Some(quoted(line.log_line()?.as_bytes()))),
+        None => Ok(None),
+    }
 }
 
 /// The canonical line of a line, or the one that is forwarded for it.

@@ -83,6 +83,7 @@ pub fn shown_refusal(refusal: Refusal) -> &'static str {
         Refusal::InvalidUtf8 => "InvalidUtf8",
         Refusal::InvalidEol => "InvalidEol",
         Refusal::LineTooLong => "LineTooLong",
+        _ => "another refusal",
     }
 }
 
@@ -93,5 +94,6 @@ pub fn shown_refusals(refusal: Refusal) -> &'static str {
         Refusal::InvalidUtf8 => "Utf8Error InvalidUtf8",
         Refusal::InvalidEol => "InvalidCommand InvalidEol",
         Refusal::LineTooLong => "LineTooLong",
+        _ => "another refusal",
     }
 }
