@@ -33,14 +33,14 @@ fn main() {
 /// The folder that the environment names, or the one of libraries in it.
 fn named_folder() -> Option<PathBuf> {
     let named = PathBuf::from(env::var_os(VARIABLE)?);
-    let folder = [named.clone(), named.join("lib")].into_iter().find(has_library);
+    let folder = [named.clone(), named.join("lib")].into_iter().find(|folder| has_library(folder));
     if folder.is_none() {
         panic!("{VARIABLE} has to name the folder of {LIBRARY}, and {named:?} has none.");
     }
     folder
 }
 
-fn has_library(folder: &PathBuf) -> bool {
+fn has_library(folder: &Path) -> bool {
     folder.join(LIBRARY).is_file()
 }
 

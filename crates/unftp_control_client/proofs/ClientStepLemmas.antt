@@ -192,6 +192,11 @@ pub steps-exchanges : (steps : List ClientStep) (before after : Client)
 steps-exchanges steps before after are = dialogue-exchanges steps before.dialogue after.dialogue
     (steps-dialogue steps before after are)
 
+pub steps-sent : (steps : List ClientStep) (before after : Client) → AreSteps before steps after
+    → after.dialogue.sent ≡ before.dialogue.sent + length (lines_sent steps)
+steps-sent steps before after are = dialogue-sent steps before.dialogue after.dialogue
+    (steps-dialogue steps before after are)
+
 pub steps-taken : (steps : List ClientStep) (before after : Client) → AreSteps before steps after
     → AreTakingSteps TakesReply before.replies.bytes (decoder_steps steps) after.replies.bytes
 steps-taken [] before after are = are.1

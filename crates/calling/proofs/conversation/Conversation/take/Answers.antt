@@ -18,7 +18,7 @@ returns-clause-taken c =
             tt,
             record {
               few = omega arith;
-              client = (next.0, next.1, takes.takes);
+              client = (next, takes.takes);
               limit = answer.limit;
               to_server = sym (append-nil _);
               at_server = omega arith;
