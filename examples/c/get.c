@@ -15,7 +15,6 @@
 #include <errno.h>
 #include <inttypes.h>
 #include <netdb.h>
-#include <netinet/in.h>
 #include <poll.h>
 #include <signal.h>
 #include <stdbool.h>
@@ -36,15 +35,12 @@ enum {
     REPLY_ROOM = 16384,
     DATA_ROOM = 65536,
 
+    /* an address with its scope, and a number */
+    ADDRESS_ROOM = 128,
+    PORT_ROOM = 16,
+
     /* how long the server may take, in seconds */
     PATIENCE = 60
-};
-
-/* An address of either family. */
-union address {
-    struct sockaddr any;
-    struct sockaddr_in ipv4;
-    struct sockaddr_in6 ipv6;
 };
 
 /* A control connection, and the bytes that came. The last reply is at their start. */
@@ -88,35 +84,28 @@ static void fail_reply(const struct session *session, const char *what)
     exit(EXIT_FAILURE);
 }
 
-/* Connects to an address; -1 where that fails. */
-static int connect_to(const struct sockaddr *address, socklen_t len)
+/* Connects to the first address of the host that answers. */
+static int connect_to(const char *host, const char *port)
 {
     const struct timeval patience = {.tv_sec = PATIENCE};
-    int opened = socket(address->sa_family, SOCK_STREAM, 0);
-
-    if (opened < 0)
-        return -1;
-    if (setsockopt(opened, SOL_SOCKET, SO_RCVTIMEO, &patience, sizeof patience) == 0
-        && setsockopt(opened, SOL_SOCKET, SO_SNDTIMEO, &patience, sizeof patience) == 0
-        && connect(opened, address, len) == 0)
-        return opened;
-    close(opened);
-    return -1;
-}
-
-/* Connects to the first address of the host that answers. */
-static int connect_to_host(const char *host, const char *port)
-{
     const struct addrinfo hints = {.ai_socktype = SOCK_STREAM};
     struct addrinfo *found;
     int error = getaddrinfo(host, port, &hints, &found), opened = -1;
 
     if (error != 0)
         fail(gai_strerror(error));
-    for (struct addrinfo *each = found; each != NULL && opened < 0; each = each->ai_next)
-        opened = connect_to(each->ai_addr, each->ai_addrlen);
+    for (struct addrinfo *each = found; each != NULL && opened < 0; each = each->ai_next) {
+        opened = socket(each->ai_family, SOCK_STREAM, 0);
+        if (opened >= 0
+            && (setsockopt(opened, SOL_SOCKET, SO_RCVTIMEO, &patience, sizeof patience) < 0
+                || setsockopt(opened, SOL_SOCKET, SO_SNDTIMEO, &patience, sizeof patience) < 0
+                || connect(opened, each->ai_addr, each->ai_addrlen) < 0)) {
+            close(opened);
+            opened = -1;
+        }
+    }
     if (opened < 0)
-        fail_call("control connection");
+        fail_call("no connection");
     freeaddrinfo(found);
     return opened;
 }
@@ -270,7 +259,7 @@ static void ask_size(struct session *session, const char *path, struct progress 
 }
 
 /* The port of a reply, which has (|||port|), with any one byte for each of the bars. */
-static in_port_t port_in(const struct session *session)
+static unsigned port_in(const struct session *session)
 {
     const char *end = session->bytes + session->reply.used,
                *at = memchr(session->bytes, '(', session->reply.used);
@@ -283,28 +272,25 @@ static in_port_t port_in(const struct session *session)
     if (digits == 0 || port == 0 || port > UINT16_MAX || at[4 + digits] != at[1]
         || at[5 + digits] != ')')
         fail_reply(session, "no port");
-    return htons((uint16_t)port);
+    return (unsigned)port;
 }
 
 /* Opens a data connection to the port that the server names, at its address. */
 static int open_data(struct session *session)
 {
-    union address address;
+    struct sockaddr_storage address;
     socklen_t len = sizeof address;
-    int data;
+    char host[ADDRESS_ROOM], port[PORT_ROOM];
 
     if (ask(session, "EPSV", "") != UNFTP_CODE_ENTERING_EXTENDED_PASSIVE_MODE)
         fail_reply(session, "no passive mode");
-    if (getpeername(session->socket, &address.any, &len) < 0)
+    snprintf(port, sizeof port, "%u", port_in(session));
+    if (getpeername(session->socket, (struct sockaddr *)&address, &len) < 0)
         fail_call("control connection");
-    if (address.any.sa_family == AF_INET6)
-        address.ipv6.sin6_port = port_in(session);
-    else
-        address.ipv4.sin_port = port_in(session);
-    data = connect_to(&address.any, len);
-    if (data < 0)
-        fail_call("data connection");
-    return data;
+    if (getnameinfo((struct sockaddr *)&address, len, host, sizeof host, NULL, 0, NI_NUMERICHOST)
+        != 0)
+        fail("the server has no address");
+    return connect_to(host, port);
 }
 
 /* Writes the line that shows the progress, over the one before it. */
@@ -371,7 +357,7 @@ int main(int count, char **arguments)
             fail("a name, a password and a path are of one line");
     }
     signal(SIGPIPE, SIG_IGN);
-    session.socket = connect_to_host(arguments[1], arguments[2]);
+    session.socket = connect_to(arguments[1], arguments[2]);
     if (final_code(&session, UNFTP_TO_GREETING) / 100 != 2)
         fail_reply(&session, "no session");
     log_in(&session, arguments[3], arguments[4]);
