@@ -2,9 +2,10 @@
  * Makes the calls of unftp_control.h over the inputs on standard input, each with its length before
  * it, as four bytes with the least first. Checks what the header says of rooms and lengths: each
  * call with no room at all, with one byte less than it asks for, and with enough; the bounds on
- * what it asks for; what it leaves as it was; and that what is written is read back. Each area has
- * no byte more than its call is told, so that valgrind finds what is written past it. Prints how
- * many inputs there were, and of what kind.
+ * what it asks for; what it leaves as it was; and that what is written is read back. Checks by
+ * tables what it says of replies, log lines, clients and logins. Each area has no byte more than
+ * its call is told, so that valgrind finds what is written past it. Prints how many inputs there
+ * were, and of what kind.
  */
 #include <unftp_control.h>
 
@@ -28,6 +29,24 @@ struct taken {
 };
 
 typedef enum unftp_result (*line_call)(const char *, size_t, char *, size_t, size_t *);
+
+/* A line that a client sends, or a reply that it receives; and what is so then. */
+struct turn {
+    const char *line; /* NULL where it is a reply */
+    uint32_t code;
+    enum unftp_to to;
+    uint64_t place;
+    uint64_t owed;
+    uint32_t begins; /* whether TLS may begin */
+};
+
+/* An event of a login, what is done with it, and what the accounts say then. */
+struct event {
+    uint32_t number;
+    enum unftp_login_step step;
+    enum { SILENT, REFUSE, ACCEPT } says;
+    uint32_t stage;
+};
 
 static const struct bytes *current;
 static unsigned long inputs, commands, refused, replies;
@@ -165,6 +184,60 @@ static void check_written(line_call call, const char *line, struct taken wanted)
     free_area(out);
 }
 
+static bool is_text(struct bytes area, const char *text)
+{
+    return area.len == strlen(text) && memcmp(area.at, text, area.len) == 0;
+}
+
+static bool begins_with(struct bytes area, const char *text)
+{
+    return area.len >= strlen(text) && memcmp(area.at, text, strlen(text)) == 0;
+}
+
+static bool is_printable(struct bytes area)
+{
+    for (size_t at = 0; at < area.len; at++) {
+        if (area.at[at] < 32 || area.at[at] > 126)
+            return false;
+    }
+    return true;
+}
+
+/* What a log shows of a line, with just enough room. */
+static struct bytes logged(uint32_t number, const char *line, size_t len)
+{
+    struct bytes none = area_of(0), less, out;
+    size_t room, again;
+
+    wants(unftp_log_line(number, line, len, none.at, 0, &room) == UNFTP_NO_ROOM && room > 0,
+          "a log shows something of each line");
+    free_area(none);
+    less = area_of(room - 1);
+    wants(unftp_log_line(number, line, len, less.at, room - 1, &again) == UNFTP_NO_ROOM
+              && again == room && is_filling(less),
+          "a log line needs this room");
+    free_area(less);
+    out = area_of(room);
+    wants(unftp_log_line(number, line, len, out.at, room, &again) == UNFTP_DONE && again == room,
+          "a log line has just enough room");
+    wants(is_printable(out), "each byte of a log line is printable ASCII");
+    return out;
+}
+
+/* A log shows a line, and nothing of one that is too long. */
+static void check_logged(const char *line, struct taken taken)
+{
+    size_t used = taken.line.used;
+    struct bytes shown = logged((uint32_t)taken.result, line, used),
+                 too_long = logged(UNFTP_LINE_TOO_LONG, line, used);
+
+    wants(is_command(taken.result) || begins_with(shown, "refused"),
+          "a log says that a line is refused");
+    wants(is_text(too_long, "refused: Line too long"), "a log says that a line is too long");
+    free_area(shown);
+    free_area(too_long);
+}
+
 /* The limit is exact, and a line that comes in two parts is the same line. */
 static void check_cuts(const char *bytes, struct taken wanted)
 {
@@ -210,6 +283,7 @@ static void check_lines(struct bytes input)
         check_cuts(bytes, taken);
         check_written(unftp_canonical, bytes, taken);
         check_written(unftp_forward, bytes, taken);
+        check_logged(bytes, taken);
         start += taken.line.used;
         free_area(taken.area);
     }
@@ -323,6 +397,233 @@ static void check_texts(void)
     }
 }
 
+/* What a log shows of commands: nothing of a password or an account, also where it is a verb. */
+static void check_log_lines(void)
+{
+    static const char *const lines[][2] = {
+        {"noop\r\n", "NOOP"},
+        {"user anna\n", "USER anna"},
+        {"PASS secret\r\n", "PASS ***"},
+        {"PASS\r\n", "PASS ***"},
+        {"acct secret\r\n", "ACCT ***"},
+        {"ACCT\r\n", "ACCT ***"},
+        {"secret\r\n", "***"},
+        {"PAS secret\r\n", "***"},
+        {"rein secret\r\n", "REIN ***"},
+        {"SITE secret\r\n", "SITE ***"},
+        {"SITE umask 022\r\n", "SITE UMASK 022"},
+        {"RETR a\tb'c\"d\\e\x7f\r\n", "RETR a\\tb\\'c\\\"d\\\\e\\x7f"},
+        {"STAT \xe9\r\n", "STAT \\xe9"},
+    };
+
+    for (size_t at = 0; at < sizeof lines / sizeof lines[0]; at++) {
+        const char *line = lines[at][0];
+        struct unftp_connection connection = {0, 0, 0};
+        struct taken taken = take(&connection, line, strlen(line));
+        struct bytes shown = logged((uint32_t)taken.result, line, taken.line.used);
+        wants(is_text(shown, lines[at][1]), lines[at][1]);
+        free_area(shown);
+        free_area(taken.area);
+    }
+}
+
+static bool are_same_clients(struct unftp_client left, struct unftp_client right)
+{
+    return left.sent == right.sent && left.answered == right.answered && left.asked == right.asked
+        && left.greeted == right.greeted && left.asks == right.asks && left.agreed == right.agreed;
+}
+
+/* Takes the turns of one client. */
+static void take_turns(const struct turn *turns, size_t count)
+{
+    struct unftp_client client = {0, 0, 0, 0, 0, 0};
+
+    for (size_t at = 0; at < count; at++) {
+        const struct turn *turn = &turns[at];
+        uint64_t place;
+        if (turn->line != NULL)
+            wants(unftp_client_line(&client, turn->line, strlen(turn->line), &place) == UNFTP_DONE,
+                  "a line is noted");
+        else
+            wants(unftp_client_reply(&client, turn->code, &place) == turn->to,
+                  "what a reply is to");
+        wants(place == turn->place, "the place of a line");
+        wants(unftp_client_owed(&client) == turn->owed, "how many replies are owed");
+        wants(unftp_client_may_begin_tls(&client, 0) == turn->begins, "whether TLS may begin");
+        wants(unftp_client_may_begin_tls(&client, 1) == 0, "TLS does not begin before a byte");
+    }
+}
+
+/* The greeting comes first, which may be preliminary; then the replies to each line, in order. */
+static void check_replies(void)
+{
+    static const struct turn turns[] = {
+        {"USER a\r\n", 0, UNFTP_TO_GREETING, 0, 1, 0},
+        {NULL, 120, UNFTP_TO_GREETING, 0, 1, 0},
+        {NULL, 220, UNFTP_TO_GREETING, 0, 1, 0},
+        {"RETR b\n", 0, UNFTP_TO_GREETING, 1, 2, 0},
+        {NULL, 331, UNFTP_TO_COMMAND, 0, 1, 0},
+        {NULL, 110, UNFTP_TO_COMMAND, 1, 1, 0},
+        {NULL, 199, UNFTP_TO_COMMAND, 1, 1, 0},
+        {NULL, 226, UNFTP_TO_COMMAND, 1, 0, 0},
+        {NULL, 421, UNFTP_TO_NOTHING, 0, 0, 0},
+        {NULL, 150, UNFTP_TO_NOTHING, 0, 0, 0},
+        {"QUIT\r\n", 0, UNFTP_TO_GREETING, 2, 1, 0},
+        {NULL, 99, UNFTP_TO_COMMAND, 2, 0, 0},
+    };
+
+    take_turns(turns, sizeof turns / sizeof turns[0]);
+}
+
+/* TLS may begin after 234 to the last line, where this asks for it. */
+static void check_tls(void)
+{
+    static const struct turn turns[] = {
+        {NULL, 234, UNFTP_TO_GREETING, 0, 0, 0},
+        {"NOOP\r\n", 0, UNFTP_TO_GREETING, 0, 1, 0},
+        {NULL, 234, UNFTP_TO_COMMAND, 0, 0, 0},
+        {"AUTH TLS\r\n", 0, UNFTP_TO_GREETING, 1, 1, 0},
+        {NULL, 534, UNFTP_TO_COMMAND, 1, 0, 0},
+        {NULL, 234, UNFTP_TO_NOTHING, 0, 0, 0},
+        {"AUTH GSSAPI\r\n", 0, UNFTP_TO_GREETING, 2, 1, 0},
+        {NULL, 234, UNFTP_TO_COMMAND, 2, 0, 0},
+        {"AUTH TLS\r\n", 0, UNFTP_TO_GREETING, 3, 1, 0},
+        {"AUTH TLS\r\n", 0, UNFTP_TO_GREETING, 4, 2, 0},
+        {NULL, 234, UNFTP_TO_COMMAND, 3, 1, 0},
+        {NULL, 234, UNFTP_TO_COMMAND, 4, 0, 1},
+        {"NOOP\r\n", 0, UNFTP_TO_GREETING, 5, 1, 0},
+        {NULL, 200, UNFTP_TO_COMMAND, 5, 0, 0},
+        {"AUTH TLS\r\n", 0, UNFTP_TO_GREETING, 6, 1, 0},
+        {"NOOP\r\n", 0, UNFTP_TO_GREETING, 7, 2, 0},
+        {NULL, 234, UNFTP_TO_COMMAND, 6, 1, 0},
+        {NULL, 200, UNFTP_TO_COMMAND, 7, 0, 0},
+        {"auth ssl\n", 0, UNFTP_TO_GREETING, 8, 1, 0},
+        {NULL, 234, UNFTP_TO_COMMAND, 8, 0, 1},
+        {NULL, 421, UNFTP_TO_NOTHING, 0, 0, 0},
+    };
+
+    take_turns(turns, sizeof turns / sizeof turns[0]);
+}
+
+/* What is not noted changes nothing: no line, more than one, and one more than 64 bits count. */
+static void check_not_noted(void)
+{
+    static const char *const lines[] = {"", "NOOP", "NOOP\r", "NOOP\r\nQUIT\r\n", "\nNOOP\r\n"};
+    const struct unftp_client kept = {7, 5, 3, 1, 1, 1}, full = {UINT64_MAX, 5, 3, 1, 1, 1};
+    struct unftp_client client = kept;
+    uint64_t place = 1;
+
+    for (size_t at = 0; at < sizeof lines / sizeof lines[0]; at++) {
+        place = 1;
+        wants(unftp_client_line(&client, lines[at], strlen(lines[at]), &place) == UNFTP_NO_LINE
+                  && place == 0 && are_same_clients(client, kept),
+              "what is not one line is not noted");
+    }
+    client = full;
+    place = 1;
+    wants(unftp_client_line(&client, "NOOP\r\n", 6, &place) == UNFTP_INVALID_ARGUMENT && place == 0
+              && are_same_clients(client, full),
+          "a line is not noted after 2^64 - 1");
+    wants(unftp_client_owed(&client) == UINT64_MAX - 5, "how many replies are owed then");
+    client.sent--;
+    wants(unftp_client_line(&client, "NOOP\r\n", 6, &place) == UNFTP_DONE
+              && place == UINT64_MAX - 1 && client.sent == UINT64_MAX,
+          "a line is noted after 2^64 - 2");
+}
+
+/* The accounts answer only where they are asked, and once. */
+static void check_answer(struct unftp_login *login, const struct event *event)
+{
+    bool asked = event->step == UNFTP_LOGIN_ASK_ACCOUNTS;
+    uint32_t stage = login->stage;
+
+    wants(unftp_login_answer(login, event->says == ACCEPT ? 2 : 0)
+              == (asked ? UNFTP_DONE : UNFTP_INVALID_ARGUMENT),
+          "whether the accounts were asked");
+    wants(asked || login->stage == stage, "what they are not asked changes nothing");
+    stage = login->stage;
+    wants(unftp_login_answer(login, 1) == UNFTP_INVALID_ARGUMENT && login->stage == stage,
+          "the accounts answer once");
+}
+
+/* Each step; what a late answer is; and that USER and AUTH flush the login. */
+static void check_login(void)
+{
+    static const struct event events[] = {
+        {UNFTP_RETR, UNFTP_LOGIN_NEED_LOGIN, ACCEPT, 0},
+        {UNFTP_PASS, UNFTP_LOGIN_NEED_NAME, ACCEPT, 0},
+        {UNFTP_NOOP, UNFTP_LOGIN_PASS_ON, ACCEPT, 0},
+        {UNFTP_USER, UNFTP_LOGIN_NEED_PASSWORD, ACCEPT, 1},
+        {UNFTP_RETR, UNFTP_LOGIN_NEED_LOGIN, ACCEPT, 1},
+        {UNFTP_PASS, UNFTP_LOGIN_ASK_ACCOUNTS, REFUSE, 0},
+        {UNFTP_PASS, UNFTP_LOGIN_NEED_NAME, REFUSE, 0},
+        {UNFTP_USER, UNFTP_LOGIN_NEED_PASSWORD, REFUSE, 1},
+        {UNFTP_PASS, UNFTP_LOGIN_ASK_ACCOUNTS, SILENT, 3},
+        {UNFTP_FEAT, UNFTP_LOGIN_PASS_ON, ACCEPT, 0},
+        {UNFTP_USER, UNFTP_LOGIN_NEED_PASSWORD, REFUSE, 1},
+        {UNFTP_PASS, UNFTP_LOGIN_ASK_ACCOUNTS, SILENT, 3},
+        {UNFTP_PASS, UNFTP_LOGIN_NEED_NAME, ACCEPT, 0},
+        {UNFTP_USER, UNFTP_LOGIN_NEED_PASSWORD, REFUSE, 1},
+        {UNFTP_PASS, UNFTP_LOGIN_ASK_ACCOUNTS, ACCEPT, 2},
+        {UNFTP_RETR, UNFTP_LOGIN_PASS_ON, REFUSE, 2},
+        {UNFTP_PASS, UNFTP_LOGIN_NEED_NAME, REFUSE, 2},
+        {UNFTP_AUTH, UNFTP_LOGIN_PASS_ON, ACCEPT, 0},
+        {UNFTP_RETR, UNFTP_LOGIN_NEED_LOGIN, ACCEPT, 0},
+        {UNFTP_USER, UNFTP_LOGIN_NEED_PASSWORD, SILENT, 1},
+        {UNFTP_AUTH, UNFTP_LOGIN_PASS_ON, ACCEPT, 0},
+        {UNFTP_PASS, UNFTP_LOGIN_NEED_NAME, ACCEPT, 0},
+        {UNFTP_USER, UNFTP_LOGIN_NEED_PASSWORD, SILENT, 1},
+        {UNFTP_PASS, UNFTP_LOGIN_ASK_ACCOUNTS, ACCEPT, 2},
+        {UNFTP_USER, UNFTP_LOGIN_NEED_PASSWORD, ACCEPT, 1},
+        {UNFTP_RETR, UNFTP_LOGIN_NEED_LOGIN, ACCEPT, 1},
+    };
+    struct unftp_login login = {0};
+
+    for (size_t at = 0; at < sizeof events / sizeof events[0]; at++) {
+        wants(unftp_login_event(&login, events[at].number) == events[at].step, "a login's step");
+        if (events[at].says != SILENT)
+            check_answer(&login, &events[at]);
+        wants(login.stage == events[at].stage, "a login's stage");
+    }
+}
+
+/* Whether a command needs no login; what is no command needs none either. */
+static bool is_open(uint32_t number)
+{
+    switch (number) {
+    case UNFTP_QUIT: case UNFTP_AUTH: case UNFTP_PBSZ: case UNFTP_PROT: case UNFTP_FEAT:
+    case UNFTP_HELP: case UNFTP_NOOP: case UNFTP_SYST:
+        return true;
+    default:
+        return number > UNFTP_OTHER;
+    }
+}
+
+/* One event at each stage, of which 4 is as no name. No other than USER, PASS and AUTH changes a
+   name or a login. */
+static void check_event(uint32_t number)
+{
+    for (uint32_t stage = 0; stage <= 4; stage++) {
+        struct unftp_login login = {stage};
+        bool passes = stage == 2 || is_open(number);
+        if (number == UNFTP_USER || number == UNFTP_PASS)
+            continue;
+        wants(unftp_login_event(&login, number)
+                  == (passes ? UNFTP_LOGIN_PASS_ON : UNFTP_LOGIN_NEED_LOGIN),
+              "which events need a login");
+        wants(number == UNFTP_AUTH || (stage != 1 && stage != 2) || login.stage == stage,
+              "what keeps a name or a login");
+    }
+}
+
+static void check_events(void)
+{
+    for (uint32_t number = UNFTP_USER; number <= UNFTP_OTHER; number++)
+        check_event(number);
+    for (uint32_t number = UNFTP_INVALID_COMMAND; number <= UNFTP_LINE_TOO_LONG; number++)
+        check_event(number);
+}
+
 /* What no call leaves, and no code. */
 static void check_arguments(void)
 {
@@ -369,6 +670,12 @@ int main(void)
     current = &input;
     check_arguments();
     check_texts();
+    check_log_lines();
+    check_replies();
+    check_tls();
+    check_not_noted();
+    check_login();
+    check_events();
     while (read_input(&input)) {
         inputs++;
         check_lines(input);

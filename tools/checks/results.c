@@ -9,9 +9,14 @@
 
 /* the library's functions return a u32, and no field of its structs has a gap before it */
 typedef char result_is_a_u32[sizeof(enum unftp_result) == sizeof(uint32_t) ? 1 : -1];
+typedef char to_is_a_u32[sizeof(enum unftp_to) == sizeof(uint32_t) ? 1 : -1];
+typedef char step_is_a_u32[sizeof(enum unftp_login_step) == sizeof(uint32_t) ? 1 : -1];
 typedef char connection[offsetof(struct unftp_connection, skipping) == 2 * sizeof(size_t) ? 1 : -1];
 typedef char line[offsetof(struct unftp_line, value_len) == 2 * sizeof(size_t) ? 1 : -1];
 typedef char found_reply[offsetof(struct unftp_found_reply, code) == sizeof(size_t) ? 1 : -1];
+typedef char client[
+    offsetof(struct unftp_client, agreed) == 3 * sizeof(uint64_t) + 2 * sizeof(uint32_t) ? 1 : -1];
+typedef char login[sizeof(struct unftp_login) == sizeof(uint32_t) ? 1 : -1];
 
 int main(void)
 {

@@ -32,6 +32,13 @@ enum {
     FRONT_REPLY,
     CANONICAL,
     FORWARD,
+    LOG_LINE,
+    CLIENT_LINE,
+    CLIENT_REPLY,
+    CLIENT_OWED,
+    CLIENT_MAY_BEGIN_TLS,
+    LOGIN_EVENT,
+    LOGIN_ANSWER,
     VERSION,
     CALLS
 };
@@ -41,17 +48,36 @@ struct bytes {
     size_t len;
 };
 
-static const char *const names[CALLS] = {"unftp_next",      "unftp_reply",   "unftp_front_reply",
-                                         "unftp_canonical", "unftp_forward", "unftp_version"};
+static const char *const names[CALLS] = {
+    "unftp_next",
+    "unftp_reply",
+    "unftp_front_reply",
+    "unftp_canonical",
+    "unftp_forward",
+    "unftp_log_line",
+    "unftp_client_line",
+    "unftp_client_reply",
+    "unftp_client_owed",
+    "unftp_client_may_begin_tls",
+    "unftp_login_event",
+    "unftp_login_answer",
+    "unftp_version",
+};
 static size_t most[CALLS];
 static unsigned long inputs;
 static unsigned char *stack;
 
-/* what a call writes */
+/* what the calls of a client and of a login change */
+static struct unftp_client client;
+static struct unftp_login login;
+
+/* what a call writes or returns */
+static enum unftp_result result;
 static struct unftp_line line;
 static struct unftp_found_reply reply;
 static struct bytes area;
 static size_t len;
+static uint64_t place;
 
 static void fail(const char *what)
 {
@@ -59,17 +85,36 @@ static void fail(const char *what)
     exit(EXIT_FAILURE);
 }
 
+/* Makes a call of a client or of a login, with the next code, event or answer at each input. */
+static void call_with_state(int name, struct bytes input, size_t room)
+{
+    uint32_t turn = (uint32_t)inputs;
+
+    switch (name) {
+    case CLIENT_LINE: unftp_client_line(&client, input.at, input.len, &place); break;
+    case CLIENT_REPLY: unftp_client_reply(&client, turn % 600, &place); break;
+    case CLIENT_OWED: unftp_client_owed(&client); break;
+    case CLIENT_MAY_BEGIN_TLS: unftp_client_may_begin_tls(&client, room); break;
+    case LOGIN_EVENT: unftp_login_event(&login, turn % 128); break;
+    default: unftp_login_answer(&login, turn % 2); break;
+    }
+}
+
 static void call(int name, struct bytes input, size_t room)
 {
     struct unftp_connection connection = {0, 0, 0};
 
     switch (name) {
-    case NEXT: unftp_next(&connection, input.at, input.len, area.at, room, &line); break;
+    case NEXT:
+        result = unftp_next(&connection, input.at, input.len, area.at, room, &line);
+        break;
     case REPLY: unftp_reply(299, input.at, input.len, area.at, room, &len); break;
     case FRONT_REPLY: unftp_front_reply(input.at, input.len, &reply); break;
     case CANONICAL: unftp_canonical(input.at, input.len, area.at, room, &len); break;
     case FORWARD: unftp_forward(input.at, input.len, area.at, room, &len); break;
-    default: unftp_version(); break;
+    case LOG_LINE: unftp_log_line(result, input.at, input.len, area.at, room, &len); break;
+    case VERSION: unftp_version(); break;
+    default: call_with_state(name, input, room); break;
     }
 }
 
