@@ -378,7 +378,9 @@ enum unftp_result unftp_forward(const char *line, size_t line_len,
  * escaped as in Rust: \t, \r, \n, \', \", \\, or \x and two digits. The value of PASS and ACCT is
  * ***, also an empty one. A verb with no rule of its own may be a mistyped PASS, or a password: it
  * is *** unless it is a word of the registry of FTP's commands (RFC 5797, section 3), whose
- * arguments are ***. So it is with the subcommands of SITE but CHMOD, IDLE, MD5, UMASK and UTIME.
+ * arguments are ***. Of SITE the subcommands CHMOD, IDLE, MD5, UMASK and UTIME are shown with their
+ * arguments, EXEC, GPASS, GROUP, HELP and PSWD without, and any other is ***. What is shown is the
+ * command and not the line: of `xcwd a` CWD a, and of `type a` TYPE.
  * A refused line is `refused`, its verb where that is such a word, and why; nothing is shown of its
  * parameter.
  *
@@ -391,7 +393,7 @@ enum unftp_result unftp_log_line(uint32_t number, const char *line, size_t line_
 /*
  * Notes the line of a command that a client sends: call it once for each line, in the order in
  * which they are sent. *place is how many were noted before. It returns UNFTP_DONE; UNFTP_NO_LINE
- * where no line feed is the last byte, or one comes before it; or UNFTP_INVALID_ARGUMENT where
+ * where no line feed is the last byte, or one comes before it; or else UNFTP_INVALID_ARGUMENT where
  * 2^64 - 1 lines were noted. But at UNFTP_DONE nothing changes, and *place is 0.
  */
 enum unftp_result unftp_client_line(struct unftp_client *client, const char *line, size_t line_len,
@@ -419,9 +421,11 @@ uint32_t unftp_client_may_begin_tls(const struct unftp_client *client,
 
 /*
  * Says what a server that wants a login does with an event, by the number that unftp_next returned
- * for it (RFC 959, section 4.1.1). QUIT, AUTH, PBSZ, PROT, FEAT, HELP, NOOP and SYST need no login,
- * and neither does a refused line; each other command does. USER and AUTH flush the login. After a
- * password that the accounts refuse the client begins again with USER.
+ * for it: that of a command, or of a refused line (RFC 959, section 4.1.1). QUIT, AUTH, PBSZ, PROT,
+ * FEAT, HELP, NOOP and SYST need no login, and neither does a refused line; each other command does.
+ * A name is good for the next PASS, also where other commands come between. USER and AUTH flush the
+ * login, AUTH also where the server refuses it. A server that takes REIN, which is UNFTP_OTHER, sets
+ * the struct to 0. After a password that the accounts refuse the client begins again with USER.
  */
 enum unftp_login_step unftp_login_event(struct unftp_login *login, uint32_t event) UNFTP_NONNULL;
 

@@ -290,6 +290,28 @@ static void check_lines(struct bytes input)
     wants(line_feeds(input.at + start, input.len - start) == 0, "no line is left");
 }
 
+/* The lines of a reply need no more room than the reply, and are there only where it is whole. */
+static void check_reply_lines(struct bytes reply)
+{
+    struct bytes none = area_of(0), less, out;
+    size_t room, again;
+    enum unftp_result result = unftp_reply_lines(reply.at, reply.len, none.at, 0, &room);
+
+    wants(result == UNFTP_NO_ROOM && room >= 2 && room <= reply.len, "a reply has lines");
+    result = unftp_reply_lines(reply.at, reply.len - 1, none.at, 0, &again);
+    wants(result == UNFTP_MORE && again == 0, "a part of a reply has none");
+    free_area(none);
+    less = area_of(room - 1);
+    result = unftp_reply_lines(reply.at, reply.len, less.at, room - 1, &again);
+    wants(result == UNFTP_NO_ROOM && again == room && is_filling(less), "they need this room");
+    free_area(less);
+    out = area_of(room);
+    result = unftp_reply_lines(reply.at, reply.len, out.at, room, &again);
+    wants(result == UNFTP_DONE && again == room, "they have just enough room");
+    wants(out.at[room - 2] == '\r' && out.at[room - 1] == '\n', "each line has its end");
+    free_area(out);
+}
+
 /* A client finds the reply that these bytes are, and not before its end. */
 static void check_found(struct bytes reply)
 {
@@ -301,6 +323,7 @@ static void check_found(struct bytes reply)
     wants(unftp_front_reply(reply.at, reply.len - 1, &found) == UNFTP_MORE && found.used == 0
               && found.code == 0,
           "but not before its end");
+    check_reply_lines(reply);
 }
 
 /* The reply of this text, as bytes. */
@@ -373,20 +396,22 @@ static void check_reply(struct bytes text)
     free_area(out);
 }
 
-/* A CR directly before a line feed belongs to the line's end, and any other is written. */
+/* A CR directly before a line feed belongs to the line's end, and any other is written. What is
+   written has these lines. */
 static void check_texts(void)
 {
-    static const char *const texts[][2] = {
-        {"a\r\nb", "299-a\r\n299 b\r\n"},
-        {"a\r\n", "299-a\r\n299 \r\n"},
-        {"\r\n\n", "299-\r\n\r\n299 \r\n"},
-        {"1\r\n2\r\n3", "299- 1\r\n 2\r\n299 3\r\n"},
-        {"a\r\r\n\rb\r", "299-a\r\r\n299 \rb\r\r\n"},
-        {"a\r", "299 a\r\r\n"},
-        {"a\rb", "299 a\rb\r\n"},
-        {"\n\r", "299-\r\n299 \r\r\n"},
+    static const char *const texts[][3] = {
+        {"", "299\r\n", "\r\n"},
+        {"a\r\nb", "299-a\r\n299 b\r\n", "a\r\nb\r\n"},
+        {"a\r\n", "299-a\r\n299 \r\n", "a\r\n\r\n"},
+        {"\r\n\n", "299-\r\n\r\n299 \r\n", "\r\n\r\n\r\n"},
+        {"1\r\n2\r\n3", "299- 1\r\n 2\r\n299 3\r\n", " 1\r\n 2\r\n3\r\n"},
+        {"a\r\r\n\rb\r", "299-a\r\r\n299 \rb\r\r\n", "a\r\r\n\rb\r\r\n"},
+        {"a\r", "299 a\r\r\n", "a\r\r\n"},
+        {"a\rb", "299 a\rb\r\n", "a\rb\r\n"},
+        {"\n\r", "299-\r\n299 \r\r\n", "\r\n\r\r\n"},
     };
-    char out[64];
+    char out[64], lines[64];
     size_t len;
 
     for (size_t at = 0; at < sizeof texts / sizeof texts[0]; at++) {
@@ -394,7 +419,12 @@ static void check_texts(void)
         wants(unftp_reply(299, text, strlen(text), out, sizeof out, &len) == UNFTP_DONE
                   && len == strlen(wanted) && memcmp(out, wanted, len) == 0,
               text);
+        wants(unftp_reply_lines(out, len, lines, sizeof lines, &len) == UNFTP_DONE
+                  && len == strlen(texts[at][2]) && memcmp(lines, texts[at][2], len) == 0,
+              wanted);
     }
+    wants(unftp_reply_lines("a\r\n", 3, lines, sizeof lines, &len) == UNFTP_MALFORMED && len == 0,
+          "what opens no reply has no lines");
 }
 
 /* What a log shows of commands: nothing of a password or an account, also where it is a verb. */

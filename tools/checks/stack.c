@@ -30,6 +30,7 @@ enum {
     NEXT = 0,
     REPLY,
     FRONT_REPLY,
+    REPLY_LINES,
     CANONICAL,
     FORWARD,
     LOG_LINE,
@@ -52,6 +53,7 @@ static const char *const names[CALLS] = {
     "unftp_next",
     "unftp_reply",
     "unftp_front_reply",
+    "unftp_reply_lines",
     "unftp_canonical",
     "unftp_forward",
     "unftp_log_line",
@@ -110,6 +112,7 @@ static void call(int name, struct bytes input, size_t room)
         break;
     case REPLY: unftp_reply(299, input.at, input.len, area.at, room, &len); break;
     case FRONT_REPLY: unftp_front_reply(input.at, input.len, &reply); break;
+    case REPLY_LINES: unftp_reply_lines(input.at, input.len, area.at, room, &len); break;
     case CANONICAL: unftp_canonical(input.at, input.len, area.at, room, &len); break;
     case FORWARD: unftp_forward(input.at, input.len, area.at, room, &len); break;
     case LOG_LINE: unftp_log_line(result, input.at, input.len, area.at, room, &len); break;
