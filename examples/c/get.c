@@ -139,7 +139,7 @@ static enum unftp_to take_reply(struct session *session, uint64_t *place)
     while ((result = unftp_front_reply(session->bytes, session->len, &session->reply))
            == UNFTP_MORE) {
         if (session->len == sizeof session->bytes)
-            fail("a reply is too long");
+            fail("reply too long");
         got = receive(session->socket, session->bytes + session->len,
                       sizeof session->bytes - session->len, "control connection");
         if (got == 0)

@@ -1,5 +1,5 @@
 #!/usr/bin/env python3
-"""Checks what the client of examples/c downloads.
+"""Checks what the clients of examples/c and bindings/rust download.
 
 usage: tools/checks/downloads.py real PYTHON GET..      from pyftpdlib's server, which this Python has: files, one that is missing, and a login that fails
        tools/checks/downloads.py replies GET..          from a server whose replies are in order, or not
@@ -108,7 +108,7 @@ DISORDERLY = {
     "the server ends the session: 421 Bye": ("", "220 Ready\r\n421 Bye\r\n"),
     "no session: 421 Busy": ("", "421 Busy\r\n"),
     "malformed reply": ("", "Hello\r\n"),
-    "a reply is too long": ("", "220-" + "a" * 20_000),
+    "reply too long": ("", "220-" + "a" * 20_000),
     "the server has closed": ("", "220 ReadyCLOSE"),
     "login failed: 332 Account": (f"PASS {PASSWORD}", "332 Account\r\n"),
     "login failed: 530 ?[2J": (f"USER {USER}", "530 \x1b[2J\r\n"),

@@ -13,13 +13,10 @@ use unftp_control::{Client, Command, Password, To};
 /// How long the server may take for anything.
 const PATIENCE: Duration = Duration::from_secs(60);
 
-type Outcome<T> = Result<T, Box<dyn Error>>;
+/// The most bytes of a reply.
+const REPLY_LIMIT: usize = 16_384;
 
-/// A control connection.
-struct Control {
-    stream: TcpStream,
-    client: Client,
-}
+type Outcome<T> = Result<T, Box<dyn Error>>;
 
 /// A reply: its code, and its first line.
 struct Answer {
@@ -28,36 +25,51 @@ struct Answer {
 }
 
 impl Answer {
-    /// The reply, where its code begins with one of these digits.
-    fn wanted(self, digits: &[u16]) -> Outcome<Answer> {
+    /// The reply, where the first digit of its code is one of these.
+    fn wanted(self, digits: &[u16], else_say: &str) -> Outcome<Answer> {
         if digits.contains(&(self.code / 100)) {
             return Ok(self);
         }
-        Err(format!("the server says {} {}", self.code, self.text).into())
+        Err(format!("{else_say}: {} {}", self.code, self.text).into())
     }
+}
+
+/// A control connection.
+struct Control {
+    stream: TcpStream,
+    client: Client,
 }
 
 impl Control {
     /// Connects to a server, and waits for its greeting.
     fn connect(host: &str, port: u16) -> Outcome<Control> {
-        let stream = connect(host, port)?;
-        let mut control = Control { stream, client: Client::new() };
-        control.final_reply(To::Greeting)?.wanted(&[2])?;
+        let client = Client::with_limit(REPLY_LIMIT);
+        let mut control = Control { stream: connect(host, port)?, client };
+        control.final_reply()?.wanted(&[2], "no session")?;
         Ok(control)
     }
 
-    /// The next reply, which has to be to this.
-    fn reply(&mut self, to: To) -> Outcome<Answer> {
+    /// The next complete reply of what was received. One that nobody asked for is an error.
+    fn received_reply(&mut self) -> Outcome<Option<Answer>> {
+        let Some(taken) = self.client.next_reply()? else { return Ok(None) };
+        let line = taken.reply.lines().next().unwrap_or_default();
+        let answer = Answer { code: taken.reply.code(), text: printable(line) };
+        if taken.to != To::Nothing {
+            return Ok(Some(answer));
+        }
+        let what = match answer.code {
+            421 => "the server ends the session",
+            _ => "a reply to nothing",
+        };
+        answer.wanted(&[], what).map(Some)
+    }
+
+    /// The next reply.
+    fn reply(&mut self) -> Outcome<Answer> {
         let mut piece = [0; 4096];
         loop {
-            if let Some(taken) = self.client.next_reply()? {
-                let text = taken.reply.lines().next().map(String::from_utf8_lossy);
-                let text = text.unwrap_or_default().escape_default().to_string();
-                let answer = Answer { code: taken.reply.code(), text };
-                if taken.to == to {
-                    return Ok(answer);
-                }
-                return Err(format!("nothing asked for {} {}", answer.code, answer.text).into());
+            if let Some(answer) = self.received_reply()? {
+                return Ok(answer);
             }
             match self.stream.read(&mut piece)? {
                 0 => return Err("the server has closed the connection".into()),
@@ -66,53 +78,65 @@ impl Control {
         }
     }
 
-    /// The final reply to this: what comes before it is preliminary.
-    fn final_reply(&mut self, to: To) -> Outcome<Answer> {
+    /// The next final reply: those before it are preliminary.
+    fn final_reply(&mut self) -> Outcome<Answer> {
         loop {
-            let answer = self.reply(to)?;
+            let answer = self.reply()?;
             if answer.code >= 200 {
                 return Ok(answer);
             }
         }
     }
 
-    /// Sends a command.
-    fn send(&mut self, command: &Command) -> Outcome<To> {
+    /// Sends a command, once each earlier one has its replies and no other came.
+    fn send(&mut self, command: &Command) -> Outcome<()> {
+        self.received_reply()?;
         let mut line = Vec::new();
-        let place = self.client.send(command, &mut line)?;
-        self.stream.write_all(&line)?;
-        Ok(To::Command(place))
+        self.client.send(command, &mut line)?;
+        Ok(self.stream.write_all(&line)?)
     }
 
     /// Sends a command, and returns the final reply to it.
     fn ask(&mut self, command: &Command) -> Outcome<Answer> {
-        let to = self.send(command)?;
-        self.final_reply(to)
+        self.send(command)?;
+        self.final_reply()
     }
 
-    /// Logs in.
     fn log_in(&mut self, name: &str, password: &str) -> Outcome<()> {
-        let answer = self.ask(&Command::User { username: name.into() })?.wanted(&[2, 3])?;
-        if answer.code / 100 == 3 {
-            self.ask(&Command::Pass { password: Password::from(password) })?.wanted(&[2])?;
+        let user = self.ask(&Command::User { username: name.into() })?;
+        if user.wanted(&[2, 3], "login failed")?.code / 100 == 3 {
+            let pass = self.ask(&Command::Pass { password: Password::from(password) })?;
+            pass.wanted(&[2], "login failed")?;
         }
         Ok(())
     }
 
-    /// Writes a file of the server to the output.
-    fn download(&mut self, host: &str, path: &str, output: &mut impl Write) -> Outcome<u64> {
-        self.ask(&Command::Type)?.wanted(&[2])?;
-        let size = self.ask(&Command::Size { file: path.into() })?;
-        let size = if size.code == 213 { size.text.trim().parse().ok() } else { None };
-        let passive = self.ask(&Command::Epsv)?.wanted(&[2])?;
-        let port = port_in(&passive.text).ok_or("the server names no port")?;
-        let mut data = connect(host, port)?;
-        let to = self.send(&Command::Retr { path: path.into() })?;
-        self.reply(to)?.wanted(&[1])?;
-        let count = copy(&mut data, output, size)?;
+    /// The size of a file, where the server says it.
+    fn size(&mut self, path: &str) -> Outcome<Option<u64>> {
+        let answer = self.ask(&Command::Size { file: path.into() })?;
+        Ok((answer.code == 213).then(|| answer.text.parse().ok()).flatten())
+    }
+
+    /// Where the server listens for the data connection.
+    fn passive_port(&mut self) -> Outcome<u16> {
+        let answer = self.ask(&Command::Epsv)?.wanted(&[2], "no passive mode")?;
+        match port_in(&answer.text) {
+            Some(port) => Ok(port),
+            None => Err(format!("no port: {} {}", answer.code, answer.text).into()),
+        }
+    }
+
+    /// Writes a file of the server to a new one.
+    fn download(&mut self, host: &str, path: &str, output: &str) -> Outcome<()> {
+        self.ask(&Command::Type)?.wanted(&[2], "no binary mode")?;
+        let size = self.size(path)?;
+        let mut data = connect(host, self.passive_port()?)?;
+        self.send(&Command::Retr { path: path.into() })?;
+        self.reply()?.wanted(&[1], path)?;
+        copy(&mut data, &mut File::create(output)?, size)?;
         drop(data);
-        self.final_reply(to)?.wanted(&[2])?;
-        Ok(count)
+        self.final_reply()?.wanted(&[2], path)?;
+        Ok(())
     }
 }
 
@@ -123,19 +147,24 @@ fn connect(host: &str, port: u16) -> io::Result<TcpStream> {
     Ok(stream)
 }
 
+/// A server's text for a terminal, without control characters.
+fn printable(text: &[u8]) -> String {
+    let shown = |byte: &u8| if matches!(byte, b' '..=b'~') { char::from(*byte) } else { '?' };
+    text.iter().map(shown).collect()
+}
+
 /// The port in the text of a 229: `(|||6446|)`, with any sign in place of the bars.
 fn port_in(text: &str) -> Option<u16> {
     let inner = text.split_once('(')?.1.split_once(')')?.0;
-    let sign = inner.chars().next()?;
-    let parts: Vec<&str> = inner.split(sign).collect();
+    let parts: Vec<&str> = inner.split(inner.chars().next()?).collect();
     match parts[..] {
-        ["", "", "", port, ""] => port.parse().ok(),
+        ["", "", "", port, ""] => port.parse().ok().filter(|port| *port != 0),
         _ => None,
     }
 }
 
 /// Copies all bytes, and shows how many there are so far.
-fn copy(data: &mut impl Read, output: &mut impl Write, size: Option<u64>) -> Outcome<u64> {
+fn copy(data: &mut impl Read, output: &mut impl Write, size: Option<u64>) -> Outcome<()> {
     let (mut piece, mut count) = ([0; 65536], 0);
     loop {
         show(count, size);
@@ -148,14 +177,14 @@ fn copy(data: &mut impl Read, output: &mut impl Write, size: Option<u64>) -> Out
         }
     }
     eprintln!();
-    output.flush()?;
-    Ok(count)
+    Ok(output.flush()?)
 }
 
 fn show(count: u64, size: Option<u64>) {
     match size {
-        Some(size) if size > 0 => eprint!("\r{count} bytes, {} %", 100 * count / size),
-        _ => eprint!("\r{count} bytes"),
+        Some(0) => eprint!("\r{count} bytes, 100%"),
+        Some(size) => eprint!("\r{count} bytes, {}%", u128::from(count) * 100 / u128::from(size)),
+        None => eprint!("\r{count} bytes"),
     }
 }
 
@@ -163,11 +192,14 @@ fn run(arguments: &[String]) -> Outcome<()> {
     let [host, port, name, password, path, output] = arguments else {
         return Err("usage: get HOST PORT USER PASSWORD PATH OUTPUT".into());
     };
+    if [name, password, path].iter().any(|word| word.contains(['\r', '\n'])) {
+        return Err("a name, a password and a path are of one line".into());
+    }
     let mut control = Control::connect(host, port.parse()?)?;
     control.log_in(name, password)?;
-    let count = control.download(host, path, &mut File::create(output)?)?;
-    control.ask(&Command::Quit)?;
-    println!("{count} bytes");
+    control.download(host, path, output)?;
+    // the file is there, whatever the server says to this
+    let _ = control.ask(&Command::Quit);
     Ok(())
 }
 
