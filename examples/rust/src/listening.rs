@@ -1,0 +1,120 @@
+//! A listener with limits and a clean end.
+use std::collections::HashMap;
+use std::future::Future;
+use std::io;
+use std::net::{IpAddr, SocketAddr};
+use std::sync::{Arc, Mutex, PoisonError};
+use std::time::Duration;
+use tokio::net::{TcpListener, TcpStream};
+use tokio::signal::unix::{signal, SignalKind};
+use tokio::sync::watch;
+use tokio::task::JoinSet;
+use tokio::time::{sleep, timeout};
+
+/// How many connections there may be.
+#[derive(Clone, Copy, Debug)]
+pub struct Limits {
+    /// Of all clients.
+    pub connections: usize,
+    /// Of one address.
+    pub per_address: usize,
+}
+
+/// Changes once, when the program is to end.
+pub type Stop = watch::Receiver<()>;
+
+/// A client that has connected.
+pub struct Connected {
+    /// Its connection.
+    pub tcp: TcpStream,
+    /// Its address.
+    pub peer: SocketAddr,
+    /// Whether there are too many connections, so that it is only to be refused.
+    pub is_refused: bool,
+    /// When the program is to end.
+    pub stop: Stop,
+}
+
+/// How many connections each address has.
+type Counts = Arc<Mutex<HashMap<IpAddr, usize>>>;
+
+/// A connection that is counted until this is dropped.
+struct Counted {
+    counts: Counts,
+    address: IpAddr,
+}
+
+impl Counted {
+    /// Counts a connection, where it is within the limits.
+    fn new(counts: &Counts, address: IpAddr, limits: Limits) -> Option<Counted> {
+        let mut count_of = counts.lock().unwrap_or_else(PoisonError::into_inner);
+        let is_within = count_of.values().sum::<usize>() < limits.connections
+            && count_of.get(&address).copied().unwrap_or(0) < limits.per_address;
+        is_within.then(|| {
+            *count_of.entry(address).or_default() += 1;
+            Counted { counts: counts.clone(), address }
+        })
+    }
+}
+
+impl Drop for Counted {
+    fn drop(&mut self) {
+        let mut count_of = self.counts.lock().unwrap_or_else(PoisonError::into_inner);
+        if let Some(count) = count_of.get_mut(&self.address) {
+            *count -= 1;
+            if *count == 0 {
+                count_of.remove(&self.address);
+            }
+        }
+    }
+}
+
+/// Lets each client that connects have its session, until SIGINT or SIGTERM comes. Then it waits for
+/// the sessions to end, for so long at most.
+///
+/// # Errors
+///
+/// Where signals can't be received.
+pub async fn serve<S, F>(
+    listener: TcpListener,
+    limits: Limits,
+    patience: Duration,
+    session: S,
+) -> io::Result<()>
+where
+    S: Fn(Connected) -> F,
+    F: Future<Output = ()> + Send + 'static,
+{
+    let counts = Counts::default();
+    let (stopping, stop) = watch::channel(());
+    let mut interrupted = signal(SignalKind::interrupt())?;
+    let mut terminated = signal(SignalKind::terminate())?;
+    let mut sessions = JoinSet::new();
+    loop {
+        tokio::select! {
+            accepted = listener.accept() => match accepted {
+                Ok((tcp, peer)) => {
+                    let counted = Counted::new(&counts, peer.ip(), limits);
+                    let (is_refused, stop) = (counted.is_none(), stop.clone());
+                    let talk = session(Connected { tcp, peer, is_refused, stop });
+                    sessions.spawn(async move {
+                        talk.await;
+                        drop(counted);
+                    });
+                }
+                // as where no file descriptor is left
+                Err(error) => {
+                    tracing::warn!(%error, "no connection could be accepted");
+                    sleep(Duration::from_millis(100)).await;
+                }
+            },
+            Some(_) = sessions.join_next() => {}
+            _ = interrupted.recv() => break,
+            _ = terminated.recv() => break,
+        }
+    }
+    drop((listener, stopping));
+    let ended = async { while sessions.join_next().await.is_some() {} };
+    let _ = timeout(patience, ended).await;
+    Ok(())
+}
