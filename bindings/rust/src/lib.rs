@@ -60,6 +60,12 @@
 //! it. The first call asks the library for its version, and
 //! panics where that is not 0.1.x. The crate without features has no dependencies.
 //!
+//! # Logs
+//!
+//! `Display` of a [`Command`] is what a log may show of it, and so is what the feature `serde` writes:
+//! commands, events and replies as `Serialize`, without passwords and accounts. A reply is written as
+//! it is, also where a server repeats in it what it was sent.
+//!
 //! # Memory
 //!
 //! Where the library or an area of it can't allocate, a call returns [`Error::OutOfMemory`] and may
@@ -89,6 +95,8 @@ mod pending;
 mod received;
 mod reply;
 mod reply_decoder;
+#[cfg(feature = "serde")]
+mod serialize;
 mod shown;
 mod version;
 

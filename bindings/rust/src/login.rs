@@ -95,7 +95,6 @@ impl Login {
     /// Takes what the accounts say of a password, before the next event, and returns the reply to
     /// PASS: 230 or 530. Where the last event didn't ask for it, nobody is logged in by this, and
     /// the reply is 503.
-    #[must_use]
     pub fn answer(&mut self, accepted: bool) -> Reply {
         match (ffi::login_answer(&mut self.login, accepted), accepted) {
             (ffi::DONE, true) => Reply::new(ReplyCode::USER_LOGGED_IN, "User logged in, proceed"),

@@ -2,6 +2,7 @@
 
 /// The security mechanism that AUTH asks for (RFC 2228, section 3; RFC 4217, section 4).
 #[derive(Clone, Copy, Debug, PartialEq, Eq, Hash)]
+#[non_exhaustive]
 pub enum AuthParam {
     /// `SSL`, which is older than the RFC.
     Ssl,
@@ -22,6 +23,7 @@ pub enum ModeParam {
 
 /// The option that OPTS sets (RFC 2389, section 4).
 #[derive(Clone, Copy, Debug, PartialEq, Eq, Hash)]
+#[non_exhaustive]
 pub enum Opt {
     /// `UTF8`: whether path names are UTF-8 (RFC 2640).
     Utf8 {

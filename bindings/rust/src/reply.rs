@@ -25,6 +25,7 @@ use std::iter;
 /// assert_eq!(features.to_bytes()?, b"211-Features:\r\n UTF8\r\n211 End\r\n");
 /// # Ok::<(), unftp_control::Error>(())
 /// ```
+#[must_use]
 #[derive(Clone, Debug)]
 pub struct Reply {
     code: ReplyCode,
@@ -145,6 +146,7 @@ pub fn reply<L: AsRef<str>>(
 }
 
 /// What is at the start of the bytes that a client has received.
+#[must_use]
 #[derive(Clone, Copy, Debug, PartialEq, Eq)]
 pub enum FrontReply {
     /// A reply.
