@@ -408,7 +408,10 @@ enum unftp_result unftp_client_line(struct unftp_client *client, const char *lin
 enum unftp_to unftp_client_reply(struct unftp_client *client, uint32_t code,
                                  uint64_t *place) UNFTP_NONNULL;
 
-/* How many lines are owed their final reply. */
+/*
+ * How many lines are owed their final reply. A proxy answers a line of its own client itself only
+ * where greeted is not 0 and this is 0: so each line gets its replies in order.
+ */
 uint64_t unftp_client_owed(const struct unftp_client *client) UNFTP_NONNULL;
 
 /*

@@ -52,6 +52,11 @@ impl Dialogue {
         ClientReply { to, reply }
     }
 
+    /// Whether the greeting is complete.
+    pub(crate) fn is_greeted(&self) -> bool {
+        self.0.greeted != 0
+    }
+
     /// How many lines are owed their final reply.
     pub(crate) fn owed(&self) -> u64 {
         ffi::client_owed(&self.0)
@@ -75,6 +80,7 @@ impl Dialogue {
 /// client.send(&Command::Pasv, &mut output)?;
 /// let retr = client.send(&Command::Retr { path: "a.txt".into() }, &mut output)?;
 /// assert_eq!(output, b"PASV\r\nRETR a.txt\r\n");
+/// assert_eq!((client.is_greeted(), client.owed()), (false, 2));
 ///
 /// client.receive(b"220 Ready\r\n227 (127,0,0,1,4,1)\r\n150 Opening\r\n226 Do")?;
 /// let mut taken = Vec::new();
@@ -82,7 +88,7 @@ impl Dialogue {
 ///     taken.push((reply.to, reply.reply.code()));
 /// }
 /// assert_eq!(taken, [(To::Greeting, 220), (To::Command(0), 227), (To::Command(retr), 150)]);
-/// assert_eq!(client.owed(), 1);
+/// assert_eq!((client.is_greeted(), client.owed()), (true, 1));
 /// # Ok::<(), unftp_control::Error>(())
 /// ```
 #[derive(Clone, Debug)]
@@ -146,6 +152,11 @@ impl Client {
     pub fn next_reply(&mut self) -> Result<Option<ClientReply<'_>>, Error> {
         let reply = self.replies.next_reply()?;
         Ok(reply.map(|reply| self.dialogue.reply(reply)))
+    }
+
+    /// Whether the final reply of the greeting was taken.
+    pub fn is_greeted(&self) -> bool {
+        self.dialogue.is_greeted()
     }
 
     /// How many commands are owed their final reply.

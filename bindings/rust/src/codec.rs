@@ -141,6 +141,11 @@ impl FtpClientCodec {
         FtpClientCodec { search: Search::new(limit), dialogue: Dialogue::default() }
     }
 
+    /// Whether the final reply of the greeting was taken.
+    pub fn is_greeted(&self) -> bool {
+        self.dialogue.is_greeted()
+    }
+
     /// How many commands are owed their final reply.
     pub fn owed(&self) -> u64 {
         self.dialogue.owed()

@@ -50,7 +50,8 @@
 //!
 //! [`forward`] is the line that a proxy sends to a server for a client's line, and [`canonical`] the
 //! one line that means what a client's line does. With a [`Client`] toward the server, a line that
-//! the proxy answers itself waits until [`owed`](Client::owed) is 0.
+//! the proxy answers itself waits until the [greeting](Client::is_greeted) is complete and
+//! [`owed`](Client::owed) is 0.
 //!
 //! # Linking
 //!

@@ -9,7 +9,9 @@ ghost use Rattle.unftp_control_defs.specs.FtpCommand.{FtpCommand};
 ghost use Rattle.unftp_control_defs.specs.Said.{HasTypedFields};
 ghost use Rattle.unftp_control_defs.specs.Lines.{IsLine};
 ghost use Rattle.unftp_control_codecs.specs.LineFeed.{is_line_feed, line_feed_from};
-ghost use Rattle.unftp_control_client.specs.Dialogue.{after_line, after_reply, next_to};
+ghost use Rattle.unftp_control_defs.specs.Turns.{is_preliminary};
+ghost use Rattle.unftp_control_client.specs.Dialogue.{after_line, after_reply, commands_owed, next_to};
+ghost use Rattle.unftp_control_client.specs.Forwarding.{Answered, AreForwardingSteps, ForwardingStep, IsForwardingStep, lines_replies};
 ghost use Rattle.unftp_control_client.specs.Steps.{AreDialogueSteps, AreExchanges, ClientStep, EndsInAgreement, ReplyTo, Sent, Took, replies_owed};
 ghost use Rattle.unftp_control_client.specs.declared.dialogue.To.TheVariants.{Greeting};
 ghost use Rattle.unftp_control_log.specs.Known.{known};
@@ -167,6 +169,19 @@ pub fn client_calls_are_a_dialogue()
         → AreDialogueSteps (dialogue_of new_client) steps (dialogue_of after)
         → IsTrue (may_begin_tls (dialogue_of after) pending)
         → EndsInAgreement steps × (pending ≡ 0) }
+{}
+
+/// A proxy that notes each line that it forwards and each reply that it passes on, and answers a line
+/// itself only where `greeted` is not 0 and `unftp_client_owed` is 0: its client gets the greeting and
+/// one exchange for each line, in order, whoever answers it.
+pub fn answers_are_exchanges()
+    ensures answer { (client : RustClient) (reply : ℕ × List Bytes)
+        → client.greeted ≢ 0 → commands_owed (dialogue_of client) ≡ 0
+        → is_preliminary reply.0 ≡ false
+        → IsForwardingStep (dialogue_of client) (Answered reply) (dialogue_of client) }
+    ensures exchanges { (steps : List ForwardingStep) (after : RustClient)
+        → AreForwardingSteps (dialogue_of new_client) steps (dialogue_of after)
+        → AreExchanges Greeting (lines_replies steps) }
 {}
 
 /// A server that does at each event what `unftp_login_event` says, keeps the name of each USER, and

@@ -15,12 +15,12 @@ use Rattle.unftp_control_client.specs.declared.dialogue.To.TheVariants.{Greeting
 -- ---- what one reply changes
 
 -- the exchange that is not complete
-abbrev open_exchange : Option ℕ → To
+abbrev pub open_exchange : Option ℕ → To
 open_exchange None = Greeting
 open_exchange (Some answered) = Command answered
 
 -- how many exchanges are complete
-abbrev complete : Option ℕ → ℕ
+abbrev pub complete : Option ℕ → ℕ
 complete None = 0
 complete (Some answered) = suc answered
 
@@ -47,11 +47,11 @@ sent-after_final false (Command place) d = refl
 sent-after_final false Nothing d = refl
 
 -- what the next reply is to, where the test says whether a command is owed one
-abbrev owed_where : Option ℕ → Bool → To
+abbrev pub owed_where : Option ℕ → Bool → To
 owed_where None owed = Greeting
 owed_where (Some answered) owed = if owed then Command answered else Nothing
 
-abbrev is_owed : Option ℕ → ℕ → Bool
+abbrev pub is_owed : Option ℕ → ℕ → Bool
 is_owed None sent = true
 is_owed (Some answered) sent = nat_lt answered sent
 
@@ -92,22 +92,22 @@ module _ (replies : List ReplyTo) (reply : ℕ × List Bytes) where
 
 -- a reply that is taken
 module _ (d next : Dialogue) (taken : ReplyTo) (step : IsDialogueStep d (Took taken) next) where
-  abbrev owed : Bool
+  abbrev pub owed : Bool
   owed = is_owed d.answered d.sent
 
-  abbrev preliminary : Bool
+  abbrev pub preliminary : Bool
   preliminary = is_preliminary taken.reply.0
 
-  is_to : taken.to ≡ owed_where d.answered owed
+  pub is_to : taken.to ≡ owed_where d.answered owed
   is_to = step.0 ∙ first-owed d.answered d.sent
 
-  now_answered : next.answered
+  pub now_answered : next.answered
       ≡ answered_after preliminary (owed_where d.answered owed) d.answered
   now_answered = ap (λ (d : Dialogue). d.answered) step.1
       ∙ answered-after_final preliminary (next_to d) d
       ∙ ap (λ to. answered_after preliminary to d.answered) (first-owed d.answered d.sent)
 
-  now_sent : next.sent ≡ d.sent
+  pub now_sent : next.sent ≡ d.sent
   now_sent = ap (λ (d : Dialogue). d.sent) step.1 ∙ sent-after_final preliminary (next_to d) d
 
   took-exchanges : (replies : List ReplyTo)

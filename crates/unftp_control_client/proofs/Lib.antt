@@ -1,2 +1,3 @@
 pub mod ClientStepLemmas
 pub mod AgreementLemmas
+pub mod ForwardingLemmas

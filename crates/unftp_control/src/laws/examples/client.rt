@@ -4,6 +4,7 @@
 ghost use Rattle.std.specs.Prelude.{◌≡◌, ◌-◌, ◌^◌, ℕ, [], ◌∷◌, None, Some, Ok, Err, true, false, codes, vec_capacity, vec_len, ⊤};
 ghost use Rattle.std.specs.Global.{Vec};
 ghost use Rattle.unftp_control_client.specs.Dialogue.{asks_for_tls, at_start};
+ghost use Rattle.unftp_control_client.specs.Forwarding.{Answered, Forwarded, IsForwardingStep, Passed, is_line, replies_given};
 ghost use Rattle.unftp_control_client.specs.Exchange.{IsNext, IsOtherError, MayBeginTls, new_client};
 ghost use Rattle.unftp_control_client.specs.Steps.{AreExchanges, AreSteps, EndsInAgreement, IsStep, Received, Sent, Took};
 ghost use Rattle.unftp_control_client.specs.declared.Client.{Client as RustClient};
@@ -92,4 +93,28 @@ pub fn these_are_exchanges()
         (reply_with 220 Greeting ∷ reply_with 150 (Command 0) ∷ reply_with 226 (Command 1) ∷ []) }
     ensures command_left_out { ¬ AreExchanges Greeting
         (reply_with 220 Greeting ∷ reply_with 200 (Command 1) ∷ []) }
+{}
+
+/// Where a proxy may answer a line itself: between two exchanges, after the greeting, by a final
+/// reply.
+pub fn these_answers_are_in_turn()
+    ensures between { IsForwardingStep (dialogue 1 (Some 1)) (Answered (502, [])) (dialogue 1 (Some 1)) }
+    ensures owed { ¬ IsForwardingStep (dialogue 2 (Some 1)) (Answered (502, []))
+        (dialogue 2 (Some 1)) }
+    ensures not_greeted { ¬ IsForwardingStep (dialogue 0 None) (Answered (502, []))
+        (dialogue 0 None) }
+    ensures preliminary { ¬ IsForwardingStep (dialogue 1 (Some 1)) (Answered (150, []))
+        (dialogue 1 (Some 1)) }
+{}
+
+/// What the client of a proxy gets: a line that the proxy answers has a place among those that it
+/// forwards.
+pub fn these_replies_are_given()
+    ensures in_place { replies_given 0 0 (Passed (reply_with 220 Greeting) ∷ Forwarded noop
+        ∷ Passed (reply_with 200 (Command 0)) ∷ Answered (502, [] ∷ []) ∷ Forwarded noop
+        ∷ Passed (reply_with 200 (Command 1)) ∷ [])
+        ≡ reply_with 220 Greeting ∷ reply_with 200 (Command 0) ∷ reply_with 502 (Command 1)
+        ∷ reply_with 200 (Command 2) ∷ [] }
+    ensures reply_is_no_line { is_line (Passed (reply_with 200 (Command 0))) ≡ false }
+    ensures answered_is_a_line { is_line (Answered (502, [])) ≡ true }
 {}

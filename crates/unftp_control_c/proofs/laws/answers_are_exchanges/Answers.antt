@@ -1,0 +1,19 @@
+-- A proxy in C answers lines between the exchanges of its server.
+use Rattle.std.proofs.Common.{◌≡◌, ◌==◌, ℕ, Bool, true, false, refl, eqb-true}
+use Rattle.unftp_control_client.specs.Dialogue.{at_start}
+use Rattle.unftp_control_client.specs.Forwarding.{IsGreeted}
+use Rattle.unftp_control_client.proofs.ForwardingLemmas.{given-exchanges}
+use Rattle.unftp_control_c.specs.Clients.{dialogue_of, flagged}
+use Rattle.unftp_control_c.proofs.laws.answers_are_exchanges.Goals as goal
+
+greeted_where : (flag number : ℕ) (none : Bool) → flag == 0 ≡ none → ¬ (flag ≡ 0)
+    → IsGreeted (flagged flag number)
+greeted_where flag number true e not_zero = absurd (not_zero (eqb-true flag 0 e))
+greeted_where flag number false e not_zero = rw e tt
+
+pub returns : goal.returns
+returns c = record {
+  answer = λ client reply greeted none final.
+      (greeted_where client.greeted client.answered (client.greeted == 0) refl greeted, none, final, refl);
+  exchanges = λ steps after are. given-exchanges 0 steps at_start (dialogue_of after) refl are;
+}
