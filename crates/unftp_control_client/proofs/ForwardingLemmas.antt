@@ -95,8 +95,7 @@ module _ (own : ℕ) (replies : List ReplyTo) (reply : ℕ × List Bytes)
   exchanges-answered None sent greeted none is h = absurd greeted
   exchanges-answered (Some answered) sent greeted none is h =
       let same : own + sent ≡ own + answered = omega (arith, none, is) in
-      let next : suc own + answered ≡ suc (own + answered) = omega arith in
-      (
+      let next : suc own + answered ≡ suc (own + answered) = omega arith in (
         ap Command same,
         rw final (subst (λ place. AreExchanges (Command place) (filter was_owed replies)) next h),
       )
@@ -184,14 +183,14 @@ given-complete own [] before after are =
     )
 given-complete own (Forwarded line ∷ steps) before after (next, step, are) =
     let more = subst (λ (d : Dialogue).
-        complete after.answered + length (filter is_line steps) + d.sent
-        ≡ complete d.answered + finals (replies_given own d.sent steps) + after.sent) step
-        (given-complete own steps next after are) in
+    complete after.answered + length (filter is_line steps) + d.sent
+    ≡ complete d.answered + finals (replies_given own d.sent steps) + after.sent) step
+    (given-complete own steps next after are) in
     omega (arith, more)
 given-complete own (Passed taken ∷ steps) before after (next, step, are) =
     let more = subst (λ sent. complete after.answered + length (filter is_line steps) + sent
-        ≡ complete next.answered + finals (replies_given own sent steps) + after.sent)
-        (now_sent before next taken step) (given-complete own steps next after are) in
+    ≡ complete next.answered + finals (replies_given own sent steps) + after.sent)
+    (now_sent before next taken step) (given-complete own steps next after are) in
     omega (
       arith,
       more,
@@ -200,9 +199,9 @@ given-complete own (Passed taken ∷ steps) before after (next, step, are) =
 given-complete own (Answered reply ∷ steps) before after
     (next, (greeted, none, final, same), are) =
     let more = subst (λ (d : Dialogue).
-        complete after.answered + length (filter is_line steps) + d.sent
-        ≡ complete d.answered + finals (replies_given (suc own) d.sent steps) + after.sent) same
-        (given-complete (suc own) steps next after are) in
+    complete after.answered + length (filter is_line steps) + d.sent
+    ≡ complete d.answered + finals (replies_given (suc own) d.sent steps) + after.sent) same
+    (given-complete (suc own) steps next after are) in
     omega (
       arith,
       more,
