@@ -40,7 +40,8 @@ reply_length (code_only {digits = digits} spells) =
     omega (arith, more_length [] [], line_length digits)
 reply_length (single {digits = digits} {text = text} spells lacks) =
     omega (arith, more_length text [], after_digits digits text SP)
-reply_length (several {digits = digits} {text = text} {bytes = bytes} {lines = lines} spells lacks later) =
+reply_length (several {digits = digits} {text = text} {bytes = bytes} {lines = lines}
+    spells lacks later) =
     omega (
       arith,
       more_length text lines,

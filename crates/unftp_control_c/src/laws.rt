@@ -171,9 +171,9 @@ pub fn client_calls_are_a_dialogue()
         → EndsInAgreement steps × (pending ≡ 0) }
 {}
 
-/// A proxy that notes each line that it forwards and each reply that it passes on, and answers a line
-/// itself only where `greeted` is not 0 and `unftp_client_owed` is 0: its client gets the greeting and
-/// one exchange for each line, in order, whoever answers it.
+/// A proxy that notes each line that it forwards and each reply that it passes on, and answers a
+/// line itself only where `greeted` is not 0 and `unftp_client_owed` is 0: its client gets the
+/// greeting and one exchange for each line, in order, whoever answers it.
 pub fn answers_are_exchanges()
     ensures answer { (client : RustClient) (reply : ℕ × List Bytes)
         → client.greeted ≢ 0 → commands_owed (dialogue_of client) ≡ 0

@@ -12,8 +12,8 @@ use Rattle.unftp_control_client.specs.declared.dialogue.To.{To}
 use Rattle.unftp_control_client.specs.declared.dialogue.To.TheVariants.{Command}
 use Rattle.unftp_control_client.proofs.ClientStepLemmas.{answered_after, complete, is_owed, is_to, now_answered, now_sent, open_exchange, owed, owed_where, preliminary}
 
--- So many lines were answered by the proxy: none before the greeting is complete. No more lines have
--- a final reply of the server than were sent to it.
+-- So many lines were answered by the proxy: none before the greeting is complete. No more lines
+-- have a final reply of the server than were sent to it.
 abbrev pub IsBetween : ℕ → Option ℕ → ℕ → Type 0
 IsBetween own None sent = own ≡ 0
 IsBetween own (Some answered) sent = answered ≤ sent

@@ -99,8 +99,8 @@ impl Dialogue {
         self.sent.saturating_sub(self.answered.unwrap_or(0))
     }
 
-    /// Notes that the line of a command is sent, and returns the command's place. Where 64 bits don't
-    /// count it, it returns `None`, and nothing changes.
+    /// Notes that the line of a command is sent, and returns the command's place. Where 64 bits
+    /// don't count it, it returns `None`, and nothing changes.
     pub fn add_line(&mut self, line: &[u8]) -> Option<u64>
         ensures { MatchOption result
             ((self.new ≡ self.old) × (self.old.sent ≡ 2 ^ 64 - 1))

@@ -98,7 +98,8 @@ pub fn these_are_exchanges()
 /// Where a proxy may answer a line itself: between two exchanges, after the greeting, by a final
 /// reply.
 pub fn these_answers_are_in_turn()
-    ensures between { IsForwardingStep (dialogue 1 (Some 1)) (Answered (502, [])) (dialogue 1 (Some 1)) }
+    ensures between { IsForwardingStep (dialogue 1 (Some 1)) (Answered (502, []))
+        (dialogue 1 (Some 1)) }
     ensures owed { ¬ IsForwardingStep (dialogue 2 (Some 1)) (Answered (502, []))
         (dialogue 2 (Some 1)) }
     ensures not_greeted { ¬ IsForwardingStep (dialogue 0 None) (Answered (502, []))

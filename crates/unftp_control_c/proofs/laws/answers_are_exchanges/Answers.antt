@@ -13,7 +13,11 @@ greeted_where flag number false e not_zero = rw e tt
 
 pub returns : goal.returns
 returns c = record {
-  answer = λ client reply greeted none final.
-      (greeted_where client.greeted client.answered (client.greeted == 0) refl greeted, none, final, refl);
+  answer = λ client reply greeted none final. (
+    greeted_where client.greeted client.answered (client.greeted == 0) refl greeted,
+    none,
+    final,
+    refl,
+  );
   exchanges = λ steps after are. given-exchanges 0 steps at_start (dialogue_of after) refl are;
 }
