@@ -370,6 +370,14 @@ enum unftp_result unftp_forward(const char *line, size_t line_len,
                                 char *out, size_t out_room, size_t *len) UNFTP_NONNULL;
 
 /*
+ * 1 where all servers read a line alike and reply to it, and else 0: its verb has only letters and
+ * digits of ASCII, and at least one, and before the CR LF at its end there is no CR, LF, NUL or
+ * byte 255. A proxy that refuses commands asks it of each line that it sends: in any other line, as
+ * "TYPE A\rSITE x\r\n", a server may read a command that unftp_next does not.
+ */
+uint32_t unftp_is_clear(const char *line, size_t line_len) UNFTP_NONNULL;
+
+/*
  * Writes what a log shows of a client's line to the start of out, without a line end, and *len is
  * how many bytes it has. Each byte is printable ASCII. The number is what unftp_next returned, and
  * the line is what it used up; at UNFTP_LINE_TOO_LONG nothing of the line is looked at.

@@ -535,6 +535,27 @@ static void check_tls(void)
     take_turns(turns, sizeof turns / sizeof turns[0]);
 }
 
+/* The lines that all servers read alike. */
+static void check_clear(void)
+{
+    static const struct {
+        const char *line;
+        size_t len;
+        uint32_t is_clear;
+    } lines[] = {
+        {"SITE CHMOD 777 a\r\n", 18, 1}, {"retr a\tb\r\n", 10, 1}, {"A\r\n", 3, 1},
+        {"RETR \xc3\xa9\r\n", 9, 1},     {"TYPE A\rSITE x\r\n", 15, 0}, {"NOOP\rSITE x\r\n", 13, 0},
+        {"RETR a\r\0b\r\n", 11, 0},     {"RETR a\0b\r\n", 10, 0},     {"CWD \xff\xf4\r\n", 8, 0},
+        {"DELE\tb\r\n", 8, 0},          {" DELE b\r\n", 9, 0},         {"FOO_BAR x\r\n", 11, 0},
+        {"NOOP\n", 5, 0},               {"NOOP", 4, 0},                 {"NOOP\r", 5, 0},
+        {"\r\n", 2, 0},                 {"", 0, 0},                     {"NOOP\r\nQUIT\r\n", 12, 0},
+    };
+
+    for (size_t at = 0; at < sizeof lines / sizeof lines[0]; at++)
+        wants(unftp_is_clear(lines[at].line, lines[at].len) == lines[at].is_clear,
+              "whether a line is clear");
+}
+
 /* What is not noted changes nothing: no line, more than one, and one more than 64 bits count. */
 static void check_not_noted(void)
 {
@@ -703,6 +724,7 @@ int main(void)
     check_log_lines();
     check_replies();
     check_tls();
+    check_clear();
     check_not_noted();
     check_login();
     check_events();

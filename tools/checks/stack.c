@@ -33,6 +33,7 @@ enum {
     REPLY_LINES,
     CANONICAL,
     FORWARD,
+    IS_CLEAR,
     LOG_LINE,
     CLIENT_LINE,
     CLIENT_REPLY,
@@ -56,6 +57,7 @@ static const char *const names[CALLS] = {
     "unftp_reply_lines",
     "unftp_canonical",
     "unftp_forward",
+    "unftp_is_clear",
     "unftp_log_line",
     "unftp_client_line",
     "unftp_client_reply",
@@ -115,6 +117,7 @@ static void call(int name, struct bytes input, size_t room)
     case REPLY_LINES: unftp_reply_lines(input.at, input.len, area.at, room, &len); break;
     case CANONICAL: unftp_canonical(input.at, input.len, area.at, room, &len); break;
     case FORWARD: unftp_forward(input.at, input.len, area.at, room, &len); break;
+    case IS_CLEAR: unftp_is_clear(input.at, input.len); break;
     case LOG_LINE: unftp_log_line(result, input.at, input.len, area.at, room, &len); break;
     case VERSION: unftp_version(); break;
     default: call_with_state(name, input, room); break;

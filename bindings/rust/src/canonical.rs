@@ -45,3 +45,20 @@ pub fn forward(line: &[u8]) -> Result<Vec<u8>, Error> {
         error => error,
     })
 }
+
+/// Whether all servers read the line alike and reply to it: its verb has only letters and digits of
+/// ASCII, and at least one, and before the CR LF at its end there is no CR, LF, NUL or byte 255. A
+/// proxy that refuses commands asks it of each line that it sends: in any other line a server may
+/// read a command that this crate does not.
+///
+/// ```
+/// use unftp_control::is_clear;
+///
+/// assert!(is_clear(b"SITE CHMOD 777 a\r\n"));
+/// assert!(!is_clear(b"TYPE A\rSITE CHMOD 777 a\r\n"));
+/// assert!(!is_clear(b"DELE\ta\r\n"));
+/// ```
+#[must_use]
+pub fn is_clear(line: &[u8]) -> bool {
+    ffi::is_clear(line)
+}

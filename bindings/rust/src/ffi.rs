@@ -120,6 +120,8 @@ extern "C" {
         len: *mut usize,
     ) -> u32;
 
+    fn unftp_is_clear(line: *const u8, line_len: usize) -> u32;
+
     fn unftp_log_line(
         number: u32,
         line: *const u8,
@@ -226,6 +228,13 @@ pub(crate) fn forward(line: &[u8], out: &mut [u8]) -> (u32, usize) {
     let status =
         unsafe { unftp_forward(line.as_ptr(), line.len(), out.as_mut_ptr(), out.len(), &mut len) };
     (status, len)
+}
+
+/// Calls `unftp_is_clear`.
+pub(crate) fn is_clear(line: &[u8]) -> bool {
+    check_version();
+    // SAFETY: no pointer is null, since it is of a reference, and the length is that of the slice.
+    unsafe { unftp_is_clear(line.as_ptr(), line.len()) != 0 }
 }
 
 /// Calls `unftp_log_line`: what it returns, and the length.

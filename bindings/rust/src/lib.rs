@@ -102,7 +102,7 @@ mod shown;
 mod version;
 
 pub use crate::bytes::{Password, RawBytes};
-pub use canonical::{canonical, forward};
+pub use canonical::{canonical, forward, is_clear};
 pub use client::{Client, ClientReply, To};
 pub use code::{ReplyCode, UnknownCode};
 #[cfg(feature = "tokio-util")]

@@ -1,2 +1,3 @@
-//! The line that a command is sent as, and the one that a client's line is forwarded as.
-pub use unftp_control_write::{ForwardError, WriteCommandError, forward, write_command};
+//! The line that a command is sent as, the one that a client's line is forwarded as, and whether all
+//! servers read a line alike.
+pub use unftp_control_write::{ForwardError, WriteCommandError, forward, is_clear, write_command};

@@ -1,5 +1,5 @@
 -- What a server in C keeps of a login (RFC 959, section 4.1.1), and what it does with an event.
-use Rattle.std.specs.Prelude.{ℕ, ◌==◌, ◌||◌, nat_le, Bool, if◌then◌else◌, List, [], ◌∷◌}
+use Rattle.std.specs.Prelude.{ℕ, ◌==◌, ◌&&◌, ◌||◌, nat_le, Bool, if◌then◌else◌, List, [], ◌∷◌}
 use Rattle.unftp_control_defs.specs.Bytes.{Bytes}
 use Rattle.unftp_control_defs.specs.Events.{FtpEvent, Command}
 use Rattle.unftp_control_defs.specs.FtpCommand.{User, Pass, number}
@@ -33,11 +33,15 @@ step_number AskAccounts = 2
 step_number NeedName = 3
 step_number NeedLogin = 4
 
+-- the number of a line that is refused, or for which memory ran out
+abbrev pub is_refused : ℕ → Bool
+is_refused n = nat_le 102 n && nat_le n 106
+
 -- The number of an event that needs no login: that of such a command, or of a refused line.
 abbrev pub is_open : ℕ → Bool
 is_open n = (n == number verb.Quit) || ((n == number verb.Auth) || ((n == number verb.Pbsz)
     || ((n == number verb.Prot) || ((n == number verb.Feat) || ((n == number verb.Help)
-    || ((n == number verb.Noop) || ((n == number verb.Syst) || nat_le 101 n)))))))
+    || ((n == number verb.Noop) || ((n == number verb.Syst) || is_refused n)))))))
 
 -- What is done with an event, by its number: a password follows a name, and else a name is asked
 -- for.

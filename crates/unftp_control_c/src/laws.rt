@@ -11,7 +11,7 @@ ghost use Rattle.unftp_control_defs.specs.Lines.{IsLine};
 ghost use Rattle.unftp_control_codecs.specs.LineFeed.{is_line_feed, line_feed_from};
 ghost use Rattle.unftp_control_defs.specs.Turns.{is_preliminary};
 ghost use Rattle.unftp_control_client.specs.Dialogue.{after_line, after_reply, commands_owed, next_to};
-ghost use Rattle.unftp_control_client.specs.Forwarding.{Answered, AreForwardingSteps, ForwardingStep, IsForwardingStep, lines_replies};
+ghost use Rattle.unftp_control_client.specs.ForwardingSteps.{Answered, AreForwardingSteps, ForwardingStep, IsForwardingStep, lines_replies};
 ghost use Rattle.unftp_control_client.specs.Steps.{AreDialogueSteps, AreExchanges, ClientStep, EndsInAgreement, ReplyTo, Sent, Took, replies_owed};
 ghost use Rattle.unftp_control_client.specs.declared.dialogue.To.TheVariants.{Greeting};
 ghost use Rattle.unftp_control_log.specs.Known.{known};

@@ -3,6 +3,7 @@
 
 mod areas;
 mod canonical;
+mod clear;
 mod client;
 pub mod examples;
 mod forwarding;

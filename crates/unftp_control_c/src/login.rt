@@ -1,6 +1,6 @@
 //! A login: which events a server passes on, and which it answers itself.
 ghost use Rattle.std.specs.Prelude.{◌≡◌, ◌==◌, ◌≢◌, if◌then◌else◌};
-ghost use Rattle.unftp_control_c.specs.Logins.{after_event, is_open, login_step, progress_of, stage_number, step_number};
+ghost use Rattle.unftp_control_c.specs.Logins.{after_event, is_open, is_refused, login_step, progress_of, stage_number, step_number};
 ghost use Rattle.unftp_control_c.specs.Numbers.{status_number};
 ghost use Rattle.unftp_control_c.specs.declared.login.Progress.TheVariants.{Asked};
 ghost use Rattle.unftp_control_c.specs.declared.status.Status.TheVariants.{Done, InvalidArgument};
@@ -123,7 +123,14 @@ fn is_open(event: u32) -> bool
         || event == Verb::Help.number()
         || event == Verb::Noop.number()
         || event == Verb::Syst.number()
-        || event >= Status::More.number()
+        || is_refused(event)
+}
+
+/// Whether it is the number of a line that is refused, or for which memory ran out.
+fn is_refused(event: u32) -> bool
+    ensures { result ≡ is_refused event }
+{
+    (Status::InvalidCommand.number()..=Status::OutOfMemory.number()).contains(&event)
 }
 
 /// What is done with an event: `unftp_login_event` of include/unftp_control.h.

@@ -5,7 +5,7 @@ use Rattle.std.specs.List.{filter}
 use Rattle.unftp_control_defs.specs.Bytes.{Bytes}
 use Rattle.unftp_control_defs.specs.Turns.{is_preliminary}
 use Rattle.unftp_control_client.specs.Dialogue.{commands_owed}
-use Rattle.unftp_control_client.specs.Forwarding.{Answered, AreForwardingSteps, Forwarded, ForwardingStep, IsGreeted, Passed, among_all, is_line, replies_given}
+use Rattle.unftp_control_client.specs.ForwardingSteps.{Answered, AreForwardingSteps, Forwarded, ForwardingStep, IsGreeted, Passed, among_all, is_line, replies_given}
 use Rattle.unftp_control_client.specs.Steps.{AreExchanges, IsDialogueStep, ReplyTo, Took, is_final, was_owed}
 use Rattle.unftp_control_client.specs.declared.dialogue.Dialogue.{Dialogue}
 use Rattle.unftp_control_client.specs.declared.dialogue.To.{To}

@@ -2,4 +2,4 @@
 pub mod Dialogue
 pub mod Exchange
 pub mod Steps
-pub mod Forwarding
+pub mod ForwardingSteps

@@ -10,7 +10,7 @@ ghost use Rattle.unftp_control_read.specs.declared.errors.NextReplyError.{NextRe
 ghost use Rattle.unftp_control_read.specs.declared.errors.ReceiveError.{ReceiveError};
 ghost use Rattle.unftp_control_client.specs.Dialogue.{after_line, at_start, commands_owed};
 ghost use Rattle.unftp_control_client.specs.Exchange.{IsNext, new_client};
-ghost use Rattle.unftp_control_client.specs.Forwarding.{AreForwardingSteps, ForwardingStep, IsGreeted, is_line, lines_replies};
+ghost use Rattle.unftp_control_client.specs.ForwardingSteps.{AreForwardingSteps, ForwardingStep, IsGreeted, is_line, lines_replies};
 ghost use Rattle.unftp_control_client.specs.Steps.{AreDialogueSteps, AreExchanges, AreSteps, ClientStep, EndsInAgreement, Received, Sent, Took, lines_sent, decoder_steps, is_final, replies_owed, reply_to};
 ghost use Rattle.unftp_control_client.specs.declared.Client.{Client as RustClient};
 ghost use Rattle.unftp_control_client.specs.declared.dialogue.ClientReply.{ClientReply as RustReply};

@@ -2,6 +2,5 @@
 pub mod Owed
 pub mod Given
 pub mod ClientLines
-pub mod ClearLines
 pub mod ProxyCalls
 pub mod Traffic

@@ -2,7 +2,7 @@
 ghost use Rattle.std.specs.Prelude.{◌≡◌, ◌∷◌, ◌++◌, [], Some, None, codes, false, true};
 ghost use Rattle.unftp_control_defs.specs.FtpReply.{CodeAndMsg, MultiLine, Nothing};
 ghost use Rattle.unftp_control_proxy.specs.ProxyCalls.{is_final};
-ghost use Rattle.unftp_control_proxy.specs.ClearLines.{is_clear};
+ghost use Rattle.unftp_control_write.specs.ClearLines.{is_clear};
 ghost use Rattle.unftp_control_proxy.specs.ClientLines.{after_front_line, front_line, shown_line};
 ghost use Rattle.unftp_control_proxy.specs.Given.{AreAsked, given};
 ghost use Rattle.unftp_control_proxy.specs.Owed.{Answer, Reply};

@@ -3,13 +3,13 @@
 //! is given one exchange for each of its lines, in order (RFC 959, section 5.4).
 #![tactic(auto)]
 
-mod clear;
 mod client;
 mod errors;
 pub mod examples;
 pub mod laws;
 mod order;
 mod proxy;
+mod sending;
 pub mod steps;
 
 pub use crate::client::ClientLine;

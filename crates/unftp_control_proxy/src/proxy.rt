@@ -11,7 +11,7 @@ ghost use Rattle.unftp_control_proxy.specs.ClientLines.{first_client_line, line_
 ghost use Rattle.unftp_control_proxy.specs.Given.{IsWholeReply};
 ghost use Rattle.unftp_control_proxy.specs.Owed.{Answer, IsReplyNext, Reply as ReplyOwed, after_reply};
 
-use crate::clear::check;
+use crate::sending::check;
 use crate::client::{ClientLine, ClientLines};
 use crate::errors::{ReplaceError, SendError};
 use crate::order::Order;

@@ -15,7 +15,7 @@ use Rattle.unftp_control_defs.specs.Lines.{IsLine, lines_of}
 use Rattle.unftp_control_defs.proofs.LackLemmas.{Lacks-append}
 use Rattle.unftp_control_defs.proofs.LineLemmas.{Lines-lines_of}
 use Rattle.unftp_control_proxy.specs.ProxyCalls.{IsAnswerError, IsDecidable, IsSendError, MayBeSent, WaitsForServer, decided, is_out_of_memory}
-use Rattle.unftp_control_proxy.specs.ClearLines.{has_clear_verb, is_clear, is_plain, is_plain_line}
+use Rattle.unftp_control_write.specs.ClearLines.{has_clear_verb, is_clear, is_plain, is_plain_line}
 use Rattle.unftp_control_proxy.specs.ClientLines.{first_client_line, front_line, head_or_none, line_in}
 use Rattle.unftp_control_relay.specs.Filtering.{AreFiltered, Becomes, FilterLaw, IsStep, Refuse, Reply, Send, Step, fate_by, filtered, long_line, refused_line, state_then, step_for, told_of}
 use Rattle.unftp_control_proxy.specs.Owed as Owed

@@ -9,7 +9,7 @@ use Rattle.unftp_control_defs.specs.FtpReply.{FtpReply, CodeAndMsg, encoded}
 use Rattle.unftp_control_defs.specs.Outcome.{outcome}
 use Rattle.unftp_control_message.specs.ReplyMeaning.{reply_of}
 use Rattle.unftp_control_proxy.specs.ProxyCalls.{decided, is_final}
-use Rattle.unftp_control_proxy.specs.ClearLines.{is_clear}
+use Rattle.unftp_control_write.specs.ClearLines.{is_clear}
 use Rattle.unftp_control_proxy.specs.Traffic.{AnsweredBy, DecidedLine, Fate, IsOneLine, SentAs, owed_for, sent_for}
 use Rattle.unftp_control_relay.specs.declared.driver.Step.{Step as RustStep}
 use Rattle.unftp_control_relay.specs.declared.driver.Step.TheVariants as step

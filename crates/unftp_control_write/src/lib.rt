@@ -9,10 +9,12 @@ ghost use Rattle.unftp_control_defs.specs.Outcome.{outcome};
 ghost use Rattle.unftp_control_write.specs.Room.{LacksRoom};
 
 mod canonical;
+mod clear;
 mod forwarding;
 mod line;
 
 use crate::canonical::line_of;
+pub use clear::is_clear;
 pub use forwarding::{ForwardError, forward, forward_parts, is_line};
 use itoa::Buffer;
 use thiserror::Error;

@@ -53,14 +53,16 @@ pub fn tls_may_begin()
         (record { sent = 1; answered = Some 1; asked = Some 0; agreed = false }) 0 ≡ false }
 {}
 
-/// What is done with an event: 1 is USER, 2 PASS, 10 NOOP, 14 RETR, and from 101 on no command.
+/// What is done with an event: 1 is USER, 2 PASS, 10 NOOP, 14 RETR, and 102 to 106 no command.
 pub fn logins_have_steps()
     ensures stranger { login_step NoName 14 ≡ NeedLogin }
     ensures named { login_step Named 14 ≡ NeedLogin }
     ensures member { login_step LoggedIn 14 ≡ PassOn }
     ensures needs_none { login_step NoName 10 ≡ PassOn }
-    ensures refused { login_step NoName 101 ≡ PassOn }
-    ensures no_number { login_step NoName 100 ≡ NeedLogin }
+    ensures refused { login_step NoName 102 ≡ PassOn }
+    ensures out_of_memory { login_step NoName 106 ≡ PassOn }
+    ensures no_line_yet { login_step NoName 101 ≡ NeedLogin }
+    ensures no_event { login_step NoName 107 ≡ NeedLogin }
     ensures name { login_step LoggedIn 1 ≡ NeedPassword }
     ensures password { login_step Named 2 ≡ AskAccounts }
     ensures no_name { login_step NoName 2 ≡ NeedName }

@@ -4,7 +4,7 @@
 ghost use Rattle.std.specs.Prelude.{◌≡◌, ◌-◌, ◌^◌, ℕ, [], ◌∷◌, None, Some, Ok, Err, true, false, codes, vec_capacity, vec_len, ⊤};
 ghost use Rattle.std.specs.Global.{Vec};
 ghost use Rattle.unftp_control_client.specs.Dialogue.{asks_for_tls, at_start};
-ghost use Rattle.unftp_control_client.specs.Forwarding.{Answered, Forwarded, IsForwardingStep, Passed, is_line, replies_given};
+ghost use Rattle.unftp_control_client.specs.ForwardingSteps.{Answered, Forwarded, IsForwardingStep, Passed, is_line, replies_given};
 ghost use Rattle.unftp_control_client.specs.Exchange.{IsNext, IsOtherError, MayBeginTls, new_client};
 ghost use Rattle.unftp_control_client.specs.Steps.{AreExchanges, AreSteps, EndsInAgreement, IsStep, Received, Sent, Took};
 ghost use Rattle.unftp_control_client.specs.declared.Client.{Client as RustClient};

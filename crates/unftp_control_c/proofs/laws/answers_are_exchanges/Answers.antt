@@ -1,7 +1,7 @@
 -- A proxy in C answers lines between the exchanges of its server.
 use Rattle.std.proofs.Common.{◌≡◌, ◌==◌, ℕ, Bool, true, false, refl, eqb-true}
 use Rattle.unftp_control_client.specs.Dialogue.{at_start}
-use Rattle.unftp_control_client.specs.Forwarding.{IsGreeted}
+use Rattle.unftp_control_client.specs.ForwardingSteps.{IsGreeted}
 use Rattle.unftp_control_client.proofs.ForwardingLemmas.{given-exchanges}
 use Rattle.unftp_control_c.specs.Clients.{dialogue_of, flagged}
 use Rattle.unftp_control_c.proofs.laws.answers_are_exchanges.Goals as goal

@@ -1,7 +1,7 @@
 use Rattle.std.proofs.Common.{◌≡◌, length}
 use Rattle.std.specs.List.{list_all}
 use Rattle.std.specs.Char.{is_ascii_alphanumeric}
-use Rattle.unftp_control_proxy.proofs.clear.are_alphanumeric.Given as goal
+use Rattle.unftp_control_write.proofs.clear.are_alphanumeric.Given as goal
 
 abbrev pub invariant-loop-rest : goal.invariant-loop-rest
 invariant-loop-rest l = list_all is_ascii_alphanumeric l.rest ≡ list_all is_ascii_alphanumeric l.bytes

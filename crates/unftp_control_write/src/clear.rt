@@ -1,37 +1,19 @@
-//! Lines that a server may be sent.
-ghost use Rattle.std.specs.Prelude.{◌≡◌, IfErr, IsOk};
+//! Lines that all servers read alike.
+ghost use Rattle.std.specs.Prelude.{◌≡◌};
 ghost use Rattle.std.specs.Char.{is_ascii_alphanumeric};
 ghost use Rattle.std.specs.List.{list_all};
-ghost use Rattle.unftp_control_proxy.specs.ProxyCalls.{IsUnsent, MayBeSent};
-ghost use Rattle.unftp_control_proxy.specs.ClearLines.{has_clear_verb, is_clear};
-ghost use Rattle.unftp_control_proxy.specs.ClearLines.{is_plain, is_plain_line};
+ghost use Rattle.unftp_control_write.specs.ClearLines.{has_clear_verb, is_clear, is_plain, is_plain_line};
 
-use crate::errors::SendError;
 use unftp_control_line_parser::split;
-use unftp_control_write::is_line;
 
 /// The byte that begins a command of Telnet's (RFC 854).
 const IAC: u8 = 255;
 
-/// Whether the line may be sent to the server, and if not, why.
-pub(crate) fn check(limit: usize, line: &[u8]) -> Result<(), SendError>
-    ensures ok { IsOk result → MayBeSent limit line.now }
-    ensures why { IfErr result (λ error. IsUnsent limit line.now error) }
-{
-    if !is_line(line) {
-        return Err(SendError::NotALine);
-    }
-    if !is_clear(line) {
-        return Err(SendError::Unclear);
-    }
-    if line.len() > limit {
-        return Err(SendError::TooLong);
-    }
-    Ok(())
-}
-
-/// Whether all servers read the line alike, and reply to it.
-fn is_clear(line: &[u8]) -> bool
+/// Whether all servers read the line alike, and reply to it: its verb has only letters and digits of
+/// ASCII, and at least one, and before the CR LF at its end there is no CR, LF, NUL or byte 255. A
+/// proxy that refuses commands sends no other line, since a server may see a command in it that the
+/// proxy doesn't.
+pub fn is_clear(line: &[u8]) -> bool
     ensures { result ≡ is_clear line.now }
 {
     has_clear_verb(line) && is_plain_line(line)

@@ -1,7 +1,7 @@
 use Rattle.std.proofs.Common.{◌≡◌, length}
 use Rattle.std.specs.List.{list_all}
-use Rattle.unftp_control_proxy.specs.ClearLines.{is_plain}
-use Rattle.unftp_control_proxy.proofs.clear.are_plain.Given as goal
+use Rattle.unftp_control_write.specs.ClearLines.{is_plain}
+use Rattle.unftp_control_write.proofs.clear.are_plain.Given as goal
 
 abbrev pub invariant-loop-rest : goal.invariant-loop-rest
 invariant-loop-rest l = list_all is_plain l.rest ≡ list_all is_plain l.bytes
