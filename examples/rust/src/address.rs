@@ -11,6 +11,15 @@ pub enum NoAddress {
     UnknownProtocol,
 }
 
+/// The IPv4 address that an IPv6 address maps, as a listener on `[::]` has for a client over IPv4; any
+/// other address as it is.
+pub fn unmapped(address: IpAddr) -> IpAddr {
+    match address {
+        IpAddr::V6(mapped) => mapped.to_ipv4_mapped().map_or(address, IpAddr::V4),
+        IpAddr::V4(_) => address,
+    }
+}
+
 /// The address in six numbers with commas between them: that of PORT.
 pub fn of_port(parameter: &str) -> Option<SocketAddrV4> {
     let numbers: Vec<u8> = parameter.split(',').map(number).collect::<Option<_>>()?;
@@ -97,6 +106,14 @@ mod tests {
         ] {
             assert_eq!(of_port(wrong), None, "{wrong}");
         }
+    }
+
+    #[test]
+    fn mapped() {
+        let unmapped = |text: &str| unmapped(text.parse().expect("an address")).to_string();
+        assert_eq!(unmapped("::ffff:192.0.2.7"), "192.0.2.7");
+        assert_eq!(unmapped("::1"), "::1");
+        assert_eq!(unmapped("192.0.2.7"), "192.0.2.7");
     }
 
     #[test]

@@ -5,3 +5,4 @@
 pub mod address;
 pub mod listening;
 pub mod stream;
+pub mod telnet;

@@ -1,9 +1,11 @@
-//! A listener with limits and a clean end.
+//! Listeners with limits and a clean end.
+use crate::address::unmapped;
 use std::collections::HashMap;
-use std::future::Future;
+use std::future::{poll_fn, Future};
 use std::io;
 use std::net::{IpAddr, SocketAddr};
 use std::sync::{Arc, Mutex, PoisonError};
+use std::task::Poll;
 use std::time::Duration;
 use tokio::net::{TcpListener, TcpStream};
 use tokio::signal::unix::{signal, SignalKind};
@@ -85,6 +87,24 @@ where
     S: Fn(Connected) -> F,
     F: Future<Output = ()> + Send + 'static,
 {
+    serve_all(vec![listener], limits, patience, session).await
+}
+
+/// As [`serve`], of several listeners that share the limits.
+///
+/// # Errors
+///
+/// Where signals can't be received.
+pub async fn serve_all<S, F>(
+    listeners: Vec<TcpListener>,
+    limits: Limits,
+    patience: Duration,
+    session: S,
+) -> io::Result<()>
+where
+    S: Fn(Connected) -> F,
+    F: Future<Output = ()> + Send + 'static,
+{
     let counts = Counts::default();
     let (stopping, stop) = watch::channel(());
     let mut interrupted = signal(SignalKind::interrupt())?;
@@ -92,9 +112,9 @@ where
     let mut sessions = JoinSet::new();
     loop {
         tokio::select! {
-            accepted = listener.accept() => match accepted {
+            accepted = accept(&listeners) => match accepted {
                 Ok((tcp, peer)) => {
-                    let counted = Counted::new(&counts, peer.ip(), limits);
+                    let counted = Counted::new(&counts, unmapped(peer.ip()), limits);
                     let (is_refused, stop) = (counted.is_none(), stop.clone());
                     let talk = session(Connected { tcp, peer, is_refused, stop });
                     sessions.spawn(async move {
@@ -113,8 +133,17 @@ where
             _ = terminated.recv() => break,
         }
     }
-    drop((listener, stopping));
+    drop((listeners, stopping));
     let ended = async { while sessions.join_next().await.is_some() {} };
     let _ = timeout(patience, ended).await;
     Ok(())
+}
+
+/// Accepts the next client of any of the listeners.
+async fn accept(listeners: &[TcpListener]) -> io::Result<(TcpStream, SocketAddr)> {
+    poll_fn(|cx| {
+        let mut accepted = listeners.iter().map(|listener| listener.poll_accept(cx));
+        accepted.find(Poll::is_ready).unwrap_or(Poll::Pending)
+    })
+    .await
 }

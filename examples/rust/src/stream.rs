@@ -9,6 +9,7 @@ use std::time::Duration;
 use tokio::io::{copy, sink, AsyncRead, AsyncWrite, AsyncWriteExt, ReadBuf};
 use tokio::net::TcpStream;
 use tokio::time::timeout;
+use tokio_rustls::rustls::server::{NoServerSessionStorage, StoresServerSessions};
 use tokio_rustls::rustls::{Certificate, PrivateKey, ServerConfig};
 use tokio_rustls::server::TlsStream;
 use tokio_rustls::TlsAcceptor;
@@ -35,6 +36,14 @@ impl Stream {
     /// Whether it is under TLS.
     pub fn is_tls(&self) -> bool {
         matches!(self, Stream::Tls(_))
+    }
+
+    /// The connection under it.
+    pub fn tcp(&self) -> &TcpStream {
+        match self {
+            Stream::Clear(tcp) => tcp,
+            Stream::Tls(tls) => tls.get_ref().0,
+        }
     }
 
     /// Turns to TLS, within a time.
@@ -123,6 +132,14 @@ impl AsyncWrite for Stream {
 ///
 /// Where a file can't be read, or they are no certificate and its key.
 pub fn tls_acceptor(certificates: &Path, key: &Path) -> io::Result<TlsAcceptor> {
+    let mut config = tls_config(certificates, key)?;
+    // A client that uploads never reads a session ticket. It closes over unread bytes, which resets
+    // the connection, and the end of the file may be lost.
+    config.session_storage = Arc::new(NoServerSessionStorage {});
+    Ok(TlsAcceptor::from(Arc::new(config)))
+}
+
+fn tls_config(certificates: &Path, key: &Path) -> io::Result<ServerConfig> {
     let invalid = |what: &str| io::Error::new(ErrorKind::InvalidData, what.to_string());
     let chain = rustls_pemfile::certs(&mut BufReader::new(File::open(certificates)?))?;
     let items = rustls_pemfile::read_all(&mut BufReader::new(File::open(key)?))?;
@@ -132,13 +149,57 @@ pub fn tls_acceptor(certificates: &Path, key: &Path) -> io::Result<TlsAcceptor> 
         | rustls_pemfile::Item::ECKey(key) => Some(PrivateKey(key)),
         _ => None,
     });
-    let config = ServerConfig::builder()
+    ServerConfig::builder()
         .with_safe_defaults()
         .with_no_client_auth()
         .with_single_cert(
             chain.into_iter().map(Certificate).collect(),
             key.ok_or_else(|| invalid("no private key"))?,
         )
-        .map_err(|error| invalid(&error.to_string()))?;
-    Ok(TlsAcceptor::from(Arc::new(config)))
+        .map_err(|error| invalid(&error.to_string()))
+}
+
+/// What accepts TLS on control connections and on their data connections.
+pub struct TlsAcceptors {
+    /// On control connections.
+    pub control: TlsAcceptor,
+    /// On data connections. They resume the sessions of control connections, as some clients ask
+    /// for, and send no tickets of their own, as [`tls_acceptor`].
+    pub data: TlsAcceptor,
+}
+
+impl TlsAcceptors {
+    /// With the certificates and the key of two PEM files.
+    ///
+    /// # Errors
+    ///
+    /// As those of [`tls_acceptor`].
+    pub fn read(certificates: &Path, key: &Path) -> io::Result<TlsAcceptors> {
+        let control = tls_config(certificates, key)?;
+        let mut data = control.clone();
+        data.session_storage = Arc::new(ControlSessions(control.session_storage.clone()));
+        Ok(TlsAcceptors { control: Arc::new(control).into(), data: Arc::new(data).into() })
+    }
+}
+
+/// The sessions of control connections, to which none is added. A session may be resumed by each
+/// data connection that comes from its control connection, and so isn't used up.
+struct ControlSessions(Arc<dyn StoresServerSessions>);
+
+impl StoresServerSessions for ControlSessions {
+    fn put(&self, _: Vec<u8>, _: Vec<u8>) -> bool {
+        false
+    }
+
+    fn get(&self, key: &[u8]) -> Option<Vec<u8>> {
+        self.0.get(key)
+    }
+
+    fn take(&self, key: &[u8]) -> Option<Vec<u8>> {
+        self.0.get(key)
+    }
+
+    fn can_cache(&self) -> bool {
+        false
+    }
 }

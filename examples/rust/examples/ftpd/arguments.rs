@@ -1,0 +1,168 @@
+//! What the command line says.
+use crate::users::ROUNDS;
+use clap::{value_parser, Arg, ArgAction, ArgMatches, Command};
+use std::net::{Ipv4Addr, SocketAddr};
+use std::ops::RangeInclusive;
+use std::path::PathBuf;
+use std::time::Duration;
+use tracing::level_filters::LevelFilter;
+use unftp_control_examples::listening::Limits;
+
+/// What the program is to do.
+pub enum Task {
+    /// Print the hash of a password that is read from standard input.
+    HashPassword {
+        /// How often it is hashed.
+        rounds: u32,
+    },
+    /// Serve a folder.
+    Serve(Box<Settings>),
+}
+
+/// How a folder is served.
+pub struct Settings {
+    /// The folder.
+    pub folder: PathBuf,
+    /// Where it listens.
+    pub listen: Vec<SocketAddr>,
+    /// The file of the users.
+    pub users: Option<PathBuf>,
+    /// Whether anybody may read.
+    pub anonymous: bool,
+    /// The ports of passive data connections; the system picks them where there are none.
+    pub passive_ports: Option<RangeInclusive<u16>>,
+    /// The address in the reply to PASV, before a translation of addresses.
+    pub public_address: Option<Ipv4Addr>,
+    /// The PEM files of the certificates and of their key.
+    pub tls: Option<(PathBuf, PathBuf)>,
+    /// Whether names, passwords and files are only taken and sent under TLS.
+    pub require_tls: bool,
+    /// How many connections there may be.
+    pub limits: Limits,
+    /// How long a client may send no line.
+    pub idle: Duration,
+    /// How long a data connection may take to open, and may then stand still; and how long a client
+    /// may not read its replies.
+    pub stall: Duration,
+    /// What is logged.
+    pub log: LevelFilter,
+}
+
+/// Reads the command line. Where it is wrong or asks for help, it prints that and ends the program.
+pub fn task() -> Task {
+    let matches = command().get_matches();
+    if matches.get_flag("hash-password") {
+        return Task::HashPassword { rounds: number(&matches, "rounds") };
+    }
+    let seconds = |name| Duration::from_secs(number(&matches, name).into());
+    let file = |name| matches.get_one::<PathBuf>(name).cloned();
+    Task::Serve(Box::new(Settings {
+        folder: file("FOLDER").unwrap_or_default(),
+        listen: matches.get_many("listen").into_iter().flatten().copied().collect(),
+        users: file("users"),
+        anonymous: !matches.get_flag("no-anonymous"),
+        passive_ports: matches.get_one("passive-ports").cloned(),
+        public_address: matches.get_one("public-address").copied(),
+        tls: file("certificate").zip(file("key")),
+        require_tls: matches.get_flag("require-tls"),
+        limits: Limits {
+            connections: number(&matches, "connections") as usize,
+            per_address: number(&matches, "per-address") as usize,
+        },
+        idle: seconds("idle"),
+        stall: seconds("stall"),
+        log: matches.get_one("log").copied().unwrap_or(LevelFilter::INFO),
+    }))
+}
+
+fn number(matches: &ArgMatches, name: &str) -> u32 {
+    matches.get_one(name).copied().unwrap_or_default()
+}
+
+fn command() -> Command {
+    Command::new("ftpd")
+        .about(
+            "Serves a folder over FTP. It prints its ports, in the order of --listen, as one line.",
+        )
+        .arg(
+            Arg::new("FOLDER")
+                .value_parser(value_parser!(PathBuf))
+                .required_unless_present("hash-password")
+                .help("The folder that is served"),
+        )
+        .args(listening())
+        .args(users())
+        .args(encryption())
+        .args(limits())
+}
+
+fn option(name: &'static str, value: &'static str, help: &'static str) -> Arg {
+    Arg::new(name).long(name).value_name(value).help(help)
+}
+
+fn flag(name: &'static str, help: &'static str) -> Arg {
+    Arg::new(name).long(name).action(ArgAction::SetTrue).help(help)
+}
+
+fn listening() -> [Arg; 4] {
+    [
+        option("listen", "ADDRESS:PORT", "Where it listens; port 0 lets the system pick")
+            .value_parser(value_parser!(SocketAddr))
+            .action(ArgAction::Append)
+            .default_value("127.0.0.1:2121"),
+        option("passive-ports", "A-B", "The ports of passive data connections")
+            .value_parser(port_range),
+        option("public-address", "IPV4", "The address in the reply to PASV")
+            .value_parser(value_parser!(Ipv4Addr)),
+        option("log", "LEVEL", "error, warn, info, or debug, which shows each line")
+            .value_parser(value_parser!(LevelFilter))
+            .default_value("info"),
+    ]
+}
+
+fn users() -> [Arg; 4] {
+    [
+        option("users", "FILE", "Users, one a line: NAME:HASH, or NAME:HASH:read to only read")
+            .value_parser(value_parser!(PathBuf)),
+        flag("no-anonymous", "Only users may read"),
+        flag("hash-password", "Reads a password from standard input and prints its hash"),
+        option("rounds", "NUMBER", "How often --hash-password hashes")
+            .value_parser(value_parser!(u32).range(1..))
+            .default_value(ROUNDS),
+    ]
+}
+
+fn encryption() -> [Arg; 3] {
+    [
+        option("certificate", "PEM", "The certificates for TLS")
+            .value_parser(value_parser!(PathBuf))
+            .requires("key"),
+        option("key", "PEM", "Their private key")
+            .value_parser(value_parser!(PathBuf))
+            .requires("certificate"),
+        flag("require-tls", "No passwords and no files in clear text").requires("certificate"),
+    ]
+}
+
+fn limits() -> [Arg; 4] {
+    [
+        ("connections", "Connections of all clients", "200"),
+        ("per-address", "Connections of one address", "150"),
+        ("idle", "Seconds that a client may send no line", "300"),
+        ("stall", "Seconds that a data connection may stand still", "60"),
+    ]
+    .map(|(name, help, value)| {
+        option(name, "NUMBER", help)
+            .value_parser(value_parser!(u32).range(1..))
+            .default_value(value)
+    })
+}
+
+/// Two ports with a dash between them.
+fn port_range(text: &str) -> Result<RangeInclusive<u16>, &'static str> {
+    let ports = text.split_once('-').and_then(|(first, last)| {
+        let range = first.parse().ok()?..=last.parse().ok()?;
+        (!range.is_empty() && *range.start() > 0).then_some(range)
+    });
+    ports.ok_or("two ports with a dash between them")
+}

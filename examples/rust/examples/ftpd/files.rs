@@ -1,0 +1,248 @@
+//! The commands that name a file or a directory.
+use crate::commands::{refuse, reply, Answer, Answered};
+use crate::data::DataPort;
+use crate::folder::{is_type, FilePath, Folder};
+use crate::line::{first_word, parameter};
+use crate::listing::{fact_list, time_value, Form, Listing, TIME_VALUE};
+use crate::replies;
+use crate::session::Session;
+use crate::transfer::{blocking, size, Representation, Start, Work};
+use crate::users::Rights;
+use rustix::fs::FileType;
+use std::borrow::Cow;
+use std::io;
+use std::mem;
+use time::PrimitiveDateTime;
+use unftp_control::{OwnedLine, Reply, ReplyCode as Code};
+
+impl Session {
+    pub fn restart(&mut self, offset: u64) -> Answered {
+        if self.representation == Representation::Ascii && offset > 0 {
+            return refuse(Code::COMMAND_NOT_IMPLEMENTED_FOR_PARAMETER, "Only in TYPE I");
+        }
+        self.offset = offset;
+        reply(Code::FILE_ACTION_PENDING, format!("The next transfer begins at {offset}"))
+    }
+
+    /// Where the next transfer begins, whose file has so many bytes.
+    fn start(&self, offset: u64, size: u64) -> Result<u64, Reply> {
+        if offset > 0 && self.representation == Representation::Ascii {
+            return Err(Reply::new(Code::BAD_COMMAND_SEQUENCE, "REST came before TYPE A"));
+        }
+        if offset > size {
+            return Err(invalid_restart());
+        }
+        Ok(offset)
+    }
+
+    /// Refuses a transfer without a data connection, or with one in clear text that has to be under
+    /// TLS (RFC 4217, section 7).
+    fn data_connection(&self) -> Result<(), Reply> {
+        if self.server.settings.require_tls && !self.is_private {
+            let text = "Data connections are under TLS only: use PROT P";
+            return Err(Reply::new(Code::ADDRESS_FAMILY_NOT_SUPPORTED, text));
+        }
+        if matches!(self.data_port, DataPort::Unset) {
+            let text = "PASV, EPSV, PORT or EPRT comes first";
+            return Err(Reply::new(Code::CANT_OPEN_DATA_CONNECTION, text));
+        }
+        Ok(())
+    }
+
+    fn writes(&self) -> Result<(), Reply> {
+        match self.rights {
+            Rights::Write => Ok(()),
+            Rights::Read => Err(Reply::new(Code::FILE_ERROR, "You may only read")),
+        }
+    }
+
+    /// Does something in the folder, which may wait for a disk.
+    async fn in_folder<T: Send + 'static>(
+        &self,
+        work: impl FnOnce(&Folder) -> io::Result<T> + Send + 'static,
+    ) -> Result<T, Reply> {
+        let folder = self.server.folder.clone();
+        blocking(move || work(&folder)).await.map_err(|error| replies::of_error(&error))
+    }
+
+    pub async fn change_directory(&mut self, named: &[u8]) -> Answered {
+        let path = self.directory.join(named);
+        self.directory = self.in_folder(|folder| folder.enter(&path).map(|()| path)).await?;
+        reply(Code::FILE_ACTION_OKAY, "OK")
+    }
+
+    pub async fn retrieve(&mut self, named: &[u8]) -> Answered {
+        let offset = mem::take(&mut self.offset);
+        self.data_connection()?;
+        let path = self.directory.join(named);
+        let (file, facts) = self.in_folder(move |folder| folder.read(&path)).await?;
+        let size = size(&facts);
+        let (offset, representation) = (self.start(offset, size)?, self.representation);
+        let opening = opening(format!("Opening the data connection ({} bytes)", size - offset));
+        Ok(Answer::Transfer(opening, Work::Send { file, offset, representation }))
+    }
+
+    /// STOR writes in place, so that an upload that breaks off can go on.
+    pub async fn store(&mut self, named: &[u8]) -> Answered {
+        let offset = mem::take(&mut self.offset);
+        self.writes()?;
+        self.data_connection()?;
+        let path = self.directory.join(named);
+        let (file, facts) = self.in_folder(move |folder| folder.write(&path)).await?;
+        let start = Start::Offset(self.start(offset, size(&facts))?);
+        let representation = self.representation;
+        let work = Work::Receive { file, start, representation };
+        Ok(Answer::Transfer(opening("Opening the data connection"), work))
+    }
+
+    /// APPE after REST is only taken where both mean the same.
+    pub async fn append(&mut self, named: &[u8]) -> Answered {
+        let offset = mem::take(&mut self.offset);
+        self.writes()?;
+        self.data_connection()?;
+        let path = self.directory.join(named);
+        let (file, facts) = self.in_folder(move |folder| folder.append(&path)).await?;
+        if offset > 0 && offset != size(&facts) {
+            return Err(invalid_restart());
+        }
+        let (start, representation) = (Start::End, self.representation);
+        let work = Work::Receive { file, start, representation };
+        Ok(Answer::Transfer(opening("Opening the data connection"), work))
+    }
+
+    /// The reply names the file (RFC 1123, section 4.1.2.9).
+    pub async fn store_unique(&mut self) -> Answered {
+        self.offset = 0;
+        self.writes()?;
+        self.data_connection()?;
+        let directory = self.directory.clone();
+        let made = self.in_folder(move |folder| folder.create_unique(&directory)).await;
+        let (file, path) = made?;
+        let name = String::from_utf8_lossy(path.name().unwrap_or_default()).into_owned();
+        let (start, representation) = (Start::Offset(0), self.representation);
+        let work = Work::Receive { file, start, representation };
+        Ok(Answer::Transfer(opening(format!("FILE: {name}")), work))
+    }
+
+    pub async fn list(&mut self, named: &[u8], form: Form) -> Answered {
+        self.data_connection()?;
+        let (directory, named, rights) = (self.directory.clone(), named.to_vec(), self.rights);
+        let needs_directory = matches!(form, Form::Facts(_));
+        let folder = self.server.folder.clone();
+        let listing = move || Listing::new(folder, (&directory, &named), form, rights);
+        let listing = blocking(listing).await;
+        let listing = listing.map_err(|error| replies::of_error(&error))?;
+        if needs_directory && !listing.is_of_directory() {
+            return refuse(Code::PARAMETER_SYNTAX_ERROR, "Not a directory");
+        }
+        Ok(Answer::Transfer(opening("Here comes the listing"), Work::List(Box::new(listing))))
+    }
+
+    pub async fn show_facts(&mut self, named: &[u8]) -> Answered {
+        let path = self.directory.join(named);
+        let name = path.text();
+        let facts = self.in_folder(move |folder| folder.facts(&path)).await?;
+        let shown = fact_list(&self.facts, &facts, self.rights);
+        let lines = ["Facts:".to_string(), format!(" {shown}{name}"), "End".to_string()];
+        Ok(Answer::Reply(Reply::with_lines(Code::FILE_ACTION_OKAY, lines)))
+    }
+
+    /// In TYPE A a file has another size, which isn't known before it is sent.
+    pub async fn size(&mut self, named: &[u8]) -> Answered {
+        if self.representation == Representation::Ascii {
+            return refuse(Code::FILE_ERROR, "Only in TYPE I");
+        }
+        let path = self.directory.join(named);
+        let facts = self.in_folder(move |folder| folder.facts(&path)).await?;
+        if !is_type(&facts, FileType::RegularFile) {
+            return refuse(Code::FILE_ERROR, "Not a regular file");
+        }
+        reply(Code::FILE_STATUS, size(&facts).to_string())
+    }
+
+    pub async fn modified(&mut self, named: &[u8]) -> Answered {
+        let path = self.directory.join(named);
+        let facts = self.in_folder(move |folder| folder.facts(&path)).await?;
+        match time_value(&facts) {
+            Some(time) => reply(Code::FILE_STATUS, time),
+            None => refuse(Code::FILE_ERROR, "Its time can't be shown"),
+        }
+    }
+
+    /// MFMT: a time and a file.
+    pub async fn set_modified(&mut self, line: &OwnedLine) -> Answered {
+        self.writes()?;
+        let (time, named) = first_word(parameter(line));
+        let time = std::str::from_utf8(time).unwrap_or_default();
+        let Ok(modified) = PrimitiveDateTime::parse(time, TIME_VALUE) else {
+            return refuse(Code::PARAMETER_SYNTAX_ERROR, "No time");
+        };
+        let (path, seconds) = (self.directory.join(&named), modified.assume_utc().unix_timestamp());
+        self.in_folder(move |folder| folder.set_modified(&path, seconds)).await?;
+        let named = String::from_utf8_lossy(&named).into_owned();
+        reply(Code::FILE_STATUS, format!("Modify={time}; {named}"))
+    }
+
+    /// SITE CHMOD: a mode in octal digits and a file.
+    pub async fn set_mode(&mut self, line: &OwnedLine) -> Answered {
+        self.writes()?;
+        let (_, words) = first_word(parameter(line));
+        let (mode, named) = first_word(&words);
+        let mode = std::str::from_utf8(mode).ok().and_then(|it| u32::from_str_radix(it, 8).ok());
+        let Some(mode) = mode.filter(|mode| *mode <= 0o777) else {
+            return refuse(Code::PARAMETER_SYNTAX_ERROR, "No mode");
+        };
+        let path = self.directory.join(&named);
+        self.in_folder(move |folder| folder.set_mode(&path, mode)).await?;
+        reply(Code::COMMAND_OKAY, "OK")
+    }
+
+    pub async fn delete(&mut self, named: &[u8]) -> Answered {
+        self.writes()?;
+        let path = self.directory.join(named);
+        self.in_folder(move |folder| folder.remove_file(&path)).await?;
+        reply(Code::FILE_ACTION_OKAY, "Deleted")
+    }
+
+    pub async fn remove_directory(&mut self, named: &[u8]) -> Answered {
+        self.writes()?;
+        let path = self.directory.join(named);
+        self.in_folder(move |folder| folder.remove_directory(&path)).await?;
+        reply(Code::FILE_ACTION_OKAY, "Removed")
+    }
+
+    pub async fn make_directory(&mut self, named: &[u8]) -> Answered {
+        self.writes()?;
+        let path = self.directory.join(named);
+        let made = path.quoted();
+        self.in_folder(move |folder| folder.make_directory(&path)).await?;
+        reply(Code::DIR_CREATED, made)
+    }
+
+    pub async fn rename_from(&mut self, named: &[u8]) -> Answered {
+        self.writes()?;
+        let path = self.directory.join(named);
+        let found = self.in_folder(|folder| folder.has_entry(&path).map(|()| path)).await?;
+        self.renamed = Some(found);
+        reply(Code::FILE_ACTION_PENDING, "RNTO has the new name")
+    }
+
+    pub async fn rename_to(&mut self, renamed: Option<FilePath>, named: &[u8]) -> Answered {
+        let Some(from) = renamed else {
+            return refuse(Code::BAD_COMMAND_SEQUENCE, "RNFR comes first");
+        };
+        let to = self.directory.join(named);
+        self.in_folder(move |folder| folder.rename(&from, &to)).await?;
+        reply(Code::FILE_ACTION_OKAY, "Renamed")
+    }
+}
+
+fn opening(text: impl Into<Cow<'static, str>>) -> Reply {
+    Reply::new(Code::FILE_STATUS_OKAY, text)
+}
+
+/// The reply to an offset that the file doesn't have (RFC 3659, section 5.4).
+fn invalid_restart() -> Reply {
+    let code = Code::new(554).unwrap_or(Code::FILE_ERROR);
+    Reply::new(code, "The offset is not in the file")
+}

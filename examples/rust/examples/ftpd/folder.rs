@@ -1,0 +1,235 @@
+//! The folder that is served. The kernel keeps each path in it: `openat2` resolves it below a
+//! descriptor of the folder and refuses links and `..` that lead out, whatever is renamed
+//! meanwhile.
+use rustix::fs::{self, AtFlags, Dir, FileType, Mode, OFlags, ResolveFlags, Stat, Timestamps};
+use rustix::io::{Errno, OwnedFd};
+use std::ffi::OsStr;
+use std::fs::File;
+use std::io;
+use std::os::unix::ffi::OsStrExt;
+use std::path::Path;
+use std::sync::atomic::{AtomicU64, Ordering};
+
+/// A path in the folder, from the folder down. Its bytes are in no particular encoding.
+#[derive(Clone, Debug, Default, PartialEq, Eq)]
+pub struct FilePath {
+    names: Vec<Vec<u8>>,
+}
+
+impl FilePath {
+    /// The path that a client names where this is its working directory. `..` takes a name away, so
+    /// that above the folder there is only the folder.
+    pub fn join(&self, named: &[u8]) -> FilePath {
+        let mut names = if named.starts_with(b"/") { Vec::new() } else { self.names.clone() };
+        for name in named.split(|byte| *byte == b'/') {
+            match name {
+                b"" | b"." => {}
+                b".." => drop(names.pop()),
+                name => names.push(name.to_vec()),
+            }
+        }
+        FilePath { names }
+    }
+
+    /// As a client names it, from a slash on.
+    pub fn bytes(&self) -> Vec<u8> {
+        [b"/", &self.names.join(&b'/')[..]].concat()
+    }
+
+    /// The same for a reply, with U+FFFD for what is not UTF-8.
+    pub fn text(&self) -> String {
+        String::from_utf8_lossy(&self.bytes()).into_owned()
+    }
+
+    /// The same in quotes, with those of its own doubled (RFC 959, appendix II).
+    pub fn quoted(&self) -> String {
+        format!("\"{}\"", self.text().replace('"', "\"\""))
+    }
+
+    /// Its last name.
+    pub fn name(&self) -> Option<&[u8]> {
+        self.names.last().map(Vec::as_slice)
+    }
+
+    /// As the kernel takes it below the folder.
+    fn relative(&self) -> Vec<u8> {
+        if self.names.is_empty() {
+            b".".to_vec()
+        } else {
+            self.names.join(&b'/')
+        }
+    }
+}
+
+/// The folder.
+pub struct Folder {
+    root: OwnedFd,
+    /// How many names of its own it has chosen.
+    chosen: AtomicU64,
+}
+
+impl Folder {
+    /// Opens the folder.
+    ///
+    /// # Errors
+    ///
+    /// Where it is no directory, or the kernel has no `openat2` (Linux 5.6).
+    pub fn open(path: &Path) -> io::Result<Folder> {
+        let flags = OFlags::PATH | OFlags::DIRECTORY | OFlags::CLOEXEC;
+        let root = fs::openat(fs::cwd(), path, flags, Mode::empty())?;
+        let folder = Folder { root, chosen: AtomicU64::new(0) };
+        folder.facts(&FilePath::default())?;
+        Ok(folder)
+    }
+
+    /// Opens a path below the folder. A link that leads out of it is refused, as is each absolute
+    /// one.
+    fn open_below(&self, path: &FilePath, flags: OFlags, mode: Mode) -> io::Result<OwnedFd> {
+        let resolve = ResolveFlags::BENEATH | ResolveFlags::NO_MAGICLINKS;
+        let flags = flags | OFlags::CLOEXEC;
+        loop {
+            match fs::openat2(&self.root, path.relative(), flags, mode, resolve) {
+                // While a directory is renamed, the kernel may not know where `..` in a link leads.
+                Err(Errno::AGAIN | Errno::INTR) => {}
+                opened => return Ok(opened?),
+            }
+        }
+    }
+
+    /// Opens a regular file. A fifo or a device isn't waited for.
+    fn open_file(&self, path: &FilePath, flags: OFlags) -> io::Result<(File, Stat)> {
+        let flags = flags | OFlags::NONBLOCK | OFlags::NOCTTY;
+        let created = if flags.contains(OFlags::CREATE) { 0o666 } else { 0 };
+        let file = self.open_below(path, flags, Mode::from_raw_mode(created))?;
+        let facts = fs::fstat(&file)?;
+        if !is_type(&facts, FileType::RegularFile) {
+            return Err(io::ErrorKind::InvalidInput.into());
+        }
+        Ok((File::from(rustix::fd::OwnedFd::from(file)), facts))
+    }
+
+    /// Opens a file to be read.
+    pub fn read(&self, path: &FilePath) -> io::Result<(File, Stat)> {
+        self.open_file(path, OFlags::RDONLY)
+    }
+
+    /// Opens a file to be written, and makes it where there is none. Nothing of it is lost yet.
+    pub fn write(&self, path: &FilePath) -> io::Result<(File, Stat)> {
+        self.open_file(path, OFlags::WRONLY | OFlags::CREATE)
+    }
+
+    /// Opens a file to be written at its end, and makes it where there is none.
+    pub fn append(&self, path: &FilePath) -> io::Result<(File, Stat)> {
+        self.open_file(path, OFlags::WRONLY | OFlags::CREATE | OFlags::APPEND)
+    }
+
+    /// Makes a file with a name of its own in a directory.
+    pub fn create_unique(&self, directory: &FilePath) -> io::Result<(File, FilePath)> {
+        loop {
+            let number = self.chosen.fetch_add(1, Ordering::Relaxed);
+            let path = directory.join(format!("upload.{number}").as_bytes());
+            let flags = OFlags::WRONLY | OFlags::CREATE | OFlags::EXCL;
+            match self.open_file(&path, flags) {
+                Err(error) if error.kind() == io::ErrorKind::AlreadyExists => {}
+                opened => return opened.map(|(file, _)| (file, path)),
+            }
+        }
+    }
+
+    /// The facts of what a path leads to.
+    pub fn facts(&self, path: &FilePath) -> io::Result<Stat> {
+        Ok(fs::fstat(self.open_below(path, OFlags::PATH, Mode::empty())?)?)
+    }
+
+    /// Opens a directory to be listed.
+    pub fn list(&self, path: &FilePath) -> io::Result<(OwnedFd, Dir)> {
+        let directory = self.open_below(path, OFlags::RDONLY | OFlags::DIRECTORY, Mode::empty())?;
+        let entries = Dir::read_from(&directory)?;
+        Ok((directory, entries))
+    }
+
+    /// Whether there is such a directory, which may be searched.
+    pub fn enter(&self, path: &FilePath) -> io::Result<()> {
+        let directory = self.open_below(path, OFlags::PATH | OFlags::DIRECTORY, Mode::empty())?;
+        Ok(fs::accessat(&directory, ".", fs::Access::EXEC_OK, AtFlags::empty())?)
+    }
+
+    /// The directory that a path is in, and its name there, which is none of the folder itself.
+    fn parent<'a>(&self, path: &'a FilePath) -> io::Result<(OwnedFd, &'a OsStr)> {
+        let (name, parent) = path.names.split_last().ok_or(Errno::BUSY)?;
+        let parent = FilePath { names: parent.to_vec() };
+        let flags = OFlags::PATH | OFlags::DIRECTORY;
+        Ok((self.open_below(&parent, flags, Mode::empty())?, OsStr::from_bytes(name)))
+    }
+
+    /// Whether a path has an entry, also that of a link which leads nowhere.
+    pub fn has_entry(&self, path: &FilePath) -> io::Result<()> {
+        let (parent, name) = self.parent(path)?;
+        fs::statat(&parent, name, AtFlags::SYMLINK_NOFOLLOW)?;
+        Ok(())
+    }
+
+    /// Deletes a file, or a link and not what it leads to.
+    pub fn remove_file(&self, path: &FilePath) -> io::Result<()> {
+        let (parent, name) = self.parent(path)?;
+        Ok(fs::unlinkat(&parent, name, AtFlags::empty())?)
+    }
+
+    /// Removes an empty directory.
+    pub fn remove_directory(&self, path: &FilePath) -> io::Result<()> {
+        let (parent, name) = self.parent(path)?;
+        Ok(fs::unlinkat(&parent, name, AtFlags::REMOVEDIR)?)
+    }
+
+    /// Makes a directory.
+    pub fn make_directory(&self, path: &FilePath) -> io::Result<()> {
+        let (parent, name) = self.parent(path)?;
+        Ok(fs::mkdirat(&parent, name, Mode::from_raw_mode(0o777))?)
+    }
+
+    /// Renames what a path names, in the place of a file that has the new name.
+    pub fn rename(&self, from: &FilePath, to: &FilePath) -> io::Result<()> {
+        let ((from, old), (to, new)) = (self.parent(from)?, self.parent(to)?);
+        Ok(fs::renameat(&from, old, &to, new)?)
+    }
+
+    /// Sets who may read, write and execute a file.
+    pub fn set_mode(&self, path: &FilePath, mode: u32) -> io::Result<()> {
+        let (file, _) = self.read(path)?;
+        Ok(fs::fchmod(&file, Mode::from_raw_mode(mode & 0o777))?)
+    }
+
+    /// Sets when a file was modified, in seconds since 1970.
+    pub fn set_modified(&self, path: &FilePath, seconds: i64) -> io::Result<()> {
+        let (file, _) = self.read(path)?;
+        let modified = fs::Timespec { tv_sec: seconds, tv_nsec: 0 };
+        let last_access = fs::Timespec { tv_sec: 0, tv_nsec: fs::UTIME_OMIT };
+        Ok(fs::futimens(&file, &Timestamps { last_access, last_modification: modified })?)
+    }
+}
+
+/// Whether these are the facts of a file of this type.
+pub fn is_type(facts: &Stat, file_type: FileType) -> bool {
+    FileType::from_raw_mode(facts.st_mode) == file_type
+}
+
+#[cfg(test)]
+mod tests {
+    use super::*;
+
+    #[test]
+    fn paths() {
+        let directory = FilePath::default().join(b"a/b");
+        for (named, path) in [
+            ("c", "/a/b/c"),
+            ("/c", "/c"),
+            ("..", "/a"),
+            ("../../../../c", "/c"),
+            ("./c//d/", "/a/b/c/d"),
+            ("/", "/"),
+            ("...", "/a/b/..."),
+        ] {
+            assert_eq!(directory.join(named.as_bytes()).text(), path, "{named}");
+        }
+    }
+}

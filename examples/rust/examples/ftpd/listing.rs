@@ -1,0 +1,319 @@
+//! Listings: lines as those of `ls -l`, names, and facts (RFC 3659, section 7).
+use crate::folder::{FilePath, Folder};
+use crate::users::Rights;
+use rustix::fs::{statat, AtFlags, Dir, FileType, Stat};
+use rustix::io::OwnedFd;
+use std::ffi::OsStr;
+use std::fmt::Write;
+use std::io;
+use std::os::unix::ffi::OsStrExt;
+use std::sync::Arc;
+use time::format_description::FormatItem;
+use time::macros::format_description;
+use time::{Duration, OffsetDateTime};
+
+const RECENT: &[FormatItem] =
+    format_description!("[month repr:short] [day padding:space] [hour]:[minute]");
+const OLDER: &[FormatItem] = format_description!("[month repr:short] [day padding:space]  [year]");
+/// As MDTM, MFMT and the fact `modify` write a time (RFC 3659, section 2.3).
+pub const TIME_VALUE: &[FormatItem] =
+    format_description!("[year][month][day][hour][minute][second]");
+/// So old a file is listed with the year in place of the time.
+const HALF_A_YEAR: Duration = Duration::days(182);
+/// How many bytes of a listing are made at a time.
+const PART: usize = 32 * 1024;
+
+/// How a listing shows an entry.
+#[derive(Clone, Debug, PartialEq, Eq)]
+pub enum Form {
+    /// As a line of `ls -l`: that of LIST.
+    Long,
+    /// As its name: that of NLST.
+    Name,
+    /// With these facts: that of MLSD and MLST.
+    Facts(Vec<Fact>),
+}
+
+/// A fact of a file (RFC 3659, section 7.5).
+#[derive(Clone, Copy, Debug, PartialEq, Eq)]
+pub enum Fact {
+    /// Whether it is a file or a directory.
+    Type,
+    /// How many bytes it has.
+    Size,
+    /// When it was modified.
+    Modify,
+    /// What the user may do with it.
+    Perm,
+    /// What it is the same file as, under any name.
+    Unique,
+}
+
+impl Fact {
+    /// All of them, in the order of a listing.
+    pub const ALL: [Fact; 5] = [Fact::Type, Fact::Size, Fact::Modify, Fact::Perm, Fact::Unique];
+
+    /// Its name.
+    pub fn name(self) -> &'static str {
+        match self {
+            Fact::Type => "type",
+            Fact::Size => "size",
+            Fact::Modify => "modify",
+            Fact::Perm => "perm",
+            Fact::Unique => "unique",
+        }
+    }
+
+    fn value(self, facts: &Stat, rights: Rights) -> Option<String> {
+        let is_directory = is_directory(facts);
+        match self {
+            Fact::Type => Some(fact_type(facts).to_string()),
+            Fact::Size => (!is_directory).then(|| facts.st_size.to_string()),
+            Fact::Modify => time_value(facts),
+            Fact::Perm => Some(permissions(is_directory, rights).to_string()),
+            Fact::Unique => Some(format!("{:x}g{:x}", facts.st_dev, facts.st_ino)),
+        }
+    }
+}
+
+fn fact_type(facts: &Stat) -> &'static str {
+    match FileType::from_raw_mode(facts.st_mode) {
+        FileType::Directory => "dir",
+        FileType::RegularFile => "file",
+        FileType::Symlink => "OS.unix=symlink",
+        _ => "OS.unix=special",
+    }
+}
+
+fn permissions(is_directory: bool, rights: Rights) -> &'static str {
+    match (is_directory, rights) {
+        (true, Rights::Read) => "el",
+        (true, Rights::Write) => "cdeflmp",
+        (false, Rights::Read) => "r",
+        (false, Rights::Write) => "adfrw",
+    }
+}
+
+fn is_directory(facts: &Stat) -> bool {
+    FileType::from_raw_mode(facts.st_mode) == FileType::Directory
+}
+
+/// When a file was modified.
+fn modified(facts: &Stat) -> Option<OffsetDateTime> {
+    OffsetDateTime::from_unix_timestamp(i64::try_from(facts.st_mtime).ok()?).ok()
+}
+
+/// The same as MDTM shows it.
+pub fn time_value(facts: &Stat) -> Option<String> {
+    modified(facts)?.format(TIME_VALUE).ok()
+}
+
+/// What a listing is made of.
+enum Entries {
+    /// The rest of a directory.
+    Directory(OwnedFd, Dir),
+    /// One entry, until it is listed.
+    One(Option<Box<Stat>>),
+}
+
+/// A listing that is made in parts: a large directory takes no more memory than a small one.
+pub struct Listing {
+    folder: Arc<Folder>,
+    path: FilePath,
+    form: Form,
+    rights: Rights,
+    now: OffsetDateTime,
+    entries: Entries,
+    /// What is before each name of NLST, so that RETR takes it (RFC 959, section 4.1.3).
+    prefix: Vec<u8>,
+    /// Which names are listed, where not all are.
+    pattern: Option<Vec<u8>>,
+}
+
+impl Listing {
+    /// Of what a client names in a directory: the entries of another one, what else is there, or
+    /// the entries whose names are of a pattern, as those of `mget *` are.
+    pub fn new(
+        folder: Arc<Folder>,
+        (directory, named): (&FilePath, &[u8]),
+        form: Form,
+        rights: Rights,
+    ) -> io::Result<Listing> {
+        let start = named.iter().rposition(|byte| *byte == b'/').map_or(0, |slash| slash + 1);
+        let (before, last) = named.split_at(start);
+        let path = directory.join(named);
+        let facts = folder.facts(&path);
+        let is_pattern = facts.is_err() && last.iter().any(|byte| matches!(byte, b'*' | b'?'));
+        let path = if is_pattern { directory.join(before) } else { path };
+        let facts = if is_pattern { folder.facts(&path)? } else { facts? };
+        let mut prefix = before.to_vec();
+        let entries = if is_directory(&facts) {
+            if !is_pattern && !last.is_empty() {
+                prefix = [named, b"/"].concat();
+            }
+            let (directory, entries) = folder.list(&path)?;
+            Entries::Directory(directory, entries)
+        } else {
+            Entries::One(Some(Box::new(facts)))
+        };
+        let (now, pattern) = (OffsetDateTime::now_utc(), is_pattern.then(|| last.to_vec()));
+        Ok(Listing { folder, path, form, rights, now, entries, prefix, pattern })
+    }
+
+    /// Whether it lists the entries of a directory.
+    pub fn is_of_directory(&self) -> bool {
+        matches!(self.entries, Entries::Directory(..))
+    }
+
+    /// Appends its next part; none is left where it appends nothing.
+    pub fn next_part(&mut self, part: &mut Vec<u8>) -> io::Result<()> {
+        let end = part.len() + PART;
+        while part.len() < end {
+            let Some((name, facts)) = self.next_entry()? else { break };
+            self.line(&name, facts.as_ref(), part);
+        }
+        Ok(())
+    }
+
+    /// Its next entry, with its facts where they are shown. One that is deleted meanwhile is left
+    /// out, and so is one whose name has a line feed: no command can name it, and in a listing it
+    /// would look like two.
+    fn next_entry(&mut self) -> io::Result<Option<(Vec<u8>, Option<Stat>)>> {
+        let (directory, entries) = match &mut self.entries {
+            Entries::One(facts) => {
+                let name = self.path.name().unwrap_or_default().to_vec();
+                return Ok(facts.take().map(|facts| (name, Some(*facts))));
+            }
+            Entries::Directory(directory, entries) => (directory, entries),
+        };
+        while let Some(entry) = entries.read() {
+            let entry = entry?;
+            let name = entry.file_name().to_bytes();
+            if matches!(name, b"." | b"..") || name.contains(&b'\n') {
+                continue;
+            }
+            if self.pattern.as_ref().is_some_and(|pattern| !is_of(pattern, name)) {
+                continue;
+            }
+            if self.form == Form::Name {
+                return Ok(Some((name.to_vec(), None)));
+            }
+            let found = statat(&*directory, OsStr::from_bytes(name), AtFlags::SYMLINK_NOFOLLOW);
+            if let Ok(facts) = found {
+                let facts = followed(&self.folder, &self.path, name, facts);
+                return Ok(Some((name.to_vec(), Some(facts))));
+            }
+        }
+        Ok(None)
+    }
+
+    /// Appends the line of an entry.
+    fn line(&self, name: &[u8], facts: Option<&Stat>, part: &mut Vec<u8>) {
+        let before = match (&self.form, facts) {
+            (Form::Name, _) | (_, None) => self.prefix.clone(),
+            (Form::Long, Some(facts)) => long(facts, self.now).into_bytes(),
+            (Form::Facts(shown), Some(facts)) => fact_list(shown, facts, self.rights).into_bytes(),
+        };
+        part.extend_from_slice(&[&before, name, b"\r\n"].concat());
+    }
+}
+
+/// Whether a name is of a pattern, in which `*` is any bytes and `?` any one. A dot at its start is
+/// only of a pattern that has one there.
+fn is_of(pattern: &[u8], name: &[u8]) -> bool {
+    let (mut place, mut index, mut star) = (0, 0, None);
+    if name.starts_with(b".") && !pattern.starts_with(b".") {
+        return false;
+    }
+    while index < name.len() {
+        match (pattern.get(place), star) {
+            (Some(b'*'), _) => {
+                place += 1;
+                star = Some((place, index));
+            }
+            (Some(byte), _) if matches!(byte, b'?') || *byte == name[index] => {
+                (place, index) = (place + 1, index + 1);
+            }
+            // The last star is one byte longer.
+            (_, Some((after, start))) => {
+                (place, index) = (after, start + 1);
+                star = Some((place, index));
+            }
+            (_, None) => return false,
+        }
+    }
+    pattern[place..].iter().all(|byte| *byte == b'*')
+}
+
+/// The facts of what a link leads to in the folder; else its own.
+fn followed(folder: &Folder, directory: &FilePath, name: &[u8], facts: Stat) -> Stat {
+    if FileType::from_raw_mode(facts.st_mode) == FileType::Symlink {
+        folder.facts(&directory.join(name)).unwrap_or(facts)
+    } else {
+        facts
+    }
+}
+
+/// The facts before a name, and a space.
+pub fn fact_list(shown: &[Fact], facts: &Stat, rights: Rights) -> String {
+    let mut list = String::new();
+    for fact in shown {
+        if let Some(value) = fact.value(facts, rights) {
+            let _ = write!(list, "{}={value};", fact.name());
+        }
+    }
+    list.push(' ');
+    list
+}
+
+/// What `ls -l` has before a name, in UTC, and a space.
+fn long(facts: &Stat, now: OffsetDateTime) -> String {
+    let kind = match FileType::from_raw_mode(facts.st_mode) {
+        FileType::Directory => 'd',
+        FileType::Symlink => 'l',
+        FileType::Fifo => 'p',
+        FileType::Socket => 's',
+        FileType::CharacterDevice => 'c',
+        FileType::BlockDevice => 'b',
+        _ => '-',
+    };
+    let modified = modified(facts).unwrap_or(OffsetDateTime::UNIX_EPOCH);
+    let is_recent = modified <= now && now - modified < HALF_A_YEAR;
+    let date = modified.format(if is_recent { RECENT } else { OLDER }).unwrap_or_default();
+    let (mode, links, size) = (mode_text(facts.st_mode), facts.st_nlink, facts.st_size);
+    format!("{kind}{mode} {links:>3} ftp      ftp      {size:>12} {date} ")
+}
+
+/// The nine letters of a mode.
+fn mode_text(mode: u32) -> String {
+    let letters = "rwxrwxrwx".chars().enumerate();
+    letters.map(|(place, letter)| if mode >> (8 - place) & 1 == 1 { letter } else { '-' }).collect()
+}
+
+#[cfg(test)]
+mod tests {
+    use super::*;
+
+    #[test]
+    fn patterns() {
+        for (pattern, name, is_of_it) in [
+            ("*", "a", true),
+            ("*", ".a", false),
+            (".*", ".a", true),
+            ("*.txt", "a.txt.txt", true),
+            ("*.txt", "a.txt.", false),
+            ("a?c*", "abc", true),
+            ("a?c", "ac", false),
+            ("*a*a*a*b", "aaaaaaaaaaaaaaaaaaaaaaaaaaaaaaaaaaaaa", false),
+            ("", "a", false),
+        ] {
+            assert_eq!(is_of(pattern.as_bytes(), name.as_bytes()), is_of_it, "{pattern} {name}");
+        }
+    }
+
+    #[test]
+    fn modes() {
+        assert_eq!(mode_text(0o100644), "rw-r--r--");
+        assert_eq!(mode_text(0o40751), "rwxr-x--x");
+    }
+}

@@ -1,0 +1,103 @@
+//! `ftpd FOLDER` serves a folder over FTP: anybody may read it, and users may write. It prints its
+//! ports as one line once it listens. `ftpd --help` has its options.
+//!
+//! ```sh
+//! echo "anna:$(echo secret | ftpd --hash-password)" > users
+//! ftpd --users users --certificate certificate.pem --key key.pem FOLDER
+//! ```
+//!
+//! What each file shows: `control` lines and replies, `session` a transfer beside them, `commands`,
+//! `ports` and `files` the answers, `transfer` and `data` data connections, `folder` paths that the
+//! kernel keeps in the folder.
+//!
+//! lftp sends an address as the name of the server, which RFC 6066 forbids and rustls 0.20 refuses:
+//! `set ssl:use-sni no` there, or name the server.
+mod arguments;
+mod commands;
+mod control;
+mod data;
+mod files;
+mod folder;
+mod line;
+mod listing;
+mod ports;
+mod replies;
+mod session;
+mod transfer;
+mod users;
+
+use arguments::{Settings, Task};
+use folder::Folder;
+use session::Server;
+use std::io::{self, Read};
+use std::process::ExitCode;
+use std::sync::Arc;
+use std::time::Duration;
+use tokio::net::TcpListener;
+use unftp_control_examples::listening::serve_all;
+use unftp_control_examples::stream::TlsAcceptors;
+use users::Users;
+
+/// How long transfers may go on after the signal that ends the program.
+const GRACE: Duration = Duration::from_secs(10);
+/// How long sessions may take to close after that.
+const CLOSING: Duration = Duration::from_secs(6);
+
+fn main() -> ExitCode {
+    let done = match arguments::task() {
+        Task::HashPassword { rounds } => print_hash(rounds),
+        Task::Serve(settings) => serve(*settings),
+    };
+    match done {
+        Ok(()) => ExitCode::SUCCESS,
+        Err(error) => {
+            eprintln!("ftpd: {error}");
+            ExitCode::FAILURE
+        }
+    }
+}
+
+/// Prints the hash of the password on standard input.
+fn print_hash(rounds: u32) -> io::Result<()> {
+    let mut password = Vec::new();
+    io::stdin().read_to_end(&mut password)?;
+    let password = password.strip_suffix(b"\n").unwrap_or(&password);
+    let hash = users::hash_password(password, rounds);
+    println!("{}", hash.map_err(|error| io::Error::new(io::ErrorKind::InvalidInput, error))?);
+    Ok(())
+}
+
+/// Serves the folder until a signal ends that.
+#[tokio::main]
+async fn serve(settings: Settings) -> io::Result<()> {
+    let log = tracing_subscriber::fmt().with_max_level(settings.log).with_writer(io::stderr);
+    log.with_ansi(false).with_target(false).init();
+    let mut listeners = Vec::new();
+    for address in &settings.listen {
+        let listener = TcpListener::bind(address).await;
+        listeners.push(listener.map_err(|error| about(&address.to_string(), error))?);
+    }
+    let limits = settings.limits;
+    let server = Arc::new(server(settings)?);
+    let ports = listeners.iter().map(|it| Ok(it.local_addr()?.port().to_string()));
+    println!("{}", ports.collect::<io::Result<Vec<_>>>()?.join(" "));
+    let session = |connected| session::serve(server.clone(), connected);
+    serve_all(listeners, limits, GRACE + CLOSING, session).await
+}
+
+/// Reads what the settings name.
+fn server(settings: Settings) -> io::Result<Server> {
+    let named = settings.folder.display().to_string();
+    let folder = Folder::open(&settings.folder).map_err(|error| about(&named, error))?;
+    let users = Users::read(settings.users.as_deref(), settings.anonymous)
+        .map_err(|error| about("the users", error))?;
+    let files = settings.tls.as_ref();
+    let tls = files.map(|(certificates, key)| TlsAcceptors::read(certificates, key)).transpose();
+    let tls = tls.map_err(|error| about("the certificate or its key", error))?;
+    Ok(Server { settings, folder: Arc::new(folder), users, tls })
+}
+
+/// The error with what it is about.
+fn about(what: &str, error: io::Error) -> io::Error {
+    io::Error::new(error.kind(), format!("{what}: {error}"))
+}

@@ -1,0 +1,324 @@
+//! A session: a client's lines are answered in turn, and beside a transfer only ABOR and STAT are.
+use crate::arguments::Settings;
+use crate::commands::Answer;
+use crate::control::Control;
+use crate::data::{DataPort, Ends};
+use crate::folder::{FilePath, Folder};
+use crate::listing::Fact;
+use crate::transfer::{Fault, Representation, Transfer, Work};
+use crate::users::{Rights, Users};
+use crate::GRACE;
+use std::io;
+use std::mem;
+use std::pin::pin;
+use std::sync::atomic::{AtomicU64, Ordering};
+use std::sync::Arc;
+use std::time::Duration;
+use tokio::time::{sleep, sleep_until, timeout_at, Instant};
+use tracing::{field, info_span, Instrument, Level, Span};
+use unftp_control::{CodecError, Command, Event, Login, OwnedLine, Reply, ReplyCode as Code};
+use unftp_control_examples::address::unmapped;
+use unftp_control_examples::listening::{Connected, Stop};
+use unftp_control_examples::stream::{Stream, TlsAcceptors};
+
+/// How long a client may take to log in.
+const LOGIN_TIME: Duration = Duration::from_secs(120);
+/// How many passwords of a session may be wrong.
+const WRONG_PASSWORDS: u32 = 3;
+/// How long the reply to a wrong password takes.
+const DELAY: Duration = Duration::from_secs(1);
+/// How long a client may take to read the last reply and to close.
+const LINGER: Duration = Duration::from_secs(5);
+
+/// What all sessions share.
+pub struct Server {
+    /// What the command line says.
+    pub settings: Settings,
+    /// The folder that is served.
+    pub folder: Arc<Folder>,
+    /// Who may log in.
+    pub users: Users,
+    /// What turns connections to TLS, where there is a certificate.
+    pub tls: Option<TlsAcceptors>,
+}
+
+/// What a session knows beside its control connection.
+pub struct Session {
+    /// What it shares with the others.
+    pub server: Arc<Server>,
+    /// The addresses of the client and of the server.
+    pub ends: Ends,
+    /// Which events may be answered.
+    pub login: Login,
+    /// What the user may do, once one has logged in.
+    pub rights: Rights,
+    /// The working directory.
+    pub directory: FilePath,
+    /// That of TYPE.
+    pub representation: Representation,
+    /// Where the next transfer begins: that of REST.
+    pub offset: u64,
+    /// What is renamed, where the last command was RNFR.
+    pub renamed: Option<FilePath>,
+    /// Where the next data connection comes from.
+    pub data_port: DataPort,
+    /// Whether only EPSV opens data connections, after EPSV ALL.
+    pub only_epsv: bool,
+    /// Whether PBSZ came, without which there is no PROT.
+    pub has_pbsz: bool,
+    /// Whether data connections are under TLS.
+    pub is_private: bool,
+    /// Whether the control connection is under TLS.
+    pub is_tls: bool,
+    /// The facts of MLSD and MLST.
+    pub facts: Vec<Fact>,
+    wrong_passwords: u32,
+    stop: Stop,
+    /// The end of the time for the login, or of that for the next line.
+    deadline: Instant,
+}
+
+/// Why a session ends.
+enum End {
+    /// The client has quit, or its connection is lost.
+    Closed,
+    /// By the server, with a 421 of this text.
+    Unavailable(&'static str),
+}
+
+/// The client is away, or sends what can't be read.
+impl From<CodecError> for End {
+    fn from(error: CodecError) -> End {
+        tracing::debug!(%error, "the control connection has ended");
+        End::Closed
+    }
+}
+
+impl From<io::Error> for End {
+    fn from(error: io::Error) -> End {
+        CodecError::from(error).into()
+    }
+}
+
+/// Serves a client that has connected.
+pub async fn serve(server: Arc<Server>, connected: Connected) {
+    let peer = connected.peer;
+    let span = info_span!("session", %peer, user = field::Empty);
+    let served = async {
+        if let Err(error) = talk(server, connected).await {
+            tracing::debug!(%error, "no session");
+        }
+    };
+    served.instrument(span).await;
+}
+
+async fn talk(server: Arc<Server>, connected: Connected) -> io::Result<()> {
+    let Connected { tcp, peer, is_refused, stop } = connected;
+    let ends = Ends { client: unmapped(peer.ip()), server: unmapped(tcp.local_addr()?.ip()) };
+    let mut control = Control::new(Stream::control(tcp)?, server.settings.stall);
+    if is_refused {
+        tracing::warn!("too many connections");
+        return unavailable(control, "Too many connections").await;
+    }
+    tracing::info!("connected");
+    let mut session = Session::new(server, ends, stop);
+    let begun = control.reply(Reply::new(Code::SERVICE_READY, "Ready"));
+    let mut end = begun.map_err(End::from).err();
+    loop {
+        end = match end {
+            None => session.serve(&mut control).await.err(),
+            Some(End::Unavailable(text)) => return unavailable(control, text).await,
+            Some(End::Closed) => {
+                control.close(LINGER).await;
+                tracing::info!("closed");
+                return Ok(());
+            }
+        };
+        if let (None, Some(tls)) = (&end, &session.server.tls) {
+            control = control.accept_tls(&tls.control).await?;
+            session.is_tls = true;
+        }
+    }
+}
+
+/// Sends a 421, and closes.
+async fn unavailable(mut control: Control, text: &'static str) -> io::Result<()> {
+    tracing::info!("closed: {text}");
+    let reply = Reply::new(Code::SERVICE_NOT_AVAILABLE, text);
+    if control.reply(reply).is_ok() {
+        control.close(LINGER).await;
+    }
+    Ok(())
+}
+
+impl Session {
+    fn new(server: Arc<Server>, ends: Ends, stop: Stop) -> Session {
+        Session {
+            server,
+            ends,
+            login: Login::new(),
+            rights: Rights::Read,
+            directory: FilePath::default(),
+            representation: Representation::default(),
+            offset: 0,
+            renamed: None,
+            data_port: DataPort::Unset,
+            only_epsv: false,
+            has_pbsz: false,
+            is_private: false,
+            is_tls: false,
+            facts: Fact::ALL.to_vec(),
+            wrong_passwords: 0,
+            stop,
+            deadline: Instant::now() + LOGIN_TIME,
+        }
+    }
+
+    /// Answers a client's lines until the control connection is to turn to TLS.
+    async fn serve(&mut self, control: &mut Control) -> Result<(), End> {
+        loop {
+            let line = self.line(control).await?;
+            log(&line);
+            match self.answer(&line).await {
+                Answer::Reply(reply) => control.reply(reply)?,
+                Answer::Transfer(opening, work) => {
+                    control.reply(opening)?;
+                    self.transfer(control, work).await?;
+                }
+                Answer::WrongPassword(reply) => {
+                    self.wrong_passwords += 1;
+                    sleep(DELAY).await;
+                    if self.wrong_passwords == WRONG_PASSWORDS {
+                        return Err(End::Unavailable("Too many wrong passwords"));
+                    }
+                    control.reply(reply)?;
+                }
+                Answer::TurnToTls(reply) => {
+                    control.reply(reply)?;
+                    control.flush().await?;
+                    return Ok(());
+                }
+                Answer::Quit(reply) => {
+                    control.reply(reply)?;
+                    return Err(End::Closed);
+                }
+            }
+        }
+    }
+
+    /// The next line.
+    async fn line(&mut self, control: &mut Control) -> Result<OwnedLine, End> {
+        if self.login.name().is_some() {
+            self.deadline = Instant::now() + self.server.settings.idle;
+        }
+        let deadline = self.deadline.min(Instant::now() + self.server.settings.idle);
+        tokio::select! {
+            line = timeout_at(deadline, control.line()) => match line {
+                Ok(line) => Ok(line?),
+                Err(_) => Err(End::Unavailable("Idle too long")),
+            },
+            _ = self.stop.changed() => Err(End::Unavailable("Stopping")),
+        }
+    }
+
+    /// Transfers, and sends the reply. A client that aborts or is lost ends it. Other lines wait.
+    async fn transfer(&mut self, control: &mut Control, work: Work) -> Result<(), End> {
+        control.flush().await?;
+        let count = Arc::new(AtomicU64::new(0));
+        let transfer = self.next_transfer(count.clone());
+        let mut running = pin!(transfer.run(work));
+        let mut stopping = pin!(stopping(self.stop.clone()));
+        loop {
+            tokio::select! {
+                done = &mut running => {
+                    control.reply(outcome(done, count.load(Ordering::Relaxed)))?;
+                    return Ok(());
+                }
+                line = control.line_in_transfer(), if control.may_wait() => {
+                    let line = line?;
+                    match line.event {
+                        Event::Command(Command::Abor) => {
+                            control.reply(Reply::new(Code::CONNECTION_CLOSED, "Aborted"))?;
+                            control.wait(line);
+                            return Ok(());
+                        }
+                        Event::Command(Command::Stat { path: None }) if !control.has_waiting() => {
+                            log(&line);
+                            control.reply(status_of_transfer(count.load(Ordering::Relaxed)))?;
+                            control.flush().await?;
+                        }
+                        _ => control.wait(line),
+                    }
+                }
+                () = &mut stopping => {
+                    let text = "Aborted, since the server stops";
+                    control.reply(Reply::new(Code::CONNECTION_CLOSED, text))?;
+                    return Err(End::Unavailable("Stopping"));
+                }
+            }
+        }
+    }
+
+    /// The transfer over the data connection that the last command has prepared.
+    fn next_transfer(&mut self, count: Arc<AtomicU64>) -> Transfer {
+        Transfer {
+            port: mem::take(&mut self.data_port),
+            ends: self.ends,
+            acceptor: self
+                .server
+                .tls
+                .as_ref()
+                .filter(|_| self.is_private)
+                .map(|it| it.data.clone()),
+            stall: self.server.settings.stall,
+            count,
+        }
+    }
+
+    /// Begins anew for a user who has logged in.
+    pub fn begin(&mut self, rights: Rights) {
+        if let Some(name) = self.login.name() {
+            Span::current().record("user", field::display(name.escape_ascii()));
+        }
+        self.rights = rights;
+        self.directory = FilePath::default();
+        self.representation = Representation::default();
+        self.offset = 0;
+        self.data_port = DataPort::Unset;
+        tracing::info!("logged in");
+    }
+}
+
+/// Ends some time after the program is to end.
+async fn stopping(mut stop: Stop) {
+    let _ = stop.changed().await;
+    sleep_until(Instant::now() + GRACE).await;
+}
+
+/// Logs a line, without its passwords.
+fn log(line: &OwnedLine) {
+    if tracing::enabled!(Level::DEBUG) {
+        match line.log_line() {
+            Ok(line) => tracing::debug!("{line}"),
+            Err(error) => tracing::debug!(%error, "a line can't be logged"),
+        }
+    }
+}
+
+/// The reply to a transfer.
+fn outcome(done: Result<(), Fault>, count: u64) -> Reply {
+    match done {
+        Ok(()) => {
+            tracing::info!(count, "transferred");
+            Reply::new(Code::CLOSING_DATA_CONNECTION, "Transfer complete")
+        }
+        Err(fault) => {
+            tracing::info!(count, %fault, "the transfer failed");
+            fault.reply()
+        }
+    }
+}
+
+fn status_of_transfer(count: u64) -> Reply {
+    Reply::new(Code::SYSTEM_STATUS, format!("A transfer is under way: {count} bytes so far"))
+}

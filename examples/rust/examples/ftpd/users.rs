@@ -1,0 +1,101 @@
+//! Who may log in. A file has the hashes of the users' passwords.
+use pbkdf2::password_hash::rand_core::OsRng;
+use pbkdf2::password_hash::{self, PasswordHash, PasswordHasher, PasswordVerifier, SaltString};
+use pbkdf2::{Params, Pbkdf2};
+use std::collections::HashMap;
+use std::path::Path;
+use std::{fs, io, thread};
+use tokio::sync::Semaphore;
+use tokio::task::spawn_blocking;
+
+/// How often a password is hashed.
+pub const ROUNDS: &str = "600000";
+
+/// What an unknown name's password is compared with where there are no users.
+const NO_HASH: &str = "$pbkdf2-sha256$i=600000,l=32$AAAAAAAAAAAAAAAAAAAAAA\
+                       $AAAAAAAAAAAAAAAAAAAAAAAAAAAAAAAAAAAAAAAAAAA";
+
+/// What a user may do.
+#[derive(Clone, Copy, Debug, PartialEq, Eq)]
+pub enum Rights {
+    /// Read files.
+    Read,
+    /// Read files, and write, rename and delete them.
+    Write,
+}
+
+struct User {
+    hash: String,
+    rights: Rights,
+}
+
+/// The users, and whether anybody may read.
+pub struct Users {
+    users: HashMap<String, User>,
+    anonymous: bool,
+    /// What an unknown name's password is compared with, so that it takes as long as a wrong one.
+    decoy: String,
+    /// So many passwords are hashed at a time, so that transfers go on beside them.
+    hashing: Semaphore,
+}
+
+impl Users {
+    /// Reads the file of the users.
+    ///
+    /// # Errors
+    ///
+    /// Where the file can't be read, or a line of it is no user.
+    pub fn read(file: Option<&Path>, anonymous: bool) -> io::Result<Users> {
+        let text = file.map_or(Ok(String::new()), fs::read_to_string)?;
+        let lines = text.lines().filter(|line| !line.is_empty() && !line.starts_with('#'));
+        let users: HashMap<_, _> = lines.map(user_of_line).collect::<io::Result<_>>()?;
+        let decoy = users.values().next().map_or(NO_HASH, |user: &User| &user.hash).to_string();
+        let processors = thread::available_parallelism().map_or(1, |number| number.get());
+        Ok(Users { users, anonymous, decoy, hashing: Semaphore::new(processors) })
+    }
+
+    /// What the user of this name and password may do; `None` where there is none.
+    pub async fn rights(&self, name: &[u8], password: &[u8]) -> Option<Rights> {
+        let is_anonymous =
+            [&b"anonymous"[..], b"ftp"].iter().any(|it| name.eq_ignore_ascii_case(it));
+        if self.anonymous && is_anonymous {
+            return Some(Rights::Read);
+        }
+        let user = std::str::from_utf8(name).ok().and_then(|name| self.users.get(name));
+        let hash = user.map_or(&self.decoy, |user| &user.hash).clone();
+        let password = password.to_vec();
+        let _permit = self.hashing.acquire().await.ok()?;
+        let is_right = spawn_blocking(move || is_password(&password, &hash)).await.unwrap_or(false);
+        user.filter(|_| is_right).map(|user| user.rights)
+    }
+}
+
+/// The user of a line: a name, a hash, and perhaps `read`.
+fn user_of_line(line: &str) -> io::Result<(String, User)> {
+    let invalid = || {
+        let name = line.split(':').next().unwrap_or_default();
+        io::Error::new(io::ErrorKind::InvalidData, format!("the line of `{name}` is no user"))
+    };
+    let (name, hash, rights) = match line.split(':').collect::<Vec<_>>()[..] {
+        [name, hash] => (name, hash, Rights::Write),
+        [name, hash, "read"] => (name, hash, Rights::Read),
+        _ => return Err(invalid()),
+    };
+    PasswordHash::new(hash).map_err(|_| invalid())?;
+    Ok((name.to_string(), User { hash: hash.to_string(), rights }))
+}
+
+fn is_password(password: &[u8], hash: &str) -> bool {
+    PasswordHash::new(hash).and_then(|hash| Pbkdf2.verify_password(password, &hash)).is_ok()
+}
+
+/// The hash of a password, as a PHC string, with a salt of its own.
+///
+/// # Errors
+///
+/// Those of the package, as for a number of rounds that it doesn't take.
+pub fn hash_password(password: &[u8], rounds: u32) -> password_hash::Result<String> {
+    let salt = SaltString::generate(&mut OsRng);
+    let params = Params { rounds, ..Params::default() };
+    Ok(Pbkdf2.hash_password_customized(password, None, None, params, &salt)?.to_string())
+}
