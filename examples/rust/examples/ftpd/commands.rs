@@ -231,10 +231,10 @@ impl Session {
                 refuse(Code::COMMAND_NOT_IMPLEMENTED, "There is no certificate")
             }
             _ if self.is_tls => refuse(Code::BAD_COMMAND_SEQUENCE, "Under TLS already"),
-            AuthParam::Ssl => refuse(Code::COMMAND_NOT_IMPLEMENTED_FOR_PARAMETER, "Use AUTH TLS"),
             AuthParam::Tls => {
                 Ok(Answer::TurnToTls(Reply::new(Code::AUTH_OKAY_NO_DATA_NEEDED, "Turn to TLS")))
             }
+            _ => refuse(Code::COMMAND_NOT_IMPLEMENTED_FOR_PARAMETER, "Use AUTH TLS"),
         }
     }
 

@@ -1,0 +1,31 @@
+//! A proxy before an FTP server: `proxy [OPTIONS] SERVER`. It sends the server only lines of verbs
+//! that it allows, and relays data connections. With a certificate it speaks TLS to clients that
+//! ask for it. It prints its port as one line, and logs each exchange on standard error.
+use clap::{Arg, ArgAction};
+use std::process::ExitCode;
+use unftp_control_examples::relay::command_line::{command, option, run, start_log};
+use unftp_control_examples::relay::rules::Allowed;
+
+#[tokio::main]
+async fn main() -> ExitCode {
+    let allow = option("allow", "VERB,VERB", "Send only lines of these verbs")
+        .value_delimiter(',')
+        .conflicts_with("read-only");
+    let read_only = Arg::new("read-only")
+        .long("read-only")
+        .help("Send only lines that log in, ask, or read")
+        .action(ArgAction::SetTrue);
+    let about = "A proxy before an FTP server";
+    let matches = command("proxy", about).arg(allow).arg(read_only).get_matches();
+    let allowed = match matches.get_many::<String>("allow") {
+        Some(verbs) => Allowed::list(verbs.map(String::as_str)),
+        None if matches.get_flag("read-only") => Allowed::reading(),
+        None => Allowed::known(),
+    };
+    start_log();
+    if let Err(error) = run(&matches, allowed, None).await {
+        eprintln!("proxy: {error}");
+        return ExitCode::FAILURE;
+    }
+    ExitCode::SUCCESS
+}

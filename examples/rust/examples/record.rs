@@ -1,0 +1,56 @@
+//! A recorder before an FTP server: `record [OPTIONS] --output FILE SERVER`. It relays as `proxy`
+//! does, refuses no verb that can be relayed, and appends a line to the file for each exchange: an
+//! [`Exchange`] as an object of JSON. No password is in it.
+use std::io;
+use std::path::{Path, PathBuf};
+use std::process::ExitCode;
+use tokio::fs::{File, OpenOptions};
+use tokio::io::{AsyncWriteExt, BufWriter};
+use tokio::sync::mpsc;
+use unftp_control_examples::relay::command_line::{command, path, run, start_log};
+use unftp_control_examples::relay::exchange::Exchange;
+use unftp_control_examples::relay::rules::Allowed;
+
+/// How many exchanges may wait to be written, before the sessions wait.
+const WAITING: usize = 1024;
+
+async fn open(path: &Path) -> io::Result<File> {
+    OpenOptions::new().create(true).append(true).open(path).await
+}
+
+/// Writes each exchange, and flushes where none waits.
+async fn write(file: File, mut exchanges: mpsc::Receiver<Exchange>) -> io::Result<()> {
+    let mut file = BufWriter::new(file);
+    while let Some(exchange) = exchanges.recv().await {
+        let mut next = Some(exchange);
+        while let Some(exchange) = next {
+            let mut line = serde_json::to_vec(&exchange)?;
+            line.push(b'\n');
+            file.write_all(&line).await?;
+            next = exchanges.try_recv().ok();
+        }
+        file.flush().await?;
+    }
+    Ok(())
+}
+
+async fn record(matches: &clap::ArgMatches) -> io::Result<()> {
+    let output = matches.get_one::<PathBuf>("output").ok_or(io::ErrorKind::InvalidInput)?;
+    let (sender, exchanges) = mpsc::channel(WAITING);
+    let writing = tokio::spawn(write(open(output).await?, exchanges));
+    // the sender is dropped with the relay, and then the last exchange is written
+    run(matches, Allowed::All, Some(sender)).await?;
+    writing.await?
+}
+
+#[tokio::main]
+async fn main() -> ExitCode {
+    let output = path("output", "FILE", "The file to append to").required(true);
+    let matches = command("record", "A recorder before an FTP server").arg(output).get_matches();
+    start_log();
+    if let Err(error) = record(&matches).await {
+        eprintln!("record: {error}");
+        return ExitCode::FAILURE;
+    }
+    ExitCode::SUCCESS
+}

@@ -1,0 +1,409 @@
+//! What a relay does with lines and replies, without the control connections.
+use super::data::{Progress, Route, Transfer};
+use super::exchange::{Answer, Exchange};
+use super::protection::Protection;
+use super::Relay;
+use crate::address::{in_227, in_229};
+use crate::telnet::Telnet;
+use bytes::BytesMut;
+use std::collections::VecDeque;
+use std::future::Future;
+use std::io;
+use std::net::SocketAddr;
+use std::sync::Arc;
+use tokio_rustls::TlsAcceptor;
+use tokio_util::codec::Decoder;
+use unftp_control::{
+    Client, CodecError, Command, Error, Event, FtpLineCodec, OwnedLine, ReceivedReply, Reply,
+    ReplyCode as Code, To,
+};
+
+/// How many lines may be owed their replies.
+const MOST_OWED: usize = 64;
+
+/// Why a session ends.
+#[derive(Debug)]
+pub enum End {
+    /// The client was told, or can't be told.
+    Silent,
+    /// The client is told by a 421 with this text.
+    Told(&'static str),
+}
+
+impl From<io::Error> for End {
+    fn from(_: io::Error) -> End {
+        End::Silent
+    }
+}
+
+impl From<Error> for End {
+    fn from(error: Error) -> End {
+        End::Told(match error {
+            Error::MalformedReply | Error::ReplyTooLong => "The server's reply can't be read",
+            _ => "Out of memory",
+        })
+    }
+}
+
+impl From<CodecError> for End {
+    fn from(_: CodecError) -> End {
+        End::Told("Out of memory")
+    }
+}
+
+/// The addresses of both control connections.
+#[derive(Clone, Copy, Debug)]
+pub struct Addresses {
+    /// The client's.
+    pub client: SocketAddr,
+    /// The relay's own, which the client talks to.
+    pub to_client: SocketAddr,
+    /// The server's.
+    pub server: SocketAddr,
+    /// The relay's own, which the server talks to.
+    pub to_server: SocketAddr,
+}
+
+/// What the replies to a line are used for.
+pub(super) enum Purpose {
+    /// The client only.
+    PassOn,
+    /// The features are those of the relay, where they are of TLS.
+    Features,
+    /// The final one comes after the data.
+    Transfer,
+    /// The server listens for the data connection. The client asked by EPSV or PASV.
+    Passive { is_extended: bool },
+    /// The server may connect to the relay, and the relay to the client.
+    Active(Route),
+}
+
+/// A line that is owed its final reply.
+struct Asked {
+    exchange: Exchange,
+    purpose: Purpose,
+}
+
+/// What is done with a line.
+pub(super) enum Verdict {
+    /// The server is sent this line.
+    Send(Vec<u8>, Purpose),
+    /// The relay answers it.
+    Answer(Reply),
+    /// The relay answers it, and what comes after depends on it.
+    Protect,
+}
+
+/// The state of a session.
+pub struct Conversation {
+    pub(super) relay: Arc<Relay>,
+    session: u64,
+    pub(super) addresses: Addresses,
+    telnet: Telnet,
+    lines: FtpLineCodec,
+    input: BytesMut,
+    /// A line that the relay answers, once nothing is owed.
+    waiting: Option<(OwnedLine, Exchange)>,
+    dialogue: Client,
+    asked: VecDeque<Asked>,
+    /// A final reply that waits for the data.
+    held: Option<ReceivedReply<'static>>,
+    pub(super) transfer: Option<Transfer>,
+    pub(super) protection: Protection,
+    pub(super) has_user: bool,
+    /// The last reply that was passed on was a 221 or a 421.
+    is_closing: bool,
+    /// TLS is to begin, once `to_client` is sent.
+    pub begins_tls: bool,
+    /// The last line is an ABOR of a transfer.
+    pub is_urgent: bool,
+    /// What the client is to be sent.
+    pub to_client: BytesMut,
+    /// What the server is to be sent.
+    pub to_server: Vec<u8>,
+    /// The exchanges that are complete.
+    pub exchanges: Vec<Exchange>,
+}
+
+impl Conversation {
+    /// One in which nothing was sent.
+    pub fn new(relay: Arc<Relay>, session: u64, addresses: Addresses) -> Conversation {
+        let lines = FtpLineCodec::with_limit(relay.limits.line);
+        Conversation {
+            relay,
+            session,
+            addresses,
+            telnet: Telnet::default(),
+            lines,
+            input: BytesMut::new(),
+            waiting: None,
+            dialogue: Client::new(),
+            asked: VecDeque::new(),
+            held: None,
+            transfer: None,
+            protection: Protection::default(),
+            has_user: false,
+            is_closing: false,
+            begins_tls: false,
+            is_urgent: false,
+            to_client: BytesMut::new(),
+            to_server: Vec::new(),
+            exchanges: Vec::new(),
+        }
+    }
+
+    /// Takes what the client has sent.
+    pub fn receive_from_client(&mut self, piece: &[u8]) -> Result<(), End> {
+        let from = self.input.len();
+        self.input.extend_from_slice(piece);
+        self.telnet.strip(&mut self.input, from);
+        self.advance()
+    }
+
+    /// Takes what the server has sent.
+    pub fn receive_from_server(&mut self, piece: &[u8]) -> Result<(), End> {
+        self.dialogue.receive(piece)?;
+        self.advance()
+    }
+
+    /// How many bytes of the client wait.
+    pub fn pending(&self) -> usize {
+        self.input.len()
+    }
+
+    /// Whether a reply waits for the data.
+    pub fn is_holding(&self) -> bool {
+        self.held.is_some()
+    }
+
+    /// Whether each line has its reply.
+    pub fn is_at_rest(&self) -> bool {
+        self.dialogue.is_greeted() && self.asked.is_empty() && self.waiting.is_none()
+    }
+
+    /// Whether data may be under way.
+    pub fn is_transferring(&self) -> bool {
+        self.progress() == Some(Progress::Open)
+    }
+
+    fn is_delivered(&self) -> bool {
+        matches!(self.progress(), None | Some(Progress::Delivered))
+    }
+
+    fn progress(&self) -> Option<Progress> {
+        self.transfer.as_ref().map(Transfer::progress)
+    }
+
+    /// Waits until the data is sent, or can't be. Then `release` is to be called.
+    pub fn transferred(&self) -> impl Future<Output = ()> {
+        let ended = self.transfer.as_ref().map(Transfer::ended);
+        async move {
+            if let Some(ended) = ended {
+                ended.await;
+            }
+        }
+    }
+
+    /// What ends the session where the server has closed its connection.
+    pub fn server_end(&self) -> End {
+        if self.is_closing {
+            End::Silent
+        } else {
+            End::Told("The server has closed the connection")
+        }
+    }
+
+    /// Passes on the reply that waited for the data. Where the data was lost, the reply says so.
+    pub fn release(&mut self) -> Result<(), End> {
+        if let Some(held) = self.held.take() {
+            let lost = || Reply::new(Code::CONNECTION_CLOSED, "The data connection was lost");
+            let instead = (!self.is_delivered()).then(lost);
+            self.finish(held, instead)?;
+        }
+        self.advance()
+    }
+
+    /// Goes on under TLS. What came in clear text is dropped.
+    pub fn begin_tls(&mut self) {
+        self.begins_tls = false;
+        self.protection.is_tls = true;
+        self.telnet = Telnet::default();
+        self.lines = FtpLineCodec::with_limit(self.relay.limits.line);
+        self.input.clear();
+    }
+
+    /// Ends it by a 421 of the relay.
+    pub fn refuse(&mut self, text: &'static str) -> Result<(), Error> {
+        let reply = Reply::new(Code::SERVICE_NOT_AVAILABLE, text);
+        reply.encode(&mut self.to_client)?;
+        let owed = self.asked.drain(..).map(|asked| asked.exchange);
+        for mut exchange in owed.chain(self.waiting.take().map(|(_, exchange)| exchange)) {
+            exchange.note(Answer::Own(reply.clone()));
+            self.exchanges.push(exchange);
+        }
+        Ok(())
+    }
+
+    /// Passes on all that can be passed on.
+    fn advance(&mut self) -> Result<(), End> {
+        loop {
+            self.take_replies()?;
+            if !self.take_line()? {
+                return Ok(());
+            }
+        }
+    }
+
+    fn take_replies(&mut self) -> Result<(), End> {
+        while self.held.is_none() {
+            let Some(taken) = self.dialogue.next_reply()? else { return Ok(()) };
+            let (to, reply) = (taken.to, taken.reply.into_owned());
+            match to {
+                To::Greeting => self.greet(reply)?,
+                To::Command(_) => self.take_reply(reply)?,
+                To::Nothing if reply.code() == 421 => {
+                    self.pass_unasked(reply);
+                    return Err(End::Silent);
+                }
+                To::Nothing => return Err(End::Told("The server sent a reply too many")),
+            }
+        }
+        Ok(())
+    }
+
+    fn greet(&mut self, reply: ReceivedReply<'static>) -> Result<(), End> {
+        let is_served = reply.code() < 400;
+        self.pass_unasked(reply);
+        is_served.then_some(()).ok_or(End::Silent)
+    }
+
+    /// Passes on a reply that is to no line.
+    fn pass_unasked(&mut self, reply: ReceivedReply<'static>) {
+        self.to_client.extend_from_slice(reply.bytes());
+        let mut exchange = Exchange::new(self.session, self.addresses.client, None);
+        exchange.note(Answer::Received(reply));
+        self.exchanges.push(exchange);
+    }
+
+    fn take_reply(&mut self, reply: ReceivedReply<'static>) -> Result<(), End> {
+        let Some(asked) = self.asked.front_mut() else { return Err(End::Silent) };
+        if reply.code() < 200 {
+            self.to_client.extend_from_slice(reply.bytes());
+            asked.exchange.note(Answer::Received(reply));
+            return Ok(());
+        }
+        let is_of_data =
+            matches!(asked.purpose, Purpose::Transfer) && matches!(reply.code(), 226 | 250);
+        if is_of_data && !self.is_delivered() {
+            self.held = Some(reply);
+            return Ok(());
+        }
+        self.finish(reply, None)
+    }
+
+    /// Passes on a final reply, or what is sent instead.
+    fn finish(&mut self, reply: ReceivedReply<'static>, instead: Option<Reply>) -> Result<(), End> {
+        let Some(Asked { mut exchange, purpose }) = self.asked.pop_front() else {
+            return Err(End::Silent);
+        };
+        self.is_closing = matches!(reply.code(), 221 | 421);
+        if let Some(instead) = instead.or_else(|| self.rewritten(purpose, &reply)) {
+            return self.answer(exchange, instead);
+        }
+        self.to_client.extend_from_slice(reply.bytes());
+        exchange.note(Answer::Received(reply));
+        self.exchanges.push(exchange);
+        Ok(())
+    }
+
+    /// What the client is sent in place of a final reply, where that has to differ.
+    fn rewritten(&mut self, purpose: Purpose, reply: &ReceivedReply<'_>) -> Option<Reply> {
+        match (purpose, reply.code()) {
+            (Purpose::Features, 211) => Some(self.features(reply)),
+            (Purpose::Passive { is_extended }, 227 | 229) => {
+                let text = String::from_utf8_lossy(reply.lines().next().unwrap_or_default());
+                let port = match reply.code() {
+                    227 => in_227(&text).map(|address| address.port()),
+                    _ => in_229(&text),
+                };
+                Some(
+                    port.and_then(|port| self.listen_for_client(port, is_extended)).unwrap_or_else(
+                        || Reply::new(Code::CANT_OPEN_DATA_CONNECTION, "No data connection"),
+                    ),
+                )
+            }
+            (Purpose::Active(route), 200..=299) => {
+                self.transfer = Some(Transfer::start(route));
+                None
+            }
+            _ => None,
+        }
+    }
+
+    pub(super) fn data_tls(&self) -> Option<TlsAcceptor> {
+        self.relay.tls.clone().filter(|_| self.protection.is_private)
+    }
+
+    /// Takes a line and does what is to be done with it, unless there is none or it has to wait.
+    fn take_line(&mut self) -> Result<bool, End> {
+        if !self.dialogue.is_greeted() || self.begins_tls || self.asked.len() >= MOST_OWED {
+            return Ok(false);
+        }
+        let (line, exchange) = match self.waiting.take() {
+            Some(waiting) => waiting,
+            None => {
+                let Some(line) = self.lines.decode(&mut self.input)? else { return Ok(false) };
+                let shown = Some(line.log_line()?);
+                (line, Exchange::new(self.session, self.addresses.client, shown))
+            }
+        };
+        match self.decide(&line) {
+            Verdict::Send(sent, purpose) => self.send(&line, &sent, Asked { exchange, purpose })?,
+            _ if self.dialogue.owed() > 0 => {
+                self.waiting = Some((line, exchange));
+                return Ok(false);
+            }
+            Verdict::Answer(reply) => self.answer(exchange, reply)?,
+            Verdict::Protect => {
+                let reply = self.protect(&line.event);
+                self.answer(exchange, reply)?;
+            }
+        }
+        Ok(true)
+    }
+
+    /// Sends the client a reply of the relay.
+    fn answer(&mut self, mut exchange: Exchange, reply: Reply) -> Result<(), End> {
+        reply.encode(&mut self.to_client)?;
+        exchange.note(Answer::Own(reply));
+        self.exchanges.push(exchange);
+        Ok(())
+    }
+
+    /// Sends a line to the server.
+    fn send(&mut self, line: &OwnedLine, sent: &[u8], asked: Asked) -> Result<(), End> {
+        self.is_urgent = false;
+        match line.event {
+            Event::Command(Command::Abor) => self.abort()?,
+            Event::Command(Command::User { .. }) => self.has_user = true,
+            _ => {}
+        }
+        self.dialogue.send_line(sent, &mut self.to_server)?;
+        self.asked.push_back(asked);
+        Ok(())
+    }
+
+    /// No reply waits for the data of what is aborted: the client may not read it any more.
+    fn abort(&mut self) -> Result<(), End> {
+        if let Some(held) = self.held.take() {
+            self.finish(held, None)?;
+        }
+        for asked in &mut self.asked {
+            if matches!(asked.purpose, Purpose::Transfer) {
+                asked.purpose = Purpose::PassOn;
+                self.is_urgent = true;
+            }
+        }
+        Ok(())
+    }
+}

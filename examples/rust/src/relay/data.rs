@@ -1,0 +1,241 @@
+//! Data connections: one end is the client's and one the server's.
+use crate::address::unmapped;
+use crate::stream::Stream;
+use std::future::Future;
+use std::io::{self, ErrorKind};
+use std::net::{IpAddr, SocketAddr};
+use std::sync::atomic::{AtomicU64, Ordering::Relaxed};
+use std::time::Duration;
+use tokio::io::{split, AsyncReadExt, AsyncWriteExt, ReadHalf, WriteHalf};
+use tokio::net::{TcpListener, TcpSocket, TcpStream};
+use tokio::sync::{oneshot, watch};
+use tokio::time::{sleep, timeout};
+use tokio_rustls::TlsAcceptor;
+
+/// How many bytes are read at a time.
+const PIECE: usize = 128 * 1024;
+
+/// How long an end may take to connect to the relay, and the client to begin TLS.
+const ACCEPTING: Duration = Duration::from_secs(60);
+/// How long the relay takes to connect to an end.
+const CONNECTING: Duration = Duration::from_secs(30);
+
+/// Which end connects to the relay.
+#[derive(Clone, Copy, Debug, PartialEq, Eq)]
+pub enum Direction {
+    /// The client, after PASV or EPSV.
+    Passive,
+    /// The server, after PORT or EPRT.
+    Active,
+}
+
+/// Where a data connection comes from and where it leads to.
+pub struct Route {
+    /// Which end connects to the relay.
+    pub direction: Direction,
+    /// Where it connects to.
+    pub listener: TcpListener,
+    /// The only address from which it may.
+    pub from: IpAddr,
+    /// The relay's own address toward the other end, with any port.
+    pub own: SocketAddr,
+    /// Where the relay connects to.
+    pub to: SocketAddr,
+    /// What protects the client's end.
+    pub tls: Option<TlsAcceptor>,
+    /// How long nothing may be sent in either direction.
+    pub patience: Duration,
+}
+
+/// How far a transfer is.
+#[derive(Clone, Copy, Debug, PartialEq, Eq)]
+pub enum Progress {
+    /// What the server sends is not yet all sent to the client.
+    Open,
+    /// All that the server sent was sent to the client.
+    Delivered,
+    /// There was no connection, or it was lost.
+    Failed,
+}
+
+/// A data connection that is awaited or open. It is closed when this is dropped.
+pub struct Transfer {
+    progress: watch::Receiver<Progress>,
+    _stop: oneshot::Sender<()>,
+}
+
+impl Transfer {
+    /// Waits for the data connection of a route, and relays it.
+    pub fn start(route: Route) -> Transfer {
+        let (report, progress) = watch::channel(Progress::Open);
+        let (stop, stopped) = oneshot::channel();
+        tokio::spawn(async move {
+            let relayed = relay(route, &report, stopped).await;
+            if let Err(error) = relayed {
+                tracing::debug!(%error, "data connection");
+                if *report.borrow() == Progress::Open {
+                    report.send_replace(Progress::Failed);
+                }
+            }
+        });
+        Transfer { progress, _stop: stop }
+    }
+
+    /// How far it is.
+    pub fn progress(&self) -> Progress {
+        *self.progress.borrow()
+    }
+
+    /// Waits until it is no more open.
+    pub fn ended(&self) -> impl Future<Output = ()> {
+        let mut progress = self.progress.clone();
+        async move {
+            while *progress.borrow_and_update() == Progress::Open
+                && progress.changed().await.is_ok()
+            {}
+        }
+    }
+}
+
+/// Listens at an address, on a port that the system picks.
+pub fn listen(own: SocketAddr) -> io::Result<TcpListener> {
+    bound(own)?.listen(4)
+}
+
+/// A socket of an address, on a port that the system picks.
+fn bound(mut own: SocketAddr) -> io::Result<TcpSocket> {
+    own.set_port(0);
+    let socket = if own.is_ipv4() { TcpSocket::new_v4() } else { TcpSocket::new_v6() }?;
+    socket.bind(own)?;
+    Ok(socket)
+}
+
+async fn relay(
+    route: Route,
+    report: &watch::Sender<Progress>,
+    mut stopped: oneshot::Receiver<()>,
+) -> io::Result<()> {
+    let patience = route.patience;
+    let (client, server) = tokio::select! {
+        opened = open(route) => opened?,
+        _ = &mut stopped => return Err(ErrorKind::Interrupted.into()),
+    };
+    let (client_reader, client_writer) = split(client);
+    let (server_reader, server_writer) = split(Stream::Clear(server));
+    let mut down = Flow::new(server_reader, client_writer);
+    let mut up = Flow::new(client_reader, server_writer);
+    let moved = AtomicU64::new(0);
+    let delivered = async {
+        let copied = down.copy(&moved).await;
+        // a client may close its end before that of an upload
+        if down.is_whole {
+            report.send_replace(Progress::Delivered);
+        }
+        copied
+    };
+    let copied = tokio::select! {
+        copied = async { tokio::try_join!(delivered, up.copy(&moved)).map(drop) } => copied,
+        _ = stalled(&moved, patience) => Err(ErrorKind::TimedOut.into()),
+        _ = stopped => Err(ErrorKind::Interrupted.into()),
+    };
+    let (is_delivered, is_stored) = (down.is_done, up.is_done);
+    let client = up.reader.unsplit(down.writer);
+    let server = down.reader.unsplit(up.writer);
+    // an end that comes too early must not look as that of the file
+    if !is_delivered {
+        reset(client.tcp());
+    }
+    if !is_stored {
+        reset(server.tcp());
+    }
+    copied
+}
+
+/// Both ends, once they are open.
+async fn open(route: Route) -> io::Result<(Stream, TcpStream)> {
+    let accepted = timeout(ACCEPTING, accept(&route.listener, route.from)).await??;
+    drop(route.listener);
+    let connected = match connect(route.own, route.to).await {
+        Ok(connected) => connected,
+        Err(error) => {
+            reset(&accepted);
+            return Err(error);
+        }
+    };
+    let (client, server) = match route.direction {
+        Direction::Passive => (accepted, connected),
+        Direction::Active => (connected, accepted),
+    };
+    let client = Stream::Clear(client);
+    let Some(acceptor) = route.tls else { return Ok((client, server)) };
+    match client.accept_tls(&acceptor, ACCEPTING).await {
+        Ok(client) => Ok((client, server)),
+        Err(error) => {
+            reset(&server);
+            Err(error)
+        }
+    }
+}
+
+/// The first connection from this address. Others are closed.
+async fn accept(listener: &TcpListener, from: IpAddr) -> io::Result<TcpStream> {
+    loop {
+        let (tcp, peer) = listener.accept().await?;
+        if unmapped(peer.ip()) == from {
+            return Ok(tcp);
+        }
+        tracing::warn!(%peer, "not the address of a data connection");
+    }
+}
+
+async fn connect(own: SocketAddr, to: SocketAddr) -> io::Result<TcpStream> {
+    timeout(CONNECTING, bound(own)?.connect(to)).await?
+}
+
+/// Lets the other end see a fault and no end of file, once this is dropped.
+fn reset(tcp: &TcpStream) {
+    let _ = tcp.set_linger(Some(Duration::ZERO));
+}
+
+/// Waits until nothing has moved for so long.
+async fn stalled(moved: &AtomicU64, patience: Duration) {
+    let mut before = None;
+    while before != Some(moved.load(Relaxed)) {
+        before = Some(moved.load(Relaxed));
+        sleep(patience).await;
+    }
+}
+
+/// One direction of a data connection.
+struct Flow {
+    reader: ReadHalf<Stream>,
+    writer: WriteHalf<Stream>,
+    /// Whether all that came was sent.
+    is_whole: bool,
+    /// Whether the end was sent, too.
+    is_done: bool,
+}
+
+impl Flow {
+    fn new(reader: ReadHalf<Stream>, writer: WriteHalf<Stream>) -> Flow {
+        Flow { reader, writer, is_whole: true, is_done: false }
+    }
+
+    /// Sends on all that comes, and its end. It counts what has moved.
+    async fn copy(&mut self, moved: &AtomicU64) -> io::Result<()> {
+        let mut piece = vec![0; PIECE];
+        loop {
+            let count = self.reader.read(&mut piece).await?;
+            if count == 0 {
+                break;
+            }
+            self.is_whole = false;
+            self.writer.write_all(&piece[..count]).await?;
+            self.writer.flush().await?;
+            moved.fetch_add(1, Relaxed);
+        }
+        self.writer.shutdown().await?;
+        (self.is_whole, self.is_done) = (true, true);
+        Ok(())
+    }
+}

@@ -1,0 +1,118 @@
+//! Exchanges: what a client sent, and what it was answered.
+use serde::{Serialize, Serializer};
+use std::net::SocketAddr;
+use std::time::{Duration, Instant};
+use time::format_description::well_known::Rfc3339;
+use time::OffsetDateTime;
+use unftp_control::{ReceivedReply, Reply};
+
+/// A reply that a client was sent.
+#[derive(Clone, Debug, Serialize)]
+#[serde(untagged)]
+pub enum Answer {
+    /// One of the server.
+    Received(ReceivedReply<'static>),
+    /// One of the relay.
+    Own(Reply),
+    /// The code of one whose text is not shown.
+    Code {
+        /// It.
+        code: u16,
+    },
+}
+
+impl Answer {
+    fn code(&self) -> u16 {
+        match self {
+            Answer::Received(reply) => reply.code(),
+            Answer::Own(reply) => reply.code().get(),
+            Answer::Code { code } => *code,
+        }
+    }
+
+    /// The code and the first line, in printable ASCII.
+    fn shown(&self) -> String {
+        let first = match self {
+            Answer::Received(reply) => reply.lines().next().map(printable),
+            Answer::Own(reply) => reply.lines().next().map(|line| printable(line.as_bytes())),
+            Answer::Code { .. } => None,
+        };
+        first.map_or_else(|| self.code().to_string(), |first| format!("{} {first}", self.code()))
+    }
+}
+
+/// What a client sent, and what it was answered: in JSON, an object with these fields.
+#[derive(Clone, Debug, Serialize)]
+pub struct Exchange {
+    /// When the line came (RFC 3339).
+    #[serde(serialize_with = "rfc3339")]
+    came: OffsetDateTime,
+    /// The number of the session.
+    session: u64,
+    /// The address of the client.
+    client: SocketAddr,
+    /// The line as `unftp_control::log_line` shows it, without passwords. It is null where a reply
+    /// is to no line, as the greeting.
+    line: Option<String>,
+    /// Each has a `code`, and also `lines`, unless a part of the client's line is hidden, which the
+    /// server may repeat.
+    replies: Vec<Answer>,
+    /// How long it took to the last reply.
+    #[serde(rename = "milliseconds", serialize_with = "milliseconds")]
+    took: Duration,
+    #[serde(skip)]
+    began: Instant,
+}
+
+impl Exchange {
+    /// One that begins now, with a line as the log shows it, or with none.
+    pub fn new(session: u64, client: SocketAddr, line: Option<String>) -> Exchange {
+        Exchange {
+            came: OffsetDateTime::now_utc(),
+            session,
+            client,
+            line,
+            replies: Vec::new(),
+            took: Duration::ZERO,
+            began: Instant::now(),
+        }
+    }
+
+    /// Notes a reply.
+    pub fn note(&mut self, reply: Answer) {
+        let hides = |line: &str| line.contains("***") || line.starts_with("refused");
+        let is_hidden = self.line.as_deref().is_some_and(hides);
+        self.replies.push(match reply {
+            Answer::Received(reply) if is_hidden => Answer::Code { code: reply.code() },
+            reply => reply,
+        });
+        self.took = self.began.elapsed();
+    }
+
+    /// Logs it.
+    pub fn log(&self) {
+        let line = self.line.as_deref().unwrap_or("-");
+        let replies: Vec<String> = self.replies.iter().map(Answer::shown).collect();
+        tracing::info!("{line} -> {} ({} ms)", replies.join(" | "), self.took.as_millis());
+    }
+}
+
+fn rfc3339<S: Serializer>(came: &OffsetDateTime, serializer: S) -> Result<S::Ok, S::Error> {
+    serializer.serialize_str(&came.format(&Rfc3339).map_err(serde::ser::Error::custom)?)
+}
+
+fn milliseconds<S: Serializer>(took: &Duration, serializer: S) -> Result<S::Ok, S::Error> {
+    serializer.serialize_u128(took.as_millis())
+}
+
+/// The bytes in printable ASCII, with the others and backslashes escaped.
+fn printable(bytes: &[u8]) -> String {
+    let mut shown = String::with_capacity(bytes.len());
+    for &byte in bytes {
+        match byte {
+            b'\'' | b'"' => shown.push(char::from(byte)),
+            _ => shown.extend(byte.escape_ascii().map(char::from)),
+        }
+    }
+    shown
+}

@@ -1,0 +1,75 @@
+//! Protection of the clients' connections by TLS (RFC 4217). The server knows nothing of it.
+use super::conversation::Conversation;
+use unftp_control::{
+    AuthParam, Command, Event, ProtParam, ReceivedReply, Reply, ReplyCode as Code,
+};
+
+/// The features of protection that a server may name.
+const FEATURES: [&str; 6] = ["AUTH", "PBSZ", "PROT", "CCC", "SSCN", "CPSV"];
+
+/// How far protection has come.
+#[derive(Clone, Copy, Debug, Default)]
+pub struct Protection {
+    /// The control connection is under TLS.
+    pub is_tls: bool,
+    /// PBSZ came.
+    pub has_size: bool,
+    /// Data connections are under TLS.
+    pub is_private: bool,
+}
+
+impl Conversation {
+    /// Does what AUTH, PBSZ or PROT asks for, and returns the reply.
+    pub(super) fn protect(&mut self, event: &Event<'_>) -> Reply {
+        if self.relay.tls.is_none() {
+            return Reply::new(Code::COMMAND_NOT_IMPLEMENTED, "No TLS here");
+        }
+        let (code, text) = match event {
+            Event::Command(Command::Auth { protocol }) => self.authenticate(*protocol),
+            Event::Command(Command::Pbsz) if self.protection.is_tls => {
+                self.protection.has_size = true;
+                (Code::COMMAND_OKAY, "PBSZ=0")
+            }
+            Event::Command(Command::Prot { param }) if self.protection.has_size => match param {
+                ProtParam::Clear | ProtParam::Private => {
+                    self.protection.is_private = *param == ProtParam::Private;
+                    (Code::COMMAND_OKAY, "Protection level set")
+                }
+                _ => (Code::PROT_LEVEL_NOT_SUPPORTED, "The levels are C and P"),
+            },
+            _ => (Code::BAD_COMMAND_SEQUENCE, "AUTH TLS, PBSZ 0 and PROT come in this order"),
+        };
+        Reply::new(code, text)
+    }
+
+    /// Features with those of protection only where they are the relay's.
+    pub(super) fn features(&self, reply: &ReceivedReply<'_>) -> Reply {
+        let is_of_protection = |line: &str| {
+            let word = line.split_whitespace().next().unwrap_or_default();
+            FEATURES.iter().any(|feature| word.eq_ignore_ascii_case(feature))
+        };
+        let mut lines: Vec<String> =
+            reply.lines().map(|line| String::from_utf8_lossy(line).into_owned()).collect();
+        let last = if lines.len() > 1 { lines.pop() } else { None };
+        lines.retain(|line| !line.starts_with(' ') || !is_of_protection(line));
+        if self.relay.tls.is_some() {
+            lines.extend([" AUTH TLS", " PBSZ", " PROT"].map(String::from));
+        }
+        lines.extend(last.or_else(|| (lines.len() > 1).then(|| "End".to_string())));
+        Reply::with_lines(Code::SYSTEM_STATUS, lines)
+    }
+
+    /// AUTH comes before USER: what a login or any later command has set at the server came in
+    /// clear text, and so may be a stranger's.
+    fn authenticate(&mut self, protocol: AuthParam) -> (Code, &'static str) {
+        match protocol {
+            _ if self.protection.is_tls => (Code::BAD_COMMAND_SEQUENCE, "Under TLS already"),
+            _ if self.has_user => (Code::BAD_COMMAND_SEQUENCE, "AUTH comes before USER"),
+            AuthParam::Tls => {
+                self.begins_tls = true;
+                (Code::AUTH_OKAY_NO_DATA_NEEDED, "Begin TLS")
+            }
+            _ => (Code::COMMAND_NOT_IMPLEMENTED_FOR_PARAMETER, "AUTH TLS only"),
+        }
+    }
+}

@@ -1,0 +1,93 @@
+//! Which lines of clients may be sent to the server.
+use std::collections::BTreeSet;
+use unftp_control::{is_clear, Event, OwnedLine, Refusal, Reply, ReplyCode as Code};
+
+/// Verbs that log in, ask, or read.
+const READING: &str = "ABOR ACCT ALLO CDUP CLNT CWD EPRT EPSV FEAT HASH HELP HOST LANG LIST MDTM \
+    MLSD MLST MODE NLST NOOP OPTS PASS PASV PORT PWD QUIT RANG REST RETR SIZE STAT STRU SYST TYPE \
+    USER XCRC XMD5 XSHA XSHA1 XSHA256 XSHA512";
+
+/// Those that write.
+const WRITING: &str = "APPE AVBL DELE MFCT MFF MFMT MKD RMD RNFR RNTO SITE SMNT STOR STOU";
+
+/// What the relay answers itself.
+const OWN: [&str; 3] = ["AUTH", "PBSZ", "PROT"];
+
+/// The others of protection (RFC 2228), which is the relay's own, and those that name an address of
+/// a data connection in a way that the relay doesn't rewrite.
+const NEVER: [&str; 10] =
+    ["ADAT", "CCC", "CONF", "CPSV", "ENC", "LPRT", "LPSV", "MIC", "SPSV", "SSCN"];
+
+/// The verbs that may be sent to the server.
+#[derive(Clone, Debug)]
+pub enum Allowed {
+    /// All but those that no relay can send.
+    All,
+    /// These, in upper case.
+    These(BTreeSet<String>),
+}
+
+impl Allowed {
+    /// The verbs of the RFCs, and a few more that servers know.
+    pub fn known() -> Allowed {
+        Allowed::list([READING, WRITING].into_iter().flat_map(str::split_ascii_whitespace))
+    }
+
+    /// Those that log in, ask, or read.
+    pub fn reading() -> Allowed {
+        Allowed::list(READING.split_ascii_whitespace())
+    }
+
+    /// The verbs of a list, in any case of their letters.
+    pub fn list<'a>(verbs: impl IntoIterator<Item = &'a str>) -> Allowed {
+        Allowed::These(verbs.into_iter().map(str::to_ascii_uppercase).collect())
+    }
+
+    fn allows(&self, verb: &str) -> bool {
+        match self {
+            Allowed::All => !NEVER.contains(&verb),
+            Allowed::These(verbs) => verbs.contains(verb) && !NEVER.contains(&verb),
+        }
+    }
+
+    /// The reply to a line that is not sent; `None` for one that is.
+    pub fn refusal(&self, line: &OwnedLine) -> Option<Reply> {
+        let verb = match &line.event {
+            Event::Refused(_) if is_option(line) => "OPTS",
+            Event::Refused(why) => {
+                return Some(Reply::new(Code::COMMAND_SYNTAX_ERROR, why.to_string()));
+            }
+            Event::Command(command) => command.verb(),
+        };
+        if !is_sent_clear(&line.bytes) {
+            Some(Reply::new(
+                Code::COMMAND_SYNTAX_ERROR,
+                "servers read such a line in different ways",
+            ))
+        } else if !OWN.contains(&verb) && !self.allows(verb) {
+            Some(Reply::new(Code::COMMAND_NOT_IMPLEMENTED, "Not allowed here"))
+        } else {
+            None
+        }
+    }
+}
+
+/// Whether a line is OPTS with an option of which no command is, as `OPTS MLST size` (RFC 3659,
+/// section 7.9). It may be sent as it is.
+pub fn is_option(line: &OwnedLine) -> bool {
+    let verb = line.bytes.get(..5).unwrap_or_default();
+    line.event == Event::Refused(Refusal::InvalidCommand) && verb.eq_ignore_ascii_case(b"OPTS ")
+}
+
+/// Whether all servers read alike what is sent for a line: that ends by CR LF, also where the line
+/// ends by LF alone.
+fn is_sent_clear(line: &[u8]) -> bool {
+    let text = line.strip_suffix(b"\r\n").or_else(|| line.strip_suffix(b"\n")).unwrap_or(line);
+    is_clear(&[text, b"\r\n"].concat())
+}
+
+/// What comes after the verb of a line and one space, without the line's end.
+pub fn parameter(line: &[u8]) -> &[u8] {
+    let start = line.iter().position(|byte| *byte == b' ').map_or(line.len(), |space| space + 1);
+    line[start..].strip_suffix(b"\r\n").unwrap_or(&line[start..])
+}

@@ -1,0 +1,276 @@
+//! A client's session: both control connections.
+use super::conversation::{Addresses, Conversation, End};
+use super::Relay;
+use crate::address::unmapped;
+use crate::listening::{Connected, Stop};
+use crate::stream::Stream;
+use bytes::BytesMut;
+use std::io;
+use std::net::{IpAddr, SocketAddr};
+use std::sync::Arc;
+use std::time::Duration;
+use tokio::io::{split, AsyncReadExt, AsyncWriteExt, ReadHalf, WriteHalf};
+use tokio::net::tcp::{OwnedReadHalf, OwnedWriteHalf};
+use tokio::net::TcpStream;
+use tokio::time::{sleep_until, timeout, Instant};
+use unftp_control::{Reply, ReplyCode as Code};
+
+/// How long connecting to the server may take.
+const CONNECTING: Duration = Duration::from_secs(20);
+/// How long a TLS handshake may take.
+const HANDSHAKE: Duration = Duration::from_secs(20);
+/// How long the client may take to read the last reply and to close, and a transfer to end where
+/// the program ends.
+const LINGER: Duration = Duration::from_secs(5);
+/// How many bytes of the client, and of what a side is to be sent, may wait.
+const MOST_PENDING: usize = 64 * 1024;
+/// How many bytes are read at a time.
+const PIECE: usize = 4096;
+/// IAC, IP and the IAC of a Synch (RFC 854).
+const INTERRUPT: &[u8] = b"\xff\xf4\xff";
+/// The DM of a Synch.
+const DATA_MARK: u8 = 0xf2;
+
+/// A session: a client's control connection, and the one to the server for it.
+pub struct Session {
+    conversation: Conversation,
+    from_server: OwnedReadHalf,
+    to_server: OwnedWriteHalf,
+    stop: Stop,
+    is_stopping: bool,
+    /// The client has sent its end.
+    is_client_gone: bool,
+    /// Nothing of what was written to the client waits in a buffer of TLS.
+    is_flushed: bool,
+    /// When it ends, unless a side sends something before.
+    deadline: Instant,
+}
+
+/// Serves a client that has connected.
+pub async fn serve(relay: Arc<Relay>, number: u64, connected: Connected) -> io::Result<()> {
+    let Connected { tcp, peer, is_refused, stop } = connected;
+    let to_client = tcp.local_addr()?;
+    let client = Stream::control(tcp)?;
+    if is_refused {
+        return refuse(client, "Too many connections").await;
+    }
+    let server = match connect(&relay.server).await {
+        Ok(server) => server,
+        Err(error) => {
+            tracing::warn!(%error, server = relay.server, "can't connect");
+            return refuse(client, "The server can't be reached").await;
+        }
+    };
+    let addresses = Addresses {
+        client: of_one_protocol(peer),
+        to_client: of_one_protocol(to_client),
+        server: of_one_protocol(server.peer_addr()?),
+        to_server: of_one_protocol(server.local_addr()?),
+    };
+    let deadline = Instant::now() + relay.limits.idle;
+    let conversation = Conversation::new(relay, number, addresses);
+    let (from_server, to_server) = server.into_split();
+    let session = Session {
+        conversation,
+        from_server,
+        to_server,
+        stop,
+        is_stopping: false,
+        is_client_gone: false,
+        is_flushed: true,
+        deadline,
+    };
+    session.run(client).await
+}
+
+/// Tells a client by a 421 that it has no session.
+async fn refuse(mut client: Stream, text: &'static str) -> io::Result<()> {
+    let reply =
+        Reply::new(Code::SERVICE_NOT_AVAILABLE, text).to_bytes().map_err(io::Error::other)?;
+    timeout(LINGER, client.write_all(&reply)).await??;
+    client.close(LINGER).await;
+    Ok(())
+}
+
+/// The address of IPv4 where it is one that an address of IPv6 maps.
+fn of_one_protocol(address: SocketAddr) -> SocketAddr {
+    match unmapped(address.ip()) {
+        IpAddr::V4(v4) => SocketAddr::new(v4.into(), address.port()),
+        IpAddr::V6(_) => address,
+    }
+}
+
+async fn connect(server: &str) -> io::Result<TcpStream> {
+    let tcp = timeout(CONNECTING, TcpStream::connect(server)).await??;
+    tcp.set_nodelay(true)?;
+    socket2::SockRef::from(&tcp).set_keepalive(true)?;
+    Ok(tcp)
+}
+
+/// Writes a part of what waits. Where nothing does, TLS is to send what it still has.
+async fn write(
+    writer: &mut WriteHalf<Stream>,
+    waiting: &mut BytesMut,
+    is_flushed: &mut bool,
+) -> io::Result<()> {
+    if waiting.is_empty() {
+        writer.flush().await?;
+        *is_flushed = true;
+    } else {
+        *is_flushed = false;
+        writer.write_buf(waiting).await?;
+    }
+    Ok(())
+}
+
+impl Session {
+    /// Relays between both sides, until one of them ends that.
+    async fn run(mut self, mut client: Stream) -> io::Result<()> {
+        let end = loop {
+            let (mut reader, mut writer) = split(client);
+            let talked = self.talk(&mut reader, &mut writer).await;
+            client = reader.unsplit(writer);
+            match (talked, &self.conversation.relay.tls) {
+                (Ok(()), Some(acceptor)) => {
+                    client = client.accept_tls(acceptor, HANDSHAKE).await?;
+                    self.conversation.begin_tls();
+                }
+                (Ok(()), None) => break End::Silent,
+                (Err(end), _) => break end,
+            }
+        };
+        if let End::Told(text) = end {
+            self.conversation.refuse(text).map_err(io::Error::other)?;
+        }
+        let _ = self.record().await;
+        let mut last = self.conversation.to_client;
+        drop((self.from_server, self.to_server));
+        let sent = async {
+            client.write_all_buf(&mut last).await?;
+            client.flush().await
+        };
+        timeout(LINGER, sent).await??;
+        client.close(LINGER).await;
+        Ok(())
+    }
+
+    /// Relays until TLS is to begin, or the session ends.
+    async fn talk(
+        &mut self,
+        reader: &mut ReadHalf<Stream>,
+        writer: &mut WriteHalf<Stream>,
+    ) -> Result<(), End> {
+        let (mut from_client, mut from_server) = (BytesMut::new(), BytesMut::new());
+        while !self.begins_tls() {
+            self.record().await?;
+            self.check()?;
+            self.send_urgent();
+            let transferred = self.conversation.transferred();
+            from_client.reserve(PIECE);
+            from_server.reserve(PIECE);
+            let has_room = self.conversation.to_client.len() < MOST_PENDING;
+            tokio::select! {
+                read = reader.read_buf(&mut from_client), if has_room && self.reads_client() => {
+                    self.is_client_gone = read? == 0;
+                    self.conversation.receive_from_client(&from_client.split())?;
+                    self.postpone();
+                }
+                read = self.from_server.read_buf(&mut from_server),
+                    if has_room && !self.conversation.is_holding() =>
+                {
+                    if matches!(read, Ok(0) | Err(_)) {
+                        return Err(self.conversation.server_end());
+                    }
+                    self.conversation.receive_from_server(&from_server.split())?;
+                    self.postpone();
+                }
+                written = write(writer, &mut self.conversation.to_client, &mut self.is_flushed),
+                    if !self.conversation.to_client.is_empty() || !self.is_flushed =>
+                {
+                    written?;
+                }
+                written = self.to_server.write(&self.conversation.to_server),
+                    if !self.conversation.to_server.is_empty() =>
+                {
+                    // a server that is gone may have said why: that is read
+                    let written = written.unwrap_or(self.conversation.to_server.len());
+                    self.conversation.to_server.drain(..written);
+                }
+                () = transferred, if self.conversation.is_holding() => {
+                    self.conversation.release()?;
+                }
+                _ = self.stop.changed(), if !self.is_stopping => {
+                    self.is_stopping = true;
+                    self.deadline = Instant::now() + LINGER;
+                }
+                () = sleep_until(self.deadline) => self.expire()?,
+            }
+        }
+        Ok(())
+    }
+
+    /// Whether the client is to begin TLS: the reply that says so is sent.
+    fn begins_tls(&self) -> bool {
+        self.conversation.begins_tls && self.conversation.to_client.is_empty() && self.is_flushed
+    }
+
+    fn reads_client(&self) -> bool {
+        let is_full =
+            self.conversation.pending().max(self.conversation.to_server.len()) >= MOST_PENDING;
+        !(is_full || self.is_client_gone || self.is_stopping || self.conversation.begins_tls)
+    }
+
+    /// Ends the session where nothing is left to be done.
+    fn check(&self) -> Result<(), End> {
+        match self.conversation.is_at_rest() {
+            true if self.is_client_gone => Err(End::Silent),
+            true if self.is_stopping => Err(End::Told("Stopping")),
+            _ => Ok(()),
+        }
+    }
+
+    /// Logs the exchanges that are complete.
+    async fn record(&mut self) -> Result<(), End> {
+        for exchange in self.conversation.exchanges.drain(..) {
+            exchange.log();
+            if let Some(exchanges) = &self.conversation.relay.exchanges {
+                let sent = exchanges.send(exchange).await;
+                sent.map_err(|_| End::Told("The record can't be written"))?;
+            }
+        }
+        Ok(())
+    }
+
+    /// Begins an ABOR of a transfer by Telnet's Interrupt Process and Synch, with an urgent byte
+    /// (RFC 959, section 4.1.3), where it can be sent at once: some servers look at a line within a
+    /// transfer only then. A server that doesn't take urgent data in line loses the urgent byte, so
+    /// that byte is none of the line's.
+    fn send_urgent(&mut self) {
+        let line = &mut self.conversation.to_server;
+        if std::mem::take(&mut self.conversation.is_urgent) && line == b"ABOR\r\n" {
+            let socket = socket2::SockRef::from(self.to_server.as_ref());
+            if let Ok(sent) = socket.send_out_of_band(INTERRUPT) {
+                line.splice(..0, INTERRUPT[sent..].iter().chain([&DATA_MARK]).copied());
+            }
+        }
+    }
+
+    /// Something was sent: the session goes on.
+    fn postpone(&mut self) {
+        if !self.is_stopping {
+            self.deadline = Instant::now() + self.conversation.relay.limits.idle;
+        }
+    }
+
+    /// Ends the session at its deadline, unless a transfer is under way.
+    fn expire(&mut self) -> Result<(), End> {
+        if self.is_stopping {
+            return Err(End::Told("Stopping"));
+        }
+        if !self.conversation.is_transferring() {
+            return Err(End::Told("Idle too long"));
+        }
+        self.postpone();
+        Ok(())
+    }
+}
