@@ -51,15 +51,16 @@ enum unftp_result {
 
     /* A command, of unftp_next only. Its name is the verb here, also where the line has another
        word for it: XCWD, XMKD, XPWD and BYE are CWD, MKD, PWD and QUIT. The comment beside each
-       names its value; one in brackets may be absent, and its length is then 0. */
+       names its value; one in brackets may be absent, and its length is then 0. One without a
+       comment takes no parameter: with one the line is refused. */
     UNFTP_USER = 1,    /* [name] */
     UNFTP_PASS = 2,    /* [password] */
     UNFTP_ACCT = 3,    /* [account] */
-    UNFTP_SYST = 4,
+    UNFTP_SYST = 4,    /* no value: its parameter is ignored */
     UNFTP_STAT = 5,    /* [path], any bytes */
     UNFTP_TYPE = 6,    /* no value: its parameter is ignored */
-    UNFTP_STRU = 7,    /* F, R or P */
-    UNFTP_MODE = 8,    /* S, B or C */
+    UNFTP_STRU = 7,    /* F, R or P, in upper case only */
+    UNFTP_MODE = 8,    /* S, B or C, in upper case only */
     UNFTP_HELP = 9,    /* no value: its parameter is ignored */
     UNFTP_NOOP = 10,
     UNFTP_PASV = 11,
@@ -76,20 +77,20 @@ enum unftp_result {
     UNFTP_PWD = 22,
     UNFTP_CWD = 23,    /* path */
     UNFTP_CDUP = 24,
-    UNFTP_OPTS = 25,   /* UTF8 ON or UTF8 OFF */
+    UNFTP_OPTS = 25,   /* UTF8 ON or UTF8 OFF; also all in lower case */
     UNFTP_DELE = 26,   /* path */
     UNFTP_RMD = 27,    /* path */
     UNFTP_QUIT = 28,
     UNFTP_MKD = 29,    /* path */
     UNFTP_ALLO = 30,   /* no value: its parameter is ignored */
-    UNFTP_ABOR = 31,
+    UNFTP_ABOR = 31,   /* no parameter; refused with Telnet's bytes before it */
     UNFTP_STOU = 32,
     UNFTP_RNFR = 33,   /* path */
     UNFTP_RNTO = 34,   /* path */
-    UNFTP_AUTH = 35,   /* TLS or SSL */
+    UNFTP_AUTH = 35,   /* TLS or SSL, ignoring case */
     UNFTP_CCC = 36,
     UNFTP_PBSZ = 37,   /* 0 */
-    UNFTP_PROT = 38,   /* C, S, E or P */
+    UNFTP_PROT = 38,   /* C, S, E or P, in upper case only */
     UNFTP_SIZE = 39,   /* path */
     UNFTP_REST = 40,   /* offset, decimal digits of a number below 2^64 */
     UNFTP_MDTM = 41,   /* path */
@@ -186,7 +187,9 @@ enum unftp_code {
 };
 
 /* What a caller keeps of a connection, beside its pending bytes: those that were received and not
-   used up. At the start of a connection all but the limit is 0, as in {4096, 0, 0}. */
+   used up. At the start of a connection all but the limit is 0, as in {4096, 0, 0}. A server that
+   has sent 234 to AUTH drops its pending bytes and begins with a new struct, or ends the connection
+   where bytes are pending: what came in clear text is never read under TLS (RFC 4217). */
 struct unftp_connection {
     /* How many bytes a line may have, its line feed counted; 0 for any number. It may be changed
        between two calls; what is proved of a sequence of calls is for one limit. */
@@ -217,7 +220,9 @@ struct unftp_found_reply {
     uint32_t code;
 };
 
-/* What a client keeps of its dialogue with a server, beside the bytes. At the start all is 0. */
+/* What a client keeps of its dialogue with a server, beside the bytes. At the start all is 0. Under
+   TLS the same struct goes on: the server sends no second greeting, for which a new one would
+   wait. */
 struct unftp_client {
     /* How many lines were noted. */
     uint64_t sent;
@@ -225,7 +230,7 @@ struct unftp_client {
     uint64_t answered;
     /* The place of the last line that asks for TLS, where asks is not 0. */
     uint64_t asked;
-    /* 0 until the greeting is complete. */
+    /* 0 until the greeting is complete: at its final reply, whatever its code, so at a 421 too. */
     uint32_t greeted;
     /* 0 until a line asks for TLS. */
     uint32_t asks;
@@ -271,6 +276,12 @@ enum unftp_login_step {
  * and at a refused line the used bytes are the whole line, including the parts that its command
  * ignores: the `A` of `TYPE A`, the `ALL` of `EPSV ALL`. At UNFTP_LINE_TOO_LONG they are its end,
  * or all of it.
+ *
+ * A verb ends at the first space, CR or LF of the line, and the parameter is what comes after that
+ * one byte, up to the line's end: a second space belongs to it.
+ *
+ * tnftp and lftp send Telnet's bytes before ABOR, "\xff\xf4\xff\xf2" (RFC 854; RFC 959, section
+ * 4.1.3). Such a line is UNFTP_INVALID_UTF8: the caller takes these bytes away before.
  *
  * After UNFTP_MORE no byte before the connection's offset is scanned again, and these bytes may not
  * change.
@@ -334,12 +345,14 @@ enum unftp_result unftp_reply_lines(const char *bytes, size_t bytes_len,
 
 /*
  * Writes the canonical line of a line's command, with its CR LF, to the start of out, and *len is
- * how many bytes it has: a line that means the same, in the one form that the library writes. It
- * reads its bytes as one line, also where they are not one: pass what unftp_next used up. It
- * returns UNFTP_DONE; UNFTP_INVALID_COMMAND, UNFTP_INVALID_UTF8 or UNFTP_INVALID_EOL for a line
- * that is no command; UNFTP_NO_LINE, but never for a line whose one line feed is its last byte;
- * UNFTP_NO_ROOM, where *len is the room that is needed; or UNFTP_OUT_OF_MEMORY. out is as it was
- * but at UNFTP_DONE.
+ * how many bytes it has: a line that means the same, in the one form that the library writes. A
+ * parameter that its command ignores is lost: of `TYPE A` it is TYPE I, of `ALLO 5` ALLO 0, and of
+ * `EPSV ALL` EPSV. It reads its bytes as one line, also where they are not one: pass what
+ * unftp_next used up. It returns UNFTP_DONE; UNFTP_INVALID_COMMAND, UNFTP_INVALID_UTF8 or
+ * UNFTP_INVALID_EOL for a line that is no command; UNFTP_NO_LINE, but never for a line whose one
+ * line feed is its last byte; UNFTP_NO_ROOM, where *len is the room that is needed; or
+ * UNFTP_OUT_OF_MEMORY. out is as it was but at UNFTP_DONE. No line of n bytes was found that needs
+ * more than 3 n; this is measured, and not proved.
  */
 enum unftp_result unftp_canonical(const char *line, size_t line_len,
                                   char *out, size_t out_room, size_t *len) UNFTP_NONNULL;
@@ -349,8 +362,8 @@ enum unftp_result unftp_canonical(const char *line, size_t line_len,
  * of out, and *len is how many bytes it has. It means the same, and its one line feed is its last
  * byte. A command doesn't hold all that a line says, and this line has the verb in upper case and
  * the bytes of the parameter as they came, up to the line's end: any bytes, also those that are not
- * UTF-8, and a CR that no LF follows. For a verb that takes no value, or one of a type of its own,
- * it is the canonical line.
+ * UTF-8, and a CR that no LF follows. It is the canonical line for NOOP, PASV, FEAT, PWD, XPWD,
+ * CDUP, QUIT, BYE, ABOR, STOU and CCC, and for STRU, MODE, OPTS, AUTH, PBSZ, PROT and REST.
  *
  *     the client's line      unftp_canonical        unftp_forward
  *     type a                 TYPE I                 TYPE a
@@ -361,10 +374,15 @@ enum unftp_result unftp_canonical(const char *line, size_t line_len,
  *     bye                    QUIT                   QUIT
  *     rest +07               REST 7                 REST 7
  *
+ * It passes what servers read in different ways: a bare CR, a NUL or a byte 255 in a parameter, a
+ * verb with other bytes than letters and digits, and a line that ended by LF only, which it ends by
+ * CR LF. A proxy that allows only some commands refuses such a line before (unftp_is_clear).
+ *
  * It returns UNFTP_DONE; UNFTP_NO_LINE exactly where the bytes have no line feed at their end, or
  * one before it; UNFTP_INVALID_COMMAND, UNFTP_INVALID_UTF8 or UNFTP_INVALID_EOL for a line that is
  * no command; UNFTP_NO_ROOM, where *len is the room that is needed; or UNFTP_OUT_OF_MEMORY. out is
- * as it was but at UNFTP_DONE.
+ * as it was but at UNFTP_DONE. No line of n bytes was found that needs more than n + 2; this is
+ * measured, and not proved.
  */
 enum unftp_result unftp_forward(const char *line, size_t line_len,
                                 char *out, size_t out_room, size_t *len) UNFTP_NONNULL;
@@ -388,12 +406,16 @@ uint32_t unftp_is_clear(const char *line, size_t line_len) UNFTP_NONNULL;
  * is *** unless it is a word of the registry of FTP's commands (RFC 5797, section 3), whose
  * arguments are ***. Of SITE the subcommands CHMOD, IDLE, MD5, UMASK and UTIME are shown with their
  * arguments, EXEC, GPASS, GROUP, HELP and PSWD without, and any other is ***. What is shown is the
- * command and not the line: of `xcwd a` CWD a, and of `type a` TYPE.
- * A refused line is `refused`, its verb where that is such a word, and why; nothing is shown of its
- * parameter.
+ * command and not the line: of `xcwd a` CWD a, and of `type a` TYPE. A refused line is `refused`,
+ * its verb where that is such a word, and why; nothing is shown of its parameter. The name of USER
+ * and paths are shown, and so is a password that a client sends in their place, or one that is
+ * itself a verb.
  *
  * It returns UNFTP_DONE; UNFTP_NO_ROOM, where *len is the room that is needed; or
- * UNFTP_OUT_OF_MEMORY. out is as it was but at UNFTP_DONE.
+ * UNFTP_OUT_OF_MEMORY. out is as it was but at UNFTP_DONE. No line of n bytes that unftp_next used
+ * up was found that needs more than 12 n + 17; this is measured, and not proved. A server that has
+ * no such room must not drop the line, or a client could keep itself out of the log: it takes the
+ * room that *len asks for, or logs that there was a line.
  */
 enum unftp_result unftp_log_line(uint32_t number, const char *line, size_t line_len,
                                  char *out, size_t out_room, size_t *len) UNFTP_NONNULL;
@@ -412,6 +434,11 @@ enum unftp_result unftp_client_line(struct unftp_client *client, const char *lin
  * place of the line, and 0 where it is to none. Call it once for each reply that unftp_front_reply
  * finds. A server replies in order (RFC 959, sections 4.2 and 5.4): the greeting comes first, then
  * the replies to each line. After one whose code is from 100 to 199 another follows to the same.
+ *
+ * Nothing in a reply says what it is to, so a server that doesn't keep the order is not noticed:
+ * pyftpdlib answers NOOP within a transfer before the 226, and both replies are then given to the
+ * wrong line. While a transfer is under way, send only ABOR and QUIT, unless the server keeps the
+ * order.
  */
 enum unftp_to unftp_client_reply(struct unftp_client *client, uint32_t code,
                                  uint64_t *place) UNFTP_NONNULL;
@@ -426,6 +453,7 @@ uint64_t unftp_client_owed(const struct unftp_client *client) UNFTP_NONNULL;
  * 1 where TLS may begin, and else 0, where so many bytes are pending after the last reply: that was
  * a 234 to the last line, which asks for TLS (AUTH TLS or AUTH SSL; RFC 4217, section 4), and no
  * byte is pending, since what came in clear text is not to be read as if it had come under TLS.
+ * Where bytes are pending after that 234, end the connection.
  */
 uint32_t unftp_client_may_begin_tls(const struct unftp_client *client,
                                     size_t pending) UNFTP_NONNULL;
@@ -433,10 +461,12 @@ uint32_t unftp_client_may_begin_tls(const struct unftp_client *client,
 /*
  * Says what a server that wants a login does with an event, by the number that unftp_next returned
  * for it: that of a command, or of a refused line (RFC 959, section 4.1.1). QUIT, AUTH, PBSZ, PROT,
- * FEAT, HELP, NOOP and SYST need no login, and neither does a refused line; each other command does.
- * A name is good for the next PASS, also where other commands come between. USER and AUTH flush the
- * login, AUTH also where the server refuses it. A server that takes REIN, which is UNFTP_OTHER, sets
- * the struct to 0. After a password that the accounts refuse the client begins again with USER.
+ * FEAT, HELP, NOOP and SYST need no login, and neither does a refused line; each other command
+ * does. A name is good for the next PASS, also where other commands come between. USER and AUTH
+ * flush the login, AUTH also where the server refuses it. A server that takes REIN, which is
+ * UNFTP_OTHER, sets the struct to 0. After a password that the accounts refuse the client begins
+ * again with USER. ACCT needs a login, and is answered 530 before one: a server that asks for an
+ * account after PASS, by 332, can't use this.
  */
 enum unftp_login_step unftp_login_event(struct unftp_login *login, uint32_t event) UNFTP_NONNULL;
 

@@ -155,8 +155,8 @@ static bool are_equal(struct taken left, struct taken right)
         && memcmp(left.area.at, right.area.at, left.area.len) == 0;
 }
 
-/* Writes a line with just enough room: it is read as the line that it is written for. */
-static void check_written(line_call call, const char *line, struct taken wanted)
+/* Writes a line with just enough room, at most this: it is read as the line that it is of. */
+static void check_written(line_call call, size_t most, const char *line, struct taken wanted)
 {
     size_t used = wanted.line.used, room, again;
     struct bytes none = area_of(0), less, out;
@@ -170,6 +170,7 @@ static void check_written(line_call call, const char *line, struct taken wanted)
         return;
     }
     wants(result == UNFTP_NO_ROOM && room > 0, "a command has a line");
+    wants(room <= most, "its line needs no more than the header says");
     less = area_of(room - 1);
     wants(call(line, used, less.at, room - 1, &again) == UNFTP_NO_ROOM && again == room
               && is_filling(less),
@@ -234,6 +235,8 @@ static void check_logged(const char *line, struct taken taken)
     wants(is_command(taken.result) || begins_with(shown, "refused"),
           "a log says that a line is refused");
     wants(is_text(too_long, "refused: Line too long"), "a log says that a line is too long");
+    wants(shown.len <= 12 * used + 17 && too_long.len <= 12 * used + 17,
+          "a log line needs no more than the header says");
     free_area(shown);
     free_area(too_long);
 }
@@ -281,8 +284,8 @@ static void check_lines(struct bytes input)
         commands += is_command(taken.result);
         refused += !is_command(taken.result);
         check_cuts(bytes, taken);
-        check_written(unftp_canonical, bytes, taken);
-        check_written(unftp_forward, bytes, taken);
+        check_written(unftp_canonical, 3 * taken.line.used, bytes, taken);
+        check_written(unftp_forward, taken.line.used + 2, bytes, taken);
         check_logged(bytes, taken);
         start += taken.line.used;
         free_area(taken.area);

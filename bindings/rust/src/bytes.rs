@@ -1,6 +1,6 @@
 //! The values that are bytes as the client sent them.
 use std::borrow::Cow;
-use std::fmt::{self, Debug, Display, Formatter};
+use std::fmt::{self, Debug, Display, Formatter, Write};
 use std::ops::Deref;
 
 /// Bytes as the client sent them, in no particular encoding: a name, an account or the path of
@@ -72,10 +72,17 @@ impl<B: AsRef<[u8]> + ?Sized> PartialEq<B> for RawBytes<'_> {
 
 impl Eq for RawBytes<'_> {}
 
-/// Between quotes, with what is not printable ASCII escaped.
+/// Between double quotes. These, backslashes and what is not printable ASCII are escaped.
 impl Debug for RawBytes<'_> {
     fn fmt(&self, f: &mut Formatter<'_>) -> fmt::Result {
-        write!(f, "\"{}\"", self.0.escape_ascii())
+        f.write_char('"')?;
+        for byte in self.0.iter() {
+            match byte {
+                b'\'' => f.write_char('\'')?,
+                byte => write!(f, "{}", byte.escape_ascii())?,
+            }
+        }
+        f.write_char('"')
     }
 }
 

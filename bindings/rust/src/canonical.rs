@@ -3,7 +3,8 @@ use crate::error::Error;
 use crate::ffi;
 
 /// The canonical line of a line's command, with its CR LF: a line that means the same, in the one
-/// form that the library writes.
+/// form that the library writes. A parameter that the command ignores is lost: of `TYPE A` it is
+/// `TYPE I`, of `ALLO 5` `ALLO 0`, and of `EPSV ALL` `EPSV`.
 ///
 /// ```
 /// use unftp_control::canonical;
@@ -23,8 +24,15 @@ pub fn canonical(line: &[u8]) -> Result<Vec<u8>, Error> {
 
 /// The line that a proxy sends to a server for a client's line, with its CR LF: a line that means
 /// the same, and keeps what no command holds. It is the verb in upper case and the bytes of the
-/// parameter as they came; for a verb that takes no value, or one of a type of its own, it is the
-/// canonical line.
+/// parameter as they came. It is the canonical line for NOOP, PASV, FEAT, PWD, XPWD, CDUP, QUIT,
+/// BYE, ABOR, STOU and CCC, which take no value, and for STRU, MODE, OPTS, AUTH, PBSZ, PROT and
+/// REST.
+///
+/// It passes what servers read in different ways: a bare CR, a NUL or a byte 255 in a parameter, a
+/// verb with other bytes than letters and digits, as in `DELE\tb`, and a line that ended by LF
+/// only, which it ends by CR LF. So a proxy that allows only some commands forwards only a line
+/// that [`is_clear`](crate::is_clear), and of these only commands that it has on a list: XRMD and
+/// XCUP, for example, are [`Command::Other`](crate::Command::Other).
 ///
 /// ```
 /// use unftp_control::forward;

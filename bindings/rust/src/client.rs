@@ -16,7 +16,6 @@ pub enum To {
 }
 
 /// A reply that a client has received, and what it is to.
-#[must_use]
 #[derive(Clone, Debug, PartialEq, Eq)]
 #[non_exhaustive]
 pub struct ClientReply<'a> {
@@ -24,6 +23,13 @@ pub struct ClientReply<'a> {
     pub to: To,
     /// What was received. Where its code is from 100 to 199, another reply to the same follows.
     pub reply: ReceivedReply<'a>,
+}
+
+impl ClientReply<'_> {
+    /// The same reply, copied where it is borrowed.
+    pub fn into_owned(self) -> ClientReply<'static> {
+        ClientReply { to: self.to, reply: self.reply.into_owned() }
+    }
 }
 
 /// How far the dialogue with a server has come.
@@ -57,6 +63,11 @@ impl Dialogue {
         self.0.greeted != 0
     }
 
+    /// How many lines were sent.
+    pub(crate) fn sent(&self) -> u64 {
+        self.0.sent
+    }
+
     /// How many lines are owed their final reply.
     pub(crate) fn owed(&self) -> u64 {
         ffi::client_owed(&self.0)
@@ -71,6 +82,14 @@ impl Dialogue {
 /// A client's end of a control connection, without input and output: it writes the lines of
 /// commands, and says to which of them each reply is. A server replies in order (RFC 959, sections
 /// 4.2 and 5.4), and commands may be sent before the replies to earlier ones came.
+///
+/// Nothing in a reply says what it is to, so a server that doesn't keep the order is not noticed:
+/// pyftpdlib answers NOOP within a transfer before the 226, and both replies are then given to the
+/// wrong command. While a transfer is under way, send only ABOR and QUIT, unless the server keeps
+/// the order.
+///
+/// Under TLS the same client goes on where [`tls_agreed`](Client::tls_agreed): the server sends no
+/// second greeting, for which a new one would wait.
 ///
 /// ```
 /// use unftp_control::{Client, Command, To};
@@ -108,7 +127,9 @@ impl Client {
         Client { replies: ReplyDecoder::with_limit(limit), dialogue: Dialogue::default() }
     }
 
-    /// Appends the line of the command, which the caller sends, and returns the command's place.
+    /// Appends the line of the command, which the caller sends, and returns the command's place. It
+    /// is its [canonical line](Command::to_line): for another TYPE than `TYPE I`, for `EPSV ALL`
+    /// and for the number of ALLO use [`send_line`](Client::send_line).
     ///
     /// # Errors
     ///
@@ -154,9 +175,15 @@ impl Client {
         Ok(reply.map(|reply| self.dialogue.reply(reply)))
     }
 
-    /// Whether the final reply of the greeting was taken.
+    /// Whether the greeting is complete: its final reply was taken, whatever its code, as 220 or a
+    /// 421 of a server that closes the connection.
     pub fn is_greeted(&self) -> bool {
         self.dialogue.is_greeted()
+    }
+
+    /// How many commands were sent: the place of the next one.
+    pub fn sent(&self) -> u64 {
+        self.dialogue.sent()
     }
 
     /// How many commands are owed their final reply.
@@ -165,7 +192,8 @@ impl Client {
     }
 
     /// Whether TLS may begin: the last reply was a 234 to the last command, which asks for TLS, and
-    /// no byte is pending (RFC 4217, section 4).
+    /// no byte is pending (RFC 4217, section 4). Where bytes are pending after that 234, end the
+    /// connection: nothing that came in clear text is read under TLS.
     pub fn tls_agreed(&self) -> bool {
         self.dialogue.may_begin_tls(self.bytes().len())
     }

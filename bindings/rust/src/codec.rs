@@ -23,9 +23,9 @@ use tokio_util::codec::{Decoder, Encoder};
 /// end. They are still in the read buffer.
 ///
 /// A server that turns to TLS makes a new codec for the new stream, and drops the read buffer of
-/// the old one. One that needs the parameter of TYPE, which is in no command, uses
-/// [`FtpLineCodec`](crate::FtpLineCodec). The line feed of an ABOR may come as urgent data;
-/// `examples/server.rs` takes it in line.
+/// the old one, or ends the connection where that has bytes. One that needs the parameter of TYPE,
+/// which is in no command, uses [`FtpLineCodec`](crate::FtpLineCodec). The line feed of an ABOR may
+/// come as urgent data; `examples/server.rs` takes it in line.
 ///
 /// ```
 /// use bytes::BytesMut;
@@ -97,14 +97,36 @@ impl Encoder<Reply> for FtpCodec {
 }
 
 /// The codec of a client's control connection: bytes become replies, each with what it is to, as of
-/// a [`Client`](crate::Client). A command becomes its [line](Command::to_line), and a line, with its
-/// line end, becomes the bytes of [`forward`]. So a line that is no command is never sent, nor are
-/// two lines in one, as a file name with a line feed would make. A bare CR in the parameter of a
-/// line is sent as it is: for a server that ends a line at one, refuse such a line first.
+/// a [`Client`](crate::Client), whose limits it has too: while a transfer is under way, send only
+/// ABOR and QUIT, unless the server keeps the order. A command becomes its
+/// [line](Command::to_line), and a line, with its line end, becomes the bytes of [`forward`]. So a
+/// line that is no command is never sent, nor are two lines in one, as a file name with a line feed
+/// would make. A bare CR in the parameter of a line is sent as it is: for a server that ends a line
+/// at one, refuse such a line first. A [`RawLine`] is sent as it is, also one that is no command.
 ///
-/// Reading and writing are one codec's, also after `Framed::split`.
+/// Reading and writing are one codec's, also after `Framed::split`. A client that turns to TLS
+/// takes the codec along ([`tls_agreed`](FtpClientCodec::tls_agreed)): the server sends no second
+/// greeting, for which a new one would wait.
 ///
 /// A reply that is malformed or too long is an error, since nothing says where the next one begins.
+///
+/// The place of a command is what [`sent`](FtpClientCodec::sent) was before it. As there are
+/// several encoders, `flush` and `close` of a sink want the type of one, any of them:
+///
+/// ```
+/// use futures_util::SinkExt;
+/// use tokio::io::{AsyncRead, AsyncWrite};
+/// use tokio_util::codec::Framed;
+/// use unftp_control::{CodecError, Command, FtpClientCodec, RawLine};
+///
+/// async fn ask<S: AsyncRead + AsyncWrite + Unpin>(
+///     server: &mut Framed<S, FtpClientCodec>,
+/// ) -> Result<(), CodecError> {
+///     server.feed(Command::Feat).await?;
+///     server.feed(RawLine(b"OPTS MLST size;\r\n")).await?;
+///     SinkExt::<RawLine<'_>>::flush(server).await
+/// }
+/// ```
 ///
 /// ```
 /// use bytes::BytesMut;
@@ -141,9 +163,14 @@ impl FtpClientCodec {
         FtpClientCodec { search: Search::new(limit), dialogue: Dialogue::default() }
     }
 
-    /// Whether the final reply of the greeting was taken.
+    /// Whether the greeting is complete: its final reply was taken, whatever its code.
     pub fn is_greeted(&self) -> bool {
         self.dialogue.is_greeted()
+    }
+
+    /// How many commands were sent: the place of the next one.
+    pub fn sent(&self) -> u64 {
+        self.dialogue.sent()
     }
 
     /// How many commands are owed their final reply.
@@ -152,7 +179,8 @@ impl FtpClientCodec {
     }
 
     /// Whether TLS may begin, where these bytes are in the read buffer: the last reply was a 234 to
-    /// the last command, which asks for TLS, and no byte is pending (RFC 4217, section 4).
+    /// the last command, which asks for TLS, and no byte is pending (RFC 4217, section 4). Where
+    /// bytes are pending after that 234, end the connection.
     pub fn tls_agreed(&self, read_buffer: &[u8]) -> bool {
         self.dialogue.may_begin_tls(read_buffer.len())
     }
@@ -215,11 +243,33 @@ impl Encoder<Vec<u8>> for FtpClientCodec {
     }
 }
 
+impl Encoder<RawLine<'_>> for FtpClientCodec {
+    type Error = CodecError;
+
+    fn encode(&mut self, line: RawLine<'_>, dst: &mut BytesMut) -> Result<(), CodecError> {
+        self.append(line.0, dst)
+    }
+}
+
 impl Encoder<Command<'_>> for FtpClientCodec {
     type Error = CodecError;
 
     fn encode(&mut self, command: Command<'_>, dst: &mut BytesMut) -> Result<(), CodecError> {
         self.append(&command.to_line()?, dst)
+    }
+}
+
+/// A line, with its line end, that [`FtpClientCodec`] sends as it is, as
+/// [`Client::send_line`](crate::Client::send_line): for what no [`Command`] says and [`forward`]
+/// doesn't keep, as `OPTS MLST size;` or `MODE Z`. It is refused with [`Error::NotALine`] where no
+/// line feed is its last byte, or one comes before it.
+#[derive(Clone, Copy)]
+pub struct RawLine<'a>(pub &'a [u8]);
+
+/// Shows nothing of the line, since it may be that of PASS.
+impl fmt::Debug for RawLine<'_> {
+    fn fmt(&self, f: &mut Formatter<'_>) -> fmt::Result {
+        f.debug_struct("RawLine").finish_non_exhaustive()
     }
 }
 

@@ -18,8 +18,9 @@ use std::str;
 ///
 /// `Debug` shows an account, and of a password only asterisks. So it does of the arguments of
 /// `Other`, and of its name where that is not one of a few known ones: a mistyped PASS is such a
-/// verb. Of `Site` it shows name and arguments of CHMOD, IDLE, MD5, UMASK and UTIME, and the name of
-/// EXEC, GPASS, GROUP, HELP and PSWD.
+/// verb. Of `Site` it shows name and arguments of CHMOD, IDLE, MD5, UMASK and UTIME, and the name
+/// of EXEC, GPASS, GROUP, HELP and PSWD. The name of `User` and paths are shown, and so is a
+/// password that a client sends in their place.
 ///
 /// ```
 /// use unftp_control::Command;
@@ -53,16 +54,17 @@ pub enum Command<'a> {
         path: Option<RawBytes<'a>>,
     },
     /// TYPE: the representation of files (RFC 959, section 4.1.2). Its parameter is ignored;
-    /// [`Pending::line`](crate::Pending::line) has it.
+    /// [`Line::parameter`](crate::Line::parameter) has it. The line of this command is always
+    /// `TYPE I`: that of another type is sent by [`Client::send_line`](crate::Client::send_line).
     Type,
     /// STRU: the structure of files (RFC 959, section 4.1.2).
     Stru {
-        /// The structure.
+        /// The structure. Its letter is in upper case only: `STRU f` is refused.
         structure: StruParam,
     },
     /// MODE: the transfer mode (RFC 959, section 4.1.2).
     Mode {
-        /// The mode.
+        /// The mode. Its letter is in upper case only: `MODE s` is refused.
         mode: ModeParam,
     },
     /// HELP: asks for help on the server (RFC 959, section 4.1.3). Its parameter is ignored.
@@ -72,7 +74,7 @@ pub enum Command<'a> {
     /// PASV: listen for the data connection (RFC 959, section 4.1.2).
     Pasv,
     /// EPSV: listen for the data connection, over IPv4 or IPv6 (RFC 2428, section 3). Its parameter
-    /// is ignored.
+    /// is ignored: the line of this command is always `EPSV`, also where `EPSV ALL` came.
     Epsv,
     /// PORT: connect to the client for data (RFC 959, section 4.1.2).
     Port {
@@ -131,7 +133,7 @@ pub enum Command<'a> {
     Cdup,
     /// OPTS: set an option (RFC 2389, section 4).
     Opts {
-        /// The option.
+        /// The option. It is `UTF8 ON` or `UTF8 OFF`, all in upper case or all in lower case.
         option: Opt,
     },
     /// DELE: delete a file (RFC 959, section 4.1.3).
@@ -151,9 +153,12 @@ pub enum Command<'a> {
         /// The directory; not empty.
         path: Cow<'a, str>,
     },
-    /// ALLO: reserve room (RFC 959, section 4.1.3). Its parameter is ignored.
+    /// ALLO: reserve room (RFC 959, section 4.1.3). Its parameter is ignored: the line of this
+    /// command is always `ALLO 0`, also where `ALLO 5` came.
     Allo,
-    /// ABOR: end the transfer that is under way (RFC 959, section 4.1.3).
+    /// ABOR: end the transfer that is under way (RFC 959, section 4.1.3). tnftp and lftp send
+    /// Telnet's bytes before it, IAC IP IAC DM, which is `\xff\xf4\xff\xf2` (RFC 854). With them
+    /// the line is refused: the caller takes them away before.
     Abor,
     /// STOU: store under a name that the server chooses (RFC 959, section 4.1.3).
     Stou,
@@ -169,7 +174,7 @@ pub enum Command<'a> {
     },
     /// AUTH: protect the control connection (RFC 2228, section 3; RFC 4217, section 4).
     Auth {
-        /// The mechanism.
+        /// The mechanism; the case of its letters is ignored.
         protocol: AuthParam,
     },
     /// CCC: go on without protection of the control connection (RFC 2228, section 3).
@@ -178,7 +183,7 @@ pub enum Command<'a> {
     Pbsz,
     /// PROT: the protection of the data connection (RFC 2228, section 3).
     Prot {
-        /// The level.
+        /// The level. Its letter is in upper case only: `PROT p` is refused.
         param: ProtParam,
     },
     /// SIZE: asks for the size of a file (RFC 3659, section 4).
@@ -342,6 +347,8 @@ impl Command<'_> {
     }
 
     /// Its verb, in upper case: SITE also of `Md5`, and of `Other` its own, which may be empty.
+    /// That of `Other` may be a mistyped PASS with the password, or a password, and is not for a
+    /// log.
     pub fn verb(&self) -> &str {
         match self {
             Command::Other { command_name, .. } => command_name,
@@ -356,7 +363,8 @@ impl Command<'_> {
 
     /// Its canonical line, with its CR LF: one that is read as exactly this command (RFC 959,
     /// section 5.3). A carriage return in a value is written as CR NUL. Before a path of LIST that
-    /// begins with a dash it has `--`.
+    /// begins with a dash it has `--`. A parameter that the command ignores is lost: the line of
+    /// what came as `TYPE A` is `TYPE I`, of `ALLO 5` it is `ALLO 0`, and of `EPSV ALL` `EPSV`.
     ///
     /// ```
     /// use unftp_control::{Command, Error};

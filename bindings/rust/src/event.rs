@@ -45,11 +45,41 @@ pub struct Line<'a> {
     pub bytes: &'a [u8],
 }
 
-/// Shows how many bytes there are and not which, since a password may be among them.
+impl<'a> Line<'a> {
+    /// The bytes of its parameter as they came, without the line's end: what follows the verb and
+    /// the one byte that ends it, a space or a CR. A second space is part of the parameter. It is
+    /// empty where the line has none, or is longer than the limit. That of PASS is the password.
+    ///
+    /// ```
+    /// use unftp_control::Pending;
+    ///
+    /// let mut pending = Pending::new();
+    /// pending.push(b"TYPE A\r\nTYPE  L 8\r\n")?;
+    /// let line = pending.next_line()?.expect("a line");
+    /// assert_eq!(line.parameter(), b"A");
+    /// let line = pending.next_line()?.expect("a line");
+    /// assert_eq!(line.parameter(), b" L 8");
+    /// # Ok::<(), unftp_control::Error>(())
+    /// ```
+    pub fn parameter(&self) -> &'a [u8] {
+        parameter_of(self.bytes)
+    }
+}
+
+/// Shows the event, and nothing of the bytes: the line of PASS would show how long the password is.
 impl Debug for Line<'_> {
     fn fmt(&self, f: &mut Formatter<'_>) -> fmt::Result {
-        let mut line = f.debug_struct("Line");
-        line.field("event", &self.event).field("len", &self.bytes.len()).finish_non_exhaustive()
+        f.debug_struct("Line").field("event", &self.event).finish_non_exhaustive()
+    }
+}
+
+/// The parameter of a line whose one line feed is its last byte.
+pub(crate) fn parameter_of(line: &[u8]) -> &[u8] {
+    let verb_ends = |byte: &u8| matches!(byte, b' ' | b'\r' | b'\n');
+    let rest = line.splitn(2, verb_ends).nth(1).unwrap_or_default();
+    match rest.strip_suffix(b"\n") {
+        Some(parameter) => parameter.strip_suffix(b"\r").unwrap_or(parameter),
+        None => rest,
     }
 }
 

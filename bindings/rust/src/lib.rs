@@ -48,10 +48,11 @@
 //!
 //! # A proxy
 //!
-//! [`forward`] is the line that a proxy sends to a server for a client's line, and [`canonical`] the
-//! one line that means what a client's line does. With a [`Client`] toward the server, a line that
-//! the proxy answers itself waits until the [greeting](Client::is_greeted) is complete and
-//! [`owed`](Client::owed) is 0.
+//! [`forward`] is the line that a proxy sends to a server for a client's line, and [`canonical`]
+//! the one line that means what a client's line does. Before it forwards a line, a proxy refuses
+//! one that servers read in different ways: one that is not clear ([`is_clear`]). With a [`Client`]
+//! toward the server, a line that the proxy answers itself waits until the
+//! [greeting](Client::is_greeted) is complete and [`owed`](Client::owed) is 0.
 //!
 //! # Linking
 //!
@@ -63,9 +64,12 @@
 //!
 //! # Logs
 //!
-//! `Display` of a [`Command`] is what a log may show of it, and so is what the feature `serde` writes:
-//! commands, events and replies as `Serialize`, without passwords and accounts. A reply is written as
-//! it is, also where a server repeats in it what it was sent.
+//! `Display` of a [`Command`] is what a log may show of it, and so is what the feature `serde`
+//! writes: commands, events and replies as `Serialize`, without passwords and accounts. A reply is
+//! written as it is, also where a server repeats in it what it was sent, and so are [`RawBytes`]
+//! that a caller writes by themselves. What a client sends elsewhere is shown: a password in the
+//! place of USER's name or of a path shows. [`Command::verb`] is not for a log, since it may be a
+//! mistyped password.
 //!
 //! # Memory
 //!
@@ -106,7 +110,7 @@ pub use canonical::{canonical, forward, is_clear};
 pub use client::{Client, ClientReply, To};
 pub use code::{ReplyCode, UnknownCode};
 #[cfg(feature = "tokio-util")]
-pub use codec::{CodecError, FtpClientCodec, FtpCodec};
+pub use codec::{CodecError, FtpClientCodec, FtpCodec, RawLine};
 pub use command::Command;
 pub use error::Error;
 pub use event::{Event, Line, Refusal};

@@ -1,5 +1,5 @@
 use crate::codec::{incomplete, CodecError};
-use crate::event::{Event, Refusal};
+use crate::event::{parameter_of, Event, Refusal};
 use crate::lines::{Lines, LINE_LIMIT};
 use crate::log::log_line;
 use crate::reply::Reply;
@@ -22,6 +22,11 @@ pub struct OwnedLine {
 }
 
 impl OwnedLine {
+    /// The bytes of its parameter, as [`Line::parameter`](crate::Line::parameter).
+    pub fn parameter(&self) -> &[u8] {
+        parameter_of(&self.bytes)
+    }
+
     /// Its [`log_line`].
     ///
     /// # Errors
@@ -32,11 +37,10 @@ impl OwnedLine {
     }
 }
 
-/// Shows how many bytes there are and not which, since a password may be among them.
+/// Shows the event, and nothing of the bytes: the line of PASS would show how long the password is.
 impl Debug for OwnedLine {
     fn fmt(&self, f: &mut Formatter<'_>) -> fmt::Result {
-        let mut line = f.debug_struct("OwnedLine");
-        line.field("event", &self.event).field("len", &self.bytes.len()).finish_non_exhaustive()
+        f.debug_struct("OwnedLine").field("event", &self.event).finish_non_exhaustive()
     }
 }
 
@@ -53,6 +57,7 @@ impl Debug for OwnedLine {
 /// let line = codec.decode(&mut input)?.expect("a line");
 /// assert_eq!(line.event, Event::Command(Command::Type));
 /// assert_eq!(line.bytes, "TYPE A\r\n");
+/// assert_eq!(line.parameter(), b"A");
 /// assert!(codec.decode(&mut input)?.is_none());
 /// # Ok::<(), unftp_control::CodecError>(())
 /// ```

@@ -4,15 +4,17 @@ use crate::event::{Event, Line};
 use crate::ffi;
 
 /// What a log shows of a line of a client, in printable ASCII without a line end, and without
-/// passwords and accounts: the line of what [`Pending::line`](crate::Pending::line) returned with
-/// the event. Where the line is too long, nothing of it is looked at.
+/// passwords and accounts. The event and the line are those that
+/// [`Pending::next_line`](crate::Pending::next_line) returned together, and [`Line::log_line`]
+/// takes both. Where the line is too long, nothing of it is looked at.
 ///
 /// A command is its verb in upper case and its value after a space, with what is not printable
 /// escaped. The value of PASS and ACCT is `***`, also an empty one. A verb with no rule of its own
 /// may be a mistyped PASS, or a password: it is `***` unless it is a word of the registry of FTP's
 /// commands (RFC 5797, section 3), whose arguments are `***`. So it is with the subcommands of SITE
-/// but CHMOD, IDLE, MD5, UMASK and UTIME. A refused line is `refused`, its verb where that is such a
-/// word, and why; nothing is shown of its parameter.
+/// but CHMOD, IDLE, MD5, UMASK and UTIME. A refused line is `refused`, its verb where that is such
+/// a word, and why; nothing is shown of its parameter. The name of USER and paths are shown, and so
+/// is a password that a client sends in their place, or one that is itself a verb.
 ///
 /// ```
 /// use unftp_control::{log_line, Pending};

@@ -28,33 +28,35 @@ pub enum LoginStep<'a> {
 /// and the replies to the others. What it does is proved: an event that needs a login is passed on
 /// only after one.
 ///
-/// QUIT, AUTH, PBSZ, PROT, FEAT, HELP, NOOP and SYST need no login, and neither does a refused line;
-/// each other command does. USER and AUTH flush the login. After a password that is refused the
-/// client begins again with USER.
+/// QUIT, AUTH, PBSZ, PROT, FEAT, HELP, NOOP and SYST need no login, and neither does a refused
+/// line; each other command does. A name is good for the next PASS, also where other commands come
+/// between. USER and AUTH flush the login, AUTH also where the server refuses it. After a password
+/// that is refused the client begins again with USER. A server that takes REIN, which is
+/// [`Command::Other`], makes a new `Login`.
+///
+/// ACCT needs a login, and is answered 530 before one. So a server that asks for an account after
+/// PASS, by 332, can't use this.
 ///
 /// ```
-/// use unftp_control::{Login, LoginStep, Pending};
+/// use unftp_control::{Login, LoginStep, Pending, Reply, ReplyCode};
 ///
 /// let mut login = Login::new();
 /// let mut pending = Pending::new();
-/// pending.push(b"PWD\r\nUSER anna\r\nPASS secret\r\nPWD\r\n")?;
+/// pending.push(b"PWD\r\nUSER anna\r\nPASS wrong\r\n")?;
+/// pending.push(b"USER anna\r\nPASS secret\r\nPWD\r\n")?;
 /// let mut codes = Vec::new();
 /// while let Some(event) = pending.next_event()? {
-///     let accepted = match login.event(&event) {
-///         LoginStep::PassOn => false,
-///         LoginStep::Answer(reply) => {
-///             codes.push(reply.code().get());
-///             continue;
-///         }
+///     let reply = match login.event(&event) {
+///         LoginStep::PassOn => Reply::new(ReplyCode::COMMAND_OKAY, "the server's own"),
+///         LoginStep::Answer(reply) => reply,
 ///         LoginStep::AskAccounts { name, password } => {
-///             name == b"anna" && password.as_bytes() == b"secret"
+///             let accepted = name == b"anna" && password.as_bytes() == b"secret";
+///             login.answer(accepted)
 ///         }
 ///     };
-///     if accepted {
-///         codes.push(login.answer(accepted).code().get());
-///     }
+///     codes.push(reply.code().get());
 /// }
-/// assert_eq!(codes, [530, 331, 230]);
+/// assert_eq!(codes, [530, 331, 530, 331, 230, 200]);
 /// assert_eq!(login.name(), Some(&b"anna"[..]));
 /// # Ok::<(), unftp_control::Error>(())
 /// ```

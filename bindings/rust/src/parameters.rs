@@ -1,6 +1,7 @@
 //! The parameters that name one of a few choices.
 
-/// The security mechanism that AUTH asks for (RFC 2228, section 3; RFC 4217, section 4).
+/// The security mechanism that AUTH asks for (RFC 2228, section 3; RFC 4217, section 4). The case
+/// of its letters is ignored.
 #[derive(Clone, Copy, Debug, PartialEq, Eq, Hash)]
 #[non_exhaustive]
 pub enum AuthParam {
@@ -10,7 +11,8 @@ pub enum AuthParam {
     Tls,
 }
 
-/// The transfer mode that MODE asks for (RFC 959, section 3.4).
+/// The transfer mode that MODE asks for (RFC 959, section 3.4). The letter is in upper case only,
+/// as in libunftp: `MODE s` is refused.
 #[derive(Clone, Copy, Debug, PartialEq, Eq, Hash)]
 pub enum ModeParam {
     /// `S`: the file as a stream of bytes.
@@ -21,7 +23,8 @@ pub enum ModeParam {
     Compressed,
 }
 
-/// The option that OPTS sets (RFC 2389, section 4).
+/// The option that OPTS sets (RFC 2389, section 4): `UTF8 ON` or `UTF8 OFF`, all in upper case or
+/// all in lower case.
 #[derive(Clone, Copy, Debug, PartialEq, Eq, Hash)]
 #[non_exhaustive]
 pub enum Opt {
@@ -32,7 +35,8 @@ pub enum Opt {
     },
 }
 
-/// The protection of the data channel that PROT asks for (RFC 2228, section 3).
+/// The protection of the data channel that PROT asks for (RFC 2228, section 3). The letter is in
+/// upper case only, as in libunftp: `PROT p` is refused.
 #[derive(Clone, Copy, Debug, PartialEq, Eq, Hash)]
 pub enum ProtParam {
     /// `C`: none.
@@ -45,7 +49,8 @@ pub enum ProtParam {
     Private,
 }
 
-/// The file structure that STRU asks for (RFC 959, section 3.1.2).
+/// The file structure that STRU asks for (RFC 959, section 3.1.2). The letter is in upper case
+/// only, as in libunftp: `STRU f` is refused.
 #[derive(Clone, Copy, Debug, PartialEq, Eq, Hash)]
 pub enum StruParam {
     /// `F`: no inner structure.

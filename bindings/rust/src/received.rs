@@ -1,3 +1,4 @@
+use crate::bytes::RawBytes;
 use std::borrow::Cow;
 use std::fmt::{self, Debug, Formatter};
 
@@ -63,10 +64,10 @@ impl ReceivedReply<'_> {
     }
 }
 
-/// Shows the lines, with what is not printable ASCII escaped.
+/// Shows each line as that of [`RawBytes`]: between double quotes, and escaped once.
 impl Debug for ReceivedReply<'_> {
     fn fmt(&self, f: &mut Formatter<'_>) -> fmt::Result {
-        let lines: Vec<String> = self.lines().map(|line| line.escape_ascii().to_string()).collect();
+        let lines: Vec<RawBytes<'_>> = self.lines().map(RawBytes::from).collect();
         f.debug_struct("ReceivedReply").field("code", &self.code).field("lines", &lines).finish()
     }
 }

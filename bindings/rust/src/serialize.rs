@@ -30,7 +30,8 @@ impl Serialize for Password<'_> {
     }
 }
 
-/// As a text, with U+FFFD for each ill-formed part.
+/// As a text, with U+FFFD for each ill-formed part. Nothing is hidden: not the account of ACCT, nor
+/// a password that was sent as a name.
 impl Serialize for RawBytes<'_> {
     fn serialize<S: Serializer>(&self, serializer: S) -> Result<S::Ok, S::Error> {
         serializer.serialize_str(&String::from_utf8_lossy(self))

@@ -256,9 +256,51 @@ fn a_received_reply_shows_its_lines() -> Result<(), Error> {
     let mut decoder = ReplyDecoder::new();
     decoder.push(b"211-a\xff\r\n 1\r\n211 c\r\n")?;
     let reply = decoder.next_reply()?.expect("it is complete");
-    let shown = r#"ReceivedReply { code: 211, lines: ["a\\xff", " 1", "c"] }"#;
+    let shown = r#"ReceivedReply { code: 211, lines: ["a\xff", " 1", "c"] }"#;
     assert_eq!(format!("{reply:?}"), shown);
     assert_eq!(reply.clone().into_owned(), reply);
+    decoder.push(b"257 \"/it's\" \\\t\r\n")?;
+    let reply = decoder.next_reply()?.expect("it is complete");
+    let shown = r#"ReceivedReply { code: 257, lines: ["\"/it's\" \\\t"] }"#;
+    assert_eq!(format!("{reply:?}"), shown);
+    Ok(())
+}
+
+#[test]
+fn debug_of_a_line_shows_its_event() -> Result<(), Error> {
+    let shown = |line: &str| -> Result<String, Error> {
+        let mut pending = Pending::new();
+        pending.push(line.as_bytes())?;
+        Ok(format!("{:?}", pending.next_line()?.expect("a line")))
+    };
+    assert_eq!(shown("NOOP\r\n")?, "Line { event: Command(Noop), .. }");
+    assert_eq!(shown("PASS a\r\n")?, shown("PASS secret\r\n")?);
+    assert_eq!(shown("PASS a\rb\r\n")?, shown("PASS secret\r!\r\n")?);
+    Ok(())
+}
+
+#[test]
+fn a_parameter_follows_the_byte_that_ends_the_verb() -> Result<(), Error> {
+    for (line, parameter) in [
+        (&b"TYPE A\r\n"[..], &b"A"[..]),
+        (b"TYPE A\n", b"A"),
+        (b"TYPE  A \r\n", b" A "),
+        (b"TYPE\r\n", b""),
+        (b"TYPE\n", b""),
+        (b"TYPE \r\n", b""),
+        (b"TYPE\r\r\n", b""),
+        (b"TYPE\rA\r\r\n", b"A\r"),
+        (b" A\r\n", b"A"),
+        (b"\n", b""),
+        (b"SITE CHMOD 644 a\xff\r\n", b"CHMOD 644 a\xff"),
+        (b"NOOP x\r\n", b"x"),
+        // longer than the limit
+        (b"RETR 0123456789012345678901234567890\r\n", b""),
+    ] {
+        let mut pending = Pending::with_limit(30);
+        pending.push(line)?;
+        assert_eq!(pending.next_line()?.expect("a line").parameter(), parameter, "{line:?}");
+    }
     Ok(())
 }
 

@@ -11,8 +11,8 @@ use std::task::{Context, Poll};
 use tokio::io::{AsyncRead, AsyncWriteExt, ReadBuf};
 use tokio_util::codec::{Decoder, Encoder, Framed, FramedRead};
 use unftp_control::{
-    CodecError, Command, Error, Event, FtpClientCodec, FtpCodec, FtpLineCodec, Refusal, Reply,
-    ReplyCode, To,
+    CodecError, Command, Error, Event, FtpClientCodec, FtpCodec, FtpLineCodec, RawLine, Refusal,
+    Reply, ReplyCode, To,
 };
 
 /// A reader that gives one piece after the other, and then the end or an error.
@@ -296,6 +296,38 @@ fn a_line_that_is_no_line_of_a_command_is_not_sent() {
 }
 
 #[test]
+fn a_raw_line_is_sent_as_it_is() -> Result<(), CodecError> {
+    let mut codec = FtpClientCodec::new();
+    let mut sent = BytesMut::new();
+    codec.encode(RawLine(b"OPTS MLST size;\r\n"), &mut sent)?;
+    codec.encode(RawLine(b"type e\n"), &mut sent)?;
+    for line in [&b"RETR a\r\nDELE b\r\n"[..], b"RETR a", b""] {
+        let error = codec.encode(RawLine(line), &mut sent).expect_err("it is not one line");
+        assert!(matches!(error, CodecError::Control(Error::NotALine)), "{error:?}");
+    }
+    assert_eq!(sent, "OPTS MLST size;\r\ntype e\n");
+    assert_eq!((codec.sent(), codec.owed()), (2, 2));
+    assert_eq!(format!("{:?}", RawLine(b"PASS secret\r\n")), "RawLine { .. }");
+    Ok(())
+}
+
+#[test]
+fn what_was_sent_is_the_place_of_the_next_command() -> Result<(), CodecError> {
+    let mut codec = FtpClientCodec::new();
+    let (mut sent, mut input) = (BytesMut::new(), BytesMut::from("220 Ready\r\n"));
+    assert_eq!(codec.decode(&mut input)?.map(|reply| reply.to), Some(To::Greeting));
+    for count in 0..3 {
+        assert_eq!(codec.sent(), count);
+        codec.encode(Command::Noop, &mut sent)?;
+        assert!(codec.encode(b"NOOP x\r\n", &mut sent).is_err());
+        input.extend_from_slice(b"200 OK\r\n");
+        assert_eq!(codec.decode(&mut input)?.map(|reply| reply.to), Some(To::Command(count)));
+    }
+    assert_eq!(codec.sent(), 3);
+    Ok(())
+}
+
+#[test]
 fn a_reply_over_the_limit_is_an_error() {
     let mut codec = FtpClientCodec::with_limit(10);
     let mut input = BytesMut::from("220 read\r\n220 ready\r\n");
@@ -350,11 +382,15 @@ async fn a_client_and_a_server_talk() -> Result<(), CodecError> {
 async fn a_line_comes_with_its_event() {
     let input = b"type a\r\nNOOP NOOP NOOP\r\nPASS secret\r\nQU";
     let mut framed = FramedRead::new(&input[..], FtpLineCodec::with_limit(13));
-    let mut lines = Vec::new();
+    let (mut lines, mut parameters) = (Vec::new(), Vec::new());
     while let Some(Ok(line)) = framed.next().await {
+        assert_eq!(format!("{line:?}"), format!("OwnedLine {{ event: {:?}, .. }}", line.event));
         assert!(!format!("{line:?}").contains("secret"));
+        parameters.extend_from_slice(line.parameter());
+        parameters.push(b',');
         lines.push((line.event, line.bytes));
     }
+    assert_eq!(parameters, b"a,,secret,");
     let password = b"secret".to_vec().into();
     let expected = [
         (Event::Command(Command::Type), &b"type a\r\n"[..]),

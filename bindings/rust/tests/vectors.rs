@@ -46,6 +46,38 @@ fn each_line_is_what_the_vectors_say() {
     assert!(lines > 2000, "{lines} lines");
 }
 
+/// The verbs whose line is forwarded as the canonical one: those without a value, and those whose
+/// value has a type of its own.
+const CANONICAL: [&str; 18] = [
+    "NOOP", "PASV", "FEAT", "PWD", "XPWD", "CDUP", "QUIT", "BYE", "ABOR", "STOU", "CCC", "STRU",
+    "MODE", "OPTS", "AUTH", "PBSZ", "PROT", "REST",
+];
+
+#[test]
+fn each_other_line_is_forwarded_with_its_parameter() {
+    let mut lines = 0;
+    for file in ["parse.tsv", "client_lines.tsv", "worked.tsv"] {
+        for (words, _) in calls(file, &["parse"]) {
+            let line = bytes(&words[0]);
+            let Ok(forwarded) = forward(&line) else { continue };
+            let verb_ends = |byte: &u8| b" \r\n".contains(byte);
+            let verb = line.split(verb_ends).next().expect("a verb").to_ascii_uppercase();
+            let mut pending = Pending::with_limit(0);
+            pending.push(&line).expect("memory is there");
+            let taken = pending.next_line().expect("memory is there").expect("a line");
+            let wanted = if CANONICAL.iter().any(|it| it.as_bytes() == verb) {
+                canonical(&line).expect("it is a command")
+            } else {
+                let space: &[u8] = if taken.parameter().is_empty() { b"" } else { b" " };
+                [&verb, space, taken.parameter(), b"\r\n"].concat()
+            };
+            assert_eq!(forwarded, wanted, "{words:?}");
+            lines += 1;
+        }
+    }
+    assert!(lines > 1000, "{lines} lines");
+}
+
 #[test]
 fn each_input_gives_its_events_in_any_pieces() {
     for file in ["decode.tsv", "client_streams.tsv", "worked.tsv"] {
