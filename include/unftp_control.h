@@ -374,9 +374,9 @@ enum unftp_result unftp_canonical(const char *line, size_t line_len,
  *     bye                    QUIT                   QUIT
  *     rest +07               REST 7                 REST 7
  *
- * It passes what servers read in different ways: a bare CR, a NUL or a byte 255 in a parameter, a
- * verb with other bytes than letters and digits, and a line that ended by LF only, which it ends by
- * CR LF. A proxy that allows only some commands refuses such a line before (unftp_is_clear).
+ * It keeps what servers read in different ways: a bare CR, a NUL or a byte 255 in a parameter, and
+ * a verb with other bytes than letters and digits. A proxy that allows only some commands doesn't
+ * send such a line (unftp_is_clear).
  *
  * It returns UNFTP_DONE; UNFTP_NO_LINE exactly where the bytes have no line feed at their end, or
  * one before it; UNFTP_INVALID_COMMAND, UNFTP_INVALID_UTF8 or UNFTP_INVALID_EOL for a line that is

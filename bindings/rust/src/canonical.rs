@@ -28,11 +28,10 @@ pub fn canonical(line: &[u8]) -> Result<Vec<u8>, Error> {
 /// BYE, ABOR, STOU and CCC, which take no value, and for STRU, MODE, OPTS, AUTH, PBSZ, PROT and
 /// REST.
 ///
-/// It passes what servers read in different ways: a bare CR, a NUL or a byte 255 in a parameter, a
-/// verb with other bytes than letters and digits, as in `DELE\tb`, and a line that ended by LF
-/// only, which it ends by CR LF. So a proxy that allows only some commands forwards only a line
-/// that [`is_clear`](crate::is_clear), and of these only commands that it has on a list: XRMD and
-/// XCUP, for example, are [`Command::Other`](crate::Command::Other).
+/// It keeps what servers read in different ways: a bare CR, a NUL or a byte 255 in a parameter, and
+/// a verb with other bytes than letters and digits, as in `DELE\tb`. So a proxy that allows only
+/// some commands sends only a line that [`is_clear`], and of these only commands that it has on a
+/// list: XRMD and XCUP, for example, are [`Command::Other`](crate::Command::Other).
 ///
 /// ```
 /// use unftp_control::forward;

@@ -1,6 +1,6 @@
 //! The answers to commands.
 use crate::data::DataPort;
-use crate::line::{listed, named, parameter};
+use crate::line::{listed, named};
 use crate::listing::{Fact, Form};
 use crate::session::Session;
 use crate::transfer::{Representation, Work};
@@ -99,14 +99,14 @@ impl Session {
             Command::Pbsz => self.pbsz(),
             Command::Prot { param } => self.prot(*param),
             Command::Ccc => refuse(Code::FTPS_REQUIRED, "The control connection stays under TLS"),
-            Command::Type => self.set_type(parameter(line)),
+            Command::Type => self.set_type(line.parameter()),
             Command::Mode { mode: ModeParam::Stream } => reply(Code::COMMAND_OKAY, "Mode S"),
             Command::Stru { structure: StruParam::File } => reply(Code::COMMAND_OKAY, "File"),
             Command::Mode { .. } | Command::Stru { .. } => {
                 refuse(Code::COMMAND_NOT_IMPLEMENTED_FOR_PARAMETER, "Only MODE S and STRU F")
             }
             Command::Pasv => self.passive(),
-            Command::Epsv => self.extended_passive(parameter(line)),
+            Command::Epsv => self.extended_passive(line.parameter()),
             Command::Port { addr } => self.port(addr),
             Command::Rest { offset } => self.restart(*offset),
             Command::Pwd => reply(Code::DIR_CREATED, self.directory.quoted()),

@@ -2,7 +2,7 @@
 use crate::commands::{refuse, reply, Answer, Answered};
 use crate::data::DataPort;
 use crate::folder::{is_type, FilePath, Folder};
-use crate::line::{first_word, parameter};
+use crate::line::first_word;
 use crate::listing::{fact_list, time_value, Form, Listing, TIME_VALUE};
 use crate::replies;
 use crate::session::Session;
@@ -172,7 +172,7 @@ impl Session {
     /// MFMT: a time and a file.
     pub async fn set_modified(&mut self, line: &OwnedLine) -> Answered {
         self.writes()?;
-        let (time, named) = first_word(parameter(line));
+        let (time, named) = first_word(line.parameter());
         let time = std::str::from_utf8(time).unwrap_or_default();
         let Ok(modified) = PrimitiveDateTime::parse(time, TIME_VALUE) else {
             return refuse(Code::PARAMETER_SYNTAX_ERROR, "No time");
@@ -186,7 +186,7 @@ impl Session {
     /// SITE CHMOD: a mode in octal digits and a file.
     pub async fn set_mode(&mut self, line: &OwnedLine) -> Answered {
         self.writes()?;
-        let (_, words) = first_word(parameter(line));
+        let (_, words) = first_word(line.parameter());
         let (mode, named) = first_word(&words);
         let mode = std::str::from_utf8(mode).ok().and_then(|it| u32::from_str_radix(it, 8).ok());
         let Some(mode) = mode.filter(|mode| *mode <= 0o777) else {

@@ -2,19 +2,11 @@
 use std::mem;
 use unftp_control::OwnedLine;
 
-/// What a line has after its verb, without the line end: also what its command ignores.
-pub fn parameter(line: &OwnedLine) -> &[u8] {
-    let text = line.bytes.strip_suffix(b"\n").unwrap_or(&line.bytes);
-    let text = text.strip_suffix(b"\r").unwrap_or(text);
-    let verb = text.iter().position(|byte| *byte == b' ').unwrap_or(text.len());
-    text[verb..].strip_prefix(b" ").unwrap_or_default()
-}
-
 /// The bytes that name a file. The text of a command has U+FFFD for what is not UTF-8: then they
 /// are those of its line, where a CR is sent as CR NUL.
 pub fn named(text: &str, line: &OwnedLine) -> Vec<u8> {
     if text.contains(char::REPLACEMENT_CHARACTER) {
-        without_nul(parameter(line))
+        without_nul(line.parameter())
     } else {
         text.as_bytes().to_vec()
     }
@@ -22,7 +14,7 @@ pub fn named(text: &str, line: &OwnedLine) -> Vec<u8> {
 
 /// The path of LIST or NLST: what is after its options, as those of `ls`.
 pub fn listed(line: &OwnedLine) -> Vec<u8> {
-    after_options(parameter(line))
+    after_options(line.parameter())
 }
 
 fn after_options(parameter: &[u8]) -> Vec<u8> {
