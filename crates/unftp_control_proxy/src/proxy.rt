@@ -11,10 +11,10 @@ ghost use Rattle.unftp_control_proxy.specs.ClientLines.{first_client_line, line_
 ghost use Rattle.unftp_control_proxy.specs.Given.{IsWholeReply};
 ghost use Rattle.unftp_control_proxy.specs.Owed.{Answer, IsReplyNext, Reply as ReplyOwed, after_reply};
 
-use crate::sending::check;
 use crate::client::{ClientLine, ClientLines};
 use crate::errors::{ReplaceError, SendError};
 use crate::order::Order;
+use crate::sending::check;
 use std::alloc::{AllocError, Global};
 use unftp_control_codecs::encode_reply;
 use unftp_control_message::reply::Reply;
