@@ -1,5 +1,5 @@
-"""Runs the tests of Twisted's FTP server, or of Python's ftplib, at another server. It is started by tools/checks/peer_tests, by a Python that has them,
-and prints a line for each test: its name, `ok`, `failed` or `skipped`, and why, with tabs between.
+"""Runs the tests of Twisted's FTP server, or of Python's ftplib, at another server. tools/checks/peer_tests starts it by a Python that has
+them. It prints a line for each test: its name, `ok`, `failed` or `skipped`, and why, with tabs between.
 
 usage: python3 peer_suites.py twisted|cpython SETTINGS      SETTINGS is JSON: see start
 """
@@ -14,6 +14,8 @@ import unittest
 from peers import HOST, HOST6, Place, start_command, start_peer
 
 LIFE = 30
+# how many seconds a test of Twisted may take
+PATIENCE = 5
 
 
 class Server:
@@ -114,7 +116,7 @@ def twisted_suite(settings):
             return chain.addCallback(lambda error: expected and self.assertEqual(codes(expected), codes(error.args[0]), command))
 
     base = test_ftp.FTPServerTestCase
-    base.setUp = set_up
+    base.setUp, base.timeout = set_up, PATIENCE
     base.assertCommandResponse, base.assertCommandFailed = Comparing.assertCommandResponse, Comparing.assertCommandFailed
     from twisted.trial.runner import TestLoader
 

@@ -26,15 +26,16 @@ def directives(path):
     return {each[0]: each[1] if len(each) > 1 else "" for each in words}
 
 
-def home_of(path):
-    """The home directory of the first account."""
-    return pathlib.Path(path).read_text(encoding="utf-8").split(":")[5]
+def home_of(config):
+    """The home directory of the first account, or of none that a test has written."""
+    accounts = pathlib.Path(config.get("AuthUserFile", os.devnull)).read_text(encoding="utf-8").split(":")
+    return pathlib.Path(accounts[5]) if len(accounts) > 5 else pathlib.Path(config["PidFile"]).parent
 
 
 def start(config, settings):
     """Starts the server that the settings name, on the configuration's port."""
     place = Place(settings["packages"], secure=False)
-    place.folder = pathlib.Path(home_of(config["AuthUserFile"]))
+    place.folder = home_of(config)
     port = int(config["Port"])
     if settings["peer"]:
         process, _, _ = start_peer(settings["peer"], place, HOST, LIFE, port)

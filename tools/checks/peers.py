@@ -136,7 +136,8 @@ def pure_ftpd(place, host, port):
         raise NoServer("pure-ftpd needs root")
     place.owner = OWNER
     program = place.program("pure-ftpd")
-    accounts = place.file(f"pure-ftpd.{port}.users", f"{USER}:{crypt.crypt(PASSWORD, crypt.METHOD_SHA256)}:{OWNER}:{OWNER}::{place.folder}/./::::::::::::\n")
+    user = f"{USER}:{crypt.crypt(PASSWORD, crypt.METHOD_SHA256)}:{OWNER}:{OWNER}::{place.folder}/./::::::::::::\n"
+    accounts = place.file(f"pure-ftpd.{port}.users", user)
     database = f"{place.work}/pure-ftpd.{port}.database"
     subprocess.run([place.program("pure-pw"), "mkdb", database, "-f", accounts], check=True, capture_output=True, timeout=PATIENCE)
     options = ["-S", f"{host},{port}", "-l", f"puredb:{database}", "-E", "-H", "-c", str(CLIENTS), "-C", str(CLIENTS), "-u", "1",

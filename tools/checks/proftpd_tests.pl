@@ -1,7 +1,8 @@
 #!/usr/bin/env perl
-# Runs the tests of a module of proftpd's test suite, in the folder `tests` of its sources, at the server that PROFTPD_TEST_BIN starts. The texts
-# of replies are not compared, and of their codes the first digit; paths in commands begin at the user's folder, as at a server that serves only that; and the
-# user is the one that the server has. A reply to ABOR may be 225. Prints a line for each test: its name, `ok`, `failed` or `skipped`, and why, with tabs between.
+# Runs the tests of a module of proftpd's test suite, in the folder `tests` of its sources, at the server that PROFTPD_TEST_BIN starts. The
+# texts of replies are not compared, and of their codes the first digit; paths in commands begin at the user's folder, as at a server that
+# serves only that; and the user is the one that the server has. A reply to ABOR may be 225. Prints a line for each test: its name, `ok`,
+# `failed` or `skipped`, and why, with tabs between.
 #
 # usage: perl proftpd_tests.pl MODULE USER PASSWORD [PATTERN]
 use strict;
