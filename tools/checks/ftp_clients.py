@@ -447,7 +447,8 @@ class Rclone(Client):
     def words(self, *words):
         password = subprocess.run(["rclone", "obscure", self.account.password], capture_output=True, check=True, text=True).stdout.strip()
         options = ["--config", "", "--retries=1", "--low-level-retries=1", "-vv", f"--ftp-host={self.bracketed}", f"--ftp-port={self.port}"]
-        options += [f"--ftp-user={self.account.user}", f"--ftp-pass={password}"]
+        # a large file by one connection: with four, each cut off where its part ends, it takes the server's 426 for a fault
+        options += [f"--ftp-user={self.account.user}", f"--ftp-pass={password}", "--multi-thread-streams=0"]
         options += ["--ftp-explicit-tls"] if self.mode.secure else []
         options += ["--ftp-disable-epsv"] if self.mode.command == "PASV" else []
         return ["rclone", *options, *words]
