@@ -412,10 +412,9 @@ uint32_t unftp_is_clear(const char *line, size_t line_len) UNFTP_NONNULL;
  * itself a verb.
  *
  * It returns UNFTP_DONE; UNFTP_NO_ROOM, where *len is the room that is needed; or
- * UNFTP_OUT_OF_MEMORY. out is as it was but at UNFTP_DONE. No line of n bytes that unftp_next used
- * up was found that needs more than 12 n + 17; this is measured, and not proved. A server that has
- * no such room must not drop the line, or a client could keep itself out of the log: it takes the
- * room that *len asks for, or logs that there was a line.
+ * UNFTP_OUT_OF_MEMORY. out is as it was but at UNFTP_DONE. A line of n bytes needs at most 12 n +
+ * 42. A server that has no such room must not drop the line, or a client could keep itself out of
+ * the log: it takes the room that *len asks for, or logs that there was a line.
  */
 enum unftp_result unftp_log_line(uint32_t number, const char *line, size_t line_len,
                                  char *out, size_t out_room, size_t *len) UNFTP_NONNULL;

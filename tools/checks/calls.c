@@ -235,7 +235,7 @@ static void check_logged(const char *line, struct taken taken)
     wants(is_command(taken.result) || begins_with(shown, "refused"),
           "a log says that a line is refused");
     wants(is_text(too_long, "refused: Line too long"), "a log says that a line is too long");
-    wants(shown.len <= 12 * used + 17 && too_long.len <= 12 * used + 17,
+    wants(shown.len <= 12 * used + 42 && too_long.len <= 12 * used + 42,
           "a log line needs no more than the header says");
     free_area(shown);
     free_area(too_long);

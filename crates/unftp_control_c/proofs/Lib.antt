@@ -3,6 +3,7 @@ pub mod CallLemmas
 pub mod CanonicalLineLemmas
 pub mod ForwardedLineLemmas
 pub mod FoundRoomLemmas
+pub mod LogRoomLemmas
 pub mod LineLemmas
 pub mod NextLemmas
 pub mod ReplyLemmas

@@ -207,7 +207,7 @@ module _ (verb : Verb) (name : Bytes) where
       )
 
 -- the verb and the parameter of bytes
-cut_length : (bytes : Bytes)
+pub cut_length : (bytes : Bytes)
     → length (upper (verb_of bytes)) + length (parameter_of bytes) ≤ length bytes
 cut_length bytes =
     let at : ℕ = position_or_len is_separator bytes in

@@ -20,7 +20,7 @@ ghost use Rattle.unftp_control_login.specs.Gate.{decided, stage_after};
 ghost use Rattle.unftp_control_login.specs.Login.{Accounts, IsLoggedIn, is_login, needs_login};
 ghost use Rattle.unftp_control_c.specs.Areas.{Made, written};
 ghost use Rattle.unftp_control_c.specs.Clients.{dialogue_of, may_begin_tls, new_client, place_in, to_number};
-ghost use Rattle.unftp_control_c.specs.LogLines.{numbered_log_line};
+ghost use Rattle.unftp_control_c.specs.LogLines.{IsLogLine, numbered_log_line};
 ghost use Rattle.unftp_control_c.specs.Logins.{Kept, decision_at, kept_after, kept_after_all, login_step, nobody, progress_of, stage_number, stage_of};
 ghost use Rattle.unftp_control_c.specs.Next.{Call, Given, Leaves, Left, given_for, line_limit, scans};
 ghost use Rattle.unftp_control_c.specs.Numbers.{status_number};
@@ -127,6 +127,9 @@ pub fn rooms_are_bounded()
     // The lines of a reply have at most as many bytes as it.
     ensures lines { (bytes : Bytes) (text : Made) (out : Bytes)
         → IsFoundText bytes text → (written text out).text_length ≤ length bytes }
+    // A log line has at most 12 bytes for each byte of the line, and 42.
+    ensures log_line { (number : ℕ) (line : Bytes) (bytes : Made) (out : Bytes)
+        → IsLogLine number line bytes → (written bytes out).text_length ≤ 12 * length line + 42 }
 {}
 
 /// A log line is that of the log of the library in Rattle, whose laws hold of it.
