@@ -1,10 +1,14 @@
 //! Data connections: a client names where it listens, or the server listens for it.
-use std::io::{self, ErrorKind};
-use std::net::{IpAddr, SocketAddr};
+use std::io::{self, ErrorKind, Read, Write};
+use std::net::{self, IpAddr, Shutdown, SocketAddr};
 use std::ops::RangeInclusive;
 use std::sync::atomic::{AtomicU16, Ordering};
+use std::sync::Arc;
+use std::time::Duration;
 use tokio::net::{TcpListener, TcpSocket, TcpStream};
+use tokio_rustls::rustls::{self, ServerConnection};
 use unftp_control_examples::address::unmapped;
+use unftp_control_examples::stream::Stream;
 
 /// The ends of a control connection. Those of its data connections have the same addresses.
 #[derive(Clone, Copy, Debug)]
@@ -80,4 +84,94 @@ fn listen_on(address: IpAddr, port: u16) -> io::Result<(TcpListener, u16)> {
     let listener = socket.listen(8)?;
     let port = listener.local_addr()?.port();
     Ok((listener, port))
+}
+
+/// An open data connection, whose calls wait.
+pub struct DataStream {
+    tcp: Arc<net::TcpStream>,
+    tls: Option<ServerConnection>,
+}
+
+/// Ends a data connection when it is dropped, also where a call waits for that.
+pub struct HangUp(Arc<net::TcpStream>);
+
+impl Drop for HangUp {
+    fn drop(&mut self) {
+        // where the client was first, it is no more connected
+        let _ = self.0.shutdown(Shutdown::Both);
+    }
+}
+
+impl DataStream {
+    /// Over this connection, each of whose calls waits for so long at most.
+    pub fn new(stream: Stream, patience: Duration) -> io::Result<DataStream> {
+        let (tcp, tls) = match stream {
+            Stream::Clear(tcp) => (tcp, None),
+            Stream::Tls(tls) => {
+                let (tcp, tls) = tls.into_inner();
+                (tcp, Some(tls))
+            }
+        };
+        let tcp = tcp.into_std()?;
+        tcp.set_nonblocking(false)?;
+        tcp.set_read_timeout(Some(patience))?;
+        tcp.set_write_timeout(Some(patience))?;
+        Ok(DataStream { tcp: Arc::new(tcp), tls })
+    }
+
+    /// What ends it.
+    pub fn hang_up(&self) -> HangUp {
+        HangUp(self.tcp.clone())
+    }
+
+    /// Whether it is under TLS.
+    pub fn is_tls(&self) -> bool {
+        self.tls.is_some()
+    }
+
+    /// The connection under it.
+    pub fn tcp(&self) -> &net::TcpStream {
+        &self.tcp
+    }
+
+    /// Sends the end.
+    pub fn finish(&mut self) -> io::Result<()> {
+        if let Some(tls) = &mut self.tls {
+            tls.send_close_notify();
+            while tls.wants_write() {
+                tls.write_tls(&mut &*self.tcp)?;
+            }
+        }
+        self.tcp.shutdown(Shutdown::Write)
+    }
+}
+
+impl Read for DataStream {
+    /// Under TLS, an end without `close_notify` is one that somebody else may have made, so that a
+    /// file may not be whole: it is an error.
+    fn read(&mut self, part: &mut [u8]) -> io::Result<usize> {
+        let Some(tls) = &mut self.tls else { return (&*self.tcp).read(part) };
+        let count = rustls::Stream::new(tls, &mut &*self.tcp).read(part)?;
+        let state = tls.process_new_packets();
+        if count == 0 && !state.is_ok_and(|state| state.peer_has_closed()) {
+            return Err(ErrorKind::UnexpectedEof.into());
+        }
+        Ok(count)
+    }
+}
+
+impl Write for DataStream {
+    fn write(&mut self, part: &[u8]) -> io::Result<usize> {
+        match &mut self.tls {
+            Some(tls) => rustls::Stream::new(tls, &mut &*self.tcp).write(part),
+            None => (&*self.tcp).write(part),
+        }
+    }
+
+    fn flush(&mut self) -> io::Result<()> {
+        match &mut self.tls {
+            Some(tls) => rustls::Stream::new(tls, &mut &*self.tcp).flush(),
+            None => Ok(()),
+        }
+    }
 }

@@ -65,9 +65,23 @@ impl Session {
         blocking(move || work(&folder)).await.map_err(|error| replies::of_error(&error))
     }
 
+    /// Looks for something in the folder: here and now where the kernel has it in memory, since that
+    /// takes less time than another thread takes to begin.
+    async fn look_up<T: Send + 'static>(
+        &self,
+        work: impl Fn(&Folder) -> io::Result<T> + Send + 'static,
+    ) -> Result<T, Reply> {
+        match work(&self.server.folder.in_memory()) {
+            Ok(found) => Ok(found),
+            Err(_) => self.in_folder(work).await,
+        }
+    }
+
     pub async fn change_directory(&mut self, named: &[u8]) -> Answered {
         let path = self.directory.join(named);
-        self.directory = self.in_folder(|folder| folder.enter(&path).map(|()| path)).await?;
+        let entered = path.clone();
+        self.look_up(move |folder| folder.enter(&path)).await?;
+        self.directory = entered;
         reply(Code::FILE_ACTION_OKAY, "OK")
     }
 
@@ -75,11 +89,11 @@ impl Session {
         let offset = mem::take(&mut self.offset);
         self.data_connection()?;
         let path = self.directory.join(named);
-        let (file, facts) = self.in_folder(move |folder| folder.read(&path)).await?;
-        let size = size(&facts);
-        let (offset, representation) = (self.start(offset, size)?, self.representation);
-        let opening = opening(format!("Opening the data connection ({} bytes)", size - offset));
-        Ok(Answer::Transfer(opening, Work::Send { file, offset, representation }))
+        let (file, facts) = self.look_up(move |folder| folder.read(&path)).await?;
+        let (offset, representation) = (self.start(offset, size(&facts))?, self.representation);
+        let size = size(&facts) - offset;
+        let opening = opening(format!("Opening the data connection ({size} bytes)"));
+        Ok(Answer::Transfer(opening, Work::Send { file, offset, size, representation }))
     }
 
     /// STOR writes in place, so that an upload that breaks off can go on.
@@ -141,7 +155,7 @@ impl Session {
     pub async fn show_facts(&mut self, named: &[u8]) -> Answered {
         let path = self.directory.join(named);
         let name = path.text();
-        let facts = self.in_folder(move |folder| folder.facts(&path)).await?;
+        let facts = self.look_up(move |folder| folder.facts(&path)).await?;
         let shown = fact_list(&self.facts, &facts, self.rights);
         let lines = ["Facts:".to_string(), format!(" {shown}{name}"), "End".to_string()];
         Ok(Answer::Reply(Reply::with_lines(Code::FILE_ACTION_OKAY, lines)))
@@ -153,7 +167,7 @@ impl Session {
             return refuse(Code::FILE_ERROR, "Only in TYPE I");
         }
         let path = self.directory.join(named);
-        let facts = self.in_folder(move |folder| folder.facts(&path)).await?;
+        let facts = self.look_up(move |folder| folder.facts(&path)).await?;
         if !is_type(&facts, FileType::RegularFile) {
             return refuse(Code::FILE_ERROR, "Not a regular file");
         }
@@ -162,7 +176,7 @@ impl Session {
 
     pub async fn modified(&mut self, named: &[u8]) -> Answered {
         let path = self.directory.join(named);
-        let facts = self.in_folder(move |folder| folder.facts(&path)).await?;
+        let facts = self.look_up(move |folder| folder.facts(&path)).await?;
         match time_value(&facts) {
             Some(time) => reply(Code::FILE_STATUS, time),
             None => refuse(Code::FILE_ERROR, "Its time can't be shown"),

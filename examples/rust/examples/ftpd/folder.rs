@@ -9,6 +9,7 @@ use std::io;
 use std::os::unix::ffi::OsStrExt;
 use std::path::Path;
 use std::sync::atomic::{AtomicU64, Ordering};
+use std::sync::Arc;
 
 /// A path in the folder, from the folder down. Its bytes are in no particular encoding.
 #[derive(Clone, Debug, Default, PartialEq, Eq)]
@@ -62,10 +63,13 @@ impl FilePath {
 }
 
 /// The folder.
+#[derive(Clone)]
 pub struct Folder {
-    root: OwnedFd,
+    root: Arc<OwnedFd>,
+    /// How paths in it are resolved.
+    resolve: ResolveFlags,
     /// How many names of its own it has chosen.
-    chosen: AtomicU64,
+    chosen: Arc<AtomicU64>,
 }
 
 impl Folder {
@@ -77,20 +81,27 @@ impl Folder {
     pub fn open(path: &Path) -> io::Result<Folder> {
         let flags = OFlags::PATH | OFlags::DIRECTORY | OFlags::CLOEXEC;
         let root = fs::openat(fs::cwd(), path, flags, Mode::empty())?;
-        let folder = Folder { root, chosen: AtomicU64::new(0) };
+        let resolve = ResolveFlags::BENEATH | ResolveFlags::NO_MAGICLINKS;
+        let folder = Folder { root: Arc::new(root), resolve, chosen: Arc::default() };
         folder.facts(&FilePath::default())?;
         Ok(folder)
+    }
+
+    /// The same, where a path that the kernel doesn't have in memory (or a kernel that doesn't know,
+    /// before Linux 5.12) is an error, and no disk is waited for.
+    pub fn in_memory(&self) -> Folder {
+        Folder { resolve: self.resolve | ResolveFlags::CACHED, ..self.clone() }
     }
 
     /// Opens a path below the folder. A link that leads out of it is refused, as is each absolute
     /// one.
     fn open_below(&self, path: &FilePath, flags: OFlags, mode: Mode) -> io::Result<OwnedFd> {
-        let resolve = ResolveFlags::BENEATH | ResolveFlags::NO_MAGICLINKS;
         let flags = flags | OFlags::CLOEXEC;
+        let waits = !self.resolve.contains(ResolveFlags::CACHED);
         loop {
-            match fs::openat2(&self.root, path.relative(), flags, mode, resolve) {
+            match fs::openat2(&*self.root, path.relative(), flags, mode, self.resolve) {
                 // While a directory is renamed, the kernel may not know where `..` in a link leads.
-                Err(Errno::AGAIN | Errno::INTR) => {}
+                Err(Errno::AGAIN | Errno::INTR) if waits => {}
                 opened => return Ok(opened?),
             }
         }

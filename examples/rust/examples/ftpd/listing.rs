@@ -7,7 +7,6 @@ use std::ffi::OsStr;
 use std::fmt::Write;
 use std::io;
 use std::os::unix::ffi::OsStrExt;
-use std::sync::Arc;
 use time::format_description::FormatItem;
 use time::macros::format_description;
 use time::{Duration, OffsetDateTime};
@@ -118,7 +117,7 @@ enum Entries {
 
 /// A listing that is made in parts: a large directory takes no more memory than a small one.
 pub struct Listing {
-    folder: Arc<Folder>,
+    folder: Folder,
     path: FilePath,
     form: Form,
     rights: Rights,
@@ -134,7 +133,7 @@ impl Listing {
     /// Of what a client names in a directory: the entries of another one, what else is there, or
     /// the entries whose names are of a pattern, as those of `mget *` are.
     pub fn new(
-        folder: Arc<Folder>,
+        folder: Folder,
         (directory, named): (&FilePath, &[u8]),
         form: Form,
         rights: Rights,

@@ -94,7 +94,7 @@ fn server(settings: Settings) -> io::Result<Server> {
     let files = settings.tls.as_ref();
     let tls = files.map(|(certificates, key)| TlsAcceptors::read(certificates, key)).transpose();
     let tls = tls.map_err(|error| about("the certificate or its key", error))?;
-    Ok(Server { settings, folder: Arc::new(folder), users, tls })
+    Ok(Server { settings, folder, users, tls })
 }
 
 /// The error with what it is about.

@@ -35,7 +35,7 @@ pub struct Server {
     /// What the command line says.
     pub settings: Settings,
     /// The folder that is served.
-    pub folder: Arc<Folder>,
+    pub folder: Folder,
     /// Who may log in.
     pub users: Users,
     /// What turns connections to TLS, where there is a certificate.

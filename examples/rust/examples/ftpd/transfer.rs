@@ -1,19 +1,17 @@
 //! What is sent and received over a data connection.
-use crate::data::{DataPort, Ends};
+use crate::data::{DataPort, DataStream, Ends};
 use crate::listing::Listing;
 use crate::replies;
 use rustix::fs::{sendfile, Stat};
-use rustix::io::Errno;
+use rustix::io::{preadv2, Errno, ReadWriteFlags};
 use std::fmt::{self, Display, Formatter};
 use std::fs::File;
-use std::future::{ready, Future};
-use std::io::{self, ErrorKind, Read, Seek, SeekFrom, Write};
+use std::io::{self, ErrorKind, IoSliceMut, Read, Seek, SeekFrom, Write};
 use std::mem;
 use std::sync::atomic::{AtomicU64, Ordering};
 use std::sync::Arc;
 use std::time::Duration;
-use tokio::io::{AsyncReadExt, AsyncWriteExt, Interest};
-use tokio::net::TcpStream;
+use tokio::io::AsyncWriteExt;
 use tokio::task::spawn_blocking;
 use tokio::time::timeout;
 use tokio_rustls::TlsAcceptor;
@@ -22,8 +20,8 @@ use unftp_control_examples::stream::Stream;
 
 /// How many bytes of a file are read or written at a time.
 const PART: usize = 256 * 1024;
-/// How many bytes are sent or received without a look at whether the client aborts.
-const AT_ONCE: u64 = 16 * 1024 * 1024;
+/// A file of no more bytes is sent at once: a new connection takes them without a wait.
+const SMALL: u64 = 16 * 1024;
 
 /// How bytes are represented on a data connection (RFC 959, section 3.1.1).
 #[derive(Clone, Copy, Debug, Default, PartialEq, Eq)]
@@ -37,8 +35,8 @@ pub enum Representation {
 
 /// What a transfer does.
 pub enum Work {
-    /// Sends a file from an offset on.
-    Send { file: File, offset: u64, representation: Representation },
+    /// Sends a file from an offset on, after which it has so many bytes.
+    Send { file: File, offset: u64, size: u64, representation: Representation },
     /// Sends a listing.
     List(Box<Listing>),
     /// Receives a file.
@@ -72,7 +70,9 @@ impl Fault {
             Fault::NoConnection(_) => {
                 Reply::new(Code::CANT_OPEN_DATA_CONNECTION, "Can't open the data connection")
             }
-            Fault::Connection(error) if error.kind() == ErrorKind::TimedOut => {
+            Fault::Connection(error)
+                if matches!(error.kind(), ErrorKind::TimedOut | ErrorKind::WouldBlock) =>
+            {
                 Reply::new(Code::CONNECTION_CLOSED, "The data connection stood still")
             }
             Fault::Connection(_) => {
@@ -109,28 +109,19 @@ pub struct Transfer {
 }
 
 impl Transfer {
-    /// Opens the data connection, does the work, and closes it.
+    /// Opens the data connection, does the work, and closes it. A transfer has a thread of its own,
+    /// which waits for the client and for the disk. It ends with the connection, which is lost where
+    /// this is dropped.
     pub async fn run(mut self, work: Work) -> Result<(), Fault> {
-        let stream = self.open().await.map_err(Fault::NoConnection)?;
-        match (work, stream) {
-            (
-                Work::Send { file, offset, representation: Representation::Image },
-                Stream::Clear(tcp),
-            ) => self.send_file(tcp, file, offset).await,
-            (Work::Send { mut file, offset, representation }, stream) => {
-                file.seek(SeekFrom::Start(offset)).map_err(Fault::File)?;
-                self.send(stream, Source::File(file, representation)).await
-            }
-            (Work::List(listing), stream) => self.send(stream, Source::Listing(listing)).await,
-            (Work::Receive { file, start, representation }, stream) => {
-                let sink = blocking(move || Sink::new(file, start, representation)).await;
-                let sink = sink.map_err(Fault::File)?;
-                match stream {
-                    Stream::Clear(tcp) => self.receive_file(tcp, sink).await,
-                    stream => self.receive(stream, sink).await,
-                }
-            }
+        let mut stream = self.open().await.map_err(Fault::NoConnection)?;
+        if let Some(bytes) = work.in_memory() {
+            return self.send_at_once(&mut stream, &bytes).await.map_err(Fault::Connection);
         }
+        let stream = DataStream::new(stream, self.stall).map_err(Fault::Connection)?;
+        let _hang_up = stream.hang_up();
+        let moving = Moving { stream, count: self.count };
+        let done = spawn_blocking(move || moving.run(work)).await;
+        done.unwrap_or_else(|error| Err(Fault::File(error.into())))
     }
 
     async fn open(&mut self) -> io::Result<Stream> {
@@ -143,126 +134,119 @@ impl Transfer {
         }
     }
 
-    /// Lets the kernel send a file.
-    async fn send_file(&self, tcp: TcpStream, file: File, start: u64) -> Result<(), Fault> {
-        let (tcp, file, mut offset) = (Arc::new(tcp), Arc::new(file), start);
-        loop {
-            self.within(tcp.writable()).await?;
-            let (socket, source) = (tcp.clone(), file.clone());
-            let sent = spawn_blocking(move || send_part(&socket, &source, offset)).await;
-            let sent = sent.map_err(|error| Fault::File(error.into()))??;
-            self.count.fetch_add(sent.count, Ordering::Relaxed);
-            offset += sent.count;
-            if sent.is_all {
-                return Ok(());
+    async fn send_at_once(&self, stream: &mut Stream, bytes: &[u8]) -> io::Result<()> {
+        let sent = async {
+            stream.write_all(bytes).await?;
+            self.count.fetch_add(bytes.len() as u64, Ordering::Relaxed);
+            stream.shutdown().await
+        };
+        timeout(self.stall, sent).await?
+    }
+}
+
+impl Work {
+    /// What is sent, where that is little and the kernel has it in memory: to send it takes less
+    /// time than another thread takes to begin.
+    fn in_memory(&self) -> Option<Vec<u8>> {
+        let Work::Send { file, offset, size, representation } = self else { return None };
+        let mut bytes = vec![0; usize::try_from(*size).ok().filter(|_| *size <= SMALL)?];
+        let read =
+            preadv2(file, &mut [IoSliceMut::new(&mut bytes)], *offset, ReadWriteFlags::NOWAIT);
+        let is_whole = read == Ok(bytes.len());
+        is_whole.then(|| representation.sent(bytes))
+    }
+}
+
+impl Representation {
+    /// The bytes of a file as they are sent.
+    fn sent(self, bytes: Vec<u8>) -> Vec<u8> {
+        match self {
+            Representation::Ascii => with_crlf(&bytes),
+            Representation::Image => bytes,
+        }
+    }
+}
+
+/// A transfer over an open connection, in a thread of its own.
+struct Moving {
+    stream: DataStream,
+    count: Arc<AtomicU64>,
+}
+
+impl Moving {
+    fn run(mut self, work: Work) -> Result<(), Fault> {
+        match work {
+            Work::Send { file, offset, representation: Representation::Image, .. }
+                if !self.stream.is_tls() =>
+            {
+                self.send_file(&file, offset)
+            }
+            Work::Send { mut file, offset, representation, .. } => {
+                file.seek(SeekFrom::Start(offset)).map_err(Fault::File)?;
+                self.send(|part| {
+                    (&file).take(PART as u64).read_to_end(part)?;
+                    *part = representation.sent(mem::take(part));
+                    Ok(())
+                })
+            }
+            Work::List(mut listing) => self.send(|part| listing.next_part(part)),
+            Work::Receive { file, start, representation } => {
+                self.receive(Sink::new(file, start, representation).map_err(Fault::File)?)
             }
         }
     }
 
-    /// Sends what a source gives.
-    async fn send(&self, mut stream: Stream, mut source: Source) -> Result<(), Fault> {
+    /// Lets the kernel send a file.
+    fn send_file(&mut self, file: &File, mut offset: u64) -> Result<(), Fault> {
+        loop {
+            match sendfile(self.stream.tcp(), file, Some(&mut offset), PART) {
+                Ok(0) => return self.stream.finish().map_err(Fault::Connection),
+                Ok(count) => self.count(count),
+                Err(Errno::INTR) => {}
+                Err(Errno::IO) => return Err(Fault::File(Errno::IO.into())),
+                Err(error) => return Err(Fault::Connection(error.into())),
+            }
+        }
+    }
+
+    /// Sends parts until there is none.
+    fn send(
+        &mut self,
+        mut next_part: impl FnMut(&mut Vec<u8>) -> io::Result<()>,
+    ) -> Result<(), Fault> {
         let mut part = Vec::new();
         loop {
-            (source, part) = blocking(move || {
-                part.clear();
-                source.next_part(&mut part).map(|()| (source, part))
-            })
-            .await
-            .map_err(Fault::File)?;
+            part.clear();
+            next_part(&mut part).map_err(Fault::File)?;
             if part.is_empty() {
-                return self.within(stream.shutdown()).await;
+                return self.stream.finish().map_err(Fault::Connection);
             }
-            self.write(&mut stream, &part).await?;
+            self.stream.write_all(&part).map_err(Fault::Connection)?;
+            self.count(part.len());
         }
     }
 
-    async fn write(&self, stream: &mut Stream, mut part: &[u8]) -> Result<(), Fault> {
-        while !part.is_empty() {
-            let count = self.within(stream.write(part)).await?;
-            if count == 0 {
-                return Err(Fault::Connection(ErrorKind::WriteZero.into()));
-            }
-            self.count.fetch_add(count as u64, Ordering::Relaxed);
-            part = &part[count..];
-        }
-        self.within(stream.flush()).await
-    }
-
-    /// Waits for the data connection, for so long as it may stand still.
-    async fn within<T>(&self, done: impl Future<Output = io::Result<T>>) -> Result<T, Fault> {
-        let done = timeout(self.stall, done).await.unwrap_or_else(|error| Err(error.into()));
-        done.map_err(Fault::Connection)
-    }
-
-    /// Receives a file in clear text. What came stays, also where the connection broke: a client
-    /// goes on from there by REST.
-    async fn receive_file(&self, tcp: TcpStream, mut sink: Sink) -> Result<(), Fault> {
-        let (tcp, mut part) = (Arc::new(tcp), vec![0; PART]);
-        loop {
-            self.within(tcp.readable()).await?;
-            let socket = tcp.clone();
-            let received = spawn_blocking(move || {
-                receive_part(&socket, &mut sink, &mut part).map(|received| (received, sink, part))
-            });
-            let received = received.await.map_err(|error| Fault::File(error.into()))?;
-            let moved;
-            (moved, sink, part) = received?;
-            self.count.fetch_add(moved.count, Ordering::Relaxed);
-            if moved.is_all {
-                return Ok(());
-            }
-        }
-    }
-
-    /// Receives a file under TLS. An end without `close_notify` is one that somebody else may have
-    /// made, so that the file may not be whole: it is a fault.
-    async fn receive(&self, stream: Stream, mut sink: Sink) -> Result<(), Fault> {
-        let mut incoming = Incoming { stream, end: None };
+    /// Receives a file. What came stays, also where the connection broke: a client goes on from
+    /// there by REST.
+    fn receive(&mut self, mut sink: Sink) -> Result<(), Fault> {
         let mut part = vec![0; PART];
         loop {
-            let count = self.within(incoming.read(&mut part)).await?;
-            (sink, part) = blocking(move || {
-                sink.write(&part[..count])?;
-                Ok((sink, part))
-            })
-            .await
-            .map_err(Fault::File)?;
+            let count = match self.stream.read(&mut part) {
+                Err(error) if error.kind() == ErrorKind::Interrupted => continue,
+                read => read.map_err(Fault::Connection)?,
+            };
+            sink.write(&part[..count]).map_err(Fault::File)?;
             if count == 0 {
                 // The file is whole, also where the client is away.
-                let _ = timeout(self.stall, incoming.stream.shutdown()).await;
+                let _ = self.stream.finish();
                 return Ok(());
             }
-            self.count.fetch_add(count as u64, Ordering::Relaxed);
+            self.count(count);
         }
     }
-}
 
-/// What a client sends over a data connection.
-struct Incoming {
-    stream: Stream,
-    /// How it has ended.
-    end: Option<io::Result<()>>,
-}
-
-impl Incoming {
-    /// Reads all that has come, which under TLS is in many pieces; none is the end.
-    async fn read(&mut self, part: &mut [u8]) -> io::Result<usize> {
-        if let Some(end) = self.end.take() {
-            return end.map(|()| 0);
-        }
-        let mut count = self.stream.read(part).await?;
-        while count > 0 && count < part.len() && self.end.is_none() {
-            tokio::select! {
-                biased;
-                read = self.stream.read(&mut part[count..]) => match read {
-                    Ok(0) => self.end = Some(Ok(())),
-                    Ok(more) => count += more,
-                    Err(error) => self.end = Some(Err(error)),
-                },
-                () = ready(()) => break,
-            }
-        }
-        Ok(count)
+    fn count(&self, count: usize) {
+        self.count.fetch_add(count as u64, Ordering::Relaxed);
     }
 }
 
@@ -271,74 +255,6 @@ pub async fn blocking<T: Send + 'static>(
     work: impl FnOnce() -> io::Result<T> + Send + 'static,
 ) -> io::Result<T> {
     spawn_blocking(work).await?
-}
-
-/// What `send_part` or `receive_part` has moved.
-struct Moved {
-    /// How many bytes.
-    count: u64,
-    /// Whether the file has ended.
-    is_all: bool,
-}
-
-/// Sends as much of a file as the socket takes, up to a limit.
-fn send_part(tcp: &TcpStream, file: &File, start: u64) -> Result<Moved, Fault> {
-    let mut offset = start;
-    let mut is_all = false;
-    while !is_all && offset < start + AT_ONCE {
-        let sent = tcp.try_io(Interest::WRITABLE, || {
-            Ok(sendfile(tcp, file, Some(&mut offset), AT_ONCE as usize)?)
-        });
-        match sent {
-            Ok(count) => is_all = count == 0,
-            Err(error) if error.kind() == ErrorKind::WouldBlock => break,
-            Err(error) if error.kind() == ErrorKind::Interrupted => {}
-            Err(error) if Errno::from_io_error(&error) == Some(Errno::IO) => {
-                return Err(Fault::File(error));
-            }
-            Err(error) => return Err(Fault::Connection(error)),
-        }
-    }
-    Ok(Moved { count: offset - start, is_all })
-}
-
-/// Receives what has come, up to a limit.
-fn receive_part(tcp: &TcpStream, sink: &mut Sink, part: &mut [u8]) -> Result<Moved, Fault> {
-    let mut moved = Moved { count: 0, is_all: false };
-    while !moved.is_all && moved.count < AT_ONCE {
-        match tcp.try_read(part) {
-            Ok(count) => {
-                sink.write(&part[..count]).map_err(Fault::File)?;
-                moved = Moved { count: moved.count + count as u64, is_all: count == 0 };
-            }
-            Err(error) if error.kind() == ErrorKind::WouldBlock => break,
-            Err(error) if error.kind() == ErrorKind::Interrupted => {}
-            Err(error) => return Err(Fault::Connection(error)),
-        }
-    }
-    Ok(moved)
-}
-
-/// What is sent in parts.
-enum Source {
-    File(File, Representation),
-    Listing(Box<Listing>),
-}
-
-impl Source {
-    /// Appends the next part; none is left where it appends nothing.
-    fn next_part(&mut self, part: &mut Vec<u8>) -> io::Result<()> {
-        match self {
-            Source::Listing(listing) => listing.next_part(part),
-            Source::File(file, representation) => {
-                file.take(PART as u64).read_to_end(part)?;
-                if *representation == Representation::Ascii {
-                    *part = with_crlf(part);
-                }
-                Ok(())
-            }
-        }
-    }
 }
 
 /// Each line feed as CR LF.
