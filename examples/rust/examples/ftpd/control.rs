@@ -12,7 +12,7 @@ use unftp_control_examples::stream::Stream;
 use unftp_control_examples::telnet::Telnet;
 
 /// How many bytes are read at a time.
-const READ: usize = 8192;
+const READ: usize = 2048;
 /// How many lines may wait for the end of a transfer.
 const WAITING: usize = 64;
 

@@ -99,7 +99,7 @@ fn is_directory(facts: &Stat) -> bool {
 
 /// When a file was modified.
 fn modified(facts: &Stat) -> Option<OffsetDateTime> {
-    OffsetDateTime::from_unix_timestamp(i64::try_from(facts.st_mtime).ok()?).ok()
+    OffsetDateTime::from_unix_timestamp(facts.st_mtime).ok()
 }
 
 /// The same as MDTM shows it.

@@ -74,7 +74,7 @@ pub struct Session {
     pub facts: Vec<Fact>,
     wrong_passwords: u32,
     stop: Stop,
-    /// The end of the time for the login, or of that for the next line.
+    /// The end of the time for the login.
     deadline: Instant,
 }
 
@@ -208,10 +208,8 @@ impl Session {
 
     /// The next line.
     async fn line(&mut self, control: &mut Control) -> Result<OwnedLine, End> {
-        if self.login.name().is_some() {
-            self.deadline = Instant::now() + self.server.settings.idle;
-        }
-        let deadline = self.deadline.min(Instant::now() + self.server.settings.idle);
+        let idle = Instant::now() + self.server.settings.idle;
+        let deadline = if self.login.name().is_some() { idle } else { idle.min(self.deadline) };
         tokio::select! {
             line = timeout_at(deadline, control.line()) => match line {
                 Ok(line) => Ok(line?),
@@ -231,7 +229,9 @@ impl Session {
         loop {
             tokio::select! {
                 done = &mut running => {
-                    control.reply(outcome(done, count.load(Ordering::Relaxed)))?;
+                    control.reply(outcome(&done))?;
+                    control.flush().await?;
+                    log_transfer(&done, count.load(Ordering::Relaxed));
                     return Ok(());
                 }
                 line = control.line_in_transfer(), if control.may_wait() => {
@@ -306,16 +306,17 @@ fn log(line: &OwnedLine) {
 }
 
 /// The reply to a transfer.
-fn outcome(done: Result<(), Fault>, count: u64) -> Reply {
+fn outcome(done: &Result<(), Fault>) -> Reply {
     match done {
-        Ok(()) => {
-            tracing::info!(count, "transferred");
-            Reply::new(Code::CLOSING_DATA_CONNECTION, "Transfer complete")
-        }
-        Err(fault) => {
-            tracing::info!(count, %fault, "the transfer failed");
-            fault.reply()
-        }
+        Ok(()) => Reply::new(Code::CLOSING_DATA_CONNECTION, "Transfer complete"),
+        Err(fault) => fault.reply(),
+    }
+}
+
+fn log_transfer(done: &Result<(), Fault>, count: u64) {
+    match done {
+        Ok(()) => tracing::info!(count, "transferred"),
+        Err(fault) => tracing::info!(count, %fault, "the transfer failed"),
     }
 }
 
