@@ -8,6 +8,9 @@ use std::time::Duration;
 use tracing::level_filters::LevelFilter;
 use unftp_control_examples::listening::Limits;
 
+/// Those of RFC 6335, section 6.
+const DYNAMIC_PORTS: RangeInclusive<u16> = 49152..=65535;
+
 /// What the program is to do.
 pub enum Task {
     /// Print the hash of a password that is read from standard input.
@@ -29,8 +32,8 @@ pub struct Settings {
     pub users: Option<PathBuf>,
     /// Whether anybody may read.
     pub anonymous: bool,
-    /// The ports of passive data connections; the system picks them where there are none.
-    pub passive_ports: Option<RangeInclusive<u16>>,
+    /// The ports of passive data connections.
+    pub passive_ports: RangeInclusive<u16>,
     /// The address in the reply to PASV, before a translation of addresses.
     pub public_address: Option<Ipv4Addr>,
     /// The PEM files of the certificates and of their key.
@@ -61,7 +64,7 @@ pub fn task() -> Task {
         listen: matches.get_many("listen").into_iter().flatten().copied().collect(),
         users: file("users"),
         anonymous: !matches.get_flag("no-anonymous"),
-        passive_ports: matches.get_one("passive-ports").cloned(),
+        passive_ports: matches.get_one("passive-ports").cloned().unwrap_or(DYNAMIC_PORTS),
         public_address: matches.get_one("public-address").copied(),
         tls: file("certificate").zip(file("key")),
         require_tls: matches.get_flag("require-tls"),
@@ -111,7 +114,8 @@ fn listening() -> [Arg; 4] {
             .action(ArgAction::Append)
             .default_value("127.0.0.1:2121"),
         option("passive-ports", "A-B", "The ports of passive data connections")
-            .value_parser(port_range),
+            .value_parser(port_range)
+            .default_value("49152-65535"),
         option("public-address", "IPV4", "The address in the reply to PASV")
             .value_parser(value_parser!(Ipv4Addr)),
         option("log", "LEVEL", "error, warn, info, or debug, which shows each line")

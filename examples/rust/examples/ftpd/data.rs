@@ -1,8 +1,8 @@
 //! Data connections: a client names where it listens, or the server listens for it.
+use pbkdf2::password_hash::rand_core::{OsRng, RngCore};
 use std::io::{self, ErrorKind, Read, Write};
 use std::net::{self, IpAddr, Shutdown, SocketAddr};
 use std::ops::RangeInclusive;
-use std::sync::atomic::{AtomicU16, Ordering};
 use std::sync::Arc;
 use std::time::Duration;
 use tokio::net::{TcpListener, TcpSocket, TcpStream};
@@ -60,30 +60,24 @@ fn socket(address: IpAddr) -> io::Result<TcpSocket> {
     }
 }
 
-/// Listens for a client's data connection, on one of these ports.
-pub fn listen(
-    address: IpAddr,
-    ports: Option<&RangeInclusive<u16>>,
-) -> io::Result<(TcpListener, u16)> {
-    /// Where the search for a free port begins, so that one that was just closed isn't taken first.
-    static TURN: AtomicU16 = AtomicU16::new(0);
-    let Some(ports) = ports else { return listen_on(address, 0) };
-    let count = ports.len();
-    let start = usize::from(TURN.fetch_add(1, Ordering::Relaxed)) % count;
-    let mut turns = ports.clone().cycle().skip(start).take(count);
-    let free = turns.find_map(|port| match listen_on(address, port) {
+/// Listens for a client's data connection, on one of these ports. Each search begins elsewhere, so
+/// that others can't tell the next port.
+pub fn listen(address: IpAddr, ports: &RangeInclusive<u16>) -> io::Result<(TcpListener, u16)> {
+    let (first, last) = (*ports.start(), *ports.end());
+    let start = first + (OsRng.next_u32() % ports.len() as u32) as u16;
+    let free = (start..=last).chain(first..start).find_map(|port| match listen_on(address, port) {
         Err(error) if error.kind() == ErrorKind::AddrInUse => None,
-        listening => Some(listening),
+        listening => Some(listening.map(|listener| (listener, port))),
     });
     free.unwrap_or_else(|| Err(ErrorKind::AddrInUse.into()))
 }
 
-fn listen_on(address: IpAddr, port: u16) -> io::Result<(TcpListener, u16)> {
+/// Takes also a port whose last data connection the kernel still remembers.
+fn listen_on(address: IpAddr, port: u16) -> io::Result<TcpListener> {
     let socket = socket(address)?;
+    socket.set_reuseaddr(true)?;
     socket.bind((address, port).into())?;
-    let listener = socket.listen(8)?;
-    let port = listener.local_addr()?.port();
-    Ok((listener, port))
+    socket.listen(8)
 }
 
 /// An open data connection, whose calls wait.

@@ -9,7 +9,7 @@ use unftp_control_examples::address::{self, NoAddress};
 impl Session {
     /// Listens for a data connection.
     fn listen(&mut self) -> Result<u16, Reply> {
-        let ports = self.server.settings.passive_ports.as_ref();
+        let ports = &self.server.settings.passive_ports;
         let (listener, port) = data::listen(self.ends.server, ports).map_err(|error| {
             tracing::warn!(%error, "no data connection can be listened for");
             Reply::new(Code::CANT_OPEN_DATA_CONNECTION, "No port is free")
