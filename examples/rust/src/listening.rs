@@ -71,31 +71,13 @@ impl Drop for Counted {
     }
 }
 
-/// Lets each client that connects have its session, until SIGINT or SIGTERM comes. Then it waits for
-/// the sessions to end, for so long at most.
+/// Lets each client that connects to one of the listeners have its session, until SIGINT or SIGTERM
+/// comes. Then it waits for the sessions to end, for so long at most.
 ///
 /// # Errors
 ///
 /// Where signals can't be received.
 pub async fn serve<S, F>(
-    listener: TcpListener,
-    limits: Limits,
-    patience: Duration,
-    session: S,
-) -> io::Result<()>
-where
-    S: Fn(Connected) -> F,
-    F: Future<Output = ()> + Send + 'static,
-{
-    serve_all(vec![listener], limits, patience, session).await
-}
-
-/// As [`serve`], of several listeners that share the limits.
-///
-/// # Errors
-///
-/// Where signals can't be received.
-pub async fn serve_all<S, F>(
     listeners: Vec<TcpListener>,
     limits: Limits,
     patience: Duration,

@@ -10,6 +10,7 @@ use crate::transfer::{blocking, size, Representation, Start, Work};
 use crate::users::Rights;
 use rustix::fs::FileType;
 use std::borrow::Cow;
+use std::fs::File;
 use std::io;
 use std::mem;
 use time::PrimitiveDateTime;
@@ -56,40 +57,50 @@ impl Session {
         }
     }
 
-    /// Does something in the folder, which may wait for a disk.
+    /// Does something with what a client names, which may wait for a disk.
     async fn in_folder<T: Send + 'static>(
         &self,
-        work: impl FnOnce(&Folder) -> io::Result<T> + Send + 'static,
+        named: &[u8],
+        work: impl FnOnce(&Folder, &FilePath) -> io::Result<T> + Send + 'static,
     ) -> Result<T, Reply> {
-        let folder = self.server.folder.clone();
-        blocking(move || work(&folder)).await.map_err(|error| replies::of_error(&error))
+        let (folder, path) = (self.server.folder.clone(), self.directory.join(named));
+        let done = blocking(move || work(&folder, &path)).await;
+        done.map_err(|error| replies::of_error(&error))
     }
 
-    /// Looks for something in the folder: here and now where the kernel has it in memory, since that
+    /// Looks for what a client names: here and now where the kernel has it in memory, since that
     /// takes less time than another thread takes to begin.
     async fn look_up<T: Send + 'static>(
         &self,
-        work: impl Fn(&Folder) -> io::Result<T> + Send + 'static,
+        named: &[u8],
+        work: impl Fn(&Folder, &FilePath) -> io::Result<T> + Send + 'static,
     ) -> Result<T, Reply> {
-        match work(&self.server.folder.in_memory()) {
+        match work(&self.server.folder.in_memory(), &self.directory.join(named)) {
             Ok(found) => Ok(found),
-            Err(_) => self.in_folder(work).await,
+            Err(_) => self.in_folder(named, work).await,
         }
     }
 
+    /// Changes what a client names, where the user may.
+    async fn change(
+        &self,
+        named: &[u8],
+        work: impl FnOnce(&Folder, &FilePath) -> io::Result<()> + Send + 'static,
+    ) -> Result<(), Reply> {
+        self.writes()?;
+        self.in_folder(named, work).await
+    }
+
     pub async fn change_directory(&mut self, named: &[u8]) -> Answered {
-        let path = self.directory.join(named);
-        let entered = path.clone();
-        self.look_up(move |folder| folder.enter(&path)).await?;
-        self.directory = entered;
+        self.look_up(named, Folder::enter).await?;
+        self.directory = self.directory.join(named);
         reply(Code::FILE_ACTION_OKAY, "OK")
     }
 
     pub async fn retrieve(&mut self, named: &[u8]) -> Answered {
         let offset = mem::take(&mut self.offset);
         self.data_connection()?;
-        let path = self.directory.join(named);
-        let (file, facts) = self.look_up(move |folder| folder.read(&path)).await?;
+        let (file, facts) = self.look_up(named, Folder::read).await?;
         let (offset, representation) = (self.start(offset, size(&facts))?, self.representation);
         let size = size(&facts) - offset;
         let opening = opening(format!("Opening the data connection ({size} bytes)"));
@@ -101,12 +112,9 @@ impl Session {
         let offset = mem::take(&mut self.offset);
         self.writes()?;
         self.data_connection()?;
-        let path = self.directory.join(named);
-        let (file, facts) = self.in_folder(move |folder| folder.write(&path)).await?;
+        let (file, facts) = self.in_folder(named, Folder::write).await?;
         let start = Start::Offset(self.start(offset, size(&facts))?);
-        let representation = self.representation;
-        let work = Work::Receive { file, start, representation };
-        Ok(Answer::Transfer(opening("Opening the data connection"), work))
+        self.receive(file, start, "Opening the data connection")
     }
 
     /// APPE after REST is only taken where both mean the same.
@@ -114,14 +122,11 @@ impl Session {
         let offset = mem::take(&mut self.offset);
         self.writes()?;
         self.data_connection()?;
-        let path = self.directory.join(named);
-        let (file, facts) = self.in_folder(move |folder| folder.append(&path)).await?;
+        let (file, facts) = self.in_folder(named, Folder::append).await?;
         if offset > 0 && offset != size(&facts) {
             return Err(invalid_restart());
         }
-        let (start, representation) = (Start::End, self.representation);
-        let work = Work::Receive { file, start, representation };
-        Ok(Answer::Transfer(opening("Opening the data connection"), work))
+        self.receive(file, Start::End, "Opening the data connection")
     }
 
     /// The reply names the file (RFC 1123, section 4.1.2.9).
@@ -129,13 +134,15 @@ impl Session {
         self.offset = 0;
         self.writes()?;
         self.data_connection()?;
-        let directory = self.directory.clone();
-        let made = self.in_folder(move |folder| folder.create_unique(&directory)).await;
-        let (file, path) = made?;
-        let name = String::from_utf8_lossy(path.name().unwrap_or_default()).into_owned();
-        let (start, representation) = (Start::Offset(0), self.representation);
-        let work = Work::Receive { file, start, representation };
-        Ok(Answer::Transfer(opening(format!("FILE: {name}")), work))
+        let (file, path) = self.in_folder(b"", Folder::create_unique).await?;
+        let name = String::from_utf8_lossy(path.name().unwrap_or_default());
+        self.receive(file, Start::Offset(0), format!("FILE: {name}"))
+    }
+
+    /// The answer of a file that is received.
+    fn receive(&self, file: File, start: Start, text: impl Into<Cow<'static, str>>) -> Answered {
+        let work = Work::Receive { file, start, representation: self.representation };
+        Ok(Answer::Transfer(opening(text), work))
     }
 
     pub async fn list(&mut self, named: &[u8], form: Form) -> Answered {
@@ -153,9 +160,8 @@ impl Session {
     }
 
     pub async fn show_facts(&mut self, named: &[u8]) -> Answered {
-        let path = self.directory.join(named);
-        let name = path.text();
-        let facts = self.look_up(move |folder| folder.facts(&path)).await?;
+        let name = self.directory.join(named).text();
+        let facts = self.look_up(named, Folder::facts).await?;
         let shown = fact_list(&self.facts, &facts, self.rights);
         let lines = ["Facts:".to_string(), format!(" {shown}{name}"), "End".to_string()];
         Ok(Answer::Reply(Reply::with_lines(Code::FILE_ACTION_OKAY, lines)))
@@ -166,8 +172,7 @@ impl Session {
         if self.representation == Representation::Ascii {
             return refuse(Code::FILE_ERROR, "Only in TYPE I");
         }
-        let path = self.directory.join(named);
-        let facts = self.look_up(move |folder| folder.facts(&path)).await?;
+        let facts = self.look_up(named, Folder::facts).await?;
         if !is_type(&facts, FileType::RegularFile) {
             return refuse(Code::FILE_ERROR, "Not a regular file");
         }
@@ -175,8 +180,7 @@ impl Session {
     }
 
     pub async fn modified(&mut self, named: &[u8]) -> Answered {
-        let path = self.directory.join(named);
-        let facts = self.look_up(move |folder| folder.facts(&path)).await?;
+        let facts = self.look_up(named, Folder::facts).await?;
         match time_value(&facts) {
             Some(time) => reply(Code::FILE_STATUS, time),
             None => refuse(Code::FILE_ERROR, "Its time can't be shown"),
@@ -185,59 +189,47 @@ impl Session {
 
     /// MFMT: a time and a file.
     pub async fn set_modified(&mut self, line: &OwnedLine) -> Answered {
-        self.writes()?;
         let (time, named) = first_word(line.parameter());
         let time = std::str::from_utf8(time).unwrap_or_default();
         let Ok(modified) = PrimitiveDateTime::parse(time, TIME_VALUE) else {
             return refuse(Code::PARAMETER_SYNTAX_ERROR, "No time");
         };
-        let (path, seconds) = (self.directory.join(&named), modified.assume_utc().unix_timestamp());
-        self.in_folder(move |folder| folder.set_modified(&path, seconds)).await?;
+        let seconds = modified.assume_utc().unix_timestamp();
+        self.change(&named, move |folder, path| folder.set_modified(path, seconds)).await?;
         let named = String::from_utf8_lossy(&named).into_owned();
         reply(Code::FILE_STATUS, format!("Modify={time}; {named}"))
     }
 
     /// SITE CHMOD: a mode in octal digits and a file.
     pub async fn set_mode(&mut self, line: &OwnedLine) -> Answered {
-        self.writes()?;
         let (_, words) = first_word(line.parameter());
         let (mode, named) = first_word(&words);
         let mode = std::str::from_utf8(mode).ok().and_then(|it| u32::from_str_radix(it, 8).ok());
         let Some(mode) = mode.filter(|mode| *mode <= 0o777) else {
             return refuse(Code::PARAMETER_SYNTAX_ERROR, "No mode");
         };
-        let path = self.directory.join(&named);
-        self.in_folder(move |folder| folder.set_mode(&path, mode)).await?;
+        self.change(&named, move |folder, path| folder.set_mode(path, mode)).await?;
         reply(Code::COMMAND_OKAY, "OK")
     }
 
     pub async fn delete(&mut self, named: &[u8]) -> Answered {
-        self.writes()?;
-        let path = self.directory.join(named);
-        self.in_folder(move |folder| folder.remove_file(&path)).await?;
+        self.change(named, Folder::remove_file).await?;
         reply(Code::FILE_ACTION_OKAY, "Deleted")
     }
 
     pub async fn remove_directory(&mut self, named: &[u8]) -> Answered {
-        self.writes()?;
-        let path = self.directory.join(named);
-        self.in_folder(move |folder| folder.remove_directory(&path)).await?;
+        self.change(named, Folder::remove_directory).await?;
         reply(Code::FILE_ACTION_OKAY, "Removed")
     }
 
     pub async fn make_directory(&mut self, named: &[u8]) -> Answered {
-        self.writes()?;
-        let path = self.directory.join(named);
-        let made = path.quoted();
-        self.in_folder(move |folder| folder.make_directory(&path)).await?;
-        reply(Code::DIR_CREATED, made)
+        self.change(named, Folder::make_directory).await?;
+        reply(Code::DIR_CREATED, self.directory.join(named).quoted())
     }
 
     pub async fn rename_from(&mut self, named: &[u8]) -> Answered {
-        self.writes()?;
-        let path = self.directory.join(named);
-        let found = self.in_folder(|folder| folder.has_entry(&path).map(|()| path)).await?;
-        self.renamed = Some(found);
+        self.change(named, Folder::has_entry).await?;
+        self.renamed = Some(self.directory.join(named));
         reply(Code::FILE_ACTION_PENDING, "RNTO has the new name")
     }
 
@@ -245,8 +237,7 @@ impl Session {
         let Some(from) = renamed else {
             return refuse(Code::BAD_COMMAND_SEQUENCE, "RNFR comes first");
         };
-        let to = self.directory.join(named);
-        self.in_folder(move |folder| folder.rename(&from, &to)).await?;
+        self.change(named, move |folder, to| folder.rename(&from, to)).await?;
         reply(Code::FILE_ACTION_OKAY, "Renamed")
     }
 }

@@ -34,7 +34,7 @@ use std::process::ExitCode;
 use std::sync::Arc;
 use std::time::Duration;
 use tokio::net::TcpListener;
-use unftp_control_examples::listening::serve_all;
+use unftp_control_examples::listening;
 use unftp_control_examples::stream::TlsAcceptors;
 use users::Users;
 
@@ -46,7 +46,7 @@ const CLOSING: Duration = Duration::from_secs(6);
 fn main() -> ExitCode {
     let done = match arguments::task() {
         Task::HashPassword { rounds } => print_hash(rounds),
-        Task::Serve(settings) => serve(*settings),
+        Task::Serve(settings) => start(*settings),
     };
     match done {
         Ok(()) => ExitCode::SUCCESS,
@@ -67,11 +67,18 @@ fn print_hash(rounds: u32) -> io::Result<()> {
     Ok(())
 }
 
-/// Serves the folder until a signal ends that.
-#[tokio::main]
-async fn serve(settings: Settings) -> io::Result<()> {
+/// Starts what serves the folder.
+fn start(settings: Settings) -> io::Result<()> {
     let log = tracing_subscriber::fmt().with_max_level(settings.log).with_writer(io::stderr);
     log.with_ansi(false).with_target(false).init();
+    let mut runtime = tokio::runtime::Builder::new_multi_thread();
+    // each session may have a transfer, which has a thread
+    runtime.enable_all().max_blocking_threads(settings.limits.connections);
+    runtime.build()?.block_on(serve(settings))
+}
+
+/// Serves the folder until a signal ends that.
+async fn serve(settings: Settings) -> io::Result<()> {
     let mut listeners = Vec::new();
     for address in &settings.listen {
         let listener = TcpListener::bind(address).await;
@@ -82,7 +89,7 @@ async fn serve(settings: Settings) -> io::Result<()> {
     let ports = listeners.iter().map(|it| Ok(it.local_addr()?.port().to_string()));
     println!("{}", ports.collect::<io::Result<Vec<_>>>()?.join(" "));
     let session = |connected| session::serve(server.clone(), connected);
-    serve_all(listeners, limits, GRACE + CLOSING, session).await
+    listening::serve(listeners, limits, GRACE + CLOSING, session).await
 }
 
 /// Reads what the settings name.

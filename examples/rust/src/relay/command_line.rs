@@ -98,5 +98,5 @@ pub async fn run(
     let address = address.ok_or(io::ErrorKind::InvalidInput)?;
     let listener = TcpListener::bind(address).await?;
     println!("{}", listener.local_addr()?.port());
-    serve(listener, limits, ENDING, |connected| relay.clone().session(connected)).await
+    serve(vec![listener], limits, ENDING, |connected| relay.clone().session(connected)).await
 }
