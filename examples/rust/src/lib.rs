@@ -3,6 +3,7 @@
 //! are examples of how the crate `unftp_control` is used; what they serve they serve right.
 
 pub mod address;
+pub mod connection;
 pub mod listening;
 pub mod relay;
 pub mod stream;

@@ -5,9 +5,9 @@ use std::net::{self, IpAddr, Shutdown, SocketAddr};
 use std::ops::RangeInclusive;
 use std::sync::Arc;
 use std::time::Duration;
-use tokio::net::{TcpListener, TcpSocket, TcpStream};
+use tokio::net::{TcpListener, TcpStream};
 use tokio_rustls::rustls::{self, ServerConnection};
-use unftp_control_examples::address::unmapped;
+use unftp_control_examples::connection::{accept, bound};
 use unftp_control_examples::stream::Stream;
 
 /// The ends of a control connection. Those of its data connections have the same addresses.
@@ -37,26 +37,9 @@ impl DataPort {
     pub async fn open(self, ends: Ends) -> io::Result<TcpStream> {
         match self {
             DataPort::Unset => Err(ErrorKind::NotConnected.into()),
-            DataPort::Passive(listener) => loop {
-                let (tcp, peer) = listener.accept().await?;
-                if unmapped(peer.ip()) == ends.client {
-                    return Ok(tcp);
-                }
-                tracing::warn!(%peer, "a data connection of another address was closed");
-            },
-            DataPort::Active(address) => {
-                let socket = socket(ends.server)?;
-                socket.bind((ends.server, 0).into())?;
-                socket.connect(address).await
-            }
+            DataPort::Passive(listener) => accept(&listener, ends.client).await,
+            DataPort::Active(address) => bound((ends.server, 0).into())?.connect(address).await,
         }
-    }
-}
-
-fn socket(address: IpAddr) -> io::Result<TcpSocket> {
-    match address {
-        IpAddr::V4(_) => TcpSocket::new_v4(),
-        IpAddr::V6(_) => TcpSocket::new_v6(),
     }
 }
 
@@ -65,19 +48,12 @@ fn socket(address: IpAddr) -> io::Result<TcpSocket> {
 pub fn listen(address: IpAddr, ports: &RangeInclusive<u16>) -> io::Result<(TcpListener, u16)> {
     let (first, last) = (*ports.start(), *ports.end());
     let start = first + (OsRng.next_u32() % ports.len() as u32) as u16;
-    let free = (start..=last).chain(first..start).find_map(|port| match listen_on(address, port) {
+    let listen_on = |port| bound((address, port).into())?.listen(8);
+    let free = (start..=last).chain(first..start).find_map(|port| match listen_on(port) {
         Err(error) if error.kind() == ErrorKind::AddrInUse => None,
         listening => Some(listening.map(|listener| (listener, port))),
     });
     free.unwrap_or_else(|| Err(ErrorKind::AddrInUse.into()))
-}
-
-/// Takes also a port whose last data connection the kernel still remembers.
-fn listen_on(address: IpAddr, port: u16) -> io::Result<TcpListener> {
-    let socket = socket(address)?;
-    socket.set_reuseaddr(true)?;
-    socket.bind((address, port).into())?;
-    socket.listen(8)
 }
 
 /// An open data connection, whose calls wait.
@@ -133,7 +109,10 @@ impl DataStream {
         if let Some(tls) = &mut self.tls {
             tls.send_close_notify();
             while tls.wants_write() {
-                tls.write_tls(&mut &*self.tcp)?;
+                match tls.write_tls(&mut &*self.tcp) {
+                    Err(error) if error.kind() == ErrorKind::Interrupted => {}
+                    written => drop(written?),
+                }
             }
         }
         self.tcp.shutdown(Shutdown::Write)

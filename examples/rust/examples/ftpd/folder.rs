@@ -87,8 +87,8 @@ impl Folder {
         Ok(folder)
     }
 
-    /// The same, where a path that the kernel doesn't have in memory (or a kernel that doesn't know,
-    /// before Linux 5.12) is an error, and no disk is waited for.
+    /// The same folder, whose paths are only found where the kernel has them in memory, so that no
+    /// disk is waited for. Before Linux 5.12 none are.
     pub fn in_memory(&self) -> Folder {
         Folder { resolve: self.resolve | ResolveFlags::CACHED, ..self.clone() }
     }

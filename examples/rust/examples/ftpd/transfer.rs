@@ -20,7 +20,7 @@ use unftp_control_examples::stream::Stream;
 
 /// How many bytes of a file are read or written at a time.
 const PART: usize = 256 * 1024;
-/// A file of no more bytes is sent at once: a new connection takes them without a wait.
+/// A file of no more bytes is sent at once: a new connection takes so many without a wait.
 const SMALL: u64 = 16 * 1024;
 
 /// How bytes are represented on a data connection (RFC 959, section 3.1.1).
@@ -119,8 +119,8 @@ impl Transfer {
         }
         let stream = DataStream::new(stream, self.stall).map_err(Fault::Connection)?;
         let _hang_up = stream.hang_up();
-        let moving = Moving { stream, count: self.count };
-        let done = spawn_blocking(move || moving.run(work)).await;
+        let transfer = OpenTransfer { stream, count: self.count };
+        let done = spawn_blocking(move || transfer.run(work)).await;
         done.unwrap_or_else(|error| Err(Fault::File(error.into())))
     }
 
@@ -148,12 +148,13 @@ impl Work {
     /// What is sent, where that is little and the kernel has it in memory: to send it takes less
     /// time than another thread takes to begin.
     fn in_memory(&self) -> Option<Vec<u8>> {
-        let Work::Send { file, offset, size, representation } = self else { return None };
-        let mut bytes = vec![0; usize::try_from(*size).ok().filter(|_| *size <= SMALL)?];
-        let read =
-            preadv2(file, &mut [IoSliceMut::new(&mut bytes)], *offset, ReadWriteFlags::NOWAIT);
-        let is_whole = read == Ok(bytes.len());
-        is_whole.then(|| representation.sent(bytes))
+        let Work::Send { file, offset, size: size @ 0..=SMALL, representation } = self else {
+            return None;
+        };
+        let mut bytes = vec![0; *size as usize];
+        let area = &mut [IoSliceMut::new(&mut bytes)];
+        let count = preadv2(file, area, *offset, ReadWriteFlags::NOWAIT).ok()?;
+        (count == bytes.len()).then(|| representation.sent(bytes))
     }
 }
 
@@ -168,12 +169,12 @@ impl Representation {
 }
 
 /// A transfer over an open connection, in a thread of its own.
-struct Moving {
+struct OpenTransfer {
     stream: DataStream,
     count: Arc<AtomicU64>,
 }
 
-impl Moving {
+impl OpenTransfer {
     fn run(mut self, work: Work) -> Result<(), Fault> {
         match work {
             Work::Send { file, offset, representation: Representation::Image, .. }

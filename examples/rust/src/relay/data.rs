@@ -1,5 +1,5 @@
 //! Data connections: one end is the client's and one the server's.
-use crate::address::unmapped;
+use crate::connection::{accept, bound};
 use crate::stream::Stream;
 use std::future::Future;
 use std::io::{self, ErrorKind};
@@ -7,7 +7,7 @@ use std::net::{IpAddr, SocketAddr};
 use std::sync::atomic::{AtomicU64, Ordering::Relaxed};
 use std::time::Duration;
 use tokio::io::{split, AsyncReadExt, AsyncWriteExt, ReadHalf, WriteHalf};
-use tokio::net::{TcpListener, TcpSocket, TcpStream};
+use tokio::net::{TcpListener, TcpStream};
 use tokio::sync::{oneshot, watch};
 use tokio::time::{sleep, timeout};
 use tokio_rustls::TlsAcceptor;
@@ -98,16 +98,9 @@ impl Transfer {
 }
 
 /// Listens at an address, on a port that the system picks.
-pub fn listen(own: SocketAddr) -> io::Result<TcpListener> {
-    bound(own)?.listen(4)
-}
-
-/// A socket of an address, on a port that the system picks.
-fn bound(mut own: SocketAddr) -> io::Result<TcpSocket> {
+pub fn listen(mut own: SocketAddr) -> io::Result<TcpListener> {
     own.set_port(0);
-    let socket = if own.is_ipv4() { TcpSocket::new_v4() } else { TcpSocket::new_v6() }?;
-    socket.bind(own)?;
-    Ok(socket)
+    bound(own)?.listen(4)
 }
 
 async fn relay(
@@ -177,18 +170,8 @@ async fn open(route: Route) -> io::Result<(Stream, TcpStream)> {
     }
 }
 
-/// The first connection from this address. Others are closed.
-async fn accept(listener: &TcpListener, from: IpAddr) -> io::Result<TcpStream> {
-    loop {
-        let (tcp, peer) = listener.accept().await?;
-        if unmapped(peer.ip()) == from {
-            return Ok(tcp);
-        }
-        tracing::warn!(%peer, "not the address of a data connection");
-    }
-}
-
-async fn connect(own: SocketAddr, to: SocketAddr) -> io::Result<TcpStream> {
+async fn connect(mut own: SocketAddr, to: SocketAddr) -> io::Result<TcpStream> {
+    own.set_port(0);
     timeout(CONNECTING, bound(own)?.connect(to)).await?
 }
 
