@@ -284,7 +284,10 @@ struct Sink {
 impl Sink {
     fn new(mut file: File, start: Start, representation: Representation) -> io::Result<Sink> {
         if let Start::Offset(offset) = start {
-            file.set_len(offset)?;
+            // ext4 writes a file that was truncated to nothing to the disk before it is closed
+            if file.metadata()?.len() > offset {
+                file.set_len(offset)?;
+            }
             file.seek(SeekFrom::Start(offset))?;
         }
         Ok(Sink { file, representation, has_cr: false })
