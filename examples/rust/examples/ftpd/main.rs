@@ -7,8 +7,8 @@
 //! ```
 //!
 //! What each file shows: `control` lines and replies, `session` a transfer beside them, `commands`,
-//! `ports` and `files` the answers, `transfer` and `data` data connections, each of which has a thread
-//! while it is open, `folder` paths that the kernel keeps in the folder.
+//! `ports` and `files` the answers, `transfer` and `data` data connections, most of which have a
+//! thread while they are open, `folder` paths that the kernel keeps in the folder.
 //!
 //! lftp sends an address as the name of the server, which RFC 6066 forbids and rustls 0.20 refuses:
 //! `set ssl:use-sni no` there, or name the server.

@@ -109,9 +109,9 @@ pub struct Transfer {
 }
 
 impl Transfer {
-    /// Opens the data connection, does the work, and closes it. A transfer has a thread of its own,
-    /// which waits for the client and for the disk. It ends with the connection, which is lost where
-    /// this is dropped.
+    /// Opens the data connection, does the work, and closes it. Where that is not done at once, a
+    /// thread of its own waits for the client and for the disk. It ends with the connection, which
+    /// is lost where this is dropped.
     pub async fn run(mut self, work: Work) -> Result<(), Fault> {
         let mut stream = self.open().await.map_err(Fault::NoConnection)?;
         if let Some(bytes) = work.in_memory() {
