@@ -32,6 +32,13 @@ def home_of(config):
     return pathlib.Path(accounts[5]) if len(accounts) > 5 else pathlib.Path(config["PidFile"]).parent
 
 
+def make_files(config):
+    """Makes the files that proftpd would: tests count those of a listing."""
+    board = pathlib.Path(config["ScoreboardFile"])
+    board.touch()
+    board.with_name(f"{board.name}.lck").touch()
+
+
 def start(config, settings):
     """Starts the server that the settings name, on the configuration's port."""
     place = Place(settings["packages"], secure=False)
@@ -51,6 +58,7 @@ def serve(config, settings):
     os.setsid()
     pid_file = pathlib.Path(config["PidFile"])
     pid_file.write_text(f"{os.getpid()}\n", encoding="ascii")  # the test may end as soon as the server listens
+    make_files(config)
     place, process = start(config, settings)
 
     def stop(*_):

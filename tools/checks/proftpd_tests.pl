@@ -4,7 +4,7 @@
 # serves only that; and the user is the one that the server has. A reply to ABOR may be 225. Prints a line for each test: its name, `ok`,
 # `failed` or `skipped`, and why, with tabs between.
 #
-# usage: perl proftpd_tests.pl MODULE USER PASSWORD [PATTERN]
+# usage: perl proftpd_tests.pl MODULE USER PASSWORD [PATTERN]      USER is `proftpd` at proftpd itself, which is sent all as it is
 use strict;
 use warnings;
 use lib 't/lib';
@@ -14,14 +14,16 @@ use Test::Unit::TestCase;
 
 my ($module, $user, $password, $pattern) = @ARGV;
 my $limit = 40;
+my $is_own = $user eq 'proftpd';
 my $home = qr{/[^ ]*?/proftpd-test-\d+-test\d+-\w{10}};
 
 # What the tests of proftpd send, as another server takes it.
 sub translated {
     my ($verb, @words) = @_;
+    return @_ if $is_own;
     $words[0] = $user if uc($verb) eq 'USER' && @words && $words[0] eq 'proftpd';
     $words[0] = $password if uc($verb) eq 'PASS' && @words && $words[0] eq 'test';
-    s{^$home/*}{/} for @words;
+    s{^((?:-\S+ +)*)$home/*}{$1/} for @words;
     return ($verb, @words);
 }
 
@@ -30,8 +32,16 @@ sub is_same_kind { return shift =~ /^Expected (?:response code )?(\d)\d\d, got (
 
 {
     no warnings qw(redefine once);
-    my $command = \&Net::Cmd::command;
-    *Net::Cmd::command = sub { my $self = shift; return $command->($self, translated(@_)) };
+    my ($command, $response) = (\&Net::Cmd::command, \&Net::Cmd::response);
+    *Net::Cmd::command = sub { my $self = shift; ${*$self}{net_cmd_resp} = []; return $command->($self, translated(@_)) };
+    # The tests want all replies since the last command, which libnet has had up to 3.11.
+    *Net::Cmd::response = sub {
+        my $self = shift;
+        my @before = @{${*$self}{net_cmd_resp} || []};
+        my $kind = $response->($self, @_);
+        unshift @{${*$self}{net_cmd_resp}}, @before;
+        return $kind;
+    };
     my $assert = Test::Unit::TestCase->can('assert');
     *Test::Unit::TestCase::assert = sub {
         my $self = shift;

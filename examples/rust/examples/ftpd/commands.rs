@@ -2,6 +2,7 @@
 use crate::data::DataPort;
 use crate::line::{listed, named};
 use crate::listing::{Fact, Form};
+use crate::replies;
 use crate::session::Session;
 use crate::transfer::{Representation, Work};
 use std::borrow::Cow;
@@ -61,9 +62,17 @@ impl Session {
 
     /// The answer to a line of the login, or to one that needs a login or TLS first.
     async fn admit(&mut self, line: &OwnedLine) -> Option<Answer> {
-        let names_user = matches!(&line.event, Event::Command(Command::User { .. }));
-        if names_user && self.server.settings.require_tls && !self.is_tls {
-            return Some(Answer::Reply(Reply::new(Code::FTPS_REQUIRED, "AUTH TLS comes first")));
+        if let Event::Command(Command::User { username }) = &line.event {
+            if username.is_empty() {
+                let reply = Reply::new(Code::PARAMETER_SYNTAX_ERROR, "USER takes a name");
+                return Some(Answer::Reply(reply));
+            }
+            if self.server.settings.require_tls && !self.is_tls {
+                return Some(Answer::Reply(Reply::new(
+                    Code::FTPS_REQUIRED,
+                    "AUTH TLS comes first",
+                )));
+            }
         }
         let rights = match self.login.event(&line.event) {
             LoginStep::PassOn => return None,
@@ -167,7 +176,7 @@ impl Session {
         let words = String::from_utf8_lossy(&line.bytes).trim_end().to_ascii_uppercase();
         match words.strip_prefix("OPTS MLST") {
             Some(facts) if facts.is_empty() || facts.starts_with(' ') => self.set_facts(facts),
-            _ => Err(Reply::new(Code::COMMAND_SYNTAX_ERROR, refusal.to_string())),
+            _ => Err(replies::of_refusal(refusal)),
         }
     }
 

@@ -3,7 +3,7 @@ use crate::commands::{refuse, reply, Answer, Answered};
 use crate::data::DataPort;
 use crate::folder::{is_type, FilePath, Folder};
 use crate::line::first_word;
-use crate::listing::{fact_list, time_value, Form, Listing, TIME_VALUE};
+use crate::listing::{fact_list, parsed_time, time_value, Form, Listing};
 use crate::replies;
 use crate::session::Session;
 use crate::transfer::{blocking, size, Representation, Start, Work};
@@ -13,7 +13,6 @@ use std::borrow::Cow;
 use std::fs::File;
 use std::io;
 use std::mem;
-use time::PrimitiveDateTime;
 use unftp_control::{OwnedLine, Reply, ReplyCode as Code};
 
 impl Session {
@@ -152,7 +151,8 @@ impl Session {
         let folder = self.server.folder.clone();
         let listing = move || Listing::new(folder, (&directory, &named), form, rights);
         let listing = blocking(listing).await;
-        let listing = listing.map_err(|error| replies::of_error(&error))?;
+        let fault = if needs_directory { replies::of_error } else { replies::of_listing_error };
+        let listing = listing.map_err(|error| fault(&error))?;
         if needs_directory && !listing.is_of_directory() {
             return refuse(Code::PARAMETER_SYNTAX_ERROR, "Not a directory");
         }
@@ -191,13 +191,14 @@ impl Session {
     pub async fn set_modified(&mut self, line: &OwnedLine) -> Answered {
         let (time, named) = first_word(line.parameter());
         let time = std::str::from_utf8(time).unwrap_or_default();
-        let Ok(modified) = PrimitiveDateTime::parse(time, TIME_VALUE) else {
+        let Some(modified) = parsed_time(time) else {
             return refuse(Code::PARAMETER_SYNTAX_ERROR, "No time");
         };
         let seconds = modified.assume_utc().unix_timestamp();
         self.change(&named, move |folder, path| folder.set_modified(path, seconds)).await?;
         let named = String::from_utf8_lossy(&named).into_owned();
-        reply(Code::FILE_STATUS, format!("Modify={time}; {named}"))
+        let whole = time.split('.').next().unwrap_or_default();
+        reply(Code::FILE_STATUS, format!("Modify={whole}; {named}"))
     }
 
     /// SITE CHMOD: a mode in octal digits and a file.

@@ -9,14 +9,13 @@ use std::io;
 use std::os::unix::ffi::OsStrExt;
 use time::format_description::FormatItem;
 use time::macros::format_description;
-use time::{Duration, OffsetDateTime};
+use time::{Duration, OffsetDateTime, PrimitiveDateTime};
 
 const RECENT: &[FormatItem] =
     format_description!("[month repr:short] [day padding:space] [hour]:[minute]");
 const OLDER: &[FormatItem] = format_description!("[month repr:short] [day padding:space]  [year]");
 /// As MDTM, MFMT and the fact `modify` write a time (RFC 3659, section 2.3).
-pub const TIME_VALUE: &[FormatItem] =
-    format_description!("[year][month][day][hour][minute][second]");
+const TIME_VALUE: &[FormatItem] = format_description!("[year][month][day][hour][minute][second]");
 /// So old a file is listed with the year in place of the time.
 const HALF_A_YEAR: Duration = Duration::days(182);
 /// How many bytes of a listing are made at a time.
@@ -100,6 +99,13 @@ fn is_directory(facts: &Stat) -> bool {
 /// When a file was modified.
 fn modified(facts: &Stat) -> Option<OffsetDateTime> {
     OffsetDateTime::from_unix_timestamp(facts.st_mtime).ok()
+}
+
+/// A time as RFC 3659, section 2.3, has it, without its fraction of a second.
+pub fn parsed_time(text: &str) -> Option<PrimitiveDateTime> {
+    let (seconds, fraction) = text.split_once('.').unwrap_or((text, "0"));
+    let is_fraction = !fraction.is_empty() && fraction.bytes().all(|byte| byte.is_ascii_digit());
+    PrimitiveDateTime::parse(seconds, TIME_VALUE).ok().filter(|_| is_fraction)
 }
 
 /// The same as MDTM shows it.
@@ -307,6 +313,20 @@ mod tests {
             ("", "a", false),
         ] {
             assert_eq!(is_of(pattern.as_bytes(), name.as_bytes()), is_of_it, "{pattern} {name}");
+        }
+    }
+
+    #[test]
+    fn times() {
+        for (text, is_time) in [
+            ("20020717210715", true),
+            ("20020717210715.25", true),
+            ("20020717210715.", false),
+            ("20020717210715.2x", false),
+            ("20020717250715", false),
+            ("2002071721071", false),
+        ] {
+            assert_eq!(parsed_time(text).is_some(), is_time, "{text}");
         }
     }
 

@@ -1,7 +1,29 @@
 //! Replies to faults of files.
 use rustix::io::Errno;
 use std::io;
-use unftp_control::{Reply, ReplyCode as Code};
+use unftp_control::{Refusal, Reply, ReplyCode as Code};
+
+/// The reply to a line that is no command: 501 where its verb doesn't take its parameter (RFC 959,
+/// section 4.2.1).
+pub fn of_refusal(refusal: Refusal) -> Reply {
+    match refusal {
+        Refusal::InvalidCommand => {
+            Reply::new(Code::PARAMETER_SYNTAX_ERROR, "The command doesn't take this parameter")
+        }
+        _ => Reply::new(Code::COMMAND_SYNTAX_ERROR, refusal.to_string()),
+    }
+}
+
+/// The reply to LIST or NLST that a fault of a file ends, for which RFC 959, section 5.4, has 450 and
+/// no 550.
+pub fn of_listing_error(error: &io::Error) -> Reply {
+    let reply = of_error(error);
+    if reply.code() == Code::FILE_ERROR {
+        let text = reply.lines().next().unwrap_or_default().to_owned();
+        return Reply::new(Code::TRANSIENT_FILE_ERROR, text);
+    }
+    reply
+}
 
 /// The reply to a command that a fault of a file ends.
 pub fn of_error(error: &io::Error) -> Reply {
