@@ -71,8 +71,9 @@ fn print_hash(rounds: u32) -> io::Result<()> {
 fn start(settings: Settings) -> io::Result<()> {
     let log = tracing_subscriber::fmt().with_max_level(settings.log).with_writer(io::stderr);
     log.with_ansi(false).with_target(false).init();
-    let mut runtime = tokio::runtime::Builder::new_multi_thread();
-    // each session may have a transfer, which has a thread
+    // All sessions wait in one thread, which spares them a hand-over from one to another. What takes
+    // long has a thread of its own: a transfer, of which each session may have one, and a hash.
+    let mut runtime = tokio::runtime::Builder::new_current_thread();
     runtime.enable_all().max_blocking_threads(settings.limits.connections);
     runtime.build()?.block_on(serve(settings))
 }
