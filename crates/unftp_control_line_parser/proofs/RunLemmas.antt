@@ -1,12 +1,12 @@
 -- Runs of bytes that are written as they are, and what comes after them.
-use Rattle.std.proofs.Common.{Bool, not, ◌≡◌, ℕ, zero, suc, ◌+◌, ◌<◌, ◌≤◌, true, false, ◌==◌, if◌then◌else◌, [], ◌∷◌, ◌++◌, length, take, drop, get_or, Option, Some, None, option_map, refl, sym, ap, subst, ◌∙◌, ⊎_elim, append_assoc, append-nil, length-drop, get_or-drop, arith, eqb-true}
+use Rattle.std.proofs.Common.{Bool, not, ◌≡◌, ℕ, zero, suc, ◌+◌, ◌*◌, ◌&&◌, cond, ◌<◌, ◌≤◌, true, false, ◌==◌, if◌then◌else◌, [], ◌∷◌, ◌++◌, length, take, drop, get_or, Option, Some, None, option_map, refl, sym, ap, subst, ◌∙◌, ⊎_elim, append_assoc, append-nil, length-drop, get_or-drop, arith, eqb-true}
 use Rattle.std.proofs.lemmas.List.{drop-drop}
 use Rattle.std.proofs.lemmas.Bool.{false_from_ne_true, or_cases, or_parts}
 use Rattle.std.proofs.Math.Bool.{and-false}
 use Rattle.std.proofs.Math.Seq.{take-add}
 use Rattle.unftp_control_defs.specs.Bytes.{Bytes, NUL, LF, CR, crlf}
 use Rattle.unftp_control_defs.specs.ComputedValue.{After, Fresh, Plain, byte_then, later_value, value_of}
-use Rattle.unftp_control_message.specs.SentValues.{begins_with_cr_nul, unescaped}
+use Rattle.unftp_control_message.specs.SentValues.{begins_with_cr_nul, cr_nul_count, unescaped}
 use Rattle.unftp_control_message.proofs.SentLemmas.{cr_nul_front, lacks_before, unescaped_front, unescaped_lacking}
 use Rattle.unftp_control_line_parser.specs.Values.{stops, begins_with_line_end, IsFirstLen, IsLaterLen, IsPlainEnd, IsRunEnd, NoStop, Resumes}
 
@@ -150,6 +150,41 @@ pub lens_added : (len n : ℕ) (later : Option ℕ)
     ≡ option_map (λ m. len + n + m) later
 lens_added len n None = refl
 lens_added len n (Some m) = ap Some (omega arith)
+
+len_nil : (later : Option ℕ) → later ≡ option_map (λ m. 0 + m) later
+len_nil None = refl
+len_nil (Some m) = ap Some (omega arith)
+
+-- a run of CR NUL that comes first
+pub IsLaterLen-run : (bytes : Bytes) (later : Option ℕ)
+    → IsLaterLen (drop (2 * cr_nul_count bytes) bytes) later
+    → IsLaterLen bytes (option_map (λ m. 2 * cr_nul_count bytes + m) later)
+IsLaterLen-run [] later is = subst (IsLaterLen []) (len_nil later) is
+IsLaterLen-run (a ∷ []) later is = subst (IsLaterLen (a ∷ [])) (len_nil later) is
+IsLaterLen-run (a ∷ b ∷ bytes) later is =
+    by_test (IsLaterLen-run bytes later) ((a == CR) && (b == NUL)) refl is
+  where
+    by_test : (IsLaterLen (drop (2 * cr_nul_count bytes) bytes) later
+        → IsLaterLen bytes (option_map (λ m. 2 * cr_nul_count bytes + m) later))
+        → (test : Bool) → ((a == CR) && (b == NUL)) ≡ test
+        → IsLaterLen (drop (2 * cond test (1 + cr_nul_count bytes) 0) (a ∷ b ∷ bytes)) later
+        → IsLaterLen (a ∷ b ∷ bytes)
+        (option_map (λ m. 2 * cond test (1 + cr_nul_count bytes) 0 + m) later)
+    by_test more true e is =
+        let twice : 2 * (1 + cr_nul_count bytes) ≡ suc (suc (2 * cr_nul_count bytes)) = omega arith in
+        let sum : 2 + 2 * cr_nul_count bytes ≡ 2 * (1 + cr_nul_count bytes) = omega arith in
+        subst (IsLaterLen (a ∷ b ∷ bytes))
+        (lens_added 2 (2 * cr_nul_count bytes) later
+        ∙ ap (λ n. option_map (λ m. n + m) later) sum)
+        (IsLaterLen-cr_nul_first (a ∷ b ∷ bytes) e _ (more (rw twice at is)))
+    by_test more false e is = subst (IsLaterLen (a ∷ b ∷ bytes)) (len_nil later) is
+
+-- and bytes after it
+pub IsLaterLen-after_run : (bytes part : Bytes) (n : ℕ) → n ≡ cr_nul_count bytes
+    → part ≡ drop (2 * n) bytes → (later : Option ℕ) → IsLaterLen part later
+    → IsLaterLen bytes (option_map (λ m. 2 * n + m) later)
+IsLaterLen-after_run bytes part n count is later known =
+    rw count (IsLaterLen-run bytes later (rw (is, count) at known))
 
 -- a value goes on after a CR NUL that comes first
 pub Resumes-cr_nul : (parameter : Bytes) → begins_with_cr_nul parameter ≡ true → Resumes parameter 2

@@ -7,7 +7,7 @@ ghost use Rattle.unftp_control_line_parser.specs.Values.{IsFreshEnd, IsLaterLen,
 
 use crate::plain::is_short_and_plain;
 use memchr::memchr2;
-use unftp_control_message::sent::{Sent, begins_with_cr_nul};
+use unftp_control_message::sent::{Sent, begins_with_cr_nul, cr_nul_count};
 
 const LF: u8 = b'\n';
 
@@ -43,24 +43,19 @@ fn later_len(bytes: &[u8]) -> Option<usize>
     let mut len = 0usize;
     let mut rest = bytes;
     'parts: loop {
-        // where many CR NUL follow one another, none needs a search
-        if begins_with_cr_nul(rest) {
-            let (_, further) = rest.split_at(2);
-            len += 2;
-            rest = further;
-        } else {
-            let end = fresh_len(rest);
-            let (_, after) = rest.split_at(end);
-            if begins_with_line_end(after) {
-                return Some(len + end);
-            }
-            if !begins_with_cr_nul(after) {
-                return None;
-            }
-            let (_, further) = after.split_at(2);
-            len += end + 2;
-            rest = further;
+        let first = 2 * cr_nul_count(rest);
+        let (_, part) = rest.split_at(first);
+        let end = fresh_len(part);
+        let (_, after) = part.split_at(end);
+        if begins_with_line_end(after) {
+            return Some(len + first + end);
         }
+        if !begins_with_cr_nul(after) {
+            return None;
+        }
+        let (_, further) = after.split_at(2);
+        len += first + end + 2;
+        rest = further;
     }
 }
 

@@ -1,12 +1,12 @@
 -- Bytes that are sent for a value.
-use Rattle.std.proofs.Common.{◌≡◌, ◌≢◌, ℕ, ◌+◌, ◌≤◌, ◌<◌, Bool, true, false, cond, ◌==◌, ◌&&◌, [], ◌∷◌, ◌++◌, length, take, drop, get_or, refl, sym, ap, subst, ◌∙◌, arith, append_assoc, append-nil, length-drop, ne_eqb, eqb-true, take_all, drop-cons, zero, suc}
+use Rattle.std.proofs.Common.{◌≡◌, ◌≢◌, ℕ, ◌+◌, ◌*◌, ◌≤◌, ◌<◌, Bool, true, false, cond, ◌==◌, ◌&&◌, [], ◌∷◌, ◌++◌, length, take, drop, replicate, get_or, refl, sym, ap, subst, ◌∙◌, arith, append_assoc, append-nil, length-drop, ne_eqb, eqb-true, take_all, drop-cons, zero, suc}
 use Rattle.std.proofs.lemmas.List.{take-append-drop, take_more}
 use Rattle.std.proofs.lemmas.Bool.{and_parts, false≢true}
 use Rattle.unftp_control_defs.specs.Bytes.{Bytes, NUL, CR, Lacks}
 use Rattle.unftp_control_defs.proofs.LossyLemmas.{kept-utf8_lossy}
 use Rattle.std.specs.Str.Lossy.{utf8_lossy}
 use Rattle.std.proofs.lemmas.Str.{utf8_lossy-IsUtf8, utf8_lossy_empty}
-use Rattle.unftp_control_message.specs.SentValues.{after_nul, begins_with_cr_nul, first_unit_len, unescaped}
+use Rattle.unftp_control_message.specs.SentValues.{after_nul, begins_with_cr_nul, cr_nul_count, first_unit_len, unescaped}
 
 pub unescaped_byte : (a : ℕ) (bytes : Bytes) → a ≢ CR → unescaped (a ∷ bytes) ≡ a ∷ unescaped bytes
 unescaped_byte a [] h = refl
@@ -78,7 +78,8 @@ after_nul-short (b ∷ bytes) = by_nul (b == NUL)
     by_nul false = omega arith
 
 pub rest_short : (bytes rest further : Bytes) (n : ℕ) → n < length bytes
-    → rest ≡ drop (n + 1) bytes → further ≡ after_nul rest → length further < length bytes
+    → rest ≡ drop (n + 1) bytes → further ≡ after_nul rest
+    → n + 1 + length further ≤ length bytes
 rest_short bytes rest further n lt is after =
     omega (arith, ap length is, length-drop (n + 1) bytes, ap length after, after_nul-short rest)
 
@@ -92,9 +93,38 @@ cr_nul_front (a ∷ b ∷ bytes) h =
     let is_nul = eqb-true b NUL parts.1 in
     λ i. is_cr i ∷ is_nul i ∷ bytes
 
-pub unescaped_cr_nul : (bytes : Bytes) → begins_with_cr_nul bytes ≡ true
-    → unescaped bytes ≡ CR ∷ unescaped (drop 2 bytes)
-unescaped_cr_nul bytes h = ap unescaped (cr_nul_front bytes h)
+-- a run of CR NUL, and what is sent after it
+pub unescaped_run : (bytes : Bytes)
+    → unescaped bytes
+    ≡ replicate (cr_nul_count bytes) CR ++ unescaped (drop (2 * cr_nul_count bytes) bytes)
+unescaped_run [] = refl
+unescaped_run (a ∷ []) = refl
+unescaped_run (a ∷ b ∷ bytes) = by_test (unescaped_run bytes) ((a == CR) && (b == NUL)) refl
+  where
+    by_test : unescaped bytes
+        ≡ replicate (cr_nul_count bytes) CR ++ unescaped (drop (2 * cr_nul_count bytes) bytes)
+        → (test : Bool) → ((a == CR) && (b == NUL)) ≡ test
+        → cond test (CR ∷ unescaped bytes) (a ∷ unescaped (b ∷ bytes))
+        ≡ replicate (cond test (1 + cr_nul_count bytes) 0) CR
+        ++ unescaped (drop (2 * cond test (1 + cr_nul_count bytes) 0) (a ∷ b ∷ bytes))
+    by_test more true e =
+        let twice : 2 * (1 + cr_nul_count bytes) ≡ suc (suc (2 * cr_nul_count bytes)) = omega arith in
+        let next : 1 + cr_nul_count bytes ≡ suc (cr_nul_count bytes) = omega arith in
+        rw (twice, next) (ap (λ t. CR ∷ t) more)
+    by_test more false e = rw e refl
+
+-- what a value has so far, with the carriage returns of a run after it
+pub with_run : (sent value filled rest part : Bytes) (n m : ℕ)
+    → unescaped sent ≡ value ++ unescaped rest → part ≡ drop (2 * cr_nul_count rest) rest
+    → length value ≤ n → m ≡ cr_nul_count rest → filled ≡ take n value ++ replicate m CR
+    → unescaped sent ≡ filled ++ unescaped part
+with_run sent value filled rest part n m so_far after within count is =
+    let fills : filled ≡ value ++ replicate (cr_nul_count rest) CR =
+    is ∙ (λ i. take_all n value within i ++ replicate (count i) CR) in
+    so_far ∙ ap (λ t. value ++ t) (unescaped_run rest)
+    ∙ sym (append_assoc value (replicate (cr_nul_count rest) CR)
+    (unescaped (drop (2 * cr_nul_count rest) rest)))
+    ∙ (λ i. sym fills i ++ unescaped (sym after i))
 
 -- its first byte, and what is sent for the others
 pub unescaped_step : (bytes : Bytes) → 0 < length bytes

@@ -1,5 +1,5 @@
 -- Bytes that are sent for a value, each CR of it as CR NUL (RFC 854).
-use Rattle.std.specs.Prelude.{ℕ, ◌==◌, Bool, false, ◌&&◌, if◌then◌else◌, [], ◌∷◌}
+use Rattle.std.specs.Prelude.{ℕ, ◌+◌, ◌==◌, Bool, false, ◌&&◌, if◌then◌else◌, [], ◌∷◌}
 use Rattle.unftp_control_defs.specs.Bytes.{Bytes, CR, NUL}
 use Rattle.unftp_control_message.specs.declared.sent.Sent.{Sent}
 use Rattle.unftp_control_message.specs.declared.sent.Sent.TheVariants as sent
@@ -24,6 +24,15 @@ abbrev pub begins_with_cr_nul : Bytes → Bool
 begins_with_cr_nul [] = false
 begins_with_cr_nul (a ∷ []) = false
 begins_with_cr_nul (a ∷ b ∷ bytes) = (a == CR) && (b == NUL)
+
+-- how many CR NUL the bytes begin with
+abbrev pub cr_nul_count : Bytes → ℕ
+cr_nul_count [] = 0
+cr_nul_count (a ∷ []) = 0
+cr_nul_count (a ∷ b ∷ bytes) = if (a == CR) && (b == NUL) then 1 + cr_nul_count bytes else 0
+
+abbrev pub four_cr_nul : Bytes
+four_cr_nul = CR ∷ NUL ∷ CR ∷ NUL ∷ CR ∷ NUL ∷ CR ∷ NUL ∷ []
 
 -- how many bytes are sent for the first byte of a value
 abbrev pub first_unit_len : Bytes → ℕ

@@ -1,7 +1,7 @@
 //! A value as it is sent, and as bytes or text.
-ghost use Rattle.std.specs.Prelude.{◌≡◌, ◌≤◌, ◌==◌, ◌<◌, IfOk, OnErr, length, string_bytes, take};
+ghost use Rattle.std.specs.Prelude.{◌≡◌, ◌≤◌, ◌==◌, ◌<◌, ◌*◌, ◌++◌, IsTrue, IfOk, OnErr, length, string_bytes, take, drop};
 ghost use Rattle.std.specs.Str.Lossy.{utf8_lossy};
-ghost use Rattle.unftp_control_message.specs.SentValues.{after_nul, begins_with_cr_nul, first_unit_len, sent_bytes, unescaped, sent_value};
+ghost use Rattle.unftp_control_message.specs.SentValues.{after_nul, begins_with_cr_nul, cr_nul_count, first_unit_len, four_cr_nul, sent_bytes, unescaped, sent_value};
 
 use bytes::Bytes;
 use memchr::memchr;
@@ -11,6 +11,9 @@ use std::str::from_utf8;
 const CR: u8 = b'\r';
 
 const NUL: u8 = 0;
+
+/// Four CR NUL, as a number.
+const FOUR_CR_NUL: u64 = 0x000d_000d_000d_000d;
 
 /// A value, as it is sent (RFC 854).
 #[derive(Clone, Copy)]
@@ -105,6 +108,48 @@ pub fn begins_with_cr_nul(bytes: &[u8]) -> bool
     }
 }
 
+/// Whether the bytes begin with four CR NUL.
+#[inline(always)]
+fn begins_with_four_cr_nul(bytes: &[u8]) -> bool
+    ensures { IsTrue result → bytes.now ≡ four_cr_nul ++ drop 8 bytes.now }
+{
+    match bytes {
+        [a, b, c, d, e, f, g, h, ..] => {
+            u64::from_le_bytes([*a, *b, *c, *d, *e, *f, *g, *h]) == FOUR_CR_NUL
+        }
+        _ => false,
+    }
+}
+
+/// How many CR NUL the bytes begin with.
+pub fn cr_nul_count(bytes: &[u8]) -> usize
+    ensures count { result ≡ cr_nul_count bytes.now }
+    ensures within { 2 * result ≤ length bytes.now }
+{
+    let mut count = 0usize;
+    let mut rest = bytes;
+    'fours: while begins_with_four_cr_nul(rest) {
+        let (_, further) = rest.split_at(8);
+        count += 4;
+        rest = further;
+    }
+    count + few_cr_nul_count(rest)
+}
+
+/// How many CR NUL the bytes begin with, one by one.
+fn few_cr_nul_count(bytes: &[u8]) -> usize
+    ensures count { result ≡ cr_nul_count bytes.now }
+    ensures within { 2 * result ≤ length bytes.now }
+{
+    let mut count = 0usize;
+    let mut rest = bytes;
+    'run: while let [CR, NUL, further @ ..] = rest {
+        count += 1;
+        rest = further;
+    }
+    count
+}
+
 /// How many bytes are sent for the first byte of the value.
 fn first_unit_len(bytes: &[u8]) -> usize
     ensures { result ≡ first_unit_len bytes.now }
@@ -129,19 +174,16 @@ pub fn unescape(alloc: Global, sent: &[u8]) -> Result<Vec<u8>, AllocError>
     let mut value = Vec::with_capacity(alloc, sent.len())?;
     let mut rest = sent;
     'parts: loop {
-        if begins_with_cr_nul(rest) {
-            let (_, further) = rest.split_at(2);
-            value.push(CR).map_err(AllocError::from)?;
-            rest = further;
-        } else {
-            let Some(end) = memchr(CR, rest) else {
-                value.extend_from_slice(rest)?;
-                return Ok(value);
-            };
-            let (part, further) = rest.split_at(end + 1);
+        let count = cr_nul_count(rest);
+        value.resize(value.len() + count, CR)?;
+        let (_, part) = rest.split_at(2 * count);
+        let Some(end) = memchr(CR, part) else {
             value.extend_from_slice(part)?;
-            rest = after_nul(further);
-        }
+            return Ok(value);
+        };
+        let (front, further) = part.split_at(end + 1);
+        value.extend_from_slice(front)?;
+        rest = after_nul(further);
     }
 }
 
