@@ -35,6 +35,7 @@ use unftp_control_message::sent::Sent;
 const LONGEST_VERB: usize = 4;
 
 /// How many bytes come before the first that ends a word.
+#[inline(never)]
 fn word_len(bytes: &[u8]) -> usize
     ensures place { result ≡ position_or_len is_separator bytes.now }
     ensures within { result ≤ length bytes.now }
@@ -62,11 +63,15 @@ fn verb_len(line: &[u8]) -> usize
     ensures place { result ≡ position_or_len is_separator line.now }
     ensures within { result ≤ length line.now }
 {
+    if line.len() <= 4 || !four_go_on(line) {
+        return any_verb_len(line);
+    }
     // most verbs have four letters
-    if line.len() > 4 && four_go_on(line) && matches!(line[4], b' ' | b'\r' | b'\n') {
+    if matches!(line[4], b' ' | b'\r' | b'\n') {
         return 4;
     }
-    any_verb_len(line)
+    let (_, rest) = line.split_at(4);
+    4 + word_len(rest)
 }
 
 /// The length of a verb of any length.
