@@ -38,22 +38,9 @@ pub record Keeps (old new : Codec) : Type 0 where
   pub limit : new.limit ≡ old.limit
   pub never_fewer : old.tests ≤ new.tests
 
-goes_on_keeps : (codec : Codec) (bytes : Bytes) → Keeps codec (goes_on codec bytes)
+pub goes_on_keeps : (codec : Codec) (bytes : Bytes) → Keeps codec (goes_on codec bytes)
 goes_on_keeps codec bytes = by_feed (line_feed_from bytes codec.place)
   where
     by_feed : (o : Option ℕ) → Keeps codec (goes_on_by codec (length bytes) o)
     by_feed None = record { limit = refl; never_fewer = omega arith }
     by_feed (Some k) = record { limit = refl; never_fewer = omega arith }
-
-pub decodes_keeps : (old new : Codec) (before after : Bytes) (answer : Decoded)
-    → Decodes old new before after answer → Keeps old new
-decodes_keeps old new before after answer decodes =
-    by_found (first_line old before) (goes_on_keeps old before) decodes
-  where
-    by_found : (found : FirstLine) → Keeps old (goes_on old before)
-        → DecodesFound found old new before after answer → Keeps old new
-    by_found (Incomplete n) k d = rw d.goes_on_at k
-    by_found (TooLong n) k d = rw d.goes_on_at k
-    by_found (Complete n) k (inl d) =
-        rw d.goes_on_at record { limit = k.limit; never_fewer = k.never_fewer }
-    by_found (Complete n) k (inr d) = rw d.1.goes_on_at k

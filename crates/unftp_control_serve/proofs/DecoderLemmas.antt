@@ -1,39 +1,37 @@
 -- What a call of `next_event` takes, by what the codec decodes.
-use Rattle.std.proofs.Common.{◌≡◌, ℕ, ◌+◌, ◌-◌, ◌≤◌, Bool, true, false, List, [], ◌∷◌, ◌++◌, length, take, drop, Option, Some, None, Result, Ok, Err, refl, sym, ap, subst, ◌∙◌, inl, inr, arith, append_assoc, length-drop}
+use Rattle.std.proofs.Common.{◌≡◌, ℕ, ◌+◌, ◌-◌, ◌≤◌, Bool, true, false, List, [], ◌∷◌, ◌++◌, length, take, drop, Option, Some, None, Result, Ok, Err, refl, sym, ap, subst, ◌∙◌, arith, append_assoc, length-drop}
 use Rattle.std.specs.Prelude.{if◌then◌else◌, OnErr}
 use Rattle.std.specs.List.{concat}
+use Rattle.std.specs.declared.alloc.AllocError.{AllocError}
 use Rattle.std.proofs.lemmas.List.{drop-drop, take-append-drop}
-use Rattle.std.proofs.lemmas.Option.{none-some, same_Some}
 use Rattle.unftp_control_defs.specs.Bytes.{Bytes}
-use Rattle.unftp_control_defs.specs.Events.{FtpEvent, Refused, OutOfMemory, event_for, event_of, line_too_long}
+use Rattle.unftp_control_defs.specs.Events.{FtpEvent, Refused, event_for, event_of, line_too_long}
 use Rattle.unftp_control_defs.specs.FtpCommand.{Answer, InvalidUtf8, InvalidCommand, InvalidEol}
 use Rattle.unftp_control_defs.specs.Lines.{Lines, incomplete_line, lines_of}
 use Rattle.unftp_control_defs.specs.Outcome.{outcome}
+use Rattle.unftp_control_line_parser.specs.Memory.{MayTakeMemory}
 use Rattle.unftp_control_defs.specs.TakingSteps.{TakesEvent}
 use Rattle.unftp_control_defs.proofs.LineLemmas.{Lines-lines_of, line_first}
 use Rattle.unftp_control_codecs.specs.declared.FirstLine.{FirstLine}
 use Rattle.unftp_control_codecs.specs.declared.FirstLine.TheVariants.{Incomplete, TooLong, Complete}
 use Rattle.unftp_control_codecs.specs.Codec.{Codec}
-use Rattle.unftp_control_codecs.specs.Decoding.{Decoded, Decodes, DecodesFound, IsOutOfMemory, returned_event}
-use Rattle.unftp_control_codecs.specs.FirstLine.{IsDropped, IsScannedWithin, first_line, goes_on}
-use Rattle.unftp_control_codecs.proofs.CallLemmas.{decodes_keeps}
+use Rattle.unftp_control_codecs.specs.FirstLine.{IsDropped, IsScannedWithin, first_line, goes_on, reset}
 use Rattle.unftp_control_codecs.proofs.FirstLineLemmas.{Counts, Finds, FindsNone, counts, finds}
-use Rattle.unftp_control_codecs.proofs.MemoryLemmas.{kind_in, ran_out}
+use Rattle.unftp_control_codecs.proofs.CallLemmas.{goes_on_keeps}
 use Rattle.unftp_control_serve.specs.declared.event.Event.{Event}
 use Rattle.unftp_control_serve.specs.EventMeaning.{event_meant, refuses_length}
-use Rattle.unftp_control_serve.specs.Decoder.{IsDecoder, FirstMayRunOut, MayRunOut, ReturnsEvent, TakesNext, dropped_after, line_length, pending_of}
+use Rattle.unftp_control_serve.specs.Decoder.{IsDecoder, FirstMayRunOut, MayRunOut, TakesNext, dropped_after, line_length, pending_of}
 
--- what the codec returns is out of memory only where memory ran out
-returned_kind : (answer : Decoded) → IsOutOfMemory answer
-    → kind_in (returned_event answer) ≡ OutOfMemory
-returned_kind (Ok command) out = absurd out
-returned_kind (Err error) out = out
+-- a line that is not too long is not refused for its length
+pub not_too_long : (answer : Answer) → refuses_length (event_of answer) ≡ false
+not_too_long (Ok command) = refl
+not_too_long (Err InvalidUtf8) = refl
+not_too_long (Err InvalidCommand) = refl
+not_too_long (Err InvalidEol) = refl
 
-outcome_kind : (answer : Answer) → kind_in (Some (event_of answer)) ≡ OutOfMemory → ⊥
-outcome_kind (Ok command) is = absurd (cc)
-outcome_kind (Err InvalidUtf8) is = absurd (cc)
-outcome_kind (Err InvalidCommand) is = absurd (cc)
-outcome_kind (Err InvalidEol) is = absurd (cc)
+pub on_err : {T E : Type 0} {P : Type 0} (result : Result T E) → P → OnErr result P
+on_err (Ok x) p = tt
+on_err (Err e) p = p
 
 -- the line that memory may run out for, as an event that can be taken
 pub MayRunOut-taken : {limit : Option ℕ} (bytes : Bytes) → MayRunOut limit bytes
@@ -63,94 +61,24 @@ module _ (old new : Codec) (dropped before : Bytes) (taken : ℕ) where
   dropped' = dropped_after new.skipping dropped (take taken before)
 
   -- the line of this event is taken
-  record Took (event : FtpEvent) : Type 0 where
-    takes : TakesEvent old.limit (dropped ++ before) event after
-    place : new.place ≡ 0
-    unskipped : new.skipping ≡ false
-    shown : refuses_length event ≡ false → dropped ≡ []
+  pub record Took (event : FtpEvent) : Type 0 where
+    pub takes : TakesEvent old.limit (dropped ++ before) event after
+    pub place : new.place ≡ 0
+    pub unskipped : new.skipping ≡ false
+    pub shown : refuses_length event ≡ false → dropped ≡ []
 
   -- memory ran out, and nothing is taken
-  record RanOut : Type 0 where
-    none : taken ≡ 0
-    place : new.place ≡ old.place
-    unskipped : new.skipping ≡ false
-    none_dropped : dropped ≡ []
-    may : MayRunOut old.limit before
+  pub record RanOut : Type 0 where
+    pub none : taken ≡ 0
+    pub place : new.place ≡ old.place
+    pub unskipped : new.skipping ≡ false
+    pub none_dropped : dropped ≡ []
+    pub may : MayRunOut old.limit before
 
   abbrev ComesTo : {E : Type 0} → Result (Option Event) E → Type 0
   ComesTo (Ok None) = FindsNone old.limit dropped before new taken
   ComesTo (Ok (Some event)) = Took (event_meant event)
   ComesTo (Err error) = RanOut
-
-  module _ (well : IsScannedWithin old before) (lost : IsDropped old dropped)
-      (within : taken + new.place ≤ length before) (answer : Decoded) where
-    -- what is returned decides
-    none_comes : {E : Type 0} (result : Result (Option Event) E) → ReturnsEvent answer result
-        → returned_event answer ≡ None → FindsNone old.limit dropped before new taken
-        → ComesTo result
-    none_comes (Ok None) tells is none = none
-    none_comes (Ok (Some event)) tells is none = absurd (none-some _ (sym is ∙ tells.0))
-    none_comes (Err error) tells is none =
-        absurd (let out = returned_kind answer tells in let kind = ap kind_in is in cc)
-
-    event_comes : {E : Type 0} (result : Result (Option Event) E) (event : FtpEvent)
-        → ReturnsEvent answer result → returned_event answer ≡ Some event
-        → (kind_in (Some event) ≡ OutOfMemory → ⊥) → Took event → ComesTo result
-    event_comes (Ok None) event tells is some took = absurd (none-some _ (sym tells.0 ∙ is))
-    event_comes (Ok (Some given)) event tells is some took =
-        rw (same_Some (event_meant given) event (sym tells.0 ∙ is)) took
-    event_comes (Err error) event tells is some took =
-        absurd (some (sym (ap kind_in is) ∙ returned_kind answer tells))
-
-    memory_comes : {E : Type 0} (result : Result (Option Event) E) → ReturnsEvent answer result
-        → IsOutOfMemory answer → RanOut → ComesTo result
-    memory_comes (Ok event) tells out ran = absurd (tells.1 out)
-    memory_comes (Err error) tells out ran = ran
-
-    found_comes : {E : Type 0} (result : Result (Option Event) E) → ReturnsEvent answer result
-        → (found : FirstLine) → Finds old dropped before (goes_on old before) found
-        → Counts old before (goes_on old before) found
-        → DecodesFound found old new before after answer → ComesTo result
-    found_comes result tells (Incomplete n) finds counts is =
-        let same : taken ≡ n = omega (
-          arith,
-          within,
-          counts.all,
-          ap length is.taken,
-          length-drop taken before,
-          length-drop n before,
-        ) in
-        none_comes result tells is.returned_is (rw (same, is.goes_on_at) finds)
-    found_comes result tells (TooLong n) finds counts is =
-        event_comes result (Refused line_too_long) tells is.returned_is (λ e. absurd (cc)) record {
-          takes = rw is.taken finds;
-          place = rw is.goes_on_at counts.1;
-          unskipped = rw is.goes_on_at counts.2;
-          shown = λ short. absurd (cc);
-        }
-    found_comes result tells (Complete n) finds counts (inl is) =
-        event_comes result (event_of (outcome (take n before))) tells is.returned_is
-        (outcome_kind (outcome (take n before))) record {
-          takes = rw is.taken finds.takes;
-          place = ap (λ codec. codec.place) is.goes_on_at;
-          unskipped = ap (λ codec. codec.skipping) is.goes_on_at;
-          shown = λ short. finds.none_dropped;
-        }
-    found_comes result tells (Complete n) finds counts (inr is) =
-        memory_comes result tells (ran_out answer is.1.returned_is) record {
-          none = omega (arith, within, ap length is.1.taken, length-drop taken before);
-          place = rw is.1.goes_on_at finds.same_place;
-          unskipped = rw is.1.goes_on_at finds.unskipped;
-          none_dropped = finds.none_dropped;
-          may = subst (FirstMayRunOut old.limit) (sym (ap lines_of (sym (take-append-drop n before))
-              ∙ (line_first (take n before) (drop n before) finds.is_line).0)) (finds.short, is.0);
-        }
-
-    comes_to : {E : Type 0} (result : Result (Option Event) E) → ReturnsEvent answer result
-        → Decodes old new before after answer → ComesTo result
-    comes_to result tells decodes =
-        found_comes result tells (first_line old before) (finds old dropped before well lost)
-        (counts old before well.0) decodes
 
   -- what is dropped then
   none_now : new.skipping ≡ false → dropped' ≡ []
@@ -224,55 +152,122 @@ module _ (old new : Codec) (dropped before : Bytes) (taken : ℕ) where
       by_length false shown = rw (none_now took.unskipped, shown refl)
           (ap (λ n. take n before) (omega (arith, within, length-drop taken before)))
 
--- the same of the bytes of a buffer from a place on
-module _ {E : Type 0} (old new : Codec) (dropped dropped' buf pending front : Bytes)
-    (start line taken held : ℕ) (skipping : Bool) (answer : Decoded)
-    (result : Result (Option Event) E) (well : IsDecoder old dropped buf start line held)
-    (from_start : pending ≡ drop start buf) (to_taken : front ≡ take taken pending)
-    (goes_on : dropped' ≡ dropped_after skipping dropped front) (skips : skipping ≡ new.skipping)
-    (within : taken + new.place ≤ length pending)
-    (decodes : Decodes old new pending (drop taken pending) answer)
-    (tells : ReturnsEvent answer result) where
+-- So many of the bytes of a buffer after those that are taken are taken too, with this result.
+pub record TakesFrom (old new : Codec) (dropped dropped' buf : Bytes)
+    (start taken : ℕ) (result : Result (Option Event) AllocError) : Type 0 where
+  pub within : taken ≤ length (drop start buf)
+  pub limit : new.limit ≡ old.limit
+  pub comes : ComesTo old new dropped (drop start buf) taken result
+  pub dropped_is : dropped' ≡ dropped_after new.skipping dropped (take taken (drop start buf))
+
+-- what the codec finds in the pending bytes decides what is taken
+module _ {old : Codec} {dropped buf pending : Bytes} {start line held : ℕ}
+    (well : IsDecoder old dropped buf start line held) (from_start : pending ≡ drop start buf) where
+  found_in : (found : FirstLine) → found ≡ first_line old pending
+      → Finds old dropped (drop start buf) (goes_on old pending) found
+      × Counts old (drop start buf) (goes_on old pending) found
+  found_in found is = rw (is, from_start) (
+    finds old dropped (drop start buf) well.place_within well.dropped_well,
+    counts old (drop start buf) well.place_within.0,
+  )
+
+  same_limit : {new : Codec} → new ≡ goes_on old pending → new.limit ≡ old.limit
+  same_limit codec = rw codec (goes_on_keeps old pending).limit
+
+  pub scans_line : {new : Codec} {n : ℕ} → Complete n ≡ first_line old pending
+      → new ≡ reset (goes_on old pending)
+      → new.tests + (length (drop (start + n) buf) - new.place)
+      ≡ old.tests + (length (drop start buf) - old.place)
+  scans_line {n = n} found codec = let known = (found_in (Complete n) found).1.0 in rw codec
+      (omega (
+        arith,
+        known.counted,
+        known.within,
+        well.place_within.0,
+        length-drop start buf,
+        length-drop (start + n) buf,
+      ))
+
+  pub takes_none : {new : Codec} {n : ℕ} (lost : Bytes) → Incomplete n ≡ first_line old pending
+      → new ≡ goes_on old pending → lost ≡ dropped_after new.skipping dropped (take n pending)
+      → TakesFrom old new dropped lost buf start n (Ok None)
+  takes_none {n = n} lost found codec is =
+      let known = found_in (Incomplete n) found in record {
+        within = omega (arith, known.1.all);
+        limit = same_limit codec;
+        comes = rw codec known.0;
+        dropped_is = rw from_start at is;
+      }
+
+  pub takes_long : {new : Codec} {n : ℕ} (event : Event) → TooLong n ≡ first_line old pending
+      → new ≡ goes_on old pending → event_meant event ≡ Refused line_too_long
+      → TakesFrom old new dropped [] buf start n (Ok (Some event))
+  takes_long {new = new} {n = n} event found codec is =
+      let known = found_in (TooLong n) found in
+      let unskipped : new.skipping ≡ false = rw codec known.1.2 in record {
+        within = omega (arith, known.1.0.within);
+        limit = same_limit codec;
+        comes = rw is record {
+          takes = known.0;
+          place = rw codec known.1.1;
+          unskipped = unskipped;
+          shown = λ short. absurd (cc);
+        };
+        dropped_is = rw unskipped refl;
+      }
+
+  pub takes_line : {new : Codec} {n : ℕ} (event : Event) (bytes : Bytes) → Complete n ≡ first_line old pending
+      → new ≡ reset (goes_on old pending) → bytes ≡ take n pending
+      → event_meant event ≡ event_of (outcome bytes)
+      → TakesFrom old new dropped dropped buf start n (Ok (Some event))
+  takes_line {n = n} event bytes found codec front is =
+      let known = found_in (Complete n) found in record {
+        within = omega (arith, known.1.0.within);
+        limit = rw codec (goes_on_keeps old pending).limit;
+        comes = rw (is, front, from_start) record {
+          takes = known.0.takes;
+          place = rw codec refl;
+          unskipped = rw codec refl;
+          shown = λ short. known.0.none_dropped;
+        };
+        dropped_is = rw (codec, known.0.none_dropped) refl;
+      }
+
+  pub takes_nothing : {new : Codec} {n : ℕ} (error : AllocError) (bytes : Bytes) → Complete n ≡ first_line old pending
+      → new ≡ goes_on old pending → bytes ≡ take n pending → MayTakeMemory bytes
+      → TakesFrom old new dropped dropped buf start 0 (Err error)
+  takes_nothing {n = n} error bytes found codec front may =
+      let known = (found_in (Complete n) found).0 in
+      let rest : Bytes = drop start buf in record {
+        within = omega arith;
+        limit = same_limit codec;
+        comes = record {
+          none = refl;
+          place = rw codec known.same_place;
+          unskipped = rw codec known.unskipped;
+          none_dropped = known.none_dropped;
+          may = subst (FirstMayRunOut old.limit) (sym (ap lines_of (sym (take-append-drop n rest))
+              ∙ (line_first (take n rest) (drop n rest) known.is_line).0))
+              (known.short, rw (front, from_start) at may);
+        };
+        dropped_is = rw (codec, known.unskipped, known.none_dropped) refl;
+      }
+
+module _ (old new : Codec) (dropped dropped' buf : Bytes) (start line taken held : ℕ)
+    (result : Result (Option Event) AllocError) (well : IsDecoder old dropped buf start line held)
+    (step : TakesFrom old new dropped dropped' buf start taken result) where
   abbrev rest : Bytes
   rest = drop start buf
 
-  within_rest : taken + new.place ≤ length rest
-  within_rest = rw from_start at within
-
-  came : ComesTo old new dropped rest taken result
-  came = comes_to old new dropped rest taken well.place_within well.dropped_well within_rest answer
-      result tells (rw from_start at decodes)
-
-  dropped_is : dropped' ≡ dropped_after new.skipping dropped (take taken rest)
-  dropped_is = goes_on ∙ ap (λ b. dropped_after b dropped front) skips
-      ∙ ap (dropped_after new.skipping dropped) (to_taken ∙ ap (take taken) from_start)
-
-  -- the line is the last of the bytes that were taken
-  record Shown (n : ℕ) : Type 0 where
-    short : n ≤ taken
-    bytes : take n (drop (start + taken - n) buf) ≡ take n rest
-
-  shown : (result : Result (Option Event) E) → Shown (line_length result taken)
-  shown (Ok None) = record { short = omega arith; bytes = refl }
-  shown (Err error) = record { short = omega arith; bytes = refl }
-  shown (Ok (Some event)) = by_length (refuses_length (event_meant event))
-    where
-      by_length : (too_long : Bool) → Shown (if too_long then 0 else taken)
-      by_length true = record { short = omega arith; bytes = refl }
-      by_length false = record {
-        short = omega arith;
-        bytes = ap (λ n. take taken (drop n buf)) (omega arith);
-      }
-
-  pub decoder-after : IsDecoder new dropped' buf (start + taken) (line_length result taken) held
-  decoder-after = record {
-    start_within = omega (arith, well.start_within, within_rest, length-drop start buf);
-    line_within = omega (arith, (shown result).short);
+  pub decoder-after : (line' : ℕ) → line' ≤ start + taken
+      → IsDecoder new dropped' buf (start + taken) line' held
+  decoder-after line' short = record {
+    start_within = omega (arith, well.start_within, step.within, length-drop start buf);
+    line_within = short;
     place_within = rw (← drop-drop taken start buf)
-        (within_then old new dropped rest taken result well.place_within came);
-    dropped_well = rw dropped_is (dropped_then old new dropped rest taken result came);
-    limited = rw (decodes_keeps old new pending (drop taken pending) answer decodes).limit
-        well.limited;
+        (within_then old new dropped rest taken result well.place_within step.comes);
+    dropped_well = rw step.dropped_is (dropped_then old new dropped rest taken result step.comes);
+    limited = rw step.limit well.limited;
     no_more = well.no_more;
   }
 
@@ -280,17 +275,32 @@ module _ {E : Type 0} (old new : Codec) (dropped dropped' buf pending front : By
       → TakesNext
       (pending_of old dropped (take line (drop (start - line) buf)) rest (length buf) held)
       result (pending_of new dropped' line' (drop (start + taken) buf) (length buf) held)
-  takes_next-after line' = rw (← drop-drop taken start buf, dropped_is)
+  takes_next-after line' = rw (← drop-drop taken start buf, step.dropped_is)
       (takes_next old new dropped rest taken (take line (drop (start - line) buf)) line' (length buf)
-      held result came)
+      held result step.comes)
 
-  pub line-after : take (line_length result taken)
-      (drop (start + taken - line_length result taken) buf)
+  -- the line of the event is the last of the bytes that were taken
+  pub line-after : (n : ℕ) → n ≡ line_length result taken
+      → take n (drop (start + taken - n) buf)
       ≡ take (line_length result
       (length (dropped ++ rest) - length (dropped' ++ drop (start + taken) buf)))
       (dropped ++ rest)
-  line-after = rw (← drop-drop taken start buf, dropped_is) ((shown result).bytes
-      ∙ line_taken old new dropped rest taken result (omega (arith, within_rest)) came)
+  line-after n is = rw (is, ← drop-drop taken start buf, step.dropped_is) (shown result
+      ∙ line_taken old new dropped rest taken result step.within step.comes)
+    where
+      shown : (result : Result (Option Event) AllocError)
+          → take (line_length result taken) (drop (start + taken - line_length result taken) buf)
+          ≡ take (line_length result taken) rest
+      shown (Ok None) = refl
+      shown (Err error) = refl
+      shown (Ok (Some event)) = by_length (refuses_length (event_meant event))
+        where
+          by_length : (too_long : Bool)
+              → take (if too_long then 0 else taken)
+              (drop (start + taken - (if too_long then 0 else taken)) buf)
+              ≡ take (if too_long then 0 else taken) rest
+          by_length true = refl
+          by_length false = ap (λ n. take taken (drop n buf)) (omega arith)
 
   pub runs_out-after : OnErr result (MayRunOut old.limit (dropped ++ rest))
-  runs_out-after = runs_out old new dropped rest taken result came
+  runs_out-after = runs_out old new dropped rest taken result step.comes

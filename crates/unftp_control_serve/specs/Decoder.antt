@@ -1,5 +1,5 @@
 -- The pending bytes of a decoder.
-use Rattle.std.specs.Prelude.{◌≡◌, ℕ, ◌+◌, ◌-◌, ◌^◌, ◌≤◌, Bool, false, if◌then◌else◌, List, [], ◌∷◌, ◌++◌, length, min, max, take, drop, Option, Some, None, Result, Ok, Err, MatchResult, MatchOption, IfSome, option_map}
+use Rattle.std.specs.Prelude.{◌≡◌, ℕ, ◌+◌, ◌-◌, ◌^◌, ◌≤◌, Bool, false, if◌then◌else◌, List, [], ◌∷◌, ◌++◌, length, min, max, take, drop, Option, Some, None, Result, Ok, Err, MatchResult, MatchOption, IfSome}
 use Rattle.unftp_control_defs.specs.Bytes.{Bytes, LF, Lacks}
 use Rattle.unftp_control_defs.specs.Buffer.{held_after_piece}
 use Rattle.unftp_control_defs.specs.Events.{FtpEvent, exceeds}
@@ -7,7 +7,6 @@ use Rattle.unftp_control_defs.specs.Lines.{lines_of}
 use Rattle.unftp_control_line_parser.specs.Memory.{MayTakeMemory}
 use Rattle.unftp_control_defs.specs.TakingSteps.{TakesEvent}
 use Rattle.unftp_control_codecs.specs.Codec.{Codec}
-use Rattle.unftp_control_codecs.specs.Decoding.{Decoded, IsOutOfMemory, returned_event}
 pub use Rattle.unftp_control_codecs.specs.FirstLine.{kept_length}
 use Rattle.unftp_control_codecs.specs.FirstLine.{IsDropped, IsScannedWithin}
 use Rattle.unftp_control_serve.specs.declared.event.Event.{Event}
@@ -151,9 +150,3 @@ line_length (Err _) taken = 0
 abbrev pub line_after : {E : Type 0} → Pending → Result (Option Event) E → Pending → Bytes
 line_after before result after =
     take (line_length result (length before.bytes - length after.bytes)) before.bytes
-
--- the event that an answer of the codec is, if any; or out of memory
-abbrev pub ReturnsEvent : {E : Type 0} → Decoded → Result (Option Event) E → Type 0
-ReturnsEvent answer result = MatchResult result
-    (λ event. (returned_event answer ≡ option_map event_meant event) × ¬ IsOutOfMemory answer)
-    (λ _. IsOutOfMemory answer)

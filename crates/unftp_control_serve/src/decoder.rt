@@ -1,16 +1,20 @@
 //! The pending bytes, and the events of their lines.
-ghost use Rattle.std.specs.Prelude.{◌≡◌, ◌≤◌, ◌+◌, [], None, Some, IfSome, OnOk, OnErr, length};
-ghost use Rattle.unftp_control_serve.specs.Decoder.{MayRunOut, TakesNext, ReturnsEvent, buffered_after, cleared, kept_bytes, line_after, line_length, no_bytes, pushed, saturating_u64, settled};
+ghost use Rattle.std.specs.Prelude.{◌≡◌, ◌≤◌, ◌+◌, [], None, Some, IfOk, IfSome, OnOk, OnErr, length};
+ghost use Rattle.unftp_control_defs.specs.Events.{event_of};
+ghost use Rattle.unftp_control_defs.specs.Outcome.{outcome};
+ghost use Rattle.unftp_control_line_parser.specs.Memory.{MayTakeMemory};
+ghost use Rattle.unftp_control_serve.specs.Decoder.{MayRunOut, TakesNext, buffered_after, cleared, kept_bytes, line_after, no_bytes, pushed, saturating_u64, settled};
+ghost use Rattle.unftp_control_serve.specs.EventMeaning.{event_meant};
 
 use crate::event::Event;
 use crate::skipped::Skipped;
 use std::alloc::{AllocError, Global};
 use std::marker::Model;
-use unftp_control_codecs::FtpCodec;
+use unftp_control_codecs::{FirstLine, FtpCodec};
 use unftp_control_defs::buffer::PendingBytes;
 use unftp_control_defs::count::Count;
-use unftp_control_message::Command;
-use unftp_control_message::reply::error::{ControlChanError, ControlChanErrorKind};
+use unftp_control_line_parser::parse;
+use unftp_control_message::reply::error::{ControlChanErrorKind, ParseErrorKind};
 
 /// Cuts an input that comes in pieces into lines, and returns the event of each: for a server with
 /// an event loop of its own. A piece is pushed, and events are taken until there is none; between
@@ -153,37 +157,31 @@ impl EventDecoder {
         ensures may_run_out { OnErr result (MayRunOut self.old.limit self.old.bytes) }
         ensures never_fewer { self.old.scanned ≤ self.new.scanned }
     {
-        let event = self.take_next()?;
-        if event.is_none() {
-            self.settle();
-        }
-        Ok(event)
-    }
-
-    /// Takes the first line, whose bytes stay in the buffer.
-    fn take_next(&mut self) -> Result<Option<Event>, AllocError>
-        ensures takes_next { TakesNext self.old result self.new }
-        ensures line { self.new.line ≡ line_after self.old result self.new }
-        ensures buffered { self.new.buffered ≡ self.old.buffered }
-        ensures limit { self.new.limit ≡ self.old.limit }
-        ensures held { self.new.held ≡ self.old.held }
-        ensures scanned { OnOk result
-            (self.new.scanned + self.new.unscanned ≡ self.old.scanned + self.old.unscanned) }
-        ensures no_memory { OnErr result
-            (self.new.scanned ≤ self.old.scanned + self.old.unscanned) }
-        // out of memory is returned only for a complete line that may take some
-        ensures may_run_out { OnErr result (MayRunOut self.old.limit self.old.bytes) }
-        ensures never_fewer { self.old.scanned ≤ self.new.scanned }
-    {
+        self.line = 0;
         let alloc = *self.buffer.bytes.allocator();
         let pending = self.buffer.pending();
-        let (taken, answer) = self.codec.decode_slice(alloc, pending);
-        let (front, _) = pending.split_at(taken);
-        self.skipped.go_on(self.codec.skipping(), front);
-        self.buffer.start += taken;
-        let event = event_from(answer);
-        self.line = line_length(&event, taken);
-        event
+        match self.codec.find_line(pending) {
+            FirstLine::Incomplete { dropped } => {
+                let (front, _) = pending.split_at(dropped);
+                self.skipped.go_on(self.codec.skipping(), front);
+                self.buffer.start += dropped;
+                self.settle();
+                Ok(None)
+            }
+            FirstLine::TooLong { length } => {
+                self.skipped = Skipped::none();
+                self.buffer.start += length;
+                Ok(Some(Event::Refused(ControlChanErrorKind::LineTooLong.into())))
+            }
+            FirstLine::Complete { length } => {
+                let (line, _) = pending.split_at(length);
+                let event = event_of(alloc, line)?;
+                self.codec.reset();
+                self.buffer.start += length;
+                self.line = length;
+                Ok(Some(event))
+            }
+        }
     }
 
     /// Removes the lines that were taken: the pending bytes move to the start of the buffer.
@@ -207,27 +205,16 @@ impl EventDecoder {
     }
 }
 
-/// The event that the codec returns, if any; or out of memory.
-fn event_from(
-    answer: Result<Option<Command>, ControlChanError>,
-) -> Result<Option<Event>, AllocError>
-    ensures { ReturnsEvent answer result }
+/// The event of a line that is not too long; or out of memory.
+fn event_of(alloc: Global, line: &[u8]) -> Result<Event, AllocError>
+    ensures ok { IfOk result (λ event. event_meant event ≡ event_of (outcome line.now)) }
+    ensures err { OnErr result (MayTakeMemory line.now) }
 {
-    match answer {
-        Ok(command) => Ok(command.map(Event::Command)),
+    match parse(alloc, line) {
+        Ok(command) => Ok(Event::Command(command)),
         Err(error) => match error.kind() {
-            ControlChanErrorKind::OutOfMemory => Err(AllocError),
-            _ => Ok(Some(Event::Refused(error))),
+            ParseErrorKind::OutOfMemory => Err(AllocError),
+            _ => Ok(Event::Refused(error.into())),
         },
-    }
-}
-
-/// How many of the bytes that were taken are those of the event's line: none where it is too long.
-fn line_length(event: &Result<Option<Event>, AllocError>, taken: usize) -> usize
-    ensures { result ≡ line_length event.now taken }
-{
-    match event {
-        Ok(Some(event)) if !event.is_line_too_long() => taken,
-        _ => 0,
     }
 }
