@@ -43,19 +43,24 @@ fn later_len(bytes: &[u8]) -> Option<usize>
     let mut len = 0usize;
     let mut rest = bytes;
     'parts: loop {
-        let first = 2 * cr_nul_count(rest);
-        let (_, part) = rest.split_at(first);
-        let end = fresh_len(part);
-        let (_, after) = part.split_at(end);
-        if begins_with_line_end(after) {
-            return Some(len + first + end);
+        if begins_with_cr_nul(rest) {
+            let run = 2 * cr_nul_count(rest);
+            let (_, further) = rest.split_at(run);
+            len += run;
+            rest = further;
+        } else {
+            let end = fresh_len(rest);
+            let (_, after) = rest.split_at(end);
+            if begins_with_line_end(after) {
+                return Some(len + end);
+            }
+            if !begins_with_cr_nul(after) {
+                return None;
+            }
+            let (_, further) = after.split_at(2);
+            len += end + 2;
+            rest = further;
         }
-        if !begins_with_cr_nul(after) {
-            return None;
-        }
-        let (_, further) = after.split_at(2);
-        len += first + end + 2;
-        rest = further;
     }
 }
 

@@ -113,6 +113,11 @@ unescaped_run (a ∷ b ∷ bytes) = by_test (unescaped_run bytes) ((a == CR) && 
         rw (twice, next) (ap (λ t. CR ∷ t) more)
     by_test more false e = rw e refl
 
+pub some_in_run : (bytes : Bytes) → begins_with_cr_nul bytes ≡ true → 1 ≤ cr_nul_count bytes
+some_in_run [] begins = absurd (cc)
+some_in_run (a ∷ []) begins = absurd (cc)
+some_in_run (a ∷ b ∷ bytes) begins = rw begins (omega arith)
+
 -- what a value has so far, with the carriage returns of a run after it
 pub with_run : (sent value filled rest part : Bytes) (n m : ℕ)
     → unescaped sent ≡ value ++ unescaped rest → part ≡ drop (2 * cr_nul_count rest) rest

@@ -174,16 +174,20 @@ pub fn unescape(alloc: Global, sent: &[u8]) -> Result<Vec<u8>, AllocError>
     let mut value = Vec::with_capacity(alloc, sent.len())?;
     let mut rest = sent;
     'parts: loop {
-        let count = cr_nul_count(rest);
-        value.resize(value.len() + count, CR)?;
-        let (_, part) = rest.split_at(2 * count);
-        let Some(end) = memchr(CR, part) else {
+        if begins_with_cr_nul(rest) {
+            let count = cr_nul_count(rest);
+            value.resize(value.len() + count, CR)?;
+            let (_, further) = rest.split_at(2 * count);
+            rest = further;
+        } else {
+            let Some(end) = memchr(CR, rest) else {
+                value.extend_from_slice(rest)?;
+                return Ok(value);
+            };
+            let (part, further) = rest.split_at(end + 1);
             value.extend_from_slice(part)?;
-            return Ok(value);
-        };
-        let (front, further) = part.split_at(end + 1);
-        value.extend_from_slice(front)?;
-        rest = after_nul(further);
+            rest = after_nul(further);
+        }
     }
 }
 
