@@ -1,8 +1,11 @@
 //! Data connections between two addresses.
 use crate::address::unmapped;
-use std::io;
-use std::net::{IpAddr, SocketAddr};
-use tokio::net::{TcpListener, TcpSocket, TcpStream};
+use std::io::{self, ErrorKind};
+use std::net::{self, IpAddr, SocketAddr};
+use std::os::unix::io::AsRawFd;
+use tokio::io::unix::AsyncFd;
+use tokio::io::Interest;
+use tokio::net::TcpSocket;
 
 /// A socket of an address and a port, or of one that the system picks where the port is 0. It may
 /// have the port of a connection that was just closed.
@@ -13,13 +16,24 @@ pub fn bound(own: SocketAddr) -> io::Result<TcpSocket> {
     Ok(socket)
 }
 
-/// The first connection from this address. Others are closed.
-pub async fn accept(listener: &TcpListener, from: IpAddr) -> io::Result<TcpStream> {
+/// The first connection from this address, none of whose calls waits. Others are closed. The
+/// listener is one whose calls don't wait either, and the runtime only learns of it where no
+/// connection is there yet.
+pub async fn accept(listener: &net::TcpListener, from: IpAddr) -> io::Result<net::TcpStream> {
     loop {
-        let (tcp, peer) = listener.accept().await?;
-        if unmapped(peer.ip()) == from {
-            return Ok(tcp);
+        match listener.accept() {
+            Ok((tcp, peer)) if unmapped(peer.ip()) == from => {
+                tcp.set_nonblocking(true)?;
+                return Ok(tcp);
+            }
+            Ok((_, peer)) => {
+                tracing::warn!(%peer, "a data connection of another address was closed");
+            }
+            Err(error) if error.kind() == ErrorKind::WouldBlock => {
+                let waiting = AsyncFd::with_interest(listener.as_raw_fd(), Interest::READABLE)?;
+                drop(waiting.readable().await?);
+            }
+            Err(error) => return Err(error),
         }
-        tracing::warn!(%peer, "a data connection of another address was closed");
     }
 }

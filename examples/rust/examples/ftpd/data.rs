@@ -5,10 +5,11 @@ use std::net::{self, IpAddr, Shutdown, SocketAddr};
 use std::ops::RangeInclusive;
 use std::sync::Arc;
 use std::time::Duration;
-use tokio::net::{TcpListener, TcpStream};
+use tokio::net::TcpStream;
+use tokio::time::timeout;
 use tokio_rustls::rustls::{self, ServerConnection};
+use tokio_rustls::TlsAcceptor;
 use unftp_control_examples::connection::{accept, bound};
-use unftp_control_examples::stream::Stream;
 
 /// The ends of a control connection. Those of its data connections have the same addresses.
 #[derive(Clone, Copy, Debug)]
@@ -26,37 +27,44 @@ pub enum DataPort {
     #[default]
     Unset,
     /// The server listens: after PASV or EPSV.
-    Passive(TcpListener),
+    Passive(net::TcpListener),
     /// The client listens: after PORT or EPRT.
     Active(SocketAddr),
 }
 
 impl DataPort {
-    /// Opens the data connection. One that another address opens is closed, and the client's own is
-    /// waited for.
-    pub async fn open(self, ends: Ends) -> io::Result<TcpStream> {
+    /// Opens the data connection, none of whose calls waits. One that another address opens is
+    /// closed, and the client's own is waited for.
+    pub async fn open(self, ends: Ends) -> io::Result<net::TcpStream> {
         match self {
             DataPort::Unset => Err(ErrorKind::NotConnected.into()),
             DataPort::Passive(listener) => accept(&listener, ends.client).await,
-            DataPort::Active(address) => bound((ends.server, 0).into())?.connect(address).await,
+            DataPort::Active(address) => {
+                bound((ends.server, 0).into())?.connect(address).await?.into_std()
+            }
         }
     }
 }
 
 /// Listens for a client's data connection, on one of these ports. Each search begins elsewhere, so
 /// that others can't tell the next port.
-pub fn listen(address: IpAddr, ports: &RangeInclusive<u16>) -> io::Result<(TcpListener, u16)> {
+pub fn listen(
+    address: IpAddr,
+    ports: &RangeInclusive<u16>,
+) -> io::Result<(net::TcpListener, u16)> {
     let (first, last) = (*ports.start(), *ports.end());
     let start = first + (OsRng.next_u32() % ports.len() as u32) as u16;
-    let listen_on = |port| bound((address, port).into())?.listen(8);
+    let listen_on = |port| net::TcpListener::bind((address, port));
     let free = (start..=last).chain(first..start).find_map(|port| match listen_on(port) {
         Err(error) if error.kind() == ErrorKind::AddrInUse => None,
         listening => Some(listening.map(|listener| (listener, port))),
     });
-    free.unwrap_or_else(|| Err(ErrorKind::AddrInUse.into()))
+    let (listener, port) = free.unwrap_or_else(|| Err(ErrorKind::AddrInUse.into()))?;
+    listener.set_nonblocking(true)?;
+    Ok((listener, port))
 }
 
-/// An open data connection, whose calls wait.
+/// An open data connection.
 pub struct DataStream {
     tcp: Arc<net::TcpStream>,
     tls: Option<ServerConnection>,
@@ -73,20 +81,27 @@ impl Drop for HangUp {
 }
 
 impl DataStream {
-    /// Over this connection, each of whose calls waits for so long at most.
-    pub fn new(stream: Stream, patience: Duration) -> io::Result<DataStream> {
-        let (tcp, tls) = match stream {
-            Stream::Clear(tcp) => (tcp, None),
-            Stream::Tls(tls) => {
-                let (tcp, tls) = tls.into_inner();
-                (tcp, Some(tls))
-            }
-        };
-        let tcp = tcp.into_std()?;
-        tcp.set_nonblocking(false)?;
-        tcp.set_read_timeout(Some(patience))?;
-        tcp.set_write_timeout(Some(patience))?;
-        Ok(DataStream { tcp: Arc::new(tcp), tls })
+    /// In clear text.
+    pub fn clear(tcp: net::TcpStream) -> DataStream {
+        DataStream { tcp: Arc::new(tcp), tls: None }
+    }
+
+    /// Under TLS, which begins within a time.
+    pub async fn accept_tls(
+        tcp: net::TcpStream,
+        acceptor: &TlsAcceptor,
+        patience: Duration,
+    ) -> io::Result<DataStream> {
+        let accepting = acceptor.accept(TcpStream::from_std(tcp)?);
+        let (tcp, tls) = timeout(patience, accepting).await??.into_inner();
+        Ok(DataStream { tcp: Arc::new(tcp.into_std()?), tls: Some(tls) })
+    }
+
+    /// Lets each call wait, for so long at most.
+    pub fn wait_at_most(&self, patience: Duration) -> io::Result<()> {
+        self.tcp.set_nonblocking(false)?;
+        self.tcp.set_read_timeout(Some(patience))?;
+        self.tcp.set_write_timeout(Some(patience))
     }
 
     /// What ends it.

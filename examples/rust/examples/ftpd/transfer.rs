@@ -11,12 +11,10 @@ use std::mem;
 use std::sync::atomic::{AtomicU64, Ordering};
 use std::sync::Arc;
 use std::time::Duration;
-use tokio::io::AsyncWriteExt;
 use tokio::task::spawn_blocking;
 use tokio::time::timeout;
 use tokio_rustls::TlsAcceptor;
 use unftp_control::{Reply, ReplyCode as Code};
-use unftp_control_examples::stream::Stream;
 
 /// How many bytes of a file are read or written at a time.
 const PART: usize = 256 * 1024;
@@ -37,6 +35,8 @@ pub enum Representation {
 pub enum Work {
     /// Sends a file from an offset on, after which it has so many bytes.
     Send { file: File, offset: u64, size: u64, representation: Representation },
+    /// Sends bytes.
+    SendBytes(Vec<u8>),
     /// Sends a listing.
     List(Box<Listing>),
     /// Receives a file.
@@ -113,34 +113,22 @@ impl Transfer {
     /// thread of its own waits for the client and for the disk. It ends with the connection, which
     /// is lost where this is dropped.
     pub async fn run(mut self, work: Work) -> Result<(), Fault> {
-        let mut stream = self.open().await.map_err(Fault::NoConnection)?;
-        if let Some(bytes) = work.in_memory() {
-            return self.send_at_once(&mut stream, &bytes).await.map_err(Fault::Connection);
-        }
-        let stream = DataStream::new(stream, self.stall).map_err(Fault::Connection)?;
-        let _hang_up = stream.hang_up();
-        let transfer = OpenTransfer { stream, count: self.count };
+        let stream = self.open().await.map_err(Fault::NoConnection)?;
+        let mut transfer = OpenTransfer { stream, count: self.count };
+        let Some(work) = transfer.send_at_once(work)? else { return Ok(()) };
+        transfer.stream.wait_at_most(self.stall).map_err(Fault::Connection)?;
+        let _hang_up = transfer.stream.hang_up();
         let done = spawn_blocking(move || transfer.run(work)).await;
         done.unwrap_or_else(|error| Err(Fault::File(error.into())))
     }
 
-    async fn open(&mut self) -> io::Result<Stream> {
+    async fn open(&mut self) -> io::Result<DataStream> {
         let port = mem::take(&mut self.port);
         let tcp = timeout(self.stall, port.open(self.ends)).await??;
-        let stream = Stream::Clear(tcp);
         match &self.acceptor {
-            Some(acceptor) => stream.accept_tls(acceptor, self.stall).await,
-            None => Ok(stream),
+            Some(acceptor) => DataStream::accept_tls(tcp, acceptor, self.stall).await,
+            None => Ok(DataStream::clear(tcp)),
         }
-    }
-
-    async fn send_at_once(&self, stream: &mut Stream, bytes: &[u8]) -> io::Result<()> {
-        let sent = async {
-            stream.write_all(bytes).await?;
-            self.count.fetch_add(bytes.len() as u64, Ordering::Relaxed);
-            stream.shutdown().await
-        };
-        timeout(self.stall, sent).await?
     }
 }
 
@@ -175,6 +163,26 @@ struct OpenTransfer {
 }
 
 impl OpenTransfer {
+    /// Sends a small file in clear text that the kernel has in memory, as far as the connection
+    /// takes it without a wait, and returns what is left to be done.
+    fn send_at_once(&mut self, work: Work) -> Result<Option<Work>, Fault> {
+        let in_memory = if self.stream.is_tls() { None } else { work.in_memory() };
+        let Some(mut bytes) = in_memory else { return Ok(Some(work)) };
+        match self.stream.write(&bytes) {
+            Ok(count) => {
+                self.count(count);
+                bytes.drain(..count);
+            }
+            Err(error) if error.kind() == ErrorKind::WouldBlock => {}
+            Err(error) => return Err(Fault::Connection(error)),
+        }
+        if !bytes.is_empty() {
+            return Ok(Some(Work::SendBytes(bytes)));
+        }
+        self.stream.finish().map_err(Fault::Connection)?;
+        Ok(None)
+    }
+
     fn run(mut self, work: Work) -> Result<(), Fault> {
         match work {
             Work::Send { file, offset, representation: Representation::Image, .. }
@@ -190,6 +198,10 @@ impl OpenTransfer {
                     Ok(())
                 })
             }
+            Work::SendBytes(mut bytes) => self.send(|part| {
+                mem::swap(part, &mut bytes);
+                Ok(())
+            }),
             Work::List(mut listing) => self.send(|part| listing.next_part(part)),
             Work::Receive { file, start, representation } => {
                 self.receive(Sink::new(file, start, representation).map_err(Fault::File)?)

@@ -3,11 +3,11 @@ use crate::connection::{accept, bound};
 use crate::stream::Stream;
 use std::future::Future;
 use std::io::{self, ErrorKind};
-use std::net::{IpAddr, SocketAddr};
+use std::net::{self, IpAddr, SocketAddr};
 use std::sync::atomic::{AtomicU64, Ordering::Relaxed};
 use std::time::Duration;
 use tokio::io::{split, AsyncReadExt, AsyncWriteExt, ReadHalf, WriteHalf};
-use tokio::net::{TcpListener, TcpStream};
+use tokio::net::TcpStream;
 use tokio::sync::{oneshot, watch};
 use tokio::time::{sleep, timeout};
 use tokio_rustls::TlsAcceptor;
@@ -33,8 +33,8 @@ pub enum Direction {
 pub struct Route {
     /// Which end connects to the relay.
     pub direction: Direction,
-    /// Where it connects to.
-    pub listener: TcpListener,
+    /// Where it connects to: what [`listen`] returned.
+    pub listener: net::TcpListener,
     /// The only address from which it may.
     pub from: IpAddr,
     /// The relay's own address toward the other end, with any port.
@@ -98,9 +98,9 @@ impl Transfer {
 }
 
 /// Listens at an address, on a port that the system picks.
-pub fn listen(mut own: SocketAddr) -> io::Result<TcpListener> {
+pub fn listen(mut own: SocketAddr) -> io::Result<net::TcpListener> {
     own.set_port(0);
-    bound(own)?.listen(4)
+    bound(own)?.listen(4)?.into_std()
 }
 
 async fn relay(
@@ -148,6 +148,7 @@ async fn relay(
 async fn open(route: Route) -> io::Result<(Stream, TcpStream)> {
     let accepted = timeout(ACCEPTING, accept(&route.listener, route.from)).await??;
     drop(route.listener);
+    let accepted = TcpStream::from_std(accepted)?;
     let connected = match connect(route.own, route.to).await {
         Ok(connected) => connected,
         Err(error) => {
