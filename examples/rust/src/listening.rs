@@ -9,7 +9,7 @@ use std::task::Poll;
 use std::time::Duration;
 use tokio::net::{TcpListener, TcpStream};
 use tokio::signal::unix::{signal, SignalKind};
-use tokio::sync::watch;
+use tokio::sync::{watch, Semaphore};
 use tokio::task::JoinSet;
 use tokio::time::{sleep, timeout};
 
@@ -36,6 +36,9 @@ pub struct Connected {
     /// When the program is to end.
     pub stop: Stop,
 }
+
+/// How many connections may be refused at a time. Beyond them one is closed without a word.
+const REFUSALS: usize = 16;
 
 /// How many connections each address has.
 type Counts = Arc<Mutex<HashMap<IpAddr, usize>>>;
@@ -88,6 +91,7 @@ where
     F: Future<Output = ()> + Send + 'static,
 {
     let counts = Counts::default();
+    let refusals = Arc::new(Semaphore::new(REFUSALS));
     let (stopping, stop) = watch::channel(());
     let mut interrupted = signal(SignalKind::interrupt())?;
     let mut terminated = signal(SignalKind::terminate())?;
@@ -98,10 +102,12 @@ where
                 Ok((tcp, peer)) => {
                     let counted = Counted::new(&counts, unmapped(peer.ip()), limits);
                     let (is_refused, stop) = (counted.is_none(), stop.clone());
+                    let refusal = is_refused.then(|| refusals.clone().try_acquire_owned());
+                    let Ok(refusal) = refusal.transpose() else { continue };
                     let talk = session(Connected { tcp, peer, is_refused, stop });
                     sessions.spawn(async move {
                         talk.await;
-                        drop(counted);
+                        drop((counted, refusal));
                     });
                 }
                 // as where no file descriptor is left

@@ -40,7 +40,7 @@ pub fn refuse(code: Code, text: &'static str) -> Answered {
 
 /// The verbs that are answered, for HELP.
 const VERBS: [&str; 5] = [
-    "ABOR ALLO APPE AUTH CDUP CWD DELE EPRT EPSV",
+    "ABOR ACCT ALLO APPE AUTH CDUP CWD DELE EPRT EPSV",
     "FEAT HELP LIST MDTM MFMT MKD MLSD MLST MODE",
     "NLST NOOP OPTS PASS PASV PBSZ PORT PROT PWD QUIT",
     "REST RETR RMD RNFR RNTO SITE SIZE STAT STOR STOU",
@@ -50,9 +50,14 @@ const VERBS: [&str; 5] = [
 impl Session {
     /// What is done for a line.
     pub async fn answer(&mut self, line: &OwnedLine) -> Answer {
+        // RNTO follows at once (RFC 959, section 4.1.3)
+        let renamed = self.renamed.take();
         let answered = match self.admit(line).await {
             Some(answer) => return answer,
             None => match &line.event {
+                Event::Command(Command::Rnto { file }) => {
+                    self.rename_to(renamed, &named(file, line)).await
+                }
                 Event::Command(command) => self.command(command, line).await,
                 Event::Refused(refusal) => self.refused(*refusal, line),
             },
@@ -74,6 +79,12 @@ impl Session {
                 )));
             }
         }
+        if let Event::Command(Command::Auth { protocol }) = &line.event {
+            // one that is refused leaves the login (RFC 2228, section 3)
+            if let Err(refusal) = self.auth(*protocol) {
+                return Some(Answer::Reply(refusal));
+            }
+        }
         let rights = match self.login.event(&line.event) {
             LoginStep::PassOn => return None,
             LoginStep::Answer(reply) => return Some(Answer::Reply(reply)),
@@ -89,7 +100,6 @@ impl Session {
 
     /// The answer to a command of somebody who may give it.
     async fn command(&mut self, command: &Command<'_>, line: &OwnedLine) -> Answered {
-        let renamed = self.renamed.take();
         match command {
             Command::Noop => reply(Code::COMMAND_OKAY, "OK"),
             Command::Quit => Ok(Answer::Quit(Reply::new(Code::CLOSING_CONTROL_CONNECTION, "Bye"))),
@@ -97,6 +107,9 @@ impl Session {
             Command::Feat => Ok(Answer::Reply(self.features())),
             Command::Help => Ok(Answer::Reply(help())),
             Command::Stat { path } => self.status(path.as_deref()),
+            Command::Acct { .. } => {
+                reply(Code::COMMAND_OKAY_NOT_IMPLEMENTED, "No account is needed")
+            }
             Command::Allo => reply(Code::COMMAND_OKAY_NOT_IMPLEMENTED, "No room need be reserved"),
             Command::Opts { option: Opt::Utf8 { on: true } } => reply(Code::COMMAND_OKAY, "OK"),
             Command::Opts { .. } => {
@@ -120,7 +133,6 @@ impl Session {
             Command::Rest { offset } => self.restart(*offset),
             Command::Pwd => reply(Code::DIR_CREATED, self.directory.quoted()),
             Command::Cdup => self.change_directory(b"..").await,
-            Command::Rnto { file } => self.rename_to(renamed, &named(file, line)).await,
             command => self.file_command(command, line).await,
         }
     }
@@ -234,7 +246,7 @@ impl Session {
         reply(Code::CLOSING_DATA_CONNECTION, "No transfer is under way")
     }
 
-    fn auth(&mut self, protocol: AuthParam) -> Answered {
+    fn auth(&self, protocol: AuthParam) -> Answered {
         match protocol {
             _ if self.server.tls.is_none() => {
                 refuse(Code::COMMAND_NOT_IMPLEMENTED, "There is no certificate")

@@ -7,7 +7,7 @@ use tokio::io::{AsyncReadExt, AsyncWriteExt};
 use tokio::time::timeout;
 use tokio_rustls::TlsAcceptor;
 use tokio_util::codec::{Decoder, Encoder};
-use unftp_control::{CodecError, FtpLineCodec, OwnedLine, Reply};
+use unftp_control::{CodecError, Command, Event, FtpLineCodec, OwnedLine, Reply};
 use unftp_control_examples::stream::Stream;
 use unftp_control_examples::telnet::Telnet;
 
@@ -78,9 +78,11 @@ impl Control {
         !self.waiting.is_empty()
     }
 
-    /// Whether another line may wait. Where none may, the client's lines stay unread.
+    /// Whether another line may wait. Where none may, the client's lines stay unread. So is its end
+    /// after QUIT, which ends no transfer (RFC 959, section 4.1.1).
     pub fn may_wait(&self) -> bool {
-        self.waiting.len() < WAITING
+        let quits = |line: &OwnedLine| matches!(line.event, Event::Command(Command::Quit));
+        self.waiting.len() < WAITING && !self.waiting.iter().any(quits)
     }
 
     /// Takes a reply that is to be sent.

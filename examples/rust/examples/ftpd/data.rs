@@ -1,5 +1,6 @@
 //! Data connections: a client names where it listens, or the server listens for it.
 use pbkdf2::password_hash::rand_core::{OsRng, RngCore};
+use rustix::io::ioctl_fionread;
 use std::io::{self, ErrorKind, Read, Write};
 use std::net::{self, IpAddr, Shutdown, SocketAddr};
 use std::ops::RangeInclusive;
@@ -9,7 +10,11 @@ use tokio::net::TcpStream;
 use tokio::time::timeout;
 use tokio_rustls::rustls::{self, ServerConnection};
 use tokio_rustls::TlsAcceptor;
+use unftp_control_examples::address::unmapped;
 use unftp_control_examples::connection::{accept, bound};
+
+/// How many bytes of a client are dropped that it sends where it is to read.
+const UNREAD: u64 = 1 << 20;
 
 /// The ends of a control connection. Those of its data connections have the same addresses.
 #[derive(Clone, Copy, Debug)]
@@ -18,6 +23,28 @@ pub struct Ends {
     pub client: IpAddr,
     /// That of the server.
     pub server: IpAddr,
+    /// The interface, where the addresses are link-local ones of IPv6.
+    scope: u32,
+}
+
+impl Ends {
+    /// Those of a control connection.
+    pub fn new(client: SocketAddr, server: SocketAddr) -> Ends {
+        let scope = match server {
+            SocketAddr::V4(_) => 0,
+            SocketAddr::V6(server) => server.scope_id(),
+        };
+        Ends { client: unmapped(client.ip()), server: unmapped(server.ip()), scope }
+    }
+
+    /// A port of one of the addresses.
+    fn at(self, address: IpAddr, port: u16) -> SocketAddr {
+        let mut address = SocketAddr::new(address, port);
+        if let SocketAddr::V6(address) = &mut address {
+            address.set_scope_id(self.scope);
+        }
+        address
+    }
 }
 
 /// Where the next data connection comes from.
@@ -40,7 +67,8 @@ impl DataPort {
             DataPort::Unset => Err(ErrorKind::NotConnected.into()),
             DataPort::Passive(listener) => accept(&listener, ends.client).await,
             DataPort::Active(address) => {
-                bound((ends.server, 0).into())?.connect(address).await?.into_std()
+                let to = ends.at(address.ip(), address.port());
+                bound(ends.at(ends.server, 0))?.connect(to).await?.into_std()
             }
         }
     }
@@ -48,13 +76,10 @@ impl DataPort {
 
 /// Listens for a client's data connection, on one of these ports. Each search begins elsewhere, so
 /// that others can't tell the next port.
-pub fn listen(
-    address: IpAddr,
-    ports: &RangeInclusive<u16>,
-) -> io::Result<(net::TcpListener, u16)> {
+pub fn listen(ends: Ends, ports: &RangeInclusive<u16>) -> io::Result<(net::TcpListener, u16)> {
     let (first, last) = (*ports.start(), *ports.end());
     let start = first + (OsRng.next_u32() % ports.len() as u32) as u16;
-    let listen_on = |port| net::TcpListener::bind((address, port));
+    let listen_on = |port| net::TcpListener::bind(ends.at(ends.server, port));
     let free = (start..=last).chain(first..start).find_map(|port| match listen_on(port) {
         Err(error) if error.kind() == ErrorKind::AddrInUse => None,
         listening => Some(listening.map(|listener| (listener, port))),
@@ -131,6 +156,16 @@ impl DataStream {
             }
         }
         self.tcp.shutdown(Shutdown::Write)
+    }
+
+    /// Whether the client has sent what nobody has read.
+    pub fn has_unread(&self) -> bool {
+        ioctl_fionread(&*self.tcp).is_ok_and(|count| count > 0)
+    }
+
+    /// Reads and drops what the client sends, up to its end.
+    pub fn drop_unread(&self) {
+        let _ = io::copy(&mut (&*self.tcp).take(UNREAD), &mut io::sink());
     }
 }
 

@@ -80,6 +80,14 @@ impl Session {
         }
     }
 
+    /// Refuses to receive a file from an offset on where there is none, so that none is made.
+    async fn wants_file(&self, named: &[u8], offset: u64) -> Result<(), Reply> {
+        if offset > 0 {
+            self.look_up(named, Folder::facts).await?;
+        }
+        Ok(())
+    }
+
     /// Changes what a client names, where the user may.
     async fn change(
         &self,
@@ -111,6 +119,7 @@ impl Session {
         let offset = mem::take(&mut self.offset);
         self.writes()?;
         self.data_connection()?;
+        self.wants_file(named, offset).await?;
         let (file, facts) = self.in_folder(named, Folder::write).await?;
         let start = Start::Offset(self.start(offset, size(&facts))?);
         self.receive(file, start, "Opening the data connection")
@@ -121,6 +130,7 @@ impl Session {
         let offset = mem::take(&mut self.offset);
         self.writes()?;
         self.data_connection()?;
+        self.wants_file(named, offset).await?;
         let (file, facts) = self.in_folder(named, Folder::append).await?;
         if offset > 0 && offset != size(&facts) {
             return Err(invalid_restart());

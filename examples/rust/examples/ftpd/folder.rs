@@ -37,9 +37,9 @@ impl FilePath {
         [b"/", &self.names.join(&b'/')[..]].concat()
     }
 
-    /// The same for a reply, with U+FFFD for what is not UTF-8.
+    /// The same for a reply, with U+FFFD for what is not UTF-8, and CR NUL for a CR (RFC 854).
     pub fn text(&self) -> String {
-        String::from_utf8_lossy(&self.bytes()).into_owned()
+        String::from_utf8_lossy(&self.bytes()).replace('\r', "\r\0")
     }
 
     /// The same in quotes, with those of its own doubled (RFC 959, appendix II).
@@ -61,6 +61,9 @@ impl FilePath {
         }
     }
 }
+
+/// How often a path is opened that the kernel says to try again.
+const TRIES: usize = 1000;
 
 /// The folder.
 #[derive(Clone)]
@@ -97,11 +100,13 @@ impl Folder {
     /// one.
     fn open_below(&self, path: &FilePath, flags: OFlags, mode: Mode) -> io::Result<OwnedFd> {
         let flags = flags | OFlags::CLOEXEC;
-        let waits = !self.resolve.contains(ResolveFlags::CACHED);
+        let mut left = if self.resolve.contains(ResolveFlags::CACHED) { 1 } else { TRIES };
         loop {
+            left -= 1;
             match fs::openat2(&*self.root, path.relative(), flags, mode, self.resolve) {
                 // While a directory is renamed, the kernel may not know where `..` in a link leads.
-                Err(Errno::AGAIN | Errno::INTR) if waits => {}
+                // It says the same of a file that another process has leased.
+                Err(Errno::AGAIN | Errno::INTR) if left > 0 => {}
                 opened => return Ok(opened?),
             }
         }

@@ -148,7 +148,9 @@ impl Listing {
         let (before, last) = named.split_at(start);
         let path = directory.join(named);
         let facts = folder.facts(&path);
-        let is_pattern = facts.is_err() && last.iter().any(|byte| matches!(byte, b'*' | b'?'));
+        // RFC 3659, section 2.2.2: the paths of MLSD are names
+        let takes_pattern = facts.is_err() && !matches!(form, Form::Facts(_));
+        let is_pattern = takes_pattern && last.iter().any(|byte| matches!(byte, b'*' | b'?'));
         let path = if is_pattern { directory.join(before) } else { path };
         let facts = if is_pattern { folder.facts(&path)? } else { facts? };
         let mut prefix = before.to_vec();

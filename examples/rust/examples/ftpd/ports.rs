@@ -9,8 +9,10 @@ use unftp_control_examples::address::{self, NoAddress};
 impl Session {
     /// Listens for a data connection.
     fn listen(&mut self) -> Result<u16, Reply> {
+        // the port of a listener that was there is free again
+        self.data_port = DataPort::Unset;
         let ports = &self.server.settings.passive_ports;
-        let (listener, port) = data::listen(self.ends.server, ports).map_err(|error| {
+        let (listener, port) = data::listen(self.ends, ports).map_err(|error| {
             tracing::warn!(%error, "no data connection can be listened for");
             Reply::new(Code::CANT_OPEN_DATA_CONNECTION, "No port is free")
         })?;

@@ -30,6 +30,7 @@ pub fn of_error(error: &io::Error) -> Reply {
     let (code, text) = match Errno::from_io_error(error) {
         Some(Errno::NOENT | Errno::NOTDIR) => (Code::FILE_ERROR, "No such file or directory"),
         Some(Errno::ACCESS | Errno::PERM | Errno::ROFS) => (Code::FILE_ERROR, "Permission denied"),
+        Some(Errno::AGAIN) => (Code::TRANSIENT_FILE_ERROR, "The file is busy"),
         Some(Errno::XDEV | Errno::LOOP) => (Code::FILE_ERROR, "It leads out of the folder"),
         Some(Errno::EXIST) => (Code::FILE_ERROR, "There is one already"),
         Some(Errno::NOTEMPTY) => (Code::FILE_ERROR, "The directory is not empty"),

@@ -17,7 +17,6 @@ use std::time::Duration;
 use tokio::time::{sleep, sleep_until, timeout_at, Instant};
 use tracing::{field, info_span, Instrument, Level, Span};
 use unftp_control::{CodecError, Command, Event, Login, OwnedLine, Reply, ReplyCode as Code};
-use unftp_control_examples::address::unmapped;
 use unftp_control_examples::listening::{Connected, Stop};
 use unftp_control_examples::stream::{Stream, TlsAcceptors};
 
@@ -114,7 +113,7 @@ pub async fn serve(server: Arc<Server>, connected: Connected) {
 
 async fn talk(server: Arc<Server>, connected: Connected) -> io::Result<()> {
     let Connected { tcp, peer, is_refused, stop } = connected;
-    let ends = Ends { client: unmapped(peer.ip()), server: unmapped(tcp.local_addr()?.ip()) };
+    let ends = Ends::new(peer, tcp.local_addr()?);
     let mut control = Control::new(Stream::control(tcp)?, server.settings.stall);
     if is_refused {
         tracing::warn!("too many connections");
@@ -209,14 +208,20 @@ impl Session {
     /// The next line.
     async fn line(&mut self, control: &mut Control) -> Result<OwnedLine, End> {
         let idle = Instant::now() + self.server.settings.idle;
-        let deadline = if self.login.name().is_some() { idle } else { idle.min(self.deadline) };
-        tokio::select! {
+        let has_login = self.login.name().is_some();
+        let deadline = if has_login { idle } else { idle.min(self.deadline) };
+        let line = tokio::select! {
             line = timeout_at(deadline, control.line()) => match line {
-                Ok(line) => Ok(line?),
-                Err(_) => Err(End::Unavailable("Idle too long")),
+                Ok(line) => line?,
+                Err(_) => return Err(End::Unavailable("Idle too long")),
             },
-            _ = self.stop.changed() => Err(End::Unavailable("Stopping")),
+            _ = self.stop.changed() => return Err(End::Unavailable("Stopping")),
+        };
+        if has_login {
+            // this line may begin another login
+            self.deadline = Instant::now() + LOGIN_TIME;
         }
+        Ok(line)
     }
 
     /// Transfers, and sends the reply. A client that aborts or is lost ends it. Other lines wait.

@@ -139,10 +139,12 @@ impl Work {
         let Work::Send { file, offset, size: size @ 0..=SMALL, representation } = self else {
             return None;
         };
-        let mut bytes = vec![0; *size as usize];
+        // one more, since some files, as those of /proc, have more than they say
+        let mut bytes = vec![0; *size as usize + 1];
         let area = &mut [IoSliceMut::new(&mut bytes)];
         let count = preadv2(file, area, *offset, ReadWriteFlags::NOWAIT).ok()?;
-        (count == bytes.len()).then(|| representation.sent(bytes))
+        bytes.truncate(count);
+        (count as u64 == *size).then(|| representation.sent(bytes))
     }
 }
 
@@ -180,20 +182,24 @@ impl OpenTransfer {
             return Ok(Some(Work::SendBytes(bytes)));
         }
         self.stream.finish().map_err(Fault::Connection)?;
-        Ok(None)
+        Ok(self.stream.has_unread().then(|| Work::SendBytes(bytes)))
     }
 
     fn run(mut self, work: Work) -> Result<(), Fault> {
         match work {
-            Work::Send { file, offset, representation: Representation::Image, .. }
+            Work::Send { file, offset, size, representation: Representation::Image }
                 if !self.stream.is_tls() =>
             {
-                self.send_file(&file, offset)
+                self.send_file(&file, offset, offset + size)
             }
-            Work::Send { mut file, offset, representation, .. } => {
+            Work::Send { mut file, offset, mut size, representation } => {
                 file.seek(SeekFrom::Start(offset)).map_err(Fault::File)?;
                 self.send(|part| {
-                    (&file).take(PART as u64).read_to_end(part)?;
+                    let count = (&file).take(PART as u64).read_to_end(part)? as u64;
+                    if count == 0 && size > 0 {
+                        return Err(cut_file());
+                    }
+                    size = size.saturating_sub(count);
                     *part = representation.sent(mem::take(part));
                     Ok(())
                 })
@@ -209,11 +215,12 @@ impl OpenTransfer {
         }
     }
 
-    /// Lets the kernel send a file.
-    fn send_file(&mut self, file: &File, mut offset: u64) -> Result<(), Fault> {
+    /// Lets the kernel send a file, which had its end there when the transfer began.
+    fn send_file(&mut self, file: &File, mut offset: u64, end: u64) -> Result<(), Fault> {
         loop {
             match sendfile(self.stream.tcp(), file, Some(&mut offset), PART) {
-                Ok(0) => return self.stream.finish().map_err(Fault::Connection),
+                Ok(0) if offset < end => return Err(Fault::File(cut_file())),
+                Ok(0) => return self.finish(),
                 Ok(count) => self.count(count),
                 Err(Errno::INTR) => {}
                 Err(Errno::IO) => return Err(Fault::File(Errno::IO.into())),
@@ -232,11 +239,21 @@ impl OpenTransfer {
             part.clear();
             next_part(&mut part).map_err(Fault::File)?;
             if part.is_empty() {
-                return self.stream.finish().map_err(Fault::Connection);
+                return self.finish();
             }
             self.stream.write_all(&part).map_err(Fault::Connection)?;
             self.count(part.len());
         }
+    }
+
+    /// Sends the end. To close over unread bytes resets a connection, and what was sent last may be
+    /// lost: so where the client has sent any, its own end is waited for.
+    fn finish(&mut self) -> Result<(), Fault> {
+        self.stream.finish().map_err(Fault::Connection)?;
+        if self.stream.has_unread() {
+            self.stream.drop_unread();
+        }
+        Ok(())
     }
 
     /// Receives a file. What came stays, also where the connection broke: a client goes on from
@@ -261,6 +278,11 @@ impl OpenTransfer {
     fn count(&self, count: usize) {
         self.count.fetch_add(count as u64, Ordering::Relaxed);
     }
+}
+
+/// The fault of a file that has fewer bytes than when its transfer began.
+fn cut_file() -> io::Error {
+    io::Error::new(ErrorKind::UnexpectedEof, "the file was cut")
 }
 
 /// Does what may wait for a disk.
