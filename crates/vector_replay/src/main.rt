@@ -28,7 +28,7 @@ use std::process::ExitCode;
 use std::{env, io};
 use words::{CaseError, Word, read_words};
 
-/// Answers a call on lines, commands and sessions, or one of another subject.
+/// Answers a call on lines and commands, or one of another subject.
 fn answer_call(call: &str, words: &[Word<'_>], answers: &mut Answers) -> Answered {
     match (call, words) {
         ("parse", [line]) => lines::answer_parse(line.bytes()?, answers),
@@ -38,6 +38,13 @@ fn answer_call(call: &str, words: &[Word<'_>], answers: &mut Answers) -> Answere
         ("write", [variant, fields @ ..]) => writing::answer_write(variant, fields, answers),
         ("canonical", [line]) => writing::answer_canonical(line.bytes()?, answers),
         ("forward", [line]) => writing::answer_forward(line.bytes()?, answers),
+        _ => answer_session_call(call, words, answers),
+    }
+}
+
+/// Answers a call on an input in pieces and on sessions, or one of another subject.
+fn answer_session_call(call: &str, words: &[Word<'_>], answers: &mut Answers) -> Answered {
+    match (call, words) {
         ("decode", [limit, pieces @ ..]) => decoding::answer_decode(limit, pieces, answers),
         ("decode_slice", [limit, place, pieces @ ..]) => {
             decoding::answer_decode_slice(limit, place, pieces, answers)
@@ -51,7 +58,7 @@ fn answer_call(call: &str, words: &[Word<'_>], answers: &mut Answers) -> Answere
     }
 }
 
-/// Answers a call on replies, or one that makes texts.
+/// Answers a call on replies, or one of another subject.
 fn answer_reply_call(call: &str, words: &[Word<'_>], answers: &mut Answers) -> Answered {
     match (call, words) {
         ("encode", words) => replies::answer_encode(words, answers),
@@ -61,6 +68,13 @@ fn answer_reply_call(call: &str, words: &[Word<'_>], answers: &mut Answers) -> A
         ("read", [bytes]) => reading::answer_read(bytes.bytes()?, answers),
         ("receive", [limit, steps @ ..]) => reading::answer_receive(limit, steps, answers),
         ("client", [limit, acts @ ..]) => clients::answer_client(limit, acts, answers),
+        _ => answer_text_call(call, words, answers),
+    }
+}
+
+/// Answers a call that makes a reply or a text.
+fn answer_text_call(call: &str, words: &[Word<'_>], answers: &mut Answers) -> Answered {
+    match (call, words) {
         ("reply", [line, given @ ..]) => commands::answer_reply(line.bytes()?, given, answers),
         ("epsv", [port]) => commands::answer_epsv(port, answers),
         ("facts", file) => commands::answer_facts(file, answers),
