@@ -223,9 +223,10 @@ impl Conversation {
         self.advance()
     }
 
-    /// Goes on under TLS. What came in clear text is dropped.
+    /// Goes on under TLS. What came in clear text is dropped, and so is a data connection.
     pub fn begin_tls(&mut self) {
         self.begins_tls = false;
+        self.transfer = None;
         self.protection.is_tls = true;
         self.telnet = Telnet::default();
         self.lines = FtpLineCodec::with_limit(self.relay.limits.line);
@@ -333,7 +334,7 @@ impl Conversation {
                 )
             }
             (Purpose::Active(route), 200..=299) => {
-                self.transfer = Some(Transfer::start(route));
+                self.transfer = Some(Transfer::start(route, self.data_tls()));
                 None
             }
             _ => None,

@@ -8,7 +8,7 @@ use std::sync::atomic::{AtomicU64, Ordering::Relaxed};
 use std::time::Duration;
 use tokio::io::{split, AsyncReadExt, AsyncWriteExt, ReadHalf, WriteHalf};
 use tokio::net::TcpStream;
-use tokio::sync::{oneshot, watch};
+use tokio::sync::watch;
 use tokio::time::{sleep, timeout};
 use tokio_rustls::TlsAcceptor;
 
@@ -41,8 +41,6 @@ pub struct Route {
     pub own: SocketAddr,
     /// Where the relay connects to.
     pub to: SocketAddr,
-    /// What protects the client's end.
-    pub tls: Option<TlsAcceptor>,
     /// How long nothing may be sent in either direction.
     pub patience: Duration,
 }
@@ -61,16 +59,17 @@ pub enum Progress {
 /// A data connection that is awaited or open. It is closed when this is dropped.
 pub struct Transfer {
     progress: watch::Receiver<Progress>,
-    _stop: oneshot::Sender<()>,
+    tls: watch::Sender<Option<TlsAcceptor>>,
 }
 
 impl Transfer {
-    /// Waits for the data connection of a route, and relays it.
-    pub fn start(route: Route) -> Transfer {
+    /// Waits for the data connection of a route, and relays it. The client's end is protected by
+    /// this, if anything.
+    pub fn start(route: Route, tls: Option<TlsAcceptor>) -> Transfer {
         let (report, progress) = watch::channel(Progress::Open);
-        let (stop, stopped) = oneshot::channel();
+        let (tls, level) = watch::channel(tls);
         tokio::spawn(async move {
-            let relayed = relay(route, &report, stopped).await;
+            let relayed = relay(route, &report, level).await;
             if let Err(error) = relayed {
                 tracing::debug!(%error, "data connection");
                 if *report.borrow() == Progress::Open {
@@ -78,7 +77,13 @@ impl Transfer {
                 }
             }
         });
-        Transfer { progress, _stop: stop }
+        Transfer { progress, tls }
+    }
+
+    /// Protects the client's end by this from now on. A connection that is open already is lost:
+    /// its ends may not agree on how it is protected (RFC 4217, section 7).
+    pub fn protect(&self, tls: Option<TlsAcceptor>) {
+        self.tls.send_replace(tls);
     }
 
     /// How far it is.
@@ -106,13 +111,22 @@ pub fn listen(mut own: SocketAddr) -> io::Result<net::TcpListener> {
 async fn relay(
     route: Route,
     report: &watch::Sender<Progress>,
-    mut stopped: oneshot::Receiver<()>,
+    mut level: watch::Receiver<Option<TlsAcceptor>>,
 ) -> io::Result<()> {
     let patience = route.patience;
     let (client, server) = tokio::select! {
         opened = open(route) => opened?,
-        _ = &mut stopped => return Err(ErrorKind::Interrupted.into()),
+        () = dropped(level.clone()) => return Err(ErrorKind::Interrupted.into()),
     };
+    let acceptor = level.borrow_and_update().clone();
+    let client = tokio::select! {
+        protected = protect(client, acceptor) => protected,
+        _ = level.changed() => Err(ErrorKind::Interrupted.into()),
+    };
+    let client = client.map_err(|error| {
+        reset(&server);
+        error
+    })?;
     let (client_reader, client_writer) = split(client);
     let (server_reader, server_writer) = split(Stream::Clear(server));
     let mut down = Flow::new(server_reader, client_writer);
@@ -129,7 +143,7 @@ async fn relay(
     let copied = tokio::select! {
         copied = async { tokio::try_join!(delivered, up.copy(&moved)).map(drop) } => copied,
         _ = stalled(&moved, patience) => Err(ErrorKind::TimedOut.into()),
-        _ = stopped => Err(ErrorKind::Interrupted.into()),
+        _ = level.changed() => Err(ErrorKind::Interrupted.into()),
     };
     let (is_delivered, is_stored) = (down.is_done, up.is_done);
     let client = up.reader.unsplit(down.writer);
@@ -144,8 +158,13 @@ async fn relay(
     copied
 }
 
-/// Both ends, once they are open.
-async fn open(route: Route) -> io::Result<(Stream, TcpStream)> {
+/// Waits until the sender is dropped.
+async fn dropped(mut level: watch::Receiver<Option<TlsAcceptor>>) {
+    while level.changed().await.is_ok() {}
+}
+
+/// Both ends, the client's first, once they are open.
+async fn open(route: Route) -> io::Result<(TcpStream, TcpStream)> {
     let accepted = timeout(ACCEPTING, accept(&route.listener, route.from)).await??;
     drop(route.listener);
     let accepted = TcpStream::from_std(accepted)?;
@@ -156,18 +175,18 @@ async fn open(route: Route) -> io::Result<(Stream, TcpStream)> {
             return Err(error);
         }
     };
-    let (client, server) = match route.direction {
+    Ok(match route.direction {
         Direction::Passive => (accepted, connected),
         Direction::Active => (connected, accepted),
-    };
+    })
+}
+
+/// The client's end, under TLS where there is an acceptor.
+async fn protect(client: TcpStream, acceptor: Option<TlsAcceptor>) -> io::Result<Stream> {
     let client = Stream::Clear(client);
-    let Some(acceptor) = route.tls else { return Ok((client, server)) };
-    match client.accept_tls(&acceptor, ACCEPTING).await {
-        Ok(client) => Ok((client, server)),
-        Err(error) => {
-            reset(&server);
-            Err(error)
-        }
+    match acceptor {
+        Some(acceptor) => client.accept_tls(&acceptor, ACCEPTING).await,
+        None => Ok(client),
     }
 }
 

@@ -91,15 +91,15 @@ impl Conversation {
             ),
             SocketAddr::V6(_) => return None,
         };
-        self.transfer = Some(Transfer::start(Route {
+        let route = Route {
             direction: Direction::Passive,
             listener,
             from: client.ip(),
             own: to_server,
             to,
-            tls: self.data_tls(),
             patience: self.relay.limits.data,
-        }));
+        };
+        self.transfer = Some(Transfer::start(route, self.data_tls()));
         Some(reply)
     }
 
@@ -138,7 +138,6 @@ impl Conversation {
             from: self.addresses.server.ip(),
             own: self.addresses.to_client,
             to,
-            tls: self.data_tls(),
             patience: self.relay.limits.data,
         };
         Ok(Verdict::Send(line.into_bytes(), Purpose::Active(route)))

@@ -32,7 +32,7 @@ impl Conversation {
             }
             Event::Command(Command::Prot { param }) if self.protection.has_size => match param {
                 ProtParam::Clear | ProtParam::Private => {
-                    self.protection.is_private = *param == ProtParam::Private;
+                    self.set_private(*param == ProtParam::Private);
                     (Code::COMMAND_OKAY, "Protection level set")
                 }
                 _ => (Code::PROT_LEVEL_NOT_SUPPORTED, "The levels are C and P"),
@@ -40,6 +40,14 @@ impl Conversation {
             _ => (Code::BAD_COMMAND_SEQUENCE, "AUTH TLS, PBSZ 0 and PROT come in this order"),
         };
         Reply::new(code, text)
+    }
+
+    /// Sets the level of the data connections, also of one that the client has yet to open.
+    fn set_private(&mut self, is_private: bool) {
+        let was_private = std::mem::replace(&mut self.protection.is_private, is_private);
+        if let Some(transfer) = self.transfer.as_ref().filter(|_| was_private != is_private) {
+            transfer.protect(self.data_tls());
+        }
     }
 
     /// Features with those of protection only where they are the relay's.
