@@ -233,13 +233,22 @@ impl Conversation {
         self.input.clear();
     }
 
-    /// Ends it by a 421 of the relay.
-    pub fn refuse(&mut self, text: &'static str) -> Result<(), Error> {
-        let reply = Reply::new(Code::SERVICE_NOT_AVAILABLE, text);
-        reply.encode(&mut self.to_client)?;
+    /// Ends it, by a 421 of the relay where the client is told why. Lines that are owed replies are
+    /// recorded too: the server may do what they ask for.
+    pub fn end(&mut self, end: End) -> Result<(), Error> {
+        let last = match end {
+            End::Silent => None,
+            End::Told(text) => Some(Reply::new(Code::SERVICE_NOT_AVAILABLE, text)),
+        };
+        if let Some(reply) = &last {
+            reply.encode(&mut self.to_client)?;
+        }
         let owed = self.asked.drain(..).map(|asked| asked.exchange);
         for mut exchange in owed.chain(self.waiting.take().map(|(_, exchange)| exchange)) {
-            exchange.note(Answer::Own(reply.clone()));
+            match &last {
+                Some(reply) => exchange.note(Answer::Own(reply.clone())),
+                None => exchange.is_unanswered = true,
+            }
             self.exchanges.push(exchange);
         }
         Ok(())
@@ -288,7 +297,7 @@ impl Conversation {
 
     fn take_reply(&mut self, reply: ReceivedReply<'static>) -> Result<(), End> {
         let Some(asked) = self.asked.front_mut() else { return Err(End::Silent) };
-        if reply.code() < 200 {
+        if matches!(reply.code(), 100..=199) {
             self.to_client.extend_from_slice(reply.bytes());
             asked.exchange.note(Answer::Received(reply));
             return Ok(());

@@ -57,6 +57,9 @@ pub struct Exchange {
     /// Each has a `code`, and also `lines`, unless a part of the client's line is hidden, which the
     /// server may repeat.
     replies: Vec<Answer>,
+    /// Whether the session ended before the final reply. The server may have done what was asked.
+    #[serde(rename = "unanswered", skip_serializing_if = "is_false")]
+    pub(super) is_unanswered: bool,
     /// How long it took to the last reply.
     #[serde(rename = "milliseconds", serialize_with = "milliseconds")]
     took: Duration,
@@ -73,6 +76,7 @@ impl Exchange {
             client,
             line,
             replies: Vec::new(),
+            is_unanswered: false,
             took: Duration::ZERO,
             began: Instant::now(),
         }
@@ -92,9 +96,16 @@ impl Exchange {
     /// Logs it.
     pub fn log(&self) {
         let line = self.line.as_deref().unwrap_or("-");
-        let replies: Vec<String> = self.replies.iter().map(Answer::shown).collect();
+        let mut replies: Vec<String> = self.replies.iter().map(Answer::shown).collect();
+        if self.is_unanswered {
+            replies.push("unanswered".to_string());
+        }
         tracing::info!("{line} -> {} ({} ms)", replies.join(" | "), self.took.as_millis());
     }
+}
+
+fn is_false(value: &bool) -> bool {
+    !value
 }
 
 fn rfc3339<S: Serializer>(came: &OffsetDateTime, serializer: S) -> Result<S::Ok, S::Error> {

@@ -1,6 +1,6 @@
 //! Which lines of clients may be sent to the server.
 use std::collections::BTreeSet;
-use unftp_control::{is_clear, Event, OwnedLine, Refusal, Reply, ReplyCode as Code};
+use unftp_control::{is_clear, Command, Event, OwnedLine, Refusal, Reply, ReplyCode as Code};
 
 /// Verbs that log in, ask, or read.
 const READING: &str = "ABOR ACCT ALLO CDUP CLNT CWD EPRT EPSV FEAT HASH HELP HOST LANG LIST MDTM \
@@ -57,6 +57,7 @@ impl Allowed {
             Event::Refused(why) => {
                 return Some(Reply::new(Code::COMMAND_SYNTAX_ERROR, why.to_string()));
             }
+            Event::Command(_) if sets_time(line) => "MFMT",
             Event::Command(command) => command.verb(),
         };
         if !is_sent_clear(&line.bytes) {
@@ -77,6 +78,17 @@ impl Allowed {
 pub fn is_option(line: &OwnedLine) -> bool {
     let verb = line.bytes.get(..5).unwrap_or_default();
     line.event == Event::Refused(Refusal::InvalidCommand) && verb.eq_ignore_ascii_case(b"OPTS ")
+}
+
+/// Whether a line is MDTM with a time before the path, as `MDTM 20010203040506 a`. Some servers set
+/// the time of the file then, as by MFMT. Eight digits are a date.
+fn sets_time(line: &OwnedLine) -> bool {
+    let parameter = String::from_utf8_lossy(parameter(&line.bytes));
+    let is_time = |(word, _): (&str, &str)| {
+        word.len() >= 8 && word.starts_with(|first: char| first.is_ascii_digit())
+    };
+    matches!(line.event, Event::Command(Command::Mdtm { .. }))
+        && parameter.trim_start().split_once(' ').is_some_and(is_time)
 }
 
 /// Whether all servers read alike what is sent for a line: that ends by CR LF, also where the line

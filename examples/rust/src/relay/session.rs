@@ -139,10 +139,9 @@ impl Session {
                 (Err(end), _) => break end,
             }
         };
-        if let End::Told(text) = end {
-            self.conversation.refuse(text).map_err(io::Error::other)?;
-        }
+        let ended = self.conversation.end(end).map_err(io::Error::other);
         let _ = self.record().await;
+        ended?;
         let mut last = self.conversation.to_client;
         drop((self.from_server, self.to_server));
         let sent = async {
