@@ -21,6 +21,11 @@ use unftp_control::{
 /// How many lines may be owed their replies.
 const MOST_OWED: usize = 64;
 
+/// How many bytes of the client, and of what a side is to be sent, may wait.
+pub const MOST_PENDING: usize = 64 * 1024;
+/// How many exchanges may wait to be recorded.
+const MOST_EXCHANGES: usize = 64;
+
 /// Why a session ends.
 #[derive(Debug)]
 pub enum End {
@@ -70,8 +75,8 @@ pub(super) enum Purpose {
     PassOn,
     /// The features are those of the relay, where they are of TLS.
     Features,
-    /// The final one comes after the data.
-    Transfer,
+    /// The final one comes after the data. That of a download waits until the client was sent all.
+    Transfer { is_download: bool },
     /// The server listens for the data connection. The client asked by EPSV or PASV.
     Passive { is_extended: bool },
     /// The server may connect to the relay, and the relay to the client.
@@ -102,6 +107,8 @@ pub struct Conversation {
     telnet: Telnet,
     lines: FtpLineCodec,
     input: BytesMut,
+    /// Complete lines may be left in `input`.
+    has_lines: bool,
     /// A line that the relay answers, once nothing is owed.
     waiting: Option<(OwnedLine, Exchange)>,
     dialogue: Client,
@@ -117,6 +124,8 @@ pub struct Conversation {
     pub begins_tls: bool,
     /// The last line is an ABOR of a transfer.
     pub is_urgent: bool,
+    /// A line or a reply has come since this was last cleared.
+    pub is_active: bool,
     /// What the client is to be sent.
     pub to_client: BytesMut,
     /// What the server is to be sent.
@@ -136,6 +145,7 @@ impl Conversation {
             telnet: Telnet::default(),
             lines,
             input: BytesMut::new(),
+            has_lines: false,
             waiting: None,
             dialogue: Client::new(),
             asked: VecDeque::new(),
@@ -146,6 +156,7 @@ impl Conversation {
             is_closing: false,
             begins_tls: false,
             is_urgent: false,
+            is_active: false,
             to_client: BytesMut::new(),
             to_server: Vec::new(),
             exchanges: Vec::new(),
@@ -157,6 +168,7 @@ impl Conversation {
         let from = self.input.len();
         self.input.extend_from_slice(piece);
         self.telnet.strip(&mut self.input, from);
+        self.has_lines = true;
         self.advance()
     }
 
@@ -178,12 +190,22 @@ impl Conversation {
 
     /// Whether each line has its reply.
     pub fn is_at_rest(&self) -> bool {
-        self.dialogue.is_greeted() && self.asked.is_empty() && self.waiting.is_none()
+        self.dialogue.is_greeted() && self.asked.is_empty() && self.has_taken_all()
+    }
+
+    /// Whether each line was sent to the server, or answered.
+    pub fn has_taken_all(&self) -> bool {
+        self.waiting.is_none() && !self.has_lines
+    }
+
+    /// Whether more may be answered before what waits is sent and recorded.
+    pub fn has_room(&self) -> bool {
+        self.to_client.len() < MOST_PENDING && self.exchanges.len() < MOST_EXCHANGES
     }
 
     /// Whether data may be under way.
     pub fn is_transferring(&self) -> bool {
-        self.progress() == Some(Progress::Open)
+        matches!(self.progress(), Some(Progress::Awaited | Progress::Open))
     }
 
     fn is_delivered(&self) -> bool {
@@ -217,7 +239,8 @@ impl Conversation {
     pub fn release(&mut self) -> Result<(), End> {
         if let Some(held) = self.held.take() {
             let lost = || Reply::new(Code::CONNECTION_CLOSED, "The data connection was lost");
-            let instead = (!self.is_delivered()).then(lost);
+            let is_lost = matches!(self.progress(), Some(Progress::Open | Progress::Failed));
+            let instead = is_lost.then(lost);
             self.finish(held, instead)?;
         }
         self.advance()
@@ -231,6 +254,7 @@ impl Conversation {
         self.telnet = Telnet::default();
         self.lines = FtpLineCodec::with_limit(self.relay.limits.line);
         self.input.clear();
+        self.has_lines = false;
     }
 
     /// Ends it, by a 421 of the relay where the client is told why. Lines that are owed replies are
@@ -255,7 +279,7 @@ impl Conversation {
     }
 
     /// Passes on all that can be passed on.
-    fn advance(&mut self) -> Result<(), End> {
+    pub fn advance(&mut self) -> Result<(), End> {
         loop {
             self.take_replies()?;
             if !self.take_line()? {
@@ -268,6 +292,7 @@ impl Conversation {
         while self.held.is_none() {
             let Some(taken) = self.dialogue.next_reply()? else { return Ok(()) };
             let (to, reply) = (taken.to, taken.reply.into_owned());
+            self.is_active = true;
             match to {
                 To::Greeting => self.greet(reply)?,
                 To::Command(_) => self.take_reply(reply)?,
@@ -302,8 +327,8 @@ impl Conversation {
             asked.exchange.note(Answer::Received(reply));
             return Ok(());
         }
-        let is_of_data =
-            matches!(asked.purpose, Purpose::Transfer) && matches!(reply.code(), 226 | 250);
+        let is_of_data = matches!(asked.purpose, Purpose::Transfer { is_download: true })
+            && matches!(reply.code(), 226 | 250);
         if is_of_data && !self.is_delivered() {
             self.held = Some(reply);
             return Ok(());
@@ -356,13 +381,18 @@ impl Conversation {
 
     /// Takes a line and does what is to be done with it, unless there is none or it has to wait.
     fn take_line(&mut self) -> Result<bool, End> {
-        if !self.dialogue.is_greeted() || self.begins_tls || self.asked.len() >= MOST_OWED {
+        let has_room = self.has_room() && self.asked.len() < MOST_OWED;
+        if !self.dialogue.is_greeted() || self.begins_tls || !has_room {
             return Ok(false);
         }
         let (line, exchange) = match self.waiting.take() {
             Some(waiting) => waiting,
             None => {
-                let Some(line) = self.lines.decode(&mut self.input)? else { return Ok(false) };
+                let Some(line) = self.lines.decode(&mut self.input)? else {
+                    self.has_lines = false;
+                    return Ok(false);
+                };
+                self.is_active = true;
                 let shown = Some(line.log_line()?);
                 (line, Exchange::new(self.session, self.addresses.client, shown))
             }
@@ -409,7 +439,7 @@ impl Conversation {
             self.finish(held, None)?;
         }
         for asked in &mut self.asked {
-            if matches!(asked.purpose, Purpose::Transfer) {
+            if matches!(asked.purpose, Purpose::Transfer { .. }) {
                 asked.purpose = Purpose::PassOn;
                 self.is_urgent = true;
             }

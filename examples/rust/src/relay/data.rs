@@ -17,6 +17,8 @@ const PIECE: usize = 128 * 1024;
 
 /// How long an end may take to connect to the relay, and the client to begin TLS.
 const ACCEPTING: Duration = Duration::from_secs(60);
+/// How long a connection that the server has opened may take to be accepted.
+const ARRIVING: Duration = Duration::from_secs(1);
 /// How long the relay takes to connect to an end.
 const CONNECTING: Duration = Duration::from_secs(30);
 
@@ -48,6 +50,8 @@ pub struct Route {
 /// How far a transfer is.
 #[derive(Clone, Copy, Debug, PartialEq, Eq)]
 pub enum Progress {
+    /// No end has connected to the relay yet.
+    Awaited,
     /// What the server sends is not yet all sent to the client.
     Open,
     /// All that the server sent was sent to the client.
@@ -66,13 +70,13 @@ impl Transfer {
     /// Waits for the data connection of a route, and relays it. The client's end is protected by
     /// this, if anything.
     pub fn start(route: Route, tls: Option<TlsAcceptor>) -> Transfer {
-        let (report, progress) = watch::channel(Progress::Open);
+        let (report, progress) = watch::channel(Progress::Awaited);
         let (tls, level) = watch::channel(tls);
         tokio::spawn(async move {
             let relayed = relay(route, &report, level).await;
             if let Err(error) = relayed {
                 tracing::debug!(%error, "data connection");
-                if *report.borrow() == Progress::Open {
+                if *report.borrow() != Progress::Delivered {
                     report.send_replace(Progress::Failed);
                 }
             }
@@ -91,15 +95,21 @@ impl Transfer {
         *self.progress.borrow()
     }
 
-    /// Waits until it is no more open.
+    /// Waits until it is no more open, where the server has sent its final reply. Where no end has
+    /// connected by then, it waits a short while for that.
     pub fn ended(&self) -> impl Future<Output = ()> {
         let mut progress = self.progress.clone();
         async move {
-            while *progress.borrow_and_update() == Progress::Open
-                && progress.changed().await.is_ok()
-            {}
+            if timeout(ARRIVING, change(&mut progress, Progress::Awaited)).await.is_ok() {
+                change(&mut progress, Progress::Open).await;
+            }
         }
     }
+}
+
+/// Waits until the progress is another.
+async fn change(progress: &mut watch::Receiver<Progress>, before: Progress) {
+    while *progress.borrow_and_update() == before && progress.changed().await.is_ok() {}
 }
 
 /// Listens at an address, on a port that the system picks.
@@ -115,7 +125,7 @@ async fn relay(
 ) -> io::Result<()> {
     let patience = route.patience;
     let (client, server) = tokio::select! {
-        opened = open(route) => opened?,
+        opened = open(route, report) => opened?,
         () = dropped(level.clone()) => return Err(ErrorKind::Interrupted.into()),
     };
     let acceptor = level.borrow_and_update().clone();
@@ -164,9 +174,13 @@ async fn dropped(mut level: watch::Receiver<Option<TlsAcceptor>>) {
 }
 
 /// Both ends, the client's first, once they are open.
-async fn open(route: Route) -> io::Result<(TcpStream, TcpStream)> {
+async fn open(
+    route: Route,
+    report: &watch::Sender<Progress>,
+) -> io::Result<(TcpStream, TcpStream)> {
     let accepted = timeout(ACCEPTING, accept(&route.listener, route.from)).await??;
     drop(route.listener);
+    report.send_replace(Progress::Open);
     let accepted = TcpStream::from_std(accepted)?;
     let connected = match connect(route.own, route.to).await {
         Ok(connected) => connected,
@@ -233,9 +247,16 @@ impl Flow {
                 break;
             }
             self.is_whole = false;
-            self.writer.write_all(&piece[..count]).await?;
+            let mut unsent = &piece[..count];
+            while !unsent.is_empty() {
+                let written = self.writer.write(unsent).await?;
+                if written == 0 {
+                    return Err(ErrorKind::WriteZero.into());
+                }
+                unsent = &unsent[written..];
+                moved.fetch_add(1, Relaxed);
+            }
             self.writer.flush().await?;
-            moved.fetch_add(1, Relaxed);
         }
         self.writer.shutdown().await?;
         (self.is_whole, self.is_done) = (true, true);

@@ -5,7 +5,9 @@ use super::rules::{is_option, parameter};
 use crate::address::{eprt, of_eprt, of_port, six_numbers, NoAddress};
 use std::io;
 use std::net::SocketAddr;
-use unftp_control::{forward, Command, Error, Event, OwnedLine, Reply, ReplyCode as Code};
+use unftp_control::{
+    forward, Command, Error, Event, ModeParam, OwnedLine, Reply, ReplyCode as Code,
+};
 
 /// The first port that is no system's own. A data connection to a lower one would reach a service
 /// (RFC 2577, section 3).
@@ -43,9 +45,17 @@ impl Conversation {
                 };
             }
             Command::Feat => Purpose::Features,
-            Command::Retr { .. } | Command::List { .. } | Command::Nlst { .. } => Purpose::Transfer,
-            Command::Stor { .. } | Command::Appe { .. } | Command::Stou => Purpose::Transfer,
-            Command::Mlsd { .. } => Purpose::Transfer,
+            // other modes don't end a file by the end of its data connection
+            Command::Mode { mode } if *mode != ModeParam::Stream => {
+                return answer(Code::COMMAND_NOT_IMPLEMENTED_FOR_PARAMETER, "MODE S only");
+            }
+            Command::Retr { .. } | Command::List { .. } | Command::Nlst { .. } => {
+                Purpose::Transfer { is_download: true }
+            }
+            Command::Mlsd { .. } => Purpose::Transfer { is_download: true },
+            Command::Stor { .. } | Command::Appe { .. } | Command::Stou => {
+                Purpose::Transfer { is_download: false }
+            }
             _ => Purpose::PassOn,
         };
         Verdict::Send(sent, purpose)

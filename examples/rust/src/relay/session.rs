@@ -1,5 +1,5 @@
 //! A client's session: both control connections.
-use super::conversation::{Addresses, Conversation, End};
+use super::conversation::{Addresses, Conversation, End, MOST_PENDING};
 use super::Relay;
 use crate::address::unmapped;
 use crate::listening::{Connected, Stop};
@@ -22,8 +22,6 @@ const HANDSHAKE: Duration = Duration::from_secs(20);
 /// How long the client may take to read the last reply and to close, and a transfer to end where
 /// the program ends.
 const LINGER: Duration = Duration::from_secs(5);
-/// How many bytes of the client, and of what a side is to be sent, may wait.
-const MOST_PENDING: usize = 64 * 1024;
 /// How many bytes are read at a time.
 const PIECE: usize = 4096;
 /// IAC, IP and the IAC of a Synch (RFC 854).
@@ -40,6 +38,8 @@ pub struct Session {
     is_stopping: bool,
     /// The client has sent its end.
     is_client_gone: bool,
+    /// The server was sent that end.
+    is_end_sent: bool,
     /// Nothing of what was written to the client waits in a buffer of TLS.
     is_flushed: bool,
     /// When it ends, unless a side sends something before.
@@ -77,6 +77,7 @@ pub async fn serve(relay: Arc<Relay>, number: u64, connected: Connected) -> io::
         stop,
         is_stopping: false,
         is_client_gone: false,
+        is_end_sent: false,
         is_flushed: true,
         deadline,
     };
@@ -161,18 +162,20 @@ impl Session {
     ) -> Result<(), End> {
         let (mut from_client, mut from_server) = (BytesMut::new(), BytesMut::new());
         while !self.begins_tls() {
+            self.conversation.advance()?;
             self.record().await?;
             self.check()?;
+            self.postpone();
             self.send_urgent();
+            self.pass_end().await;
             let transferred = self.conversation.transferred();
             from_client.reserve(PIECE);
             from_server.reserve(PIECE);
-            let has_room = self.conversation.to_client.len() < MOST_PENDING;
+            let has_room = self.conversation.has_room();
             tokio::select! {
                 read = reader.read_buf(&mut from_client), if has_room && self.reads_client() => {
                     self.is_client_gone = read? == 0;
                     self.conversation.receive_from_client(&from_client.split())?;
-                    self.postpone();
                 }
                 read = self.from_server.read_buf(&mut from_server),
                     if has_room && !self.conversation.is_holding() =>
@@ -181,7 +184,6 @@ impl Session {
                         return Err(self.conversation.server_end());
                     }
                     self.conversation.receive_from_server(&from_server.split())?;
-                    self.postpone();
                 }
                 written = write(writer, &mut self.conversation.to_client, &mut self.is_flushed),
                     if !self.conversation.to_client.is_empty() || !self.is_flushed =>
@@ -254,9 +256,19 @@ impl Session {
         }
     }
 
-    /// Something was sent: the session goes on.
+    /// Sends the server the client's end after the last line. It then closes the data connection
+    /// (RFC 959, section 3.2).
+    async fn pass_end(&mut self) {
+        let is_sent = self.conversation.has_taken_all() && self.conversation.to_server.is_empty();
+        if self.is_client_gone && is_sent && !self.is_end_sent {
+            self.is_end_sent = true;
+            let _ = self.to_server.shutdown().await;
+        }
+    }
+
+    /// The session goes on where a line or a reply has come.
     fn postpone(&mut self) {
-        if !self.is_stopping {
+        if std::mem::take(&mut self.conversation.is_active) && !self.is_stopping {
             self.deadline = Instant::now() + self.conversation.relay.limits.idle;
         }
     }
@@ -269,7 +281,7 @@ impl Session {
         if !self.conversation.is_transferring() {
             return Err(End::Told("Idle too long"));
         }
-        self.postpone();
+        self.conversation.is_active = true;
         Ok(())
     }
 }
