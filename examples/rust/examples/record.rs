@@ -37,9 +37,13 @@ async fn write(file: File, mut exchanges: mpsc::Receiver<Exchange>) -> io::Resul
 async fn record(matches: &clap::ArgMatches) -> io::Result<()> {
     let output = matches.get_one::<PathBuf>("output").ok_or(io::ErrorKind::InvalidInput)?;
     let (sender, exchanges) = mpsc::channel(WAITING);
-    let writing = tokio::spawn(write(open(output).await?, exchanges));
-    // the sender is dropped with the relay, and then the last exchange is written
-    run(matches, Allowed::All, Some(sender)).await?;
+    let mut writing = tokio::spawn(write(open(output).await?, exchanges));
+    tokio::select! {
+        ran = run(matches, Allowed::All, Some(sender)) => ran?,
+        // without its record, it ends at once
+        written = &mut writing => return written?,
+    }
+    // the sender was dropped with the relay, and then the last exchange is written
     writing.await?
 }
 

@@ -327,6 +327,10 @@ impl Conversation {
             asked.exchange.note(Answer::Received(reply));
             return Ok(());
         }
+        let is_passive = matches!(asked.purpose, Purpose::Passive { .. });
+        if matches!(reply.code(), 227 | 229) && !is_passive {
+            return Err(End::Told("The server's address is for no PASV"));
+        }
         let is_of_data = matches!(asked.purpose, Purpose::Transfer { is_download: true })
             && matches!(reply.code(), 226 | 250);
         if is_of_data && !self.is_delivered() {
@@ -355,18 +359,13 @@ impl Conversation {
     fn rewritten(&mut self, purpose: Purpose, reply: &ReceivedReply<'_>) -> Option<Reply> {
         match (purpose, reply.code()) {
             (Purpose::Features, 211) => Some(self.features(reply)),
-            (Purpose::Passive { is_extended }, 227 | 229) => {
-                let text = String::from_utf8_lossy(reply.lines().next().unwrap_or_default());
-                let port = match reply.code() {
-                    227 => in_227(&text).map(|address| address.port()),
-                    _ => in_229(&text),
-                };
-                Some(
-                    port.and_then(|port| self.listen_for_client(port, is_extended)).unwrap_or_else(
-                        || Reply::new(Code::CANT_OPEN_DATA_CONNECTION, "No data connection"),
-                    ),
-                )
-            }
+            (Purpose::Passive { is_extended }, 227 | 229) => Some(
+                named_port(reply)
+                    .and_then(|port| self.listen_for_client(port, is_extended))
+                    .unwrap_or_else(|| {
+                        Reply::new(Code::CANT_OPEN_DATA_CONNECTION, "No data connection")
+                    }),
+            ),
             (Purpose::Active(route), 200..=299) => {
                 self.transfer = Some(Transfer::start(route, self.data_tls()));
                 None
@@ -393,8 +392,8 @@ impl Conversation {
                     return Ok(false);
                 };
                 self.is_active = true;
-                let shown = Some(line.log_line()?);
-                (line, Exchange::new(self.session, self.addresses.client, shown))
+                let exchange = self.exchange(&line)?;
+                (line, exchange)
             }
         };
         match self.decide(&line) {
@@ -410,6 +409,18 @@ impl Conversation {
             }
         }
         Ok(true)
+    }
+
+    /// The exchange that a line begins. The log shows some lines without their parameters, of which
+    /// only a letter, as that of TYPE, is no secret.
+    fn exchange(&self, line: &OwnedLine) -> Result<Exchange, End> {
+        let shown = line.log_line()?;
+        let lacks_parameter = !shown.contains(' ') && line.parameter().len() > 1;
+        let mut exchange = Exchange::new(self.session, self.addresses.client, Some(shown));
+        if lacks_parameter {
+            exchange.hide();
+        }
+        Ok(exchange)
     }
 
     /// Sends the client a reply of the relay.
@@ -430,7 +441,16 @@ impl Conversation {
         }
         self.dialogue.send_line(sent, &mut self.to_server)?;
         self.asked.push_back(asked);
+        self.hide_neighbours();
         Ok(())
+    }
+
+    /// Where the server counts its replies otherwise, a hidden line's reply comes as that to one of
+    /// the others.
+    fn hide_neighbours(&mut self) {
+        if self.asked.iter().any(|asked| asked.exchange.is_hidden()) {
+            self.asked.iter_mut().for_each(|asked| asked.exchange.hide());
+        }
     }
 
     /// No reply waits for the data of what is aborted: the client may not read it any more.
@@ -446,4 +466,13 @@ impl Conversation {
         }
         Ok(())
     }
+}
+
+/// The port that a 227 or a 229 names, in any of its lines.
+fn named_port(reply: &ReceivedReply<'_>) -> Option<u16> {
+    let mut lines = reply.lines().map(String::from_utf8_lossy);
+    lines.find_map(|line| match reply.code() {
+        227 => in_227(&line).map(|address| address.port()),
+        _ => in_229(&line),
+    })
 }

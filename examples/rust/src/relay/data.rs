@@ -247,16 +247,9 @@ impl Flow {
                 break;
             }
             self.is_whole = false;
-            let mut unsent = &piece[..count];
-            while !unsent.is_empty() {
-                let written = self.writer.write(unsent).await?;
-                if written == 0 {
-                    return Err(ErrorKind::WriteZero.into());
-                }
-                unsent = &unsent[written..];
-                moved.fetch_add(1, Relaxed);
-            }
+            self.writer.write_all(&piece[..count]).await?;
             self.writer.flush().await?;
+            moved.fetch_add(1, Relaxed);
         }
         self.writer.shutdown().await?;
         (self.is_whole, self.is_done) = (true, true);

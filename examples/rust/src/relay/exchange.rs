@@ -54,8 +54,8 @@ pub struct Exchange {
     /// The line as `unftp_control::log_line` shows it, without passwords. It is null where a reply
     /// is to no line, as the greeting.
     line: Option<String>,
-    /// Each has a `code`, and also `lines`, unless a part of the client's line is hidden, which the
-    /// server may repeat.
+    /// Each has a `code`, and also `lines`, unless a part of the client's line is hidden, or of one
+    /// that was owed its reply at the same time: the server may repeat it.
     replies: Vec<Answer>,
     /// Whether the session ended before the final reply. The server may have done what was asked.
     #[serde(rename = "unanswered", skip_serializing_if = "is_false")]
@@ -65,11 +65,16 @@ pub struct Exchange {
     took: Duration,
     #[serde(skip)]
     began: Instant,
+    /// A part of the client's line is hidden, or of one that is owed its reply at the same time.
+    #[serde(skip)]
+    is_hidden: bool,
 }
 
 impl Exchange {
     /// One that begins now, with a line as the log shows it, or with none.
     pub fn new(session: u64, client: SocketAddr, line: Option<String>) -> Exchange {
+        let hides = |line: &str| line.contains("***") || line.starts_with("refused");
+        let is_hidden = line.as_deref().is_some_and(hides);
         Exchange {
             came: OffsetDateTime::now_utc(),
             session,
@@ -79,15 +84,24 @@ impl Exchange {
             is_unanswered: false,
             took: Duration::ZERO,
             began: Instant::now(),
+            is_hidden,
         }
+    }
+
+    /// Whether the text of the server's replies is hidden: they may repeat the line.
+    pub fn is_hidden(&self) -> bool {
+        self.is_hidden
+    }
+
+    /// Hides the text of the server's replies that come from now on.
+    pub fn hide(&mut self) {
+        self.is_hidden = true;
     }
 
     /// Notes a reply.
     pub fn note(&mut self, reply: Answer) {
-        let hides = |line: &str| line.contains("***") || line.starts_with("refused");
-        let is_hidden = self.line.as_deref().is_some_and(hides);
         self.replies.push(match reply {
-            Answer::Received(reply) if is_hidden => Answer::Code { code: reply.code() },
+            Answer::Received(reply) if self.is_hidden => Answer::Code { code: reply.code() },
             reply => reply,
         });
         self.took = self.began.elapsed();

@@ -44,6 +44,12 @@ impl Conversation {
                     address => self.active(address.ok(), true),
                 };
             }
+            // it would end TLS (RFC 4217), and the next login would be in clear text
+            Command::Other { command_name, .. }
+                if command_name == "REIN" && self.protection.is_tls =>
+            {
+                return answer(Code::COMMAND_NOT_IMPLEMENTED, "No REIN under TLS");
+            }
             Command::Feat => Purpose::Features,
             // other modes don't end a file by the end of its data connection
             Command::Mode { mode } if *mode != ModeParam::Stream => {

@@ -1,11 +1,9 @@
 //! Protection of the clients' connections by TLS (RFC 4217). The server knows nothing of it.
 use super::conversation::Conversation;
+use super::rules::is_never_sent;
 use unftp_control::{
     AuthParam, Command, Event, ProtParam, ReceivedReply, Reply, ReplyCode as Code,
 };
-
-/// The features of protection that a server may name.
-const FEATURES: [&str; 6] = ["AUTH", "PBSZ", "PROT", "CCC", "SSCN", "CPSV"];
 
 /// How far protection has come.
 #[derive(Clone, Copy, Debug, Default)]
@@ -50,16 +48,19 @@ impl Conversation {
         }
     }
 
-    /// Features with those of protection only where they are the relay's.
+    /// Features without those whose lines the server is never sent, and with those of the relay.
     pub(super) fn features(&self, reply: &ReceivedReply<'_>) -> Reply {
-        let is_of_protection = |line: &str| {
+        let is_of_server = |line: &String| {
             let word = line.split_whitespace().next().unwrap_or_default();
-            FEATURES.iter().any(|feature| word.eq_ignore_ascii_case(feature))
+            !is_never_sent(&word.to_ascii_uppercase())
         };
         let mut lines: Vec<String> =
             reply.lines().map(|line| String::from_utf8_lossy(line).into_owned()).collect();
         let last = if lines.len() > 1 { lines.pop() } else { None };
-        lines.retain(|line| !line.starts_with(' ') || !is_of_protection(line));
+        lines.retain(is_of_server);
+        if lines.is_empty() {
+            lines.push("Features:".to_string());
+        }
         if self.relay.tls.is_some() {
             lines.extend([" AUTH TLS", " PBSZ", " PROT"].map(String::from));
         }

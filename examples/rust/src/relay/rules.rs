@@ -73,6 +73,11 @@ impl Allowed {
     }
 }
 
+/// Whether no line of a verb is sent to the server.
+pub fn is_never_sent(verb: &str) -> bool {
+    OWN.contains(&verb) || NEVER.contains(&verb)
+}
+
 /// Whether a line is OPTS with an option of which no command is, as `OPTS MLST size` (RFC 3659,
 /// section 7.9). It may be sent as it is.
 pub fn is_option(line: &OwnedLine) -> bool {
