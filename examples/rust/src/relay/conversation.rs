@@ -329,7 +329,7 @@ impl Conversation {
         }
         let is_passive = matches!(asked.purpose, Purpose::Passive { .. });
         if matches!(reply.code(), 227 | 229) && !is_passive {
-            return Err(End::Told("The server's address is for no PASV"));
+            return Err(End::Told("The server named an address that nobody asked for"));
         }
         let is_of_data = matches!(asked.purpose, Purpose::Transfer { is_download: true })
             && matches!(reply.code(), 226 | 250);

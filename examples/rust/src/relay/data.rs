@@ -124,19 +124,7 @@ async fn relay(
     mut level: watch::Receiver<Option<TlsAcceptor>>,
 ) -> io::Result<()> {
     let patience = route.patience;
-    let (client, server) = tokio::select! {
-        opened = open(route, report) => opened?,
-        () = dropped(level.clone()) => return Err(ErrorKind::Interrupted.into()),
-    };
-    let acceptor = level.borrow_and_update().clone();
-    let client = tokio::select! {
-        protected = protect(client, acceptor) => protected,
-        _ = level.changed() => Err(ErrorKind::Interrupted.into()),
-    };
-    let client = client.map_err(|error| {
-        reset(&server);
-        error
-    })?;
+    let (client, server) = open(route, report, &mut level).await?;
     let (client_reader, client_writer) = split(client);
     let (server_reader, server_writer) = split(Stream::Clear(server));
     let mut down = Flow::new(server_reader, client_writer);
@@ -168,13 +156,37 @@ async fn relay(
     copied
 }
 
+/// Both ends, once they are open, the client's as it is to be protected then.
+async fn open(
+    route: Route,
+    report: &watch::Sender<Progress>,
+    level: &mut watch::Receiver<Option<TlsAcceptor>>,
+) -> io::Result<(Stream, TcpStream)> {
+    let (client, server) = tokio::select! {
+        connected = connect_both(route, report) => connected?,
+        () = dropped(level.clone()) => return Err(ErrorKind::Interrupted.into()),
+    };
+    let acceptor = level.borrow_and_update().clone();
+    let protected = tokio::select! {
+        protected = protect(client, acceptor) => protected,
+        _ = level.changed() => Err(ErrorKind::Interrupted.into()),
+    };
+    match protected {
+        Ok(client) => Ok((client, server)),
+        Err(error) => {
+            reset(&server);
+            Err(error)
+        }
+    }
+}
+
 /// Waits until the sender is dropped.
 async fn dropped(mut level: watch::Receiver<Option<TlsAcceptor>>) {
     while level.changed().await.is_ok() {}
 }
 
-/// Both ends, the client's first, once they are open.
-async fn open(
+/// The client's end and the server's.
+async fn connect_both(
     route: Route,
     report: &watch::Sender<Progress>,
 ) -> io::Result<(TcpStream, TcpStream)> {

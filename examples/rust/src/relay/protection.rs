@@ -51,6 +51,8 @@ impl Conversation {
     /// Features without those whose lines the server is never sent, and with those of the relay.
     pub(super) fn features(&self, reply: &ReceivedReply<'_>) -> Reply {
         let is_of_server = |line: &String| {
+            // some servers begin each line by the code
+            let line = line.strip_prefix("211-").unwrap_or(line);
             let word = line.split_whitespace().next().unwrap_or_default();
             !is_never_sent(&word.to_ascii_uppercase())
         };
