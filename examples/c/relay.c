@@ -210,7 +210,8 @@ static void forward_line(struct session *session, enum unftp_result command, con
 }
 
 /* Decides by what unftp_next has returned. A command that is not listed is refused, also one that
-   the library comes to know later. */
+   the library comes to know later, and MDTM: some servers take a time before its path, and give it
+   to the file. */
 static void decide(struct session *session, enum unftp_result result, const char *line, size_t len)
 {
     switch (result) {
@@ -219,7 +220,7 @@ static void decide(struct session *session, enum unftp_result result, const char
     case UNFTP_TYPE: case UNFTP_STRU: case UNFTP_MODE: case UNFTP_ALLO: case UNFTP_REST:
     case UNFTP_PASV: case UNFTP_EPSV: case UNFTP_ABOR: case UNFTP_PWD: case UNFTP_CWD:
     case UNFTP_CDUP: case UNFTP_RETR: case UNFTP_LIST: case UNFTP_NLST: case UNFTP_MLST:
-    case UNFTP_MLSD: case UNFTP_SIZE: case UNFTP_MDTM:
+    case UNFTP_MLSD: case UNFTP_SIZE:
         forward_line(session, result, line, len);
         break;
     case UNFTP_INVALID_COMMAND: case UNFTP_INVALID_UTF8: case UNFTP_INVALID_EOL:

@@ -10,7 +10,7 @@ use Rattle.unftp_control_defs.specs.declared.verb.Verb.{Verb}
 use Rattle.unftp_control_defs.specs.declared.verb.Verb.TheVariants as verb
 use Rattle.unftp_control_relay.specs.Filtering.{AnswerWith, AsItIs, Decision, FilterLaw, Forward}
 
--- the verbs that log in, ask or read
+-- the verbs that log in, ask or read; not MDTM, by which some servers set a file's time
 abbrev pub allows : Verb → Bool
 allows verb.User = true
 allows verb.Pass = true
@@ -40,7 +40,6 @@ allows verb.Nlst = true
 allows verb.Mlst = true
 allows verb.Mlsd = true
 allows verb.Size = true
-allows verb.Mdtm = true
 allows _ = false
 
 abbrev pub allows_word : Option Verb → Bool

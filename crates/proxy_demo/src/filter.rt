@@ -13,7 +13,8 @@ use unftp_control_message::reply::ReplyCode;
 use unftp_control_message::reply::error::ParseErrorKind;
 use unftp_control_relay::{Filter, Verdict};
 
-/// Whether a line of this verb may go to the server: one that logs in, asks or reads.
+/// Whether a line of this verb may go to the server: one that logs in, asks or reads. MDTM is not
+/// among them, since some servers take a time before its path, and give it to the file.
 fn allows(verb: Verb) -> bool
     ensures { result ≡ allows verb }
 {
@@ -24,7 +25,7 @@ fn allows(verb: Verb) -> bool
         Verb::Pasv | Verb::Epsv | Verb::Port | Verb::Abor => true,
         Verb::Pwd | Verb::Cwd | Verb::Cdup => true,
         Verb::Retr | Verb::List | Verb::Nlst | Verb::Mlst | Verb::Mlsd => true,
-        Verb::Size | Verb::Mdtm => true,
+        Verb::Size => true,
         _ => false,
     }
 }
