@@ -7,6 +7,7 @@ PROFTPD = {
     r"CWD: cwd_tilde_.*": "`~` is a name as any other one, and not the home directory",
     r"MLSD: mlsd_(?!fails).*": "it wants proftpd's own facts, and entries of the types cdir and pdir",
     r"LIST: list_opt_(C|R.*)|NLST: nlst_ok_glob_dir_with_recursion_bug4084": "the options of ls are taken and not followed",
+    r"(LIST: list|NLST: nlst)_nonascii_chars_bug3032": "the option -B, by which bytes are shown in octal digits, isn't followed",
     r"RNTO: rnto_fails_allow_overwrite": "RNTO replaces a file; the test has AllowOverwrite off",
     # how a listing looks, which RFC 959 leaves open
     r"LIST: list_(ok_file|file_rel_paths_bug4259|file_after_upload|slashstar_bug3529)": "a file in LIST has its name, and not the path that was sent",
