@@ -1,0 +1,43 @@
+"""What each crate took in a run from nothing, and how far a run is by it."""
+
+import re
+import time
+
+from edit_files import TOP
+
+# a crate's proof, and the try of one of its edits, as `rt ci` prints that they are done
+PROVED = re.compile(r"rt: (\w+) (?:proved$|is kept: )")
+TRIED = re.compile(r"rt: must-fail (\w+)/")
+TRYING = re.compile(r"rt: (\w+): trying its must-fail edits \((\d+)\)")
+
+
+def seconds():
+    """The seconds of a processor that each crate took: its proofs, and its must-fail edits."""
+    found = {}
+    for line in (TOP / "tools" / "gate" / "seconds").read_text(encoding="utf-8").splitlines():
+        if line and not line.startswith("#"):
+            name, *taken = line.split()
+            found[name] = [int(it) for it in taken]
+    return found
+
+
+class Progress:
+    """How far `rt ci` is: what is done, of what all crates took."""
+
+    def __init__(self):
+        self.seconds, self.edits, self.start = seconds(), {}, time.time()
+        self.done, self.told = 0.0, 0
+
+    def after(self, line):
+        """What to say after a line, or None: each tenth of the whole is told once."""
+        if found := PROVED.match(line):
+            self.done += self.seconds.get(found[1], [0, 0])[0]
+        elif found := TRYING.match(line):
+            self.edits[found[1]] = int(found[2])
+        elif found := TRIED.match(line):
+            self.done += self.seconds.get(found[1], [0, 0])[1] / self.edits.get(found[1], 1)
+        tenths = int(10 * self.done / sum(map(sum, self.seconds.values())))
+        if tenths <= self.told:
+            return None
+        self.told = tenths
+        return f"{10 * tenths} % of the proofs and edits are done, after {(time.time() - self.start) / 60:.0f} minutes"
