@@ -412,7 +412,7 @@ class Trial:
             run = self.check(texts, only, self.base, what)
         else:
             run = self.over_a_copy(texts, only, what)
-        if not run.is_judged() or run.unread({path for it in changes for path in it.texts}):
+        if not run.is_judged() or run.unread({path for it in changes for path, _ in it.lines}):
             self.try_group(changes[: len(changes) // 2])
             self.try_group(changes[len(changes) // 2 :])
             return

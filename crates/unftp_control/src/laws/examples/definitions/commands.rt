@@ -3,8 +3,8 @@
 
 ghost use Rattle.std.specs.Prelude.{◌≡◌, [], ◌∷◌, Err, Ok, Option, Some, None, codes};
 ghost use Rattle.unftp_control_defs.specs.Bytes.{Bytes};
-ghost use Rattle.unftp_control_defs.specs.Canonical.{HasLine, IsUpperCaseName, IsNonEmptyText, IsOptionalText};
-ghost use Rattle.unftp_control_defs.specs.FtpCommand.{InvalidCommand, List as Listing, Md5, Noop, Other, Rest, Retr, Site, User, Nothing, Number, Raw, Text, plain, said};
+ghost use Rattle.unftp_control_defs.specs.Canonical.{HasLine, canonical_line, IsUpperCaseName, IsNonEmptyText, IsOptionalText};
+ghost use Rattle.unftp_control_defs.specs.FtpCommand.{Allo, InvalidCommand, List as Listing, Md5, Noop, Other, Rest, Retr, Site, TypeCode, User, Nothing, Number, Raw, Text, plain, said};
 ghost use Rattle.unftp_control_defs.specs.Said.{HasTypedFields, Tells, answer_of, word_and_value};
 ghost use Rattle.unftp_control_defs.specs.declared.verb.Verb.TheVariants as verb;
 
@@ -59,4 +59,7 @@ pub fn commands_have_lines_or_none()
         → ¬ HasLine (Listing (Some options) path) }
     ensures no_other_site { ¬ HasLine (Other (codes "SITE") []) }
     ensures no_site_md5 { ¬ HasLine (Site (codes "MD5") []) }
+    // the parameters that these need, which their commands don't keep (RFC 959, section 4.1)
+    ensures type_code { canonical_line TypeCode ≡ codes "TYPE I\r\n" }
+    ensures allo { canonical_line Allo ≡ codes "ALLO 0\r\n" }
 {}
