@@ -2,7 +2,9 @@
 #![tactic(auto, unfolding(unftp_control_defs::proofs::Computing::at_bytes))]
 
 ghost use Rattle.std.specs.Prelude.{◌≡◌, ◌++◌, [], ◌∷◌, true, false, Some, codes};
+ghost use Rattle.unftp_control_defs.specs.Events.{IllegalState, IoError, ParseError};
 ghost use Rattle.unftp_control_defs.specs.FtpReply.{Nothing, CodeAndMsg, MultiLine, HasThreeDigits, IsPlain, encoded, is_positive, padded, reply_as_read};
+ghost use Rattle.unftp_control_defs.specs.Texts.{error_text, kind_text};
 
 /// A line that begins with a digit gets a space.
 pub fn lines_are_padded_so()
@@ -53,4 +55,12 @@ pub fn plain_replies_are_so()
     ensures two_digits { ¬ IsPlain (CodeAndMsg 99 []) }
     ensures line_feed { ¬ IsPlain (CodeAndMsg 200 (codes "a\nb")) }
     ensures line_feed_in_a_line { ¬ IsPlain (MultiLine 211 (codes "a" ∷ codes "b\n" ∷ [])) }
+{}
+
+/// What errors print.
+pub fn errors_have_these_texts()
+    ensures io { kind_text IoError ≡ codes "Failed to perform IO" }
+    ensures parse { kind_text ParseError ≡ codes "Failed to parse command" }
+    ensures whole { error_text IllegalState
+        ≡ codes "control channel error: Control channel in illegal state" }
 {}
