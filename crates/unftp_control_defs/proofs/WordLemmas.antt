@@ -1,16 +1,18 @@
--- The words of the verbs, and the words that none of them is.
-use Rattle.std.proofs.Common.{◌≡◌, ◌≢◌, ℕ, cond, if◌then◌else◌, option_map, is_some, Bool, true, false, bytes_eq, codes, find, ◌==◌, List, [], ◌∷◌, length, get_or, Some, None, refl, sym, ap, subst, ◌∙◌, ⊎_elim, arith, ne_eqb}
+-- The words of the verbs, and how they are looked up.
+use Rattle.std.proofs.Common.{◌≡◌, ℕ, cond, option_map, is_some, Bool, true, false, bytes_eq, find, ◌==◌, ◌&&◌, ◌<◌, List, [], ◌∷◌, length, get_or, Some, None, refl, sym, ap, subst, ◌∙◌, ⊎_elim, arith, eq-eqb, eqb-true, w32}
 use lib.Pointwise.{bytes_decides}
+use Rattle.std.specs.Int.{from_be_bytes, to_be_bytes}
 use Rattle.std.specs.List.{list_all}
 use Rattle.std.proofs.lemmas.Bool.{cases_Bool, and_parts, false≢true}
 use Rattle.std.proofs.lemmas.Bool.Decides.{nat_tests}
+use Rattle.std.proofs.lemmas.Nat.{be_bytes_4}
 use Rattle.unftp_control_defs.specs.Bytes.{Bytes}
 use Rattle.std.specs.Char.{to_ascii_uppercase}
 use Rattle.unftp_control_defs.specs.Verbs.{upper}
 use Rattle.unftp_control_defs.specs.FtpCommand.{verbs}
 use Rattle.unftp_control_defs.specs.Rules.{row_of}
 use Rattle.unftp_control_defs.specs.declared.verb.Verb.{Verb}
-use Rattle.unftp_control_defs.specs.Words.{to_four_bytes, from_four_bytes}
+use Rattle.unftp_control_defs.specs.Words.{to_four_bytes, from_four_bytes, padded, verb_of_number, word_number}
 
 some_is : {X : Type 0} {x y : X} → Some x ≡ Some y → x ≡ y
 some_is e = cc
@@ -48,155 +50,68 @@ all_fit = refl
 pub no_verb : (name : Bytes) → to_four_bytes name ≡ None → row_of name verbs ≡ None
 no_verb name e = none_of (λ w. is_some (to_four_bytes w)) name verbs all_fit (ap is_some e)
 
--- Words that begin as no verb does. Where few letters can follow, `search` finds that by itself.
-module _ (word : Bytes) (long : length word ≡ 4) where
-  -- the letters that verbs begin with
-  abbrev pub begins : ℕ → Bool
-  begins a = is_some (find (λ first. a == first) (codes "ABCDEFHLMNOPQRSTUX"))
+-- a name that is found by its number
+abbrev has_number : Bytes → Bool
+has_number name = bytes_eq (to_be_bytes w32 (word_number name)) (padded name)
+    && bytes_eq (from_four_bytes (padded name)) name
 
-  all_begin : list_all (λ row. begins (get_or row.0 0 0)) verbs ≡ true
-  all_begin = refl
+all_have_numbers : list_all (λ row. has_number row.0) verbs ≡ true
+all_have_numbers = refl
 
-  same_first : (w : Bytes) → length w ≡ 4 → get_or (from_four_bytes w) 0 0 ≡ get_or w 0 0
-  same_first [] h = absurd (omega arith)
-  same_first (a ∷ []) h = absurd (omega arith)
-  same_first (a ∷ b ∷ []) h = absurd (omega arith)
-  same_first (a ∷ b ∷ c ∷ []) h = absurd (omega arith)
-  same_first (a ∷ b ∷ c ∷ d ∷ []) h = by_nul (d == 0)
+padded_back : (word : Bytes) → length word ≡ 4 → padded (from_four_bytes word) ≡ word
+padded_back [] l = absurd (omega arith)
+padded_back (a ∷ []) l = absurd (omega arith)
+padded_back (a ∷ b ∷ []) l = absurd (omega arith)
+padded_back (a ∷ b ∷ c ∷ []) l = absurd (omega arith)
+padded_back (a ∷ b ∷ c ∷ d ∷ []) l = ⊎_elim
+    (λ t. rw t (ap (λ x. a ∷ b ∷ c ∷ x ∷ []) (sym (eqb-true d 0 t))))
+    (λ f. rw f refl)
+    (cases_Bool (d == 0))
+padded_back (a ∷ b ∷ c ∷ d ∷ e ∷ word) l = absurd (omega arith)
+
+module _ (word : Bytes) (long : length word ≡ 4) (small : (i : ℕ) → get_or word i 0 < 256) where
+  abbrev number : ℕ
+  number = from_be_bytes w32 word
+
+  named : (name : Bytes) → has_number name ≡ true → number ≡ word_number name
+      → from_four_bytes word ≡ name
+  named name has e =
+      let parts = and_parts _ _ has in
+      let same : word ≡ padded name =
+      sym (be_bytes_4 word number long small refl) ∙ ap (to_be_bytes w32) e
+      ∙ (bytes_decides _ _).0 parts.0 in
+      ap from_four_bytes same ∙ (bytes_decides _ _).0 parts.1
+
+  numbered : (name : Bytes) → from_four_bytes word ≡ name → number ≡ word_number name
+  numbered name e = ap (from_be_bytes w32) (sym (padded_back word long) ∙ ap padded e)
+
+  same_test : (name : Bytes) → has_number name ≡ true
+      → (number == word_number name) ≡ bytes_eq (from_four_bytes word) name
+  same_test name has = ⊎_elim
+      (λ t. t ∙ sym ((bytes_decides _ _).1 (named name has (eqb-true _ _ t))))
+      (λ f. f ∙ sym (other f))
+      (cases_Bool (number == word_number name))
     where
-      by_nul : (padded : Bool)
-          → get_or (cond padded (a ∷ b ∷ c ∷ []) (a ∷ b ∷ c ∷ d ∷ [])) 0 0 ≡ a
-      by_nul true = refl
-      by_nul false = refl
-  same_first (a ∷ b ∷ c ∷ d ∷ e ∷ w) h = absurd (omega arith)
+      other : (number == word_number name) ≡ false → bytes_eq (from_four_bytes word) name ≡ false
+      other f = ⊎_elim
+          (λ t. absurd (false≢true (sym f ∙ eq-eqb _ _ (numbered name ((bytes_decides _ _).0 t)))))
+          (λ g. g)
+          (cases_Bool (bytes_eq (from_four_bytes word) name))
 
-  pub no_verb_begins : begins (get_or word 0 0) ≡ false → row_of (from_four_bytes word) verbs ≡ None
-  no_verb_begins none = none_of (λ w. begins (get_or w 0 0)) (from_four_bytes word) verbs all_begin
-      (ap begins (same_first word long) ∙ none)
+  same_rows : (rows : List (Bytes × Verb)) → list_all (λ row. has_number row.0) rows ≡ true
+      → option_map (λ row. row.1) (find (λ row. number == word_number row.0) rows)
+      ≡ row_of (from_four_bytes word) rows
+  same_rows [] all = refl
+  same_rows (row ∷ rows) all =
+      let parts = and_parts (has_number row.0) (list_all (λ row. has_number row.0) rows) all in
+      rw (same_test row.0 parts.0) (⊎_elim
+      (λ t. rw t refl)
+      (λ f. rw f (same_rows rows parts.1))
+      (cases_Bool (bytes_eq (from_four_bytes word) row.0)))
 
-  same_second : (w : Bytes) → length w ≡ 4 → get_or (from_four_bytes w) 1 0 ≡ get_or w 1 0
-  same_second [] h = absurd (omega arith)
-  same_second (a ∷ []) h = absurd (omega arith)
-  same_second (a ∷ b ∷ []) h = absurd (omega arith)
-  same_second (a ∷ b ∷ c ∷ []) h = absurd (omega arith)
-  same_second (a ∷ b ∷ c ∷ d ∷ []) h = by_nul (d == 0)
-    where
-      by_nul : (padded : Bool)
-          → get_or (cond padded (a ∷ b ∷ c ∷ []) (a ∷ b ∷ c ∷ d ∷ [])) 1 0 ≡ b
-      by_nul true = refl
-      by_nul false = refl
-  same_second (a ∷ b ∷ c ∷ d ∷ e ∷ w) h = absurd (omega arith)
-
-  -- whether a word with this first letter has one of these as its second
-  abbrev pub goes_on : ℕ → Bytes → ℕ → ℕ → Bool
-  goes_on first seconds a b = if a == first then is_some (find (λ c. b == c) seconds) else true
-
-  pub no_verb_with : (first : ℕ) (seconds : Bytes)
-      → list_all (λ row. goes_on first seconds (get_or row.0 0 0) (get_or row.0 1 0)) verbs ≡ true
-      → goes_on first seconds (get_or word 0 0) (get_or word 1 0) ≡ false
-      → row_of (from_four_bytes word) verbs ≡ None
-  no_verb_with first seconds all none =
-      none_of (λ w. goes_on first seconds (get_or w 0 0) (get_or w 1 0)) (from_four_bytes word) verbs all
-      (rw (same_first word long, same_second word long) none)
-
-  pub no_verb_with_a : get_or word 0 0 ≡ 65 → get_or word 1 0 ≢ 66 → get_or word 1 0 ≢ 67
-      → get_or word 1 0 ≢ 76 → get_or word 1 0 ≢ 80 → get_or word 1 0 ≢ 85
-      → row_of (from_four_bytes word) verbs ≡ None
-  no_verb_with_a first n0 n1 n2 n3 n4 =
-      no_verb_with 65 (codes "BCLPU") refl (rw (
-        first,
-        ne_eqb _ 66 n0,
-        ne_eqb _ 67 n1,
-        ne_eqb _ 76 n2,
-        ne_eqb _ 80 n3,
-        ne_eqb _ 85 n4,
-      ) refl)
-
-  pub no_verb_with_c : get_or word 0 0 ≡ 67 → get_or word 1 0 ≢ 67 → get_or word 1 0 ≢ 68
-      → get_or word 1 0 ≢ 87
-      → row_of (from_four_bytes word) verbs ≡ None
-  no_verb_with_c first n0 n1 n2 =
-      no_verb_with 67 (codes "CDW") refl (rw (
-        first,
-        ne_eqb _ 67 n0,
-        ne_eqb _ 68 n1,
-        ne_eqb _ 87 n2,
-      ) refl)
-
-  pub no_verb_with_m : get_or word 0 0 ≡ 77 → get_or word 1 0 ≢ 68 → get_or word 1 0 ≢ 75
-      → get_or word 1 0 ≢ 76 → get_or word 1 0 ≢ 79
-      → row_of (from_four_bytes word) verbs ≡ None
-  no_verb_with_m first n0 n1 n2 n3 =
-      no_verb_with 77 (codes "DKLO") refl (rw (
-        first,
-        ne_eqb _ 68 n0,
-        ne_eqb _ 75 n1,
-        ne_eqb _ 76 n2,
-        ne_eqb _ 79 n3,
-      ) refl)
-
-  pub no_verb_with_p : get_or word 0 0 ≡ 80 → get_or word 1 0 ≢ 65 → get_or word 1 0 ≢ 66
-      → get_or word 1 0 ≢ 79 → get_or word 1 0 ≢ 82 → get_or word 1 0 ≢ 87
-      → row_of (from_four_bytes word) verbs ≡ None
-  no_verb_with_p first n0 n1 n2 n3 n4 =
-      no_verb_with 80 (codes "ABORW") refl (rw (
-        first,
-        ne_eqb _ 65 n0,
-        ne_eqb _ 66 n1,
-        ne_eqb _ 79 n2,
-        ne_eqb _ 82 n3,
-        ne_eqb _ 87 n4,
-      ) refl)
-
-  pub no_verb_with_r : get_or word 0 0 ≡ 82 → get_or word 1 0 ≢ 69 → get_or word 1 0 ≢ 78
-      → get_or word 1 0 ≢ 77
-      → row_of (from_four_bytes word) verbs ≡ None
-  no_verb_with_r first n0 n1 n2 =
-      no_verb_with 82 (codes "ENM") refl (rw (
-        first,
-        ne_eqb _ 69 n0,
-        ne_eqb _ 78 n1,
-        ne_eqb _ 77 n2,
-      ) refl)
-
-  pub no_verb_with_s : get_or word 0 0 ≡ 83 → get_or word 1 0 ≢ 73 → get_or word 1 0 ≢ 84
-      → get_or word 1 0 ≢ 89
-      → row_of (from_four_bytes word) verbs ≡ None
-  no_verb_with_s first n0 n1 n2 =
-      no_verb_with 83 (codes "ITY") refl (rw (
-        first,
-        ne_eqb _ 73 n0,
-        ne_eqb _ 84 n1,
-        ne_eqb _ 89 n2,
-      ) refl)
-
-  pub no_verb_else : get_or word 0 0 ≢ 65 → get_or word 0 0 ≢ 66 → get_or word 0 0 ≢ 67
-      → get_or word 0 0 ≢ 68 → get_or word 0 0 ≢ 69 → get_or word 0 0 ≢ 70 → get_or word 0 0 ≢ 72
-      → get_or word 0 0 ≢ 76 → get_or word 0 0 ≢ 77 → get_or word 0 0 ≢ 78 → get_or word 0 0 ≢ 79
-      → get_or word 0 0 ≢ 80 → get_or word 0 0 ≢ 81 → get_or word 0 0 ≢ 82 → get_or word 0 0 ≢ 83
-      → get_or word 0 0 ≢ 84 → get_or word 0 0 ≢ 85 → get_or word 0 0 ≢ 88
-      → row_of (from_four_bytes word) verbs ≡ None
-  no_verb_else n0 n1 n2 n3 n4 n5 n6 n7 n8 n9 n10 n11 n12 n13 n14 n15 n16 n17 =
-      no_verb_begins (rw (
-        ne_eqb _ 65 n0,
-        ne_eqb _ 66 n1,
-        ne_eqb _ 67 n2,
-        ne_eqb _ 68 n3,
-        ne_eqb _ 69 n4,
-        ne_eqb _ 70 n5,
-        ne_eqb _ 72 n6,
-        ne_eqb _ 76 n7,
-        ne_eqb _ 77 n8,
-        ne_eqb _ 78 n9,
-        ne_eqb _ 79 n10,
-        ne_eqb _ 80 n11,
-        ne_eqb _ 81 n12,
-        ne_eqb _ 82 n13,
-        ne_eqb _ 83 n14,
-        ne_eqb _ 84 n15,
-        ne_eqb _ 85 n16,
-        ne_eqb _ 88 n17,
-      ) refl)
+  -- a verb is found by its number
+  pub verb_of_word : verb_of_number number ≡ row_of (from_four_bytes word) verbs
+  verb_of_word = same_rows verbs all_have_numbers
 
 -- a word is padded in the same way in upper case
 uppercased_nul : (b : ℕ) → (to_ascii_uppercase b == 0) ≡ (b == 0)
@@ -245,14 +160,3 @@ found_upper word w verb e found =
 -- how a word is looked up
 pub ruleset words =
     (from_four_bytes_back, from_four_bytes_upper, no_verb, no_verb_upper, found_upper)
-
--- the words that begin as no verb does
-pub ruleset no_verbs = (
-  no_verb_with_a,
-  no_verb_with_c,
-  no_verb_with_m,
-  no_verb_with_p,
-  no_verb_with_r,
-  no_verb_with_s,
-  no_verb_else,
-)

@@ -3,7 +3,7 @@ ghost use Rattle.std.specs.Prelude.{◌≡◌, ◌↔◌, IsSome, IsTrue, false}
 ghost use Rattle.unftp_control_defs.specs.FtpCommand.{kind, number, verbs, word};
 ghost use Rattle.unftp_control_defs.specs.Rules.{row_of};
 ghost use Rattle.unftp_control_defs.specs.Verbs.{upper};
-ghost use Rattle.unftp_control_defs.specs.Words.{from_four_bytes, to_four_bytes};
+ghost use Rattle.unftp_control_defs.specs.Words.{from_four_bytes, to_four_bytes, verb_of_number};
 
 /// What a verb takes as its parameter.
 #[derive(Clone, Copy)]
@@ -211,57 +211,64 @@ fn to_four_bytes(word: &[u8]) -> Option<[u8; 4]>
 }
 
 /// The verb of a word that is padded with NUL to four bytes, if it is one.
-#[tactic(auto, using(crate::proofs::WordLemmas::no_verbs))]
+#[tactic(auto, using(crate::proofs::WordLemmas::verb_of_word))]
 fn verb_of(word: &[u8; 4]) -> Option<Verb>
     ensures { result ≡ row_of (from_four_bytes word.now) verbs }
 {
-    Some(match word {
-        b"ABOR" => Verb::Abor,
-        b"ACCT" => Verb::Acct,
-        b"ALLO" => Verb::Allo,
-        b"APPE" => Verb::Appe,
-        b"AUTH" => Verb::Auth,
-        b"BYE\0" => Verb::Quit,
-        b"CCC\0" => Verb::Ccc,
-        b"CDUP" => Verb::Cdup,
-        b"CWD\0" => Verb::Cwd,
-        b"DELE" => Verb::Dele,
-        b"EPSV" => Verb::Epsv,
-        b"FEAT" => Verb::Feat,
-        b"HELP" => Verb::Help,
-        b"LIST" => Verb::List,
-        b"MDTM" => Verb::Mdtm,
-        b"MKD\0" => Verb::Mkd,
-        b"MLSD" => Verb::Mlsd,
-        b"MLST" => Verb::Mlst,
-        b"MODE" => Verb::Mode,
-        b"NLST" => Verb::Nlst,
-        b"NOOP" => Verb::Noop,
-        b"OPTS" => Verb::Opts,
-        b"PASS" => Verb::Pass,
-        b"PASV" => Verb::Pasv,
-        b"PBSZ" => Verb::Pbsz,
-        b"PORT" => Verb::Port,
-        b"PROT" => Verb::Prot,
-        b"PWD\0" => Verb::Pwd,
-        b"QUIT" => Verb::Quit,
-        b"REST" => Verb::Rest,
-        b"RETR" => Verb::Retr,
-        b"RMD\0" => Verb::Rmd,
-        b"RNFR" => Verb::Rnfr,
-        b"RNTO" => Verb::Rnto,
-        b"SITE" => Verb::Site,
-        b"SIZE" => Verb::Size,
-        b"STAT" => Verb::Stat,
-        b"STOR" => Verb::Stor,
-        b"STOU" => Verb::Stou,
-        b"STRU" => Verb::Stru,
-        b"SYST" => Verb::Syst,
-        b"TYPE" => Verb::TypeCode,
-        b"USER" => Verb::User,
-        b"XCWD" => Verb::Cwd,
-        b"XMKD" => Verb::Mkd,
-        b"XPWD" => Verb::Pwd,
+    verb_of_number(u32::from_be_bytes(*word))
+}
+
+/// The verb of a word as a number, its first letter the highest byte: of ABOR, 41 42 4F 52.
+fn verb_of_number(number: u32) -> Option<Verb>
+    ensures { result ≡ verb_of_number number }
+{
+    Some(match number {
+        0x41424F52 => Verb::Abor,
+        0x41434354 => Verb::Acct,
+        0x414C4C4F => Verb::Allo,
+        0x41505045 => Verb::Appe,
+        0x41555448 => Verb::Auth,
+        0x42594500 => Verb::Quit,
+        0x43434300 => Verb::Ccc,
+        0x43445550 => Verb::Cdup,
+        0x43574400 => Verb::Cwd,
+        0x44454C45 => Verb::Dele,
+        0x45505356 => Verb::Epsv,
+        0x46454154 => Verb::Feat,
+        0x48454C50 => Verb::Help,
+        0x4C495354 => Verb::List,
+        0x4D44544D => Verb::Mdtm,
+        0x4D4B4400 => Verb::Mkd,
+        0x4D4C5344 => Verb::Mlsd,
+        0x4D4C5354 => Verb::Mlst,
+        0x4D4F4445 => Verb::Mode,
+        0x4E4C5354 => Verb::Nlst,
+        0x4E4F4F50 => Verb::Noop,
+        0x4F505453 => Verb::Opts,
+        0x50415353 => Verb::Pass,
+        0x50415356 => Verb::Pasv,
+        0x5042535A => Verb::Pbsz,
+        0x504F5254 => Verb::Port,
+        0x50524F54 => Verb::Prot,
+        0x50574400 => Verb::Pwd,
+        0x51554954 => Verb::Quit,
+        0x52455354 => Verb::Rest,
+        0x52455452 => Verb::Retr,
+        0x524D4400 => Verb::Rmd,
+        0x524E4652 => Verb::Rnfr,
+        0x524E544F => Verb::Rnto,
+        0x53495445 => Verb::Site,
+        0x53495A45 => Verb::Size,
+        0x53544154 => Verb::Stat,
+        0x53544F52 => Verb::Stor,
+        0x53544F55 => Verb::Stou,
+        0x53545255 => Verb::Stru,
+        0x53595354 => Verb::Syst,
+        0x54595045 => Verb::TypeCode,
+        0x55534552 => Verb::User,
+        0x58435744 => Verb::Cwd,
+        0x584D4B44 => Verb::Mkd,
+        0x58505744 => Verb::Pwd,
         _ => return None,
     })
 }
