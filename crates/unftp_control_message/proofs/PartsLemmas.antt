@@ -1,7 +1,10 @@
--- What a verb makes of a value that it doesn't take.
-use Rattle.std.proofs.Common.{◌≡◌, ℕ, Bool, true, false, Err}
+-- What a verb makes of a value that it doesn't take, and of what its command says.
+use Rattle.std.proofs.Common.{◌≡◌, ℕ, Bool, true, false, [], ◌∷◌, Some, None, Ok, Err, refl}
 use Rattle.unftp_control_defs.specs.Bytes.{Bytes}
-use Rattle.unftp_control_defs.specs.FtpCommand.{InvalidCommand, Chosen, Nothing, Number, Raw, Text, Value, command_by, kind}
+use Rattle.unftp_control_defs.specs.FtpCommand.{FtpCommand, User, Pass, Acct, Stat, List, Nlst, Mlst, Mlsd, Site, Other, Said, InvalidCommand, Chosen, Nothing, Number, Raw, Text, Value, command_by, kind, said}
+use Rattle.unftp_control_defs.specs.Said.{answer_of}
+use Rattle.unftp_control_defs.specs.Verbs.{upper}
+use Rattle.unftp_control_message.specs.PartsMeaning.{IsItsParts}
 use Rattle.unftp_control_defs.specs.declared.parameters.Choice.{Choice}
 use Rattle.unftp_control_defs.specs.declared.verb.Kind.{Kind}
 use Rattle.unftp_control_defs.specs.declared.verb.Kind.TheVariants as kinds
@@ -56,5 +59,27 @@ refused verb name (Raw bytes) = refused_raw bytes verb name
 refused verb name (Text text) = refused_text text verb name
 refused verb name (Chosen choice) = refused_choice choice verb name
 refused verb name (Number number) = refused_number number verb name
+
+-- what a command says makes it again
+pub its_parts : (command : FtpCommand) (parts : Said) → IsItsParts command → parts ≡ said command
+    → answer_of (record parts { name = upper parts.name }) ≡ Ok command
+its_parts (User []) parts is e = rw e refl
+its_parts (User (b ∷ v)) parts is e = rw e refl
+its_parts (Pass []) parts is e = rw e refl
+its_parts (Pass (b ∷ v)) parts is e = rw e refl
+its_parts (Acct []) parts is e = rw e refl
+its_parts (Acct (b ∷ v)) parts is e = rw e refl
+its_parts (Stat None) parts is e = rw e refl
+its_parts (Stat (Some path)) parts is e = rw e refl
+its_parts (Nlst None) parts is e = rw e refl
+its_parts (Nlst (Some path)) parts is e = rw e refl
+its_parts (Mlst None) parts is e = rw e refl
+its_parts (Mlst (Some path)) parts is e = rw e refl
+its_parts (Mlsd None) parts is e = rw e refl
+its_parts (Mlsd (Some path)) parts is e = rw e refl
+its_parts (List options path) parts is e = absurd is
+its_parts (Site name arguments) parts is e = absurd is
+its_parts (Other name arguments) parts is e = absurd is
+its_parts command parts is e = rw e refl
 
 pub ruleset taking = (refused)

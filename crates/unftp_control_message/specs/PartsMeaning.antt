@@ -2,7 +2,7 @@
 use Rattle.std.specs.Prelude.{◌≡◌, ◌+◌, ◌<◌, ℕ, ⊤, length, Result, Ok, Err}
 use Rattle.std.specs.Str.{IsUtf8}
 use Rattle.std.specs.Str.Lossy.{utf8_lossy}
-use Rattle.unftp_control_defs.specs.FtpCommand.{Answer, InvalidCommand, Nothing, Number, Raw, Text, Chosen, Value as SaidValue, Said}
+use Rattle.unftp_control_defs.specs.FtpCommand.{Answer, FtpCommand, InvalidCommand, List, Nothing, Other, Site, Number, Raw, Text, Chosen, Value as SaidValue, Said}
 use Rattle.unftp_control_defs.specs.Said.{answer_of}
 use Rattle.unftp_control_defs.specs.declared.verb.Kind.{Kind}
 use Rattle.unftp_control_defs.specs.declared.verb.Kind.TheVariants as kinds
@@ -38,6 +38,14 @@ abbrev pub IsInPlace : Value → Type 0
 IsInPlace (rust.Raw (sent.Escaped bytes)) = ⊥
 IsInPlace (rust.Lossy value) = ⊥
 IsInPlace _ = ⊤
+
+-- Its parts say all of the command: there are no options of LIST, and no name that may be spelled
+-- in another case.
+abbrev pub IsItsParts : FtpCommand → Type 0
+IsItsParts (List options path) = ⊥
+IsItsParts (Site name arguments) = ⊥
+IsItsParts (Other name arguments) = ⊥
+IsItsParts command = ⊤
 
 -- A text that could be borrowed is: one that is not in place is ill-formed, or sent with NULs.
 abbrev pub IsBorrowed : Value → Type 0

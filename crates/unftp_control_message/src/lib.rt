@@ -2,8 +2,10 @@
 //! and the errors that a caller gets.
 #![tactic(auto)]
 
-ghost use Rattle.std.specs.Prelude.{◌≡◌, IfOk};
+ghost use Rattle.std.specs.Prelude.{◌≡◌, IfOk, option_map, string_bytes};
+ghost use Rattle.unftp_control_defs.specs.FtpCommand.{List, Other, Site};
 ghost use Rattle.unftp_control_message.specs.CommandMeaning.{command_of};
+ghost use Rattle.unftp_control_message.specs.PartsMeaning.{IsItsParts};
 
 /// Gives a macro each command, after its other arguments: its variant, what its verb takes, and its
 /// fields. `chosen` names the variant of `Choice`.
@@ -262,12 +264,12 @@ pub enum Command {
     },
 }
 
-/// Clones a command by the fields of each variant.
-macro_rules! clone_of {
-    ($command:expr, $($variant:ident $($takes:ident)+ { $($field:ident),* })*) => {
-        match $command {
-            $(Command::$variant { $($field),* } =>
-                Ok(Command::$variant { $($field: $field.clone()?),* }),)*
+/// A command with a clone of the field.
+macro_rules! with_clone {
+    ($field:ident, $command:expr) => {
+        match $field.clone() {
+            Ok($field) => Ok($command),
+            Err(error) => Err(error),
         }
     };
 }
@@ -275,12 +277,68 @@ macro_rules! clone_of {
 impl Command {
     /// A command that means the same, or `AllocError` when out of memory, which leaves this one as
     /// it is.
-    pub fn clone(&self, _alloc: Global) -> Result<Command, AllocError>
+    pub fn clone(&self, alloc: Global) -> Result<Command, AllocError>
         ensures { IfOk result (λ command. command_of command ≡ command_of self.now) }
     {
-        // each field has its own allocator
-        for_each_command!(clone_of!(self))
+        // what holds `Bytes` shares them, and parts lack options and the case of a name
+        match self {
+            Command::User { username } => with_clone!(username, Command::User { username }),
+            Command::Pass { password } => with_clone!(password, Command::Pass { password }),
+            Command::Acct { account } => with_clone!(account, Command::Acct { account }),
+            Command::Stat { path } => with_clone!(path, Command::Stat { path }),
+            Command::List { options, path } => list(options, path),
+            Command::Site { command, arguments } => site(command, arguments),
+            Command::Other {
+                command_name,
+                arguments,
+            } => other(command_name, arguments),
+            command => command.from_its_parts(alloc),
+        }
     }
+
+    /// The command that its parts are.
+    fn from_its_parts(&self, alloc: Global) -> Result<Command, AllocError>
+        requires { IsItsParts (command_of self.now) }
+        ensures { IfOk result (λ command. command_of command ≡ command_of self.now) }
+    {
+        match Command::from_parts(alloc, &self.parts()) {
+            Ok(command) => Ok(command),
+            Err(_) => Err(AllocError),
+        }
+    }
+}
+
+/// LIST with clones of these.
+fn list(options: &Option<String>, path: &Option<String>) -> Result<Command, AllocError>
+    ensures { IfOk result (λ command. command_of command
+        ≡ List (option_map string_bytes options.now) (option_map string_bytes path.now)) }
+{
+    Ok(Command::List {
+        options: options.clone()?,
+        path: path.clone()?,
+    })
+}
+
+/// SITE with clones of these.
+fn site(command: &String, arguments: &String) -> Result<Command, AllocError>
+    ensures { IfOk result (λ site. command_of site
+        ≡ Site (string_bytes command.now) (string_bytes arguments.now)) }
+{
+    Ok(Command::Site {
+        command: command.clone()?,
+        arguments: arguments.clone()?,
+    })
+}
+
+/// Another verb with clones of these.
+fn other(command_name: &String, arguments: &String) -> Result<Command, AllocError>
+    ensures { IfOk result (λ other. command_of other
+        ≡ Other (string_bytes command_name.now) (string_bytes arguments.now)) }
+{
+    Ok(Command::Other {
+        command_name: command_name.clone()?,
+        arguments: arguments.clone()?,
+    })
 }
 
 /// What Debug writes; of PASS one text under all flags, which shows neither the password's bytes

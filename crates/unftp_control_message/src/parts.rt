@@ -1,6 +1,6 @@
 //! What a command says: a verb, a name and a value, borrowed from its line or from the command.
 ghost use Rattle.std.specs.Prelude.{◌≡◌, ◌↔◌, IsTrue, option_map, string_bytes};
-ghost use Rattle.unftp_control_defs.specs.FtpCommand.{Chosen, maybe_raw, maybe_text, unless_empty, named, plain, said};
+ghost use Rattle.unftp_control_defs.specs.FtpCommand.{maybe_raw, maybe_text, said, unless_empty};
 ghost use Rattle.unftp_control_defs.specs.Said.{HasTypedFields, answer_of, name_and_value, value_bytes, word_and_value};
 ghost use Rattle.unftp_control_message.specs.CommandMeaning.{command_of};
 ghost use Rattle.unftp_control_message.specs.PartsMeaning.{AreInPlace, IsInPlace, Makes, given, said_len, said_of, spelled};
@@ -158,45 +158,11 @@ macro_rules! command_of {
     };
 }
 
-/// What a command of one row of the table says.
-macro_rules! said {
-    (nothing; $variant:ident) => {
-        saying(Verb::$variant, Value::None)
-    };
-    (no_buffer; $variant:ident) => {
-        chosen(Verb::$variant, Choice::NoBuffer)
-    };
-    (chosen $choice:ident; $variant:ident $field:ident) => {
-        chosen(Verb::$variant, Choice::$choice(*$field))
-    };
-    (number; $variant:ident $field:ident) => {
-        saying(Verb::$variant, Value::Number(*$field))
-    };
-    (bytes; $variant:ident $field:ident) => {
-        saying(Verb::$variant, bytes($field.as_slice()))
-    };
-    (password; $variant:ident $field:ident) => {
-        saying(Verb::$variant, bytes($field.as_ref()))
-    };
-    (text; $variant:ident $field:ident) => {
-        saying(Verb::$variant, Value::Text($field.as_str()))
-    };
-    (listing; $variant:ident $options:ident $path:ident) => {
-        saying(Verb::$variant, optional_text($path))
-    };
-    ($takes:ident; $variant:ident $field:ident) => {
-        saying(Verb::$variant, $takes($field))
-    };
-    ($takes:ident; $variant:ident $name:ident $arguments:ident) => {
-        named(Verb::$variant, $name.as_str(), $arguments.as_str())
-    };
-}
-
-/// What a command says.
-macro_rules! said_of {
+/// The verb of a command.
+macro_rules! verb_of {
     ($command:expr, $($variant:ident $($takes:ident)+ { $($field:ident),* })*) => {
         match $command {
-            $(Command::$variant { $($field),* } => said!($($takes)+; $variant $($field)*),)*
+            $(Command::$variant { .. } => Verb::$variant,)*
         }
     };
 }
@@ -226,48 +192,86 @@ impl Command {
     /// What the command says, in its own memory (RFC 959, section 5.3). The value is none where the
     /// command has none, and for an empty name, password, account or argument; of LIST it is the
     /// path alone.
-    #[tactic(auto, using(crate::proofs::SaidLemmas::texts))]
     pub fn parts(&self) -> Parts<'_>
         ensures says { spelled result ≡ said (command_of self.now) }
         ensures in_place { IsInPlace result.value }
         // Its texts are UTF-8, and its offset has 64 bits.
         ensures typed { HasTypedFields (command_of self.now) }
     {
-        for_each_command!(said_of!(self))
+        Parts {
+            verb: self.verb(),
+            name: self.name(),
+            value: self.value(),
+        }
     }
-}
 
-/// A verb with a word of its own, and this value.
-fn saying<'a>(verb: Verb, value: Value<'a>) -> Parts<'a>
-    ensures says { spelled result ≡ plain verb (given value.entry) }
-    ensures value { result.value ≡ value.entry }
-{
-    Parts {
-        verb,
-        name: "",
-        value,
+    /// Which command it is.
+    #[inline(always)]
+    fn verb(&self) -> Verb
+        ensures { result ≡ (said (command_of self.now)).verb }
+    {
+        for_each_command!(verb_of!(self))
     }
-}
 
-/// A verb with one of a few values.
-fn chosen<'a>(verb: Verb, choice: Choice) -> Parts<'a>
-    ensures says { spelled result ≡ plain verb (Chosen choice) }
-    ensures in_place { IsInPlace result.value }
-{
-    saying(verb, Value::Chosen(choice))
-}
+    /// The name of another subcommand of SITE, or of another verb; else empty.
+    #[inline(always)]
+    fn name(&self) -> &str
+        ensures { result.now ≡ (said (command_of self.now)).name }
+    {
+        match self {
+            Command::Site { command: name, .. }
+            | Command::Other {
+                command_name: name,
+                ..
+            } => name.as_str(),
+            _ => "",
+        }
+    }
 
-/// A verb with this name, and arguments.
-fn named<'a>(verb: Verb, name: &'a str, arguments: &'a str) -> Parts<'a>
-    ensures says { spelled result ≡ named verb name.now arguments.now }
-    ensures in_place { IsInPlace result.value }
-{
-    let value = if arguments.is_empty() {
-        Value::None
-    } else {
-        Value::Text(arguments)
-    };
-    Parts { verb, name, value }
+    /// Its value; of LIST the path.
+    #[inline(always)]
+    #[tactic(auto, using(crate::proofs::SaidLemmas::texts))]
+    fn value(&self) -> Value<'_>
+        ensures value { given result ≡ (said (command_of self.now)).value }
+        ensures in_place { IsInPlace result }
+        ensures typed { HasTypedFields (command_of self.now) }
+    {
+        match self {
+            Command::User { username: value } | Command::Acct { account: value } => {
+                bytes(value.as_slice())
+            }
+            Command::Pass { password } => bytes(password.as_ref()),
+            Command::Stat { path } => optional_bytes(path),
+            Command::Stru { structure } => Value::Chosen(Choice::Structure(*structure)),
+            Command::Mode { mode } => Value::Chosen(Choice::Mode(*mode)),
+            Command::Opts { option } => Value::Chosen(Choice::Setting(*option)),
+            Command::Auth { protocol } => Value::Chosen(Choice::Mechanism(*protocol)),
+            Command::Prot { param } => Value::Chosen(Choice::Protection(*param)),
+            Command::Pbsz {} => Value::Chosen(Choice::NoBuffer),
+            Command::Rest { offset } => Value::Number(*offset),
+            Command::List { path, .. }
+            | Command::Nlst { path }
+            | Command::Mlst { path }
+            | Command::Mlsd { path } => optional_text(path),
+            Command::Site { arguments, .. } | Command::Other { arguments, .. } => {
+                text(arguments.as_str())
+            }
+            Command::Port { addr: text }
+            | Command::Retr { path: text }
+            | Command::Stor { path: text }
+            | Command::Appe { path: text }
+            | Command::Cwd { path: text }
+            | Command::Dele { path: text }
+            | Command::Rmd { path: text }
+            | Command::Mkd { path: text }
+            | Command::Rnfr { file: text }
+            | Command::Rnto { file: text }
+            | Command::Size { file: text }
+            | Command::Mdtm { file: text }
+            | Command::Md5 { file: text } => Value::Text(text.as_str()),
+            _ => Value::None,
+        }
+    }
 }
 
 /// Bytes, or none where there are none.
@@ -290,6 +294,17 @@ fn optional_bytes(bytes: &Option<Bytes>) -> Value<'_>
         Some(bytes) => Value::Raw(Sent::Plain(bytes.as_slice())),
         None => Value::None,
     }
+}
+
+/// A text, or none where it is empty.
+fn text(text: &str) -> Value<'_>
+    ensures value { given result ≡ maybe_text (unless_empty text.now) }
+    ensures in_place { IsInPlace result }
+{
+    if text.is_empty() {
+        return Value::None;
+    }
+    Value::Text(text)
 }
 
 /// A text or none.
