@@ -1,15 +1,15 @@
 //! What the handler answers.
-ghost use Rattle.std.specs.Prelude.{◌≡◌, Bool, false, IfOk, IfErr, string_bytes};
+ghost use Rattle.std.specs.Prelude.{◌≡◌, Bool, false, IfOk, IfErr, option_map, string_bytes};
 ghost use Rattle.unftp_control_message.specs.CommandMeaning.{command_of};
 ghost use Rattle.unftp_control_defs.specs.Events.{out_of_memory, Refused};
-ghost use Rattle.unftp_control_defs.specs.FtpCommand.{Site as FtpSite};
+ghost use Rattle.unftp_control_defs.specs.FtpCommand.{Mlst as FtpMlst, Site as FtpSite};
 ghost use Rattle.unftp_control_message.specs.ErrorMeaning.{fault_of};
 ghost use Rattle.unftp_control_message.specs.ReplyMeaning.{reply_of};
 ghost use Rattle.unftp_control_serve.specs.EventMeaning.{event_meant};
 ghost use Rattle.demo_responses.specs.Responses.{command_reply, event_reply, not_implemented, responses_law};
 
 use std::alloc::Global;
-use unftp_control_commands::{Auth, Epsv, Feat, Help, Mlst, Mode, Opts, Passive, Prot, Stru};
+use unftp_control_answers::{Auth, Epsv, Feat, Help, Mode, Opts, Passive, Prot, Stru, facts_reply};
 use unftp_control_message::Command;
 use unftp_control_message::reply::error::{ControlChanError, Source};
 use unftp_control_message::reply::{Reply, ReplyCode};
@@ -90,11 +90,23 @@ fn answer_command(alloc: Global, command: Command) -> Result<Reply, ControlChanE
         Command::Mode { mode } => Mode::new(mode).reply(alloc),
         Command::Opts { option } => Opts::new(option).reply(alloc),
         Command::Stru { structure } => Stru::new(structure).reply(alloc),
-        Command::Mlst { path } => Mlst::new(path).reply_with(alloc, "/", FACTS),
+        Command::Mlst { path } => answer_mlst(alloc, path),
         Command::Noop => Reply::new(alloc, ReplyCode::CommandOkay, "OK"),
         Command::Quit => Reply::new(alloc, ReplyCode::ClosingControlConnection, "Bye"),
         Command::Site { command, arguments } => answer_site(alloc, command, arguments),
         _ => not_implemented(alloc),
+    }
+}
+
+/// The response to MLST.
+fn answer_mlst(alloc: Global, path: Option<String>) -> Result<Reply, ControlChanError>
+    ensures ok { IfOk result (λ reply.
+        reply_of reply ≡ command_reply (FtpMlst (option_map string_bytes path))) }
+    ensures err { IfErr result (λ error. fault_of error ≡ out_of_memory) }
+{
+    match &path {
+        Some(path) => facts_reply(alloc, FACTS, path.as_str()),
+        None => facts_reply(alloc, FACTS, "/"),
     }
 }
 

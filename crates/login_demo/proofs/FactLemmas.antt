@@ -4,7 +4,8 @@ use Rattle.std.proofs.Common.{◌≡◌, ℕ, ℤ, ◌++◌, false, Some, None, 
 use Rattle.std.specs.Fmt.{digits}
 use Rattle.std.specs.Result.{IfOk}
 use Rattle.unftp_control_defs.specs.Bytes.{Bytes}
-use Rattle.unftp_control_commands.specs.Facts.{FileFacts, IsFacts, IsFactsReply, IsTimeText, facts_reply, id_fact, modify_fact, type_fact}
+use Rattle.unftp_control_answers.specs.Answers.{facts_reply}
+use Rattle.unftp_control_commands.specs.Facts.{FileFacts, IsFacts, IsFactsReply, IsTimeText, id_fact, modify_fact, type_fact}
 use Rattle.unftp_control_message.specs.ReplyMeaning.{reply_of}
 use Rattle.unftp_control_message.specs.declared.reply.reply.Reply.{Reply}
 use Rattle.unftp_control_commands.proofs.FactTextLemmas.{IsFacts-unique, IsTimeText-unique}

@@ -42,9 +42,9 @@ pub use Rattle.unftp_control_codecs.specs.FirstLine
 pub use Rattle.unftp_control_codecs.specs.Decoding
 pub use Rattle.unftp_control_codecs.specs.Calls
 pub use Rattle.unftp_control_codecs.specs.ReplyCodes
-pub use Rattle.unftp_control_commands.specs.Answers
+pub use Rattle.unftp_control_answers.specs.Answers
 pub use Rattle.unftp_control_commands.specs.Facts
-pub use Rattle.unftp_control_commands.specs.ReplyTexts
+pub use Rattle.unftp_control_answers.specs.ReplyTexts
 pub use Rattle.unftp_control_serve.specs.EventMeaning
 pub use Rattle.unftp_control_serve.specs.Decoder
 pub use Rattle.unftp_control_serve.specs.Writing

@@ -1,6 +1,3 @@
 mod YearLemmas
 pub mod FactTextLemmas
-mod ReplaceLemmas
-mod QuoteLemmas
-mod SingleLineLemmas
 pub mod CivilLemmas

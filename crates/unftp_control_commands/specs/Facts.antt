@@ -1,10 +1,11 @@
--- The facts of a file (RFC 3659, section 7.5), each ended by a semicolon, and the reply to MLST.
+-- The facts of a file (RFC 3659, section 7.5), each ended by a semicolon, in the reply to MLST.
 use Rattle.std.specs.Prelude.{◌≡◌, ℕ, ◌+◌, ◌/◌, ◌%◌, ℤ, pos, negsuc, ◌∷◌, ◌++◌, [], Bool, nat_lt, if◌then◌else◌, codes, decimal, Option, None, Some}
 use Rattle.jiff_core.specs.declared.civil.datetime.DateTime.{DateTime}
 use Rattle.jiff_core.specs.declared.timestamp.Timestamp.{Timestamp}
 use Rattle.jiff_core.specs.DateTime.{civil_nanos}
 use Rattle.unftp_control_defs.specs.Bytes.{Bytes}
-use Rattle.unftp_control_defs.specs.FtpReply.{FtpReply, MultiLine}
+use Rattle.unftp_control_defs.specs.FtpReply.{FtpReply}
+use Rattle.unftp_control_answers.specs.Answers.{facts_reply}
 
 -- a number below 100 in two digits
 abbrev pub two_digits : ℕ → Bytes
@@ -53,11 +54,6 @@ IsFacts file facts =
     × (facts ≡ type_fact file.is_dir ++ codes "size=" ++ decimal file.size ++ codes ";"
     ++ modify_fact time
     ++ id_fact (codes "unix.uid=") file.uid ++ id_fact (codes "unix.gid=") file.gid)
-
--- MLST (RFC 3659, section 7.2)
-abbrev pub facts_reply : Bytes → Bytes → FtpReply
-facts_reply facts path =
-    MultiLine 250 (codes " Listing" ∷ (codes " " ++ facts ++ codes " " ++ path) ∷ codes "End" ∷ [])
 
 abbrev pub IsFactsReply : FileFacts → Bytes → FtpReply → Type 0
 IsFactsReply file path reply =

@@ -4,12 +4,13 @@ ghost use Rattle.unftp_control_defs.specs.Events.{out_of_memory};
 ghost use Rattle.unftp_control_defs.specs.FtpReply.{CodeAndMsg};
 ghost use Rattle.unftp_control_message.specs.ErrorMeaning.{fault_of};
 ghost use Rattle.unftp_control_message.specs.ReplyMeaning.{reply_of};
-ghost use Rattle.unftp_control_commands.specs.Facts.{IsFactsReply, facts_reply};
+ghost use Rattle.unftp_control_answers.specs.Answers.{facts_reply};
+ghost use Rattle.unftp_control_commands.specs.Facts.{IsFactsReply};
 
 use crate::facts::{Metadata, format_facts};
-use crate::lines::append_lines;
-use std::alloc::{AllocError, Global};
+use std::alloc::Global;
 use std::marker::Model;
+use unftp_control_answers::facts_reply;
 use unftp_control_message::reply::error::ControlChanError;
 use unftp_control_message::reply::{Reply, ReplyCode};
 
@@ -82,19 +83,6 @@ impl Mlst {
             ≡ facts_reply facts.now (unwrap_or self.now cwd.now)) }
         ensures err { IfErr result (λ error. fault_of error ≡ out_of_memory) }
     {
-        Ok(facts_reply(alloc, facts, self.path_or(cwd))?)
+        facts_reply(alloc, facts, self.path_or(cwd))
     }
-}
-
-/// The reply with these facts of the path.
-fn facts_reply(alloc: Global, facts: &str, path: &str) -> Result<Reply, AllocError>
-    ensures { IfOk result (λ reply. reply_of reply ≡ facts_reply facts.now path.now) }
-{
-    let line = format!(in alloc; " {facts} {path}")?;
-    let mut lines = Vec::with_capacity(alloc, 3)?;
-    append_lines(&mut lines, &[" Listing", line.as_str(), "End"])?;
-    Ok(Reply::MultiLine {
-        code: ReplyCode::FileActionOkay,
-        lines,
-    })
 }

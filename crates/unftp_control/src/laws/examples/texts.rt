@@ -2,7 +2,7 @@
 //! at the boundary.
 ghost use Rattle.std.specs.Prelude.{◌≡◌, ◌++◌, codes};
 ghost use Rattle.unftp_control_codecs.specs.ReplyCodes.{IsReplyCode};
-ghost use Rattle.unftp_control_commands.specs.ReplyTexts.{HasNoFirstQuote, quoted};
+ghost use Rattle.unftp_control_answers.specs.ReplyTexts.{HasNoFirstQuote, quoted};
 
 /// What can follow a path between quotes. A quote can't: of two paths one would go on.
 pub fn quoted_paths_end_so()

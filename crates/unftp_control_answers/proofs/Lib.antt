@@ -1,0 +1,3 @@
+mod ReplaceLemmas
+mod QuoteLemmas
+mod SingleLineLemmas
