@@ -61,12 +61,14 @@ def body_of(lines, head, last, indent):
 def owner(lines, head):
     """The impl or trait that a line is in, as a check names it, or None where that isn't plain."""
     name = r"(?:\w+::)*(\w+)"
-    impl = re.compile(rf"impl(?:<.*?>)? (?:{name}(?:<.*>)? for )?(?:&(?:mut )?)?{name}")
+    impl = re.compile(rf"impl(<.*?>)? (?:{name}(?:<.*>)? for )?(?:&(?:mut )?)?{name}")
     for line in reversed(lines[: head - 1]):
         if found := re.match(r"(?:pub(?:\([^)]*\))? )?trait (\w+)", line):
             return found[1]
         if found := impl.match(line):
-            return found[2] + (found[1] or "")
+            # (an impl for each type that has a trait)
+            is_any = re.search(rf"[<,] *{found[3]} *[:,>]", found[1] or "")
+            return ("Any" if is_any else found[3]) + (found[2] or "")
         if line == "}":
             return None
     return None
