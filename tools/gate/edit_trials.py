@@ -235,7 +235,7 @@ class Trial:
 
     def check(self, texts, only, over, what):
         """Checks the crate with these texts, all of it or the named functions, over what was kept."""
-        with tempfile.TemporaryDirectory(prefix="edits-") as copy:
+        with tempfile.TemporaryDirectory(prefix="rt-edit-copy-") as copy:
             for part in PARTS:
                 if (self.source.folder / part).is_dir():
                     shutil.copytree(self.source.folder / part, f"{copy}/{part}")
