@@ -62,7 +62,7 @@ fn each_command_has_its_line_or_none() {
         let fields: Vec<Option<Vec<u8>>> = words[1..].iter().map(field).collect();
         match command(&words[0], &fields).to_line() {
             Ok(line) => assert_eq!(line, bytes(&answer), "{words:?}"),
-            Err(error) => assert_eq!((error, answer.as_str()), (Error::NoLine, "no-line")),
+            Err(error) => assert_eq!((error, answer.as_str()), (Error::NoLine, "NoLine")),
         }
     }
 }

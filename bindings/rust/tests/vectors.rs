@@ -247,7 +247,7 @@ fn each_code_from_100_to_599_has_its_reply() {
         let lines: Vec<String> =
             words[1..].iter().map(|word| String::from_utf8(bytes(word)).unwrap()).collect();
         match code {
-            None => assert_eq!(answer, "code-out-of-range"),
+            None => assert_eq!(answer, "CodeOutOfRange"),
             // one empty line is sent without the space, and a line feed divides two lines
             Some(_) if lines.concat().is_empty() || lines.concat().contains('\n') => {}
             Some(code) => assert_eq!(reply(code, &lines), Ok(bytes(&answer)), "{words:?}"),
@@ -285,7 +285,7 @@ fn each_line_is_forwarded_or_not() {
     for (words, answer) in calls("worked.tsv", &["forward"]) {
         let forwarded = match forward(&bytes(&words[0])) {
             Ok(line) => common::shown::quoted(&line),
-            Err(Error::NotALine) => "not-a-line".to_string(),
+            Err(Error::NotALine) => "NotALine".to_string(),
             Err(Error::Refused(refusal)) => {
                 format!("err {}", common::shown::shown_refusal(refusal))
             }

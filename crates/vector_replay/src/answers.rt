@@ -1,16 +1,10 @@
 //! Where answers go, and the marks of the calls.
-use crate::ends::End;
 use crate::shown::Quoted;
 use crate::words::CaseError;
 use std::alloc::{AllocError, Global};
-use std::fmt::Display;
+use std::fmt::{Debug, Display};
 use std::io;
 use std::io::{BufWriter, Stderr, Stdout, Write};
-use unftp_control_codecs::EncodeLinesError;
-use unftp_control_line_parser::{ParseError, ParseErrorKind};
-use unftp_control_message::reply::error::{ControlChanError, ControlChanErrorKind};
-use unftp_control_read::{NextReplyError, ReadReplyError};
-use unftp_control_write::{ForwardError, WriteCommandError};
 
 /// How many bytes a text may have without taking memory.
 const ROOM: usize = 1024;
@@ -25,7 +19,7 @@ pub struct Answers {
     pub alloc: Global,
     out: BufWriter<Stdout>,
     marks: Option<Stderr>,
-    /// The last text that was written between quotes, plain and under flags.
+    /// The last text that was written, plain and under flags.
     plain: String,
     flagged: String,
     /// Whether the call of the line has begun.
@@ -46,6 +40,11 @@ impl Answers {
             is_begun: false,
             failed: Ok(()),
         })
+    }
+
+    /// A buffer with room for the bytes of a reply.
+    pub fn room(&self) -> Result<Vec<u8>, AllocError> {
+        Vec::with_capacity(self.alloc, ROOM)
     }
 
     /// Keeps the first failure.
@@ -79,12 +78,22 @@ impl Answers {
     }
 
     /// Writes what was appended to a buffer of one byte; or why nothing was, where it has no other.
-    pub fn put_appended(&mut self, failure: Option<&str>, buf: &[u8]) {
-        match (failure, buf) {
-            (None, [b'x', appended @ ..]) => self.put(Quoted(appended)),
-            (Some(failure), [b'x']) => self.put(failure),
+    pub fn put_appended<E: Debug + Drop>(&mut self, made: Result<(), E>, buf: &[u8]) -> Answered {
+        match (made, buf) {
+            (Ok(()), [b'x', appended @ ..]) => self.put(Quoted(appended)),
+            (Err(error), [b'x']) => self.put(format_args!("{error:?}")),
             _ => self.put("changed"),
         }
+        Ok(())
+    }
+
+    /// Writes a text, or why it was not made.
+    pub fn put_made<E: Debug + Drop>(&mut self, made: Result<String, E>) -> Answered {
+        match made {
+            Ok(text) => self.put(Quoted(text.as_bytes())),
+            Err(error) => self.put(format_args!("{error:?}")),
+        }
+        Ok(())
     }
 
     /// Writes a part of a mark where marks are asked for.
@@ -103,21 +112,34 @@ impl Answers {
         }
     }
 
-    /// A call ran out of memory, and is made again.
-    pub fn out_of_memory(&mut self) {
-        self.mark("out of memory\n");
+    /// Whether a call ran out of memory, and is made again: each error has one name for it.
+    pub fn ran_out<T, E: Debug>(&mut self, made: &Result<T, E>) -> bool {
+        let Err(error) = made else {
+            return false;
+        };
+        let is_filled = fill(&mut self.plain, format_args!("{error:?}"));
+        let text = self.plain.as_str();
+        let is_so = is_filled && (text.contains("OutOfMemory") || text == "AllocError");
+        if is_so {
+            self.mark("out of memory\n");
+        }
+        is_so
     }
 
     /// A session ran out of memory, whose calls ended so and have written this, and is made again.
-    pub fn out_of_memory_after(&mut self, ends: &[End], written: &[u8]) {
-        self.mark(format_args!("out of memory {}", Quoted(written)));
-        ends.iter()
-            .for_each(|end| self.mark(format_args!(" | {end}")));
-        self.mark("\n");
+    pub fn out_of_memory_after(&mut self, ends: &str, written: &[u8]) {
+        let ends = ends.strip_suffix(" | ").unwrap_or(ends);
+        self.mark(format_args!("out of memory {} | {ends}\n", Quoted(written)));
     }
 
     /// Ends an answer; the first failure so far is returned.
-    pub fn end_line(&mut self) -> io::Result<()> {
+    pub fn end_line(&mut self, answered: Answered) -> io::Result<()> {
+        self.begin();
+        match answered {
+            Ok(()) => {}
+            Err(CaseError::NoCase) => self.put("bad-case"),
+            Err(CaseError::OutOfMemory) => return Err(io::ErrorKind::OutOfMemory.into()),
+        }
         self.is_begun = false;
         self.mark("end\n");
         self.put("\n");
@@ -139,74 +161,13 @@ fn fill(text: &mut String, shown: impl Display + Drop) -> bool {
     write!(text, "{shown}").is_ok()
 }
 
-/// An error that may say that memory ran out.
-pub trait Failure {
-    fn is_out_of_memory(&self) -> bool;
-}
-
-impl Failure for AllocError {
-    fn is_out_of_memory(&self) -> bool {
-        true
-    }
-}
-
-impl Failure for ParseError {
-    fn is_out_of_memory(&self) -> bool {
-        *self.kind() == ParseErrorKind::OutOfMemory
-    }
-}
-
-impl Failure for ControlChanError {
-    fn is_out_of_memory(&self) -> bool {
-        *self.kind() == ControlChanErrorKind::OutOfMemory
-    }
-}
-
-impl Failure for EncodeLinesError {
-    fn is_out_of_memory(&self) -> bool {
-        matches!(self, EncodeLinesError::OutOfMemory)
-    }
-}
-
-impl Failure for ForwardError {
-    fn is_out_of_memory(&self) -> bool {
-        matches!(self, ForwardError::OutOfMemory)
-    }
-}
-
-impl Failure for NextReplyError {
-    fn is_out_of_memory(&self) -> bool {
-        matches!(self, NextReplyError::OutOfMemory)
-    }
-}
-
-impl Failure for ReadReplyError {
-    fn is_out_of_memory(&self) -> bool {
-        matches!(self, ReadReplyError::OutOfMemory)
-    }
-}
-
-impl Failure for WriteCommandError {
-    fn is_out_of_memory(&self) -> bool {
-        matches!(self, WriteCommandError::OutOfMemory)
-    }
-}
-
-/// Whether a call ran out of memory.
-pub fn is_out_of_memory<T, E: Failure>(made: &Result<T, E>) -> bool {
-    match made {
-        Ok(_) => false,
-        Err(error) => error.is_out_of_memory(),
-    }
-}
-
-/// What the call returns; once more where it ran out of memory.
+/// Begins the call of the line: what it returns; once more where it ran out of memory.
 macro_rules! once_more {
     ($answers:expr, $call:expr) => {{
+        $answers.begin();
         let made = $call;
-        if crate::answers::is_out_of_memory(&made) {
+        if $answers.ran_out(&made) {
             drop(made);
-            $answers.out_of_memory();
             $call
         } else {
             made

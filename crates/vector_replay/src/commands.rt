@@ -1,22 +1,18 @@
-//! Calls that make the replies to single commands.
+//! Calls that make the replies to single commands, and texts for replies.
 use crate::answers::{Answered, Answers, once_more};
-use crate::replies::append_reply;
 use crate::shown::Quoted;
-use crate::texts::put_made;
 use crate::words::{CaseError, Word};
 use jiff::Timestamp;
 use std::alloc::Global;
+use unftp_control_codecs::encode_reply;
 use unftp_control_commands::{
     Auth, Epsv, Feat, Help, Metadata, Mlst, Mode, Opts, Passive, Prot, SessionChange, Stru,
-    format_facts, make_epsv_reply,
+    format_facts, make_epsv_reply, quoted_path, single_line_text,
 };
 use unftp_control_line_parser::parse;
 use unftp_control_message::Command;
 use unftp_control_message::reply::Reply;
 use unftp_control_message::reply::error::ControlChanError;
-
-/// How many bytes a reply may have without taking memory for them.
-const ROOM: usize = 1024;
 
 /// A file of which this is known.
 #[derive(Clone, Copy)]
@@ -58,64 +54,51 @@ impl Metadata for File {
     }
 }
 
-impl File {
-    /// The file of these words: its kind, size, instant, user and group.
-    fn read(words: &[Word<'_>]) -> Result<File, CaseError> {
-        let [kind, size, modified, uid, gid] = words else {
-            return Err(CaseError::NoCase);
-        };
-        Ok(File {
-            is_dir: match kind {
-                Word::Bare("dir") => true,
-                Word::Bare("file") => false,
-                _ => return Err(CaseError::NoCase),
-            },
-            size: size.number()?,
-            modified: read_instant(modified)?,
-            uid: uid.number()?,
-            gid: gid.number()?,
-        })
-    }
-}
-
 /// The instant so many nanoseconds after 1970, or `none`.
 fn read_instant(word: &Word<'_>) -> Result<Option<Timestamp>, CaseError> {
     if let Word::Bare("none") = word {
         return Ok(None);
     }
-    match Timestamp::from_nanosecond(word.number()?) {
-        Ok(instant) => Ok(Some(instant)),
-        Err(_) => Err(CaseError::NoCase),
-    }
+    let instant = Timestamp::from_nanosecond(word.number()?).ok();
+    Ok(Some(instant.ok_or(CaseError::NoCase)?))
 }
 
-/// What the server is set to.
+/// The file of these words: its kind, size, instant, user and group.
+fn read_file(words: &[Word<'_>]) -> Result<File, CaseError> {
+    let [kind, size, modified, uid, gid] = words else {
+        return Err(CaseError::NoCase);
+    };
+    Ok(File {
+        is_dir: match kind.name()? {
+            "dir" => true,
+            "file" => false,
+            _ => return Err(CaseError::NoCase),
+        },
+        size: size.number()?,
+        modified: read_instant(modified)?,
+        uid: uid.number()?,
+        gid: gid.number()?,
+    })
+}
+
+/// What a server is set to: words, and the number of a port.
 #[derive(Clone, Copy)]
-struct Settings {
-    tls: bool,
-    restart: bool,
-    site_md5: bool,
-    passive: Passive,
-}
+struct Settings<'a>(&'a [Word<'a>]);
 
-impl Settings {
-    /// The settings that these words name.
-    fn read(words: &[Word<'_>]) -> Result<Settings, CaseError> {
-        let mut settings = Settings {
-            tls: false,
-            restart: false,
-            site_md5: false,
-            passive: Passive::Prebound,
-        };
-        for word in words {
-            match word {
-                Word::Bare("tls") => settings.tls = true,
-                Word::Bare("restart") => settings.restart = true,
-                Word::Bare("site_md5") => settings.site_md5 = true,
-                port => settings.passive = Passive::Port(port.number()?),
-            }
+impl Settings<'_> {
+    /// Whether the word is there.
+    fn has(&self, name: &str) -> bool {
+        self.0.iter().any(|word| word.name().ok() == Some(name))
+    }
+
+    /// What the server listens on, by the one word that is no other setting.
+    fn passive(&self) -> Result<Passive, CaseError> {
+        let known = ["tls", "restart", "site_md5"];
+        let is_port = |word: &&Word<'_>| !known.iter().any(|name| word.name().ok() == Some(*name));
+        match self.0.iter().find(is_port) {
+            Some(port) => Ok(Passive::Port(port.number()?)),
+            None => Ok(Passive::Prebound),
         }
-        Ok(settings)
     }
 }
 
@@ -123,139 +106,95 @@ impl Settings {
 /// command without a reply of its own.
 type Replied = Result<Option<(Reply, Option<SessionChange>)>, ControlChanError>;
 
-/// A reply to a command that doesn't change the session.
-fn unchanging(made: Result<Reply, ControlChanError>) -> Replied {
-    Ok(Some((made?, None)))
+/// The reply to a line, of a server with these settings.
+fn reply_to(alloc: Global, line: &[u8], settings: Settings<'_>, passive: Passive) -> Replied {
+    let tls = settings.has("tls");
+    let reply = match parse(alloc, line)? {
+        Command::Auth { protocol } => return changing(Auth::new(protocol).reply(alloc, tls)),
+        Command::Prot { param } => return changing(Prot::new(param).reply(alloc, tls)),
+        Command::Epsv => Epsv::new().reply(alloc, passive),
+        Command::Feat => {
+            Feat.reply(
+                alloc,
+                tls,
+                settings.has("restart"),
+                settings.has("site_md5"),
+            )
+        }
+        Command::Help => Help.reply(alloc),
+        Command::Mode { mode } => Mode::new(mode).reply(alloc),
+        Command::Opts { option } => Opts::new(option).reply(alloc),
+        Command::Stru { structure } => Stru::new(structure).reply(alloc),
+        command => {
+            drop(command);
+            return Ok(None);
+        }
+    };
+    Ok(Some((reply?, None)))
 }
 
-/// A reply to a command that may change it.
+/// A reply to a command that may change the session.
 fn changing(made: Result<(Reply, SessionChange), ControlChanError>) -> Replied {
     let (reply, change) = made?;
     Ok(Some((reply, Some(change))))
 }
 
-/// The reply to a line, of a server with these settings.
-fn reply_to(alloc: Global, line: &[u8], settings: Settings) -> Replied {
-    let Settings {
-        tls,
-        restart,
-        site_md5,
-        passive,
-    } = settings;
-    let command = parse(alloc, line)?;
-    match command {
-        Command::Auth { protocol } => changing(Auth::new(protocol).reply(alloc, tls)),
-        Command::Prot { param } => changing(Prot::new(param).reply(alloc, tls)),
-        Command::Epsv => unchanging(Epsv::new().reply(alloc, passive)),
-        Command::Feat => unchanging(Feat.reply(alloc, tls, restart, site_md5)),
-        Command::Help => unchanging(Help.reply(alloc)),
-        Command::Mode { mode } => unchanging(Mode::new(mode).reply(alloc)),
-        Command::Opts { option } => unchanging(Opts::new(option).reply(alloc)),
-        Command::Stru { structure } => unchanging(Stru::new(structure).reply(alloc)),
-        command => {
-            drop(command);
-            Ok(None)
-        }
+/// Writes the bytes of a reply, for which a buffer has room.
+fn put_reply(
+    made: Result<Reply, ControlChanError>,
+    mut buf: Vec<u8>,
+    answers: &mut Answers,
+) -> Answered {
+    if let Ok(reply) = &made {
+        let encoded = once_more!(answers, encode_reply(reply, &mut buf));
+        answers.put_where(encoded.is_err(), "failed ");
     }
-}
-
-/// Writes the bytes of a reply.
-fn put_reply(reply: Reply, buf: &mut Vec<u8>, answers: &mut Answers) {
-    append_reply(&reply, buf, answers);
-    drop(reply);
+    answers.put_where(made.is_err(), "failed ");
+    drop(made);
     answers.put(Quoted(buf.as_slice()));
-}
-
-/// Writes that a call failed though it was made again.
-fn put_failed(error: ControlChanError, answers: &mut Answers) {
-    drop(error);
-    answers.put("failed");
-}
-
-/// Writes the reply to a line, of a server with these settings.
-fn answer_of(line: &[u8], settings: Settings, answers: &mut Answers) -> Answered {
-    let mut buf = Vec::with_capacity(answers.alloc, ROOM)?;
-    answers.begin();
-    match once_more!(answers, reply_to(answers.alloc, line, settings)) {
-        Ok(Some((reply, change))) => {
-            put_reply(reply, &mut buf, answers);
-            if let Some(change) = change {
-                answers.put(format_args!(" {change:?}"));
-            }
-        }
-        Ok(None) => return Err(CaseError::NoCase),
-        Err(error) => put_failed(error, answers),
-    }
     Ok(())
 }
 
-/// The reply to MLST, where a file was found or else this fault.
-fn list(
-    alloc: Global,
-    mlst: &Mlst,
-    cwd: &str,
-    file: &Option<File>,
-    fault: &str,
-) -> Result<Reply, ControlChanError> {
-    mlst.reply(alloc, cwd, file.as_ref().ok_or(fault))
-}
-
-/// Writes that reply.
-fn put_listed(
-    mlst: &Mlst,
-    cwd: &str,
-    file: &Option<File>,
-    fault: &str,
-    buf: &mut Vec<u8>,
-    answers: &mut Answers,
-) {
-    match once_more!(answers, list(answers.alloc, mlst, cwd, file, fault)) {
-        Ok(reply) => put_reply(reply, buf, answers),
-        Err(error) => put_failed(error, answers),
-    }
-}
-
-/// The MLST that a line is.
-fn read_mlst(alloc: Global, line: &[u8]) -> Result<Mlst, CaseError> {
-    match parse(alloc, line) {
-        Ok(Command::Mlst { path }) => Ok(Mlst::new(path)),
-        _ => Err(CaseError::NoCase),
+/// Writes the reply to a line, of a server with these settings.
+fn answer_of(line: &[u8], settings: Settings<'_>, answers: &mut Answers) -> Answered {
+    let buf = answers.room()?;
+    let passive = settings.passive()?;
+    match once_more!(answers, reply_to(answers.alloc, line, settings, passive)) {
+        Ok(Some((reply, change))) => {
+            put_reply(Ok(reply), buf, answers)?;
+            if let Some(change) = change {
+                answers.put(format_args!(" {change:?}"));
+            }
+            Ok(())
+        }
+        Ok(None) => Err(CaseError::NoCase),
+        Err(error) => put_reply(Err(error), buf, answers),
     }
 }
 
 /// Writes the reply to MLST, where what was found is a file or `fault` and its text.
 fn answer_mlst(mlst: &Mlst, cwd: &str, found: &[Word<'_>], answers: &mut Answers) -> Answered {
-    let mut buf = Vec::with_capacity(answers.alloc, ROOM)?;
+    let buf = answers.room()?;
     let (file, fault) = match found {
         [Word::Bare("fault"), fault] => (None, fault.text()?),
-        file => (Some(File::read(file)?), ""),
+        file => (Some(read_file(file)?), ""),
     };
-    answers.begin();
-    put_listed(mlst, cwd, &file, fault, &mut buf, answers);
-    Ok(())
+    let made = once_more!(
+        answers,
+        mlst.reply(answers.alloc, cwd, file.as_ref().ok_or(fault))
+    );
+    put_reply(made, buf, answers)
 }
 
 /// `reply LINE SETTING..`, or `reply LINE cwd PATH FOUND..` where the line is one of MLST
-pub fn answer_reply(line: &[u8], given: &[Word<'_>], answers: &mut Answers) -> Answered {
-    match given {
-        [Word::Bare("cwd"), cwd, found @ ..] => {
-            let mlst = read_mlst(answers.alloc, line)?;
-            answer_mlst(&mlst, cwd.text()?, found, answers)
-        }
-        settings => answer_of(line, Settings::read(settings)?, answers),
+fn answer_reply(line: &[u8], given: &[Word<'_>], answers: &mut Answers) -> Answered {
+    let [Word::Bare("cwd"), cwd, found @ ..] = given else {
+        return answer_of(line, Settings(given), answers);
+    };
+    match parse(answers.alloc, line) {
+        Ok(Command::Mlst { path }) => answer_mlst(&Mlst::new(path), cwd.text()?, found, answers),
+        _ => Err(CaseError::NoCase),
     }
-}
-
-/// `epsv PORT`
-pub fn answer_epsv(port: &Word<'_>, answers: &mut Answers) -> Answered {
-    let mut buf = Vec::with_capacity(answers.alloc, ROOM)?;
-    let port = port.number()?;
-    answers.begin();
-    match once_more!(answers, make_epsv_reply(answers.alloc, port)) {
-        Ok(reply) => put_reply(reply, &mut buf, answers),
-        Err(error) => put_failed(error, answers),
-    }
-    Ok(())
 }
 
 /// Writes the facts of a file.
@@ -263,14 +202,31 @@ fn put_facts(file: &Option<File>, answers: &mut Answers) -> Answered {
     let Some(file) = file else {
         return Err(CaseError::NoCase);
     };
-    answers.begin();
     let made = once_more!(answers, format_facts(answers.alloc, file));
-    put_made(made, answers);
-    Ok(())
+    answers.put_made(made)
 }
 
-/// `facts KIND SIZE INSTANT USER GROUP`
-pub fn answer_facts(words: &[Word<'_>], answers: &mut Answers) -> Answered {
-    let file = Some(File::read(words)?);
-    put_facts(&file, answers)
+/// Answers a call that makes a reply or a text.
+pub fn answer(call: &str, words: &[Word<'_>], answers: &mut Answers) -> Answered {
+    let alloc = answers.alloc;
+    match (call, words) {
+        ("reply", [line, given @ ..]) => answer_reply(line.bytes()?, given, answers),
+        ("epsv", [port]) => {
+            let (buf, port) = (answers.room()?, port.number()?);
+            let made = once_more!(answers, make_epsv_reply(alloc, port));
+            put_reply(made, buf, answers)
+        }
+        ("facts", file) => put_facts(&Some(read_file(file)?), answers),
+        ("quoted_path", [path]) => {
+            let path = path.text()?;
+            let made = once_more!(answers, quoted_path(alloc, path));
+            answers.put_made(made)
+        }
+        ("single_line", [text]) => {
+            let text = text.text()?;
+            let made = once_more!(answers, single_line_text(alloc, text));
+            answers.put_made(made)
+        }
+        _ => Err(CaseError::NoCase),
+    }
 }

@@ -1,9 +1,9 @@
 //! Calls that decode lines from bytes that come in pieces.
 ghost use Rattle.std.specs.Prelude.{◌≤◌, ◌+◌, vec_len};
 
-use crate::answers::{Answered, Answers, is_out_of_memory, once_more};
+use crate::answers::{Answered, Answers, once_more};
 use crate::shown::Shown;
-use crate::steps::{Taker, room_for};
+use crate::steps::{Taker, make_steps, room_for};
 use crate::words::{CaseError, Word};
 use std::alloc::{AllocError, Global};
 use unftp_control_codecs::FtpCodec;
@@ -13,70 +13,88 @@ use unftp_control_message::reply::error::{ControlChanError, Source};
 /// What `decode` returns.
 type Decoded = Result<Option<Command>, ControlChanError>;
 
-/// Writes the kinds of a refusal and of its source.
-pub fn put_refusal(error: &ControlChanError, answers: &mut Answers) {
-    let kind = error.kind();
-    answers.put(format_args!("err {kind:?}"));
-    if let Source::Parse(source) = error.source() {
-        answers.put(format_args!(" {:?}", source.kind()));
+/// Writes what a line is read as: its command, or the kinds of its refusal and of what that comes
+/// from.
+pub fn put_line(line: Result<&Command, &ControlChanError>, answers: &mut Answers) {
+    match line {
+        Ok(command) => answers.put(format_args!("ok {}", Shown(command))),
+        Err(error) => {
+            answers.put(format_args!("err {:?}", error.kind()));
+            if let Source::Parse(source) = error.source() {
+                answers.put(format_args!(" {:?}", source.kind()));
+            }
+        }
     }
 }
 
-/// Writes a command that was decoded, or the refusal of a line; `false` where no line is complete.
-fn put_decoded(decoded: Decoded, answers: &mut Answers) -> bool {
-    match &decoded {
-        Ok(None) => return false,
-        Ok(Some(command)) => answers.put(format_args!("ok {}", Shown(command))),
-        Err(error) => put_refusal(error, answers),
-    }
-    drop(decoded);
-    true
-}
-
-/// A codec and its buffer.
+/// A codec, and its bytes.
 #[derive(Drop)]
-pub struct Decoding {
+struct Decoding {
     alloc: Global,
     codec: FtpCodec,
-    pub buf: Vec<u8>,
-    ghost within: { codec.place ≤ vec_len buf },
+    bytes: Vec<u8>,
+    /// Whether slices are decoded, of which the codec takes no byte away.
+    is_slice: bool,
+    /// How many bytes were taken of those that are still there, and how many by the last call.
+    start: usize,
+    taken: usize,
+    ghost within: { start + codec.place ≤ vec_len bytes },
 }
 
 impl Decoding {
-    /// A new codec, and what its buffer has.
-    pub fn new(alloc: Global, buf: Vec<u8>) -> Decoding {
-        Decoding {
-            alloc,
-            codec: FtpCodec::new(),
-            buf,
+    /// What `decode` or `decode_slice` returns.
+    fn decode(&mut self) -> Decoded {
+        if !self.is_slice {
+            self.start = 0;
+            return self.codec.decode(self.alloc, &mut self.bytes);
         }
+        let (_, rest) = self.bytes.as_slice().split_at(self.start);
+        let (taken, decoded) = self.codec.decode_slice(self.alloc, rest);
+        self.start += taken;
+        self.taken = taken;
+        decoded
     }
 
-    /// What `decode` returns; once more where memory ran out.
-    pub fn next_command(&mut self, answers: &mut Answers) -> Decoded {
-        once_more!(answers, self.codec.decode(self.alloc, &mut self.buf))
+    /// Writes how many bytes a call on a slice took, and what the codec is then.
+    fn put_taken(&self, answers: &mut Answers) {
+        let (taken, place) = (self.taken, self.codec.place());
+        answers.put(format_args!(" taken={taken} place={place}"));
+        answers.put_where(self.codec.skipping(), " skipping");
     }
 }
 
 impl Taker for Decoding {
     fn push(&mut self, piece: &[u8]) -> Result<(), AllocError> {
-        self.buf.extend_from_slice(piece)
-    }
-
-    fn most(&self) -> usize {
-        self.buf.len()
+        self.bytes.extend_from_slice(piece)
     }
 
     fn take(&mut self, answers: &mut Answers) -> bool {
-        let is_line = put_decoded(self.next_command(answers), answers);
-        answers.put_where(is_line, " | ");
-        is_line
+        let decoded = once_more!(answers, self.decode());
+        match &decoded {
+            Ok(None) => return false,
+            Ok(Some(command)) => put_line(Ok(command), answers),
+            Err(error) => put_line(Err(error), answers),
+        }
+        drop(decoded);
+        if self.is_slice {
+            self.put_taken(answers);
+        }
+        answers.put(" | ");
+        true
+    }
+
+    fn act(&mut self, _step: &str, _bytes: &[u8], _answers: &mut Answers) -> Answered {
+        Err(CaseError::NoCase)
     }
 
     /// Writes how many bytes are left; also the scan offset, where it isn't at their end, and
     /// whether bytes are skipped.
     fn put_left(&self, answers: &mut Answers) {
-        let (place, left) = (self.codec.place(), self.buf.len());
+        if self.is_slice {
+            answers.put("none");
+            return self.put_taken(answers);
+        }
+        let (place, left) = (self.codec.place(), self.bytes.len());
         answers.put(format_args!("left={left}"));
         if place != left {
             answers.put(format_args!(" place={place}"));
@@ -85,112 +103,49 @@ impl Taker for Decoding {
     }
 }
 
-/// `decode LIMIT PIECE..`
-pub fn answer_decode(limit: &Word<'_>, pieces: &[Word<'_>], answers: &mut Answers) -> Answered {
-    let buf = Vec::with_capacity(answers.alloc, room_for(pieces))?;
-    let mut decoding = Decoding {
-        alloc: answers.alloc,
-        codec: FtpCodec::resume(limit.limit()?, 0, false),
-        buf,
-    };
-    decoding.feed_all(pieces, answers)
-}
-
-/// A codec, and bytes whose first ones are taken.
-#[derive(Drop)]
-struct Slicing {
-    alloc: Global,
+/// Decodes the pieces with this codec, after these bytes.
+fn decode_pieces(
     codec: FtpCodec,
     bytes: Vec<u8>,
-    start: usize,
-    /// How many bytes the last call took that found no line.
-    dropped: usize,
-    ghost within: { start + codec.place ≤ vec_len bytes },
+    is_slice: bool,
+    pieces: &[Word<'_>],
+    answers: &mut Answers,
+) -> Answered
+    requires { codec.place ≤ vec_len bytes }
+{
+    let mut decoding = Decoding {
+        alloc: answers.alloc,
+        codec,
+        bytes,
+        is_slice,
+        start: 0,
+        taken: 0,
+    };
+    make_steps(&mut decoding, pieces, " | ", answers)
 }
 
-impl Slicing {
-    /// What `decode_slice` returns of the bytes that are left.
-    fn decode(&mut self) -> (usize, Decoded) {
-        let (_, rest) = self.bytes.as_slice().split_at(self.start);
-        let (taken, decoded) = self.codec.decode_slice(self.alloc, rest);
-        self.start += taken;
-        (taken, decoded)
-    }
-
-    /// The same, once more where memory ran out.
-    fn next_command(&mut self, answers: &mut Answers) -> (usize, Decoded) {
-        let (taken, decoded) = self.decode();
-        if !is_out_of_memory(&decoded) {
-            return (taken, decoded);
-        }
-        drop(decoded);
-        answers.out_of_memory();
-        self.decode()
-    }
-
-    /// Writes how many bytes a call took, and what the codec is then.
-    fn put_taken(&self, taken: usize, answers: &mut Answers) {
-        let place = self.codec.place();
-        answers.put(format_args!(" taken={taken} place={place}"));
-        answers.put_where(self.codec.skipping(), " skipping");
-    }
+/// `decode LIMIT PIECE..`
+pub fn answer_decode(limit: &Word<'_>, pieces: &[Word<'_>], answers: &mut Answers) -> Answered {
+    let bytes = Vec::with_capacity(answers.alloc, room_for(pieces))?;
+    let codec = FtpCodec::resume(limit.limit()?, 0, false);
+    decode_pieces(codec, bytes, false, pieces, answers)
 }
 
-impl Taker for Slicing {
-    fn push(&mut self, piece: &[u8]) -> Result<(), AllocError> {
-        self.bytes.extend_from_slice(piece)
-    }
-
-    fn most(&self) -> usize {
-        self.bytes.len()
-    }
-
-    fn take(&mut self, answers: &mut Answers) -> bool {
-        let (taken, decoded) = self.next_command(answers);
-        if !put_decoded(decoded, answers) {
-            self.dropped = taken;
-            return false;
-        }
-        self.put_taken(taken, answers);
-        answers.put(" | ");
-        true
-    }
-
-    fn put_left(&self, answers: &mut Answers) {
-        answers.put("none");
-        self.put_taken(self.dropped, answers);
-    }
-}
-
-/// `decode_slice LIMIT PLACE PIECE..`
+/// `decode_slice LIMIT PLACE BYTES PIECE..`
 pub fn answer_decode_slice(
     limit: &Word<'_>,
     place: &Word<'_>,
+    first: &Word<'_>,
     pieces: &[Word<'_>],
     answers: &mut Answers,
 ) -> Answered {
-    let (limit, place) = (limit.limit()?, place.number()?);
-    let [first, later @ ..] = pieces else {
-        return Err(CaseError::NoCase);
-    };
-    let mut bytes = Vec::with_capacity(answers.alloc, room_for(pieces))?;
-    bytes.extend_from_slice(first.bytes()?)?;
-    if place > bytes.len() {
+    let (first, place) = (first.bytes()?, place.number()?);
+    if place > first.len() {
         return Err(CaseError::NoCase);
     }
-    let mut slicing = Slicing {
-        alloc: answers.alloc,
-        codec: FtpCodec::resume(limit, place, false),
-        bytes,
-        start: 0,
-        dropped: 0,
-    };
-    answers.begin();
-    slicing.feed(&[], answers);
-    slicing.put_left(answers);
-    if !later.is_empty() {
-        answers.put(" | ");
-        slicing.feed_all(later, answers)?;
-    }
-    Ok(())
+    let room = first.len().saturating_add(room_for(pieces));
+    let mut bytes = Vec::with_capacity(answers.alloc, room)?;
+    bytes.extend_from_slice(first)?;
+    let codec = FtpCodec::resume(limit.limit()?, place, false);
+    decode_pieces(codec, bytes, true, pieces, answers)
 }

@@ -1,8 +1,8 @@
 //! Calls of a decoder of events, and of a log of them.
 use crate::answers::{Answered, Answers, once_more};
-use crate::decoding::put_refusal;
-use crate::shown::{Quoted, Shown};
-use crate::steps::{Clear, Taker, make_steps};
+use crate::decoding::put_line;
+use crate::shown::Quoted;
+use crate::steps::{Taker, make_steps};
 use crate::words::{CaseError, Word};
 use std::alloc::AllocError;
 use unftp_control_log::write_log_line;
@@ -21,18 +21,11 @@ impl Taker for Events {
         self.decoder.push(piece)
     }
 
-    fn most(&self) -> usize {
-        self.decoder.pending().len()
-    }
-
     fn take(&mut self, answers: &mut Answers) -> bool {
         let Ok(Some(event)) = once_more!(answers, self.decoder.next_event()) else {
             return false;
         };
-        match &event {
-            Event::Command(command) => answers.put(format_args!("ok {}", Shown(command))),
-            Event::Refused(error) => put_refusal(error, answers),
-        }
+        put_event(&event, answers);
         drop(event);
         if self.has_lines {
             answers.put(format_args!(" of {}", Quoted(self.decoder.line())));
@@ -41,9 +34,17 @@ impl Taker for Events {
         true
     }
 
+    fn act(&mut self, step: &str, _bytes: &[u8], _answers: &mut Answers) -> Answered {
+        if step != "clear" {
+            return Err(CaseError::NoCase);
+        }
+        self.decoder.clear();
+        Ok(())
+    }
+
     /// Writes how many bytes are left, and how many of these are pending, where it isn't all.
     fn put_left(&self, answers: &mut Answers) {
-        let (left, pending) = (self.decoder.left(), self.most() as u64);
+        let (left, pending) = (self.decoder.left(), self.decoder.pending().len() as u64);
         answers.put(format_args!("left={left}"));
         if pending != left {
             answers.put(format_args!(" pending={pending}"));
@@ -51,9 +52,11 @@ impl Taker for Events {
     }
 }
 
-impl Clear for Events {
-    fn clear(&mut self) {
-        self.decoder.clear();
+/// Writes what a line is read as.
+pub fn put_event(event: &Event, answers: &mut Answers) {
+    match event {
+        Event::Command(command) => put_line(Ok(command), answers),
+        Event::Refused(error) => put_line(Err(error), answers),
     }
 }
 
@@ -73,20 +76,7 @@ pub fn answer_events(
     answers: &mut Answers,
 ) -> Answered {
     let decoder = read_decoder(limit, answers)?;
-    make_steps(&mut Events { decoder, has_lines }, steps, answers)
-}
-
-/// Appends what a log has of the event of a line; or the answer where memory ran out.
-fn append_logged(
-    event: &Event,
-    line: &[u8],
-    buf: &mut Vec<u8>,
-    answers: &mut Answers,
-) -> Option<&'static str> {
-    match once_more!(answers, write_log_line(event, line, buf)) {
-        Ok(()) => None,
-        Err(_) => Some("failed"),
-    }
+    make_steps(&mut Events { decoder, has_lines }, steps, " | ", answers)
 }
 
 /// `log LIMIT LINE`
@@ -97,9 +87,7 @@ pub fn answer_log(limit: &Word<'_>, line: &Word<'_>, answers: &mut Answers) -> A
     let Some(event) = decoder.next_event()? else {
         return Err(CaseError::NoCase);
     };
-    answers.begin();
-    let failure = append_logged(&event, decoder.line(), &mut buf, answers);
+    let logged = once_more!(answers, write_log_line(&event, decoder.line(), &mut buf));
     drop(event);
-    answers.put_appended(failure, buf.as_slice());
-    Ok(())
+    answers.put_appended(logged, buf.as_slice())
 }

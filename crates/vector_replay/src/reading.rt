@@ -1,15 +1,20 @@
-//! Calls that read replies.
+//! Calls that read replies, and those of a client.
 use crate::answers::{Answered, Answers, once_more};
 use crate::shown::Quoted;
-use crate::steps::{Clear, Taker, make_steps};
-use crate::words::Word;
+use crate::steps::{Taker, make_steps};
+use crate::words::{CaseError, Word};
 use std::alloc::AllocError;
+use unftp_control_client::{Client, To};
+use unftp_control_line_parser::parse;
 use unftp_control_read::{Front, NextReplyError, ReadReplyError, ReplyDecoder, read_reply};
+
+/// How many bytes of lines are sent without memory for them.
+const ROOM: usize = 1 << 16;
 
 /// Writes the code of a reply and its lines.
 fn put_reply(code: u16, lines: &[Vec<u8>], answers: &mut Answers) {
-    answers.put(format_args!("{code:03}:"));
-    let mut separator = "";
+    answers.put(format_args!("{code:03}"));
+    let mut separator = ":";
     for line in lines {
         answers.put(format_args!("{separator}{}", Quoted(line.as_slice())));
         separator = ",";
@@ -49,12 +54,13 @@ pub fn answer_read(bytes: &[u8], answers: &mut Answers) -> Answered {
     Ok(())
 }
 
-/// Writes why no reply is taken.
-pub fn put_no_reply(error: &NextReplyError, answers: &mut Answers) {
+/// Writes why no reply is taken, if there is a reason.
+fn put_no_reply(error: Option<NextReplyError>, answers: &mut Answers) {
     answers.put(match error {
-        NextReplyError::Malformed => "malformed | ",
-        NextReplyError::TooLong => "too-long | ",
-        NextReplyError::OutOfMemory => "failed | ",
+        None => "",
+        Some(NextReplyError::Malformed) => "malformed | ",
+        Some(NextReplyError::TooLong) => "too-long | ",
+        Some(NextReplyError::OutOfMemory) => "failed | ",
     });
 }
 
@@ -63,31 +69,27 @@ impl Taker for ReplyDecoder {
         ReplyDecoder::push(self, piece)
     }
 
-    fn most(&self) -> usize {
-        self.pending().len()
-    }
-
     fn take(&mut self, answers: &mut Answers) -> bool {
-        match once_more!(answers, self.next_reply()) {
-            Ok(Some(reply)) => {
-                put_reply(reply.code, reply.lines.as_slice(), answers);
-                answers.put(" | ");
-                return true;
-            }
-            Ok(None) => {}
-            Err(error) => put_no_reply(&error, answers),
+        let taken = once_more!(answers, self.next_reply());
+        if let Ok(Some(reply)) = &taken {
+            put_reply(reply.code, reply.lines.as_slice(), answers);
+            answers.put(" | ");
+            return true;
         }
+        put_no_reply(taken.err(), answers);
         false
     }
 
-    fn put_left(&self, answers: &mut Answers) {
-        answers.put(format_args!("left={}", self.most()));
+    fn act(&mut self, step: &str, _bytes: &[u8], _answers: &mut Answers) -> Answered {
+        if step != "clear" {
+            return Err(CaseError::NoCase);
+        }
+        self.clear();
+        Ok(())
     }
-}
 
-impl Clear for ReplyDecoder {
-    fn clear(&mut self) {
-        ReplyDecoder::clear(self);
+    fn put_left(&self, answers: &mut Answers) {
+        answers.put(format_args!("left={}", self.pending().len()));
     }
 }
 
@@ -97,5 +99,74 @@ pub fn answer_receive(limit: &Word<'_>, steps: &[Word<'_>], answers: &mut Answer
         Some(limit) => ReplyDecoder::with_limit(answers.alloc, limit),
         None => ReplyDecoder::new(answers.alloc),
     };
-    make_steps(&mut decoder, steps, answers)
+    make_steps(&mut decoder, steps, " | ", answers)
+}
+
+/// A client, and a buffer for the lines that it sends.
+#[derive(Drop)]
+struct Talk {
+    client: Client,
+    out: Vec<u8>,
+}
+
+impl Talk {
+    /// Sends the command that a line is read as; whether it was.
+    fn send_command(&mut self, line: &[u8], answers: &mut Answers) -> bool {
+        let Ok(command) = once_more!(answers, parse(answers.alloc, line)) else {
+            return false;
+        };
+        let is_sent = self.client.send(&command, &mut self.out).is_ok();
+        drop(command);
+        is_sent
+    }
+}
+
+impl Taker for Talk {
+    fn push(&mut self, piece: &[u8]) -> Result<(), AllocError> {
+        self.client.receive(piece)
+    }
+
+    fn take(&mut self, answers: &mut Answers) -> bool {
+        let taken = once_more!(answers, self.client.next_reply());
+        let Ok(Some(taken)) = taken else {
+            put_no_reply(taken.err(), answers);
+            return false;
+        };
+        match taken.to {
+            To::Greeting => answers.put("greeting"),
+            To::Command(place) => answers.put(place),
+            To::Nothing => answers.put("nothing"),
+        }
+        answers.put(format_args!(" {:03} | ", taken.reply.code));
+        drop(taken);
+        true
+    }
+
+    fn act(&mut self, step: &str, bytes: &[u8], answers: &mut Answers) -> Answered {
+        let is_sent = match step {
+            "send" => self.client.send_line(bytes, &mut self.out).is_ok(),
+            "command" => self.send_command(bytes, answers),
+            _ => return Err(CaseError::NoCase),
+        };
+        answers.put_where(!is_sent, "not sent | ");
+        Ok(())
+    }
+
+    /// Only the end says what is owed and left.
+    fn put_left(&self, _answers: &mut Answers) {}
+}
+
+/// `client LIMIT ACT..`: `send` and a line, `command` and the line of one, or a piece that comes.
+pub fn answer_client(limit: &Word<'_>, acts: &[Word<'_>], answers: &mut Answers) -> Answered {
+    let client = match limit.limit()? {
+        Some(limit) => Client::with_limit(answers.alloc, limit),
+        None => Client::new(answers.alloc),
+    };
+    let out = Vec::with_capacity(answers.alloc, ROOM)?;
+    let mut talk = Talk { client, out };
+    make_steps(&mut talk, acts, "", answers)?;
+    let (owed, left) = (talk.client.owed(), talk.client.pending().len());
+    answers.put(format_args!("owed={owed} left={left}"));
+    answers.put_where(talk.client.tls_agreed(), " tls");
+    Ok(())
 }

@@ -1,50 +1,37 @@
 //! Calls on replies.
 use crate::answers::{Answered, Answers, once_more};
+use crate::commands;
+use crate::reading::answer_read;
+use crate::sessions::answer_session;
 use crate::shown::Quoted;
 use crate::words::{CaseError, Word, read_texts};
 use std::alloc::Global;
-use unftp_control_codecs::{EncodeLinesError, encode_lines, encode_reply};
+use unftp_control_codecs::{encode_lines, encode_reply};
 use unftp_control_message::reply::error::ControlChanError;
 use unftp_control_message::reply::{Reply, ReplyCode};
 
-/// What a reply is made of.
-#[derive(Drop)]
-enum Parts<'a> {
-    None,
-    Line(ReplyCode, &'a str),
-    Lines(ReplyCode, Vec<&'a str>),
-}
-
-/// The code of this number.
-fn read_code(number: &Word<'_>) -> Result<ReplyCode, CaseError> {
-    ReplyCode::from_number(number.number()?).ok_or(CaseError::NoCase)
-}
-
-impl Parts<'_> {
-    /// What these words name: `none`; `msg`, a code and a text; or `multi`, a code and texts.
-    fn read<'a>(alloc: Global, words: &'a [Word<'_>]) -> Result<Parts<'a>, CaseError> {
-        match words {
-            [Word::Bare("none")] => Ok(Parts::None),
-            [Word::Bare("msg"), code, text] => Ok(Parts::Line(read_code(code)?, text.text()?)),
-            [Word::Bare("multi"), code, lines @ ..] => {
-                Ok(Parts::Lines(read_code(code)?, read_texts(alloc, lines)?))
-            }
-            _ => Err(CaseError::NoCase),
+/// The reply of these words: `none`; `msg`, a code and a text; or `multi`, a code and texts.
+fn reply_of(
+    alloc: Global,
+    words: &[Word<'_>],
+) -> Result<Result<Reply, ControlChanError>, CaseError> {
+    let code = match words {
+        [Word::Bare("none")] => return Ok(Ok(Reply::none())),
+        [_, code, ..] => ReplyCode::from_number(code.number()?).ok_or(CaseError::NoCase)?,
+        _ => return Err(CaseError::NoCase),
+    };
+    match words {
+        [Word::Bare("msg"), _, text] => Ok(Reply::new(alloc, code, text.text()?)),
+        [Word::Bare("multi"), _, lines @ ..] => {
+            let texts = lines.iter().map(|line| line.text().unwrap_or(""));
+            Ok(Reply::new_multiline(alloc, code, texts))
         }
-    }
-
-    /// The reply of these.
-    fn reply(&self, alloc: Global) -> Result<Reply, ControlChanError> {
-        match self {
-            Parts::None => Ok(Reply::none()),
-            Parts::Line(code, text) => Reply::new(alloc, *code, text),
-            Parts::Lines(code, lines) => Reply::new_multiline(alloc, *code, lines.iter().copied()),
-        }
+        _ => Err(CaseError::NoCase),
     }
 }
 
 /// Appends the bytes of a reply, once more where memory ran out; `failed` where they are not there.
-pub fn append_reply(reply: &Reply, buf: &mut Vec<u8>, answers: &mut Answers) {
+fn append_reply(reply: &Reply, buf: &mut Vec<u8>, answers: &mut Answers) {
     let appended = once_more!(answers, encode_reply(reply, buf));
     answers.put_where(appended.is_err(), "failed ");
 }
@@ -77,11 +64,9 @@ fn put_encoded(reply: Reply, buf: &mut Vec<u8>, answers: &mut Answers) {
 }
 
 /// `encode REPLY..`
-pub fn answer_encode(words: &[Word<'_>], answers: &mut Answers) -> Answered {
-    let parts = Parts::read(answers.alloc, words)?;
+fn answer_encode(words: &[Word<'_>], answers: &mut Answers) -> Answered {
     let mut buf = Vec::from_slice(answers.alloc, b"x")?;
-    answers.begin();
-    match once_more!(answers, parts.reply(answers.alloc)) {
+    match once_more!(answers, reply_of(answers.alloc, words)?) {
         Ok(reply) => put_encoded(reply, &mut buf, answers),
         Err(_) => answers.put("failed"),
     }
@@ -89,24 +74,17 @@ pub fn answer_encode(words: &[Word<'_>], answers: &mut Answers) -> Answered {
 }
 
 /// `lines CODE LINE..`
-pub fn answer_lines(code: &Word<'_>, lines: &[Word<'_>], answers: &mut Answers) -> Answered {
+fn answer_lines(code: &Word<'_>, lines: &[Word<'_>], answers: &mut Answers) -> Answered {
     let code = code.number()?;
     let lines = read_texts(answers.alloc, lines)?;
     let mut buf = Vec::from_slice(answers.alloc, b"x")?;
-    answers.begin();
-    let failure = match once_more!(answers, encode_lines(code, lines.as_slice(), &mut buf)) {
-        Ok(()) => None,
-        Err(EncodeLinesError::CodeOutOfRange) => Some("code-out-of-range"),
-        Err(EncodeLinesError::OutOfMemory) => Some("failed"),
-    };
-    answers.put_appended(failure, buf.as_slice());
-    Ok(())
+    let encoded = once_more!(answers, encode_lines(code, lines.as_slice(), &mut buf));
+    answers.put_appended(encoded, buf.as_slice())
 }
 
 /// `says REPLY..`
-pub fn answer_says(words: &[Word<'_>], answers: &mut Answers) -> Answered {
-    let parts = Parts::read(answers.alloc, words)?;
-    let Ok(reply) = parts.reply(answers.alloc) else {
+fn answer_says(words: &[Word<'_>], answers: &mut Answers) -> Answered {
+    let Ok(reply) = reply_of(answers.alloc, words)? else {
         return Err(CaseError::OutOfMemory);
     };
     answers.begin();
@@ -118,15 +96,26 @@ pub fn answer_says(words: &[Word<'_>], answers: &mut Answers) -> Answered {
 }
 
 /// `code NUMBER`
-pub fn answer_code(number: &Word<'_>, answers: &mut Answers) -> Answered {
+fn answer_code(number: &Word<'_>, answers: &mut Answers) -> Answered {
     let number = number.number()?;
     answers.begin();
     match ReplyCode::from_number(number) {
-        Some(code) => {
-            let number = code.number();
-            answers.put(format_args!("{code:?} {number}"));
-        }
+        Some(code) => answers.put(format_args!("{code:?} {}", code.number())),
         None => answers.put("none"),
     }
     Ok(())
+}
+
+/// Answers a call on replies, or one of another subject.
+pub fn answer(call: &str, words: &[Word<'_>], answers: &mut Answers) -> Answered {
+    match (call, words) {
+        ("encode", words) => answer_encode(words, answers),
+        ("lines", [code, lines @ ..]) => answer_lines(code, lines, answers),
+        ("says", words) => answer_says(words, answers),
+        ("code", [number]) => answer_code(number, answers),
+        ("read", [bytes]) => answer_read(bytes.bytes()?, answers),
+        ("serve", words) => answer_session(true, words, answers),
+        ("feed", words) => answer_session(false, words, answers),
+        _ => commands::answer(call, words, answers),
+    }
 }

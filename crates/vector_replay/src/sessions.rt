@@ -2,42 +2,56 @@
 ghost use Rattle.std.specs.Prelude.{◌≤◌, IfSome};
 
 use crate::answers::{Answered, Answers};
-use crate::ends::End;
-use crate::handlers::{Counting, EchoError, Okay, Silent, Tried};
+use crate::handlers::{Counting, Scripted, Tried, Wire};
 use crate::shown::Quoted;
 use crate::streams::{Pieces, Room, Turns, Writes};
-use crate::transfers::Wire;
 use crate::words::{CaseError, Word};
 use demo_responses::Responses;
 use std::alloc::{AllocError, Global};
 use transferring::Transfers;
-use unftp_control_serve::{Engine, Input, Output, Session, Sink, serve, serve_with_limit};
+use unftp_control_serve::{
+    Engine, Input, Output, ServeError, Session, Sink, serve, serve_with_limit,
+};
+
+/// How many bytes there are for how each call ended.
+const ROOM: usize = 48;
 
 /// How many bytes of replies are written before the writer's buffer grows.
 const RESERVED: usize = 1 << 16;
 
-/// Whether a session may have the word before its bytes; a value follows `=`.
-fn is_known(word: &Word<'_>) -> bool {
-    let Word::Bare(word) = word else {
-        return false;
+/// Notes how a call ended, for which there is room: its error, how many bytes are left where that
+/// is known, and whether the handler has ended the session.
+fn note(ends: &mut String, error: Option<ServeError>, left: Option<u64>, is_done: bool) {
+    let _ = match &error {
+        Some(error) => write!(ends, "{error:?}"),
+        None => write!(ends, "ok"),
     };
-    match word.split_once('=') {
-        None => matches!(*word, "wary" | "again" | "appended"),
-        Some(("limit", limit)) => Word::Bare(limit).limit().is_ok(),
-        Some(("reads", turns)) => Turns(turns).are_read(1),
-        Some(("turns" | "writes" | "flushes", turns)) => Turns(turns).are_read(0),
-        // the session has a handler of this name, or is no case
-        Some((name, _)) => name == "handler",
+    if let Some(left) = left {
+        let _ = write!(ends, " left={left}");
     }
+    let _ = ends.push_str(if is_done { " done | " } else { " | " });
 }
 
-/// The words and the bytes of a session.
+/// Whether memory ran out in a call that ended so.
+fn is_out_of_memory(ends: &str) -> bool {
+    ends.contains("OutOfMemory")
+}
+
+/// What a session is made of.
 #[derive(Clone, Copy)]
 struct SessionCase<'a> {
     alloc: Global,
     /// Whether it is served, and not fed.
     is_served: bool,
-    words: &'a [Word<'a>],
+    limit: &'a str,
+    handler: &'a str,
+    turns: Turns<'a>,
+    reads: Turns<'a>,
+    writes: Writes<'a>,
+    /// Whether it is served once more.
+    is_again: bool,
+    /// Whether replies are appended to a buffer.
+    is_appended: bool,
     /// The bytes that are served, or that a buffer holds before replies are appended.
     first: &'a [u8],
     /// The pieces that are fed.
@@ -45,227 +59,200 @@ struct SessionCase<'a> {
 }
 
 impl<'a> SessionCase<'a> {
-    /// What follows this name and its `=`, if they are there.
-    fn value(&self, name: &str) -> Option<&'a str> {
-        self.words
-            .iter()
-            .find_map(|word| word.name()?.strip_prefix(name))
+    /// The session of these words, and the bytes that follow them.
+    fn read(
+        alloc: Global,
+        is_served: bool,
+        words: &'a [Word<'a>],
+    ) -> Result<SessionCase<'a>, CaseError> {
+        let at = words.iter().position(|word| word.bytes().is_ok());
+        let (words, bytes) = words.split_at(at.unwrap_or(words.len()));
+        let mut case = SessionCase {
+            alloc,
+            is_served,
+            limit: "none",
+            handler: "demo",
+            turns: Turns("all"),
+            reads: Turns("all"),
+            writes: Writes {
+                writes: Turns("all"),
+                flushes: Turns("all"),
+                is_wary: false,
+            },
+            is_again: false,
+            is_appended: false,
+            first: &[],
+            pieces: bytes,
+        };
+        for word in words {
+            case.read_word(word.name()?)?;
+        }
+        if is_served || case.is_appended {
+            let [first, later @ ..] = bytes else {
+                return Err(CaseError::NoCase);
+            };
+            case.first = first.bytes()?;
+            case.pieces = later;
+        }
+        let are_bytes = case.pieces.iter().all(|piece| piece.bytes().is_ok());
+        if !are_bytes || (is_served && !case.pieces.is_empty()) {
+            return Err(CaseError::NoCase);
+        }
+        Ok(case)
     }
 
-    /// Whether the word is there.
-    fn has(&self, name: &str) -> bool {
-        self.words.iter().any(|word| word.name() == Some(name))
-    }
-
-    /// The turns that this word has.
-    fn turns(&self, name: &str) -> Turns<'a> {
-        Turns(self.value(name).unwrap_or("all"))
+    /// Reads a word before the bytes; a value follows `=`.
+    fn read_word(&mut self, word: &'a str) -> Answered {
+        let (name, value) = word.split_once('=').unwrap_or((word, ""));
+        match name {
+            "wary" => self.writes.is_wary = true,
+            "again" => self.is_again = true,
+            "appended" => self.is_appended = true,
+            "handler" => self.handler = value,
+            "limit" if Word::Bare(value).limit().is_ok() => self.limit = value,
+            "turns" => self.turns = Turns::read(value, 0)?,
+            "reads" => self.reads = Turns::read(value, 1)?,
+            "writes" => self.writes.writes = Turns::read(value, 0)?,
+            "flushes" => self.writes.flushes = Turns::read(value, 0)?,
+            _ => return Err(CaseError::NoCase),
+        }
+        Ok(())
     }
 
     /// The most bytes of a line, if they are bounded.
     fn limit(&self) -> Option<usize>
         ensures { IfSome result (λ limit. 1 ≤ limit) }
     {
-        match Word::Bare(self.value("limit=")?).limit() {
+        match Word::Bare(self.limit).limit() {
             Ok(limit) => limit,
             // the limit of a case is one
             Err(_) => None,
         }
     }
 
-    /// A writer that holds what it holds at first, in this buffer.
-    fn room(&self, mut held: Vec<u8>) -> Room<'a> {
-        held.clear();
-        if self.has("appended") {
-            // there is room for them
-            let _ = held.extend_from_slice(self.first);
+    /// Answers the session by this handler. Where memory ran out, all calls are made again from the
+    /// start.
+    fn answer_by<H: Tried<'a>>(&self, answers: &mut Answers) -> Answered {
+        let mut run = Run::<H>::start(self)?;
+        answers.begin();
+        run.make();
+        if is_out_of_memory(run.ends.as_str()) {
+            answers.out_of_memory_after(run.ends.as_str(), run.room.held.as_slice());
+            run = Run::start(self)?;
+            run.make();
         }
-        let turns = Writes {
-            writes: self.turns("writes="),
-            flushes: self.turns("flushes="),
-            is_wary: self.has("wary"),
+        run.put(answers);
+        Ok(())
+    }
+}
+
+/// How a session goes.
+#[derive(Drop)]
+struct Run<'a, H> {
+    case: SessionCase<'a>,
+    handler: Counting<H>,
+    /// How the calls ended.
+    ends: String,
+    room: Room<'a>,
+    reader: Pieces<'a>,
+}
+
+impl<'a, H: Tried<'a>> Run<'a, H> {
+    /// A session of which no call was made, with room for what is written and how calls end.
+    fn start(case: &SessionCase<'a>) -> Result<Run<'a, H>, AllocError> {
+        let alloc = case.alloc;
+        let reserved = if case.is_appended {
+            case.first.len()
+        } else {
+            RESERVED
         };
-        Room::new(held, turns)
+        Ok(Run {
+            case: *case,
+            handler: Counting {
+                handler: H::start(alloc, case.handler, case.turns)?,
+                taken: 0,
+            },
+            ends: String::with_capacity(
+                alloc,
+                ROOM.saturating_mul(case.pieces.len().saturating_add(8)),
+            )?,
+            room: Room::new(Vec::with_capacity(alloc, reserved)?, case.writes),
+            reader: Pieces::new(case.first, usize::MAX, case.reads),
+        })
     }
 
-    /// Serves what the reader gives.
-    fn serve_once<H: Session>(
-        &self,
-        reader: &mut Input<Pieces<'a>>,
-        writer: &mut Output<Room<'a>>,
-        handler: &mut H,
-    ) -> End {
-        End::of_serve(match self.limit() {
-            None => serve(self.alloc, reader, writer, handler),
-            Some(limit) => serve_with_limit(self.alloc, limit, reader, writer, handler),
-        })
+    /// Makes all calls.
+    fn make(&mut self) {
+        if self.case.is_served {
+            self.serve();
+        } else if self.case.is_appended {
+            // there is room for them
+            let _ = self.room.held.extend_from_slice(self.case.first);
+            feed(
+                &self.case,
+                &mut self.handler,
+                &mut self.room.held,
+                &mut self.ends,
+            );
+        } else {
+            let mut output = Output::new(&mut self.room);
+            feed(&self.case, &mut self.handler, &mut output, &mut self.ends);
+        }
     }
 
     /// Serves the bytes, and once more where that is asked for.
-    fn serve<H: Session>(&self, handler: &mut H, room: Room<'a>, mut ends: Ends) -> Run<'a> {
-        let mut reader = Input::new(Pieces::new(self.first, self.turns("reads=")));
-        let mut writer = Output::new(room);
-        let is_over = ends.note(self.serve_once(&mut reader, &mut writer, handler));
-        if !is_over && self.has("again") {
-            let _ = ends.note(self.serve_once(&mut reader, &mut writer, handler));
-        }
-        let Pieces { reads, rest, .. } = reader.into_inner();
-        Run {
-            ends,
-            room: writer.into_inner(),
-            reads,
-            unread: rest,
-        }
-    }
-
-    /// Feeds the pieces to an engine.
-    fn feed<H: Session, K: Sink>(&self, handler: &mut H, sink: &mut K, ends: &mut Ends) {
-        let mut engine = match self.limit() {
-            None => Engine::new(self.alloc),
-            Some(limit) => Engine::with_limit(self.alloc, limit),
-        };
-        for piece in self.pieces {
-            if let Word::Bytes(piece) = piece {
-                let error = engine.feed(piece.as_slice(), handler, sink).err();
-                let _ = ends.note(End {
-                    error,
-                    left: Some(engine.left()),
-                    is_done: engine.finished(),
-                });
+    fn serve(&mut self) {
+        let mut reader = Input::new(&mut self.reader);
+        let mut writer = Output::new(&mut self.room);
+        let handler = &mut self.handler;
+        for is_again in [false, true] {
+            if is_again && (!self.case.is_again || is_out_of_memory(self.ends.as_str())) {
+                break;
+            }
+            let alloc = self.case.alloc;
+            let served = match self.case.limit() {
+                None => serve(alloc, &mut reader, &mut writer, handler),
+                Some(limit) => serve_with_limit(alloc, limit, &mut reader, &mut writer, handler),
+            };
+            match served {
+                Ok(served) => note(&mut self.ends, None, Some(served.left), served.done),
+                Err(error) => note(&mut self.ends, Some(error), None, false),
             }
         }
-        drop(engine);
     }
 
-    /// Makes all calls of the session.
-    fn run<H: Session>(&self, handler: &mut H, room: Room<'a>, mut ends: Ends) -> Run<'a> {
-        if self.is_served {
-            return self.serve(handler, room, ends);
-        }
-        let room = if self.has("appended") {
-            let mut room = room;
-            self.feed(handler, &mut room.held, &mut ends);
-            room
-        } else {
-            let mut output = Output::new(room);
-            self.feed(handler, &mut output, &mut ends);
-            output.into_inner()
-        };
-        Run {
-            ends,
-            room,
-            reads: 0,
-            unread: &[],
-        }
-    }
-
-    /// A handler that has taken nothing.
-    fn start<H: Tried<'a>>(&self) -> Counting<H> {
-        Counting {
-            handler: H::start(self.alloc, self.turns("turns=")),
-            taken: 0,
-        }
-    }
-
-    /// Makes all calls of the session, with what the handler is then. Where memory ran out, they are
-    /// made again from the start.
-    fn tried<H: Tried<'a>>(
-        &self,
-        answers: &mut Answers,
-    ) -> Result<(Counting<H>, Run<'a>), CaseError> {
-        let ends = Ends::with_room(self.alloc, self.pieces.len())?;
-        let buffer = Vec::with_capacity(self.alloc, self.reserved())?;
-        answers.begin();
-        let mut handler = self.start::<H>();
-        let run = self.run(&mut handler, self.room(buffer), ends);
-        if !run.ends.is_out_of_memory {
-            return Ok((handler, run));
-        }
-        answers.out_of_memory_after(run.ends.ends.as_slice(), run.room.held.as_slice());
-        let Run { room, mut ends, .. } = run;
-        ends.clear();
-        let mut again = self.start::<H>();
-        let run = self.run(&mut again, self.room(room.into_held()), ends);
-        Ok((again, run))
-    }
-
-    /// Answers the session by this handler.
-    fn answer_by<H: Tried<'a>>(&self, answers: &mut Answers) -> Answered {
-        let (handler, run) = self.tried::<H>(answers)?;
-        run.ends
-            .ends
-            .iter()
-            .for_each(|end| answers.put(format_args!("{end} | ")));
-        let written = Quoted(run.room.held.as_slice());
-        answers.put(format_args!("written={written} flushed={} ", run.room.flushed));
-        answers.put(format_args!("taken={}", handler.taken));
-        handler.handler.put_last(answers);
-        if self.is_served {
-            answers.put(format_args!(" reads={} unread={}", run.reads, Quoted(run.unread)));
-        }
-        Ok(())
-    }
-
-    /// Answers the session.
-    fn answer(&self, answers: &mut Answers) -> Answered {
-        match self.value("handler=").unwrap_or("demo") {
-            "demo" => self.answer_by::<Responses>(answers),
-            "okay" => self.answer_by::<Okay<'a>>(answers),
-            "silent" => self.answer_by::<Silent>(answers),
-            "echo_error" => self.answer_by::<EchoError>(answers),
-            "transfers" => self.answer_by::<Transfers<Wire<'a>>>(answers),
-            _ => Err(CaseError::NoCase),
-        }
-    }
-
-    /// How many bytes are written before the writer's buffer grows.
-    fn reserved(&self) -> usize {
-        if self.has("appended") {
-            self.first.len()
-        } else {
-            RESERVED
+    /// Writes the answer.
+    fn put(&self, answers: &mut Answers) {
+        answers.put(self.ends.as_str());
+        let written = Quoted(self.room.held.as_slice());
+        answers.put(format_args!("written={written} flushed={} ", self.room.flushed));
+        answers.put(format_args!("taken={}", self.handler.taken));
+        self.handler.handler.put_last(answers);
+        if self.case.is_served {
+            let (reads, unread) = (self.reader.reads, Quoted(self.reader.rest));
+            answers.put(format_args!(" reads={reads} unread={unread}"));
         }
     }
 }
 
-/// How a session went.
-#[derive(Drop)]
-struct Run<'a> {
-    ends: Ends,
-    room: Room<'a>,
-    reads: usize,
-    unread: &'a [u8],
-}
-
-/// How each call ended.
-#[derive(Drop)]
-struct Ends {
-    ends: Vec<End>,
-    is_out_of_memory: bool,
-}
-
-impl Ends {
-    /// Room for two more ends than there are pieces.
-    fn with_room(alloc: Global, pieces: usize) -> Result<Ends, AllocError> {
-        Ok(Ends {
-            ends: Vec::with_capacity(alloc, pieces.saturating_add(2))?,
-            is_out_of_memory: false,
-        })
+/// Feeds the pieces to an engine.
+fn feed<H: Session, K: Sink>(
+    case: &SessionCase<'_>,
+    handler: &mut H,
+    sink: &mut K,
+    ends: &mut String,
+) {
+    let mut engine = match case.limit() {
+        None => Engine::new(case.alloc),
+        Some(limit) => Engine::with_limit(case.alloc, limit),
+    };
+    for piece in case.pieces {
+        if let Word::Bytes(piece) = piece {
+            let error = engine.feed(piece.as_slice(), handler, sink).err();
+            note(ends, error, Some(engine.left()), engine.finished());
+        }
     }
-
-    /// A call has ended so; whether memory ran out.
-    fn note(&mut self, end: End) -> bool {
-        self.is_out_of_memory = self.is_out_of_memory || end.is_out_of_memory();
-        // there is room for it
-        let _ = self.ends.push(end);
-        self.is_out_of_memory
-    }
-
-    /// The calls are made again.
-    fn clear(&mut self) {
-        self.is_out_of_memory = false;
-        self.ends.clear();
-    }
+    drop(engine);
 }
 
 /// `serve WORD.. INPUT`, or `feed WORD.. PIECE..`
@@ -274,26 +261,11 @@ pub fn answer_session<'a>(
     words: &'a [Word<'a>],
     answers: &mut Answers,
 ) -> Answered {
-    let at = words
-        .iter()
-        .position(|word| word.name().is_none())
-        .unwrap_or(words.len());
-    let (words, bytes) = words.split_at(at);
-    let are_bytes = bytes.iter().all(|word| word.name().is_none());
-    if !words.iter().all(is_known) || !are_bytes || (is_served && bytes.len() != 1) {
-        return Err(CaseError::NoCase);
+    let case = SessionCase::read(answers.alloc, is_served, words)?;
+    match case.handler {
+        "demo" => case.answer_by::<Responses>(answers),
+        "okay" | "silent" | "echo_error" => case.answer_by::<Scripted<'a>>(answers),
+        "transfers" => case.answer_by::<Transfers<Wire<'a>>>(answers),
+        _ => Err(CaseError::NoCase),
     }
-    let is_appended = words.iter().any(|word| word.name() == Some("appended"));
-    let (first, pieces) = match bytes {
-        [first, pieces @ ..] if is_served || is_appended => (first.bytes()?, pieces),
-        pieces => (b"".as_slice(), pieces),
-    };
-    let case = SessionCase {
-        alloc: answers.alloc,
-        is_served,
-        words,
-        first,
-        pieces,
-    };
-    case.answer(answers)
 }

@@ -1,5 +1,9 @@
 //! What takes what is complete of bytes that come in pieces.
 use crate::answers::{Answered, Answers, once_more};
+use crate::decoding::{answer_decode, answer_decode_slice};
+use crate::events::{answer_events, answer_log};
+use crate::reading::{answer_client, answer_receive};
+use crate::replies;
 use crate::words::{CaseError, Word};
 use std::alloc::AllocError;
 
@@ -8,87 +12,87 @@ pub trait Taker: Drop {
     /// A piece comes.
     fn push(&mut self, piece: &[u8]) -> Result<(), AllocError>;
 
-    /// At least as many bytes as are pending.
-    fn most(&self) -> usize;
-
     /// Takes the next, and writes it or why there is none; whether there was one.
     fn take(&mut self, answers: &mut Answers) -> bool;
 
+    /// Makes a step of its own.
+    fn act(&mut self, step: &str, bytes: &[u8], answers: &mut Answers) -> Answered;
+
     /// Writes what is left.
     fn put_left(&self, answers: &mut Answers);
-
-    /// A piece comes; once more where memory ran out.
-    fn push_once_more(&mut self, piece: &[u8], answers: &mut Answers) {
-        if once_more!(answers, self.push(piece)).is_err() {
-            answers.put("out of memory | ");
-        }
-    }
-
-    /// A piece comes, and all that is complete is taken.
-    fn feed(&mut self, piece: &[u8], answers: &mut Answers) {
-        self.push_once_more(piece, answers);
-        // what is taken has at least one byte, so the last call finds none
-        for _ in 0..=self.most() {
-            if !self.take(answers) {
-                break;
-            }
-        }
-    }
-
-    /// Each of the pieces is fed, and what is left is written.
-    fn feed_all(&mut self, pieces: &[Word<'_>], answers: &mut Answers) -> Answered {
-        answers.begin();
-        let mut separator = "";
-        for piece in pieces {
-            answers.put(separator);
-            self.feed(piece.bytes()?, answers);
-            self.put_left(answers);
-            separator = " | ";
-        }
-        Ok(())
-    }
 }
 
-/// A taker that can drop what is pending.
-pub trait Clear: Taker {
-    fn clear(&mut self);
+/// Makes a step: `next`, `push` or `feed`, after which all that is complete is taken, or another.
+fn make_step<T: Taker>(taker: &mut T, step: &str, bytes: &[u8], answers: &mut Answers) -> Answered {
+    let takes: u64 = match step {
+        "feed" => u64::MAX,
+        "next" => 1,
+        "push" => 0,
+        step => return taker.act(step, bytes, answers),
+    };
+    if step != "next" && once_more!(answers, taker.push(bytes)).is_err() {
+        answers.put("out of memory | ");
+    }
+    for _ in 0..takes {
+        if !taker.take(answers) {
+            break;
+        }
+    }
+    Ok(())
 }
 
-/// Makes the steps, and writes what is left after each: `next`, `clear`, `push` and a piece, or a
-/// piece that is fed.
-pub fn make_steps<T: Clear>(taker: &mut T, steps: &[Word<'_>], answers: &mut Answers) -> Answered {
+/// Makes the steps, and writes what is left after each: `next`, `clear`, a piece that is fed, or
+/// another word and its bytes.
+pub fn make_steps<T: Taker>(
+    taker: &mut T,
+    steps: &[Word<'_>],
+    separator: &str,
+    answers: &mut Answers,
+) -> Answered {
     answers.begin();
-    let mut separator = "";
-    let mut is_pushed = false;
+    let mut name = "feed";
+    let mut before = "";
     for step in steps {
-        if let Word::Bare("push") = step {
-            is_pushed = true;
-            continue;
-        }
-        answers.put(separator);
-        match step {
-            Word::Bytes(piece) if is_pushed => taker.push_once_more(piece.as_slice(), answers),
-            Word::Bytes(piece) => taker.feed(piece.as_slice(), answers),
-            Word::Bare("next") => {
-                let _ = taker.take(answers);
+        let bytes = match step {
+            Word::Bytes(bytes) => bytes.as_slice(),
+            Word::Bare(word @ ("next" | "clear")) => {
+                name = *word;
+                b"".as_slice()
             }
-            Word::Bare("clear") => taker.clear(),
-            Word::Bare(_) => return Err(CaseError::NoCase),
-        }
+            Word::Bare(word) => {
+                name = *word;
+                continue;
+            }
+        };
+        answers.put(before);
+        make_step(taker, name, bytes, answers)?;
         taker.put_left(answers);
-        is_pushed = false;
-        separator = " | ";
+        name = "feed";
+        before = separator;
     }
     Ok(())
 }
 
 /// How many bytes these words have between quotes.
 pub fn room_for(pieces: &[Word<'_>]) -> usize {
-    let mut room: usize = 0;
-    for piece in pieces {
-        if let Word::Bytes(bytes) = piece {
-            room = room.saturating_add(bytes.len());
+    let lens = pieces
+        .iter()
+        .map(|piece| piece.bytes().map_or(0, |bytes| bytes.len()));
+    lens.fold(0, |room: usize, len| room.saturating_add(len))
+}
+
+/// Answers a call on an input in pieces, or one of another subject.
+pub fn answer(call: &str, words: &[Word<'_>], answers: &mut Answers) -> Answered {
+    match (call, words) {
+        ("decode", [limit, pieces @ ..]) => answer_decode(limit, pieces, answers),
+        ("decode_slice", [limit, place, first, later @ ..]) => {
+            answer_decode_slice(limit, place, first, later, answers)
         }
+        ("events", [limit, steps @ ..]) => answer_events(limit, steps, false, answers),
+        ("event_lines", [limit, steps @ ..]) => answer_events(limit, steps, true, answers),
+        ("log", [limit, line]) => answer_log(limit, line, answers),
+        ("receive", [limit, steps @ ..]) => answer_receive(limit, steps, answers),
+        ("client", [limit, acts @ ..]) => answer_client(limit, acts, answers),
+        _ => replies::answer(call, words, answers),
     }
-    room
 }

@@ -22,13 +22,18 @@ fn read_turn(turn: &str) -> Result<io::Result<usize>, CaseError> {
 #[derive(Clone, Copy)]
 pub struct Turns<'a>(pub &'a str);
 
-impl Turns<'_> {
-    /// Whether each word is a turn, and each number of bytes at least this one.
-    pub fn are_read(&self, least: usize) -> bool {
-        self.0.split(',').all(|turn| match read_turn(turn) {
+impl<'a> Turns<'a> {
+    /// These turns, if each word is one, and each number of bytes at least this one.
+    pub fn read(words: &'a str, least: usize) -> Result<Turns<'a>, CaseError> {
+        let are_turns = words.split(',').all(|turn| match read_turn(turn) {
             Ok(Ok(most)) => least <= most,
             turn => turn.is_ok(),
-        })
+        });
+        if are_turns {
+            Ok(Turns(words))
+        } else {
+            Err(CaseError::NoCase)
+        }
     }
 
     /// The most bytes of the next call, or its error.
@@ -47,14 +52,17 @@ pub struct Pieces<'a> {
     pub rest: &'a [u8],
     /// How many reads were made.
     pub reads: usize,
-    turns: Turns<'a>,
+    /// The most bytes that a read gives.
+    step: usize,
+    pub turns: Turns<'a>,
 }
 
 impl<'a> Pieces<'a> {
-    pub fn new(bytes: &'a [u8], turns: Turns<'a>) -> Pieces<'a> {
+    pub fn new(bytes: &'a [u8], step: usize, turns: Turns<'a>) -> Pieces<'a> {
         Pieces {
             rest: bytes,
             reads: 0,
+            step,
             turns,
         }
     }
@@ -66,7 +74,7 @@ impl Read for Pieces<'_> {
     fn read(&mut self, buf: &mut [u8]) -> io::Result<usize> {
         self.reads = self.reads.saturating_add(1);
         // a read of no bytes would be the end of the input, and no case has one
-        let most = self.turns.next()?.max(1);
+        let most = self.turns.next()?.min(self.step).max(1);
         let n = buf.len().min(most).min(self.rest.len());
         let (taken, rest) = self.rest.split_at(n);
         buf[..n].copy_from_slice(taken);
@@ -103,12 +111,6 @@ impl<'a> Room<'a> {
             is_unflushed: false,
             turns,
         }
-    }
-
-    /// What it holds.
-    pub fn into_held(self) -> Vec<u8> {
-        let Room { held, .. } = self;
-        held
     }
 }
 

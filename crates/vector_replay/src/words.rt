@@ -44,10 +44,10 @@ impl<'a> Word<'a> {
     }
 
     /// The word, where it has no quotes.
-    pub fn name(&self) -> Option<&'a str> {
+    pub fn name(&self) -> Result<&'a str, CaseError> {
         match self {
-            Word::Bare(word) => Some(*word),
-            Word::Bytes(_) => None,
+            Word::Bare(word) => Ok(*word),
+            Word::Bytes(_) => Err(CaseError::NoCase),
         }
     }
 
@@ -69,8 +69,7 @@ impl<'a> Word<'a> {
     where
         T::Err: Drop,
     {
-        let word = self.name().ok_or(CaseError::NoCase)?;
-        word.parse::<T>().ok().ok_or(CaseError::NoCase)
+        self.name()?.parse::<T>().ok().ok_or(CaseError::NoCase)
     }
 
     /// A limit of at least 1, or `none`.

@@ -98,8 +98,8 @@ fn answer_written(line: Result<Vec<u8>, Error>) -> Answer {
     Ok(Some(match line {
         Ok(written) => quoted(&written),
         Err(Error::Refused(refusal)) => format!("err {}", shown_refusal(refusal)),
-        Err(Error::NoLine) => "no-line".to_string(),
-        Err(Error::NotALine) => "not-a-line".to_string(),
+        Err(Error::NoLine) => "NoLine".to_string(),
+        Err(Error::NotALine) => "NotALine".to_string(),
         Err(error) => return Err(error),
     }))
 }
