@@ -1,7 +1,7 @@
 //! Calls that make the replies to single commands, and texts for replies.
 use crate::answers::{Answered, Answers, once_more};
 use crate::shown::Quoted;
-use crate::words::{CaseError, Word};
+use crate::words::{CaseError, Word, only};
 use jiff::Timestamp;
 use std::alloc::Global;
 use unftp_control_codecs::encode_reply;
@@ -81,25 +81,32 @@ fn read_file(words: &[Word<'_>]) -> Result<File, CaseError> {
     })
 }
 
-/// What a server is set to: words, and the number of a port.
+/// What a server is set to.
 #[derive(Clone, Copy)]
-struct Settings<'a>(&'a [Word<'a>]);
+struct Settings {
+    tls: bool,
+    restart: bool,
+    site_md5: bool,
+    passive: Passive,
+}
 
-impl Settings<'_> {
-    /// Whether the word is there.
-    fn has(&self, name: &str) -> bool {
-        self.0.iter().any(|word| word.name().ok() == Some(name))
-    }
-
-    /// What the server listens on, by the one word that is no other setting.
-    fn passive(&self) -> Result<Passive, CaseError> {
-        let known = ["tls", "restart", "site_md5"];
-        let is_port = |word: &&Word<'_>| !known.iter().any(|name| word.name().ok() == Some(*name));
-        match self.0.iter().find(is_port) {
-            Some(port) => Ok(Passive::Port(port.number()?)),
-            None => Ok(Passive::Prebound),
+/// The settings that these words name.
+fn read_settings(words: &[Word<'_>]) -> Result<Settings, CaseError> {
+    let mut settings = Settings {
+        tls: false,
+        restart: false,
+        site_md5: false,
+        passive: Passive::Prebound,
+    };
+    for word in words {
+        match word.name()? {
+            "tls" => settings.tls = true,
+            "restart" => settings.restart = true,
+            "site_md5" => settings.site_md5 = true,
+            _ => settings.passive = Passive::Port(word.number()?),
         }
     }
+    Ok(settings)
 }
 
 /// A reply, and what the session has to do after it where the command may change it; none to a
@@ -107,28 +114,31 @@ impl Settings<'_> {
 type Replied = Result<Option<(Reply, Option<SessionChange>)>, ControlChanError>;
 
 /// The reply to a line, of a server with these settings.
-fn reply_to(alloc: Global, line: &[u8], settings: Settings<'_>, passive: Passive) -> Replied {
-    let tls = settings.has("tls");
-    let reply = match parse(alloc, line)? {
-        Command::Auth { protocol } => return changing(Auth::new(protocol).reply(alloc, tls)),
-        Command::Prot { param } => return changing(Prot::new(param).reply(alloc, tls)),
+fn reply_to(alloc: Global, line: &[u8], settings: Settings) -> Replied {
+    let command = parse(alloc, line)?;
+    let replied = reply_to_command(alloc, &command, settings);
+    drop(command);
+    replied
+}
+
+/// The reply to a command.
+fn reply_to_command(alloc: Global, command: &Command, settings: Settings) -> Replied {
+    let Settings {
+        tls,
+        restart,
+        site_md5,
+        passive,
+    } = settings;
+    let reply = match command {
+        Command::Auth { protocol } => return changing(Auth::new(*protocol).reply(alloc, tls)),
+        Command::Prot { param } => return changing(Prot::new(*param).reply(alloc, tls)),
         Command::Epsv => Epsv::new().reply(alloc, passive),
-        Command::Feat => {
-            Feat.reply(
-                alloc,
-                tls,
-                settings.has("restart"),
-                settings.has("site_md5"),
-            )
-        }
+        Command::Feat => Feat.reply(alloc, tls, restart, site_md5),
         Command::Help => Help.reply(alloc),
-        Command::Mode { mode } => Mode::new(mode).reply(alloc),
-        Command::Opts { option } => Opts::new(option).reply(alloc),
-        Command::Stru { structure } => Stru::new(structure).reply(alloc),
-        command => {
-            drop(command);
-            return Ok(None);
-        }
+        Command::Mode { mode } => Mode::new(*mode).reply(alloc),
+        Command::Opts { option } => Opts::new(*option).reply(alloc),
+        Command::Stru { structure } => Stru::new(*structure).reply(alloc),
+        _ => return Ok(None),
     };
     Ok(Some((reply?, None)))
 }
@@ -156,10 +166,9 @@ fn put_reply(
 }
 
 /// Writes the reply to a line, of a server with these settings.
-fn answer_of(line: &[u8], settings: Settings<'_>, answers: &mut Answers) -> Answered {
+fn answer_of(line: &[u8], settings: Settings, answers: &mut Answers) -> Answered {
     let buf = answers.room()?;
-    let passive = settings.passive()?;
-    match once_more!(answers, reply_to(answers.alloc, line, settings, passive)) {
+    match once_more!(answers, reply_to(answers.alloc, line, settings)) {
         Ok(Some((reply, change))) => {
             put_reply(Ok(reply), buf, answers)?;
             if let Some(change) = change {
@@ -186,15 +195,35 @@ fn answer_mlst(mlst: &Mlst, cwd: &str, found: &[Word<'_>], answers: &mut Answers
     put_reply(made, buf, answers)
 }
 
-/// `reply LINE SETTING..`, or `reply LINE cwd PATH FOUND..` where the line is one of MLST
-fn answer_reply(line: &[u8], given: &[Word<'_>], answers: &mut Answers) -> Answered {
-    let [Word::Bare("cwd"), cwd, found @ ..] = given else {
-        return answer_of(line, Settings(given), answers);
-    };
-    match parse(answers.alloc, line) {
-        Ok(Command::Mlst { path }) => answer_mlst(&Mlst::new(path), cwd.text()?, found, answers),
-        _ => Err(CaseError::NoCase),
+/// The MLST that a line is.
+fn read_mlst(alloc: Global, line: &[u8]) -> Result<Mlst, CaseError> {
+    match parse(alloc, line) {
+        Ok(Command::Mlst { path }) => Ok(Mlst::new(path)),
+        other => {
+            drop(other);
+            Err(CaseError::NoCase)
+        }
     }
+}
+
+/// `reply LINE SETTING..`, or `reply LINE cwd PATH FOUND..` where the line is one of MLST
+fn answer_reply(words: &[Word<'_>], answers: &mut Answers) -> Answered {
+    match words {
+        [line, Word::Bare("cwd"), cwd, found @ ..] => {
+            let mlst = read_mlst(answers.alloc, line.bytes()?)?;
+            answer_mlst(&mlst, cwd.text()?, found, answers)
+        }
+        [line, settings @ ..] => answer_of(line.bytes()?, read_settings(settings)?, answers),
+        [] => Err(CaseError::NoCase),
+    }
+}
+
+/// `epsv PORT`
+fn answer_epsv(words: &[Word<'_>], answers: &mut Answers) -> Answered {
+    let buf = answers.room()?;
+    let port = only(words)?.number()?;
+    let made = once_more!(answers, make_epsv_reply(answers.alloc, port));
+    put_reply(made, buf, answers)
 }
 
 /// Writes the facts of a file.
@@ -206,27 +235,28 @@ fn put_facts(file: &Option<File>, answers: &mut Answers) -> Answered {
     answers.put_made(made)
 }
 
+/// `quoted_path PATH`
+fn answer_quoted_path(words: &[Word<'_>], answers: &mut Answers) -> Answered {
+    let path = only(words)?.text()?;
+    let made = once_more!(answers, quoted_path(answers.alloc, path));
+    answers.put_made(made)
+}
+
+/// `single_line TEXT`
+fn answer_single_line(words: &[Word<'_>], answers: &mut Answers) -> Answered {
+    let text = only(words)?.text()?;
+    let made = once_more!(answers, single_line_text(answers.alloc, text));
+    answers.put_made(made)
+}
+
 /// Answers a call that makes a reply or a text.
 pub fn answer(call: &str, words: &[Word<'_>], answers: &mut Answers) -> Answered {
-    let alloc = answers.alloc;
-    match (call, words) {
-        ("reply", [line, given @ ..]) => answer_reply(line.bytes()?, given, answers),
-        ("epsv", [port]) => {
-            let (buf, port) = (answers.room()?, port.number()?);
-            let made = once_more!(answers, make_epsv_reply(alloc, port));
-            put_reply(made, buf, answers)
-        }
-        ("facts", file) => put_facts(&Some(read_file(file)?), answers),
-        ("quoted_path", [path]) => {
-            let path = path.text()?;
-            let made = once_more!(answers, quoted_path(alloc, path));
-            answers.put_made(made)
-        }
-        ("single_line", [text]) => {
-            let text = text.text()?;
-            let made = once_more!(answers, single_line_text(alloc, text));
-            answers.put_made(made)
-        }
+    match call {
+        "reply" => answer_reply(words, answers),
+        "epsv" => answer_epsv(words, answers),
+        "facts" => put_facts(&Some(read_file(words)?), answers),
+        "quoted_path" => answer_quoted_path(words, answers),
+        "single_line" => answer_single_line(words, answers),
         _ => Err(CaseError::NoCase),
     }
 }

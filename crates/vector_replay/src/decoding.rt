@@ -4,7 +4,7 @@ ghost use Rattle.std.specs.Prelude.{◌≤◌, ◌+◌, vec_len};
 use crate::answers::{Answered, Answers, once_more};
 use crate::shown::Shown;
 use crate::steps::{Taker, make_steps, room_for};
-use crate::words::{CaseError, Word};
+use crate::words::{CaseError, Word, first};
 use std::alloc::{AllocError, Global};
 use unftp_control_codecs::FtpCodec;
 use unftp_control_message::Command;
@@ -125,27 +125,24 @@ fn decode_pieces(
 }
 
 /// `decode LIMIT PIECE..`
-pub fn answer_decode(limit: &Word<'_>, pieces: &[Word<'_>], answers: &mut Answers) -> Answered {
+pub fn answer_decode(words: &[Word<'_>], answers: &mut Answers) -> Answered {
+    let (limit, pieces) = first(words)?;
     let bytes = Vec::with_capacity(answers.alloc, room_for(pieces))?;
     let codec = FtpCodec::resume(limit.limit()?, 0, false);
     decode_pieces(codec, bytes, false, pieces, answers)
 }
 
 /// `decode_slice LIMIT PLACE BYTES PIECE..`
-pub fn answer_decode_slice(
-    limit: &Word<'_>,
-    place: &Word<'_>,
-    first: &Word<'_>,
-    pieces: &[Word<'_>],
-    answers: &mut Answers,
-) -> Answered {
-    let (first, place) = (first.bytes()?, place.number()?);
-    if place > first.len() {
+pub fn answer_decode_slice(words: &[Word<'_>], answers: &mut Answers) -> Answered {
+    let [limit, place, front, pieces @ ..] = words else {
+        return Err(CaseError::NoCase);
+    };
+    let (place, front) = (place.number()?, front.bytes()?);
+    if place > front.len() {
         return Err(CaseError::NoCase);
     }
-    let room = first.len().saturating_add(room_for(pieces));
-    let mut bytes = Vec::with_capacity(answers.alloc, room)?;
-    bytes.extend_from_slice(first)?;
+    let mut bytes = Vec::with_capacity(answers.alloc, room_for(words))?;
+    bytes.extend_from_slice(front)?;
     let codec = FtpCodec::resume(limit.limit()?, place, false);
     decode_pieces(codec, bytes, true, pieces, answers)
 }

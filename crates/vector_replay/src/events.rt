@@ -3,7 +3,7 @@ use crate::answers::{Answered, Answers, once_more};
 use crate::decoding::put_line;
 use crate::shown::Quoted;
 use crate::steps::{Taker, make_steps};
-use crate::words::{CaseError, Word};
+use crate::words::{CaseError, Word, first, only};
 use std::alloc::AllocError;
 use unftp_control_log::write_log_line;
 use unftp_control_serve::{Event, EventDecoder};
@@ -69,20 +69,17 @@ fn read_decoder(limit: &Word<'_>, answers: &Answers) -> Result<EventDecoder, Cas
 }
 
 /// `events LIMIT STEP..`, or `event_lines LIMIT STEP..`, which writes each event's line too.
-pub fn answer_events(
-    limit: &Word<'_>,
-    steps: &[Word<'_>],
-    has_lines: bool,
-    answers: &mut Answers,
-) -> Answered {
+pub fn answer_events(words: &[Word<'_>], has_lines: bool, answers: &mut Answers) -> Answered {
+    let (limit, steps) = first(words)?;
     let decoder = read_decoder(limit, answers)?;
     make_steps(&mut Events { decoder, has_lines }, steps, " | ", answers)
 }
 
 /// `log LIMIT LINE`
-pub fn answer_log(limit: &Word<'_>, line: &Word<'_>, answers: &mut Answers) -> Answered {
+pub fn answer_log(words: &[Word<'_>], answers: &mut Answers) -> Answered {
+    let (limit, line) = first(words)?;
     let mut decoder = read_decoder(limit, answers)?;
-    decoder.push(line.bytes()?)?;
+    decoder.push(only(line)?.bytes()?)?;
     let mut buf = Vec::from_slice(answers.alloc, b"x")?;
     let Some(event) = decoder.next_event()? else {
         return Err(CaseError::NoCase);

@@ -1,7 +1,7 @@
 //! Calls on lines, passwords and errors, and on what is written of them.
 use crate::answers::{Answered, Answers, once_more};
 use crate::shown::{Quoted, Shown};
-use crate::words::{CaseError, Word};
+use crate::words::{CaseError, Word, first, only};
 use crate::writing;
 use bytes::Bytes;
 use std::alloc::Global;
@@ -19,6 +19,12 @@ pub fn put_parsed(parsed: Result<Command, ParseError>, answers: &mut Answers) ->
     }
     drop(parsed);
     Ok(())
+}
+
+/// `parse LINE`
+fn answer_parse(line: &[u8], answers: &mut Answers) -> Answered {
+    let parsed = once_more!(answers, parse(answers.alloc, line));
+    put_parsed(parsed, answers)
 }
 
 /// Writes the text of a clone of the command after that is gone.
@@ -112,9 +118,10 @@ fn kind(alloc: Global, name: &str) -> Result<ControlChanErrorKind, CaseError> {
 }
 
 /// `text TYPE VARIANT`
-fn answer_text(error: &str, name: &str, answers: &mut Answers) -> Answered {
-    let alloc = answers.alloc;
-    match error {
+fn answer_text(words: &[Word<'_>], answers: &mut Answers) -> Answered {
+    let (error, names) = first(words)?;
+    let (alloc, name) = (answers.alloc, only(names)?.name()?);
+    match error.name()? {
         "ParseErrorKind" => put_both(&parse_kind(name)?, answers),
         "ParseError" => put_both(&ParseError::from(parse_kind(name)?), answers),
         "ControlChanErrorKind" => put_both(&kind(alloc, name)?, answers),
@@ -126,17 +133,13 @@ fn answer_text(error: &str, name: &str, answers: &mut Answers) -> Answered {
 
 /// Answers a call on lines, or one of another subject.
 pub fn answer(call: &str, words: &[Word<'_>], answers: &mut Answers) -> Answered {
-    match (call, words) {
-        ("parse", [line]) => {
-            let line = line.bytes()?;
-            let parsed = once_more!(answers, parse(answers.alloc, line));
-            put_parsed(parsed, answers)
-        }
-        ("display", [line]) => answer_display(line.bytes()?, answers),
-        ("password", [bytes]) => answer_password(bytes.bytes()?, answers),
-        ("password_from_text", [text]) => answer_password_from_text(text.text()?, answers),
-        ("is_verb", words) => answer_is_verb(words, answers),
-        ("text", [error, name]) => answer_text(error.name()?, name.name()?, answers),
+    match call {
+        "parse" => answer_parse(only(words)?.bytes()?, answers),
+        "display" => answer_display(only(words)?.bytes()?, answers),
+        "password" => answer_password(only(words)?.bytes()?, answers),
+        "password_from_text" => answer_password_from_text(only(words)?.text()?, answers),
+        "is_verb" => answer_is_verb(words, answers),
+        "text" => answer_text(words, answers),
         _ => writing::answer(call, words, answers),
     }
 }

@@ -2,7 +2,7 @@
 use crate::answers::{Answered, Answers, once_more};
 use crate::shown::Quoted;
 use crate::steps::{Taker, make_steps};
-use crate::words::{CaseError, Word};
+use crate::words::{CaseError, Word, first};
 use std::alloc::AllocError;
 use unftp_control_client::{Client, To};
 use unftp_control_line_parser::parse;
@@ -94,7 +94,8 @@ impl Taker for ReplyDecoder {
 }
 
 /// `receive LIMIT STEP..`
-pub fn answer_receive(limit: &Word<'_>, steps: &[Word<'_>], answers: &mut Answers) -> Answered {
+pub fn answer_receive(words: &[Word<'_>], answers: &mut Answers) -> Answered {
+    let (limit, steps) = first(words)?;
     let mut decoder = match limit.limit()? {
         Some(limit) => ReplyDecoder::with_limit(answers.alloc, limit),
         None => ReplyDecoder::new(answers.alloc),
@@ -157,7 +158,8 @@ impl Taker for Talk {
 }
 
 /// `client LIMIT ACT..`: `send` and a line, `command` and the line of one, or a piece that comes.
-pub fn answer_client(limit: &Word<'_>, acts: &[Word<'_>], answers: &mut Answers) -> Answered {
+pub fn answer_client(words: &[Word<'_>], answers: &mut Answers) -> Answered {
+    let (limit, acts) = first(words)?;
     let client = match limit.limit()? {
         Some(limit) => Client::with_limit(answers.alloc, limit),
         None => Client::new(answers.alloc),

@@ -4,7 +4,7 @@ use crate::commands;
 use crate::reading::answer_read;
 use crate::sessions::answer_session;
 use crate::shown::Quoted;
-use crate::words::{CaseError, Word, read_texts};
+use crate::words::{CaseError, Word, first, only, read_texts};
 use std::alloc::Global;
 use unftp_control_codecs::{encode_lines, encode_reply};
 use unftp_control_message::reply::error::ControlChanError;
@@ -74,7 +74,8 @@ fn answer_encode(words: &[Word<'_>], answers: &mut Answers) -> Answered {
 }
 
 /// `lines CODE LINE..`
-fn answer_lines(code: &Word<'_>, lines: &[Word<'_>], answers: &mut Answers) -> Answered {
+fn answer_lines(words: &[Word<'_>], answers: &mut Answers) -> Answered {
+    let (code, lines) = first(words)?;
     let code = code.number()?;
     let lines = read_texts(answers.alloc, lines)?;
     let mut buf = Vec::from_slice(answers.alloc, b"x")?;
@@ -108,14 +109,14 @@ fn answer_code(number: &Word<'_>, answers: &mut Answers) -> Answered {
 
 /// Answers a call on replies, or one of another subject.
 pub fn answer(call: &str, words: &[Word<'_>], answers: &mut Answers) -> Answered {
-    match (call, words) {
-        ("encode", words) => answer_encode(words, answers),
-        ("lines", [code, lines @ ..]) => answer_lines(code, lines, answers),
-        ("says", words) => answer_says(words, answers),
-        ("code", [number]) => answer_code(number, answers),
-        ("read", [bytes]) => answer_read(bytes.bytes()?, answers),
-        ("serve", words) => answer_session(true, words, answers),
-        ("feed", words) => answer_session(false, words, answers),
+    match call {
+        "encode" => answer_encode(words, answers),
+        "lines" => answer_lines(words, answers),
+        "says" => answer_says(words, answers),
+        "code" => answer_code(only(words)?, answers),
+        "read" => answer_read(only(words)?.bytes()?, answers),
+        "serve" => answer_session(true, words, answers),
+        "feed" => answer_session(false, words, answers),
         _ => commands::answer(call, words, answers),
     }
 }

@@ -5,9 +5,10 @@ use crate::answers::{Answered, Answers};
 use crate::handlers::{Counting, Scripted, Tried, Wire};
 use crate::shown::Quoted;
 use crate::streams::{Pieces, Room, Turns, Writes};
-use crate::words::{CaseError, Word};
+use crate::words::{CaseError, Word, first};
 use demo_responses::Responses;
 use std::alloc::{AllocError, Global};
+use std::io::{Read, Write};
 use transferring::Transfers;
 use unftp_control_serve::{
     Engine, Input, Output, ServeError, Session, Sink, serve, serve_with_limit,
@@ -65,8 +66,6 @@ impl<'a> SessionCase<'a> {
         is_served: bool,
         words: &'a [Word<'a>],
     ) -> Result<SessionCase<'a>, CaseError> {
-        let at = words.iter().position(|word| word.bytes().is_ok());
-        let (words, bytes) = words.split_at(at.unwrap_or(words.len()));
         let mut case = SessionCase {
             alloc,
             is_served,
@@ -82,20 +81,23 @@ impl<'a> SessionCase<'a> {
             is_again: false,
             is_appended: false,
             first: &[],
-            pieces: bytes,
+            pieces: &[],
         };
-        for word in words {
-            case.read_word(word.name()?)?;
+        let mut at = words.len();
+        for (place, word) in words.iter().enumerate() {
+            match word {
+                Word::Bytes(_) => at = at.min(place),
+                Word::Bare(word) if place < at => case.read_word(word)?,
+                Word::Bare(_) => return Err(CaseError::NoCase),
+            }
         }
+        case.pieces = words.split_at(at.min(words.len())).1;
         if is_served || case.is_appended {
-            let [first, later @ ..] = bytes else {
-                return Err(CaseError::NoCase);
-            };
+            let (first, later) = first(case.pieces)?;
             case.first = first.bytes()?;
             case.pieces = later;
         }
-        let are_bytes = case.pieces.iter().all(|piece| piece.bytes().is_ok());
-        if !are_bytes || (is_served && !case.pieces.is_empty()) {
+        if is_served && !case.pieces.is_empty() {
             return Err(CaseError::NoCase);
         }
         Ok(case)
@@ -204,20 +206,10 @@ impl<'a, H: Tried<'a>> Run<'a, H> {
     fn serve(&mut self) {
         let mut reader = Input::new(&mut self.reader);
         let mut writer = Output::new(&mut self.room);
-        let handler = &mut self.handler;
-        for is_again in [false, true] {
-            if is_again && (!self.case.is_again || is_out_of_memory(self.ends.as_str())) {
-                break;
-            }
-            let alloc = self.case.alloc;
-            let served = match self.case.limit() {
-                None => serve(alloc, &mut reader, &mut writer, handler),
-                Some(limit) => serve_with_limit(alloc, limit, &mut reader, &mut writer, handler),
-            };
-            match served {
-                Ok(served) => note(&mut self.ends, None, Some(served.left), served.done),
-                Err(error) => note(&mut self.ends, Some(error), None, false),
-            }
+        let (case, handler, ends) = (&self.case, &mut self.handler, &mut self.ends);
+        serve_once(case, &mut reader, &mut writer, handler, ends);
+        if case.is_again && !is_out_of_memory(ends.as_str()) {
+            serve_once(case, &mut reader, &mut writer, handler, ends);
         }
     }
 
@@ -232,6 +224,24 @@ impl<'a, H: Tried<'a>> Run<'a, H> {
             let (reads, unread) = (self.reader.reads, Quoted(self.reader.rest));
             answers.put(format_args!(" reads={reads} unread={unread}"));
         }
+    }
+}
+
+/// Serves what the reader gives.
+fn serve_once<R: Read, W: Write, H: Session>(
+    case: &SessionCase<'_>,
+    reader: &mut Input<R>,
+    writer: &mut Output<W>,
+    handler: &mut H,
+    ends: &mut String,
+) {
+    let served = match case.limit() {
+        None => serve(case.alloc, reader, writer, handler),
+        Some(limit) => serve_with_limit(case.alloc, limit, reader, writer, handler),
+    };
+    match served {
+        Ok(served) => note(ends, None, Some(served.left), served.done),
+        Err(error) => note(ends, Some(error), None, false),
     }
 }
 

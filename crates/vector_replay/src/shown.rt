@@ -11,7 +11,9 @@ pub struct Quoted<'a>(pub &'a [u8]);
 impl Display for Quoted<'_> {
     fn fmt<W: Write>(&self, f: &mut Formatter<W>) -> fmt::Result {
         f.write_str("\"")?;
-        self.0.iter().try_for_each(|byte| write_escaped(f, *byte))?;
+        for byte in self.0 {
+            write_escaped(f, *byte)?;
+        }
         f.write_str("\"")
     }
 }

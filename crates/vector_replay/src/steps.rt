@@ -75,24 +75,25 @@ pub fn make_steps<T: Taker>(
 
 /// How many bytes these words have between quotes.
 pub fn room_for(pieces: &[Word<'_>]) -> usize {
-    let lens = pieces
-        .iter()
-        .map(|piece| piece.bytes().map_or(0, |bytes| bytes.len()));
-    lens.fold(0, |room: usize, len| room.saturating_add(len))
+    let mut room: usize = 0;
+    for piece in pieces {
+        if let Word::Bytes(bytes) = piece {
+            room = room.saturating_add(bytes.len());
+        }
+    }
+    room
 }
 
 /// Answers a call on an input in pieces, or one of another subject.
 pub fn answer(call: &str, words: &[Word<'_>], answers: &mut Answers) -> Answered {
-    match (call, words) {
-        ("decode", [limit, pieces @ ..]) => answer_decode(limit, pieces, answers),
-        ("decode_slice", [limit, place, first, later @ ..]) => {
-            answer_decode_slice(limit, place, first, later, answers)
-        }
-        ("events", [limit, steps @ ..]) => answer_events(limit, steps, false, answers),
-        ("event_lines", [limit, steps @ ..]) => answer_events(limit, steps, true, answers),
-        ("log", [limit, line]) => answer_log(limit, line, answers),
-        ("receive", [limit, steps @ ..]) => answer_receive(limit, steps, answers),
-        ("client", [limit, acts @ ..]) => answer_client(limit, acts, answers),
+    match call {
+        "decode" => answer_decode(words, answers),
+        "decode_slice" => answer_decode_slice(words, answers),
+        "events" => answer_events(words, false, answers),
+        "event_lines" => answer_events(words, true, answers),
+        "log" => answer_log(words, answers),
+        "receive" => answer_receive(words, answers),
+        "client" => answer_client(words, answers),
         _ => replies::answer(call, words, answers),
     }
 }

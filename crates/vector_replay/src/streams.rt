@@ -25,15 +25,13 @@ pub struct Turns<'a>(pub &'a str);
 impl<'a> Turns<'a> {
     /// These turns, if each word is one, and each number of bytes at least this one.
     pub fn read(words: &'a str, least: usize) -> Result<Turns<'a>, CaseError> {
-        let are_turns = words.split(',').all(|turn| match read_turn(turn) {
-            Ok(Ok(most)) => least <= most,
-            turn => turn.is_ok(),
-        });
-        if are_turns {
-            Ok(Turns(words))
-        } else {
-            Err(CaseError::NoCase)
+        for turn in words.split(',') {
+            match read_turn(turn)? {
+                Ok(most) if most < least => return Err(CaseError::NoCase),
+                turn => drop(turn),
+            }
         }
+        Ok(Turns(words))
     }
 
     /// The most bytes of the next call, or its error.

@@ -86,14 +86,36 @@ impl<'a> Word<'a> {
     }
 }
 
+/// The only word of these.
+pub fn only<'a, 'b>(words: &'a [Word<'b>]) -> Result<&'a Word<'b>, CaseError> {
+    match words {
+        [word] => Ok(word),
+        _ => Err(CaseError::NoCase),
+    }
+}
+
+/// The first of these words, and those after it.
+pub fn first<'a, 'b>(words: &'a [Word<'b>]) -> Result<(&'a Word<'b>, &'a [Word<'b>]), CaseError> {
+    match words {
+        [first, later @ ..] => Ok((first, later)),
+        [] => Err(CaseError::NoCase),
+    }
+}
+
 /// The words of a line, which tabs divide.
 pub fn read_words(alloc: Global, line: &str) -> Result<Vec<Word<'_>>, CaseError> {
-    line.split('\t')
-        .map(|word| -> Result<Word<'_>, CaseError> { Word::read(alloc, word) })
-        .try_collect(alloc)
+    let mut words = Vec::new(alloc);
+    for word in line.split('\t') {
+        words.push(Word::read(alloc, word)?)?;
+    }
+    Ok(words)
 }
 
 /// The texts that these words have between quotes.
 pub fn read_texts<'a>(alloc: Global, words: &'a [Word<'_>]) -> Result<Vec<&'a str>, CaseError> {
-    words.iter().map(Word::text).try_collect(alloc)
+    let mut texts = Vec::new(alloc);
+    for word in words {
+        texts.push(word.text()?)?;
+    }
+    Ok(texts)
 }

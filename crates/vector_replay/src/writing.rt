@@ -3,7 +3,7 @@ use crate::answers::{Answered, Answers, once_more};
 use crate::lines::put_parsed;
 use crate::shown::{Quoted, Shown};
 use crate::steps;
-use crate::words::{CaseError, Word};
+use crate::words::{CaseError, Word, only};
 use bytes::Bytes;
 use std::alloc::Global;
 use unftp_control_codecs::FtpCodec;
@@ -72,11 +72,11 @@ fn of_fields(
 }
 
 /// `write COMMAND FIELD..`
-fn answer_write(variant: &str, fields: &[Word<'_>], answers: &mut Answers) -> Answered {
+fn answer_write(words: &[Word<'_>], answers: &mut Answers) -> Answered {
     let mut buf = Vec::from_slice(answers.alloc, b"x")?;
-    let command = match fields {
-        [field] => of_field(answers.alloc, variant, field)?,
-        [first, second] => of_fields(answers.alloc, variant, first, second)?,
+    let command = match words {
+        [variant, field] => of_field(answers.alloc, variant.name()?, field)?,
+        [variant, first, second] => of_fields(answers.alloc, variant.name()?, first, second)?,
         _ => return Err(CaseError::NoCase),
     };
     let written = once_more!(answers, write_command(&command, &mut buf));
@@ -130,10 +130,10 @@ fn answer_forward(line: &[u8], answers: &mut Answers) -> Answered {
 
 /// Answers a call that writes a line, or one of another subject.
 pub fn answer(call: &str, words: &[Word<'_>], answers: &mut Answers) -> Answered {
-    match (call, words) {
-        ("write", [variant, fields @ ..]) => answer_write(variant.name()?, fields, answers),
-        ("canonical", [line]) => answer_canonical(line.bytes()?, answers),
-        ("forward", [line]) => answer_forward(line.bytes()?, answers),
+    match call {
+        "write" => answer_write(words, answers),
+        "canonical" => answer_canonical(only(words)?.bytes()?, answers),
+        "forward" => answer_forward(only(words)?.bytes()?, answers),
         _ => steps::answer(call, words, answers),
     }
 }
