@@ -4,7 +4,7 @@ use crate::decoding::{answer_decode, answer_decode_slice};
 use crate::events::{answer_events, answer_log};
 use crate::reading::{answer_client, answer_receive};
 use crate::replies;
-use crate::words::{CaseError, Word};
+use crate::words::Word;
 use std::alloc::AllocError;
 
 /// Takes what is complete of bytes that come in pieces.
