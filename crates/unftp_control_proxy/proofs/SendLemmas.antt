@@ -1,9 +1,10 @@
 -- Why a line is not sent.
-use Rattle.std.proofs.Common.{Result, Ok, Err, OnOk, ◌≡◌, length, drop, ap, subst, ◌∙◌}
-use Rattle.std.specs.Prelude.{IfErr}
-use Rattle.std.proofs.Math.Seq.{drop-append_seam}
-use Rattle.unftp_control_defs.specs.Bytes.{Bytes}
+use Rattle.std.proofs.Common.{Result, Ok, Err, OnOk, ◌≡◌, ℕ, [], ◌∷◌, ◌++◌, length, length-append, drop, take, arith, ap, subst, ◌∙◌}
+use Rattle.std.specs.Prelude.{IfErr, OnErr}
+use Rattle.std.proofs.Math.Seq.{drop-append_seam, take-append_seam}
+use Rattle.unftp_control_defs.specs.Bytes.{Bytes, LF}
 use Rattle.unftp_control_defs.specs.Forwarded.{forwarded_line}
+use Rattle.unftp_control_defs.specs.Lines.{IsLine}
 use Rattle.unftp_control_write.specs.Forwarding.{IsForwardError, IsForwarded}
 use Rattle.unftp_control_write.specs.declared.forwarding.ForwardError.{ForwardError}
 use Rattle.unftp_control_write.specs.declared.forwarding.ForwardError.TheVariants as forward
@@ -48,6 +49,19 @@ module _ (proxy : Proxy) (line : Bytes) where
       → IfErr result (IsSendError proxy sent) → IfErr result (IsForwardingError proxy line)
   send_appended (Ok done) forwarded is why = tt
   send_appended (Err error) forwarded is why = not_sent forwarded is error why
+
+-- what was appended is removed again
+pub removed_again : {T E : Type 0} (result : Result T E) (n : ℕ) (before later : Bytes)
+    {after : Bytes} → n ≡ length before → (more : Bytes) × (after ≡ before ++ more)
+    → OnErr result (later ≡ take n after) → OnErr result (later ≡ before)
+removed_again (Ok done) n before later is appended removed = tt
+removed_again (Err error) n before later {after} is (more, appended) removed = removed
+    ∙ ap (λ n. take n after) is ∙ ap (take (length before)) appended ∙ take-append_seam before more
+
+-- what is empty is no line
+pub empty_is_no_line : (line : Bytes) → length line ≡ 0 → ¬ IsLine line
+empty_is_no_line line empty is =
+    omega (arith, empty, ap length is.whole, length-append is.body (LF ∷ []))
 
 pub on_ok : {T E : Type 0} (result : Result T E) {P : Type 0} → P → OnOk result P
 on_ok (Ok done) holds = holds

@@ -1,4 +1,4 @@
-use Rattle.std.proofs.Common.{◌≡◌, ◌+◌, ◌-◌, ℕ, List, drop, length, map, sym, ap, ◌∙◌, arith}
+use Rattle.std.proofs.Common.{◌≡◌, ◌≤◌, ◌+◌, ◌-◌, ℕ, List, drop, length, map, sym, ap, ◌∙◌, arith}
 use Rattle.std.proofs.lemmas.List.{drop-map, length-map}
 use Rattle.unftp_control_proxy.specs.Owed.{owed_in}
 use Rattle.unftp_control_proxy.specs.declared.order.Slot.{Slot}
@@ -18,6 +18,15 @@ rest n before later is all =
     ap (map owed_in) is ∙ sym (drop-map owed_in n before)
     ∙ ap (λ n. drop n (map owed_in before)) same
 
+fewer : (n : ℕ) (before later : List Slot) → length later + n ≡ length before
+    → length (map owed_in later) ≤ length (map owed_in before)
+fewer n before later all = omega (
+  arith,
+  all,
+  length-map before owed_in,
+  length-map later owed_in,
+)
+
 pub returns-in_default-clause-rest : goal.returns-in_default-clause-rest
 returns-in_default-clause-rest c =
     let left = rest c.loop.counter c.self.inside.slots.items c.loop.self-inside.slots.items
@@ -32,3 +41,28 @@ pub returns-in_err-extend_from_slice-clause-rest :
 returns-in_err-extend_from_slice-clause-rest c = rw (← c.self.view_is)
     (rest c.loop.counter c.self.inside.slots.items c.loop.self-inside.slots.items
     c.loop.invariant.5 (c.loop.invariant.2 ∙ sym c.loop.invariant.6))
+
+pub returns-in_err-extend_from_slice-clause-fewer :
+    goal.returns-in_err-extend_from_slice-clause-fewer
+returns-in_err-extend_from_slice-clause-fewer c = rw (← c.self.view_is)
+    (fewer c.loop.counter c.self.inside.slots.items c.loop.self-inside.slots.items
+    (c.loop.invariant.2 ∙ sym c.loop.invariant.6))
+
+pub returns-clause-fewer : goal.returns-clause-fewer
+returns-clause-fewer c = rw (← c.self.view_is)
+    (fewer c.loop.counter c.self.inside.slots.items c.loop.self-inside.slots.items
+    (c.loop.invariant.2 ∙ sym c.loop.invariant.6))
+
+pub returns-clause-rest : goal.returns-clause-rest
+returns-clause-rest c = rw (← c.self.view_is)
+    (rest c.loop.counter c.self.inside.slots.items c.loop.self-inside.slots.items
+    c.loop.invariant.5 (c.loop.invariant.2 ∙ sym c.loop.invariant.6))
+
+pub returns-in_default-clause-fewer : goal.returns-in_default-clause-fewer
+returns-in_default-clause-fewer c =
+    let left = fewer c.loop.counter c.self.inside.slots.items c.loop.self-inside.slots.items
+    (c.loop.invariant.2 ∙ sym c.loop.invariant.6) in
+    elim c.in_default.branch [
+      | in_default-via-in-Some+in_default w ↦ rw (w.self-inside-is, ← c.self.view_is) left
+      | in_default-via-in_default w ↦ rw (w.self-inside-is, ← c.self.view_is) left
+    ]
