@@ -1,7 +1,7 @@
 use Rattle.std.proofs.Common.{◌≡◌, ◌++◌, ◌∷◌, [], drop, refl, rules}
-use Rattle.transferring.specs.Answers.{Done, Failed}
+use Rattle.transferring.specs.Answers.{Done, Failed, Took}
 use Rattle.transferring.specs.Transfers.{sending}
-use Rattle.transferring.proofs.TransferLemmas.{ended, none_sent, opened}
+use Rattle.transferring.proofs.TransferLemmas.{ended, none_sent, opened, sent_all, sent_part}
 use Rattle.transferring.proofs.transfer.retrieve.Goals as goal
 
 pub returns-then-is_err : goal.returns-then-is_err
@@ -23,3 +23,18 @@ loop-rest-init g c =
         reaches = opened (sending (drop c.args.offset c.args.file.now)) _ _ done;
       };
     }
+
+pub returns-in-Ok-eq0 : goal.returns-in-Ok-eq0
+returns-in-Ok-eq0 g c =
+    let none : c.send.new.self.answers ≡ c.loop-rest.connection.answers ++ Took 0 ∷ [] =
+    search rules in
+    record {
+      came_to = sent_part c.loop-rest.rest.now c.loop-rest.invariant.retrieving (search rules) none
+          (search rules);
+    }
+
+pub returns : goal.returns
+returns g c = record {
+  came_to = sent_all c.loop-rest.rest.now c.loop-rest.invariant.retrieving (search rules)
+      c.close.ensures.came_to c.close.ensures.sent;
+}
