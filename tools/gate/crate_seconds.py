@@ -12,7 +12,7 @@ TRYING = re.compile(r"rt: (\w+): trying its must-fail edits \((\d+)\)")
 
 
 def seconds():
-    """The seconds of a processor that each crate took: its proofs, and its must-fail edits."""
+    """The seconds of a processor that each crate took: its proofs, its must-fail edits and its others."""
     found = {}
     for line in (TOP / "tools" / "gate" / "seconds").read_text(encoding="utf-8").splitlines():
         if line and not line.startswith("#"):
@@ -22,10 +22,11 @@ def seconds():
 
 
 class Progress:
-    """How far `rt ci` is: what is done, of what all crates took."""
+    """How far `rt ci` is: what is done, of what all crates took in it."""
 
     def __init__(self):
-        self.seconds, self.edits, self.start = seconds(), {}, time.time()
+        self.seconds = {name: taken[:2] for name, taken in seconds().items()}
+        self.edits, self.start = {}, time.time()
         self.done, self.told = 0.0, 0
 
     def after(self, line):
