@@ -320,10 +320,13 @@ class Trial:
         """A copy of the changed function: its path, its text and its proof files."""
         function = change.functions[0]
         lines = {at: line for (_, at), line in change.lines.items()}
-        if change.is_quick:
+        if change.is_quick and not change.is_unedited:
             head = self.source.text(function.file).split("\n")[function.head - 1]
             lines[function.head] = without_tactics(lines.get(function.head, head))
-        path, copy, files = self.source.copied(function, number, lines, change.wanted[0])
+        # (a written answer of another clause may be what closes a goal of the named one)
+        is_bare = change.is_quick or function.answers() not in self.source.proofs
+        clause = change.wanted[0] if is_bare else None
+        path, copy, files = self.source.copied(function, number, lines, clause)
         if not change.is_quick and not change.is_unedited:
             file = f"proofs/{path.replace('::', '/')}/Answers.antt"
             files[file] = self.source.with_error(path, files.get(file, ""))
@@ -425,7 +428,7 @@ class Trial:
         """Tries the copies as they are without the edits, which have to be proved: a trial of the
         trial itself."""
         for change in changes:
-            change.lines, change.is_quick, change.is_unedited = {}, False, True
+            change.lines, change.is_unedited = {}, True
         texts, places = self.made(changes)
         only = [places[it][0] for it in changes]
         run = self.over_a_copy(texts, sorted(only), "without the edits")
