@@ -28,8 +28,8 @@ pub use Rattle.unftp_control_defs.specs.Turns
 pub use Rattle.unftp_control_defs.specs.Pieces
 pub use Rattle.unftp_control_message.specs.CommandMeaning
 pub use Rattle.unftp_control_message.specs.declared.Command
-pub use Rattle.unftp_control_line_parser.specs.ParseAnswer
-pub use Rattle.unftp_control_line_parser.specs.Memory
+pub use Rattle.unftp_control_codecs.specs.ParseAnswer
+pub use Rattle.unftp_control_codecs.specs.Memory
 pub use Rattle.unftp_control_message.specs.ParseRefusal
 pub use Rattle.unftp_control_message.specs.ErrorParts
 pub use Rattle.unftp_control_message.specs.PartsMeaning

@@ -8,8 +8,8 @@ use Rattle.unftp_control_defs.specs.Canonical.{HasLine}
 use Rattle.unftp_control_defs.proofs.CommandLineLemmas.{HasLine-outcome}
 use Rattle.unftp_control_message.specs.declared.reply.error.parse_error.ParseErrorKind.{ParseErrorKind}
 use Rattle.unftp_control_message.specs.declared.reply.error.parse_error.ParseErrorKind.TheVariants as kind
-use Rattle.unftp_control_line_parser.specs.Memory.{IfOutOfMemory, MayTakeMemory}
-use Rattle.unftp_control_line_parser.specs.ParseAnswer.{Refuses}
+use Rattle.unftp_control_codecs.specs.Memory.{IfOutOfMemory, MayTakeMemory}
+use Rattle.unftp_control_codecs.specs.ParseAnswer.{Refuses}
 use Rattle.unftp_control_write.specs.declared.WriteCommandError.{WriteCommandError}
 use Rattle.unftp_control_write.specs.declared.WriteCommandError.TheVariants as error
 use Rattle.unftp_control_c.specs.declared.status.Status.TheVariants.{Done, NoLine}

@@ -10,7 +10,7 @@ use Rattle.unftp_control_defs.specs.Said.{IsSaid}
 use Rattle.unftp_control_defs.specs.Outcome.{outcome}
 use Rattle.unftp_control_message.specs.declared.reply.error.parse_error.ParseErrorKind.{ParseErrorKind}
 use Rattle.unftp_control_message.specs.declared.reply.error.parse_error.ParseErrorKind.TheVariants as kind
-use Rattle.unftp_control_line_parser.specs.Memory.{IsRefusal}
+use Rattle.unftp_control_codecs.specs.Memory.{IsRefusal}
 use Rattle.unftp_control_codecs.specs.declared.FirstLine.{FirstLine}
 use Rattle.unftp_control_codecs.specs.declared.FirstLine.TheVariants.{TooLong, Complete}
 use Rattle.unftp_control_codecs.proofs.FirstLineLemmas.{Counts, counts}

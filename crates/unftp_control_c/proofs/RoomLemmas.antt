@@ -29,7 +29,7 @@ use Rattle.unftp_control_defs.proofs.PathLemmas.{path_of-keeps}
 use Rattle.unftp_control_defs.proofs.RuleLemmas.{found}
 use Rattle.unftp_control_defs.proofs.SaidLemmas.{fits, other_fits, site_fits}
 use Rattle.unftp_control_defs.proofs.ValueLemmas.{Reads-value_of}
-use Rattle.unftp_control_line_parser.proofs.TextLemmas.{optional_says}
+use Rattle.unftp_control_codecs.proofs.TextLemmas.{optional_says}
 use Rattle.unftp_control_c.specs.Next.{given_for, given_of}
 
 -- how many bytes the name and the value have that is given

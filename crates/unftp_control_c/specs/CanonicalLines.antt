@@ -4,7 +4,7 @@ use Rattle.unftp_control_defs.specs.Bytes.{Bytes}
 use Rattle.unftp_control_defs.specs.FtpCommand.{FtpCommand, Refusal}
 use Rattle.unftp_control_defs.specs.Outcome.{outcome}
 use Rattle.unftp_control_defs.specs.Canonical.{HasLine, canonical_line}
-use Rattle.unftp_control_line_parser.specs.Memory.{MayTakeMemory}
+use Rattle.unftp_control_codecs.specs.Memory.{MayTakeMemory}
 use Rattle.unftp_control_c.specs.declared.status.Status.TheVariants.{NoLine, OutOfMemory}
 use Rattle.unftp_control_c.specs.Numbers.{refusal_status}
 use Rattle.unftp_control_c.specs.Areas.{Made}

@@ -5,7 +5,7 @@ use Rattle.unftp_control_defs.specs.Events.{FtpEvent, Command, Refused, event_of
 use Rattle.unftp_control_defs.specs.Said.{word_and_value}
 use Rattle.unftp_control_defs.specs.FtpCommand.{Answer, number, Said, said}
 use Rattle.unftp_control_defs.specs.Outcome.{outcome}
-use Rattle.unftp_control_line_parser.specs.Memory.{AnswerMayTakeMemory, MayTakeMemory}
+use Rattle.unftp_control_codecs.specs.Memory.{AnswerMayTakeMemory, MayTakeMemory}
 use Rattle.unftp_control_codecs.specs.Codec.{Codec}
 use Rattle.unftp_control_codecs.specs.FirstLine.{first_line, goes_on, reset}
 use Rattle.unftp_control_codecs.specs.declared.FirstLine.{FirstLine}

@@ -10,7 +10,7 @@ ghost use Rattle.unftp_control_c.specs.declared.status.Status.TheVariants.{Done,
 use crate::areas::write;
 use crate::status::{Status, kind_status, line_status};
 use std::alloc::Global;
-use unftp_control_line_parser::parse;
+use unftp_control_codecs::line_parser::parse;
 use unftp_control_write::write_command;
 
 /// The canonical line of a line's command: `unftp_canonical` of include/unftp_control.h.

@@ -11,7 +11,7 @@ ghost use Rattle.unftp_control_c.specs.declared.status.Status.TheVariants.{OutOf
 use crate::areas::write;
 use crate::status::Status;
 use std::alloc::Global;
-use unftp_control_line_parser::parse;
+use unftp_control_codecs::line_parser::parse;
 use unftp_control_log::write_log_line;
 use unftp_control_message::reply::error::{ControlChanErrorKind, ParseErrorKind};
 use unftp_control_serve::Event;

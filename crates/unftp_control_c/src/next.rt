@@ -11,7 +11,7 @@ use crate::status::{Status, kind_status};
 use itoa::Buffer;
 use std::alloc::Global;
 use unftp_control_codecs::{FirstLine, FtpCodec};
-use unftp_control_line_parser::parts;
+use unftp_control_codecs::line_parser::parts;
 use unftp_control_message::Command;
 use unftp_control_message::parts::Parts;
 

@@ -1,3 +1,16 @@
+pub mod CaseLemmas
+pub mod OutcomeLemmas
+pub mod OffsetLemmas
+pub mod PathLemmas
+pub mod RunLemmas
+pub mod VerbLemmas
+pub mod ParsingMemoryLemmas
+pub mod TextLemmas
+pub mod ReturnLemmas
+pub mod SentPathLemmas
+pub mod LossyPathLemmas
+pub mod TypedLemmas
+pub mod LaneLemmas
 pub mod LineFeedLemmas
 pub mod FirstLineLemmas
 pub mod CallLemmas

@@ -7,7 +7,7 @@ use Rattle.unftp_control_message.specs.CommandMeaning.{command_of}
 use Rattle.unftp_control_message.specs.ErrorParts.{KindAndSource}
 use Rattle.unftp_control_message.specs.ErrorMeaning.{fault_of}
 use Rattle.unftp_control_defs.specs.Outcome.{outcome}
-use Rattle.unftp_control_line_parser.specs.Memory.{MayTakeMemory}
+use Rattle.unftp_control_codecs.specs.Memory.{MayTakeMemory}
 use Rattle.unftp_control_codecs.specs.declared.FirstLine.{FirstLine}
 use Rattle.unftp_control_codecs.specs.declared.FirstLine.TheVariants.{Incomplete, TooLong, Complete}
 use Rattle.unftp_control_codecs.specs.Codec.{Codec}

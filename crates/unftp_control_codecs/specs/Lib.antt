@@ -1,3 +1,7 @@
+pub mod ParseAnswer
+pub mod Values
+pub mod Memory
+pub mod WordsMeaning
 pub mod Codec
 pub mod LineFeed
 pub mod FirstLine

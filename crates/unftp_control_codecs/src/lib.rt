@@ -1,4 +1,5 @@
-//! Takes lines from the start of a buffer, and appends replies to the end of one.
+//! Reads what a line says, takes lines from the start of a buffer, and appends replies to the end of
+//! one.
 #![tactic(auto)]
 
 ghost use Rattle.std.specs.Prelude.{◌≡◌, ◌+◌, ◌-◌, ◌≤◌, if◌then◌else◌, false, None, IsTrue, ⊤, ◌++◌, length, drop, vec_len, Some, Ok, Err, MatchOption, IsOk, OnOk, OnErr, IfErr};
@@ -11,17 +12,18 @@ ghost use Rattle.unftp_control_codecs.specs.FirstLine.{first_line, goes_on, rese
 ghost use Rattle.unftp_control_codecs.specs.Decoding.{Decodes, IsOutOfMemory};
 
 mod encoding;
+pub mod line_parser;
 mod lines;
 mod scan;
 
 use crate::encoding::append_reply;
+use crate::line_parser::parse;
 pub use crate::lines::{EncodeLinesError, encode_lines, is_reply_code};
 use crate::scan::{Scan, ScanCount};
 use std::alloc::Global;
 use std::marker::Model;
 use unftp_control_defs::buffer::remove_front;
 use unftp_control_defs::count::Count;
-use unftp_control_line_parser::parse;
 use unftp_control_message::Command;
 use unftp_control_message::reply::Reply;
 use unftp_control_message::reply::error::{ControlChanError, ControlChanErrorKind, ParseErrorKind};

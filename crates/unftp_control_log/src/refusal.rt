@@ -7,7 +7,7 @@ ghost use Rattle.unftp_control_message.specs.ErrorMeaning.{fault_of, kind_meant}
 use crate::visible::Visible;
 use crate::words::is_listed;
 use std::alloc::{AllocError, Global};
-use unftp_control_line_parser::split;
+use unftp_control_codecs::line_parser::split;
 use unftp_control_message::reply::error::{ControlChanError, ControlChanErrorKind, Source};
 
 /// The verb of the line in upper case, where it is listed.

@@ -4,7 +4,7 @@ ghost use Rattle.std.specs.List.{list_any};
 ghost use Rattle.unftp_control_defs.specs.Rules.{row_of};
 ghost use Rattle.unftp_control_log.specs.LogLine.{further_verbs, is_listed, site_words};
 
-use unftp_control_line_parser::is_verb;
+use unftp_control_codecs::line_parser::is_verb;
 
 /// Whether a log shows this verb: one in upper case with a rule of its own, or another of the
 /// registry of FTP's commands (RFC 5797, section 3; XCUP and XRMD are of RFC 1123, section

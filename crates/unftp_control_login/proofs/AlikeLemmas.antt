@@ -12,7 +12,7 @@ use Rattle.unftp_control_defs.specs.Outcome.{outcome}
 use Rattle.unftp_control_defs.specs.Run.{SessionLaw, after, all_said, at_each, last_state, replies, replies_to, run_of, said, state_after, text_for, text_of, turn}
 use Rattle.unftp_control_defs.proofs.LineEventLemmas.{events-after, events-canonical_line}
 use Rattle.unftp_control_defs.proofs.AnswerLemmas.{IsTyped-raw}
-use Rattle.unftp_control_line_parser.specs.Memory.{AnswerMayTakeMemory, MayTakeMemory}
+use Rattle.unftp_control_codecs.specs.Memory.{AnswerMayTakeMemory, MayTakeMemory}
 use Rattle.unftp_control_serve.specs.Decoder.{FirstMayRunOut}
 use Rattle.unftp_control_serve.specs.Endings.{Cause, Finished, Write, Handler, LineMemory, ReplyMemory, EndsAt, HasGiven, Unsent, whole_text}
 use Rattle.unftp_control_serve.specs.Writing.{Begins}

@@ -3,7 +3,7 @@ ghost use Rattle.std.specs.Prelude.{◌≡◌};
 ghost use Rattle.unftp_control_proxy.specs.ProxyCalls.{is_out_of_memory};
 
 use thiserror::Error;
-use unftp_control_line_parser::ParseError;
+use unftp_control_codecs::line_parser::ParseError;
 
 /// Why a line is not decided so. Nothing has changed, and the line is still to be decided.
 #[derive(Debug, Drop, Error)]

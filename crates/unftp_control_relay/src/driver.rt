@@ -4,7 +4,7 @@ ghost use Rattle.std.specs.List.{concat};
 ghost use Rattle.unftp_control_defs.specs.FtpReply.{CodeAndMsg, encoded};
 ghost use Rattle.unftp_control_defs.specs.Lines.{IsLine, lines_of};
 ghost use Rattle.unftp_control_defs.specs.Outcome.{outcome};
-ghost use Rattle.unftp_control_line_parser.specs.Memory.{PartsTo};
+ghost use Rattle.unftp_control_codecs.specs.Memory.{PartsTo};
 ghost use Rattle.unftp_control_message.specs.ReplyMeaning.{reply_of};
 ghost use Rattle.unftp_control_proxy.specs.ProxyCalls.{IsDecidable, WaitsForServer, is_out_of_memory};
 ghost use Rattle.unftp_control_proxy.specs.ClientLines.{first_client_line, front_line, line_in};
@@ -13,7 +13,7 @@ ghost use Rattle.unftp_control_relay.specs.Filtering.{AreFiltered, Becomes, IsSt
 
 use crate::filter::{Filter, Verdict};
 use std::alloc::{AllocError, Global};
-use unftp_control_line_parser::parts;
+use unftp_control_codecs::line_parser::parts;
 use unftp_control_message::parts::Parts;
 use unftp_control_message::reply::error::ParseErrorKind;
 use unftp_control_message::reply::{Reply, ReplyCode};

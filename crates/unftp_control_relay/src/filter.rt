@@ -2,7 +2,7 @@
 ghost use Rattle.std.specs.Prelude.{◌≡◌, IfOk, OnOk};
 ghost use Rattle.unftp_control_defs.specs.FtpReply.{CodeAndMsg};
 ghost use Rattle.unftp_control_defs.specs.Outcome.{outcome};
-ghost use Rattle.unftp_control_line_parser.specs.Memory.{PartsTo};
+ghost use Rattle.unftp_control_codecs.specs.Memory.{PartsTo};
 ghost use Rattle.unftp_control_message.specs.ReplyMeaning.{number_of};
 ghost use Rattle.unftp_control_relay.specs.Filtering.{AnswerWith, FilterLaw, decision_of};
 
@@ -48,7 +48,7 @@ pub trait Filter {
     ghost law: { FilterLaw State };
 
     /// Returns what is done with this line, which is these parts, or no command for that reason
-    /// (`parts` of `unftp_control_line_parser`). It is not asked of a line that is too long.
+    /// (`parts` of `unftp_control_codecs::line_parser`). It is not asked of a line that is too long.
     fn decide(
         &mut self,
         alloc: Global,

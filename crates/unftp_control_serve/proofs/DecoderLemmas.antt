@@ -9,7 +9,7 @@ use Rattle.unftp_control_defs.specs.Events.{FtpEvent, Refused, event_for, event_
 use Rattle.unftp_control_defs.specs.FtpCommand.{Answer, InvalidUtf8, InvalidCommand, InvalidEol}
 use Rattle.unftp_control_defs.specs.Lines.{Lines, incomplete_line, lines_of}
 use Rattle.unftp_control_defs.specs.Outcome.{outcome}
-use Rattle.unftp_control_line_parser.specs.Memory.{MayTakeMemory}
+use Rattle.unftp_control_codecs.specs.Memory.{MayTakeMemory}
 use Rattle.unftp_control_defs.specs.TakingSteps.{TakesEvent}
 use Rattle.unftp_control_defs.proofs.LineLemmas.{Lines-lines_of, line_first}
 use Rattle.unftp_control_codecs.specs.declared.FirstLine.{FirstLine}

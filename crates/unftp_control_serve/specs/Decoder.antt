@@ -4,7 +4,7 @@ use Rattle.unftp_control_defs.specs.Bytes.{Bytes, LF, Lacks}
 use Rattle.unftp_control_defs.specs.Buffer.{held_after_piece}
 use Rattle.unftp_control_defs.specs.Events.{FtpEvent, exceeds}
 use Rattle.unftp_control_defs.specs.Lines.{lines_of}
-use Rattle.unftp_control_line_parser.specs.Memory.{MayTakeMemory}
+use Rattle.unftp_control_codecs.specs.Memory.{MayTakeMemory}
 use Rattle.unftp_control_defs.specs.TakingSteps.{TakesEvent}
 use Rattle.unftp_control_codecs.specs.Codec.{Codec}
 pub use Rattle.unftp_control_codecs.specs.FirstLine.{kept_length}

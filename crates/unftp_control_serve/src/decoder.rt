@@ -2,7 +2,7 @@
 ghost use Rattle.std.specs.Prelude.{◌≡◌, ◌≤◌, ◌+◌, [], None, Some, IfOk, IfSome, OnOk, OnErr, length};
 ghost use Rattle.unftp_control_defs.specs.Events.{event_of};
 ghost use Rattle.unftp_control_defs.specs.Outcome.{outcome};
-ghost use Rattle.unftp_control_line_parser.specs.Memory.{MayTakeMemory};
+ghost use Rattle.unftp_control_codecs.specs.Memory.{MayTakeMemory};
 ghost use Rattle.unftp_control_serve.specs.Decoder.{MayRunOut, TakesNext, buffered_after, cleared, kept_bytes, line_after, no_bytes, pushed, saturating_u64, settled};
 ghost use Rattle.unftp_control_serve.specs.EventMeaning.{event_meant};
 
@@ -13,7 +13,7 @@ use std::marker::Model;
 use unftp_control_codecs::{FirstLine, FtpCodec};
 use unftp_control_defs::buffer::PendingBytes;
 use unftp_control_defs::count::Count;
-use unftp_control_line_parser::parse;
+use unftp_control_codecs::line_parser::parse;
 use unftp_control_message::reply::error::{ControlChanErrorKind, ParseErrorKind};
 
 /// Cuts an input that comes in pieces into lines, and returns the event of each: for a server with

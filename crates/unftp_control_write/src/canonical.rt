@@ -9,7 +9,7 @@ ghost use Rattle.unftp_control_write.specs.Lines.{ReturnsLine, is_name_byte, lin
 
 use crate::line::Line;
 use itoa::Buffer;
-use unftp_control_line_parser::is_verb;
+use unftp_control_codecs::line_parser::is_verb;
 use unftp_control_message::Command;
 
 /// The line of the command, or none where no line gives the command; `digits` has room for those of

@@ -4,7 +4,7 @@ ghost use Rattle.std.specs.Char.{is_ascii_alphanumeric};
 ghost use Rattle.std.specs.List.{list_all};
 ghost use Rattle.unftp_control_write.specs.ClearLines.{has_clear_verb, is_clear, is_plain, is_plain_line};
 
-use unftp_control_line_parser::split;
+use unftp_control_codecs::line_parser::split;
 
 /// The byte that begins a command of Telnet's (RFC 854).
 const IAC: u8 = 255;

@@ -7,7 +7,7 @@ ghost use Rattle.unftp_control_defs.specs.FtpCommand.{kind, unless_empty};
 ghost use Rattle.unftp_control_defs.specs.Lines.{IsLine};
 ghost use Rattle.unftp_control_defs.specs.Outcome.{outcome};
 ghost use Rattle.unftp_control_defs.specs.Verbs.{upper};
-ghost use Rattle.unftp_control_line_parser.specs.Memory.{PartsTo};
+ghost use Rattle.unftp_control_codecs.specs.Memory.{PartsTo};
 ghost use Rattle.unftp_control_write.specs.Forwarding.{IsForwardError, IsForwarded, LacksRoomFor, sent_line};
 ghost use Rattle.unftp_control_write.specs.Room.{LacksRoom};
 
@@ -15,7 +15,7 @@ use crate::line::Line;
 use itoa::Buffer;
 use std::alloc::AllocError;
 use thiserror::Error;
-use unftp_control_line_parser::{ParseError, kind_keeps, parts, split};
+use unftp_control_codecs::line_parser::{ParseError, kind_keeps, parts, split};
 use unftp_control_message::parts::Parts;
 
 /// Why no line is forwarded.
@@ -63,7 +63,7 @@ pub fn forward(line: &[u8], buf: &mut Vec<u8>) -> Result<(), ForwardError>
 }
 
 /// As `forward`, of a line that was read already: `parts` is what `parts` of
-/// `unftp_control_line_parser` returned for it. So it is read once.
+/// `unftp_control_codecs::line_parser` returned for it. So it is read once.
 ///
 /// `NotALine` and `OutOfMemory` come as with `forward`, and it is never `Refused`. At each error
 /// `buf` is as it was.

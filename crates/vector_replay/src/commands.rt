@@ -9,7 +9,7 @@ use unftp_control_commands::{
     Auth, Epsv, Feat, Help, Metadata, Mlst, Mode, Opts, Passive, Prot, SessionChange, Stru,
     format_facts, make_epsv_reply, quoted_path, single_line_text,
 };
-use unftp_control_line_parser::parse;
+use unftp_control_codecs::line_parser::parse;
 use unftp_control_message::Command;
 use unftp_control_message::reply::Reply;
 use unftp_control_message::reply::error::ControlChanError;

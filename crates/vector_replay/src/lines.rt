@@ -6,7 +6,7 @@ use crate::writing;
 use bytes::Bytes;
 use std::alloc::Global;
 use std::fmt::{Debug, Display};
-use unftp_control_line_parser::{ParseError, ParseErrorKind, is_verb, parse};
+use unftp_control_codecs::line_parser::{ParseError, ParseErrorKind, is_verb, parse};
 use unftp_control_message::Command;
 use unftp_control_message::password::Password;
 use unftp_control_message::reply::error::{ControlChanError, ControlChanErrorKind};

@@ -5,7 +5,7 @@ use crate::steps::{Taker, make_steps};
 use crate::words::{CaseError, Word, first};
 use std::alloc::AllocError;
 use unftp_control_client::{Client, To};
-use unftp_control_line_parser::parse;
+use unftp_control_codecs::line_parser::parse;
 use unftp_control_read::{Front, NextReplyError, ReadReplyError, ReplyDecoder, read_reply};
 
 /// How many bytes of lines are sent without memory for them.

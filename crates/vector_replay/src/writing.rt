@@ -7,7 +7,7 @@ use crate::words::{CaseError, Word, only};
 use bytes::Bytes;
 use std::alloc::Global;
 use unftp_control_codecs::FtpCodec;
-use unftp_control_line_parser::parse;
+use unftp_control_codecs::line_parser::parse;
 use unftp_control_message::Command;
 use unftp_control_write::{ForwardError, forward, write_command};
 

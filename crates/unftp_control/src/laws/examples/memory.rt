@@ -1,6 +1,6 @@
 //! Lines worked out by hand: which of them may need an allocation.
 ghost use Rattle.std.specs.Prelude.{None, Some, codes};
-ghost use Rattle.unftp_control_line_parser.specs.Memory.{MayTakeMemory};
+ghost use Rattle.unftp_control_codecs.specs.Memory.{MayTakeMemory};
 ghost use Rattle.unftp_control_serve.specs.Decoder.{MayRunOut};
 
 /// A line may take memory where its command holds bytes, or a password, and no refused line does.

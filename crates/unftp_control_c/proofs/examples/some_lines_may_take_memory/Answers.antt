@@ -1,7 +1,7 @@
 use Rattle.std.proofs.Common.{◌≡◌, codes, take, refl, subst, sym, arith}
 use Rattle.std.specs.Str.{is_utf8, chars}
 use Rattle.std.specs.Str.Lossy.{utf8_lossy, utf8_valid_len, utf8_error_len}
-use Rattle.unftp_control_line_parser.specs.Memory.{MayTakeMemory}
+use Rattle.unftp_control_codecs.specs.Memory.{MayTakeMemory}
 use Rattle.unftp_control_c.proofs.examples.some_lines_may_take_memory.Goals as goal
 
 pub returns-clause-path : goal.returns-clause-path

@@ -4,7 +4,7 @@ use Rattle.std.specs.Str.{is_utf8, chars}
 use Rattle.std.specs.Str.Lossy.{utf8_lossy, utf8_valid_len, utf8_error_len}
 use Rattle.unftp_control_defs.specs.Events.{Command}
 use Rattle.unftp_control_defs.specs.FtpCommand.{User}
-use Rattle.unftp_control_line_parser.specs.Memory.{MayTakeMemory}
+use Rattle.unftp_control_codecs.specs.Memory.{MayTakeMemory}
 use Rattle.unftp_control_serve.specs.Endings.{LineMemory}
 use Rattle.unftp_control.proofs.laws.examples.engine.memory_ran_out_for_a_line.Goals as goal
 

@@ -2,7 +2,7 @@ use Rattle.std.proofs.Common.{refl, sym, codes, rules, arith}
 use Rattle.std.proofs.lemmas.Bool.{false≢true}
 use Rattle.std.specs.Str.{is_utf8, chars}
 use Rattle.std.specs.Str.Lossy.{utf8_lossy, utf8_valid_len, utf8_error_len}
-use Rattle.unftp_control_line_parser.specs.Memory.{MayTakeMemory}
+use Rattle.unftp_control_codecs.specs.Memory.{MayTakeMemory}
 use Rattle.unftp_control.proofs.laws.examples.memory.a_first_line_may_take_memory.Goals as goal
 
 noop_takes_none : MayTakeMemory (codes "NOOP\r\n") → ⊥

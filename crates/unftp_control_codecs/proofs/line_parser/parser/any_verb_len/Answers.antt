@@ -1,0 +1,18 @@
+use Rattle.std.proofs.Common.{◌+◌, sym, ap, ◌∙◌, arith}
+use Rattle.std.proofs.lemmas.Bool.Decides.{nat_tests}
+use Rattle.std.proofs.lemmas.List.Sums.{position_or_len_is}
+use Rattle.std.specs.List.{position_or_len}
+use Rattle.unftp_control_defs.specs.Verbs.{is_separator}
+use Rattle.unftp_control_codecs.proofs.VerbLemmas.{separator_later}
+use Rattle.unftp_control_codecs.proofs.line_parser.parser.any_verb_len.Goals as goal
+
+pub returns-then-matches-clause-place : goal.returns-then-matches-clause-place
+returns-then-matches-clause-place c = sym (position_or_len_is is_separator c.args.line.now
+    c.loop-at.at 0 (omega arith) c.loop-at.invariant (λ lt. grind (arith, nat_tests)))
+
+pub returns-clause-place : goal.returns-clause-place
+returns-clause-place c =
+    sym (separator_later c.args.line.now c.min-front.result (omega arith)
+    (λ k lt. c.loop-at.invariant k (omega arith))
+    ∙ ap (λ n. c.min-front.result + n) (ap (position_or_len is_separator) (sym c.split_at.ensures.back)
+    ∙ sym c.word_len.ensures.place))

@@ -1,0 +1,41 @@
+use Rattle.std.proofs.Common.{◌≡◌, [], ap, subst, sym, ◌∙◌}
+use Rattle.std.specs.Str.{is_utf8}
+use Rattle.std.proofs.lemmas.Str.{is_utf8-from_IsUtf8}
+use Rattle.unftp_control_defs.specs.Outcome.{outcome, parameter_answer, site_answer}
+use Rattle.unftp_control_defs.specs.Verbs.{upper}
+use Rattle.unftp_control_defs.specs.declared.verb.Kind.TheVariants as kinds
+use Rattle.unftp_control_defs.specs.declared.verb.Verb.TheVariants as verb
+use Rattle.unftp_control_defs.proofs.SaidLemmas.{fits, other_fits}
+use Rattle.unftp_control_codecs.specs.WordsMeaning.{BeginsWith}
+use Rattle.unftp_control_codecs.proofs.OutcomeLemmas.{outcome-named, outcome-other}
+use Rattle.unftp_control_codecs.proofs.line_parser.parser.first_words.Goals as goal
+
+pub returns-in_default : goal.returns-in_default
+returns-in_default c =
+    let e = c.in_ok-from_utf8.ensures.cases in
+    let name = sym c.split.ensures.verb ∙ sym e.0 in
+    record {
+      read = outcome-other c.args.line.now (rw c.split.ensures.verb at (sym c.in_default.ensures))
+          (ap is_utf8 (sym c.split.ensures.verb) ∙ is_utf8-from_IsUtf8 _ e.1)
+          ∙ (λ i. parameter_answer kinds.OptionalText verb.Other (upper (name i))
+          (sym c.split.ensures.parameter i));
+      fits = other_fits _;
+      split = λ is. cc;
+    }
+
+pub returns-in-Subcommand : goal.returns-in-Subcommand
+returns-in-Subcommand c =
+    let read : outcome c.args.line.now ≡ site_answer c.split.result.1.now =
+    outcome-named c.args.line.now (rw c.split.ensures.verb at (sym c.in-Some.ensures))
+    ∙ (λ i. parameter_answer ((sym c.kind.ensures ∙ c.in-Subcommand.is) i) c.in-Some.verb []
+    (sym c.split.ensures.parameter i)) in
+    subst (λ answer. BeginsWith answer c.site.result) (sym read) c.site.ensures
+
+pub returns-in_default-kind : goal.returns-in_default-kind
+returns-in_default-kind c = record {
+  read = outcome-named c.args.line.now (rw c.split.ensures.verb at (sym c.in-Some.ensures))
+      ∙ (λ i. parameter_answer (sym c.kind.ensures i) c.in-Some.verb []
+      (sym c.split.ensures.parameter i));
+  fits = rw c.kind.ensures (fits c.in-Some.verb);
+  split = c.in_default-kind.not-Subcommand;
+}

@@ -1,0 +1,74 @@
+-- Which lines memory may be taken for.
+use Rattle.std.specs.Prelude.{◌≡◌, ⊤, ℕ, ◌+◌, ◌<◌, length, Option, Some, None, Result, Ok, Err}
+use Rattle.unftp_control_defs.specs.Bytes.{Bytes}
+use Rattle.unftp_control_defs.specs.FtpCommand.{FtpCommand, User, Pass, Acct, List, Site, Other, Answer, said}
+use Rattle.unftp_control_defs.specs.Said.{IsSaid}
+use Rattle.unftp_control_defs.specs.declared.verb.Verb.{Verb}
+use Rattle.unftp_control_defs.specs.Outcome.{outcome}
+use Rattle.unftp_control_codecs.specs.ParseAnswer.{Refuses}
+use Rattle.unftp_control_message.specs.CommandMeaning.{command_of}
+use Rattle.unftp_control_message.specs.PartsMeaning.{IsBorrowed, given, said_len, said_of}
+use Rattle.unftp_control_message.specs.declared.Command.{Command}
+use Rattle.unftp_control_message.specs.declared.parts.Parts.{Parts}
+use Rattle.unftp_control_message.specs.declared.parts.Value.{Value}
+use Rattle.unftp_control_message.specs.declared.reply.error.parse_error.ParseErrorKind.{ParseErrorKind}
+use Rattle.unftp_control_message.specs.declared.reply.error.parse_error.ParseErrorKind.TheVariants as kind
+
+abbrev pub maybe_len : Option Bytes → ℕ
+maybe_len None = 0
+maybe_len (Some text) = length text
+
+-- How many bytes a command holds in its texts and byte strings. A password counts for one more: a
+-- failure does not show whether it is empty.
+abbrev pub held_len : FtpCommand → ℕ
+held_len (User name) = length name
+held_len (Pass password) = 1 + length password
+held_len (Acct account) = length account
+held_len (List options path) = maybe_len options + maybe_len path
+held_len (Site name arguments) = length name + length arguments
+held_len (Other name arguments) = length name + length arguments
+held_len command = said_len (said command)
+
+-- The answer is a command that holds bytes. No refusal takes memory.
+abbrev pub AnswerMayTakeMemory : Answer → Type 0
+AnswerMayTakeMemory (Ok command) = 0 < held_len command
+AnswerMayTakeMemory (Err refusal) = ⊥
+
+-- so is the command of the line
+abbrev pub MayTakeMemory : Bytes → Type 0
+MayTakeMemory line = AnswerMayTakeMemory (outcome line)
+
+-- where memory ran out, P
+abbrev pub IfOutOfMemory : ParseErrorKind → Type 0 → Type 0
+IfOutOfMemory kind.InvalidCommand P = ⊤
+IfOutOfMemory kind.InvalidUtf8 P = ⊤
+IfOutOfMemory kind.InvalidEol P = ⊤
+IfOutOfMemory kind.OutOfMemory P = P
+
+abbrev pub OnOutOfMemory : {T : Type 0} → Result T ParseErrorKind → Type 0 → Type 0
+OnOutOfMemory (Ok x) P = ⊤
+OnOutOfMemory (Err error) P = IfOutOfMemory error P
+
+-- A part of the parser returns this answer, and runs out of memory only where it may take some.
+abbrev pub FailsWith : Answer → ParseErrorKind → Type 0
+FailsWith answer kind.OutOfMemory = AnswerMayTakeMemory answer
+FailsWith answer error = Refuses answer error
+
+abbrev pub ParsesTo : Answer → Result Command ParseErrorKind → Type 0
+ParsesTo answer (Ok command) = answer ≡ Ok (command_of command)
+ParsesTo answer (Err error) = FailsWith answer error
+
+-- A part of the parser refuses what this answer refuses, and takes no memory.
+abbrev pub IsRefusal : Answer → ParseErrorKind → Type 0
+IsRefusal answer kind.OutOfMemory = ⊥
+IsRefusal answer error = Refuses answer error
+
+-- It reads a value for this verb and name, or parts, which it borrows where it can.
+abbrev pub ReadsTo : Answer → Verb → Bytes → Result Value ParseErrorKind → Type 0
+ReadsTo answer verb name (Ok value) =
+    IsSaid answer (record { verb = verb; name = name; value = given value }) × IsBorrowed value
+ReadsTo answer verb name (Err error) = IsRefusal answer error
+
+abbrev pub PartsTo : Answer → Result Parts ParseErrorKind → Type 0
+PartsTo answer (Ok parts) = IsSaid answer (said_of parts) × IsBorrowed parts.value
+PartsTo answer (Err error) = IsRefusal answer error

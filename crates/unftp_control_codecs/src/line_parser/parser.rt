@@ -1,0 +1,267 @@
+//! A line's verb and parameter, what it says, and the command that it is.
+ghost use Rattle.std.specs.Prelude.{◌≡◌, ◌≢◌, ◌≤◌, ◌<◌, ℕ, IsTrue, false, length, slice_index, IfOk};
+ghost use Rattle.std.specs.List.{position_or_len};
+ghost use Rattle.unftp_control_message.specs.CommandMeaning.{command_of};
+ghost use Rattle.unftp_control_message.specs.SentValues.{sent_value};
+ghost use Rattle.unftp_control_defs.specs.Bytes.{Bytes};
+ghost use Rattle.unftp_control_defs.specs.Canonical.{HasLine};
+ghost use Rattle.unftp_control_defs.specs.Lines.{IsLine};
+ghost use Rattle.unftp_control_defs.specs.Said.{KindSaysBack};
+ghost use Rattle.unftp_control_defs.specs.Verbs.{is_separator, parameter_of, upper, verb_of};
+ghost use Rattle.unftp_control_defs.specs.Outcome.{value_answer, outcome, parameter_answer, site_answer};
+ghost use Rattle.unftp_control_defs.specs.Rules.{subcommand_answer, taken};
+ghost use Rattle.unftp_control_defs.specs.ComputedValue.{value_of};
+ghost use Rattle.unftp_control_defs.specs.declared.verb.Kind.TheVariants as kinds;
+ghost use Rattle.unftp_control_codecs.specs.Memory.{MayTakeMemory, OnOutOfMemory, ParsesTo, PartsTo, ReadsTo};
+ghost use Rattle.unftp_control_codecs.specs.ParseAnswer.{Returns};
+ghost use Rattle.unftp_control_codecs.specs.WordsMeaning.{AreWords, BeginsWith};
+
+use crate::line_parser::fields::{listing, optional_text, raw, text};
+use crate::line_parser::typed::typed;
+use crate::line_parser::value::parameter_value;
+use crate::line_parser::verb::is_same_word;
+use memchr::memchr3;
+use std::alloc::Global;
+use std::result;
+use std::simd::prelude::*;
+use std::str::from_utf8;
+use unftp_control_defs::verb::verb_named;
+use unftp_control_message::Command;
+use unftp_control_message::parts::{Kind, Parts, Value, Verb};
+use unftp_control_message::reply::error::{ParseErrorKind, Result};
+use unftp_control_message::sent::Sent;
+
+/// How many bytes the longest verb with a rule of its own has. `memchr3` takes longer over so few.
+const LONGEST_VERB: usize = 4;
+
+/// How many bytes come before the first that ends a word.
+#[inline(never)]
+fn word_len(bytes: &[u8]) -> usize
+    ensures place { result ≡ position_or_len is_separator bytes.now }
+    ensures within { result ≤ length bytes.now }
+{
+    match memchr3(b' ', b'\r', b'\n', bytes) {
+        Some(end) => end,
+        None => bytes.len(),
+    }
+}
+
+/// Whether the first four bytes are greater than a space, so that none of them ends a verb.
+#[inline(always)]
+fn four_go_on(line: &[u8]) -> bool
+    requires { 4 ≤ length line.now }
+    ensures { IsTrue result
+        → (k : ℕ) → k < 4 → is_separator (slice_index line.now k) ≡ false }
+{
+    let four = u8x4::from_slice(line);
+    four.simd_le(u8x4::splat(b' ')).to_bitmask() == 0
+}
+
+/// The length of the verb.
+#[inline(always)]
+fn verb_len(line: &[u8]) -> usize
+    ensures place { result ≡ position_or_len is_separator line.now }
+    ensures within { result ≤ length line.now }
+{
+    if line.len() <= 4 || !four_go_on(line) {
+        return any_verb_len(line);
+    }
+    // most verbs have four letters
+    if matches!(line[4], b' ' | b'\r' | b'\n') {
+        return 4;
+    }
+    let (_, rest) = line.split_at(4);
+    4 + word_len(rest)
+}
+
+/// The length of a verb of any length.
+#[inline(never)]
+fn any_verb_len(line: &[u8]) -> usize
+    ensures place { result ≡ position_or_len is_separator line.now }
+    ensures within { result ≤ length line.now }
+{
+    let front = line.len().min(LONGEST_VERB + 1);
+    for at in 0..front {
+        if matches!(line[at], b' ' | b'\r' | b'\n') {
+            return at;
+        }
+    }
+    let (_, rest) = line.split_at(front);
+    front + word_len(rest)
+}
+
+/// The verb, and the parameter bytes after the one byte that ends it.
+#[inline(always)]
+pub fn split<'a>(line: &'a [u8]) -> (&'a [u8], &'a [u8])
+    ensures verb { result.0.now ≡ verb_of line.now }
+    ensures parameter { result.1.now ≡ parameter_of line.now }
+{
+    let end = verb_len(line);
+    let (verb, rest) = line.split_at(end);
+    if rest.is_empty() {
+        return (verb, rest);
+    }
+    let (_, parameter) = line.split_at(end + 1);
+    (verb, parameter)
+}
+
+/// The command that a line is (RFC 959, section 5.3). The line may have any bytes, with its line
+/// feed or without one; each text of the command is new memory, and nothing else is kept of the
+/// line.
+///
+/// It is refused with `InvalidUtf8` where the verb, or the SITE subcommand, is not UTF-8; else with
+/// `InvalidEol` where the parameter has no end or a bare carriage return after its first byte (RFC
+/// 854); else with `InvalidCommand` where the verb doesn't take the value, or with `InvalidUtf8`
+/// where AUTH's, of at most three bytes, is not UTF-8. A verb that ignores its parameter takes any.
+/// Out of memory for the texts of its command, a line is refused with `OutOfMemory`; no other
+/// refusal takes memory.
+pub fn parse(alloc: Global, line: &[u8]) -> Result<Command>
+    ensures answer { Returns (outcome line.now) result }
+    // it runs out of memory only where its command holds bytes
+    ensures memory { OnOutOfMemory result (MayTakeMemory line.now) }
+    // a command is one that `write_command` has a line for
+    ensures has_line { IsLine line.now → IfOk result (λ command. HasLine (command_of command)) }
+{
+    Ok(command_in(alloc, line)?)
+}
+
+/// The command of the line, or the kind of its refusal.
+#[tactic(auto, using(crate::proofs::ParsingMemoryLemmas::commands))]
+fn command_in(alloc: Global, line: &[u8]) -> result::Result<Command, ParseErrorKind>
+    ensures { ParsesTo (outcome line.now) result }
+{
+    let parts = parts(line)?;
+    Command::from_parts(alloc, &parts)
+}
+
+/// What a line says, as `parse` reads it (RFC 959, section 5.3): its verb, its name and its value,
+/// all of them in the line. It takes no memory, and is refused as by `parse`.
+// it is inlined, and what it calls: to move its result takes as long as to find it
+#[inline(always)]
+pub fn parts(line: &[u8]) -> result::Result<Parts<'_>, ParseErrorKind>
+    ensures { PartsTo (outcome line.now) result }
+{
+    let words = first_words(line)?;
+    Ok(Parts {
+        verb: words.verb,
+        name: words.name,
+        value: value(words.kind, words.verb, words.parameter)?,
+    })
+}
+
+/// What a line begins with, and the parameter after it.
+#[derive(Clone, Copy)]
+struct Words<'a> {
+    /// The verb; of SITE that of the subcommand.
+    verb: Verb,
+    /// What is made of the parameter.
+    kind: Kind,
+    /// The name of another subcommand of SITE, or of another verb; else empty.
+    name: &'a str,
+    /// The parameter bytes.
+    parameter: &'a [u8],
+}
+
+/// The words that a line begins with.
+#[inline(always)]
+#[tactic(auto, using(crate::proofs::OutcomeLemmas::outcomes))]
+fn first_words(line: &[u8]) -> result::Result<Words<'_>, ParseErrorKind>
+    ensures { BeginsWith (outcome line.now) result }
+{
+    let (word, parameter) = split(line);
+    let Some(verb) = verb_named(word) else {
+        return Ok(Words {
+            verb: Verb::Other,
+            kind: Kind::OptionalText,
+            name: from_utf8(word)?,
+            parameter,
+        });
+    };
+    match verb.kind() {
+        Kind::Subcommand => site(parameter),
+        kind => Ok(Words {
+            verb,
+            kind,
+            name: "",
+            parameter,
+        }),
+    }
+}
+
+/// The words of SITE: a subcommand, and the parameter of that (RFC 959, section 4.1.3).
+#[inline(always)]
+#[tactic(auto, using(crate::proofs::OutcomeLemmas::outcomes))]
+fn site(parameter: &[u8]) -> result::Result<Words<'_>, ParseErrorKind>
+    ensures { BeginsWith (site_answer parameter.now) result }
+{
+    let (name, parameter) = split(parameter);
+    Ok(subcommand(from_utf8(name)?, parameter))
+}
+
+/// A SITE subcommand, and its parameter.
+#[inline(always)]
+fn subcommand<'a>(name: &'a str, parameter: &'a [u8]) -> Words<'a>
+    ensures { AreWords
+        (value_answer (subcommand_answer (upper name.now)) (value_of parameter.now)) result }
+{
+    if is_same_word(name.as_bytes(), b"MD5") {
+        return Words {
+            verb: Verb::Md5,
+            kind: Kind::Text,
+            name: "",
+            parameter,
+        };
+    }
+    Words {
+        verb: Verb::Site,
+        kind: Kind::OptionalText,
+        name,
+        parameter,
+    }
+}
+
+/// What a verb of this kind makes of parameter bytes. A line without a parameter is not read
+/// further.
+#[inline(always)]
+#[tactic(auto, using(crate::proofs::TextLemmas::texts))]
+fn value(kind: Kind, verb: Verb, parameter: &[u8]) -> result::Result<Value<'_>, ParseErrorKind>
+    requires { kind ≢ kinds.Subcommand }
+    ensures { (name : Bytes) → KindSaysBack kind verb name
+        → ReadsTo (parameter_answer kind verb name parameter.now) verb name result }
+{
+    if matches!(kind, Kind::Ignored) {
+        return Ok(Value::None);
+    }
+    match parameter_value(parameter) {
+        Some(sent) => taken(kind, verb, sent),
+        None => Err(ParseErrorKind::InvalidEol),
+    }
+}
+
+/// What a verb of this kind makes of a value.
+#[inline(always)]
+#[tactic(auto, using(crate::proofs::TextLemmas::texts))]
+fn taken<'a>(kind: Kind, verb: Verb, sent: Sent<'a>) -> result::Result<Value<'a>, ParseErrorKind>
+    ensures { (name : Bytes) → KindSaysBack kind verb name
+        → ReadsTo (taken kind verb name (sent_value sent.entry)) verb name result }
+{
+    match kind {
+        Kind::Alone => {
+            if sent.is_empty() {
+                return Ok(Value::None);
+            }
+            Err(ParseErrorKind::InvalidCommand)
+        }
+        Kind::Raw => Ok(raw(sent)),
+        Kind::Text => {
+            if sent.is_empty() {
+                return Err(ParseErrorKind::InvalidCommand);
+            }
+            Ok(text(sent))
+        }
+        Kind::OptionalText => Ok(optional_text(sent)),
+        Kind::Listing => Ok(listing(sent)),
+        Kind::Typed => typed(verb, sent),
+        Kind::Ignored | Kind::Subcommand => Err(ParseErrorKind::InvalidCommand),
+    }
+}

@@ -1,7 +1,0 @@
-use Rattle.std.proofs.Common.{sym}
-use Rattle.unftp_control_line_parser.proofs.CaseLemmas.{same_ignoring_case}
-use Rattle.unftp_control_line_parser.proofs.verb.is_same_word.Goals as goal
-
-pub returns : goal.returns
-returns c = sym (same_ignoring_case _ c.args.word.now c.args.other.now
-    c.eq_ignore_ascii_case.ensures.test)

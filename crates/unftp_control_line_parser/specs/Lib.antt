@@ -1,4 +1,0 @@
-pub mod ParseAnswer
-pub mod Values
-pub mod Memory
-pub mod WordsMeaning
