@@ -1,17 +1,24 @@
 """The library for C: its version and its calls, which the header has, and its files."""
 
+import contextlib
+import os
 import pathlib
 import re
 import subprocess
+import tempfile
 
 TOP = pathlib.Path(__file__).resolve().parent.parent
 HEADER = TOP / "include/unftp_control.h"
+# the assembly text, from which it is made without the toolchain
+TEXTS = TOP / "generated"
 # where tools/c_library puts it
 OUT = TOP / "crates/unftp_control_c/out"
 
 COMPILED = "libunftp_control_c.a"
 STATIC = "libunftp_control.a"
 SHARED = "libunftp_control.so"
+# the C compiler, which also assembles and links
+CC = os.environ.get("CC", "cc")
 # a cell without text in a page of the manual
 EMPTY = r"\&"
 
@@ -62,6 +69,56 @@ def names_of(*words):
 def global_names(folder):
     """The names that the static and the shared library of a folder define for programs."""
     return names_of("-g", "--defined-only", folder / STATIC), names_of("-D", "--defined-only", folder / shared_names()[0])
+
+
+def text_file(processor):
+    """The assembly text for a processor, as the compiler names it."""
+    return TEXTS / f"{processor}-linux.s"
+
+
+def run(*words):
+    subprocess.run(words, check=True)
+
+
+def share(merged, work):
+    """The shared library. It takes memory from the program's malloc, since that is a name that it leaves undefined."""
+    file, loaded, _ = shared_names()
+    linking = [f"-Wl,-soname,{loaded}", "-Wl,-z,defs", "-Wl,-z,relro", "-Wl,-z,now"]
+    run(CC, "-shared", *linking, merged, "-o", work / file)
+
+
+def pack(merged, work):
+    """Makes the two libraries of an object in a folder, and looks whether they have the calls of the header, and no other name."""
+    run("ar", "rcsD", work / STATIC, merged)
+    share(merged, work)
+    for names in global_names(work):
+        if names != sorted(calls()):
+            raise OSError(f"the libraries have {names}, and not the calls of the header")
+
+
+def processor():
+    """The processor that the C compiler compiles for."""
+    return output_of(CC, "-dumpmachine").split("-")[0]
+
+
+def assemble(work):
+    """Makes the two libraries of the assembly text for the compiler's processor, in a folder."""
+    machine = output_of(CC, "-dumpmachine").strip()
+    if "linux" not in machine or not text_file(processor()).is_file():
+        raise OSError(f"{CC} compiles for {machine}, and generated/ has {', '.join(sorted(path.name for path in TEXTS.glob('*.s')))}")
+    run(CC, "-c", text_file(processor()), "-o", work / "unftp_control.o")
+    pack(work / "unftp_control.o", work)
+
+
+@contextlib.contextmanager
+def libraries_of(folder=None):
+    """The folder of the two libraries: this one, or one in which they are made of the assembly text."""
+    if folder is not None:
+        yield pathlib.Path(folder)
+        return
+    with tempfile.TemporaryDirectory() as name:
+        assemble(pathlib.Path(name))
+        yield pathlib.Path(name)
 
 
 def make_folder(at):
