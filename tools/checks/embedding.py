@@ -3,7 +3,8 @@
 
 usage: tools/checks/embedding.py sessions|session SERVER..        the replies of the server: to all lines, or to one line of each kind
        tools/checks/embedding.py memory PRELOAD SERVER              what it sends at each failed allocation: PRELOAD is tools/checks/fail_allocation.c
-       tools/checks/embedding.py answers REPLAY FILE SKIPPED        the answers to a vector file, of which so many may be skipped
+       tools/checks/embedding.py answers REPLAY.. FILE SKIPPED      the answers to a vector file, of which so many may be skipped
+       tools/checks/embedding.py worked REPLAY..                    the answers to the rows by hand whose call REPLAY has
        tools/checks/embedding.py read|canonical|forward REPLAY..    the replies that servers wrote; the lines that are written for clients' lines
        tools/checks/embedding.py valgrind LOG..                     whether each process ended without an error
        tools/checks/embedding.py numbers                            the numbers of the header and of bindings/rust are the definition's, and those
@@ -285,6 +286,21 @@ def check_answers(*arguments):
     return f"{compared} of {len(cases)} rows compared, {skipped} skipped"
 
 
+# the calls of the rows that a program in C answers
+IN_C = ["canonical", "client", "decode", "encode", "forward", "log", "parse", "read"]
+
+
+def check_worked(*program):
+    """The rows by hand of the calls that C has. Of `canonical` the line alone is compared."""
+    found = [(case, re.sub('" is (ok|err) .*', '"', answer) if case.startswith("canonical") else answer) for case, answer in rows("worked.tsv")]
+    cases, expected = zip(*found)
+    answers = answers_of(program, cases)
+    compared = compare(cases, answers, expected)
+    names = [case.split("\t")[0] for case in cases]
+    wants("the calls", sorted({name for name, answer in zip(names, answers) if answer != "skipped"}), IN_C)
+    return f"{compared} of {sum(name in IN_C for name in names)} rows of these calls compared"
+
+
 def shown_replies(case, answer):
     """What the program has to answer to a stream with this answer, which has the lines of each reply: each ends with CR LF."""
     lines = unquoted(case.split("\t")[1]).split(b"\r\n")
@@ -469,7 +485,7 @@ def check_numbers():
 
 # what a type of the library's functions and structs is to C: the type, and what follows the name, for each parameter that it is; a u32
 # as a result is an enum too, each of which results.c finds to have the size of a uint32_t
-IN_C = {
+TYPES_IN_C = {
     "Global": [],
     "&[u8]": [("const char *", ""), ("size_t", "_len")],
     "&mut [u8]": [("char *", ""), ("size_t", "_room")],
@@ -503,9 +519,9 @@ def struct_name(name):
 def type_in_c(kind):
     """What a type of the library is to C."""
     reference = re.fullmatch(r"&(mut )?([A-Z]\w*)", kind)
-    if kind not in IN_C and reference:
+    if kind not in TYPES_IN_C and reference:
         return [(f"{'' if reference[1] else 'const '}{struct_name(reference[2])} *", "")]
-    return IN_C[kind]
+    return TYPES_IN_C[kind]
 
 
 def type_from_rust(kind):
@@ -710,6 +726,7 @@ CHECKS = {
     "session": check_session,
     "memory": check_memory,
     "answers": check_answers,
+    "worked": check_worked,
     "read": check_read,
     "canonical": check_canonical,
     "forward": check_forward,
