@@ -1,4 +1,5 @@
-//! Finds the C library and links it: `libunftp_control.a`, and nothing else. It builds no library.
+//! With the feature `system` it finds the installed library and links it: `libunftp_control.a`.
+//! Without that feature it does nothing, since the crate has the machine code of the calls.
 use std::env;
 use std::path::{Path, PathBuf};
 use std::process::Command;
@@ -10,19 +11,18 @@ const LIBRARY: &str = "libunftp_control.a";
 const VARIABLE: &str = "UNFTP_CONTROL_LIB";
 
 fn main() {
-    for variable in [VARIABLE, "PKG_CONFIG", "PKG_CONFIG_PATH", "PKG_CONFIG_LIBDIR", "DOCS_RS"] {
+    println!("cargo:rerun-if-changed=build.rs");
+    if env::var_os("CARGO_FEATURE_SYSTEM").is_none() {
+        return;
+    }
+    for variable in [VARIABLE, "PKG_CONFIG", "PKG_CONFIG_PATH", "PKG_CONFIG_LIBDIR"] {
         println!("cargo:rerun-if-env-changed={variable}");
     }
-    if env::var_os("DOCS_RS").is_some() {
-        return; // documentation links nothing
-    }
-    let found = named_folder().or_else(packed_folder).or_else(installed_folder);
-    let Some(folder) = found.or_else(built_folder) else {
+    let Some(folder) = named_folder().or_else(installed_folder) else {
         panic!(
             "{LIBRARY}, {}, is not found: install it so that `pkg-config unftp_control` finds it, \
-             or set {VARIABLE} to its folder{}.",
+             set {VARIABLE} to its folder, or do without the feature `system`.",
             version::needed(),
-            hint()
         );
     };
     println!("cargo:rerun-if-changed={}", folder.join(LIBRARY).display());
@@ -42,12 +42,6 @@ fn named_folder() -> Option<PathBuf> {
 
 fn has_library(folder: &Path) -> bool {
     folder.join(LIBRARY).is_file()
-}
-
-/// Where it is in the archive that this package is in.
-fn packed_folder() -> Option<PathBuf> {
-    let folder = PathBuf::from(env::var_os("CARGO_MANIFEST_DIR")?).join("../lib");
-    has_library(&folder).then_some(folder)
 }
 
 /// The folder that pkg-config knows, where the version fits.
@@ -81,24 +75,5 @@ fn number(version: &str) -> Option<u32> {
             major.checked_mul(1_000_000)?.checked_add(minor * 1_000 + patch)
         }
         _ => None,
-    }
-}
-
-/// Where `tools/c_library` puts it, in the repository that this package is in.
-fn built_folder() -> Option<PathBuf> {
-    let folder = top()?.join("crates/unftp_control_c/out");
-    has_library(&folder).then_some(folder)
-}
-
-fn top() -> Option<PathBuf> {
-    Some(Path::new(&env::var_os("CARGO_MANIFEST_DIR")?).join("../.."))
-}
-
-/// What else there is to do: only in that repository.
-fn hint() -> &'static str {
-    if top().is_some_and(|top| top.join("tools/c_library").is_file()) {
-        ", or run tools/c_library, which proves and builds it in minutes"
-    } else {
-        ""
     }
 }

@@ -9,8 +9,9 @@
 //!
 //! `enum unftp_result` has no negative number, and C gives such an enum the form of a `u32`.
 //!
-//! Numbers and structs are those of the header of one version, so the first call asks which one the
-//! library is of, and panics where that doesn't fit.
+//! Numbers and structs are those of the header of one version. The names of the calls in the text of
+//! `generated/` carry the version of this crate, so no other version is linked. With the feature
+//! `system` the first call asks which version the library is of, and panics where that doesn't fit.
 use crate::version::{fits, needed, text};
 use std::sync::OnceLock;
 
@@ -83,7 +84,25 @@ pub(crate) struct Login {
     pub(crate) stage: u32,
 }
 
+/// The name of a call in the text of `generated/`: `unftp_control_0_1_0_next` for `unftp_next`.
+#[cfg(not(feature = "system"))]
+macro_rules! own_name {
+    ($call:literal) => {
+        concat!(
+            "unftp_control_",
+            env!("CARGO_PKG_VERSION_MAJOR"),
+            "_",
+            env!("CARGO_PKG_VERSION_MINOR"),
+            "_",
+            env!("CARGO_PKG_VERSION_PATCH"),
+            "_",
+            $call
+        )
+    };
+}
+
 extern "C" {
+    #[cfg_attr(not(feature = "system"), link_name = own_name!("next"))]
     fn unftp_next(
         connection: *mut Connection,
         bytes: *const u8,
@@ -93,6 +112,7 @@ extern "C" {
         line: *mut Line,
     ) -> u32;
 
+    #[cfg_attr(not(feature = "system"), link_name = own_name!("reply"))]
     fn unftp_reply(
         code: u32,
         text: *const u8,
@@ -102,8 +122,10 @@ extern "C" {
         len: *mut usize,
     ) -> u32;
 
+    #[cfg_attr(not(feature = "system"), link_name = own_name!("front_reply"))]
     fn unftp_front_reply(bytes: *const u8, bytes_len: usize, reply: *mut FoundReply) -> u32;
 
+    #[cfg_attr(not(feature = "system"), link_name = own_name!("canonical"))]
     fn unftp_canonical(
         line: *const u8,
         line_len: usize,
@@ -112,6 +134,7 @@ extern "C" {
         len: *mut usize,
     ) -> u32;
 
+    #[cfg_attr(not(feature = "system"), link_name = own_name!("forward"))]
     fn unftp_forward(
         line: *const u8,
         line_len: usize,
@@ -120,8 +143,10 @@ extern "C" {
         len: *mut usize,
     ) -> u32;
 
+    #[cfg_attr(not(feature = "system"), link_name = own_name!("is_clear"))]
     fn unftp_is_clear(line: *const u8, line_len: usize) -> u32;
 
+    #[cfg_attr(not(feature = "system"), link_name = own_name!("log_line"))]
     fn unftp_log_line(
         number: u32,
         line: *const u8,
@@ -131,6 +156,7 @@ extern "C" {
         len: *mut usize,
     ) -> u32;
 
+    #[cfg_attr(not(feature = "system"), link_name = own_name!("client_line"))]
     fn unftp_client_line(
         client: *mut Client,
         line: *const u8,
@@ -138,22 +164,31 @@ extern "C" {
         place: *mut u64,
     ) -> u32;
 
+    #[cfg_attr(not(feature = "system"), link_name = own_name!("client_reply"))]
     fn unftp_client_reply(client: *mut Client, code: u32, place: *mut u64) -> u32;
 
+    #[cfg_attr(not(feature = "system"), link_name = own_name!("client_owed"))]
     fn unftp_client_owed(client: *const Client) -> u64;
 
+    #[cfg_attr(not(feature = "system"), link_name = own_name!("client_may_begin_tls"))]
     fn unftp_client_may_begin_tls(client: *const Client, pending: usize) -> u32;
 
+    #[cfg_attr(not(feature = "system"), link_name = own_name!("login_event"))]
     fn unftp_login_event(login: *mut Login, event: u32) -> u32;
 
+    #[cfg_attr(not(feature = "system"), link_name = own_name!("login_answer"))]
     fn unftp_login_answer(login: *mut Login, accepted: u32) -> u32;
 
+    #[cfg_attr(not(feature = "system"), link_name = own_name!("version"))]
     fn unftp_version() -> u32;
 }
 
-/// Panics where the library that is linked is of another series.
+/// Panics where the installed library that is linked is of another series.
 fn check_version() {
     static CHECKED: OnceLock<()> = OnceLock::new();
+    if cfg!(not(feature = "system")) {
+        return;
+    }
     CHECKED.get_or_init(|| {
         let found = version();
         assert!(

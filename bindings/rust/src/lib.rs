@@ -79,6 +79,9 @@
 #![deny(missing_docs, unreachable_pub, unsafe_code)]
 
 mod area;
+#[cfg(not(feature = "system"))]
+#[allow(unsafe_code)]
+mod assembly;
 mod bytes;
 mod canonical;
 mod client;
