@@ -7,14 +7,14 @@
 // where this symbol is, the calls have the names of `ffi`, and else those of the header
 #[cfg(all(target_os = "linux", target_arch = "x86_64", target_pointer_width = "64"))]
 std::arch::global_asm!(
-    ".set unftp_control_rust, 1",
+    ".set .Lunftp_hidden, 1",
     include_str!("../generated/x86_64-linux.s"),
     options(att_syntax, raw)
 );
 
 #[cfg(all(target_os = "linux", target_arch = "aarch64", target_pointer_width = "64"))]
 std::arch::global_asm!(
-    ".set unftp_control_rust, 1",
+    ".set .Lunftp_hidden, 1",
     include_str!("../generated/aarch64-linux.s"),
     options(raw)
 );

@@ -84,12 +84,12 @@ pub(crate) struct Login {
     pub(crate) stage: u32,
 }
 
-/// The name of a call in the text of `generated/`: `unftp_control_0_1_0_next` for `unftp_next`.
+/// The name of a call in the text of `generated/`: `unftp_0_1_0_next` for `unftp_next`.
 #[cfg(not(feature = "system"))]
 macro_rules! own_name {
     ($call:literal) => {
         concat!(
-            "unftp_control_",
+            "unftp_",
             env!("CARGO_PKG_VERSION_MAJOR"),
             "_",
             env!("CARGO_PKG_VERSION_MINOR"),

@@ -1,7 +1,6 @@
 //! The control protocol layer of an FTP server: bytes of a control connection become typed commands
-//! or named refusals, and replies become bytes (RFC 959). The work is done by a static C library,
-//! `libunftp_control.a`, whose calls are proved for all inputs; this crate makes them safe and
-//! typed.
+//! or named refusals, and replies become bytes (RFC 959). The work is done by calls that are proved
+//! for all inputs, whose machine code the crate has with it; this crate makes them safe and typed.
 //!
 //! It is a layer and no server: sockets, TLS, data connections, storage and accounts are the
 //! caller's.
@@ -56,11 +55,18 @@
 //!
 //! # Linking
 //!
-//! The build script looks for the library in the folder that `UNFTP_CONTROL_LIB` names, or in `lib`
-//! there, then in the archive that the crate is in, then by `pkg-config unftp_control`, where the
-//! version is 0.1.x, and then in the repository that the crate is in, where `tools/c_library` builds
-//! it. The first call asks the library for its version, and
-//! panics where that is not 0.1.x. The crate without features has no dependencies.
+//! The machine code is assembly text that Rattle's toolchain made of the proved library, for Linux on
+//! x86-64 and on aarch64. rustc takes it in, so neither a C compiler nor an installed library is
+//! needed, and what a program doesn't call isn't linked. All names in it carry the version of the
+//! crate and are hidden: two versions of the crate, and the library for C, may be in one program. Of
+//! the C library it needs `malloc`, `realloc`, `free`, `memcpy`, `memmove`, `memset` and `memcmp`.
+//!
+//! With the feature `system` the crate links an installed library in its place, which a distribution
+//! may want: `libunftp_control.a` of the folder that `UNFTP_CONTROL_LIB` names, or of `lib` there,
+//! and else the one that `pkg-config unftp_control` finds, where its version is 0.1.x. The first call
+//! then asks the library for its version, and panics where that is not 0.1.x.
+//!
+//! The crate without features has no dependencies.
 //!
 //! # Logs
 //!
@@ -128,7 +134,7 @@ pub use received::ReceivedReply;
 pub use reply::{front_reply, reply, FrontReply, Reply};
 pub use reply_decoder::{ReplyDecoder, REPLY_LIMIT};
 
-/// The version of the C library: `major * 1_000_000 + minor * 1_000 + patch`.
+/// The version of the proved library: `major * 1_000_000 + minor * 1_000 + patch`.
 pub fn library_version() -> u32 {
     ffi::version()
 }
