@@ -46,6 +46,8 @@ impl Lines {
     }
 
     /// Takes the first line of the pending bytes.
+    // inlined, what it has taken is not moved
+    #[inline]
     pub(crate) fn take(&mut self, pending: &[u8]) -> Result<Taken<'_>, Error> {
         if self.connection.offset > pending.len() {
             // the owner has dropped bytes
