@@ -3,12 +3,12 @@
 import hashlib
 import pathlib
 import re
-import shutil
 import subprocess
 import tempfile
 
 import proved
-from library import HEADER, TEXTS, TOP, calls, text_file, version
+from library import HEADER, TOP, calls, text_file, version
+from proved import NotMade
 
 MEMORY = TOP / "tools/memory.c"
 # what the text is made for: the processor as its file names it, as the toolchain does, and the oldest of its kind
@@ -28,10 +28,6 @@ HEAD = """/*
  */
 """
 NAME = r'"(?:[^"\\]|\\.)*"|[A-Za-z_.$][\w.$]*'
-
-
-class NotMade(Exception):
-    """The text can't be made here."""
 
 
 def source_files():
@@ -59,6 +55,14 @@ def head(processor):
     if sorted(found) != ["sources", "toolchain"]:
         raise NotMade(f"{text_file(processor).relative_to(TOP)} names no toolchain or no sources")
     return found["toolchain"], found["sources"].removeprefix("sha256 ")
+
+
+def check_sources(processor):
+    """Says of which toolchain the text is, where it is of the sources that are here."""
+    toolchain, summed = head(processor)
+    if summed != sources():
+        raise NotMade(f"{text_file(processor).relative_to(TOP)} is of other sources: run tools/generated --write")
+    return f"of these sources, by {toolchain}"
 
 
 def own_toolchain():
@@ -132,21 +136,22 @@ def exported():
     return [*lines, "\t.endif", '\t.section\t".note.GNU-stack","",@progbits']
 
 
-def make(processor, archive=None):
-    """The text for a processor, of the crates that were proved in this copy. The archive that the toolchain makes beside it is put there."""
+def whole_text(processor, texts):
+    """The text of what the compiler has written: that of the crates, and that of the functions for memory."""
+    lines = []
+    shared = {name: with_version(name) for text in texts for name in defined(text) if not name.startswith(".L")}
+    for text, part in zip(texts, ["", "memory_"]):
+        lines += kept_lines(text, shared | {name: with_version(name, part) for name in defined(text) if name.startswith(".L")})
+    first = HEAD.format(version=version(), oldest=TARGETS[processor][2], toolchain=own_toolchain(), sources=sources())
+    return first + "\n".join([*lines, *exported()]) + "\n"
+
+
+def make(processor):
+    """The text for a processor, of the crates that were proved in this copy."""
     if proved.missing():
         raise NotMade(f"{', '.join(proved.missing())}: not proved in this copy")
-    with tempfile.TemporaryDirectory() as name:
-        work = pathlib.Path(name)
-        texts = compiled(processor, work)
-        if archive is not None:
-            shutil.move(work / "library.a", archive)
-    first = HEAD.format(version=version(), oldest=TARGETS[processor][2], toolchain=own_toolchain(), sources=sources())
-    lines = []
-    shared = {each: with_version(each) for text in texts for each in defined(text) if not each.startswith(".L")}
-    for text, part in zip(texts, ["", "memory_"]):
-        lines += kept_lines(text, shared | {each: with_version(each, part) for each in defined(text) if each.startswith(".L")})
-    text = first + "\n".join([*lines, *exported()]) + "\n"
-    if name in text or str(TOP) in text:
+    with tempfile.TemporaryDirectory() as work:
+        text = whole_text(processor, compiled(processor, pathlib.Path(work)))
+    if work in text or str(TOP) in text:
         raise NotMade("the text has a path of this machine")
     return text

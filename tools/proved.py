@@ -11,6 +11,10 @@ NAME = "unftp_control_c"
 FOLDER = CRATES / NAME
 
 
+class NotMade(OSError):
+    """What is asked for can't be made here."""
+
+
 def libraries():
     """The libraries that each crate uses, from crates.txt."""
     uses = {}
@@ -48,6 +52,16 @@ def missing():
 def toolchain():
     """The toolchain's folder."""
     return pathlib.Path(subprocess.run(["rt", "doc"], capture_output=True, text=True, check=True).stdout.split("\n")[0]).parent
+
+
+def prove():
+    """Proves what has changed of the crate and of those that it stands on, and makes its archive in out/."""
+    try:
+        ran = subprocess.run(["rt", "lib"], cwd=FOLDER, check=False)
+    except FileNotFoundError as error:
+        raise NotMade("the Rattle toolchain is missing: its command rt has to be on the path") from error
+    if ran.returncode != 0:
+        raise NotMade(f"{NAME} is not proved")
 
 
 def build(archive, *flags, tools=None):
