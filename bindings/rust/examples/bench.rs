@@ -8,7 +8,8 @@ const ROUNDS: usize = 50;
 const CALLS: usize = 1000;
 
 /// The lines of a session, as a client sends them.
-const SESSION: &str = "USER anonymous\r\nPASS guest@example.org\r\nSYST\r\nFEAT\r\nOPTS UTF8 ON\r\n\
+const SESSION: &str =
+    "USER anonymous\r\nPASS guest@example.org\r\nSYST\r\nFEAT\r\nOPTS UTF8 ON\r\n\
 PWD\r\nTYPE I\r\nCWD /pub/linux/kernel/v6.x\r\nEPSV\r\nLIST -la\r\nPORT 192,168,150,90,195,149\r\n\
 NLST *.tar.xz\r\nSIZE linux-6.1.55.tar.xz\r\nMDTM linux-6.1.55.tar.xz\r\nREST 1048576\r\n\
 RETR linux-6.1.55.tar.xz\r\nSITE CHMOD 644 upload.txt\r\nXCRC linux-6.1.55.tar.xz\r\nNOOP\r\n\
