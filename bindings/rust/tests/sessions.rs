@@ -2,6 +2,7 @@
 //! `vectors/`.
 mod common;
 
+use common::cases::read_bytes;
 use common::{bytes, calls, limit, rows, shown_decoded};
 use unftp_control::{
     canonical, log_line, Client, Command, Error, Event, Login, LoginStep, Pending, To,
@@ -35,32 +36,47 @@ fn a_command_is_shown_as_its_log_line() {
     assert!(compared > 1000, "{compared} commands");
 }
 
-/// The command of this variant and these fields, of those that the rows write.
-fn command<'a>(variant: &str, fields: &'a [Option<Vec<u8>>]) -> Command<'a> {
-    let text = |at: usize| {
-        let field: Option<&'a Vec<u8>> = fields[at].as_ref();
-        field.map(|bytes| std::str::from_utf8(bytes).expect("a text").into())
-    };
-    let some = |at: usize| text(at).expect("a field");
+/// The command of a line, with this value in place of its own, of those that the rows write so.
+fn with_value<'a>(line: &Event, value: &'a [u8]) -> Command<'a> {
+    let text = || std::str::from_utf8(value).expect("a text").into();
+    let Event::Command(command) = line else { panic!("{line:?}") };
+    match command {
+        Command::User { .. } => Command::User { username: value.into() },
+        Command::Stat { .. } => Command::Stat { path: Some(value.into()) },
+        Command::Retr { .. } => Command::Retr { path: text() },
+        Command::Nlst { .. } => Command::Nlst { path: Some(text()) },
+        Command::Md5 { .. } => Command::Md5 { file: text() },
+        Command::Site { command, .. } => {
+            Command::Site { command: command.to_string().into(), arguments: text() }
+        }
+        _ => panic!("no value of {command:?} is read here"),
+    }
+}
+
+/// The command of this variant that no line gives.
+fn unread<'a>(variant: &str, text: &'a str) -> Command<'a> {
     match variant {
-        "User" => Command::User { username: fields[0].as_ref().expect("a field").into() },
-        "Stat" => Command::Stat { path: fields[0].as_ref().map(Into::into) },
-        "Retr" => Command::Retr { path: some(0) },
-        "Md5" => Command::Md5 { file: some(0) },
-        "Nlst" => Command::Nlst { path: text(0) },
-        "List" => Command::List { options: text(0), path: text(1) },
-        "Site" => Command::Site { command: some(0), arguments: some(1) },
-        "Other" => Command::Other { command_name: some(0), arguments: some(1) },
-        _ => panic!("no field of {variant} is read here"),
+        "List" => Command::List { options: Some(text.into()), path: None },
+        "Site" => Command::Site { command: text.into(), arguments: "".into() },
+        "Other" => Command::Other { command_name: text.into(), arguments: "".into() },
+        _ => panic!("no text of {variant} is read here"),
     }
 }
 
 #[test]
 fn each_command_has_its_line_or_none() {
     for (words, answer) in calls("worked.tsv", &["write"]) {
-        let field = |word: &String| (word != "none").then(|| bytes(word));
-        let fields: Vec<Option<Vec<u8>>> = words[1..].iter().map(field).collect();
-        match command(&words[0], &fields).to_line() {
+        let given: Vec<Vec<u8>> = words.iter().filter_map(|word| read_bytes(word)).collect();
+        let mut pending = Pending::with_limit(0);
+        pending.push(&given[0]).expect("memory is there");
+        let line = pending.next_event().expect("memory is there");
+        let command = match (words.len(), given.as_slice(), &line) {
+            (1, [_], Some(Event::Command(command))) => command.clone(),
+            (2, [_, value], Some(line)) => with_value(line, value),
+            (2, [text], _) => unread(&words[0], std::str::from_utf8(text).expect("a text")),
+            _ => panic!("{words:?}"),
+        };
+        match command.to_line() {
             Ok(line) => assert_eq!(line, bytes(&answer), "{words:?}"),
             Err(error) => assert_eq!((error, answer.as_str()), (Error::NoLine, "NoLine")),
         }

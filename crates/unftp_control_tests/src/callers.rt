@@ -15,13 +15,13 @@ use calling::serving::{serve_connection, serve_stranger};
 use calling::upgrading::serve_until_tls;
 use std::alloc::Global;
 use std::io;
-use std::io::{Read, Write};
+use std::io::Read;
 use std::process::Abort;
 use unftp_control::client::{Client, ClientReply, SendError, To};
 use unftp_control::codecs::FtpCodec;
 use unftp_control::command::Command;
 use unftp_control::commands::AuthParam;
-use unftp_control::read::{NextReplyError, ReceiveError, ReplyDecoder};
+use unftp_control::read::{ReceiveError, ReplyDecoder};
 use unftp_control::serve::{EventDecoder, Input, Output, ServeError, Served};
 
 /// Logs a line after those that are logged.
@@ -125,45 +125,6 @@ fn a_client_begins_tls_right_after_the_reply_or_not_at_all(rt: HostRuntime) {
     assert_agreed(&rt, alloc, b"234 Begin", false);
 }
 
-/// The next number of a linear congruential generator; its high bits repeat least often.
-fn next_number(number: u32) -> u32 {
-    number.wrapping_mul(1_664_525).wrapping_add(1_013_904_223)
-}
-
-/// A turn that follows from the number.
-fn turn_of(number: u32) -> Told {
-    let most = (number >> 20) as usize % 16;
-    match number >> 30 {
-        0 => Told::Send,
-        1 => Told::ToServer(most),
-        2 => Told::ToClient(most),
-        _ => Told::Take,
-    }
-}
-
-/// Turns that follow from the seed, and then those at which the rest is sent, carried and taken.
-fn turns_of(rt: &impl Abort, alloc: Global, seed: u32) -> Vec<Told> {
-    let mut turns = Vec::new(alloc);
-    let mut number = seed;
-    for _ in 0..seed % 40 {
-        number = next_number(number);
-        turns.push(turn_of(number)).expect(rt, "memory");
-    }
-    for turn in [
-        Told::Send,
-        Told::Send,
-        Told::Send,
-        Told::ToServer(99),
-        Told::ToClient(99),
-    ] {
-        turns.push(turn).expect(rt, "memory");
-    }
-    for _ in 0..4 {
-        turns.push(Told::Take).expect(rt, "memory");
-    }
-    turns
-}
-
 /// A client and a server, whose greeting is on its way.
 fn begun(rt: &impl Abort, alloc: Global) -> Conversation
     ensures { IsNew result }
@@ -177,28 +138,33 @@ fn assert_to(rt: &impl Abort, taken: &ClientReply, to: To, code: u16) {
     assert!(rt; taken.to == to && taken.reply.code == code);
 }
 
-/// The greeting is taken, and the replies to NOOP, PWD and QUIT, each as one to its command.
-fn assert_understood(rt: &impl Abort, alloc: Global, seed: u32) {
-    let mut conversation = begun(rt, alloc);
-    let commands = [Command::Noop, Command::Pwd, Command::Quit];
-    let turns = turns_of(rt, alloc, seed);
-    let handler = &mut Basic::new();
-    let conversed = converse(&mut conversation, &commands, handler, turns.as_slice());
-    drop(commands);
-    conversed.expect(rt, "all turns");
-    assert!(rt; conversation.taken.len() == 4 && conversation.client.owed() == 0);
-    assert_to(rt, &conversation.taken[0], To::Greeting, 220);
-    assert_to(rt, &conversation.taken[1], To::Command(0), 200);
-    assert_to(rt, &conversation.taken[2], To::Command(1), 502);
-    assert_to(rt, &conversation.taken[3], To::Command(2), 221);
-    drop(conversation);
-}
-
 #[test]
-fn a_client_and_a_server_converse_whatever_the_pieces(rt: HostRuntime) {
-    for seed in 0..200 {
-        assert_understood(&rt, rt.alloc(), seed);
-    }
+fn a_client_and_a_server_converse_in_pieces(rt: HostRuntime) {
+    let mut conversation = begun(&rt, rt.alloc());
+    let commands = [Command::Noop, Command::Pwd, Command::Quit];
+    let turns = [
+        Told::Send,
+        Told::ToServer(3),
+        Told::ToClient(5),
+        Told::Take,
+        Told::Send,
+        Told::Send,
+        Told::ToServer(99),
+        Told::ToClient(99),
+        Told::Take,
+        Told::Take,
+        Told::Take,
+        Told::Take,
+    ];
+    let conversed = converse(&mut conversation, &commands, &mut Basic::new(), &turns);
+    drop(commands);
+    conversed.expect(&rt, "all turns");
+    assert!(rt; conversation.taken.len() == 4 && conversation.client.owed() == 0);
+    assert_to(&rt, &conversation.taken[0], To::Greeting, 220);
+    assert_to(&rt, &conversation.taken[1], To::Command(0), 200);
+    assert_to(&rt, &conversation.taken[2], To::Command(1), 502);
+    assert_to(&rt, &conversation.taken[3], To::Command(2), 221);
+    drop(conversation);
 }
 
 #[test]
@@ -215,26 +181,6 @@ fn a_conversation_stops_at_a_command_without_a_line(rt: HostRuntime) {
     // what was taken before stays
     assert!(rt; conversation.taken.len() == 1 && conversation.client.owed() == 0);
     drop(conversation);
-}
-
-/// The error prints this text.
-fn assert_prints(rt: &impl Abort, alloc: Global, error: ConverseError, want: &str) {
-    let text = format!(in alloc; "{error}").expect(rt, "memory");
-    drop(error);
-    assert!(rt; text.as_str() == want);
-    drop(text);
-}
-
-#[test]
-fn errors_of_a_conversation_print_their_texts(rt: HostRuntime) {
-    let alloc = rt.alloc();
-    let send = ConverseError::Send(SendError::NoLine);
-    assert_prints(&rt, alloc, send, "a command was not sent");
-    let serve = ConverseError::Serve(ServeError::Stopped);
-    assert_prints(&rt, alloc, serve, "the server stopped");
-    let reply = ConverseError::Reply(NextReplyError::Malformed);
-    assert_prints(&rt, alloc, reply, "a reply could not be taken");
-    assert_prints(&rt, alloc, ConverseError::OutOfMemory, "out of memory");
 }
 
 /// Two bytes are left.
@@ -335,39 +281,10 @@ impl Read for NoReads {
     }
 }
 
-/// Each write fails with the system's error of this number; or each flush, where writes succeed.
-#[derive(Drop)]
-struct NoWrites {
-    error: i32,
-    is_written: bool,
-}
-
-impl Write for NoWrites {
-    fn write(&mut self, buf: &[u8]) -> io::Result<usize> {
-        if self.is_written {
-            Ok(buf.len())
-        } else {
-            Err(io::Error::from_raw_os_error(self.error))
-        }
-    }
-
-    fn flush(&mut self) -> io::Result<()> {
-        Err(io::Error::from_raw_os_error(self.error))
-    }
-}
-
 /// The number of the system's error that a read failed with.
 fn read_error<T: Drop>(answer: Result<T, ServeError>) -> Option<i32> {
     match answer {
         Err(ServeError::Read(error)) => error.raw_os_error(),
-        _ => None,
-    }
-}
-
-/// The number of the system's error that a write or a flush failed with.
-fn write_error<T: Drop>(answer: Result<T, ServeError>) -> Option<i32> {
-    match answer {
-        Err(ServeError::Write(error)) => error.raw_os_error(),
         _ => None,
     }
 }
@@ -400,42 +317,4 @@ fn the_error_of_a_read_is_returned(rt: HostRuntime) {
     assert_number(&rt, read_error(served), 104);
     let begins = serve_until_tls(alloc, &mut Input::new(NoReads(110)), &mut output);
     assert_number(&rt, read_error(begins), 110);
-}
-
-/// Each way to serve returns the error of the write; or of the flush, where writes succeed.
-fn assert_failure_returned(rt: &impl Abort, alloc: Global, is_written: bool) {
-    let input = b"NOOP\r\n".as_slice();
-    let mut output = Output::new(NoWrites {
-        error: 32,
-        is_written,
-    });
-    let served = serve_connection(
-        alloc,
-        &mut Input::new(input),
-        &mut output,
-        &mut Basic::new(),
-    );
-    assert_number(rt, write_error(served), 32);
-    let mut output = Output::new(NoWrites {
-        error: 28,
-        is_written,
-    });
-    let begins = serve_until_tls(alloc, &mut Input::new(input), &mut output);
-    assert_number(rt, write_error(begins), 28);
-    let mut output = Output::new(NoWrites {
-        error: 5,
-        is_written,
-    });
-    let answer = answer_pieces(alloc, &[input], &mut Basic::new(), &mut output);
-    assert_number(rt, write_error(answer), 5);
-}
-
-#[test]
-fn the_error_of_a_write_is_returned(rt: HostRuntime) {
-    assert_failure_returned(&rt, rt.alloc(), false);
-}
-
-#[test]
-fn the_error_of_a_flush_is_returned(rt: HostRuntime) {
-    assert_failure_returned(&rt, rt.alloc(), true);
 }

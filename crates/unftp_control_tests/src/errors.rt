@@ -43,13 +43,14 @@ enum Origin {
     Io(io::ErrorKind),
 }
 
-/// The error has this kind and comes from this.
-fn assert_error(
+/// The answer is an error that has this kind and comes from this.
+fn assert_passed_on(
     rt: &impl Abort,
-    error: ControlChanError,
+    passed_on: Result<(), ControlChanError>,
     kind: ControlChanErrorKind,
     source: Origin,
 ) {
+    let error = passed_on.expect_err(rt, "an error");
     let is_kind = *error.kind() == kind;
     let found = match error.source() {
         Source::None => Origin::Nothing,
@@ -63,21 +64,11 @@ fn assert_error(
     assert_eq!(rt; found, source);
 }
 
-/// The answer is an error that has this kind and comes from this.
-fn assert_passed_on(
-    rt: &impl Abort,
-    passed_on: Result<(), ControlChanError>,
-    kind: ControlChanErrorKind,
-    source: Origin,
-) {
-    assert_error(rt, passed_on.expect_err(rt, "an error"), kind, source);
-}
-
 mod counted {
-    use super::{Origin, assert_error, assert_passed_on, pass_on_io, pass_on_parse, pass_on_utf8};
+    use super::{Origin, assert_passed_on, pass_on_io, pass_on_parse, pass_on_utf8};
     use std::io::ErrorKind;
     use std::str::{Utf8Error, from_utf8};
-    use unftp_control::error::{ControlChanError, ControlChanErrorKind};
+    use unftp_control::error::ControlChanErrorKind;
     use unftp_control::line_parser::{ParseError, ParseErrorKind};
 
     #[test]
@@ -108,15 +99,5 @@ mod counted {
         assert_passed_on(&rt, pass_on_utf8(ill_formed()), kind, Origin::Utf8);
         let utf8 = ill_formed().expect_err(&rt, "an error");
         assert_eq!(rt; ParseError::from(utf8), ParseErrorKind::InvalidUtf8.into());
-    }
-
-    #[test]
-    fn takes_0_for_a_kind_that_is_converted(rt: HostRuntime) {
-        let state = ControlChanError::from(ControlChanErrorKind::IllegalState);
-        let kind = ControlChanErrorKind::IllegalState;
-        assert_error(&rt, state, kind, Origin::Nothing);
-        let timeout = ControlChanError::new(ControlChanErrorKind::ControlChannelTimeout);
-        let kind = ControlChanErrorKind::ControlChannelTimeout;
-        assert_error(&rt, timeout, kind, Origin::Nothing);
     }
 }

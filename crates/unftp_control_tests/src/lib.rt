@@ -7,6 +7,8 @@ mod callers;
 #[cfg(test)]
 mod errors;
 #[cfg(test)]
+mod facts;
+#[cfg(test)]
 mod held;
 #[cfg(test)]
 mod receiving;

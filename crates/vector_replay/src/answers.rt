@@ -1,12 +1,14 @@
 //! Where answers go, and the marks of the calls.
 use crate::shown::Quoted;
 use crate::words::CaseError;
-use std::alloc::{AllocError, Global};
+use std::alloc::Global;
 use std::fmt::{Debug, Display};
 use std::io;
 use std::io::{BufWriter, Stderr, Stdout, Write};
+use unftp_control_codecs::encode_reply;
+use unftp_control_message::reply::Reply;
 
-/// How many bytes a text may have without taking memory.
+/// How many bytes a text or a reply may have without taking memory.
 const ROOM: usize = 1024;
 
 /// Whether the words were a case.
@@ -19,9 +21,10 @@ pub struct Answers {
     pub alloc: Global,
     out: BufWriter<Stdout>,
     marks: Option<Stderr>,
-    /// The last text that was written, plain and under flags.
+    /// The last text that was written, plain and under flags, and the last reply.
     plain: String,
     flagged: String,
+    reply: Vec<u8>,
     /// Whether the call of the line has begun.
     is_begun: bool,
     failed: io::Result<()>,
@@ -37,14 +40,10 @@ impl Answers {
             marks: if has_marks { Some(rt.stderr()) } else { None },
             plain: String::with_capacity(alloc, ROOM)?,
             flagged: String::with_capacity(alloc, ROOM)?,
+            reply: Vec::with_capacity(alloc, ROOM)?,
             is_begun: false,
             failed: Ok(()),
         })
-    }
-
-    /// A buffer with room for the bytes of a reply.
-    pub fn room(&self) -> Result<Vec<u8>, AllocError> {
-        Vec::with_capacity(self.alloc, ROOM)
     }
 
     /// Keeps the first failure.
@@ -77,21 +76,21 @@ impl Answers {
         }
     }
 
+    /// Writes the bytes of a reply.
+    pub fn put_reply(&mut self, reply: &Reply) {
+        self.reply.clear();
+        let encoded = encode_reply(reply, &mut self.reply);
+        let written = write!(self.out, "{}", Quoted(self.reply.as_slice()));
+        self.note(written);
+        self.put_where(encoded.is_err(), " failed");
+    }
+
     /// Writes what was appended to a buffer of one byte; or why nothing was, where it has no other.
     pub fn put_appended<E: Debug + Drop>(&mut self, made: Result<(), E>, buf: &[u8]) -> Answered {
         match (made, buf) {
             (Ok(()), [b'x', appended @ ..]) => self.put(Quoted(appended)),
             (Err(error), [b'x']) => self.put(format_args!("{error:?}")),
             _ => self.put("changed"),
-        }
-        Ok(())
-    }
-
-    /// Writes a text, or why it was not made.
-    pub fn put_made<E: Debug + Drop>(&mut self, made: Result<String, E>) -> Answered {
-        match made {
-            Ok(text) => self.put(Quoted(text.as_bytes())),
-            Err(error) => self.put(format_args!("{error:?}")),
         }
         Ok(())
     }
@@ -104,12 +103,13 @@ impl Answers {
         }
     }
 
-    /// The call of the line begins, if it hasn't.
-    pub fn begin(&mut self) {
+    /// The call of the line begins, if it hasn't: the memory for it.
+    pub fn begin(&mut self) -> Global {
         if !self.is_begun {
             self.is_begun = true;
             self.mark("begin\n");
         }
+        self.alloc
     }
 
     /// Whether a call ran out of memory, and is made again: each error has one name for it.
@@ -126,10 +126,13 @@ impl Answers {
         is_so
     }
 
-    /// A session ran out of memory, whose calls ended so and have written this, and is made again.
-    pub fn out_of_memory_after(&mut self, ends: &str, written: &[u8]) {
-        let ends = ends.strip_suffix(" | ").unwrap_or(ends);
-        self.mark(format_args!("out of memory {} | {ends}\n", Quoted(written)));
+    /// Whether the line's call ran out of memory, and the line is answered once more.
+    pub fn is_again(&mut self, answered: &Answered) -> bool {
+        let is_so = self.is_begun && matches!(answered, Err(CaseError::OutOfMemory));
+        if is_so {
+            self.mark("out of memory\n");
+        }
+        is_so
     }
 
     /// Ends an answer; the first failure so far is returned.

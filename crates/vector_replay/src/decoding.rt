@@ -1,31 +1,18 @@
 //! Calls that decode lines from bytes that come in pieces.
-ghost use Rattle.std.specs.Prelude.{◌≤◌, ◌+◌, vec_len};
+ghost use Rattle.std.specs.Prelude.{◌≡◌, ◌≤◌, ◌+◌, vec_len};
 
 use crate::answers::{Answered, Answers, once_more};
-use crate::shown::Shown;
+use crate::events::put_event;
 use crate::steps::{Taker, make_steps, room_for};
-use crate::words::{CaseError, Word, first};
+use crate::words::{CaseError, Limit, Word, limit_and_rest};
 use std::alloc::{AllocError, Global};
 use unftp_control_codecs::FtpCodec;
 use unftp_control_message::Command;
-use unftp_control_message::reply::error::{ControlChanError, Source};
+use unftp_control_message::reply::error::ControlChanError;
+use unftp_control_serve::Event;
 
 /// What `decode` returns.
 type Decoded = Result<Option<Command>, ControlChanError>;
-
-/// Writes what a line is read as: its command, or the kinds of its refusal and of what that comes
-/// from.
-pub fn put_line(line: Result<&Command, &ControlChanError>, answers: &mut Answers) {
-    match line {
-        Ok(command) => answers.put(format_args!("ok {}", Shown(command))),
-        Err(error) => {
-            answers.put(format_args!("err {:?}", error.kind()));
-            if let Source::Parse(source) = error.source() {
-                answers.put(format_args!(" {:?}", source.kind()));
-            }
-        }
-    }
-}
 
 /// A codec, and its bytes.
 #[derive(Drop)]
@@ -69,22 +56,17 @@ impl Taker for Decoding {
     }
 
     fn take(&mut self, answers: &mut Answers) -> bool {
-        let decoded = once_more!(answers, self.decode());
-        match &decoded {
+        let event = match once_more!(answers, self.decode()) {
             Ok(None) => return false,
-            Ok(Some(command)) => put_line(Ok(command), answers),
-            Err(error) => put_line(Err(error), answers),
-        }
-        drop(decoded);
+            Ok(Some(command)) => Event::Command(command),
+            Err(error) => Event::Refused(error),
+        };
+        put_event(event, answers);
         if self.is_slice {
             self.put_taken(answers);
         }
         answers.put(" | ");
         true
-    }
-
-    fn act(&mut self, _step: &str, _bytes: &[u8], _answers: &mut Answers) -> Answered {
-        Err(CaseError::NoCase)
     }
 
     /// Writes how many bytes are left; also the scan offset, where it isn't at their end, and
@@ -100,6 +82,16 @@ impl Taker for Decoding {
             answers.put(format_args!(" place={place}"));
         }
         answers.put_where(self.codec.skipping(), " skipping");
+    }
+}
+
+/// A codec with this limit or without one, at this scan offset.
+fn codec_at(limit: Option<Limit>, place: usize) -> FtpCodec
+    ensures { result.place ≡ place }
+{
+    match limit {
+        Some(limit) => FtpCodec::resume(Some(limit.bytes), place, false),
+        None => FtpCodec::resume(None, place, false),
     }
 }
 
@@ -126,15 +118,16 @@ fn decode_pieces(
 
 /// `decode LIMIT PIECE..`
 pub fn answer_decode(words: &[Word<'_>], answers: &mut Answers) -> Answered {
-    let (limit, pieces) = first(words)?;
+    let (limit, pieces) = limit_and_rest(words)?;
     let bytes = Vec::with_capacity(answers.alloc, room_for(pieces))?;
-    let codec = FtpCodec::resume(limit.limit()?, 0, false);
+    let codec = codec_at(limit, 0);
     decode_pieces(codec, bytes, false, pieces, answers)
 }
 
 /// `decode_slice LIMIT PLACE BYTES PIECE..`
 pub fn answer_decode_slice(words: &[Word<'_>], answers: &mut Answers) -> Answered {
-    let [limit, place, front, pieces @ ..] = words else {
+    let (limit, given) = limit_and_rest(words)?;
+    let [place, front, pieces @ ..] = given else {
         return Err(CaseError::NoCase);
     };
     let (place, front) = (place.number()?, front.bytes()?);
@@ -143,6 +136,6 @@ pub fn answer_decode_slice(words: &[Word<'_>], answers: &mut Answers) -> Answere
     }
     let mut bytes = Vec::with_capacity(answers.alloc, room_for(words))?;
     bytes.extend_from_slice(front)?;
-    let codec = FtpCodec::resume(limit.limit()?, place, false);
+    let codec = codec_at(limit, place);
     decode_pieces(codec, bytes, true, pieces, answers)
 }

@@ -1,11 +1,11 @@
 //! Calls of a decoder of events, and of a log of them.
 use crate::answers::{Answered, Answers, once_more};
-use crate::decoding::put_line;
-use crate::shown::Quoted;
+use crate::shown::{Quoted, Shown};
 use crate::steps::{Taker, make_steps};
-use crate::words::{CaseError, Word, first, only};
-use std::alloc::AllocError;
+use crate::words::{CaseError, Limit, Word, limit_and_rest, only_bytes};
+use std::alloc::{AllocError, Global};
 use unftp_control_log::write_log_line;
+use unftp_control_message::reply::error::Source;
 use unftp_control_serve::{Event, EventDecoder};
 
 /// A decoder of events.
@@ -25,8 +25,7 @@ impl Taker for Events {
         let Ok(Some(event)) = once_more!(answers, self.decoder.next_event()) else {
             return false;
         };
-        put_event(&event, answers);
-        drop(event);
+        put_event(event, answers);
         if self.has_lines {
             answers.put(format_args!(" of {}", Quoted(self.decoder.line())));
         }
@@ -52,34 +51,51 @@ impl Taker for Events {
     }
 }
 
-/// Writes what a line is read as.
-pub fn put_event(event: &Event, answers: &mut Answers) {
-    match event {
-        Event::Command(command) => put_line(Ok(command), answers),
-        Event::Refused(error) => put_line(Err(error), answers),
+/// Writes what a line is read as: its command, or the kinds of its refusal and of what that comes
+/// from.
+pub fn put_event(event: Event, answers: &mut Answers) {
+    match &event {
+        Event::Command(command) => answers.put(format_args!("ok {}", Shown(command))),
+        Event::Refused(error) => {
+            answers.put(format_args!("err {:?}", error.kind()));
+            if let Source::Parse(source) = error.source() {
+                answers.put(format_args!(" {:?}", source.kind()));
+            }
+        }
     }
+    drop(event);
 }
 
 /// A decoder with this limit, or without one.
-fn read_decoder(limit: &Word<'_>, answers: &Answers) -> Result<EventDecoder, CaseError> {
-    Ok(match limit.limit()? {
-        Some(limit) => EventDecoder::with_limit(answers.alloc, limit),
-        None => EventDecoder::new(answers.alloc),
-    })
+fn decoder_with(alloc: Global, limit: Option<Limit>) -> EventDecoder {
+    match limit {
+        Some(limit) => EventDecoder::with_limit(alloc, limit.bytes),
+        None => EventDecoder::new(alloc),
+    }
 }
 
-/// `events LIMIT STEP..`, or `event_lines LIMIT STEP..`, which writes each event's line too.
-pub fn answer_events(words: &[Word<'_>], has_lines: bool, answers: &mut Answers) -> Answered {
-    let (limit, steps) = first(words)?;
-    let decoder = read_decoder(limit, answers)?;
+/// Writes the events of these steps, and their lines where they are asked for.
+fn put_events(words: &[Word<'_>], has_lines: bool, answers: &mut Answers) -> Answered {
+    let (limit, steps) = limit_and_rest(words)?;
+    let decoder = decoder_with(answers.alloc, limit);
     make_steps(&mut Events { decoder, has_lines }, steps, " | ", answers)
+}
+
+/// `events LIMIT STEP..`
+pub fn answer_events(words: &[Word<'_>], answers: &mut Answers) -> Answered {
+    put_events(words, false, answers)
+}
+
+/// `event_lines LIMIT STEP..`
+pub fn answer_event_lines(words: &[Word<'_>], answers: &mut Answers) -> Answered {
+    put_events(words, true, answers)
 }
 
 /// `log LIMIT LINE`
 pub fn answer_log(words: &[Word<'_>], answers: &mut Answers) -> Answered {
-    let (limit, line) = first(words)?;
-    let mut decoder = read_decoder(limit, answers)?;
-    decoder.push(only(line)?.bytes()?)?;
+    let (limit, line) = limit_and_rest(words)?;
+    let mut decoder = decoder_with(answers.alloc, limit);
+    decoder.push(only_bytes(line)?)?;
     let mut buf = Vec::from_slice(answers.alloc, b"x")?;
     let Some(event) = decoder.next_event()? else {
         return Err(CaseError::NoCase);

@@ -1,133 +1,85 @@
 //! The handlers of sessions.
-ghost use Rattle.std.specs.Prelude.{⊤, Bool, None, false, codes, if◌then◌else◌};
-ghost use Rattle.unftp_control_defs.specs.FtpReply.{CodeAndMsg, Nothing};
+ghost use Rattle.std.specs.Prelude.{◌≡◌, IfOk, None};
+ghost use Rattle.unftp_control_message.specs.CommandMeaning.{command_of};
+ghost use Rattle.unftp_control_message.specs.ReplyMeaning.{reply_of};
+ghost use Rattle.unftp_control_serve.specs.EventMeaning.{event_meant};
+ghost use Rattle.vector_replay.specs.Script.{ScriptState, command_reply, event_reply, is_help, script_law};
 
 use crate::answers::Answers;
-use crate::events::put_event;
 use crate::shown::Quoted;
 use crate::streams::{Pieces, Turns};
-use demo_responses::Responses;
+use itoa::Buffer;
 use std::alloc::{AllocError, Global};
 use std::io;
-use std::io::{ErrorKind, Read};
+use std::io::Read;
 use transferring::{DataConnection, Transfers};
-use unftp_control_message::reply::error::{ControlChanError, ControlChanErrorKind};
+use unftp_control_answers::Help;
+use unftp_control_message::Command;
+use unftp_control_message::reply::error::ControlChanError;
 use unftp_control_message::reply::{Reply, ReplyCode};
 use unftp_control_serve::{Count, Event, Handler, Session};
 
 /// A handler that is tried from its start.
 pub trait Tried<'a>: Session + Drop {
-    /// A new one of this name. The turns say at which events it fails, or at which calls its data
-    /// connection.
-    fn start(alloc: Global, name: &str, turns: Turns<'a>) -> Result<Self, AllocError>;
+    /// A new one. The turns say at which events it fails, or at which calls its data connection.
+    fn start(alloc: Global, is_silent: bool, turns: Turns<'a>) -> Result<Self, AllocError>;
 
-    /// Writes the last event, or what was transferred, if it keeps that.
-    fn put_last(&self, answers: &mut Answers);
+    /// Writes what it has done.
+    fn put_done(&self, answers: &mut Answers);
 }
 
-/// Counts the events that a handler takes.
-#[derive(Drop)]
-pub struct Counting<H> {
-    pub handler: H,
-    pub taken: u32,
-}
-
-impl<H: Session + Drop> Session for Counting<H> {
-    ghost State = { H.State };
-
-    ghost Said = { H.Said };
-
-    ghost state = { λ counting. H.state counting.handler };
-
-    ghost heard = { λ counting. H.heard counting.handler };
-
-    ghost law = { H.law };
-
-    ghost left = { H.left };
-
-    ghost failures = { λ counting. H.failures counting.handler };
-
-    fn first(&mut self, alloc: Global, event: Event) -> Result<Reply, ControlChanError> {
-        self.taken = self.taken.saturating_add(1);
-        self.handler.first(alloc, event)
-    }
-
-    fn further(&mut self, alloc: Global) -> Result<Option<Reply>, ControlChanError> {
-        self.handler.further(alloc)
-    }
-
-    fn done(&self) -> bool {
-        self.handler.done()
-    }
-}
-
-/// The handler of `control_demo`.
-impl<'a> Tried<'a> for Responses {
-    fn start(_alloc: Global, _name: &str, _turns: Turns<'a>) -> Result<Responses, AllocError> {
-        Ok(Responses::new())
-    }
-
-    fn put_last(&self, _answers: &mut Answers) {}
-}
-
-/// Says `200 OK` to each event, and fails at one whose turn is an error; or answers nothing, and
-/// keeps the last event; or fails at a refused line with the line's own error, and at a command with
-/// one of the system's.
+/// Answers a command with its value or OK, HELP with several lines and a refused line with its kind,
+/// or nothing at all; it is done once QUIT came. At an event whose turn is an error it fails with
+/// that of the line, or else with the turn's.
 #[derive(Drop)]
 pub struct Scripted<'a> {
     is_silent: bool,
-    echoes: bool,
     turns: Turns<'a>,
-    last: Option<Event>,
+    taken: u32,
+    has_quit: bool,
     failures: Count,
 }
 
 impl<'a> Tried<'a> for Scripted<'a> {
-    fn start(_alloc: Global, name: &str, turns: Turns<'a>) -> Result<Scripted<'a>, AllocError> {
+    fn start(
+        _alloc: Global,
+        is_silent: bool,
+        turns: Turns<'a>,
+    ) -> Result<Scripted<'a>, AllocError> {
         Ok(Scripted {
-            is_silent: name == "silent",
-            echoes: name == "echo_error",
+            is_silent,
             turns,
-            last: None,
+            taken: 0,
+            has_quit: false,
             failures: Count::new(),
         })
     }
 
-    fn put_last(&self, answers: &mut Answers) {
-        if let Some(event) = &self.last {
-            answers.put(" last=");
-            put_event(event, answers);
-        }
+    fn put_done(&self, answers: &mut Answers) {
+        answers.put(format_args!(" taken={}", self.taken));
     }
 }
 
 impl Handler for Scripted<'_> {
-    ghost State = { Bool };
+    ghost State = { ScriptState };
 
-    ghost state = { λ scripted. scripted.is_silent };
+    ghost state = { λ scripted.
+        record { is_silent = scripted.is_silent; has_quit = scripted.has_quit } };
 
-    ghost law = { record {
-      says = λ is_silent _. if is_silent then Nothing else CodeAndMsg 200 (codes "OK");
-      next = λ s _. s;
-      may_fail = λ _ _ _. ⊤;
-      done = λ _. false;
-    } };
+    ghost law = { script_law };
 
     ghost failures = { λ scripted. scripted.failures };
 
     fn handle(&mut self, alloc: Global, event: Event) -> Result<Reply, ControlChanError> {
-        if self.is_silent {
-            drop(self.last.replace(event));
-            return Ok(Reply::None);
-        }
-        let answer = if self.echoes {
-            Err(error_at(event))
-        } else {
-            drop(event);
-            match self.turns.next() {
-                Ok(_) => Reply::new(alloc, ReplyCode::CommandOkay, "OK"),
-                Err(_) => Err(ControlChanError::new(ControlChanErrorKind::IllegalState)),
+        self.taken = self.taken.saturating_add(1);
+        self.has_quit = self.has_quit || event.is_quit();
+        let answer = match self.turns.next() {
+            Err(error) => Err(error_at(event, error)),
+            Ok(_) if self.is_silent => {
+                drop(event);
+                Ok(Reply::None)
             }
+            Ok(_) => answer_event(alloc, event),
         };
         if answer.is_err() {
             self.failures.raise();
@@ -136,19 +88,59 @@ impl Handler for Scripted<'_> {
     }
 
     fn done(&self) -> bool {
-        false
+        self.has_quit
     }
 }
 
-/// The error of a refused line, or one of the system's.
-fn error_at(event: Event) -> ControlChanError {
+/// The error of a refused line, or that of a turn.
+fn error_at(event: Event, error: io::Error) -> ControlChanError {
     match event {
-        Event::Refused(error) => error,
+        Event::Refused(refusal) => refusal,
         Event::Command(command) => {
             drop(command);
-            io::Error::from(ErrorKind::TimedOut).into()
+            error.into()
         }
     }
+}
+
+/// The reply to an event.
+fn answer_event(alloc: Global, event: Event) -> Result<Reply, ControlChanError>
+    ensures { IfOk result (λ reply. reply_of reply ≡ event_reply (event_meant event)) }
+{
+    match event {
+        Event::Command(command) => {
+            let reply = answer_command(alloc, &command);
+            drop(command);
+            reply
+        }
+        Event::Refused(error) => {
+            let text = format!(in alloc; "{}", error.kind())?;
+            Ok(Reply::new_with_string(ReplyCode::CommandSyntaxError, text))
+        }
+    }
+}
+
+/// The reply to a command.
+fn answer_command(alloc: Global, command: &Command) -> Result<Reply, ControlChanError>
+    ensures { IfOk result (λ reply. reply_of reply ≡ command_reply (command_of command.now)) }
+{
+    if is_help(command) {
+        return Help.reply(alloc);
+    }
+    match command.name_and_value(&mut Buffer::new()).1 {
+        Some(value) => {
+            let text = String::from_utf8_lossy(alloc, value)?;
+            Ok(Reply::new_with_string(ReplyCode::CommandOkay, text))
+        }
+        None => Reply::new(alloc, ReplyCode::CommandOkay, "OK"),
+    }
+}
+
+/// Whether a command is HELP.
+fn is_help(command: &Command) -> bool
+    ensures { result ≡ is_help (command_of command.now) }
+{
+    matches!(command, Command::Help)
 }
 
 /// How many bytes a data connection takes without memory for them.
@@ -163,7 +155,7 @@ const STEP: usize = 4;
 /// A data connection that holds what it took, and fails when it is asked to.
 #[derive(Drop)]
 pub struct Wire<'a> {
-    pieces: Pieces<'a>,
+    pieces: Pieces<'static, 'a>,
     taken: Vec<u8>,
 }
 
@@ -198,7 +190,7 @@ impl DataConnection for Wire<'_> {
 impl<'a> Tried<'a> for Transfers<Wire<'a>> {
     fn start(
         alloc: Global,
-        _name: &str,
+        _is_silent: bool,
         turns: Turns<'a>,
     ) -> Result<Transfers<Wire<'a>>, AllocError> {
         let wire = Wire {
@@ -208,7 +200,7 @@ impl<'a> Tried<'a> for Transfers<Wire<'a>> {
         Ok(Transfers::new(wire, Vec::new(alloc)))
     }
 
-    fn put_last(&self, answers: &mut Answers) {
+    fn put_done(&self, answers: &mut Answers) {
         let sent = Quoted(self.connection().taken.as_slice());
         answers.put(format_args!(" sent={sent} file={}", Quoted(self.file())));
     }

@@ -1,8 +1,7 @@
-//! Calls on lines, passwords and errors, and on what is written of them.
-use crate::answers::{Answered, Answers, once_more};
+//! Calls on lines, passwords and errors.
+use crate::answers::{Answered, Answers};
 use crate::shown::{Quoted, Shown};
-use crate::words::{CaseError, Word, first, only};
-use crate::writing;
+use crate::words::{CaseError, Word, only_bytes, only_text};
 use bytes::Bytes;
 use std::alloc::Global;
 use std::fmt::{Debug, Display};
@@ -11,76 +10,87 @@ use unftp_control_message::Command;
 use unftp_control_message::password::Password;
 use unftp_control_message::reply::error::{ControlChanError, ControlChanErrorKind};
 
-/// Writes what a line is read as, and drops it.
-pub fn put_parsed(parsed: Result<Command, ParseError>, answers: &mut Answers) -> Answered {
-    match &parsed {
-        Ok(command) => answers.put(format_args!("ok {}", Shown(command))),
-        Err(error) => answers.put(format_args!("err {:?}", error.kind())),
+/// The command that a line is.
+pub fn read_command(alloc: Global, line: &[u8]) -> Result<Command, CaseError> {
+    parse(alloc, line).ok().ok_or(CaseError::NoCase)
+}
+
+/// Writes why a line is refused; memory that ran out is no reason.
+pub fn put_refusal(error: ParseError, answers: &mut Answers) -> Answered {
+    match error.kind() {
+        ParseErrorKind::OutOfMemory => Err(CaseError::OutOfMemory),
+        kind => {
+            answers.put(format_args!("err {kind:?}"));
+            Ok(())
+        }
     }
-    drop(parsed);
-    Ok(())
 }
 
 /// `parse LINE`
-fn answer_parse(line: &[u8], answers: &mut Answers) -> Answered {
-    let parsed = once_more!(answers, parse(answers.alloc, line));
-    put_parsed(parsed, answers)
+pub fn answer_parse(words: &[Word<'_>], answers: &mut Answers) -> Answered {
+    let line = only_bytes(words)?;
+    match parse(answers.begin(), line) {
+        Ok(command) => {
+            answers.put(format_args!("ok {}", Shown(&command)));
+            drop(command);
+            Ok(())
+        }
+        Err(error) => put_refusal(error, answers),
+    }
 }
 
 /// Writes the text of a clone of the command after that is gone.
-fn put_clone(command: Command, answers: &mut Answers) {
-    let cloned = once_more!(answers, command.clone(answers.alloc));
+fn put_clone(command: Command, answers: &mut Answers) -> Answered {
+    let cloned = command.clone(answers.begin());
     let is_same = matches!(&cloned, Ok(copy) if *copy == command);
     drop(command);
-    if let Ok(copy) = &cloned {
-        answers.put_text(format_args!("{copy}"), format_args!("{copy:#60.3}"));
-    }
-    drop(cloned);
-    answers.put_where(!is_same, " unequal");
-}
-
-/// `display LINE`
-fn answer_display(line: &[u8], answers: &mut Answers) -> Answered {
-    let Ok(command) = parse(answers.alloc, line) else {
-        return Err(CaseError::NoCase);
+    let Ok(copy) = cloned else {
+        return Err(CaseError::OutOfMemory);
     };
-    put_clone(command, answers);
+    answers.put_text(format_args!("{copy}"), format_args!("{copy:#60.3}"));
+    drop(copy);
+    answers.put_where(!is_same, " unequal");
     Ok(())
 }
 
+/// `display LINE`
+pub fn answer_display(words: &[Word<'_>], answers: &mut Answers) -> Answered {
+    let command = read_command(answers.alloc, only_bytes(words)?)?;
+    put_clone(command, answers)
+}
+
 /// Writes what Display and Debug write.
-fn put_both<T: Debug + Display>(value: &T, answers: &mut Answers) {
+fn put_both<T: Debug + Display>(value: &T, answers: &mut Answers) -> Answered {
     answers.begin();
     answers.put_text(format_args!("{value}"), format_args!("{value:#60.3}"));
     answers.put(" ");
     answers.put_text(format_args!("{value:?}"), format_args!("{value:#60.3?}"));
+    Ok(())
 }
 
 /// `password BYTES`
-fn answer_password(bytes: &[u8], answers: &mut Answers) -> Answered {
-    let password = Password::new(Bytes::copy_from_slice(answers.alloc, bytes)?);
-    let cloned = once_more!(answers, password.clone());
-    let is_same = matches!(&cloned, Ok(copy) if *copy == password);
+pub fn answer_password(words: &[Word<'_>], answers: &mut Answers) -> Answered {
+    let password = Password::new(Bytes::copy_from_slice(answers.alloc, only_bytes(words)?)?);
+    answers.begin();
+    let copy = password.clone()?;
+    let is_same = copy == password;
     drop(password);
-    if let Ok(copy) = &cloned {
-        put_both(copy, answers);
-        answers.put(format_args!(" bytes={}", Quoted(copy.as_ref())));
-    }
+    put_both(&copy, answers)?;
+    answers.put(format_args!(" bytes={}", Quoted(copy.as_ref())));
     answers.put_where(!is_same, " unequal");
     Ok(())
 }
 
 /// `password_from_text TEXT`
-fn answer_password_from_text(text: &str, answers: &mut Answers) -> Answered {
-    match once_more!(answers, Password::from_text(answers.alloc, text)) {
-        Ok(password) => answers.put(Quoted(password.as_ref())),
-        Err(_) => answers.put("failed"),
-    }
+pub fn answer_password_from_text(words: &[Word<'_>], answers: &mut Answers) -> Answered {
+    let text = only_text(words)?;
+    let password = Password::from_text(answers.begin(), text)?;
+    answers.put(Quoted(password.as_ref()));
     Ok(())
 }
 
 /// `is_verb WORD..`
-fn answer_is_verb(words: &[Word<'_>], answers: &mut Answers) -> Answered {
+pub fn answer_is_verb(words: &[Word<'_>], answers: &mut Answers) -> Answered {
     answers.begin();
     let mut separator = "";
     for word in words {
@@ -118,28 +128,19 @@ fn kind(alloc: Global, name: &str) -> Result<ControlChanErrorKind, CaseError> {
 }
 
 /// `text TYPE VARIANT`
-fn answer_text(words: &[Word<'_>], answers: &mut Answers) -> Answered {
-    let (error, names) = first(words)?;
-    let (alloc, name) = (answers.alloc, only(names)?.name()?);
+pub fn answer_text(words: &[Word<'_>], answers: &mut Answers) -> Answered {
+    let [error, name] = words else {
+        return Err(CaseError::NoCase);
+    };
+    let name = name.name()?;
     match error.name()? {
         "ParseErrorKind" => put_both(&parse_kind(name)?, answers),
         "ParseError" => put_both(&ParseError::from(parse_kind(name)?), answers),
-        "ControlChanErrorKind" => put_both(&kind(alloc, name)?, answers),
-        "ControlChanError" => put_both(&ControlChanError::from(kind(alloc, name)?), answers),
-        _ => return Err(CaseError::NoCase),
-    }
-    Ok(())
-}
-
-/// Answers a call on lines, or one of another subject.
-pub fn answer(call: &str, words: &[Word<'_>], answers: &mut Answers) -> Answered {
-    match call {
-        "parse" => answer_parse(only(words)?.bytes()?, answers),
-        "display" => answer_display(only(words)?.bytes()?, answers),
-        "password" => answer_password(only(words)?.bytes()?, answers),
-        "password_from_text" => answer_password_from_text(only(words)?.text()?, answers),
-        "is_verb" => answer_is_verb(words, answers),
-        "text" => answer_text(words, answers),
-        _ => writing::answer(call, words, answers),
+        "ControlChanErrorKind" => put_both(&kind(answers.alloc, name)?, answers),
+        "ControlChanError" => put_both(
+            &ControlChanError::from(kind(answers.alloc, name)?),
+            answers,
+        ),
+        _ => Err(CaseError::NoCase),
     }
 }

@@ -22,15 +22,53 @@ use answers::{Answered, Answers};
 use std::io::{BufRead, BufReader};
 use std::process::ExitCode;
 use std::{env, io};
-use words::{CaseError, read_words};
+use words::{CaseError, Word, first, read_words};
 
-/// Answers the case that a line is.
+/// Makes the call of this name.
+fn make_call(name: &str, words: &[Word<'_>], answers: &mut Answers) -> Answered {
+    match name {
+        "parse" => lines::answer_parse(words, answers),
+        "display" => lines::answer_display(words, answers),
+        "password" => lines::answer_password(words, answers),
+        "password_from_text" => lines::answer_password_from_text(words, answers),
+        "is_verb" => lines::answer_is_verb(words, answers),
+        "text" => lines::answer_text(words, answers),
+        "write" => writing::answer_write(words, answers),
+        "canonical" => writing::answer_canonical(words, answers),
+        "forward" => writing::answer_forward(words, answers),
+        "decode" => decoding::answer_decode(words, answers),
+        "decode_slice" => decoding::answer_decode_slice(words, answers),
+        "events" => events::answer_events(words, answers),
+        "event_lines" => events::answer_event_lines(words, answers),
+        "log" => events::answer_log(words, answers),
+        "encode" => replies::answer_encode(words, answers),
+        "lines" => replies::answer_lines(words, answers),
+        "says" => replies::answer_says(words, answers),
+        "code" => replies::answer_code(words, answers),
+        "read" => reading::answer_read(words, answers),
+        "receive" => reading::answer_receive(words, answers),
+        "client" => reading::answer_client(words, answers),
+        "reply" => commands::answer_reply(words, answers),
+        "epsv" => commands::answer_epsv(words, answers),
+        "quoted_path" => commands::answer_quoted_path(words, answers),
+        "single_line" => commands::answer_single_line(words, answers),
+        "serve" => sessions::answer_session(true, words, answers),
+        "feed" => sessions::answer_session(false, words, answers),
+        _ => Err(CaseError::NoCase),
+    }
+}
+
+/// Answers the case that a line is, once more where its call ran out of memory.
 fn answer_case(line: &str, answers: &mut Answers) -> Answered {
     let words = read_words(answers.alloc, line)?;
-    let [call, given @ ..] = words.as_slice() else {
-        return Err(CaseError::NoCase);
-    };
-    lines::answer(call.name()?, given, answers)
+    let (name, given) = first(words.as_slice())?;
+    let name = name.name()?;
+    let answered = make_call(name, given, answers);
+    if answers.is_again(&answered) {
+        make_call(name, given, answers)
+    } else {
+        answered
+    }
 }
 
 /// Answers the lines of standard input, with marks where an argument asks for them.

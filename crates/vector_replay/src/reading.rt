@@ -2,7 +2,7 @@
 use crate::answers::{Answered, Answers, once_more};
 use crate::shown::Quoted;
 use crate::steps::{Taker, make_steps};
-use crate::words::{CaseError, Word, first};
+use crate::words::{CaseError, Word, limit_and_rest, only_bytes};
 use std::alloc::AllocError;
 use unftp_control_client::{Client, To};
 use unftp_control_codecs::line_parser::parse;
@@ -39,8 +39,8 @@ fn put_front(bytes: &[u8], separator: &str, answers: &mut Answers) -> Option<usi
 }
 
 /// `read BYTES`
-pub fn answer_read(bytes: &[u8], answers: &mut Answers) -> Answered {
-    answers.begin();
+pub fn answer_read(words: &[Word<'_>], answers: &mut Answers) -> Answered {
+    let bytes = only_bytes(words)?;
     let mut rest = bytes;
     let mut separator = "";
     // a reply takes bytes, so the last call finds none
@@ -95,9 +95,9 @@ impl Taker for ReplyDecoder {
 
 /// `receive LIMIT STEP..`
 pub fn answer_receive(words: &[Word<'_>], answers: &mut Answers) -> Answered {
-    let (limit, steps) = first(words)?;
-    let mut decoder = match limit.limit()? {
-        Some(limit) => ReplyDecoder::with_limit(answers.alloc, limit),
+    let (limit, steps) = limit_and_rest(words)?;
+    let mut decoder = match limit {
+        Some(limit) => ReplyDecoder::with_limit(answers.alloc, limit.bytes),
         None => ReplyDecoder::new(answers.alloc),
     };
     make_steps(&mut decoder, steps, " | ", answers)
@@ -159,9 +159,9 @@ impl Taker for Talk {
 
 /// `client LIMIT ACT..`: `send` and a line, `command` and the line of one, or a piece that comes.
 pub fn answer_client(words: &[Word<'_>], answers: &mut Answers) -> Answered {
-    let (limit, acts) = first(words)?;
-    let client = match limit.limit()? {
-        Some(limit) => Client::with_limit(answers.alloc, limit),
+    let (limit, acts) = limit_and_rest(words)?;
+    let client = match limit {
+        Some(limit) => Client::with_limit(answers.alloc, limit.bytes),
         None => Client::new(answers.alloc),
     };
     let out = Vec::with_capacity(answers.alloc, ROOM)?;

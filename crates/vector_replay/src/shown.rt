@@ -1,7 +1,7 @@
 //! Commands as the vector files write them.
-use bytes::Bytes;
 use std::fmt;
 use std::fmt::{Debug, Display, Formatter, Write};
+use unftp_control_message::parts::{Choice, Value, Verb};
 use unftp_control_message::{Command, Opt};
 
 /// Bytes between double quotes, in ASCII: what is printable as it is, and all else escaped.
@@ -30,78 +30,69 @@ fn write_escaped<W: Write>(f: &mut Formatter<W>, byte: u8) -> fmt::Result {
     }
 }
 
-/// Bytes that may be missing.
-#[derive(Clone, Copy)]
-struct Field<'a>(Option<&'a [u8]>);
-
-impl Display for Field<'_> {
-    fn fmt<W: Write>(&self, f: &mut Formatter<W>) -> fmt::Result {
-        match self.0 {
-            Some(bytes) => Display::fmt(&Quoted(bytes), f),
-            None => f.write_str("None"),
-        }
+/// The variant and the name of its one field; empty where it has none, or two.
+fn heading(verb: Verb) -> &'static str {
+    match verb {
+        Verb::User => "User username",
+        Verb::Pass => "Pass password",
+        Verb::Acct => "Acct account",
+        Verb::Stat => "Stat path",
+        Verb::Stru => "Stru structure",
+        Verb::Mode => "Mode mode",
+        Verb::Port => "Port addr",
+        Verb::Retr => "Retr path",
+        Verb::Stor => "Stor path",
+        Verb::Appe => "Appe path",
+        Verb::Nlst => "Nlst path",
+        Verb::Mlst => "Mlst path",
+        Verb::Mlsd => "Mlsd path",
+        Verb::Cwd => "Cwd path",
+        Verb::Opts => "Opts option",
+        Verb::Dele => "Dele path",
+        Verb::Rmd => "Rmd path",
+        Verb::Mkd => "Mkd path",
+        Verb::Rnfr => "Rnfr file",
+        Verb::Rnto => "Rnto file",
+        Verb::Auth => "Auth protocol",
+        Verb::Prot => "Prot param",
+        Verb::Size => "Size file",
+        Verb::Rest => "Rest offset",
+        Verb::Mdtm => "Mdtm file",
+        Verb::Md5 => "Md5 file",
+        _ => "",
     }
 }
 
-/// The bytes of a text.
-fn text(text: &String) -> Field<'_> {
-    Field(Some(text.as_bytes()))
+/// The field of a command without a value: empty bytes, or none.
+fn write_absent<W: Write>(f: &mut Formatter<W>, verb: Verb) -> fmt::Result {
+    match verb {
+        Verb::User | Verb::Pass | Verb::Acct => f.write_str("\"\""),
+        _ => f.write_str("None"),
+    }
 }
 
-/// The bytes of a text that may be missing.
-fn optional(text: &Option<String>) -> Field<'_> {
-    Field(text.as_ref().map(String::as_bytes))
+/// A parameter by its variant's name.
+fn write_choice<W: Write>(f: &mut Formatter<W>, choice: Choice) -> fmt::Result {
+    match choice {
+        Choice::Structure(structure) => write!(f, "{structure:?}"),
+        Choice::Mode(mode) => write!(f, "{mode:?}"),
+        Choice::Protection(level) => write!(f, "{level:?}"),
+        Choice::Mechanism(mechanism) => write!(f, "{mechanism:?}"),
+        Choice::Setting(Opt::Utf8 { on }) => write!(f, "Utf8 on={on}"),
+        Choice::NoBuffer => f.write_str("0"),
+    }
 }
 
-/// The variant with its one field, where that is of bytes or of text.
-fn one_field(command: &Command) -> Option<(&'static str, Field<'_>)> {
-    Some(match command {
-        Command::User { username } => ("User username", Field(Some(username.as_slice()))),
-        Command::Pass { password } => ("Pass password", Field(Some(password.as_ref()))),
-        Command::Acct { account } => ("Acct account", Field(Some(account.as_slice()))),
-        Command::Stat { path } => ("Stat path", Field(path.as_ref().map(Bytes::as_slice))),
-        Command::Port { addr } => ("Port addr", text(addr)),
-        Command::Retr { path } => ("Retr path", text(path)),
-        Command::Stor { path } => ("Stor path", text(path)),
-        Command::Appe { path } => ("Appe path", text(path)),
-        Command::Cwd { path } => ("Cwd path", text(path)),
-        Command::Dele { path } => ("Dele path", text(path)),
-        Command::Rmd { path } => ("Rmd path", text(path)),
-        Command::Mkd { path } => ("Mkd path", text(path)),
-        Command::Rnfr { file } => ("Rnfr file", text(file)),
-        Command::Rnto { file } => ("Rnto file", text(file)),
-        Command::Size { file } => ("Size file", text(file)),
-        Command::Mdtm { file } => ("Mdtm file", text(file)),
-        Command::Md5 { file } => ("Md5 file", text(file)),
-        Command::Nlst { path } => ("Nlst path", optional(path)),
-        Command::Mlst { path } => ("Mlst path", optional(path)),
-        Command::Mlsd { path } => ("Mlsd path", optional(path)),
-        _ => return None,
-    })
-}
+/// A text that may be missing.
+#[derive(Clone, Copy)]
+struct Optional<'a>(&'a Option<String>);
 
-/// A variant with two fields of text.
-fn write_two<W: Write>(
-    f: &mut Formatter<W>,
-    names: (&str, &str),
-    fields: (Field<'_>, Field<'_>),
-) -> fmt::Result {
-    let (name, second) = names;
-    write!(f, "{name}={} {second}={}", fields.0, fields.1)
-}
-
-/// A variant whose field has a type of its own.
-fn write_typed<W: Write>(f: &mut Formatter<W>, command: &Command) -> fmt::Result {
-    match command {
-        Command::Stru { structure } => write!(f, "Stru structure={structure:?}"),
-        Command::Mode { mode } => write!(f, "Mode mode={mode:?}"),
-        Command::Opts {
-            option: Opt::Utf8 { on },
-        } => write!(f, "Opts option=Utf8 on={on}"),
-        Command::Auth { protocol } => write!(f, "Auth protocol={protocol:?}"),
-        Command::Prot { param } => write!(f, "Prot param={param:?}"),
-        Command::Rest { offset } => write!(f, "Rest offset={offset}"),
-        command => Debug::fmt(command, f),
+impl Display for Optional<'_> {
+    fn fmt<W: Write>(&self, f: &mut Formatter<W>) -> fmt::Result {
+        match self.0 {
+            Some(text) => write!(f, "{}", Quoted(text.as_bytes())),
+            None => f.write_str("None"),
+        }
     }
 }
 
@@ -109,28 +100,51 @@ fn write_typed<W: Write>(f: &mut Formatter<W>, command: &Command) -> fmt::Result
 #[derive(Clone, Copy)]
 pub struct Shown<'a>(pub &'a Command);
 
+impl Shown<'_> {
+    /// A command with at most one field.
+    fn write_field<W: Write>(self, f: &mut Formatter<W>) -> fmt::Result {
+        let parts = self.0.parts();
+        let heading = heading(parts.verb);
+        if heading.is_empty() {
+            return Debug::fmt(self.0, f);
+        }
+        write!(f, "{heading}=")?;
+        match parts.value {
+            Value::None => write_absent(f, parts.verb),
+            Value::Raw(sent) | Value::Lossy(sent) => write!(f, "{}", Quoted(sent.sent())),
+            Value::Text(text) => write!(f, "{}", Quoted(text.as_bytes())),
+            Value::Chosen(choice) => write_choice(f, choice),
+            Value::Number(number) => write!(f, "{number}"),
+        }
+    }
+}
+
 impl Display for Shown<'_> {
     fn fmt<W: Write>(&self, f: &mut Formatter<W>) -> fmt::Result {
-        if let Some((name, field)) = one_field(self.0) {
-            return write!(f, "{name}={field}");
-        }
         match self.0 {
             Command::List { options, path } => {
-                let fields = (optional(options), optional(path));
-                write_two(f, ("List options", "path"), fields)
+                write!(
+                    f,
+                    "List options={} path={}",
+                    Optional(options),
+                    Optional(path)
+                )
             }
             Command::Site { command, arguments } => {
-                let fields = (text(command), text(arguments));
-                write_two(f, ("Site command", "arguments"), fields)
+                let (name, text) = (Quoted(command.as_bytes()), Quoted(arguments.as_bytes()));
+                write!(f, "Site command={name} arguments={text}")
             }
             Command::Other {
                 command_name,
                 arguments,
             } => {
-                let fields = (text(command_name), text(arguments));
-                write_two(f, ("Other command_name", "arguments"), fields)
+                let (name, text) = (
+                    Quoted(command_name.as_bytes()),
+                    Quoted(arguments.as_bytes()),
+                );
+                write!(f, "Other command_name={name} arguments={text}")
             }
-            command => write_typed(f, command),
+            _ => self.write_field(f),
         }
     }
 }

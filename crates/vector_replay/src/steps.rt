@@ -1,10 +1,6 @@
 //! What takes what is complete of bytes that come in pieces.
 use crate::answers::{Answered, Answers, once_more};
-use crate::decoding::{answer_decode, answer_decode_slice};
-use crate::events::{answer_events, answer_log};
-use crate::reading::{answer_client, answer_receive};
-use crate::replies;
-use crate::words::Word;
+use crate::words::{CaseError, Word};
 use std::alloc::AllocError;
 
 /// Takes what is complete of bytes that come in pieces.
@@ -15,8 +11,10 @@ pub trait Taker: Drop {
     /// Takes the next, and writes it or why there is none; whether there was one.
     fn take(&mut self, answers: &mut Answers) -> bool;
 
-    /// Makes a step of its own.
-    fn act(&mut self, step: &str, bytes: &[u8], answers: &mut Answers) -> Answered;
+    /// Makes a step of its own, if it has one of this name.
+    fn act(&mut self, _step: &str, _bytes: &[u8], _answers: &mut Answers) -> Answered {
+        Err(CaseError::NoCase)
+    }
 
     /// Writes what is left.
     fn put_left(&self, answers: &mut Answers);
@@ -82,18 +80,4 @@ pub fn room_for(pieces: &[Word<'_>]) -> usize {
         }
     }
     room
-}
-
-/// Answers a call on an input in pieces, or one of another subject.
-pub fn answer(call: &str, words: &[Word<'_>], answers: &mut Answers) -> Answered {
-    match call {
-        "decode" => answer_decode(words, answers),
-        "decode_slice" => answer_decode_slice(words, answers),
-        "events" => answer_events(words, false, answers),
-        "event_lines" => answer_events(words, true, answers),
-        "log" => answer_log(words, answers),
-        "receive" => answer_receive(words, answers),
-        "client" => answer_client(words, answers),
-        _ => replies::answer(call, words, answers),
-    }
 }

@@ -45,18 +45,18 @@ impl<'a> Turns<'a> {
 
 /// Gives pieces of its bytes.
 #[derive(Drop)]
-pub struct Pieces<'a> {
+pub struct Pieces<'a, 'b> {
     /// The bytes that were not read.
     pub rest: &'a [u8],
     /// How many reads were made.
     pub reads: usize,
     /// The most bytes that a read gives.
     step: usize,
-    pub turns: Turns<'a>,
+    pub turns: Turns<'b>,
 }
 
-impl<'a> Pieces<'a> {
-    pub fn new(bytes: &'a [u8], step: usize, turns: Turns<'a>) -> Pieces<'a> {
+impl<'a, 'b> Pieces<'a, 'b> {
+    pub fn new(bytes: &'a [u8], step: usize, turns: Turns<'b>) -> Pieces<'a, 'b> {
         Pieces {
             rest: bytes,
             reads: 0,
@@ -66,7 +66,7 @@ impl<'a> Pieces<'a> {
     }
 }
 
-impl Read for Pieces<'_> {
+impl Read for Pieces<'_, '_> {
     ghost remaining = { λ pieces. Some pieces.rest.now };
 
     fn read(&mut self, buf: &mut [u8]) -> io::Result<usize> {

@@ -1,10 +1,11 @@
 //! The words of a case.
-ghost use Rattle.std.specs.Prelude.{◌≤◌, IfOk, IfSome};
+ghost use Rattle.std.specs.Prelude.{◌≤◌};
 
 use bstr::ByteVec;
 use std::alloc::{AllocError, AllocFailed, Global};
 use std::str;
 use std::str::FromStr;
+use unftp_control_message::reply::error::ControlChanError;
 
 /// Why a line is not answered as a case.
 #[derive(Clone, Copy)]
@@ -25,6 +26,20 @@ impl<T: Drop> From<AllocFailed<T>> for CaseError {
     fn from(_error: AllocFailed<T>) -> CaseError {
         CaseError::OutOfMemory
     }
+}
+
+/// A reply that is made fails only so.
+impl From<ControlChanError> for CaseError {
+    fn from(_error: ControlChanError) -> CaseError {
+        CaseError::OutOfMemory
+    }
+}
+
+/// How many bytes something may have: at least 1.
+#[derive(Clone, Copy)]
+pub struct Limit {
+    pub bytes: usize,
+    ghost at_least_1: { 1 ≤ bytes },
 }
 
 /// A word, or the bytes that it has between quotes.
@@ -72,25 +87,52 @@ impl<'a> Word<'a> {
         self.name()?.parse::<T>().ok().ok_or(CaseError::NoCase)
     }
 
-    /// A limit of at least 1, or `none`.
-    pub fn limit(&self) -> Result<Option<usize>, CaseError>
-        ensures { IfOk result (λ limit. IfSome limit (λ limit. 1 ≤ limit)) }
-    {
+    /// A limit, or `none`.
+    pub fn limit(&self) -> Result<Option<Limit>, CaseError> {
         if let Word::Bare("none") = self {
             return Ok(None);
         }
         match self.number()? {
             0 => Err(CaseError::NoCase),
-            limit => Ok(Some(limit)),
+            bytes => Ok(Some(Limit { bytes })),
         }
     }
 }
 
-/// The only word of these.
-pub fn only<'a, 'b>(words: &'a [Word<'b>]) -> Result<&'a Word<'b>, CaseError> {
+/// The bytes that the only word of these has between quotes.
+pub fn only_bytes<'a>(words: &'a [Word<'_>]) -> Result<&'a [u8], CaseError> {
     match words {
-        [word] => Ok(word),
+        [word] => word.bytes(),
         _ => Err(CaseError::NoCase),
+    }
+}
+
+/// The text that the only word of these has between quotes.
+pub fn only_text<'a>(words: &'a [Word<'_>]) -> Result<&'a str, CaseError> {
+    match words {
+        [word] => word.text(),
+        _ => Err(CaseError::NoCase),
+    }
+}
+
+/// The number that the only word of these is.
+pub fn only_number<T: FromStr + Drop>(words: &[Word<'_>]) -> Result<T, CaseError>
+where
+    T::Err: Drop,
+{
+    match words {
+        [word] => word.number(),
+        _ => Err(CaseError::NoCase),
+    }
+}
+
+/// The limit that the first of these words is, and the words after it.
+pub fn limit_and_rest<'a, 'b>(
+    words: &'a [Word<'b>],
+) -> Result<(Option<Limit>, &'a [Word<'b>]), CaseError> {
+    match words {
+        [limit, rest @ ..] => Ok((limit.limit()?, rest)),
+        [] => Err(CaseError::NoCase),
     }
 }
 
