@@ -12,50 +12,43 @@ use unftp_control_message::Command;
 use unftp_control_message::reply::Reply;
 use unftp_control_message::reply::error::ControlChanError;
 
-/// What a server is set to.
+/// What a server is set to, by words.
 #[derive(Clone, Copy)]
-struct Settings {
-    tls: bool,
-    restart: bool,
-    site_md5: bool,
-    passive: Passive,
-}
+struct Settings<'a, 'b>(&'a [Word<'b>]);
 
-/// The settings that these words name.
-fn read_settings(words: &[Word<'_>]) -> Result<Settings, CaseError> {
-    let mut settings = Settings {
-        tls: false,
-        restart: false,
-        site_md5: false,
-        passive: Passive::Prebound,
-    };
-    for word in words {
-        match word.name()? {
-            "tls" => settings.tls = true,
-            "restart" => settings.restart = true,
-            "site_md5" => settings.site_md5 = true,
-            _ => settings.passive = Passive::Port(word.number()?),
+impl Settings<'_, '_> {
+    /// Whether this is set.
+    fn has(self, name: &str) -> bool {
+        self.0
+            .iter()
+            .any(|word| word.name().is_ok_and(|setting| setting == name))
+    }
+
+    /// The port, by its number, or one that was bound before.
+    fn passive(self) -> Passive {
+        match self.0 {
+            [.., word] => word.number().map_or(Passive::Prebound, Passive::Port),
+            [] => Passive::Prebound,
         }
     }
-    Ok(settings)
 }
 
 /// A reply, and what the session has to do after it where the command may change it.
 type Replied = Result<(Reply, Option<SessionChange>), CaseError>;
 
 /// The reply to a command, of a server with these settings.
-fn reply_to(alloc: Global, command: &Command, settings: Settings) -> Replied {
-    let Settings {
-        tls,
-        restart,
-        site_md5,
-        passive,
-    } = settings;
+fn reply_to(alloc: Global, command: &Command, settings: Settings<'_, '_>) -> Replied {
+    let tls = settings.has("tls");
     let reply = match command {
         Command::Auth { protocol } => return changing(Auth::new(*protocol).reply(alloc, tls)),
         Command::Prot { param } => return changing(Prot::new(*param).reply(alloc, tls)),
-        Command::Epsv => Epsv::new().reply(alloc, passive),
-        Command::Feat => Feat.reply(alloc, tls, restart, site_md5),
+        Command::Epsv => Epsv::new().reply(alloc, settings.passive()),
+        Command::Feat => Feat.reply(
+            alloc,
+            tls,
+            settings.has("restart"),
+            settings.has("site_md5"),
+        ),
         Command::Help => Help.reply(alloc),
         Command::Mode { mode } => Mode::new(*mode).reply(alloc),
         Command::Opts { option } => Opts::new(*option).reply(alloc),
@@ -74,9 +67,8 @@ fn changing(made: Result<(Reply, SessionChange), ControlChanError>) -> Replied {
 /// `reply LINE SETTING..`
 pub fn answer_reply(words: &[Word<'_>], answers: &mut Answers) -> Answered {
     let (line, settings) = first(words)?;
-    let settings = read_settings(settings)?;
     let command = read_command(answers.alloc, line.bytes()?)?;
-    let replied = reply_to(answers.begin(), &command, settings);
+    let replied = reply_to(answers.begin(), &command, Settings(settings));
     drop(command);
     let (reply, change) = replied?;
     answers.put_reply(&reply);

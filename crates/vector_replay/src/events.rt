@@ -74,21 +74,11 @@ fn decoder_with(alloc: Global, limit: Option<Limit>) -> EventDecoder {
     }
 }
 
-/// Writes the events of these steps, and their lines where they are asked for.
-fn put_events(words: &[Word<'_>], has_lines: bool, answers: &mut Answers) -> Answered {
+/// `events LIMIT STEP..`, or `event_lines LIMIT STEP..`, which writes each event's line too.
+pub fn answer_events(words: &[Word<'_>], has_lines: bool, answers: &mut Answers) -> Answered {
     let (limit, steps) = limit_and_rest(words)?;
     let decoder = decoder_with(answers.alloc, limit);
     make_steps(&mut Events { decoder, has_lines }, steps, " | ", answers)
-}
-
-/// `events LIMIT STEP..`
-pub fn answer_events(words: &[Word<'_>], answers: &mut Answers) -> Answered {
-    put_events(words, false, answers)
-}
-
-/// `event_lines LIMIT STEP..`
-pub fn answer_event_lines(words: &[Word<'_>], answers: &mut Answers) -> Answered {
-    put_events(words, true, answers)
 }
 
 /// `log LIMIT LINE`

@@ -5,28 +5,17 @@ ghost use Rattle.unftp_control_message.specs.ReplyMeaning.{reply_of};
 ghost use Rattle.unftp_control_serve.specs.EventMeaning.{event_meant};
 ghost use Rattle.vector_replay.specs.Script.{ScriptState, command_reply, event_reply, is_help, script_law};
 
-use crate::answers::Answers;
-use crate::shown::Quoted;
 use crate::streams::{Pieces, Turns};
 use itoa::Buffer;
 use std::alloc::{AllocError, Global};
 use std::io;
 use std::io::Read;
-use transferring::{DataConnection, Transfers};
+use transferring::DataConnection;
 use unftp_control_answers::Help;
 use unftp_control_message::Command;
 use unftp_control_message::reply::error::ControlChanError;
 use unftp_control_message::reply::{Reply, ReplyCode};
-use unftp_control_serve::{Count, Event, Handler, Session};
-
-/// A handler that is tried from its start.
-pub trait Tried<'a>: Session + Drop {
-    /// A new one. The turns say at which events it fails, or at which calls its data connection.
-    fn start(alloc: Global, is_silent: bool, turns: Turns<'a>) -> Result<Self, AllocError>;
-
-    /// Writes what it has done.
-    fn put_done(&self, answers: &mut Answers);
-}
+use unftp_control_serve::{Count, Event, Handler};
 
 /// Answers a command with its value or OK, HELP with several lines and a refused line with its kind,
 /// or nothing at all; it is done once QUIT came. At an event whose turn is an error it fails with
@@ -35,28 +24,21 @@ pub trait Tried<'a>: Session + Drop {
 pub struct Scripted<'a> {
     is_silent: bool,
     turns: Turns<'a>,
-    taken: u32,
+    /// How many events it has taken.
+    pub taken: u32,
     has_quit: bool,
     failures: Count,
 }
 
-impl<'a> Tried<'a> for Scripted<'a> {
-    fn start(
-        _alloc: Global,
-        is_silent: bool,
-        turns: Turns<'a>,
-    ) -> Result<Scripted<'a>, AllocError> {
-        Ok(Scripted {
+impl<'a> Scripted<'a> {
+    pub fn new(is_silent: bool, turns: Turns<'a>) -> Scripted<'a> {
+        Scripted {
             is_silent,
             turns,
             taken: 0,
             has_quit: false,
             failures: Count::new(),
-        })
-    }
-
-    fn put_done(&self, answers: &mut Answers) {
-        answers.put(format_args!(" taken={}", self.taken));
+        }
     }
 }
 
@@ -159,6 +141,21 @@ pub struct Wire<'a> {
     taken: Vec<u8>,
 }
 
+impl<'a> Wire<'a> {
+    /// A data connection whose calls have these turns.
+    pub fn new(alloc: Global, turns: Turns<'a>) -> Result<Wire<'a>, AllocError> {
+        Ok(Wire {
+            pieces: Pieces::new(GIVEN, STEP, turns),
+            taken: Vec::with_capacity(alloc, ROOM)?,
+        })
+    }
+
+    /// What it took.
+    pub fn sent(&self) -> &[u8] {
+        self.taken.as_slice()
+    }
+}
+
 impl DataConnection for Wire<'_> {
     // what it holds is shown by rows, and no contract speaks of it
     ghost contents = { λ _. None };
@@ -183,25 +180,5 @@ impl DataConnection for Wire<'_> {
     fn close(&mut self) -> io::Result<()> {
         let _ = self.pieces.turns.next()?;
         Ok(())
-    }
-}
-
-/// Transfers a file, which is empty at first.
-impl<'a> Tried<'a> for Transfers<Wire<'a>> {
-    fn start(
-        alloc: Global,
-        _is_silent: bool,
-        turns: Turns<'a>,
-    ) -> Result<Transfers<Wire<'a>>, AllocError> {
-        let wire = Wire {
-            pieces: Pieces::new(GIVEN, STEP, turns),
-            taken: Vec::with_capacity(alloc, ROOM)?,
-        };
-        Ok(Transfers::new(wire, Vec::new(alloc)))
-    }
-
-    fn put_done(&self, answers: &mut Answers) {
-        let sent = Quoted(self.connection().taken.as_slice());
-        answers.put(format_args!(" sent={sent} file={}", Quoted(self.file())));
     }
 }

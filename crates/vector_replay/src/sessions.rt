@@ -1,10 +1,10 @@
 //! Sessions: `serve` and `feed` over streams and handlers that may fail.
 use crate::answers::{Answered, Answers};
-use crate::handlers::{Scripted, Tried, Wire};
+use crate::handlers::{Scripted, Wire};
 use crate::shown::Quoted;
-use crate::streams::{Pieces, Room, Turns, Writes};
+use crate::streams::{Pieces, Room, Turns};
 use crate::words::{CaseError, Limit, Word, first};
-use std::alloc::{AllocError, Global};
+use std::alloc::Global;
 use std::io::{Read, Write};
 use transferring::Transfers;
 use unftp_control_serve::{
@@ -21,13 +21,16 @@ const RESERVED: usize = 1 << 16;
 #[derive(Clone, Copy)]
 struct SessionCase<'a, 'b> {
     alloc: Global,
+    /// Whether it is served, and not fed.
+    is_served: bool,
     limit: Option<Limit>,
     is_silent: bool,
     /// Whether files are transferred.
     is_transferring: bool,
     turns: Turns<'b>,
     reads: Turns<'b>,
-    writes: Writes<'b>,
+    writes: Turns<'b>,
+    flushes: Turns<'b>,
     /// Whether it is served once more.
     is_again: bool,
     /// Whether replies are appended to a buffer.
@@ -39,7 +42,7 @@ struct SessionCase<'a, 'b> {
 }
 
 impl<'a, 'b> SessionCase<'a, 'b> {
-    /// The session of these words, and the bytes that follow them.
+    /// The session of these words, and of the bytes that follow them.
     fn read(
         alloc: Global,
         is_served: bool,
@@ -49,44 +52,30 @@ impl<'a, 'b> SessionCase<'a, 'b> {
         let (options, pieces) = words.split_at(bytes_at.unwrap_or(words.len()).min(words.len()));
         let mut case = SessionCase {
             alloc,
+            is_served,
             limit: None,
             is_silent: false,
             is_transferring: false,
             turns: Turns("all"),
             reads: Turns("all"),
-            writes: Writes {
-                writes: Turns("all"),
-                flushes: Turns("all"),
-                is_wary: false,
-            },
+            writes: Turns("all"),
+            flushes: Turns("all"),
             is_again: false,
             is_appended: false,
             first: &[],
             pieces,
         };
         for option in options {
-            case.read_word(option.name()?)?;
+            case.read_option(option.name()?)?;
         }
-        if is_served || case.is_appended {
-            let (first, later) = first(pieces)?;
-            case.first = first.bytes()?;
-            case.pieces = later;
-        }
-        if case
-            .pieces
-            .iter()
-            .any(|piece| is_served || piece.bytes().is_err())
-        {
-            return Err(CaseError::NoCase);
-        }
+        case.read_first()?;
         Ok(case)
     }
 
     /// Reads a word before the bytes; a value follows `=`.
-    fn read_word(&mut self, word: &'b str) -> Answered {
+    fn read_option(&mut self, word: &'b str) -> Answered {
         let (name, value) = word.split_once('=').unwrap_or((word, ""));
         match name {
-            "wary" => self.writes.is_wary = true,
             "again" => self.is_again = true,
             "appended" => self.is_appended = true,
             "silent" => self.is_silent = true,
@@ -94,71 +83,29 @@ impl<'a, 'b> SessionCase<'a, 'b> {
             "limit" => self.limit = Word::Bare(value).limit()?,
             "turns" => self.turns = Turns::read(value, 0)?,
             "reads" => self.reads = Turns::read(value, 1)?,
-            "writes" => self.writes.writes = Turns::read(value, 0)?,
-            "flushes" => self.writes.flushes = Turns::read(value, 0)?,
+            "writes" => self.writes = Turns::read(value, 0)?,
+            "flushes" => self.flushes = Turns::read(value, 0)?,
             _ => return Err(CaseError::NoCase),
         }
         Ok(())
     }
-}
 
-/// How a session goes.
-#[derive(Drop)]
-struct Run<'a, 'b, H> {
-    handler: H,
-    /// How the calls ended.
-    ends: String,
-    room: Room<'b>,
-    reader: Pieces<'a, 'b>,
-}
-
-impl<'a, 'b, H: Tried<'b>> Run<'a, 'b, H> {
-    /// A session of which no call was made, with room for what is written and how calls end.
-    fn start(case: &SessionCase<'a, 'b>) -> Result<Run<'a, 'b, H>, AllocError> {
-        let alloc = case.alloc;
-        let ends = ROOM.saturating_mul(case.pieces.len().saturating_add(8));
-        let written = if case.is_appended {
-            case.first.len()
-        } else {
-            RESERVED
-        };
-        Ok(Run {
-            handler: H::start(alloc, case.is_silent, case.turns)?,
-            ends: String::with_capacity(alloc, ends)?,
-            room: Room::new(Vec::with_capacity(alloc, written)?, case.writes),
-            reader: Pieces::new(case.first, usize::MAX, case.reads),
-        })
-    }
-
-    /// Serves the bytes, and once more where that is asked for.
-    fn serve(&mut self, case: &SessionCase<'a, 'b>) {
-        let mut reader = Input::new(&mut self.reader);
-        let mut writer = Output::new(&mut self.room);
-        let (handler, ends) = (&mut self.handler, &mut self.ends);
-        serve_once(case, &mut reader, &mut writer, handler, ends);
-        if case.is_again && !is_out_of_memory(ends.as_str()) {
-            serve_once(case, &mut reader, &mut writer, handler, ends);
+    /// Takes the first of the pieces where it isn't fed; the others are bytes.
+    fn read_first(&mut self) -> Answered {
+        if self.is_served || self.is_appended {
+            let (first, later) = first(self.pieces)?;
+            self.first = first.bytes()?;
+            self.pieces = later;
         }
-    }
-
-    /// Feeds the pieces.
-    fn feed(&mut self, case: &SessionCase<'a, 'b>) {
-        let (handler, ends) = (&mut self.handler, &mut self.ends);
-        if case.is_appended {
-            // there is room for them
-            let _ = self.room.held.extend_from_slice(case.first);
-            feed_pieces(case, handler, &mut self.room.held, ends);
+        if self
+            .pieces
+            .iter()
+            .all(|piece| !self.is_served && piece.bytes().is_ok())
+        {
+            Ok(())
         } else {
-            feed_pieces(case, handler, &mut Output::new(&mut self.room), ends);
+            Err(CaseError::NoCase)
         }
-    }
-
-    /// Writes how its calls ended, and what it has written and done.
-    fn put(&self, answers: &mut Answers) {
-        answers.put(self.ends.as_str());
-        let written = Quoted(self.room.held.as_slice());
-        answers.put(format_args!("written={written} flushed={}", self.room.flushed));
-        self.handler.put_done(answers);
     }
 }
 
@@ -198,11 +145,26 @@ fn serve_once<R: Read, W: Write, H: Session>(
     }
 }
 
-/// Feeds the pieces to an engine.
-fn feed_pieces<H: Session, K: Sink>(
+/// Serves what the reader gives, and once more where that is asked for.
+fn serve_all<H: Session>(
     case: &SessionCase<'_, '_>,
+    reader: &mut Pieces<'_, '_>,
+    room: &mut Room<'_>,
     handler: &mut H,
+    ends: &mut String,
+) {
+    let (mut reader, mut writer) = (Input::new(reader), Output::new(room));
+    serve_once(case, &mut reader, &mut writer, handler, ends);
+    if case.is_again && !is_out_of_memory(ends.as_str()) {
+        serve_once(case, &mut reader, &mut writer, handler, ends);
+    }
+}
+
+/// Feeds the pieces to an engine.
+fn feed<H: Session, K: Sink>(
+    case: &SessionCase<'_, '_>,
     sink: &mut K,
+    handler: &mut H,
     ends: &mut String,
 ) {
     let mut engine = match case.limit {
@@ -218,43 +180,61 @@ fn feed_pieces<H: Session, K: Sink>(
     drop(engine);
 }
 
-/// Writes how the session goes by this handler. One that ran out of memory is marked, and made again
-/// from its start.
-fn put_session<'a, 'b, H: Tried<'b>>(
-    case: &SessionCase<'a, 'b>,
-    is_served: bool,
+/// Writes how the session goes by this handler. One that ran out of memory is marked.
+fn put_session<H: Session>(
+    case: &SessionCase<'_, '_>,
+    handler: &mut H,
     answers: &mut Answers,
 ) -> Answered {
-    let mut run = Run::<H>::start(case)?;
-    answers.begin();
-    if is_served {
-        run.serve(case);
+    let (alloc, calls) = (case.alloc, case.pieces.len().saturating_add(8));
+    let mut ends = String::with_capacity(alloc, ROOM.saturating_mul(calls))?;
+    let reserved = if case.is_appended {
+        case.first.len()
     } else {
-        run.feed(case);
+        RESERVED
+    };
+    let mut room = Room::new(
+        Vec::with_capacity(alloc, reserved)?,
+        case.writes,
+        case.flushes,
+    );
+    let mut reader = Pieces::new(case.first, usize::MAX, case.reads);
+    answers.begin();
+    if case.is_served {
+        serve_all(case, &mut reader, &mut room, handler, &mut ends);
+    } else if case.is_appended {
+        // there is room for them
+        let _ = room.held.extend_from_slice(case.first);
+        feed(case, &mut room.held, handler, &mut ends);
+    } else {
+        feed(case, &mut Output::new(&mut room), handler, &mut ends);
     }
-    if is_out_of_memory(run.ends.as_str()) {
-        let written = Quoted(run.room.held.as_slice());
-        answers.mark(format_args!("{}written={written}\n", run.ends));
+    let written = Quoted(room.held.as_slice());
+    if is_out_of_memory(ends.as_str()) {
+        answers.mark(format_args!("{ends}written={written}\n"));
         return Err(CaseError::OutOfMemory);
     }
-    run.put(answers);
-    if is_served {
-        let (reads, unread) = (run.reader.reads, Quoted(run.reader.rest));
+    answers.put(format_args!("{ends}written={written} flushed={}", room.flushed));
+    if case.is_served {
+        let (reads, unread) = (reader.reads, Quoted(reader.rest));
         answers.put(format_args!(" reads={reads} unread={unread}"));
     }
     Ok(())
 }
 
 /// `serve WORD.. INPUT`, or `feed WORD.. PIECE..`
-pub fn answer_session<'a, 'b>(
-    is_served: bool,
-    words: &'a [Word<'b>],
-    answers: &mut Answers,
-) -> Answered {
+pub fn answer_session(is_served: bool, words: &[Word<'_>], answers: &mut Answers) -> Answered {
     let case = SessionCase::read(answers.alloc, is_served, words)?;
     if case.is_transferring {
-        put_session::<Transfers<Wire<'b>>>(&case, is_served, answers)
+        let wire = Wire::new(case.alloc, case.turns)?;
+        let mut transfers = Transfers::new(wire, Vec::new(case.alloc));
+        put_session(&case, &mut transfers, answers)?;
+        let (sent, file) = (transfers.connection().sent(), transfers.file());
+        answers.put(format_args!(" sent={} file={}", Quoted(sent), Quoted(file)));
     } else {
-        put_session::<Scripted<'b>>(&case, is_served, answers)
+        let mut scripted = Scripted::new(case.is_silent, case.turns);
+        put_session(&case, &mut scripted, answers)?;
+        answers.put(format_args!(" taken={}", scripted.taken));
     }
+    Ok(())
 }

@@ -74,10 +74,10 @@ fn write_absent<W: Write>(f: &mut Formatter<W>, verb: Verb) -> fmt::Result {
 /// A parameter by its variant's name.
 fn write_choice<W: Write>(f: &mut Formatter<W>, choice: Choice) -> fmt::Result {
     match choice {
-        Choice::Structure(structure) => write!(f, "{structure:?}"),
-        Choice::Mode(mode) => write!(f, "{mode:?}"),
-        Choice::Protection(level) => write!(f, "{level:?}"),
-        Choice::Mechanism(mechanism) => write!(f, "{mechanism:?}"),
+        Choice::Structure(structure) => Debug::fmt(&structure, f),
+        Choice::Mode(mode) => Debug::fmt(&mode, f),
+        Choice::Protection(level) => Debug::fmt(&level, f),
+        Choice::Mechanism(mechanism) => Debug::fmt(&mechanism, f),
         Choice::Setting(Opt::Utf8 { on }) => write!(f, "Utf8 on={on}"),
         Choice::NoBuffer => f.write_str("0"),
     }
@@ -90,7 +90,7 @@ struct Optional<'a>(&'a Option<String>);
 impl Display for Optional<'_> {
     fn fmt<W: Write>(&self, f: &mut Formatter<W>) -> fmt::Result {
         match self.0 {
-            Some(text) => write!(f, "{}", Quoted(text.as_bytes())),
+            Some(text) => Display::fmt(&Quoted(text.as_bytes()), f),
             None => f.write_str("None"),
         }
     }
@@ -111,10 +111,10 @@ impl Shown<'_> {
         write!(f, "{heading}=")?;
         match parts.value {
             Value::None => write_absent(f, parts.verb),
-            Value::Raw(sent) | Value::Lossy(sent) => write!(f, "{}", Quoted(sent.sent())),
-            Value::Text(text) => write!(f, "{}", Quoted(text.as_bytes())),
+            Value::Raw(sent) | Value::Lossy(sent) => Display::fmt(&Quoted(sent.sent()), f),
+            Value::Text(text) => Display::fmt(&Quoted(text.as_bytes()), f),
             Value::Chosen(choice) => write_choice(f, choice),
-            Value::Number(number) => write!(f, "{number}"),
+            Value::Number(number) => Display::fmt(&number, f),
         }
     }
 }

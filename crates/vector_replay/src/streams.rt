@@ -81,33 +81,24 @@ impl Read for Pieces<'_, '_> {
     }
 }
 
-/// How a writer takes bytes.
-#[derive(Clone, Copy)]
-pub struct Writes<'a> {
-    pub writes: Turns<'a>,
-    pub flushes: Turns<'a>,
-    /// Whether it fails at a write while bytes of the write before are unflushed.
-    pub is_wary: bool,
-}
-
 /// Holds what is written.
 #[derive(Drop)]
 pub struct Room<'a> {
     pub held: Vec<u8>,
     /// How many flushes succeeded.
     pub flushed: usize,
-    is_unflushed: bool,
-    turns: Writes<'a>,
+    writes: Turns<'a>,
+    flushes: Turns<'a>,
 }
 
 impl<'a> Room<'a> {
     /// A writer that holds these bytes.
-    pub fn new(held: Vec<u8>, turns: Writes<'a>) -> Room<'a> {
+    pub fn new(held: Vec<u8>, writes: Turns<'a>, flushes: Turns<'a>) -> Room<'a> {
         Room {
             held,
             flushed: 0,
-            is_unflushed: false,
-            turns,
+            writes,
+            flushes,
         }
     }
 }
@@ -116,20 +107,14 @@ impl Write for Room<'_> {
     ghost contents = { λ room. Some room.held.items };
 
     fn write(&mut self, buf: &[u8]) -> io::Result<usize> {
-        if self.turns.is_wary && self.is_unflushed {
-            return Err(io::ErrorKind::Other.into());
-        }
-        let n = self.turns.writes.next()?.min(buf.len());
-        let (taken, _) = buf.split_at(n);
-        self.held.extend_from_slice(taken)?;
-        self.is_unflushed = true;
+        let n = self.writes.next()?.min(buf.len());
+        self.held.extend_from_slice(buf.split_at(n).0)?;
         Ok(n)
     }
 
     fn flush(&mut self) -> io::Result<()> {
-        let _ = self.turns.flushes.next()?;
+        let _ = self.flushes.next()?;
         self.flushed = self.flushed.saturating_add(1);
-        self.is_unflushed = false;
         Ok(())
     }
 }
