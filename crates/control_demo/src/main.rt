@@ -10,10 +10,12 @@ ghost use Rattle.std.specs.Prelude.{Bool, ℕ, None, false, IfErr, IfOk};
 ghost use Rattle.unftp_control_defs.specs.Input.{input_state_of};
 ghost use Rattle.unftp_control_serve.specs.Service.{ServeEnded, Serves};
 ghost use Rattle.unftp_control_serve.specs.Writing.{output_state_of};
-ghost use Rattle.demo_responses.specs.Responses.{responses_law};
+ghost use Rattle.control_demo.specs.Responses.{responses_law};
 ghost use Rattle.unftp_control_defs.specs.Run.{as_session};
 
-use demo_responses::Responses;
+mod responses;
+
+use responses::Responses;
 use std::alloc::Global;
 use std::io::{Read, Write};
 use std::process::ExitCode;

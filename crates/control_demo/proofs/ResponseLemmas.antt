@@ -3,7 +3,7 @@ use Rattle.std.proofs.Common.{◌≡◌, refl}
 use Rattle.unftp_control_message.specs.CommandMeaning.{command_of}
 use Rattle.unftp_control_message.specs.declared.Command.{Command}
 use Rattle.unftp_control_message.specs.declared.Command.TheVariants as command
-use Rattle.demo_responses.specs.Responses.{command_reply, not_implemented}
+use Rattle.control_demo.specs.Responses.{command_reply, not_implemented}
 
 -- a command that it doesn't know
 pub record IsNoOther (c : Command) : Type 0 where

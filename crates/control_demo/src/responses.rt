@@ -6,7 +6,7 @@ ghost use Rattle.unftp_control_defs.specs.FtpCommand.{Mlst as FtpMlst, Site as F
 ghost use Rattle.unftp_control_message.specs.ErrorMeaning.{fault_of};
 ghost use Rattle.unftp_control_message.specs.ReplyMeaning.{reply_of};
 ghost use Rattle.unftp_control_serve.specs.EventMeaning.{event_meant};
-ghost use Rattle.demo_responses.specs.Responses.{command_reply, event_reply, not_implemented, responses_law};
+ghost use Rattle.control_demo.specs.Responses.{command_reply, event_reply, not_implemented, responses_law};
 
 use std::alloc::Global;
 use unftp_control_answers::{Auth, Epsv, Feat, Help, Mode, Opts, Passive, Prot, Stru, facts_reply};

@@ -1,5 +1,5 @@
-use Rattle.demo_responses.proofs.ResponseLemmas.{other-command}
-use Rattle.demo_responses.proofs.responses.answer_command.Goals as goal
+use Rattle.control_demo.proofs.ResponseLemmas.{other-command}
+use Rattle.control_demo.proofs.responses.answer_command.Goals as goal
 
 pub returns : goal.returns
 returns c =
