@@ -68,7 +68,18 @@ impl<'a, 'b> SessionCase<'a, 'b> {
         for option in options {
             case.read_option(option.name()?)?;
         }
-        case.read_first()?;
+        if is_served || case.is_appended {
+            let (first, later) = first(pieces)?;
+            case.first = first.bytes()?;
+            case.pieces = later;
+        }
+        if case
+            .pieces
+            .iter()
+            .any(|piece| is_served || piece.bytes().is_err())
+        {
+            return Err(CaseError::NoCase);
+        }
         Ok(case)
     }
 
@@ -88,24 +99,6 @@ impl<'a, 'b> SessionCase<'a, 'b> {
             _ => return Err(CaseError::NoCase),
         }
         Ok(())
-    }
-
-    /// Takes the first of the pieces where it isn't fed; the others are bytes.
-    fn read_first(&mut self) -> Answered {
-        if self.is_served || self.is_appended {
-            let (first, later) = first(self.pieces)?;
-            self.first = first.bytes()?;
-            self.pieces = later;
-        }
-        if self
-            .pieces
-            .iter()
-            .all(|piece| !self.is_served && piece.bytes().is_ok())
-        {
-            Ok(())
-        } else {
-            Err(CaseError::NoCase)
-        }
     }
 }
 
