@@ -84,10 +84,11 @@ pub fn answer_events(words: &[Word<'_>], has_lines: bool, answers: &mut Answers)
 /// `log LIMIT LINE`
 pub fn answer_log(words: &[Word<'_>], answers: &mut Answers) -> Answered {
     let (limit, line) = limit_and_rest(words)?;
-    let mut decoder = decoder_with(answers.alloc, limit);
-    decoder.push(only_bytes(line)?)?;
+    let line = only_bytes(line)?;
     let mut buf = Vec::from_slice(answers.alloc, b"x")?;
-    let Some(event) = decoder.next_event()? else {
+    let mut decoder = decoder_with(answers.alloc, limit);
+    decoder.push(line)?;
+    let Ok(Some(event)) = decoder.next_event() else {
         return Err(CaseError::NoCase);
     };
     let logged = once_more!(answers, write_log_line(&event, decoder.line(), &mut buf));

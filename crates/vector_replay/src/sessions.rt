@@ -92,10 +92,10 @@ impl<'a, 'b> SessionCase<'a, 'b> {
             "silent" => self.is_silent = true,
             "transfers" => self.is_transferring = true,
             "limit" => self.limit = Word::Bare(value).limit()?,
-            "turns" => self.turns = Turns::read(value, 0)?,
-            "reads" => self.reads = Turns::read(value, 1)?,
-            "writes" => self.writes = Turns::read(value, 0)?,
-            "flushes" => self.flushes = Turns::read(value, 0)?,
+            "turns" => self.turns = Turns(value),
+            "reads" => self.reads = Turns(value),
+            "writes" => self.writes = Turns(value),
+            "flushes" => self.flushes = Turns(value),
             _ => return Err(CaseError::NoCase),
         }
         Ok(())

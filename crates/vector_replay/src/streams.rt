@@ -1,45 +1,28 @@
 //! Readers that give pieces and writers that take them, which fail when they are asked to.
 ghost use Rattle.std.specs.Prelude.{Some};
 
-use crate::words::{CaseError, Word};
 use std::io;
 use std::io::{Read, Write};
 
-/// What a call does, by its word: the most bytes of the call, all by `all` or `ok`; or by `E` and a
-/// number the system's error with which it fails.
-fn read_turn(turn: &str) -> Result<io::Result<usize>, CaseError> {
+/// What a call does, by its word: the most bytes of the call; or by `E` and a number the system's
+/// error with which it fails. By another word, as `all` or `ok`, it does all that it can.
+fn read_turn(turn: &str) -> io::Result<usize> {
     if let Some(number) = turn.strip_prefix("E") {
-        let number = Word::Bare(number).number::<u16>()?;
-        return Ok(Err(io::Error::from_raw_os_error(i32::from(number))));
+        return Err(io::Error::from_raw_os_error(number.parse().unwrap_or(0)));
     }
-    match turn {
-        "all" | "ok" => Ok(Ok(usize::MAX)),
-        most => Ok(Ok(Word::Bare(most).number()?)),
-    }
+    Ok(turn.parse().unwrap_or(usize::MAX))
 }
 
 /// What each call does, by words that commas divide; the last one is that of all later calls too.
 #[derive(Clone, Copy)]
 pub struct Turns<'a>(pub &'a str);
 
-impl<'a> Turns<'a> {
-    /// These turns, if each word is one, and each number of bytes at least this one.
-    pub fn read(words: &'a str, least: usize) -> Result<Turns<'a>, CaseError> {
-        for turn in words.split(',') {
-            match read_turn(turn)? {
-                Ok(most) if most < least => return Err(CaseError::NoCase),
-                turn => drop(turn),
-            }
-        }
-        Ok(Turns(words))
-    }
-
+impl Turns<'_> {
     /// The most bytes of the next call, or its error.
     pub fn next(&mut self) -> io::Result<usize> {
         let (turn, later) = self.0.split_once(',').unwrap_or((self.0, self.0));
         self.0 = later;
-        // each turn of a case is one
-        read_turn(turn).unwrap_or(Ok(usize::MAX))
+        read_turn(turn)
     }
 }
 
