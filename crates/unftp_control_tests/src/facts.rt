@@ -1,6 +1,4 @@
 //! The facts of files, and their memory: `tools/checks/failed_allocations` counts it.
-ghost use Rattle.unftp_control_commands.specs.Facts.{FileFacts};
-
 use jiff::Timestamp;
 use unftp_control::commands::Metadata;
 
@@ -82,20 +80,22 @@ mod counted {
         assert_modified(&rt, alloc, -62_198_755_200_000_000_000, "type=file;size=0;");
     }
 
+    /// The facts of a directory of this size, of the user and the group of this number, are these.
+    fn assert_owned(rt: &impl Abort, alloc: Global, size: u64, owner: u32, want: &str) {
+        let file = File {
+            is_dir: true,
+            size,
+            modified: None,
+            owner,
+        };
+        assert_facts(rt, alloc, file, want);
+    }
+
     #[test]
     fn takes_8_for_users_and_groups_above_0(rt: HostRuntime) {
-        let alloc = rt.alloc();
-        let mut file = File {
-            is_dir: true,
-            size: 0,
-            modified: None,
-            owner: 1000,
-        };
         let facts = "type=dir;size=0;unix.uid=1000;unix.gid=1000;";
-        assert_facts(&rt, alloc, file, facts);
-        file.size = u64::MAX;
-        file.owner = u32::MAX;
+        assert_owned(&rt, rt.alloc(), 0, 1000, facts);
         let facts = "type=dir;size=18446744073709551615;unix.uid=4294967295;unix.gid=4294967295;";
-        assert_facts(&rt, alloc, file, facts);
+        assert_owned(&rt, rt.alloc(), u64::MAX, u32::MAX, facts);
     }
 }
