@@ -59,7 +59,7 @@
 //! x86-64 and on aarch64. rustc takes it in, so neither a C compiler nor an installed library is
 //! needed, and what a program doesn't call isn't linked. All names in it carry the version of the
 //! crate and are hidden: two versions of the crate, and the library for C, may be in one program. Of
-//! the C library it needs `malloc`, `realloc`, `free`, `memcpy`, `memmove`, `memset` and `memcmp`.
+//! the C library it needs `malloc`, `realloc`, `free`, `memcpy`, `memmove` and `memset`.
 //!
 //! With the feature `system` the crate links an installed library in its place, which a distribution
 //! may want: `libunftp_control.a` of the folder that `UNFTP_CONTROL_LIB` names, or of `lib` there,
