@@ -28,5 +28,6 @@ std::arch::global_asm!(
     )
 )))]
 compile_error!(
-    "unftp_control has machine code for Linux on x86-64 and aarch64, and no other system"
+    "unftp_control has machine code for Linux on x86-64 and aarch64 only; the feature `system` links \
+     an installed library"
 );
