@@ -7,7 +7,7 @@ import subprocess
 import tempfile
 
 import proved
-from library import HEADER, TOP, calls, text_file, version
+from library import HEADER, RUST_TEXTS, TOP, calls, text_file, version
 from proved import NotMade
 
 MEMORY = TOP / "tools/memory.c"
@@ -58,10 +58,13 @@ def head(processor):
 
 
 def check_sources(processor):
-    """Says of which toolchain the text is, where it is of the sources that are here."""
+    """Says of which toolchain the text is, where it is of the sources that are here, and the crate in Rust has the same."""
     toolchain, summed = head(processor)
     if summed != sources():
         raise NotMade(f"{text_file(processor).relative_to(TOP)} is of other sources: run tools/generated --write")
+    text = text_file(processor)
+    if text.read_bytes() != (RUST_TEXTS / text.name).read_bytes():
+        raise NotMade(f"{RUST_TEXTS.relative_to(TOP)} has another {text.name}: run tools/generated --write")
     return f"of these sources, by {toolchain}"
 
 

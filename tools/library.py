@@ -11,6 +11,8 @@ TOP = pathlib.Path(__file__).resolve().parent.parent
 HEADER = TOP / "include/unftp_control.h"
 # the assembly text, from which it is made without the toolchain
 TEXTS = TOP / "generated"
+# the same for the crate in Rust: cargo packs no file from outside the crate, and `rt ci` takes no link
+RUST_TEXTS = TOP / "bindings/rust/generated"
 # where tools/c_library puts it
 OUT = TOP / "crates/unftp_control_c/out"
 

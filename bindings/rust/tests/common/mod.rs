@@ -12,7 +12,7 @@ use unftp_control::{Event, ReceivedReply};
 
 /// The columns of each row of a vector file. Those of worked.tsv begin with the call.
 pub fn rows(file: &str) -> Vec<Vec<String>> {
-    let path = format!("{}/vectors/{file}", env!("CARGO_MANIFEST_DIR"));
+    let path = format!("{}/../../vectors/{file}", env!("CARGO_MANIFEST_DIR"));
     let text = std::fs::read_to_string(&path).unwrap_or_else(|error| panic!("{path}: {error}"));
     let rows = text.lines().filter(|row| !row.starts_with('#'));
     let skipped = if file == "worked.tsv" { 2 } else { 0 };
