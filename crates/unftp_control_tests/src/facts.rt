@@ -92,7 +92,7 @@ mod counted {
     }
 
     #[test]
-    fn takes_8_for_users_and_groups_above_0(rt: HostRuntime) {
+    fn takes_9_for_users_and_groups_above_0(rt: HostRuntime) {
         let facts = "type=dir;size=0;unix.uid=1000;unix.gid=1000;";
         assert_owned(&rt, rt.alloc(), 0, 1000, facts);
         let facts = "type=dir;size=18446744073709551615;unix.uid=4294967295;unix.gid=4294967295;";
