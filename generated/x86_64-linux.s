@@ -4,7 +4,7 @@
  *
  * made by: tools/generated --write
  * toolchain: rattle-kit-13b logic dac8208d650f15bf
- * sources: sha256 d0b70696087d2fcc9b4a136e6633cd51b5ee3332fd8361deb5c98748f37824b1
+ * sources: sha256 b950b1443556ba10e0cd209326bd6b5f5a28ae7928c95ba79c58a3fc19c7d019
  */
 	.section	.rodata.cst16,"aM",@progbits,16
 	.p2align	4, 0x0

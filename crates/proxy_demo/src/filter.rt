@@ -6,8 +6,8 @@ ghost use Rattle.unftp_control_relay.specs.Filtering.{decision_of};
 ghost use Rattle.proxy_demo.specs.Allowed.{allows, decided, may_go_as_it_is, only_reads};
 
 use std::alloc::{AllocError, Global};
-use unftp_control_defs::verb::{Verb, verb_named};
 use unftp_control_codecs::line_parser::split;
+use unftp_control_defs::verb::{Verb, verb_named};
 use unftp_control_message::parts::Parts;
 use unftp_control_message::reply::ReplyCode;
 use unftp_control_message::reply::error::ParseErrorKind;

@@ -10,8 +10,8 @@ use crate::areas::overwrite_both;
 use crate::status::{Status, kind_status};
 use itoa::Buffer;
 use std::alloc::Global;
-use unftp_control_codecs::{FirstLine, FtpCodec};
 use unftp_control_codecs::line_parser::parts;
+use unftp_control_codecs::{FirstLine, FtpCodec};
 use unftp_control_message::Command;
 use unftp_control_message::parts::Parts;
 

@@ -10,10 +10,10 @@ use crate::event::Event;
 use crate::skipped::Skipped;
 use std::alloc::{AllocError, Global};
 use std::marker::Model;
+use unftp_control_codecs::line_parser::parse;
 use unftp_control_codecs::{FirstLine, FtpCodec};
 use unftp_control_defs::buffer::PendingBytes;
 use unftp_control_defs::count::Count;
-use unftp_control_codecs::line_parser::parse;
 use unftp_control_message::reply::error::{ControlChanErrorKind, ParseErrorKind};
 
 /// Cuts an input that comes in pieces into lines, and returns the event of each: for a server with
