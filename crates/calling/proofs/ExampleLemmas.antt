@@ -21,10 +21,3 @@ pub not_empty : {A : Type 0} (first : List A) (x : A) (later : List A)
     → [] ≡ first ++ x ∷ later → ⊥
 not_empty [] x later e = cc
 not_empty (y ∷ first) x later e = cc
-
--- the bytes of a whole reply, and a part of them
-pub greeting_front : HasFront (codes "220\r\n")
-greeting_front = (220, [] ∷ [], 5, FrontReply-front_of refl)
-
-pub greeting_part : IsPartial (codes "22")
-greeting_part = IsPartial-front_of _ refl

@@ -3,6 +3,5 @@ mod PieceLemmas
 mod ExampleLemmas
 mod CallerLemmas
 mod EventLoopLemmas
-mod ConversingLemmas
 mod TlsLemmas
 mod ReadingLemmas

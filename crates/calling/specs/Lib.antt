@@ -6,7 +6,6 @@ pub mod UntilTls
 pub mod EventLoop
 pub mod NoFiles
 pub mod NextCode
-pub mod Conversing
 pub mod ExampleTalks
 pub mod Pieces
 pub mod FactList

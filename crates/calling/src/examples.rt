@@ -16,7 +16,6 @@ ghost use Rattle.unftp_control.specs.Outcome.{outcome};
 ghost use Rattle.unftp_control.specs.Writing.{OutputState};
 ghost use Rattle.unftp_control.specs.declared.commands.AuthParam.TheVariants.{Ssl, Tls};
 
-pub mod conversing;
 pub mod sessions;
 
 use crate::event_loop::Turn;

@@ -4,7 +4,6 @@
 pub mod client;
 pub mod codec;
 pub mod codes;
-pub mod conversation;
 pub mod event_loop;
 pub mod examples;
 pub mod fact_list;

@@ -1,10 +1,7 @@
 //! Each caller of `calling` once, over inputs and outputs in memory.
-ghost use Rattle.calling.specs.Conversing.{IsNew};
-
 use crate::held::assert_held;
 use calling::client::{first_code, next_code, tls_agreed};
 use calling::codec::{answer, first_is_noop, next_is_noop};
-use calling::conversation::{Conversation, ConverseError, Turn as Told, converse};
 use calling::event_loop::{Turn, answer_next};
 use calling::first::answer_client;
 use calling::handler::Basic;
@@ -17,7 +14,7 @@ use std::alloc::Global;
 use std::io;
 use std::io::Read;
 use std::process::Abort;
-use unftp_control::client::{Client, ClientReply, SendError, To};
+use unftp_control::client::Client;
 use unftp_control::codecs::FtpCodec;
 use unftp_control::command::Command;
 use unftp_control::commands::AuthParam;
@@ -123,64 +120,6 @@ fn a_client_begins_tls_right_after_the_reply_or_not_at_all(rt: HostRuntime) {
     assert_agreed(&rt, alloc, b"234 Begin TLS\r\n2", false);
     assert_agreed(&rt, alloc, b"502 No TLS\r\n", false);
     assert_agreed(&rt, alloc, b"234 Begin", false);
-}
-
-/// A client and a server, whose greeting is on its way.
-fn begun(rt: &impl Abort, alloc: Global) -> Conversation
-    ensures { IsNew result }
-{
-    let greeting = Vec::from_slice(alloc, b"220 ready\r\n").expect(rt, "memory");
-    Conversation::new(alloc, greeting)
-}
-
-/// The reply is to this, and has this code.
-fn assert_to(rt: &impl Abort, taken: &ClientReply, to: To, code: u16) {
-    assert!(rt; taken.to == to && taken.reply.code == code);
-}
-
-#[test]
-fn a_client_and_a_server_converse_in_pieces(rt: HostRuntime) {
-    let mut conversation = begun(&rt, rt.alloc());
-    let commands = [Command::Noop, Command::Pwd, Command::Quit];
-    let turns = [
-        Told::Send,
-        Told::ToServer(3),
-        Told::ToClient(5),
-        Told::Take,
-        Told::Send,
-        Told::Send,
-        Told::ToServer(99),
-        Told::ToClient(99),
-        Told::Take,
-        Told::Take,
-        Told::Take,
-        Told::Take,
-    ];
-    let conversed = converse(&mut conversation, &commands, &mut Basic::new(), &turns);
-    drop(commands);
-    conversed.expect(&rt, "all turns");
-    assert!(rt; conversation.taken.len() == 4 && conversation.client.owed() == 0);
-    assert_to(&rt, &conversation.taken[0], To::Greeting, 220);
-    assert_to(&rt, &conversation.taken[1], To::Command(0), 200);
-    assert_to(&rt, &conversation.taken[2], To::Command(1), 502);
-    assert_to(&rt, &conversation.taken[3], To::Command(2), 221);
-    drop(conversation);
-}
-
-#[test]
-fn a_conversation_stops_at_a_command_without_a_line(rt: HostRuntime) {
-    let mut conversation = begun(&rt, rt.alloc());
-    let commands = [Command::Retr {
-        path: String::new(rt.alloc()),
-    }];
-    let turns = [Told::ToClient(99), Told::Take, Told::Send, Told::Take];
-    let conversed = converse(&mut conversation, &commands, &mut Basic::new(), &turns);
-    drop(commands);
-    assert!(rt; matches!(&conversed, Err(ConverseError::Send(SendError::NoLine))));
-    drop(conversed);
-    // what was taken before stays
-    assert!(rt; conversation.taken.len() == 1 && conversation.client.owed() == 0);
-    drop(conversation);
 }
 
 /// Two bytes are left.
