@@ -1,6 +1,7 @@
 //! A recorder before an FTP server: `record [OPTIONS] --output FILE SERVER`. It relays as `proxy`
 //! does, refuses no verb that can be relayed, and appends a line to the file for each exchange: an
-//! [`Exchange`] as an object of JSON. No password is in it.
+//! [`Exchange`] as an object of JSON. That has the line as a log shows it, so not what PASS has, and
+//! no text of a reply to a line of which a part is hidden.
 use std::io;
 use std::path::{Path, PathBuf};
 use std::process::ExitCode;

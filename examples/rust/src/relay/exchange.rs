@@ -6,6 +6,9 @@ use time::format_description::well_known::Rfc3339;
 use time::OffsetDateTime;
 use unftp_control::{ReceivedReply, Reply};
 
+/// How many preliminary replies to a line are kept. A server may send any number of them.
+const MOST_PRELIMINARY: usize = 16;
+
 /// A reply that a client was sent.
 #[derive(Clone, Debug, Serialize)]
 #[serde(untagged)]
@@ -57,6 +60,9 @@ pub struct Exchange {
     /// Each has a `code`, and also `lines`, unless a part of the client's line is hidden, or of one
     /// that was owed its reply at the same time: the server may repeat it.
     replies: Vec<Answer>,
+    /// How many preliminary replies came after those that `replies` has.
+    #[serde(skip_serializing_if = "is_zero")]
+    omitted: u64,
     /// Whether the session ended before the final reply. The server may have done what was asked.
     #[serde(rename = "unanswered", skip_serializing_if = "is_false")]
     pub(super) is_unanswered: bool,
@@ -81,6 +87,7 @@ impl Exchange {
             client,
             line,
             replies: Vec::new(),
+            omitted: 0,
             is_unanswered: false,
             took: Duration::ZERO,
             began: Instant::now(),
@@ -98,19 +105,26 @@ impl Exchange {
         self.is_hidden = true;
     }
 
-    /// Notes a reply.
+    /// Notes a reply. Of preliminary ones only the first few are kept, and the others counted.
     pub fn note(&mut self, reply: Answer) {
+        self.took = self.began.elapsed();
+        if matches!(reply.code(), 100..=199) && self.replies.len() >= MOST_PRELIMINARY {
+            self.omitted += 1;
+            return;
+        }
         self.replies.push(match reply {
             Answer::Received(reply) if self.is_hidden => Answer::Code { code: reply.code() },
             reply => reply,
         });
-        self.took = self.began.elapsed();
     }
 
     /// Logs it.
     pub fn log(&self) {
         let line = self.line.as_deref().unwrap_or("-");
         let mut replies: Vec<String> = self.replies.iter().map(Answer::shown).collect();
+        if self.omitted > 0 {
+            replies.push(format!("{} preliminary replies omitted", self.omitted));
+        }
         if self.is_unanswered {
             replies.push("unanswered".to_string());
         }
@@ -120,6 +134,10 @@ impl Exchange {
 
 fn is_false(value: &bool) -> bool {
     !value
+}
+
+fn is_zero(value: &u64) -> bool {
+    *value == 0
 }
 
 fn rfc3339<S: Serializer>(came: &OffsetDateTime, serializer: S) -> Result<S::Ok, S::Error> {
