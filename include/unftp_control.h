@@ -298,8 +298,9 @@ enum unftp_login_step {
  * bytes stay pending then.
  *
  * At UNFTP_OUT_OF_MEMORY, UNFTP_NO_ROOM and UNFTP_INVALID_ARGUMENT nothing is used up, and the
- * connection and the area are as they were. Memory is taken only where a name or a value is not in
- * the line as it is given: a name in lower case, or a value with CR NUL or ill-formed UTF-8.
+ * connection and the area are as they were. Memory is taken only for a value with CR NUL, for one
+ * with ill-formed UTF-8 that is given as UTF-8, and for the name of UNFTP_SITE or UNFTP_OTHER where
+ * the line has a letter of it in lower case; this is tested, and not proved.
  */
 enum unftp_result unftp_next(struct unftp_connection *connection,
                              const char *bytes, size_t bytes_len,
@@ -388,10 +389,15 @@ enum unftp_result unftp_forward(const char *line, size_t line_len,
                                 char *out, size_t out_room, size_t *len) UNFTP_NONNULL;
 
 /*
- * 1 where all servers read a line alike and reply to it, and else 0: its verb has only letters and
- * digits of ASCII, and at least one, and before the CR LF at its end there is no CR, LF, NUL or
- * byte 255. A proxy that refuses commands asks it of each line that it sends: in any other line, as
- * "TYPE A\rSITE x\r\n", a server may read a command that unftp_next does not.
+ * 1 where a line is clear, and else 0: its verb has only letters and digits of ASCII, and at least
+ * one, and before the CR LF at its end there is no CR, LF, NUL or byte 255. So it has none of the
+ * bytes that servers are known to read in different ways. A proxy that refuses commands asks it of
+ * each line that it sends: in any other line, as "TYPE A\rSITE x\r\n", a server may read a command
+ * that unftp_next does not, or send no reply to it.
+ *
+ * It is a form of line, and no promise that all servers read it alike. Known exceptions are
+ * "TYPE  I" with two spaces, NOOP with spaces or 5,000 bytes after it, "SIZE ~/a", and
+ * "MDTM 20010203040506 a", by which vsftpd sets the time of a file.
  */
 uint32_t unftp_is_clear(const char *line, size_t line_len) UNFTP_NONNULL;
 
@@ -406,10 +412,14 @@ uint32_t unftp_is_clear(const char *line, size_t line_len) UNFTP_NONNULL;
  * is *** unless it is a word of the registry of FTP's commands (RFC 5797, section 3), whose
  * arguments are ***. Of SITE the subcommands CHMOD, IDLE, MD5, UMASK and UTIME are shown with their
  * arguments, EXEC, GPASS, GROUP, HELP and PSWD without, and any other is ***. What is shown is the
- * command and not the line: of `xcwd a` CWD a, and of `type a` TYPE. A refused line is `refused`,
- * its verb where that is such a word, and why; nothing is shown of its parameter. The name of USER
- * and paths are shown, and so is a password that a client sends in their place, or one that is
- * itself a verb.
+ * command and not the line: of `xcwd a` CWD a, and of `type a` TYPE. The name of USER and paths are
+ * shown, and so is a password that a client sends in their place, or one that is itself a verb.
+ *
+ * A refused line is `refused`, a space and its verb where that has a rule here or is such a word,
+ * `: `, and why; nothing is shown of its parameter. Why is one of `Invalid command`, `Non-UTF8
+ * character while parsing`, `Invalid end-of-line` and `Line too long`. The last one comes by the
+ * number UNFTP_LINE_TOO_LONG, and without a verb. At any other number the line is read anew, and
+ * the number says nothing more.
  *
  * It returns UNFTP_DONE; UNFTP_NO_ROOM, where *len is the room that is needed; or
  * UNFTP_OUT_OF_MEMORY. out is as it was but at UNFTP_DONE. A line of n bytes needs at most 12 n +
@@ -424,6 +434,10 @@ enum unftp_result unftp_log_line(uint32_t number, const char *line, size_t line_
  * which they are sent. *place is how many were noted before. It returns UNFTP_DONE; UNFTP_NO_LINE
  * where no line feed is the last byte, or one comes before it; or else UNFTP_INVALID_ARGUMENT where
  * 2^64 - 1 lines were noted. But at UNFTP_DONE nothing changes, and *place is 0.
+ *
+ * Any such line is noted, also one that is no command. It asks for TLS where it is AUTH, one space
+ * and TLS or SSL, in letters of any case, and CR LF or LF. Any other line doesn't, though
+ * unftp_next may read AUTH in it, as in "AUTH\rTLS\r\n": after a 234 to that no TLS may begin.
  */
 enum unftp_result unftp_client_line(struct unftp_client *client, const char *line, size_t line_len,
                                     uint64_t *place) UNFTP_NONNULL;
@@ -459,13 +473,17 @@ uint32_t unftp_client_may_begin_tls(const struct unftp_client *client,
 
 /*
  * Says what a server that wants a login does with an event, by the number that unftp_next returned
- * for it: that of a command, or of a refused line (RFC 959, section 4.1.1). QUIT, AUTH, PBSZ, PROT,
- * FEAT, HELP, NOOP and SYST need no login, and neither does a refused line; each other command
- * does. A name is good for the next PASS, also where other commands come between. USER and AUTH
- * flush the login, AUTH also where the server refuses it. A server that takes REIN, which is
- * UNFTP_OTHER, sets the struct to 0. After a password that the accounts refuse the client begins
- * again with USER. ACCT needs a login, and is answered 530 before one: a server that asks for an
- * account after PASS, by 332, can't use this.
+ * for it (RFC 959, section 4.1.1). QUIT, AUTH, PBSZ, PROT, FEAT, HELP, NOOP and SYST need no login,
+ * and neither does a refused line: the numbers 102 to 105, and 106 for UNFTP_OUT_OF_MEMORY. Each
+ * other command does, and any other number is taken as one of these. A name is good for the next
+ * PASS, also where other commands come between. USER and AUTH flush the login, AUTH also where the
+ * server refuses it. A server that takes REIN, which is UNFTP_OTHER, sets the struct to 0. After a
+ * password that the accounts refuse the client begins again with USER. ACCT needs a login, and is
+ * answered 530 before one: a server that asks for an account after PASS, by 332, can't use this.
+ *
+ * An event between UNFTP_LOGIN_ASK_ACCOUNTS and unftp_login_answer ends the question: nobody is
+ * logged in, the name is used up, and the answer returns UNFTP_INVALID_ARGUMENT. Another PASS is
+ * then UNFTP_LOGIN_NEED_NAME; a USER begins a new login.
  */
 enum unftp_login_step unftp_login_event(struct unftp_login *login, uint32_t event) UNFTP_NONNULL;
 

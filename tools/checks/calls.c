@@ -538,7 +538,7 @@ static void check_tls(void)
     take_turns(turns, sizeof turns / sizeof turns[0]);
 }
 
-/* The lines that all servers read alike. */
+/* The lines that are clear. */
 static void check_clear(void)
 {
     static const struct {

@@ -53,10 +53,14 @@ pub fn forward(line: &[u8]) -> Result<Vec<u8>, Error> {
     })
 }
 
-/// Whether all servers read the line alike and reply to it: its verb has only letters and digits of
-/// ASCII, and at least one, and before the CR LF at its end there is no CR, LF, NUL or byte 255. A
-/// proxy that refuses commands asks it of each line that it sends: in any other line a server may
-/// read a command that this crate does not.
+/// Whether the line is clear: its verb has only letters and digits of ASCII, and at least one, and
+/// before the CR LF at its end there is no CR, LF, NUL or byte 255. So it has none of the bytes
+/// that servers are known to read in different ways. A proxy that refuses commands asks it of each
+/// line that it sends: in any other line a server may read a command that this crate does not.
+///
+/// It is a form of line, and no promise that all servers read it alike. Known exceptions are
+/// `TYPE  I` with two spaces, NOOP with spaces or 5,000 bytes after it, `SIZE ~/a`, and
+/// `MDTM 20010203040506 a`, by which vsftpd sets the time of a file.
 ///
 /// ```
 /// use unftp_control::is_clear;

@@ -37,7 +37,7 @@
 )]
 //!
 //! A [`Login`] says which events need a login, and answers those that come without one. [`log_line`]
-//! is what a log may show of a line: no password and no account.
+//! is what a log may show of a line: nothing of what PASS and ACCT have.
 //!
 //! # A client
 //!
@@ -49,8 +49,8 @@
 //!
 //! [`forward`] is the line that a proxy sends to a server for a client's line, and [`canonical`]
 //! the one line that means what a client's line does. Before it forwards a line, a proxy refuses
-//! one that servers read in different ways: one that is not clear ([`is_clear`]). With a [`Client`]
-//! toward the server, a line that the proxy answers itself waits until the
+//! one that is not clear ([`is_clear`]), with bytes that servers read in different ways. With a
+//! [`Client`] toward the server, a line that the proxy answers itself waits until the
 //! [greeting](Client::is_greeted) is complete and [`owed`](Client::owed) is 0.
 //!
 //! # Linking
@@ -71,7 +71,7 @@
 //! # Logs
 //!
 //! `Display` of a [`Command`] is what a log may show of it, and so is what the feature `serde`
-//! writes: commands, events and replies as `Serialize`, without passwords and accounts. A reply is
+//! writes: commands and events as `Serialize`, without what PASS and ACCT have. A reply is
 //! written as it is, also where a server repeats in it what it was sent, and so are [`RawBytes`]
 //! that a caller writes by themselves. What a client sends elsewhere is shown: a password in the
 //! place of USER's name or of a path shows. [`Command::verb`] is not for a log, since it may be a

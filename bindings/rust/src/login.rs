@@ -25,8 +25,9 @@ pub enum LoginStep<'a> {
 }
 
 /// A login before a server's commands (RFC 959, section 4.1.1): which events the server may answer,
-/// and the replies to the others. What it does is proved: an event that needs a login is passed on
-/// only after one.
+/// and the replies to the others. It steps through `unftp_login_event` and `unftp_login_answer`, of
+/// which it is proved that an event that needs a login is passed on only after one, where the server
+/// does at each event what they say. This type over them is tested.
 ///
 /// QUIT, AUTH, PBSZ, PROT, FEAT, HELP, NOOP and SYST need no login, and neither does a refused
 /// line; each other command does. A name is good for the next PASS, also where other commands come

@@ -1,6 +1,8 @@
 -- Lines that a proxy lets a server see. Servers differ in how they read a bare CR, a NUL, Telnet's
 -- bytes (RFC 854) or a tab after the verb. Some send no reply to a line without a verb, with one of
--- these in it, or that ends by LF alone: each later reply would be given to another line.
+-- these in it, or that ends by LF alone: each later reply would be given to another line. A clear
+-- line is none of these. That all servers read it alike isn't said: four don't with `TYPE  I`, NOOP
+-- with spaces or 5,000 bytes after it, `SIZE ~/a`, and `MDTM 20010203040506 a`.
 use Rattle.std.specs.Prelude.{ℕ, ◌-◌, Bool, not, ◌==◌, ◌&&◌, ◌||◌, bytes_eq, drop, length, take}
 use Rattle.std.specs.Char.{is_ascii_alphanumeric}
 use Rattle.std.specs.List.{list_all}
@@ -11,7 +13,7 @@ use Rattle.unftp_control_defs.specs.Verbs.{verb_of}
 abbrev pub IAC : ℕ
 IAC = 255
 
--- all servers read the byte alike, in a line
+-- no byte that servers are known to read in different ways, in a line
 abbrev pub is_plain : ℕ → Bool
 is_plain b = not ((b == NUL || b == LF) || (b == CR || b == IAC))
 
@@ -25,6 +27,6 @@ abbrev pub is_plain_line : Bytes → Bool
 is_plain_line line = list_all is_plain (take (length line - 2) line)
     && bytes_eq (drop (length line - 2) line) crlf
 
--- All servers read the line alike, and reply to it.
+-- The line has a clear verb, and is plain.
 abbrev pub is_clear : Bytes → Bool
 is_clear line = has_clear_verb line && is_plain_line line

@@ -1,4 +1,4 @@
-//! Lines that all servers read alike.
+//! Lines without the bytes that servers read in different ways.
 ghost use Rattle.std.specs.Prelude.{◌≡◌};
 ghost use Rattle.std.specs.Char.{is_ascii_alphanumeric};
 ghost use Rattle.std.specs.List.{list_all};
@@ -9,10 +9,14 @@ use unftp_control_codecs::line_parser::split;
 /// The byte that begins a command of Telnet's (RFC 854).
 const IAC: u8 = 255;
 
-/// Whether all servers read the line alike, and reply to it: its verb has only letters and digits of
-/// ASCII, and at least one, and before the CR LF at its end there is no CR, LF, NUL or byte 255. A
-/// proxy that refuses commands sends no other line, since a server may see a command in it that the
-/// proxy doesn't.
+/// Whether the line is clear: its verb has only letters and digits of ASCII, and at least one, and
+/// before the CR LF at its end there is no CR, LF, NUL or byte 255. So it has none of the bytes
+/// that servers are known to read in different ways. A proxy that refuses commands sends no other
+/// line, since a server may see a command in it that the proxy doesn't.
+///
+/// It is a form of line, and no promise that all servers read it alike. Known exceptions are
+/// `TYPE  I` with two spaces, NOOP with spaces or 5,000 bytes after it, `SIZE ~/a`, and `MDTM
+/// 20010203040506 a`, by which vsftpd sets the time of a file.
 pub fn is_clear(line: &[u8]) -> bool
     ensures { result ≡ is_clear line.now }
 {
@@ -49,7 +53,7 @@ fn are_alphanumeric(bytes: &[u8]) -> bool
     true
 }
 
-/// Whether all servers read each byte alike, in a line.
+/// Whether no byte is one that servers are known to read in different ways, in a line.
 fn are_plain(bytes: &[u8]) -> bool
     ensures { result ≡ list_all is_plain bytes.now }
 {

@@ -96,8 +96,8 @@ fn sets_time(line: &OwnedLine) -> bool {
         && parameter.trim_start().split_once(' ').is_some_and(is_time)
 }
 
-/// Whether all servers read alike what is sent for a line: that ends by CR LF, also where the line
-/// ends by LF alone.
+/// Whether what is sent for a line is clear: that ends by CR LF, also where the line ends by LF
+/// alone.
 fn is_sent_clear(line: &[u8]) -> bool {
     let text = line.strip_suffix(b"\r\n").or_else(|| line.strip_suffix(b"\n")).unwrap_or(line);
     is_clear(&[text, b"\r\n"].concat())
