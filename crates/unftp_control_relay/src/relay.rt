@@ -1,5 +1,5 @@
 //! A proxy with its filter, between two streams that the caller reads in turn.
-ghost use Rattle.std.specs.Prelude.{◌≡◌, ◌<◌, ◌+◌, ◌≤◌, [], None, Ok, IfErr, IfOk, IfSome, OnErr, OnOk, length};
+ghost use Rattle.std.specs.Prelude.{◌≡◌, ◌<◌, ◌+◌, ◌≤◌, ◌∷◌, ◌++◌, [], None, Some, Ok, IfErr, IfOk, IfSome, OnErr, OnOk, length};
 ghost use Rattle.unftp_control_defs.specs.Input.{input_state_of};
 ghost use Rattle.unftp_control_proxy.specs.ProxyCalls.{WaitsForServer};
 ghost use Rattle.unftp_control_relay.specs.Relaying.{ClientInPart, HoldsLittle, IsEnd, IsGiven, IsReadEnd, IsSettled, ReadFails, Relays, RelaysClient, RelaysInPart, RelaysServer, ServerInPart, new_relay, relay_state_of};
@@ -97,7 +97,8 @@ impl<F: Filter + Drop> Relay<F> {
 
     /// Reads once from the client, at most 4,096 bytes, and lets pass all that can, as `from_client`
     /// does. While the proxy waits for the server it reads nothing. So of what the client sent at
-    /// most the limit of a line and one read are held.
+    /// most the limit of a line and one read are held. Where the read gives nothing, the client is
+    /// gone: `Closed`.
     ///
     /// `Read` is any error of the reader, also `Interrupted`: nothing has changed, and the call can
     /// be made again. After `OutOfMemory` the session is to end. No other error is returned.
@@ -112,6 +113,10 @@ impl<F: Filter + Drop> Relay<F> {
         ensures ended { IfOk result (λ ended. IfSome ended (λ end.
             IsReadEnd (input_state_of R.remaining reader.new) self.new.proxy end)) }
         ensures settled { result ≡ Ok None → IsSettled self.new.proxy }
+        // A read of no bytes is told as the end of the side that was read.
+        ensures closed { (input_state_of R.remaining reader.new).reads
+            ≡ (input_state_of R.remaining reader.old).reads ++ 0 ∷ []
+            → result ≡ Ok (Some End.Closed) }
         ensures err { IfErr result (ReadFails
             (input_state_of R.remaining reader.old) (input_state_of R.remaining reader.new)
             (relay_state_of F.state self.old) (relay_state_of F.state self.new)
@@ -124,15 +129,15 @@ impl<F: Filter + Drop> Relay<F> {
         if self.proxy.waits_for_server() {
             return Ok(self.pass_all(alloc)?);
         }
-        let mut piece = [0u8; PIECE];
-        let count = match reader.read(&mut piece) {
+        let mut lines = [0u8; PIECE];
+        let count = match reader.read(&mut lines) {
             Ok(count) => count,
             Err(error) => return Err(ServeError::Read(error)),
         };
         if count == 0 {
             return Ok(Some(End::Closed));
         }
-        let (read, _) = piece.split_at(count);
+        let (read, _) = lines.split_at(count);
         Ok(self.from_client(alloc, read)?)
     }
 
@@ -148,6 +153,10 @@ impl<F: Filter + Drop> Relay<F> {
         ensures ended { IfOk result (λ ended. IfSome ended (λ end.
             IsReadEnd (input_state_of R.remaining reader.new) self.new.proxy end)) }
         ensures settled { result ≡ Ok None → IsSettled self.new.proxy }
+        // A read of no bytes is told as the end of the side that was read.
+        ensures closed { (input_state_of R.remaining reader.new).reads
+            ≡ (input_state_of R.remaining reader.old).reads ++ 0 ∷ []
+            → result ≡ Ok (Some End.Closed) }
         ensures err { IfErr result (ReadFails
             (input_state_of R.remaining reader.old) (input_state_of R.remaining reader.new)
             (relay_state_of F.state self.old) (relay_state_of F.state self.new)
@@ -157,15 +166,15 @@ impl<F: Filter + Drop> Relay<F> {
         ensures bounded { HoldsLittle self.old.proxy → result ≡ Ok None
             → HoldsLittle self.new.proxy }
     {
-        let mut piece = [0u8; PIECE];
-        let count = match reader.read(&mut piece) {
+        let mut replies = [0u8; PIECE];
+        let count = match reader.read(&mut replies) {
             Ok(count) => count,
             Err(error) => return Err(ServeError::Read(error)),
         };
         if count == 0 {
             return Ok(Some(End::Closed));
         }
-        let (read, _) = piece.split_at(count);
+        let (read, _) = replies.split_at(count);
         Ok(self.from_server(alloc, read)?)
     }
 
