@@ -17,7 +17,7 @@ use Rattle.unftp_control_proxy.specs.ProxyCalls.{GivesDue, IsDecidable, PassesRe
 use Rattle.unftp_control_proxy.specs.ClientLines.{after_front_line, front_line, head_or_none, line_in, shown_line}
 use Rattle.unftp_control_proxy.specs.Given.{IsWholeReply, ReplyBytes}
 use Rattle.unftp_control_proxy.specs.Owed.{Owed, Answer, IsReplyNext, Reply, after_due, after_reply, due}
-use Rattle.unftp_control_proxy.specs.Traffic.{Fate, IsOneLine, IsTraffic, SentAs, nothing_passed, one_line, one_reply, owed_for, sent_for, some_answers}
+use Rattle.unftp_control_proxy.specs.Traffic.{Fate, IsSingle, IsTraffic, SentAs, nothing_passed, one_line, one_reply, owed_for, sent_for, some_answers}
 use Rattle.unftp_control_proxy.specs.declared.proxy.Proxy.{Proxy}
 use Rattle.unftp_control_proxy.proofs.ClientLemmas.{BeginsWithLine, after_front_line-is, front_line-is}
 
@@ -97,7 +97,7 @@ line_in-is proxy may some =
     shown ∙ shown_is proxy.client.limit (front_line proxy.client.bytes) (subst (λ line. line ≢
     []) shown some)
 
-module _ (before later : Proxy) (fate : Fate) (may : IsDecidable before) (one : IsOneLine fate)
+module _ (before later : Proxy) (fate : Fate) (may : IsDecidable before) (one : IsSingle fate)
     (is : later ≡ decided before (owed_for fate)) where
   order_is : later.order ≡ before.order ++ owed_for fate ∷ []
   order_is = ap (λ (proxy : Proxy). proxy.order) is

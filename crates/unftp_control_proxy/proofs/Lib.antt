@@ -1,3 +1,4 @@
+pub mod AnswerLemmas
 pub mod ClientLemmas
 pub mod OrderLemmas
 pub mod SendLemmas

@@ -1,5 +1,5 @@
 -- Why a line is not sent.
-use Rattle.std.proofs.Common.{Result, Ok, Err, OnOk, ◌≡◌, ℕ, [], ◌∷◌, ◌++◌, length, length-append, drop, take, arith, ap, subst, ◌∙◌}
+use Rattle.std.proofs.Common.{Result, Ok, Err, OnOk, ◌≡◌, ℕ, [], ◌∷◌, ◌++◌, length, length-append, drop, take, arith, ap, refl, subst, ◌∙◌}
 use Rattle.std.specs.Prelude.{IfErr, OnErr}
 use Rattle.std.proofs.Math.Seq.{drop-append_seam, take-append_seam}
 use Rattle.unftp_control_defs.specs.Bytes.{Bytes, LF}
@@ -8,17 +8,17 @@ use Rattle.unftp_control_defs.specs.Lines.{IsLine}
 use Rattle.unftp_control_write.specs.Forwarding.{IsForwardError, IsForwarded}
 use Rattle.unftp_control_write.specs.declared.forwarding.ForwardError.{ForwardError}
 use Rattle.unftp_control_write.specs.declared.forwarding.ForwardError.TheVariants as forward
-use Rattle.unftp_control_proxy.specs.ProxyCalls.{IsForwardingError, IsSendError, send_error}
+use Rattle.unftp_control_proxy.specs.ProxyCalls.{IsDecidable, IsForwardingError, IsSendError, send_error}
 use Rattle.unftp_control_proxy.specs.declared.errors.SendError.{SendError}
 use Rattle.unftp_control_proxy.specs.declared.errors.SendError.TheVariants as send
 use Rattle.unftp_control_proxy.specs.declared.proxy.Proxy.{Proxy}
 
 module _ (proxy : Proxy) (line : Bytes) where
-  pub not_forwarded : (error : ForwardError) → IsForwardError line error
+  pub not_forwarded : IsDecidable proxy → (error : ForwardError) → IsForwardError line error
       → IsForwardingError proxy line (send_error error)
-  not_forwarded forward.NotALine why = why
-  not_forwarded (forward.Refused kind) why = why
-  not_forwarded forward.OutOfMemory why = tt
+  not_forwarded may forward.NotALine why = (may, why)
+  not_forwarded may (forward.Refused kind) why = (may, why)
+  not_forwarded may forward.OutOfMemory why = (may, why)
 
   -- what would be forwarded is not sent, for the reason that `send_appended` returns
   pub not_sent : {before after sent : Bytes} → IsForwarded line before after
@@ -35,14 +35,15 @@ module _ (proxy : Proxy) (line : Bytes) where
           → IsSendError proxy (forwarded_line line forwarded.command) error
           → IsForwardingError proxy line error
       by_error send.NoLine why = why
-      by_error send.NotALine why = absurd (why forwarded.is_line)
-      by_error (send.Refused kind) why = absurd why
+      by_error send.NotALine why = absurd (why.1 forwarded.is_line)
+      by_error (send.Refused kind) why = absurd why.1
       by_error send.Unclear why =
-          record { command = forwarded.command; means = forwarded.means; unsent = why }
+          (why.0, record { command = forwarded.command; means = forwarded.means; unsent = why.1 })
       by_error send.TooLong why =
-          record { command = forwarded.command; means = forwarded.means; unsent = why }
-      by_error send.NotFinal why = absurd why
-      by_error send.OutOfMemory why = tt
+          (why.0, record { command = forwarded.command; means = forwarded.means; unsent = why.1 })
+      by_error send.NotFinal why = absurd why.1
+      by_error send.NotPlain why = absurd why.1
+      by_error send.OutOfMemory why = (why.0, rw forwarded.means refl)
 
   pub send_appended : {T : Type 0} (result : Result T SendError) {before after sent : Bytes}
       → IsForwarded line before after → sent ≡ drop (length before) after

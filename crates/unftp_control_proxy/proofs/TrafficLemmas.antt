@@ -13,7 +13,7 @@ use Rattle.unftp_control_defs.proofs.LineLemmas.{lines_of-concat}
 use Rattle.unftp_control_proxy.specs.ProxyCalls.{new_proxy}
 use Rattle.unftp_control_proxy.specs.Given.{AreAsked, ReplyBytes, given, still_owed}
 use Rattle.unftp_control_proxy.specs.Owed.{Owed, Answer, Reply, after_due, after_reply, due}
-use Rattle.unftp_control_proxy.specs.Traffic.{AnsweredBy, IsDecidedLine, IsPassedReply, ChangesNothing, DecidedLine, Fate, IsOneLine, IsTraffic, KeepsLine, PassedReply, SentAs, Traffic, all_bytes, came_in, client_lines, given_in, joined, nothing_passed, owed_by, owed_for, sent_by, sent_for}
+use Rattle.unftp_control_proxy.specs.Traffic.{AnsweredBy, IsDecidedLine, IsPassedReply, ChangesNothing, DecidedLine, Fate, IsSingle, IsTraffic, KeepsLine, PassedReply, SentAs, Traffic, all_bytes, came_in, client_lines, given_in, joined, nothing_passed, owed_by, owed_for, sent_by, sent_for}
 use Rattle.unftp_control_proxy.specs.declared.proxy.Limits.{Limits}
 use Rattle.unftp_control_proxy.specs.declared.proxy.Proxy.{Proxy}
 use Rattle.unftp_control_proxy.proofs.OrderLemmas.{Parts, asked-undue, given-due, parts, still-due}
@@ -143,7 +143,7 @@ sent-lines : (lines : List DecidedLine) → AllByRecursion IsDecidedLine lines
 sent-lines [] all = tt
 sent-lines (decided ∷ lines) all = by_fate decided.fate all.0.1 (sent-lines lines all.1)
   where
-    by_fate : (fate : Fate) → IsOneLine fate → AllByRecursion IsLine (sent_by lines)
+    by_fate : (fate : Fate) → IsSingle fate → AllByRecursion IsLine (sent_by lines)
         → AllByRecursion IsLine (sent_for fate ++ sent_by lines)
     by_fate (SentAs line) one others = (one, others)
     by_fate (AnsweredBy bytes) one others = others

@@ -1,7 +1,8 @@
 -- What a client is given for what it is owed.
-use Rattle.std.specs.Prelude.{⊤, ℕ, List, [], ◌∷◌, ◌++◌, length}
+use Rattle.std.specs.Prelude.{⊤, ◌≡◌, ℕ, false, List, [], ◌∷◌, ◌++◌, length}
 use Rattle.unftp_control_defs.specs.Bytes.{Bytes}
 use Rattle.unftp_control_defs.specs.ReplyReader.{FrontReply}
+use Rattle.unftp_control_defs.specs.Turns.{is_preliminary}
 use Rattle.unftp_control_proxy.specs.Owed.{Owed, IsReplyNext, after_due, after_reply, due}
 
 -- a reply of a server: its code, and all its bytes
@@ -13,6 +14,11 @@ pub record ReplyBytes : Type 0 where
 abbrev pub IsWholeReply : ReplyBytes → Type 0
 IsWholeReply reply =
     (lines : List Bytes) × FrontReply reply.bytes reply.code lines (length reply.bytes)
+
+-- So they are, and no other reply to the same line follows.
+abbrev pub IsFinalReply : Bytes → Type 0
+IsFinalReply bytes = (code : ℕ) × IsWholeReply (record { code = code; bytes = bytes })
+    × (is_preliminary code ≡ false)
 
 -- What is given for what is owed when these replies come: each answer in its place, and each reply
 -- in its place, after those to the same line that are preliminary. It is a function of both lists,

@@ -1,9 +1,10 @@
 -- What the calls of a proxy do to it, and what they append.
-use Rattle.std.specs.Prelude.{⊤, ◌≡◌, ◌⊎◌, ℕ, ◌<◌, ◌≤◌, Bool, true, false, not, List, [], ◌∷◌, ◌++◌, Option, Some, None, Result, Ok, IsTrue, drop, length, take}
-use Rattle.unftp_control_defs.specs.Bytes.{Bytes}
+use Rattle.std.specs.Prelude.{⊤, ◌≡◌, ◌⊎◌, ℕ, ◌<◌, ◌≤◌, ◌==◌, ◌&&◌, Bool, true, false, nat_le, nat_lt, not, List, [], ◌∷◌, ◌++◌, Option, Some, None, Result, Ok, IsTrue, drop, length, take}
+use Rattle.std.specs.List.{list_all}
+use Rattle.unftp_control_defs.specs.Bytes.{Bytes, LF}
 use Rattle.unftp_control_defs.specs.Forwarded.{forwarded_line}
 use Rattle.unftp_control_defs.specs.FtpCommand.{FtpCommand}
-use Rattle.unftp_control_defs.specs.FtpReply.{FtpReply, Nothing}
+use Rattle.unftp_control_defs.specs.FtpReply.{FtpReply, CodeAndMsg, MultiLine, Nothing}
 use Rattle.unftp_control_defs.specs.Lines.{IsLine}
 use Rattle.unftp_control_defs.specs.Outcome.{outcome}
 use Rattle.unftp_control_defs.specs.Turns.{is_preliminary_reply}
@@ -71,7 +72,7 @@ is_out_of_memory _ = false
 abbrev pub IsUnsent : ℕ → Bytes → SendError → Type 0
 IsUnsent limit line send.NotALine = ¬ IsLine line
 IsUnsent limit line send.TooLong = (is_clear line ≡ true) × (limit < length line)
-IsUnsent limit line send.Unclear = is_clear line ≡ false
+IsUnsent limit line send.Unclear = IsLine line × (is_clear line ≡ false)
 IsUnsent limit line _ = ⊥
 
 -- why a line is not sent that is not forwarded for this reason
@@ -80,45 +81,77 @@ send_error forward.NotALine = send.NotALine
 send_error (forward.Refused kind) = send.Refused kind
 send_error forward.OutOfMemory = send.OutOfMemory
 
--- why this line is not sent in place of the client's
+-- why this line may not be sent in place of the client's
+abbrev pub IsCheckError : Proxy → Bytes → SendError → Type 0
+IsCheckError proxy line send.NoLine = ¬ IsDecidable proxy
+IsCheckError proxy line error = IsDecidable proxy × IsUnsent proxy.limits.sent line error
+
+-- why it is not sent: it may not be, or memory ran out
 abbrev pub IsSendError : Proxy → Bytes → SendError → Type 0
-IsSendError proxy line send.NoLine = ¬ IsDecidable proxy
-IsSendError proxy line send.OutOfMemory = ⊤
-IsSendError proxy line error = IsUnsent proxy.limits.sent line error
+IsSendError proxy line send.OutOfMemory = IsDecidable proxy × MayBeSent proxy.limits.sent line
+IsSendError proxy line error = IsCheckError proxy line error
 
 -- why the client's line, which is this, is not sent, clear or not
 abbrev pub IsUnclearError : Proxy → Bytes → SendError → Type 0
 IsUnclearError proxy line send.NoLine = ¬ IsDecidable proxy
-IsUnclearError proxy line send.NotALine = ¬ IsLine line
-IsUnclearError proxy line send.TooLong = proxy.limits.sent < length line
-IsUnclearError proxy line send.OutOfMemory = ⊤
+IsUnclearError proxy line send.NotALine = IsDecidable proxy × ¬ IsLine line
+IsUnclearError proxy line send.TooLong =
+    IsDecidable proxy × IsLine line × (proxy.limits.sent < length line)
+IsUnclearError proxy line send.OutOfMemory =
+    IsDecidable proxy × IsLine line × (length line ≤ proxy.limits.sent)
 IsUnclearError proxy line _ = ⊥
 
 -- The line that would be forwarded is not sent.
-pub record IsForwardedUnsent (proxy : Proxy) (line : Bytes) (error : SendError) : Type 0 where
+pub record IsForwardedUnsent (limit : ℕ) (line : Bytes) (error : SendError) : Type 0 where
   pub command : FtpCommand
   pub means : outcome line ≡ Ok command
-  pub unsent : IsUnsent proxy.limits.sent (forwarded_line line command) error
+  pub unsent : IsUnsent limit (forwarded_line line command) error
+
+-- why a line is not forwarded
+abbrev pub IsUnforwarded : ℕ → Bytes → SendError → Type 0
+IsUnforwarded limit line send.NotALine = ¬ IsLine line
+IsUnforwarded limit line (send.Refused kind) = IsForwardError line (forward.Refused kind)
+IsUnforwarded limit line send.OutOfMemory = IsForwardError line forward.OutOfMemory
+IsUnforwarded limit line error = IsForwardedUnsent limit line error
 
 -- why the client's line, which is this, is not forwarded
 abbrev pub IsForwardingError : Proxy → Bytes → SendError → Type 0
 IsForwardingError proxy line send.NoLine = ¬ IsDecidable proxy
-IsForwardingError proxy line send.NotALine = ¬ IsLine line
-IsForwardingError proxy line (send.Refused kind) = IsForwardError line (forward.Refused kind)
-IsForwardingError proxy line send.OutOfMemory = ⊤
-IsForwardingError proxy line error = IsForwardedUnsent proxy line error
+IsForwardingError proxy line error = IsDecidable proxy × IsUnforwarded proxy.limits.sent line error
 
 -- a reply after which no other to the same line follows
 abbrev pub is_final : FtpReply → Bool
 is_final Nothing = false
 is_final reply = not (is_preliminary_reply reply)
 
--- why a line is not answered with this reply
+-- no line feed is in the text
+abbrev pub is_one_line : Bytes → Bool
+is_one_line text = list_all (λ b. not (b == LF)) text
+
+-- a client reads it back as it is: the test for `IsPlain`
+abbrev pub has_three_digits : ℕ → Bool
+has_three_digits code = nat_le 100 code && nat_lt code 1000
+
+abbrev pub is_plain_reply : FtpReply → Bool
+is_plain_reply Nothing = true
+is_plain_reply (CodeAndMsg code text) = has_three_digits code && is_one_line text
+is_plain_reply (MultiLine code lines) = has_three_digits code && list_all is_one_line lines
+
+-- A line may be answered with it.
+abbrev pub is_answer : FtpReply → Bool
+is_answer reply = is_final reply && is_plain_reply reply
+
+-- why no line is answered with this reply
+abbrev pub IsNoAnswer : FtpReply → SendError → Type 0
+IsNoAnswer reply send.NotFinal = is_final reply ≡ false
+IsNoAnswer reply send.NotPlain = (is_final reply ≡ true) × (is_plain_reply reply ≡ false)
+IsNoAnswer reply _ = ⊥
+
+-- why this line is not answered with it
 abbrev pub IsAnswerError : Proxy → FtpReply → SendError → Type 0
 IsAnswerError proxy reply send.NoLine = ¬ IsDecidable proxy
-IsAnswerError proxy reply send.NotFinal = is_final reply ≡ false
-IsAnswerError proxy reply send.OutOfMemory = ⊤
-IsAnswerError proxy reply _ = ⊥
+IsAnswerError proxy reply send.OutOfMemory = IsDecidable proxy × (is_answer reply ≡ true)
+IsAnswerError proxy reply error = IsDecidable proxy × IsNoAnswer reply error
 
 -- ---- the server's replies
 

@@ -1,12 +1,12 @@
 -- What passes a proxy: what came from both sides, in whatever pieces; what became of the client's
 -- lines; which replies the client was given; and what each side was sent.
-use Rattle.std.specs.Prelude.{⊤, ◌≡◌, ◌≤◌, List, [], ◌∷◌, ◌++◌, flat_map, length, map, max}
+use Rattle.std.specs.Prelude.{◌≡◌, ◌≤◌, List, [], ◌∷◌, ◌++◌, flat_map, length, map, max}
 use Rattle.std.specs.List.{AllByRecursion, concat}
 use Rattle.unftp_control_defs.specs.Bytes.{Bytes}
 use Rattle.unftp_control_defs.specs.Lines.{IsLine}
 use Rattle.unftp_control_defs.specs.Outcome.{outcome}
 use Rattle.unftp_control_proxy.specs.Owed.{Owed, Answer, Reply, after_due, due}
-use Rattle.unftp_control_proxy.specs.Given.{AreAsked, IsWholeReply, ReplyBytes, given, still_owed}
+use Rattle.unftp_control_proxy.specs.Given.{AreAsked, IsFinalReply, IsWholeReply, ReplyBytes, given, still_owed}
 use Rattle.unftp_control_proxy.specs.declared.proxy.Proxy.{Proxy}
 
 -- This line is sent to the server for the client's; or the client is given these bytes instead.
@@ -102,13 +102,13 @@ given_in replies = map (λ reply. reply.given) replies
 abbrev pub all_bytes : List ReplyBytes → Bytes
 all_bytes replies = flat_map (λ reply. reply.bytes) replies
 
--- what is sent for it is one line
-abbrev pub IsOneLine : Fate → Type 0
-IsOneLine (SentAs line) = IsLine line
-IsOneLine (AnsweredBy bytes) = ⊤
+-- What is sent for it is one line; what it is answered by is one final reply.
+abbrev pub IsSingle : Fate → Type 0
+IsSingle (SentAs line) = IsLine line
+IsSingle (AnsweredBy bytes) = IsFinalReply bytes
 
 abbrev pub IsDecidedLine : DecidedLine → Type 0
-IsDecidedLine decided = IsLine decided.line × IsOneLine decided.fate
+IsDecidedLine decided = IsLine decided.line × IsSingle decided.fate
 
 -- both are one reply, of the same code
 abbrev pub IsPassedReply : PassedReply → Type 0

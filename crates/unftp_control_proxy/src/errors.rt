@@ -27,6 +27,10 @@ pub enum SendError {
     /// The answer is no final reply: its code is 1yz, or it has none (RFC 959, section 4.2.1).
     #[error("not a final reply")]
     NotFinal,
+    /// A client would not read the answer back as one reply: a line feed is in a text of it, or its
+    /// code has not three digits (RFC 959, section 4.2).
+    #[error("not a plain reply")]
+    NotPlain,
     /// An allocation failed.
     #[error("out of memory")]
     OutOfMemory,

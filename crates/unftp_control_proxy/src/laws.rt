@@ -16,9 +16,9 @@ use unftp_control_serve::Handler;
 
 /// Whatever comes from both sides, in whatever pieces, and in whatever order the calls are made:
 /// the client is given one exchange for the greeting and for each of its lines, in order: the
-/// server's preliminary replies and its final one, or the proxy's answer. It is a function of what
-/// became of the lines and of the server's replies, whenever either came, and no reply is given
-/// that is not owed (RFC 959, sections 4.2 and 5.4).
+/// server's preliminary replies and its final one, or the proxy's answer, which a client reads as
+/// one final reply. It is a function of what became of the lines and of the server's replies,
+/// whenever either came, and no reply is given that is not owed (RFC 959, sections 4.2 and 5.4).
 pub fn one_exchange_for_each_line()
     ensures given { (limits : RustLimits) (traffic : Traffic) (later : RustProxy)
         → IsTraffic (new_proxy limits) traffic later
@@ -27,8 +27,9 @@ pub fn one_exchange_for_each_line()
     ensures asked { (limits : RustLimits) (traffic : Traffic) (later : RustProxy)
         → IsTraffic (new_proxy limits) traffic later
         → AreAsked (Reply ∷ owed_by traffic.lines) (given_in traffic.replies) }
-    // The lines are the first ones of what the client sent, and the replies, each whole, those of
-    // what the server sent; another that is given in place of one has its code.
+    // The lines are the first ones of what the client sent, each sent as one line or answered by
+    // one final reply; and the replies, each whole, those of what the server sent; another that is
+    // given in place of one has its code.
     ensures lines { (limits : RustLimits) (traffic : Traffic) (later : RustProxy)
         → IsTraffic (new_proxy limits) traffic later → AllByRecursion IsDecidedLine traffic.lines
         × (traffic.from_client ≡ concat (client_lines traffic.lines) ++ later.client.bytes) }

@@ -6,15 +6,15 @@ ghost use Rattle.unftp_control_defs.specs.Lines.{IsLine, lines_of};
 ghost use Rattle.unftp_control_message.specs.ReplyMeaning.{reply_of};
 ghost use Rattle.unftp_control_read.specs.ReplyDecoding.{FindsFirst, pushed};
 ghost use Rattle.unftp_control_write.specs.Forwarding.{IsForwarded};
-ghost use Rattle.unftp_control_proxy.specs.ProxyCalls.{GivesDue, GivesNext, GivesOther, IsAnswerError, IsDecidable, IsForwardingError, IsOtherError, IsReplaceError, IsSendError, IsUnclearError, MayBeSent, WaitsForServer, decided, flushed, is_final, new_proxy, send_error};
+ghost use Rattle.unftp_control_proxy.specs.ProxyCalls.{GivesDue, GivesNext, GivesOther, IsAnswerError, IsCheckError, IsDecidable, IsForwardingError, IsOtherError, IsReplaceError, IsSendError, IsUnclearError, MayBeSent, WaitsForServer, decided, flushed, is_answer, new_proxy, send_error};
 ghost use Rattle.unftp_control_proxy.specs.ClientLines.{first_client_line, line_in, with_piece};
-ghost use Rattle.unftp_control_proxy.specs.Given.{IsWholeReply};
+ghost use Rattle.unftp_control_proxy.specs.Given.{IsFinalReply, IsWholeReply};
 ghost use Rattle.unftp_control_proxy.specs.Owed.{Answer, IsReplyNext, Reply as ReplyOwed, after_reply};
 
 use crate::client::{ClientLine, ClientLines};
 use crate::errors::{ReplaceError, SendError};
 use crate::order::Order;
-use crate::sending::check;
+use crate::sending::{append, check, check_answer};
 use std::alloc::{AllocError, Global};
 use unftp_control_codecs::encode_reply;
 use unftp_control_message::reply::Reply;
@@ -199,14 +199,10 @@ impl Proxy {
         ensures err { OnErr result (self.new ≡ self.old) }
         ensures out_err { OnErr result (to_server.new.items ≡ to_server.old.items) }
     {
-        if !self.is_decidable() {
-            return Err(SendError::NoLine);
-        }
-        let length = to_server.len();
-        if to_server.extend_from_slice(self.client.line()).is_err() {
-            return Err(SendError::OutOfMemory);
-        }
-        self.send_appended(length, to_server)
+        let line = self.client.line();
+        self.check(line)?;
+        let length = append(line, to_server)?;
+        self.owe_appended(length, to_server)
     }
 
     /// Decides the line: another one is sent in its place, as PORT with another address. Else as
@@ -220,14 +216,9 @@ impl Proxy {
         ensures err { OnErr result (self.new ≡ self.old) }
         ensures out_err { OnErr result (to_server.new.items ≡ to_server.old.items) }
     {
-        if !self.is_decidable() {
-            return Err(SendError::NoLine);
-        }
-        let length = to_server.len();
-        if to_server.extend_from_slice(other).is_err() {
-            return Err(SendError::OutOfMemory);
-        }
-        self.send_appended(length, to_server)
+        self.check(other)?;
+        let length = append(other, to_server)?;
+        self.owe_appended(length, to_server)
     }
 
     /// Decides the line: the line itself is sent, as it came, also where servers don't read it
@@ -256,15 +247,8 @@ impl Proxy {
         if line.len() > self.limits.sent {
             return Err(SendError::TooLong);
         }
-        let length = to_server.len();
-        if to_server.extend_from_slice(line).is_err() {
-            return Err(SendError::OutOfMemory);
-        }
-        if self.owe_reply().is_err() {
-            to_server.truncate(length);
-            return Err(SendError::OutOfMemory);
-        }
-        Ok(())
+        let length = append(line, to_server)?;
+        self.owe_appended(length, to_server)
     }
 
     /// Decides the line: the bytes of `to_server` from `length` on, which the caller appended, are
@@ -281,26 +265,41 @@ impl Proxy {
         ensures removed { OnErr result (to_server.new.items ≡ take length to_server.old.items) }
     {
         let (_, line) = to_server.as_slice().split_at(length);
-        if let Err(error) = self.owe_reply_to(line) {
+        if let Err(error) = self.check(line) {
             to_server.truncate(length);
             return Err(error);
         }
-        Ok(())
+        self.owe_appended(length, to_server)
     }
 
-    /// Decides the line as one for which this one is sent, if it may be.
-    fn owe_reply_to(&mut self, line: &[u8]) -> Result<(), SendError>
-        ensures ok { OnOk result (self.new ≡ decided self.old ReplyOwed) }
-        ensures may { OnOk result (IsDecidable self.old) }
-        ensures sent { OnOk result (MayBeSent self.old.limits.sent line.now) }
-        ensures why { IfErr result (IsSendError self.old line.now) }
-        ensures err { OnErr result (self.new ≡ self.old) }
+    /// Whether this line may be sent for the one that was found, and if not, why.
+    fn check(&self, line: &[u8]) -> Result<(), SendError>
+        ensures may { OnOk result (IsDecidable self.now) }
+        ensures sent { OnOk result (MayBeSent self.now.limits.sent line.now) }
+        ensures why { IfErr result (IsCheckError self.now line.now) }
     {
         if !self.is_decidable() {
             return Err(SendError::NoLine);
         }
-        check(self.limits.sent, line)?;
-        self.owe_reply()
+        check(self.limits.sent, line)
+    }
+
+    /// Decides the line as one for which the bytes from `length` on are sent; or removes these when
+    /// out of memory.
+    fn owe_appended(&mut self, length: usize, to_server: &mut Vec<u8>) -> Result<(), SendError>
+        requires found { IsTrue self.old.client.found }
+        requires within { length ≤ vec_len to_server.old }
+        ensures ok { OnOk result (self.new ≡ decided self.old ReplyOwed) }
+        ensures kept { OnOk result (to_server.new.items ≡ to_server.old.items) }
+        ensures why { IfErr result (λ error. error ≡ SendError.OutOfMemory) }
+        ensures err { OnErr result (self.new ≡ self.old) }
+        ensures removed { OnErr result (to_server.new.items ≡ take length to_server.old.items) }
+    {
+        if let Err(error) = self.owe_reply() {
+            to_server.truncate(length);
+            return Err(error);
+        }
+        Ok(())
     }
 
     /// Takes the line that was found, and owes the client the server's reply to it.
@@ -320,22 +319,21 @@ impl Proxy {
 
     /// Decides the line: the client is owed this reply in its place, and nothing is sent for it.
     ///
-    /// `NotFinal` where another reply to the same line would have to follow. At an error nothing
-    /// changes.
+    /// `NotFinal` where another reply to the same line would have to follow, and `NotPlain` where a
+    /// client would not read it as one reply. At an error nothing changes.
     pub fn answer(&mut self, alloc: Global, reply: &Reply) -> Result<(), SendError>
         ensures ok { OnOk result
             (self.new ≡ decided self.old (Answer (encoded (reply_of reply.now)))) }
         ensures may { OnOk result (IsDecidable self.old) }
-        ensures answers { OnOk result (is_final (reply_of reply.now) ≡ true) }
+        ensures answers { OnOk result (is_answer (reply_of reply.now) ≡ true) }
+        ensures single { OnOk result (IsFinalReply (encoded (reply_of reply.now))) }
         ensures why { IfErr result (IsAnswerError self.old (reply_of reply.now)) }
         ensures err { OnErr result (self.new ≡ self.old) }
     {
         if !self.is_decidable() {
             return Err(SendError::NoLine);
         }
-        if !is_final(reply) {
-            return Err(SendError::NotFinal);
-        }
+        check_answer(reply)?;
         let mut answer = Vec::new(alloc);
         if encode_reply(reply, &mut answer).is_err() || self.order.owe_answer(answer).is_err() {
             return Err(SendError::OutOfMemory);
@@ -509,18 +507,6 @@ fn send_error(error: ForwardError) -> SendError
         ForwardError::NotALine => SendError::NotALine,
         ForwardError::Refused(kind) => SendError::Refused(kind),
         ForwardError::OutOfMemory => SendError::OutOfMemory,
-    }
-}
-
-/// Whether no other reply to the same line follows the reply.
-fn is_final(reply: &Reply) -> bool
-    ensures { result ≡ is_final (reply_of reply.now) }
-{
-    match reply {
-        Reply::None => false,
-        Reply::CodeAndMsg { code, .. } | Reply::MultiLine { code, .. } => {
-            !(100..200).contains(&code.number())
-        }
     }
 }
 

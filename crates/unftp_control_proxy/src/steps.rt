@@ -9,7 +9,7 @@ ghost use Rattle.unftp_control_read.specs.ReplyDecoding.{pushed};
 ghost use Rattle.unftp_control_write.specs.Forwarding.{IsForwarded};
 ghost use Rattle.unftp_control_proxy.specs.ProxyCalls.{GivesDue, IsDecidable, PassesReply, decided};
 ghost use Rattle.unftp_control_proxy.specs.ClientLines.{front_line, line_in, with_piece};
-ghost use Rattle.unftp_control_proxy.specs.Given.{ReplyBytes};
+ghost use Rattle.unftp_control_proxy.specs.Given.{IsFinalReply, ReplyBytes};
 ghost use Rattle.unftp_control_proxy.specs.Owed.{Answer, Reply};
 ghost use Rattle.unftp_control_proxy.specs.Traffic.{AnsweredBy, IsTraffic, SentAs, client_piece, nothing_passed, one_line, one_reply, server_piece, some_answers};
 ghost use Rattle.unftp_control_proxy.specs.declared.proxy.Proxy.{Proxy as RustProxy};
@@ -45,7 +45,7 @@ pub fn calls_are_traffic()
     ensures as_it_is { (proxy : RustProxy) → IsDecidable proxy → IsLine (line_in proxy.client)
         → line_in proxy.client ≡ front_line proxy.client.bytes }
     ensures answer { (before later : RustProxy) (bytes : Bytes) → IsDecidable before
-        → later ≡ decided before (Answer bytes)
+        → IsFinalReply bytes → later ≡ decided before (Answer bytes)
         → IsTraffic before (one_line (front_line before.client.bytes) (AnsweredBy bytes)) later }
     // The answers before a reply, and the reply, or another one in its place.
     ensures answers { (before later : RustProxy) (out out_later : Bytes)

@@ -78,25 +78,27 @@ unsent proxy line send.NotALine may why some = by_test (is_clear line) refl
   where
     by_test : (clear : Bool) → is_clear line ≡ clear
         → fate_by proxy.limits.sent (Send line) ≡ refused_line
-    by_test true e = absurd (why (clear_is_line line e))
+    by_test true e = absurd (why.1 (clear_is_line line e))
     by_test false e = rw e refl
-unsent proxy line (send.Refused kind) may why some = absurd why
-unsent proxy line send.Unclear may why some = rw why refl
+unsent proxy line (send.Refused kind) may why some = absurd why.1
+unsent proxy line send.Unclear may why some = rw why.1.1 refl
 unsent proxy line send.TooLong may why some =
-    let long : nat_le (length line) proxy.limits.sent ≡ false = grind (arith, nat_tests, why.1) in
-    rw (why.0, long) refl
-unsent proxy line send.NotFinal may why some = absurd why
+    let long : nat_le (length line) proxy.limits.sent ≡ false = grind (arith, nat_tests, why.1.1) in
+    rw (why.1.0, long) refl
+unsent proxy line send.NotFinal may why some = absurd why.1
+unsent proxy line send.NotPlain may why some = absurd why.1
 unsent proxy line send.OutOfMemory may why some = absurd (cc)
 
 pub unanswered : (proxy : Proxy) (reply : FtpReply) (error : SendError) → IsDecidable proxy
     → IsAnswerError proxy reply error → is_out_of_memory error ≡ false
     → fate_by proxy.limits.sent (Reply reply) ≡ told_of error
 unanswered proxy reply send.NoLine may why some = absurd (why may)
-unanswered proxy reply send.NotALine may why some = absurd why
-unanswered proxy reply (send.Refused kind) may why some = absurd why
-unanswered proxy reply send.Unclear may why some = absurd why
-unanswered proxy reply send.TooLong may why some = absurd why
-unanswered proxy reply send.NotFinal may why some = rw why refl
+unanswered proxy reply send.NotALine may why some = absurd why.1
+unanswered proxy reply (send.Refused kind) may why some = absurd why.1
+unanswered proxy reply send.Unclear may why some = absurd why.1
+unanswered proxy reply send.TooLong may why some = absurd why.1
+unanswered proxy reply send.NotFinal may why some = rw why.1 refl
+unanswered proxy reply send.NotPlain may why some = rw (why.1.0, why.1.1) refl
 unanswered proxy reply send.OutOfMemory may why some = absurd (cc)
 
 -- What was appended for a step comes after the bytes from before.
@@ -126,7 +128,7 @@ sent_becomes before later length out out' may is same =
       later_is = is;
       appended = same ∙ sym (take-append-drop length out)
           ∙ ap (λ bytes. take length out ++ bytes) (sym (append-nil line));
-      one = may.is_line;
+      single = may.is_line;
     })
 
 -- The answer to a line that is not sent or answered so is what becomes of it.
@@ -141,7 +143,7 @@ refused_becomes (Ok done) error before before' later {out} {out'} becomes same o
       later_is = subst (λ before. later ≡ decided before (owed_for (told_of error))) same
           becomes.later_is;
       appended = out_is ∙ sym (append-nil out) ∙ ap (λ bytes. out ++ bytes) becomes.appended;
-      one = becomes.one;
+      single = becomes.single;
     })
 refused_becomes (Err _) error before before' later becomes same out_is some refused = tt
 
@@ -222,7 +224,7 @@ module _ {S : Type 0} (law : FilterLaw S) (before now later : Proxy) (found : Bo
       (front_line bytes) fate) later)
       (ap (λ (proxy : Proxy). proxy.client.bytes) now_is)
       (in_turn (found_only before now found held now_is)
-      (decides now later fate may becomes.one becomes.later_is))
+      (decides now later fate may becomes.single becomes.later_is))
 
   pub took_long : exceeds (Some before.client.limit) (length line) ≡ true
       → Becomes long_line now [] [] later → s' ≡ s → out' ≡ out

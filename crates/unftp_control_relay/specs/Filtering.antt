@@ -8,9 +8,9 @@ use Rattle.unftp_control_defs.specs.FtpCommand.{Answer}
 use Rattle.unftp_control_defs.specs.FtpReply.{FtpReply, CodeAndMsg, encoded}
 use Rattle.unftp_control_defs.specs.Outcome.{outcome}
 use Rattle.unftp_control_message.specs.ReplyMeaning.{reply_of}
-use Rattle.unftp_control_proxy.specs.ProxyCalls.{decided, is_final}
+use Rattle.unftp_control_proxy.specs.ProxyCalls.{decided, is_answer}
 use Rattle.unftp_control_write.specs.ClearLines.{is_clear}
-use Rattle.unftp_control_proxy.specs.Traffic.{AnsweredBy, DecidedLine, Fate, IsOneLine, SentAs, owed_for, sent_for}
+use Rattle.unftp_control_proxy.specs.Traffic.{AnsweredBy, DecidedLine, Fate, IsSingle, SentAs, owed_for, sent_for}
 use Rattle.unftp_control_relay.specs.declared.driver.Step.{Step as RustStep}
 use Rattle.unftp_control_relay.specs.declared.driver.Step.TheVariants as step
 use Rattle.unftp_control_relay.specs.declared.filter.Verdict.{Verdict}
@@ -77,13 +77,13 @@ told_of send.TooLong = long_line
 told_of _ = refused_line
 
 -- What becomes of a line then: no more bytes are sent than the limit, and only a line that all
--- servers read alike; an answer is a final reply.
+-- servers read alike; an answer is a final reply that a client reads as one.
 abbrev pub fate_by : ℕ → Step → Fate
 fate_by limit (Send line) =
     if is_clear line then (if nat_le (length line) limit then SentAs line else long_line)
     else refused_line
 fate_by limit (Reply reply) =
-    if is_final reply then AnsweredBy (encoded reply) else refused_line
+    if is_answer reply then AnsweredBy (encoded reply) else refused_line
 fate_by limit Refuse = refused_line
 
 -- By a law, under limits on the client's lines and on those that are sent.
@@ -113,4 +113,4 @@ pub record Becomes (fate : Fate) (before : Proxy) (sent sent' : Bytes)
     (later : Proxy) : Type 0 where
   pub later_is : later ≡ decided before (owed_for fate)
   pub appended : sent' ≡ sent ++ concat (sent_for fate)
-  pub one : IsOneLine fate
+  pub single : IsSingle fate

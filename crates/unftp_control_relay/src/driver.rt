@@ -165,7 +165,7 @@ fn send_or_refuse(
     }
 }
 
-/// Answers the line with the reply, or with 500 where that is not final.
+/// Answers the line with the reply, or with 500 where that is not one final reply.
 fn answer_or_refuse(proxy: &mut Proxy, alloc: Global, reply: &Reply) -> Result<(), AllocError>
     requires { IsDecidable proxy.old }
     ensures ok { OnOk result (Becomes

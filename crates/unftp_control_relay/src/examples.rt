@@ -32,6 +32,7 @@ pub fn steps_have_a_fate()
         ≡ AnsweredBy (encoded (CodeAndMsg 200 (codes "OK"))) }
     ensures preliminary { fate_by 6 (Reply (CodeAndMsg 199 (codes "OK"))) ≡ refused_line }
     ensures none { fate_by 6 (Reply Nothing) ≡ refused_line }
+    ensures two_replies { fate_by 6 (Reply (CodeAndMsg 200 (codes "a\r\n200 b"))) ≡ refused_line }
 {}
 
 /// How much is held, when the client was given all that it can be given, and when it ends.

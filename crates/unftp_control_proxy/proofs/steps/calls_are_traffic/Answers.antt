@@ -26,7 +26,8 @@ returns c = record {
       forwards before later sent sent_later may some forwarded is;
   send = λ before later sent may is_line is. decides before later (SentAs sent) may is_line is;
   as_it_is = λ proxy may is_line. line_in-is proxy may (some_line _ is_line);
-  answer = λ before later bytes may is. decides before later (AnsweredBy bytes) may tt is;
+  answer = λ before later bytes may final is.
+      decides before later (AnsweredBy bytes) may final is;
   answers = λ before later out out_later gives. answers before later out out_later gives;
   reply = λ before later came given passes. passes_reply before later came given passes;
 }

@@ -4,7 +4,8 @@ use Rattle.unftp_control_proxy.proofs.proxy.Proxy.forward.Goals as goal
 
 pub returns-in-Err-clause-why : goal.returns-in-Err-clause-why
 returns-in-Err-clause-why c = rw (c.send_error.ensures, ← c.line-line.ensures)
-    (not_forwarded c.args.self.now c.line-line.result.now c.in-Err.error c.in-Err.ensures.why)
+    (not_forwarded c.args.self.now c.line-line.result.now (search rules) c.in-Err.error
+    c.in-Err.ensures.why)
 
 pub returns-clause-shown : goal.returns-clause-shown
 returns-clause-shown c = on_ok c.send_appended.result (search rules)
@@ -16,7 +17,7 @@ returns-clause-why c = rw (← c.line-line.ensures)
 
 pub returns-then-is_empty-clause-why : goal.returns-then-is_empty-clause-why
 returns-then-is_empty-clause-why c = rw (← c.line-line.ensures)
-    (empty_is_no_line c.line-line.result.now (search rules))
+    (search rules, empty_is_no_line c.line-line.result.now (search rules))
 
 pub returns-clause-out_err : goal.returns-clause-out_err
 returns-clause-out_err c = removed_again c.send_appended.result c.len-length.result
