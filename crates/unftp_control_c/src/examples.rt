@@ -6,12 +6,16 @@ ghost use Rattle.unftp_control_defs.specs.FtpReply.{CodeAndMsg, MultiLine};
 ghost use Rattle.unftp_control_c.specs.CanonicalLines.{CanonicalMayTakeMemory, IsCanonical};
 ghost use Rattle.unftp_control_c.specs.ForwardedLines.{IsForwardedLine};
 ghost use Rattle.unftp_control_c.specs.Next.{Leaves, LineMayTakeMemory, next_of, scans};
+ghost use Rattle.unftp_control_c.specs.Numbers.{forward_status};
 ghost use Rattle.unftp_control_c.specs.Rows.{a_call, leaving};
 ghost use Rattle.unftp_control_c.specs.Replies.{EncodesReply, IsFoundText, IsReplyOf, found_text, text_lines};
-ghost use Rattle.unftp_control_c.specs.declared.status.Status.TheVariants.{InvalidCommand, InvalidUtf8, Malformed, More, NoLine, OutOfMemory, UnknownCode};
+ghost use Rattle.unftp_control_c.specs.declared.status.Status.TheVariants.{InvalidCommand, InvalidEol, InvalidUtf8, Malformed, More, NoLine, OutOfMemory, UnknownCode};
 
 pub mod calls;
 pub mod sessions;
+
+use unftp_control_message::reply::error::ParseErrorKind;
+use unftp_control_write::ForwardError;
 
 /// Complete lines. `a_call` has the pending bytes, the offset, whether bytes were dropped, the
 /// limit and the area; `leaving` the result, how many bytes are used, the offset, whether bytes
@@ -110,6 +114,14 @@ pub fn lines_are_forwarded()
     ensures no_line_feed { IsForwardedLine (codes "TYPE A") (Err NoLine) }
     ensures refusal { IsForwardedLine (codes "NOOP x\r\n") (Err InvalidCommand) }
     ensures refused_value { ¬ IsForwardedLine (codes "NOOP a\r\n") (Err OutOfMemory) }
+{}
+
+/// What a caller in C is told where a line is not forwarded.
+pub fn errors_of_forwarding_have_numbers()
+    ensures not_a_line { forward_status ForwardError.NotALine ≡ NoLine }
+    ensures refusal { forward_status (ForwardError.Refused ParseErrorKind.InvalidEol)
+        ≡ InvalidEol }
+    ensures memory { forward_status ForwardError.OutOfMemory ≡ OutOfMemory }
 {}
 
 /// Lines for whose canonical lines memory may run out, and none.
