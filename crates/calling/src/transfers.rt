@@ -33,7 +33,7 @@ pub fn serve_file<R: Read, W: Write, A: Accounts + Drop, D: DataConnection + Dro
         × (failures : ℕ) × IfOk result
         (Serves (Some 4096) (limited_law (gated_law (transfers_law answers)))
         (snapshot (limited_to 3 (closed (A.accepts accounts)
-        (at_start (D.contents connection) file.items))) 0 (output_state_of W.contents writer.old))
+        (at_start (D.answers connection) file.items))) 0 (output_state_of W.contents writer.old))
         (snapshot state failures (output_state_of W.contents writer.new))
         (input_state_of R.remaining reader.old) (input_state_of R.remaining reader.new)) }
     // 150 and 226 come only after a name and a password that the accounts accept
@@ -47,7 +47,7 @@ pub fn serve_file<R: Read, W: Write, A: Accounts + Drop, D: DataConnection + Dro
         × (failures : ℕ) × IfErr result
         (ServeEnded (Some 4096) (limited_law (gated_law (transfers_law answers)))
         (snapshot (limited_to 3 (closed (A.accepts accounts)
-        (at_start (D.contents connection) file.items))) 0 (output_state_of W.contents writer.old))
+        (at_start (D.answers connection) file.items))) 0 (output_state_of W.contents writer.old))
         (snapshot state failures (output_state_of W.contents writer.new))
         (input_state_of R.remaining reader.old) (input_state_of R.remaining reader.new)) }
 {

@@ -7,13 +7,12 @@ use Rattle.unftp_control_defs.specs.Events.{FtpEvent, Command, Refused}
 use Rattle.unftp_control_defs.specs.FtpCommand as line
 use Rattle.unftp_control_defs.specs.FtpReply.{FtpReply, CodeAndMsg, HasThreeDigits, IsReadable}
 use Rattle.unftp_control_defs.specs.Turns.{GivesExchanges, SaysOnly, is_preliminary_reply}
-use Rattle.transferring.specs.Answers.{DataAnswer}
-use Rattle.transferring.specs.Laws.{ComesBack, Retrieves, Stores, given, received_for, TransfersNothing, state_after_event}
-use Rattle.transferring.specs.Sent.{with_sent}
+use Rattle.transferring.specs.Answers.{DataAnswer, given, taken}
+use Rattle.transferring.specs.Laws.{AtEvent, ComesBack, Retrieves, Stores, TransfersNothing, answers_for, state_after_event}
 use Rattle.transferring.specs.Transfers.{Outcome, TransferState, final_reply, restart_reply, beyond_end_reply, first_reply, with_opening, opening_reply, receiving, sending, stored, transfer_of, transfers_law}
 use Rattle.transferring.specs.declared.transfer.Ending.{Ending}
 use Rattle.transferring.specs.declared.transfer.Ending.TheVariants.{Complete}
-use Rattle.transferring.proofs.OutcomeLemmas.{completed, retrieve-sends, store-receives}
+use Rattle.transferring.proofs.OutcomeLemmas.{completed, retrieve-sends, retrieve-takes, store-receives}
 
 abbrev outcome_of_retr : List DataAnswer → TransferState → Outcome
 outcome_of_retr answers s = with_opening (sending (drop s.offset s.file)) (drop s.used answers)
@@ -22,17 +21,22 @@ abbrev outcome_of_stor : List DataAnswer → TransferState → Outcome
 outcome_of_stor answers s = with_opening receiving (drop s.used answers)
 
 pub retrieves : (answers : List DataAnswer) (s : TransferState) (path : Bytes)
-    → Retrieves answers s path
+    → AtEvent Retrieves answers s (Command (line.Retr path))
 retrieves answers s path =
     let outcome : Outcome = outcome_of_retr answers s in
-    let sends = retrieve-sends (drop s.offset s.file) (drop s.used answers) in
+    let rest = drop s.used answers in
+    let sends = retrieve-sends (drop s.offset s.file) rest in
+    let used : (s.used + outcome.used) - s.used ≡ outcome.used = omega arith in
+    let sent : taken (take ((s.used + outcome.used) - s.used) rest) ≡ outcome.bytes =
+    ap (λ n. taken (take n rest)) used ∙ retrieve-takes (drop s.offset s.file) rest in
     record {
       ending = outcome.ending;
-      replies = refl;
-      sent = outcome.bytes;
-      were_sent = refl;
-      beginning = sends.beginning;
-      all = λ completes. sends.all (completed outcome.ending completes);
+      replied = refl;
+      beginning = (
+        sends.beginning.0,
+        sends.beginning.1 ∙ ap (λ bytes. bytes ++ sends.beginning.0) (sym sent),
+      );
+      all = λ completes. sent ∙ sends.all (completed outcome.ending completes);
       kept = refl;
     }
 
@@ -41,21 +45,23 @@ stored-else : (offset : ℕ) (file received : Bytes) (ending : Ending) → (endi
 stored-else offset file received Complete not = absurd (not refl)
 stored-else offset file received _ not = refl
 
-pub stores : (answers : List DataAnswer) (s : TransferState) (path : Bytes) → Stores answers s path
+pub stores : (answers : List DataAnswer) (s : TransferState) (path : Bytes)
+    → AtEvent Stores answers s (Command (line.Stor path))
 stores answers s path =
     let outcome : Outcome = outcome_of_stor answers s in
     let rest = drop s.used answers in
+    let receives = store-receives rest in
     let used : (s.used + outcome.used) - s.used ≡ outcome.used = omega arith in
     record {
       ending = outcome.ending;
-      replies = refl;
+      replied = refl;
       all = λ completes. let complete = completed outcome.ending completes in
           ap (λ ending. stored s.offset s.file ending outcome.bytes) complete
-          ∙ ap (λ bytes. take s.offset s.file ++ bytes) (store-receives rest complete
-          ∙ sym (ap (λ n. given (take n rest)) used));
+          ∙ ap (λ bytes. take s.offset s.file ++ bytes)
+          (sym (ap (λ n. given (take n rest)) used ∙ receives.gave));
       kept = λ not. stored-else s.offset s.file outcome.bytes outcome.ending
           (λ complete. not (ap (λ ending. opening_reply ∷ final_reply ending ∷ []) complete));
-      none_sent = refl;
+      none_sent = ap (λ n. taken (take n rest)) used ∙ receives.took;
     }
 
 pub comes_back : (answers : List DataAnswer) (s : TransferState) (to from : Bytes)
@@ -64,14 +70,14 @@ comes_back answers s to from = λ at_start was_stored was_retrieved.
     let kept = stores answers s to in
     let stored : TransferState = state_after_event answers s (Command (line.Stor to)) in
     let back = retrieves answers stored from in
-    back.were_sent
-    ∙ ap (with_sent s.sent) (back.all was_retrieved ∙ kept.all was_stored
-    ∙ ap (λ offset. take offset s.file ++ received_for answers s to) at_start)
+    back.all was_retrieved ∙ kept.all was_stored
+    ∙ ap (λ offset. take offset s.file ++ given (answers_for answers s (Command (line.Stor to))))
+    at_start
 
 pub transfers_nothing : (answers : List DataAnswer) (s : TransferState) (event : FtpEvent)
-    → transfer_of event ≡ None → TransfersNothing s (state_after_event answers s event)
-transfers_nothing answers s event none =
-    rw none (record { file = refl; sent = refl; used = refl })
+    → transfer_of event ≡ None → AtEvent TransfersNothing answers s event
+transfers_nothing answers s event none = let same : s.used - s.used ≡ 0 = omega arith in rw none (
+    record { file = refl; no_call = ap (λ n. take n (drop s.used answers)) same; used = refl })
 
 -- ---- each reply
 

@@ -1,43 +1,33 @@
 -- A transfer, call by call.
-use Rattle.std.proofs.Common.{◌≡◌, Option, None, Some, ℕ, zero, suc, ◌+◌, ◌<◌, List, [], ◌∷◌, ◌++◌, drop, length, take, refl, sym, ap, ◌∙◌, append_assoc, length-append, arith}
+use Rattle.std.proofs.Common.{◌≡◌, ℕ, zero, suc, ◌+◌, ◌<◌, true, List, [], ◌∷◌, ◌++◌, bytes_eq, drop, length, take, refl, sym, ap, ◌∙◌, append_assoc, length-append, arith}
 use Rattle.std.proofs.lemmas.List.{append-nil}
-use Rattle.std.specs.Io.KnownBytes.{append_known}
+use Rattle.std.proofs.lemmas.Slice.Eq.{bytes_eq-Decides}
 use Rattle.unftp_control_defs.specs.Bytes.{Bytes}
-use Rattle.transferring.specs.Answers.{DataAnswer, Done, Failed, Gave, Took}
-use Rattle.transferring.specs.CameTo.{CameTo}
-use Rattle.transferring.specs.Sent.{SentBytes, with_sent}
-use Rattle.transferring.specs.Transfers.{Outcome, closing, ends_with, with_opening, preceded_by, receiving, sending}
+use Rattle.transferring.specs.Answers.{DataAnswer, Opened, Took, Gave, ReceiveFailed}
+use Rattle.transferring.specs.CameTo.{CameTo, GoesOn, IsCutOff}
+use Rattle.transferring.specs.Transfers.{Outcome, closing, ends_after, with_opening, preceded_by, receiving, sending}
 use Rattle.transferring.specs.declared.transfer.Ending.{Ending}
 use Rattle.transferring.specs.declared.transfer.Ending.TheVariants.{Aborted}
 
--- these bytes were transferred so far, and the rest is yet to come
-pub record Reaches (start : List DataAnswer → Outcome) (before now : List DataAnswer)
-    (bytes : Bytes)
-    (rest : List DataAnswer → Outcome) : Type 0 where
-  pub answers : List DataAnswer
-  pub answered : now ≡ before ++ answers
-  pub goes_on : (later : List DataAnswer) → start (answers ++ later)
-      ≡ preceded_by (length answers) bytes (rest later)
-
 pub opened : (transfer : List DataAnswer → Outcome) (before now : List DataAnswer)
-    → now ≡ before ++ Done ∷ [] → Reaches (with_opening transfer) before now [] transfer
+    → now ≡ before ++ Opened ∷ [] → GoesOn (with_opening transfer) before now [] transfer
 opened transfer before now is =
-    record { answers = Done ∷ []; answered = is; goes_on = λ later. refl }
+    record { answers = Opened ∷ []; answered = is; goes_on = λ later. refl }
 
 -- it ends at one answer
 pub ended : {outcome : List DataAnswer → Outcome} {before : List DataAnswer} {ending : Ending}
     (after : List DataAnswer) (answer : DataAnswer) → after ≡ before ++ answer ∷ []
-    → ((later : List DataAnswer) → outcome (answer ∷ later) ≡ ends_with ending)
+    → ((later : List DataAnswer) → outcome (answer ∷ later) ≡ ends_after 1 ending)
     → CameTo outcome before after ending []
 ended after answer is ends = record { answers = answer ∷ []; answered = is; came_to = ends }
 
 module _ {start : List DataAnswer → Outcome} {before now : List DataAnswer} {bytes : Bytes}
-    {rest : List DataAnswer → Outcome} (s : Reaches start before now bytes rest) where
+    {rest : List DataAnswer → Outcome} (s : GoesOn start before now bytes rest) where
   -- with one answer more
   pub one_more : {rest' : List DataAnswer → Outcome} (now' : List DataAnswer) (answer : DataAnswer)
       (piece : Bytes) → now' ≡ now ++ answer ∷ []
       → ((later : List DataAnswer) → rest (answer ∷ later) ≡ preceded_by 1 piece (rest' later))
-      → Reaches start before now' (bytes ++ piece) rest'
+      → GoesOn start before now' (bytes ++ piece) rest'
   one_more {rest'} now' answer piece is goes = record {
     answers = s.answers ++ answer ∷ [];
     answered = is ∙ ap (λ answers. answers ++ answer ∷ []) s.answered
@@ -88,87 +78,58 @@ module _ {start : List DataAnswer → Outcome} {before now : List DataAnswer} {b
 
 -- ---- sending
 
+offered : (bytes : Bytes) → bytes_eq bytes bytes ≡ true
+offered bytes = (bytes_eq-Decides bytes bytes).1 refl
+
 pub took : (rest : Bytes) (n : ℕ) → 0 < length rest → 0 < n → (later : List DataAnswer)
-    → sending rest (Took n ∷ later) ≡ preceded_by 1 (take n rest) (sending (drop n rest) later)
+    → sending rest (Took rest n ∷ later) ≡ preceded_by 1 (take n rest) (sending (drop n rest) later)
 took [] n some more later = absurd (omega (arith, some))
 took (b ∷ rest) zero some more later = absurd (omega (arith, more))
-took (b ∷ rest) (suc n) some more later = refl
+took (b ∷ rest) (suc n) some more later = rw (offered (b ∷ rest)) refl
 
--- ---- in the loops
+took_none : (rest : Bytes) → 0 < length rest → (later : List DataAnswer)
+    → sending rest (Took rest 0 ∷ later) ≡ ends_after 1 Aborted
+took_none [] some later = absurd (omega (arith, some))
+took_none (b ∷ rest) some later = rw (offered (b ∷ rest)) refl
 
-append_known-append : (known : Option Bytes) (bytes more : Bytes)
-    → append_known (append_known known bytes) more ≡ append_known known (bytes ++ more)
-append_known-append None bytes more = refl
-append_known-append (Some known) bytes more = ap Some (append_assoc known bytes more)
-
-append_known-nil : (known : Option Bytes) → append_known known [] ≡ known
-append_known-nil None = refl
-append_known-nil (Some known) = ap Some (append-nil known)
-
-with_sent-append : (sent : SentBytes) (bytes more : Bytes)
-    → with_sent (with_sent sent bytes) more ≡ with_sent sent (bytes ++ more)
-with_sent-append sent bytes more = let sent_of : Bytes → Option Bytes → SentBytes =
-    λ taken contents. record { taken = taken; contents = contents } in
-    (λ i. sent_of (append_assoc sent.taken bytes more i)
-    (append_known-append sent.contents bytes more i))
-
-with_sent-nil : (sent : SentBytes) → with_sent sent [] ≡ sent
-with_sent-nil sent = let sent_of : Bytes → Option Bytes → SentBytes =
-    λ taken contents. record { taken = taken; contents = contents } in
-    (λ i. sent_of (append-nil sent.taken i) (append_known-nil sent.contents i))
-
--- so much of the bytes was sent, and the rest is to be sent
-pub record Retrieving (bytes rest : Bytes) (before now : List DataAnswer)
-    (sent sent' : SentBytes) : Type 0 where
+-- some of the bytes were sent, and the rest is to be sent
+pub record Retrieving (bytes rest : Bytes) (before now : List DataAnswer) : Type 0 where
   pub so_far : Bytes
-  pub were_sent : sent' ≡ with_sent sent so_far
-  pub reaches : Reaches (with_opening (sending bytes)) before now so_far (sending rest)
+  pub goes_on : GoesOn (with_opening (sending bytes)) before now so_far (sending rest)
+
+pub sent_more : {bytes rest : Bytes} {before now : List DataAnswer} (n : ℕ)
+    → Retrieving bytes rest before now → 0 < length rest → 0 < n
+    → (now' : List DataAnswer) → now' ≡ now ++ Took rest n ∷ []
+    → Retrieving bytes (drop n rest) before now'
+sent_more {rest = rest} n so some more now' answered = record {
+  so_far = so.so_far ++ take n rest;
+  goes_on = one_more so.goes_on now' (Took rest n) (take n rest) answered (took rest n some more);
+}
+
+-- what a transfer came to that ends so
+abbrev Sent : Bytes → List DataAnswer → List DataAnswer → Ending → Type 0
+Sent bytes before after ending =
+    (sent : Bytes) × CameTo (with_opening (sending bytes)) before after ending sent
+
+module _ {bytes : Bytes} {before now : List DataAnswer} where
+  pub sent_all : (rest : Bytes) → Retrieving bytes rest before now → length rest ≡ 0
+      → {after : List DataAnswer} {ending : Ending} → CameTo closing now after ending []
+      → Sent bytes before after ending
+  sent_all [] so none came = (so.so_far, came_on so.goes_on came)
+  sent_all (b ∷ rest) so none came = absurd (omega (arith, none))
+
+  pub sent_part : (rest : Bytes) → Retrieving bytes rest before now → 0 < length rest
+      → {after : List DataAnswer} → after ≡ now ++ Took rest 0 ∷ [] → Sent bytes before after Aborted
+  sent_part rest so some is =
+      (so.so_far, came_on so.goes_on (ended _ (Took rest 0) is (took_none rest some)))
+
+-- ---- receiving
 
 -- so much was received and stored
 pub record Storing (before now : List DataAnswer) (stored stored' : Bytes) : Type 0 where
   pub so_far : Bytes
   pub were_stored : stored' ≡ stored ++ so_far
-  pub reaches : Reaches (with_opening receiving) before now so_far receiving
-
-pub none_sent : (sent sent' : SentBytes) → sent' ≡ sent → sent' ≡ with_sent sent []
-none_sent sent sent' same = same ∙ sym (with_sent-nil sent)
-
-pub sent_more : {bytes rest : Bytes} {before now : List DataAnswer} {sent sent' : SentBytes} (n : ℕ)
-    → Retrieving bytes rest before now sent sent' → 0 < length rest → 0 < n
-    → (now' : List DataAnswer) → now' ≡ now ++ Took n ∷ [] → (sent'' : SentBytes)
-    → sent'' ≡ with_sent sent' (take n rest)
-    → Retrieving bytes (drop n rest) before now' sent sent''
-sent_more {rest = rest} {sent = sent} n so some more now' answered sent'' were = record {
-  so_far = so.so_far ++ take n rest;
-  were_sent = were ∙ ap (λ sent. with_sent sent (take n rest)) so.were_sent
-      ∙ with_sent-append sent so.so_far (take n rest);
-  reaches = one_more so.reaches now' (Took n) (take n rest) answered (took rest n some more);
-}
-
--- what was sent is what a transfer came to that ends so
-abbrev Sent : Bytes → List DataAnswer → List DataAnswer → SentBytes → SentBytes → Ending → Type 0
-Sent bytes before after sent sent' ending = (x : Bytes) × (sent' ≡ with_sent sent x)
-    × CameTo (with_opening (sending bytes)) before after ending x
-
-module _ {bytes : Bytes} {before now : List DataAnswer} {sent sent' : SentBytes} where
-  pub sent_all : (rest : Bytes) → Retrieving bytes rest before now sent sent' → length rest ≡ 0
-      → {after : List DataAnswer} {ending : Ending} → CameTo closing now after ending []
-      → {sent'' : SentBytes} → sent'' ≡ sent' → Sent bytes before after sent sent'' ending
-  sent_all [] so none came same = (so.so_far, same ∙ so.were_sent, came_on so.reaches came)
-  sent_all (b ∷ rest) so none came same = absurd (omega (arith, none))
-
-  pub sent_part : (rest : Bytes) → Retrieving bytes rest before now sent sent' → 0 < length rest
-      → {after : List DataAnswer} → after ≡ now ++ Took 0 ∷ []
-      → {sent'' : SentBytes} → sent'' ≡ with_sent sent' []
-      → Sent bytes before after sent sent'' Aborted
-  sent_part [] so some is same = absurd (omega (arith, some))
-  sent_part (b ∷ rest) so some is same = (
-    so.so_far,
-    same ∙ with_sent-nil sent' ∙ so.were_sent,
-    came_on so.reaches (ended _ (Took 0) is (λ later. refl)),
-  )
-
--- ---- receiving
+  pub goes_on : GoesOn (with_opening receiving) before now so_far receiving
 
 -- what was stored is what a transfer came to that ends so
 abbrev Stored : List DataAnswer → List DataAnswer → Bytes → Bytes → Ending → Type 0
@@ -183,22 +144,35 @@ module _ {before now : List DataAnswer} {stored stored' : Bytes}
   stored_all is came = (
     so.so_far ++ [],
     so.were_stored ∙ ap (λ bytes. stored ++ bytes) (sym (append-nil so.so_far)),
-    came_on (one_more so.reaches {rest' = closing} now' (Gave []) [] is (λ later. refl)) came,
+    came_on (one_more so.goes_on {rest' = closing} now' (Gave []) [] is (λ later. refl)) came,
   )
 
-  pub stored_part : now' ≡ now ++ Failed ∷ [] → Stored before now' stored stored' Aborted
+  pub stored_part : now' ≡ now ++ ReceiveFailed ∷ [] → Stored before now' stored stored' Aborted
   stored_part is = (
     so.so_far,
     so.were_stored,
-    came_on so.reaches (ended now' Failed is (λ later. refl)),
+    came_on so.goes_on (ended now' ReceiveFailed is (λ later. refl)),
   )
+
+  received_more : (piece : Bytes) → 0 < length piece → now' ≡ now ++ Gave piece ∷ []
+      → GoesOn (with_opening receiving) before now' (so.so_far ++ piece) receiving
+  received_more [] some is = absurd (omega (arith, some))
+  received_more (b ∷ piece) some is =
+      one_more so.goes_on now' (Gave (b ∷ piece)) (b ∷ piece) is (λ later. refl)
 
   pub stored_more : (piece : Bytes) → 0 < length piece → now' ≡ now ++ Gave piece ∷ []
       → {stored'' : Bytes} → stored'' ≡ stored' ++ piece → Storing before now' stored stored''
-  stored_more [] some is more = absurd (omega (arith, some))
-  stored_more (b ∷ piece) some is more = record {
-    so_far = so.so_far ++ b ∷ piece;
-    were_stored = more ∙ ap (λ stored. stored ++ b ∷ piece) so.were_stored
-        ∙ append_assoc stored so.so_far (b ∷ piece);
-    reaches = one_more so.reaches now' (Gave (b ∷ piece)) (b ∷ piece) is (λ later. refl);
+  stored_more piece some is more = record {
+    so_far = so.so_far ++ piece;
+    were_stored = more ∙ ap (λ stored. stored ++ piece) so.were_stored
+        ∙ append_assoc stored so.so_far piece;
+    goes_on = received_more piece some is;
   }
+
+  pub cut_off : (piece : Bytes) → 0 < length piece → now' ≡ now ++ Gave piece ∷ []
+      → IsCutOff before now'
+  cut_off piece some is = (
+    so.so_far ++ piece,
+    λ none. absurd (omega (arith, some, ap length none, length-append so.so_far piece)),
+    received_more piece some is,
+  )

@@ -1,39 +1,51 @@
 -- What a data connection answers to its calls (RFC 959, section 3.2).
-use Rattle.std.specs.Prelude.{ℕ, Bool, is_ok, ◌==◌, if◌then◌else◌, take, [], Result, Ok, Err}
+use Rattle.std.specs.Prelude.{ℕ, ◌==◌, if◌then◌else◌, take, List, [], ◌∷◌, ◌++◌, Result, Ok, Err}
 use Rattle.unftp_control_defs.specs.Bytes.{Bytes}
 
--- It failed; it did what the call asks; it took so many bytes; it gave these bytes, of which there
--- are none at the end of the data.
+-- It was opened; of these bytes it took so many of the first; it gave these bytes, of which there
+-- are none at the end of the data; it was closed; or this call failed.
 pub data DataAnswer : Type 0 where
-  Failed : DataAnswer
-  Done : DataAnswer
-  Took : ℕ → DataAnswer
+  Opened : DataAnswer
+  Took : Bytes → ℕ → DataAnswer
   Gave : Bytes → DataAnswer
+  Closed : DataAnswer
+  OpenFailed : DataAnswer
+  SendFailed : DataAnswer
+  ReceiveFailed : DataAnswer
+  CloseFailed : DataAnswer
 
-abbrev pub done_or_failed : Bool → DataAnswer
-done_or_failed done = if done then Done else Failed
+abbrev pub answer_to_open : {T E : Type 0} → Result T E → DataAnswer
+answer_to_open (Ok _) = Opened
+answer_to_open (Err _) = OpenFailed
 
--- to an opening or a closing
-abbrev pub answer_to_call : {T E : Type 0} → Result T E → DataAnswer
-answer_to_call result = done_or_failed (is_ok result)
+-- where these bytes were offered to it
+abbrev pub answer_to_send : {E : Type 0} → Bytes → Result ℕ E → DataAnswer
+answer_to_send bytes (Ok n) = Took bytes n
+answer_to_send bytes (Err _) = SendFailed
 
--- to bytes that were offered to it
-abbrev pub answer_to_send : {E : Type 0} → Result ℕ E → DataAnswer
-answer_to_send (Ok n) = Took n
-answer_to_send (Err _) = Failed
+-- where it filled a buffer so
+abbrev pub answer_to_receive : {E : Type 0} → Bytes → Result ℕ E → DataAnswer
+answer_to_receive buffer (Ok n) = Gave (take n buffer)
+answer_to_receive buffer (Err _) = ReceiveFailed
 
--- and what it took of them
-abbrev pub sent_by : {E : Type 0} → Result ℕ E → Bytes → Bytes
-sent_by (Ok n) bytes = take n bytes
-sent_by (Err _) bytes = []
-
--- to a buffer, which it filled so
-abbrev pub answer_to_receive : {E : Type 0} → Result ℕ E → Bytes → DataAnswer
-answer_to_receive (Ok n) buffer = Gave (take n buffer)
-answer_to_receive (Err _) buffer = Failed
+abbrev pub answer_to_close : {T E : Type 0} → Result T E → DataAnswer
+answer_to_close (Ok _) = Closed
+answer_to_close (Err _) = CloseFailed
 
 -- by number, of so many bytes
 abbrev pub numbered_answer : ℕ → ℕ → Bytes → DataAnswer
-numbered_answer number n bytes =
-    if number == 0 then Failed else if number == 1 then Done else if number == 2 then Took n
-    else Gave (take n bytes)
+numbered_answer number n bytes = if number == 0 then Opened else if number == 1 then Took bytes n
+    else if number == 2 then Gave (take n bytes) else if number == 3 then Closed
+    else if number == 4 then OpenFailed else if number == 5 then SendFailed
+    else if number == 6 then ReceiveFailed else CloseFailed
+
+-- all bytes that it took, and all that it gave
+abbrev pub taken : List DataAnswer → Bytes
+taken [] = []
+taken (Took bytes n ∷ answers) = take n bytes ++ taken answers
+taken (_ ∷ answers) = taken answers
+
+abbrev pub given : List DataAnswer → Bytes
+given [] = []
+given (Gave bytes ∷ answers) = bytes ++ given answers
+given (_ ∷ answers) = given answers

@@ -6,21 +6,10 @@ use Rattle.unftp_control_defs.specs.FtpCommand.{Retr, Stor}
 use Rattle.unftp_control_defs.specs.FtpReply.{FtpReply}
 use Rattle.unftp_control_defs.specs.Run.{after, said, turn}
 use Rattle.unftp_control_serve.specs.Writing.{Begins}
-use Rattle.transferring.specs.Answers.{DataAnswer, Gave}
-use Rattle.transferring.specs.Sent.{with_sent}
+use Rattle.transferring.specs.Answers.{DataAnswer, given, taken}
 use Rattle.transferring.specs.Transfers.{TransferState, final_reply, opening_reply, transfers_law}
 use Rattle.transferring.specs.declared.transfer.Ending.{Ending}
 use Rattle.transferring.specs.declared.transfer.Ending.TheVariants.{Complete}
-
--- the bytes that the data connection gave in these answers
-abbrev pub given : List DataAnswer → Bytes
-given [] = []
-given (Gave bytes ∷ answers) = bytes ++ given answers
-given (_ ∷ answers) = given answers
-
--- the answers to the calls between two states
-abbrev pub answers_between : TransferState → TransferState → List DataAnswer → List DataAnswer
-answers_between s s' answers = take (s'.used - s.used) (drop s.used answers)
 
 module _ (answers : List DataAnswer) (s : TransferState) where
   abbrev pub state_after_event : FtpEvent → TransferState
@@ -29,50 +18,51 @@ module _ (answers : List DataAnswer) (s : TransferState) where
   abbrev pub replies_to : FtpEvent → List FtpReply
   replies_to event = said (turn (transfers_law answers) s event)
 
-  -- it is answered 150 and then 226
-  abbrev pub Completes : FtpEvent → Type 0
-  Completes event = replies_to event ≡ opening_reply ∷ final_reply Complete ∷ []
+  -- what the data connection answers to the calls for an event
+  abbrev pub answers_for : FtpEvent → List DataAnswer
+  answers_for event = take ((state_after_event event).used - s.used) (drop s.used answers)
 
-  -- RETR: 150, and one final reply. These bytes were sent: a beginning of the file from the offset
-  -- on, and all of it where the final reply is 226.
-  pub record Retrieves (path : Bytes) : Type 0 where
+-- the replies are 150 and then 226
+abbrev pub Completes : List FtpReply → Type 0
+Completes replies = replies ≡ opening_reply ∷ final_reply Complete ∷ []
+
+-- the states before and after an event, its replies, and what the data connection answered for it
+abbrev pub AtEvent : (TransferState → TransferState → List FtpReply → List DataAnswer → Type 0)
+    → List DataAnswer → TransferState → FtpEvent → Type 0
+AtEvent IsSo answers s event = IsSo s (state_after_event answers s event)
+    (replies_to answers s event) (answers_for answers s event)
+
+module _ (s s' : TransferState) (replies : List FtpReply) (answers : List DataAnswer) where
+  -- RETR: 150, and one final reply. What was sent is a beginning of the file from the offset on,
+  -- and all of it where the final reply is 226.
+  pub record Retrieves : Type 0 where
     pub ending : Ending
-    pub replies : replies_to (Command (Retr path)) ≡ opening_reply ∷ final_reply ending ∷ []
-    pub sent : Bytes
-    pub were_sent : (state_after_event (Command (Retr path))).sent ≡ with_sent s.sent sent
-    pub beginning : Begins (drop s.offset s.file) sent
-    pub all : Completes (Command (Retr path)) → sent ≡ drop s.offset s.file
-    pub kept : (state_after_event (Command (Retr path))).file ≡ s.file
-
-  -- the bytes that were received for STOR
-  abbrev pub received_for : Bytes → Bytes
-  received_for path =
-      given (answers_between s (state_after_event (Command (Stor path))) answers)
+    pub replied : replies ≡ opening_reply ∷ final_reply ending ∷ []
+    pub beginning : Begins (drop s.offset s.file) (taken answers)
+    pub all : Completes replies → taken answers ≡ drop s.offset s.file
+    pub kept : s'.file ≡ s.file
 
   -- STOR: 150, and one final reply. Where that is 226, what was received comes after the bytes
   -- before the offset; else the file is as it was.
-  pub record Stores (path : Bytes) : Type 0 where
+  pub record Stores : Type 0 where
     pub ending : Ending
-    pub replies : replies_to (Command (Stor path)) ≡ opening_reply ∷ final_reply ending ∷ []
-    pub all : Completes (Command (Stor path))
-        → (state_after_event (Command (Stor path))).file
-        ≡ take s.offset s.file ++ received_for path
-    pub kept : ¬ Completes (Command (Stor path))
-        → (state_after_event (Command (Stor path))).file ≡ s.file
-    pub none_sent : (state_after_event (Command (Stor path))).sent ≡ s.sent
+    pub replied : replies ≡ opening_reply ∷ final_reply ending ∷ []
+    pub all : Completes replies → s'.file ≡ take s.offset s.file ++ given answers
+    pub kept : ¬ Completes replies → s'.file ≡ s.file
+    pub none_sent : taken answers ≡ []
+
+  -- Any other event: nothing is transferred, and no call is made.
+  pub record TransfersNothing : Type 0 where
+    pub file : s'.file ≡ s.file
+    pub no_call : answers ≡ []
+    pub used : s'.used ≡ s.used
 
 -- STOR at no offset, and then RETR: where both are answered 226, the bytes that are sent are those
 -- that were received.
 abbrev pub ComesBack : List DataAnswer → TransferState → Bytes → Bytes → Type 0
 ComesBack answers s to from =
     let stored = state_after_event answers s (Command (Stor to)) in
-    s.offset ≡ 0 → Completes answers s (Command (Stor to))
-    → Completes answers stored (Command (Retr from))
-    → (state_after_event answers stored (Command (Retr from))).sent
-    ≡ with_sent s.sent (received_for answers s to)
-
--- Nothing was transferred between two states.
-pub record TransfersNothing (s s' : TransferState) : Type 0 where
-  pub file : s'.file ≡ s.file
-  pub sent : s'.sent ≡ s.sent
-  pub used : s'.used ≡ s.used
+    s.offset ≡ 0 → Completes (replies_to answers s (Command (Stor to)))
+    → Completes (replies_to answers stored (Command (Retr from)))
+    → taken (answers_for answers stored (Command (Retr from)))
+    ≡ given (answers_for answers s (Command (Stor to)))

@@ -1,5 +1,5 @@
 pub mod Answers
-pub mod Sent
 pub mod Transfers
 pub mod CameTo
 pub mod Laws
+pub mod Examples

@@ -1,12 +1,11 @@
 -- What transfers come to, by what the data connection answers; and the law of a session with them.
-use Rattle.std.specs.Prelude.{◌≡◌, ℕ, suc, ◌+◌, nat_le, Bool, false, if◌then◌else◌, List, [], ◌∷◌, ◌++◌, drop, length, take, codes, Option, None, Some, option_to_list}
+use Rattle.std.specs.Prelude.{◌≡◌, ℕ, zero, suc, ◌+◌, nat_le, Bool, false, if◌then◌else◌, List, [], ◌∷◌, ◌++◌, bytes_eq, drop, length, take, codes, Option, None, Some, option_to_list}
 use Rattle.unftp_control_defs.specs.Bytes.{Bytes}
 use Rattle.unftp_control_defs.specs.Events.{FtpEvent, Command, Refused, is_quit, out_of_memory}
 use Rattle.unftp_control_defs.specs.FtpCommand as line
 use Rattle.unftp_control_defs.specs.FtpReply.{FtpReply, CodeAndMsg}
 use Rattle.unftp_control_defs.specs.Run.{SessionLaw}
-use Rattle.transferring.specs.Answers.{DataAnswer, Done, Took, Gave}
-use Rattle.transferring.specs.Sent.{SentBytes, sent_over, with_sent}
+use Rattle.transferring.specs.Answers.{DataAnswer, Opened, Took, Gave, Closed, OpenFailed, SendFailed, ReceiveFailed, CloseFailed}
 use Rattle.transferring.specs.declared.transfer.Ending.{Ending}
 use Rattle.transferring.specs.declared.transfer.Ending.TheVariants.{Complete, NotOpened, Aborted, NotClosed}
 use Rattle.transferring.specs.declared.transfer.Transfer.{Transfer}
@@ -21,9 +20,9 @@ pub record Outcome : Type 0 where
   pub used : ℕ
   pub bytes : Bytes
 
--- at the first of the answers
-abbrev pub ends_with : Ending → Outcome
-ends_with ending = record { ending = ending; used = 1; bytes = [] }
+-- after so many answers and no bytes
+abbrev pub ends_after : ℕ → Ending → Outcome
+ends_after used ending = record { ending = ending; used = used; bytes = [] }
 
 -- after so many answers and these bytes
 abbrev pub preceded_by : ℕ → Bytes → Outcome → Outcome
@@ -33,28 +32,36 @@ preceded_by n bytes later = record {
   bytes = bytes ++ later.bytes;
 }
 
--- The connection is closed, then all is done;
+-- The connection is closed, then all is done. Here and below an answer to any other call is not
+-- used.
 abbrev pub closing : List DataAnswer → Outcome
-closing (Done ∷ answers) = ends_with Complete
-closing _ = ends_with NotClosed
+closing (Closed ∷ answers) = ends_after 1 Complete
+closing (CloseFailed ∷ answers) = ends_after 1 NotClosed
+closing _ = ends_after 0 NotClosed
 
--- these bytes are sent, each time as many as it takes, and then it is closed;
+-- These bytes are offered, each time all that are left, until it took them, and then it is closed.
 abbrev pub sending : Bytes → List DataAnswer → Outcome
 sending [] answers = closing answers
-sending (b ∷ bytes) (Took (suc n) ∷ answers) =
-    preceded_by 1 (take (suc n) (b ∷ bytes)) (sending (drop (suc n) (b ∷ bytes)) answers)
-sending (b ∷ bytes) _ = ends_with Aborted
+sending (b ∷ bytes) (Took offered (suc n) ∷ answers) = if bytes_eq offered (b ∷ bytes)
+    then preceded_by 1 (take (suc n) (b ∷ bytes)) (sending (drop (suc n) (b ∷ bytes)) answers)
+    else ends_after 0 Aborted
+sending (b ∷ bytes) (Took offered zero ∷ answers) =
+    ends_after (if bytes_eq offered (b ∷ bytes) then 1 else 0) Aborted
+sending (b ∷ bytes) (SendFailed ∷ answers) = ends_after 1 Aborted
+sending (b ∷ bytes) _ = ends_after 0 Aborted
 
--- bytes are received until it gives none, and then it is closed;
+-- Bytes are received until it gives none, and then it is closed.
 abbrev pub receiving : List DataAnswer → Outcome
 receiving (Gave [] ∷ answers) = preceded_by 1 [] (closing answers)
 receiving (Gave (b ∷ bytes) ∷ answers) = preceded_by 1 (b ∷ bytes) (receiving answers)
-receiving _ = ends_with Aborted
+receiving (ReceiveFailed ∷ answers) = ends_after 1 Aborted
+receiving _ = ends_after 0 Aborted
 
--- first of all it is opened.
+-- First of all it is opened.
 abbrev pub with_opening : (List DataAnswer → Outcome) → List DataAnswer → Outcome
-with_opening transfer (Done ∷ answers) = preceded_by 1 [] (transfer answers)
-with_opening transfer _ = ends_with NotOpened
+with_opening transfer (Opened ∷ answers) = preceded_by 1 [] (transfer answers)
+with_opening transfer (OpenFailed ∷ answers) = ends_after 1 NotOpened
+with_opening transfer _ = ends_after 0 NotOpened
 
 -- a transfer of the file from here on
 abbrev pub outcome_of : Transfer → Bytes → List DataAnswer → Outcome
@@ -63,43 +70,36 @@ outcome_of Store bytes = with_opening receiving
 
 -- ---- the session
 
--- Which transfer is to follow; where in the file it begins (RFC 3659, section 5); the file; all
--- bytes that were sent over the data connection; how many of its answers were used; and whether
--- QUIT came.
+-- Which transfer is to follow; where in the file it begins (RFC 3659, section 5); the file; how many
+-- answers of the data connection were used; and whether QUIT came.
 pub record TransferState : Type 0 where
   pub pending : Option Transfer
   pub offset : ℕ
   pub file : Bytes
-  pub sent : SentBytes
   pub used : ℕ
   pub quit : Bool
 
--- of a session over a connection with these contents
-abbrev pub state_of : {D : Type 0} → (D → Option Bytes) → Transfers D → TransferState
-state_of contents transfers = record {
+-- of a session over a connection that has given these answers
+abbrev pub state_of : {D : Type 0} → (D → List DataAnswer) → Transfers D → TransferState
+state_of answers transfers = record {
   pending = transfers.pending;
   offset = transfers.offset;
   file = transfers.file.items;
-  sent = sent_over contents transfers.connection;
-  used = length transfers.connection.answers;
+  used = length (answers transfers.connection);
   quit = transfers.quit;
 }
 
--- all that its data connection has answered so far, and how often it failed
-abbrev pub answers_of : {D : Type 0} → Transfers D → List DataAnswer
-answers_of transfers = transfers.connection.answers
-
+-- how often it failed
 abbrev pub failures_of : {D : Type 0} → Transfers D → ℕ
 failures_of transfers = transfers.failures
 
 -- before the first event
-abbrev pub at_start : Option Bytes → Bytes → TransferState
-at_start contents file = record {
+abbrev pub at_start : List DataAnswer → Bytes → TransferState
+at_start answers file = record {
   pending = None;
   offset = 0;
   file = file;
-  sent = record { taken = []; contents = contents };
-  used = 0;
+  used = length answers;
   quit = false;
 }
 
@@ -155,7 +155,6 @@ abbrev pub after_transfer : TransferState → Transfer → Outcome → TransferS
 after_transfer s Retrieve outcome = record s {
   pending = None;
   offset = 0;
-  sent = with_sent s.sent outcome.bytes;
   used = s.used + outcome.used;
 }
 after_transfer s Store outcome = record s {
@@ -189,7 +188,7 @@ transfers_law answers = record {
   };
   more = λ s. follow_up s s.pending answers;
   may_fail = λ s event fault. fault ≡ out_of_memory;
-  may_break = λ s fault. fault ≡ out_of_memory;
+  may_break = λ s fault. ¬ (s.pending ≡ None) × (fault ≡ out_of_memory);
   done = λ s. s.quit;
 }
 

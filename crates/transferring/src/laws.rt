@@ -1,11 +1,12 @@
 //! Laws of sessions with transfers, each the contract of a function that does nothing.
 ghost use Rattle.std.specs.Prelude.{◌≡◌, List, None};
 ghost use Rattle.unftp_control_defs.specs.Bytes.{Bytes};
-ghost use Rattle.unftp_control_defs.specs.Events.{FtpEvent};
+ghost use Rattle.unftp_control_defs.specs.Events.{FtpEvent, Command};
+ghost use Rattle.unftp_control_defs.specs.FtpCommand.{Retr, Stor};
 ghost use Rattle.unftp_control_defs.specs.FtpReply.{IsReadable};
 ghost use Rattle.unftp_control_defs.specs.Turns.{GivesExchanges, SaysOnly};
 ghost use Rattle.transferring.specs.Answers.{DataAnswer};
-ghost use Rattle.transferring.specs.Laws.{ComesBack, Retrieves, Stores, TransfersNothing, state_after_event};
+ghost use Rattle.transferring.specs.Laws.{AtEvent, ComesBack, Retrieves, Stores, TransfersNothing};
 ghost use Rattle.transferring.specs.Transfers.{TransferState, transfer_of, transfers_law};
 
 /// Whatever the data connection answers, each event has preliminary replies, and then one that is
@@ -18,18 +19,16 @@ pub fn transfers_are_exchanges()
 
 /// A RETR that is answered 226 has sent exactly the bytes of the file from the offset of REST on,
 /// in order; with another reply a beginning of them was sent.
-#[tactic(auto, using(crate::proofs::LawLemmas::retrieves))]
 pub fn all_is_sent()
     ensures { (answers : List DataAnswer) (s : TransferState) (path : Bytes)
-        → Retrieves answers s path }
+        → AtEvent Retrieves answers s (Command (Retr path)) }
 {}
 
 /// A STOR that is answered 226 has stored exactly the bytes that the connection gave, after those
 /// before the offset of REST; with another reply the file is as it was.
-#[tactic(auto, using(crate::proofs::LawLemmas::stores))]
 pub fn all_is_stored()
     ensures { (answers : List DataAnswer) (s : TransferState) (path : Bytes)
-        → Stores answers s path }
+        → AtEvent Stores answers s (Command (Stor path)) }
 {}
 
 /// What was stored and then retrieved, each answered 226, is the same bytes.
@@ -43,5 +42,5 @@ pub fn files_come_back()
 pub fn other_events_transfer_nothing()
     ensures { (answers : List DataAnswer) (s : TransferState) (event : FtpEvent)
         → transfer_of event ≡ None
-        → TransfersNothing s (state_after_event answers s event) }
+        → AtEvent TransfersNothing answers s event }
 {}

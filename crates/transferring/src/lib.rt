@@ -3,11 +3,12 @@
 
 mod answers;
 mod data;
+pub mod examples;
 pub mod laws;
 mod transfer;
 mod transfers;
 
 pub use answers::Answers;
-pub use data::{Data, DataConnection};
+pub use data::DataConnection;
 pub use transfer::{Ending, Transfer};
 pub use transfers::{Transfers, serve_transfers};

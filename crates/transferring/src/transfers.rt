@@ -1,20 +1,21 @@
 //! A session that transfers a file.
-ghost use Rattle.std.specs.Prelude.{◌≡◌, ◌∷◌, [], List, None, Some, IfErr, IfOk, IfSome};
+ghost use Rattle.std.specs.Prelude.{◌≡◌, ◌+◌, ◌<◌, ◌∷◌, [], List, None, Some, IfErr, IfOk, IfSome, OnErr, OnOk};
 ghost use Rattle.std.specs.Io.KnownBytes.{Appends};
 ghost use Rattle.unftp_control_defs.specs.Events.{out_of_memory};
-ghost use Rattle.unftp_control_defs.specs.Run.{last_state, run_for, text_for};
+ghost use Rattle.unftp_control_defs.specs.Run.{Follows, last_state, run_for, text_for};
 ghost use Rattle.unftp_control_defs.specs.Input.{input_state_of};
 ghost use Rattle.unftp_control_serve.specs.Endings.{snapshot_of};
 ghost use Rattle.unftp_control_serve.specs.Service.{ServeEnded, Serves};
 ghost use Rattle.unftp_control_message.specs.ErrorMeaning.{fault_of};
 ghost use Rattle.unftp_control_message.specs.ReplyMeaning.{reply_of};
-ghost use Rattle.unftp_control_serve.specs.EventMeaning.{event_meant};
+ghost use Rattle.unftp_control_serve.specs.EventMeaning.{event_meant, further_of};
 ghost use Rattle.unftp_control_serve.specs.Writing.{Begins};
 ghost use Rattle.transferring.specs.Answers.{DataAnswer};
-ghost use Rattle.transferring.specs.Transfers.{answers_of, at_start, failures_of, final_reply, first_reply, follow_up, offset_after, state_of, transfer_of, transfers_law};
+ghost use Rattle.transferring.specs.CameTo.{RanOut};
+ghost use Rattle.transferring.specs.Transfers.{at_start, failures_of, first_reply, follow_up, left_in, offset_after, state_of, transfer_of, transfers_law};
 
-use crate::data::{Data, DataConnection};
-use crate::transfer::{Ending, Transfer, retrieve, store};
+use crate::data::DataConnection;
+use crate::transfer::{Transfer, final_reply, retrieve, store};
 use std::alloc::Global;
 use std::io::{Read, Write};
 use unftp_control_message::Command;
@@ -26,10 +27,11 @@ use unftp_control_serve::{Count, Event, Input, Output, ServeError, Served, Sessi
 /// they name (RFC 959, section 4.1.3), from the offset of REST on (RFC 3659, section 5). Both are
 /// answered 150 before the transfer, and 226, 425, 426 or 451 after it (RFC 959, section 5.4).
 ///
-/// It fails only when out of memory. Where that is in a transfer, the data connection is left open.
+/// It fails only when out of memory, and the file is as it was then. Where that is for bytes that
+/// STOR received, the data connection is left open.
 #[derive(Drop)]
 pub struct Transfers<D: DataConnection> {
-    connection: Data<D>,
+    connection: D,
     file: Vec<u8>,
     offset: usize,
     pending: Option<Transfer>,
@@ -40,13 +42,12 @@ pub struct Transfers<D: DataConnection> {
 impl<D: DataConnection> Transfers<D> {
     /// A session with this file, before the first event.
     pub fn new(connection: D, file: Vec<u8>) -> Transfers<D>
-        ensures state { state_of D.contents result
-            ≡ at_start (D.contents connection) file.items }
-        ensures answers { answers_of result ≡ [] }
+        ensures connection { result.connection ≡ connection }
+        ensures state { state_of D.answers result ≡ at_start (D.answers connection) file.items }
         ensures failures { failures_of result ≡ 0 }
     {
         Transfers {
-            connection: Data::new(connection),
+            connection,
             file,
             offset: 0,
             pending: None,
@@ -64,47 +65,37 @@ impl<D: DataConnection> Transfers<D> {
 
     /// The data connection.
     pub fn connection(&self) -> &D
-        ensures { result.now ≡ self.now.connection.inner }
+        ensures { result.now ≡ self.now.connection }
     {
-        self.connection.inner()
+        &self.connection
     }
 
-    /// Makes this transfer, and returns the reply after it. It fails only when out of memory.
+    /// Makes this transfer, and returns the reply after it. It fails only when out of memory: for
+    /// that reply, or for what STOR keeps.
     fn answer_transfer(
         &mut self,
         alloc: Global,
         transfer: Transfer,
     ) -> Result<Reply, ControlChanError>
         requires { self.old.pending ≡ None }
-        ensures heard { Begins (answers_of self.new) (answers_of self.old) }
+        ensures heard { Begins (D.answers self.new.connection) (D.answers self.old.connection) }
         ensures ok { IfOk result (λ reply. (answers : List DataAnswer)
-            → Begins answers (answers_of self.new)
-            → follow_up (state_of D.contents self.old) (Some transfer) answers
-            ≡ (reply_of reply, state_of D.contents self.new) ∷ []) }
+            → Begins answers (D.answers self.new.connection)
+            → follow_up (state_of D.answers self.old) (Some transfer) answers
+            ≡ (reply_of reply, state_of D.answers self.new) ∷ []) }
         ensures pending { self.new.pending ≡ None }
         ensures failures { self.new.failures ≡ self.old.failures }
         ensures err { IfErr result (λ error. fault_of error ≡ out_of_memory) }
-    {
-        let ending = self.transfer(alloc, transfer)?;
-        final_reply(alloc, ending)
-    }
-
-    /// Makes this transfer. It fails only when out of memory.
-    fn transfer(&mut self, alloc: Global, transfer: Transfer) -> Result<Ending, ControlChanError>
-        requires { self.old.pending ≡ None }
-        ensures heard { Begins (answers_of self.new) (answers_of self.old) }
-        ensures ok { IfOk result (λ ending. (answers : List DataAnswer)
-            → Begins answers (answers_of self.new)
-            → follow_up (state_of D.contents self.old) (Some transfer) answers
-            ≡ (final_reply ending, state_of D.contents self.new) ∷ []) }
-        ensures pending { self.new.pending ≡ None }
-        ensures failures { self.new.failures ≡ self.old.failures }
-        ensures err { IfErr result (λ error. fault_of error ≡ out_of_memory) }
+        ensures kept { OnErr result (self.new.file.items ≡ self.old.file.items) }
+        ensures ran_out { OnErr result (RanOut (D.answers self.old.connection)
+            (D.answers self.new.connection) transfer self.old.offset self.old.file.items) }
     {
         let offset = self.offset;
         self.offset = 0;
         match transfer {
-            Transfer::Retrieve => Ok(retrieve(&mut self.connection, &self.file, offset)),
+            Transfer::Retrieve => {
+                final_reply(alloc, retrieve(&mut self.connection, &self.file, offset))
+            }
             Transfer::Store => store(alloc, &mut self.connection, &mut self.file, offset),
         }
     }
@@ -165,37 +156,17 @@ fn first_reply(alloc: Global, end: usize, event: &Event) -> Result<Reply, Contro
     Reply::new(alloc, code, text)
 }
 
-/// The reply after a transfer. It fails only when out of memory.
-fn final_reply(alloc: Global, ending: Ending) -> Result<Reply, ControlChanError>
-    ensures ok { IfOk result (λ reply. reply_of reply ≡ final_reply ending) }
-    ensures err { IfErr result (λ error. fault_of error ≡ out_of_memory) }
-{
-    let (code, text) = match ending {
-        Ending::Complete => (ReplyCode::ClosingDataConnection, "Transfer complete"),
-        Ending::NotOpened => (
-            ReplyCode::CantOpenDataConnection,
-            "Can't open data connection",
-        ),
-        Ending::Aborted => (
-            ReplyCode::ConnectionClosed,
-            "Connection closed; transfer aborted",
-        ),
-        Ending::NotClosed => (ReplyCode::LocalError, "Data connection could not be closed"),
-    };
-    Reply::new(alloc, code, text)
-}
-
 impl<D: DataConnection> Session for Transfers<D> {
     ghost use Rattle.transferring.specs.Answers.{DataAnswer};
-    ghost use Rattle.transferring.specs.Transfers.{TransferState, answers_of, failures_of, left_in, state_of, transfers_law};
+    ghost use Rattle.transferring.specs.Transfers.{TransferState, failures_of, left_in, state_of, transfers_law};
 
     ghost State = { TransferState };
 
     ghost Said = { DataAnswer };
 
-    ghost state = { state_of D.contents };
+    ghost state = { state_of D.answers };
 
-    ghost heard = { answers_of };
+    ghost heard = { λ transfers. D.answers transfers.connection };
 
     ghost law = { transfers_law };
 
@@ -203,7 +174,23 @@ impl<D: DataConnection> Session for Transfers<D> {
 
     ghost failures = { failures_of };
 
-    fn first(&mut self, alloc: Global, event: Event) -> Result<Reply, ControlChanError> {
+    /// The first reply to an event, which leaves the file as it is, and makes no call.
+    fn first(&mut self, alloc: Global, event: Event) -> Result<Reply, ControlChanError>
+        ensures heard { Begins (D.answers self.new.connection) (D.answers self.old.connection) }
+        ensures says { IfOk result (λ reply. (said : List DataAnswer)
+            → Begins said (D.answers self.new.connection) → reply_of reply
+            ≡ (transfers_law said).says (state_of D.answers self.old) (event_meant event)) }
+        ensures next { OnOk result ((said : List DataAnswer)
+            → Begins said (D.answers self.new.connection) → state_of D.answers self.new
+            ≡ (transfers_law said).next (state_of D.answers self.old) (event_meant event)) }
+        ensures quiet { OnOk result (failures_of self.new ≡ failures_of self.old) }
+        ensures may_fail { IfErr result (λ error. (said : List DataAnswer)
+            → Begins said (D.answers self.new.connection) → (transfers_law said).may_fail
+            (state_of D.answers self.old) (event_meant event) (fault_of error)) }
+        ensures counted { OnErr result (failures_of self.new ≡ failures_of self.old + 1) }
+        ensures kept { (self.new.file.items ≡ self.old.file.items)
+            × (self.new.connection ≡ self.old.connection) }
+    {
         let end = self.file.len();
         self.pending = transfer_of(&event);
         self.offset = offset_after(self.offset, end, &event);
@@ -216,7 +203,25 @@ impl<D: DataConnection> Session for Transfers<D> {
         reply
     }
 
-    fn further(&mut self, alloc: Global) -> Result<Option<Reply>, ControlChanError> {
+    /// The reply after the transfer that is to follow, which it makes. At an error the file is as
+    /// it was.
+    fn further(&mut self, alloc: Global) -> Result<Option<Reply>, ControlChanError>
+        ensures heard { Begins (D.answers self.new.connection) (D.answers self.old.connection) }
+        ensures follows { IfOk result (λ reply. (said : List DataAnswer)
+            → Begins said (D.answers self.new.connection) → Follows (transfers_law said)
+            (state_of D.answers self.old) (further_of reply) (state_of D.answers self.new)) }
+        ensures fewer { IfOk result (λ reply. IfSome reply (λ _.
+            left_in (state_of D.answers self.new) < left_in (state_of D.answers self.old))) }
+        ensures quiet { OnOk result (failures_of self.new ≡ failures_of self.old) }
+        ensures may_break { IfErr result (λ error. (said : List DataAnswer)
+            → Begins said (D.answers self.new.connection) → (transfers_law said).may_break
+            (state_of D.answers self.old) (fault_of error)) }
+        ensures counted { OnErr result (failures_of self.new ≡ failures_of self.old + 1) }
+        ensures kept { OnErr result (self.new.file.items ≡ self.old.file.items) }
+        ensures ran_out { OnErr result (IfSome self.old.pending (λ transfer.
+            RanOut (D.answers self.old.connection) (D.answers self.new.connection) transfer
+            self.old.offset self.old.file.items)) }
+    {
         let Some(transfer) = self.pending.take() else {
             return Ok(None);
         };
@@ -249,26 +254,26 @@ pub fn serve_transfers<R: Read, W: Write, D: DataConnection>(
     transfers: &mut Transfers<D>,
 ) -> Result<Served, ServeError>
     // At Ok, where the bytes of the input are known: what was written, byte by byte, by all that
-    // the data connection answered; and the last state: which bytes were sent over it, and the
-    // file.
+    // the data connection answered; and the last state: the file, and that each of its answers is
+    // one that the run used.
     ensures written { IfOk result (λ served. IfSome (R.remaining reader.old.reader) (λ input.
         Appends (W.contents writer.old.writer) (W.contents writer.new.writer)
-        (text_for None (transfers_law (answers_of transfers.new))
-        (state_of D.contents transfers.old) input))) }
+        (text_for None (transfers_law (D.answers transfers.new.connection))
+        (state_of D.answers transfers.old) input))) }
     ensures state { IfOk result (λ served. IfSome (R.remaining reader.old.reader) (λ input.
-        state_of D.contents transfers.new
-        ≡ last_state (transfers_law (answers_of transfers.new))
-        (state_of D.contents transfers.old)
-        (run_for None (transfers_law (answers_of transfers.new))
-        (state_of D.contents transfers.old) input))) }
+        state_of D.answers transfers.new
+        ≡ last_state (transfers_law (D.answers transfers.new.connection))
+        (state_of D.answers transfers.old)
+        (run_for None (transfers_law (D.answers transfers.new.connection))
+        (state_of D.answers transfers.old) input))) }
     // At Ok, of any reader and any writer, and at each error.
-    ensures ok { IfOk result (Serves None (transfers_law (answers_of transfers.new))
-        (snapshot_of (state_of D.contents) failures_of W.contents transfers.old writer.old)
-        (snapshot_of (state_of D.contents) failures_of W.contents transfers.new writer.new)
+    ensures ok { IfOk result (Serves None (transfers_law (D.answers transfers.new.connection))
+        (snapshot_of (state_of D.answers) failures_of W.contents transfers.old writer.old)
+        (snapshot_of (state_of D.answers) failures_of W.contents transfers.new writer.new)
         (input_state_of R.remaining reader.old) (input_state_of R.remaining reader.new)) }
-    ensures err { IfErr result (ServeEnded None (transfers_law (answers_of transfers.new))
-        (snapshot_of (state_of D.contents) failures_of W.contents transfers.old writer.old)
-        (snapshot_of (state_of D.contents) failures_of W.contents transfers.new writer.new)
+    ensures err { IfErr result (ServeEnded None (transfers_law (D.answers transfers.new.connection))
+        (snapshot_of (state_of D.answers) failures_of W.contents transfers.old writer.old)
+        (snapshot_of (state_of D.answers) failures_of W.contents transfers.new writer.new)
         (input_state_of R.remaining reader.old) (input_state_of R.remaining reader.new)) }
 {
     serve(alloc, reader, writer, transfers)

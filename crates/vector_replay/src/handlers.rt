@@ -1,5 +1,6 @@
 //! The handlers of sessions.
-ghost use Rattle.std.specs.Prelude.{◌≡◌, IfOk, None};
+ghost use Rattle.std.specs.Prelude.{◌≡◌, IfOk};
+ghost use Rattle.std.specs.Io.{WritesAtMost};
 ghost use Rattle.unftp_control_message.specs.CommandMeaning.{command_of};
 ghost use Rattle.unftp_control_message.specs.ReplyMeaning.{reply_of};
 ghost use Rattle.unftp_control_serve.specs.EventMeaning.{event_meant};
@@ -10,7 +11,7 @@ use itoa::Buffer;
 use std::alloc::{AllocError, Global};
 use std::io;
 use std::io::Read;
-use transferring::DataConnection;
+use transferring::{Answers, DataConnection};
 use unftp_control_answers::Help;
 use unftp_control_message::Command;
 use unftp_control_message::reply::error::ControlChanError;
@@ -139,6 +140,7 @@ const STEP: usize = 4;
 pub struct Wire<'a> {
     pieces: Pieces<'static, 'a>,
     taken: Vec<u8>,
+    answers: Answers,
 }
 
 impl<'a> Wire<'a> {
@@ -147,6 +149,7 @@ impl<'a> Wire<'a> {
         Ok(Wire {
             pieces: Pieces::new(GIVEN, STEP, turns),
             taken: Vec::with_capacity(alloc, ROOM)?,
+            answers: Answers::new(),
         })
     }
 
@@ -157,28 +160,45 @@ impl<'a> Wire<'a> {
 }
 
 impl DataConnection for Wire<'_> {
-    // what it holds is shown by rows, and no contract speaks of it
-    ghost contents = { λ _. None };
-
-    ghost remaining = { λ _. None };
+    ghost answers = { λ wire. wire.answers };
 
     fn open(&mut self) -> io::Result<()> {
         self.pieces.rest = GIVEN;
-        self.close()
+        let result = pass(&mut self.pieces.turns);
+        self.answers.opened(&result);
+        result
     }
 
     fn send(&mut self, bytes: &[u8]) -> io::Result<usize> {
-        let n = self.pieces.turns.next()?.min(STEP).min(bytes.len());
-        self.taken.extend_from_slice(bytes.split_at(n).0)?;
-        Ok(n)
+        let result = take(&mut self.pieces.turns, &mut self.taken, bytes);
+        self.answers.sent(bytes, &result);
+        result
     }
 
     fn receive(&mut self, buffer: &mut [u8]) -> io::Result<usize> {
-        self.pieces.read(buffer)
+        let result = self.pieces.read(buffer);
+        self.answers.received(buffer, &result);
+        result
     }
 
     fn close(&mut self) -> io::Result<()> {
-        let _ = self.pieces.turns.next()?;
-        Ok(())
+        let result = pass(&mut self.pieces.turns);
+        self.answers.closed(&result);
+        result
     }
+}
+
+/// The next turn, of a call that takes and gives no bytes.
+fn pass(turns: &mut Turns<'_>) -> io::Result<()> {
+    let _ = turns.next()?;
+    Ok(())
+}
+
+/// Takes some of these bytes, by the next turn.
+fn take(turns: &mut Turns<'_>, taken: &mut Vec<u8>, bytes: &[u8]) -> io::Result<usize>
+    ensures { WritesAtMost result bytes.now }
+{
+    let n = turns.next()?.min(STEP).min(bytes.len());
+    taken.extend_from_slice(bytes.split_at(n).0)?;
+    Ok(n)
 }

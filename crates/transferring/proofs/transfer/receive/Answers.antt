@@ -1,12 +1,13 @@
 use Rattle.std.proofs.Common.{◌++◌, ◌∙◌, ap, append_assoc, rules, take}
-use Rattle.transferring.proofs.TransferLemmas.{heard_more, stored_all, stored_more, stored_part}
+use Rattle.transferring.proofs.TransferLemmas.{cut_off, heard_more, stored_all, stored_more, stored_part}
+use Rattle.unftp_control_serve.proofs.DecoderLemmas.{on_err}
 use Rattle.transferring.proofs.transfer.receive.Goals as goal
 
 pub returns-in-Ok-eq0-clause-heard : goal.returns-in-Ok-eq0-clause-heard
 returns-in-Ok-eq0-clause-heard g c =
-    let received = heard_more c.loop-connection.invariant.storing.reaches _ _
+    let received = heard_more c.loop-connection.invariant.storing.goes_on _ _
     c.receive.ensures.answered in
-    let closed = c.close.ensures.came_to in (
+    let closed = c.close.ensures in (
       received.0 ++ closed.answers,
       closed.answered ∙ ap (λ answers. answers ++ closed.answers) received.1
           ∙ append_assoc _ received.0 closed.answers,
@@ -15,25 +16,31 @@ returns-in-Ok-eq0-clause-heard g c =
 pub returns-in-Ok-eq0-clause-ok : goal.returns-in-Ok-eq0-clause-ok
 returns-in-Ok-eq0-clause-ok g c = stored_all c.loop-connection.invariant.storing _
     (rw (c.in-Ok-eq0.is, c.in-Ok-eq0.field-0-test) at c.receive.ensures.answered)
-    c.close.ensures.came_to
+    c.close.ensures
 
-pub returns-in_err-extend_from_slice-in-Ok-clause-heard :
-    goal.returns-in_err-extend_from_slice-in-Ok-clause-heard
-returns-in_err-extend_from_slice-in-Ok-clause-heard g c =
-    heard_more c.loop-connection.invariant.storing.reaches _ _ c.receive.ensures.answered
+pub returns-in_err-extend_from_slice-in-Ok-receive-clause-heard :
+    goal.returns-in_err-extend_from_slice-in-Ok-receive-clause-heard
+returns-in_err-extend_from_slice-in-Ok-receive-clause-heard g c =
+    heard_more c.loop-connection.invariant.storing.goes_on _ _ c.receive.ensures.answered
 
 pub returns-in-Err-clause-heard : goal.returns-in-Err-clause-heard
 returns-in-Err-clause-heard g c =
-    heard_more c.loop-connection.invariant.storing.reaches _ _ c.receive.ensures.answered
+    heard_more c.loop-connection.invariant.storing.goes_on _ _ c.receive.ensures.answered
 
 pub returns-in-Err-clause-ok : goal.returns-in-Err-clause-ok
 returns-in-Err-clause-ok g c = stored_part c.loop-connection.invariant.storing _
     (rw c.in-Err.is at c.receive.ensures.answered)
 
+pub returns-in_err-extend_from_slice-in-Ok-receive-clause-ran_out :
+    goal.returns-in_err-extend_from_slice-in-Ok-receive-clause-ran_out
+returns-in_err-extend_from_slice-in-Ok-receive-clause-ran_out g c =
+    on_err c.from_residual.result (cut_off c.loop-connection.invariant.storing _
+    (take c.in-Ok-receive.n c.receive.new.buffer) (search rules)
+    (rw c.in-Ok-receive.is at c.receive.ensures.answered))
+
 pub loop-connection-preserved : goal.loop-connection-preserved
 loop-connection-preserved g c = record {
   storing = stored_more c.loop-connection.invariant.storing _
-      (take c.in-Ok.n c.receive.new.buffer) (search rules)
-      (rw c.in-Ok.is at c.receive.ensures.answered) (search rules);
-  none_sent = search rules;
+      (take c.in-Ok-receive.n c.receive.new.buffer) (search rules)
+      (rw c.in-Ok-receive.is at c.receive.ensures.answered) (search rules);
 }
