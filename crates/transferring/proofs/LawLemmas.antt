@@ -7,7 +7,7 @@ use Rattle.unftp_control_defs.specs.Events.{FtpEvent, Command, Refused}
 use Rattle.unftp_control_defs.specs.FtpCommand as line
 use Rattle.unftp_control_defs.specs.FtpReply.{FtpReply, CodeAndMsg, HasThreeDigits, IsReadable}
 use Rattle.unftp_control_defs.specs.Turns.{GivesExchanges, SaysOnly, is_preliminary_reply}
-use Rattle.transferring.specs.Answers.{DataAnswer, given, taken}
+use Rattle.transferring.specs.Answers.{DataAnswer, received_in, sent_in}
 use Rattle.transferring.specs.Laws.{AtEvent, ComesBack, Retrieves, Stores, TransfersNothing, answers_for, state_after_event}
 use Rattle.transferring.specs.Transfers.{Outcome, TransferState, final_reply, restart_reply, beyond_end_reply, first_reply, with_opening, opening_reply, receiving, sending, stored, transfer_of, transfers_law}
 use Rattle.transferring.specs.declared.transfer.Ending.{Ending}
@@ -27,8 +27,8 @@ retrieves answers s path =
     let rest = drop s.used answers in
     let sends = retrieve-sends (drop s.offset s.file) rest in
     let used : (s.used + outcome.used) - s.used ≡ outcome.used = omega arith in
-    let sent : taken (take ((s.used + outcome.used) - s.used) rest) ≡ outcome.bytes =
-    ap (λ n. taken (take n rest)) used ∙ retrieve-takes (drop s.offset s.file) rest in
+    let sent : sent_in (take ((s.used + outcome.used) - s.used) rest) ≡ outcome.bytes =
+    ap (λ n. sent_in (take n rest)) used ∙ retrieve-takes (drop s.offset s.file) rest in
     record {
       ending = outcome.ending;
       replied = refl;
@@ -58,10 +58,10 @@ stores answers s path =
       all = λ completes. let complete = completed outcome.ending completes in
           ap (λ ending. stored s.offset s.file ending outcome.bytes) complete
           ∙ ap (λ bytes. take s.offset s.file ++ bytes)
-          (sym (ap (λ n. given (take n rest)) used ∙ receives.gave));
+          (sym (ap (λ n. received_in (take n rest)) used ∙ receives.gave));
       kept = λ not. stored-else s.offset s.file outcome.bytes outcome.ending
           (λ complete. not (ap (λ ending. opening_reply ∷ final_reply ending ∷ []) complete));
-      none_sent = ap (λ n. taken (take n rest)) used ∙ receives.took;
+      none_sent = ap (λ n. sent_in (take n rest)) used ∙ receives.took;
     }
 
 pub comes_back : (answers : List DataAnswer) (s : TransferState) (to from : Bytes)
@@ -71,7 +71,7 @@ comes_back answers s to from = λ at_start was_stored was_retrieved.
     let stored : TransferState = state_after_event answers s (Command (line.Stor to)) in
     let back = retrieves answers stored from in
     back.all was_retrieved ∙ kept.all was_stored
-    ∙ ap (λ offset. take offset s.file ++ given (answers_for answers s (Command (line.Stor to))))
+    ∙ ap (λ offset. take offset s.file ++ received_in (answers_for answers s (Command (line.Stor to))))
     at_start
 
 pub transfers_nothing : (answers : List DataAnswer) (s : TransferState) (event : FtpEvent)

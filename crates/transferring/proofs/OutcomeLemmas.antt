@@ -6,7 +6,7 @@ use Rattle.std.proofs.lemmas.Slice.Eq.{bytes_eq-Decides}
 use Rattle.unftp_control_defs.specs.Bytes.{Bytes}
 use Rattle.unftp_control_defs.specs.FtpReply.{FtpReply, CodeAndMsg}
 use Rattle.unftp_control_serve.specs.Writing.{Begins}
-use Rattle.transferring.specs.Answers.{DataAnswer, Opened, Took, Gave, Closed, given, taken}
+use Rattle.transferring.specs.Answers.{DataAnswer, Opened, Took, Gave, Closed, received_in, sent_in}
 use Rattle.transferring.specs.Transfers.{Outcome, closing, ends_after, final_reply, with_opening, opening_reply, preceded_by, receiving, sending}
 use Rattle.transferring.specs.declared.transfer.Ending.{Ending}
 use Rattle.transferring.specs.declared.transfer.Ending.TheVariants.{Complete, NotOpened, Aborted}
@@ -76,7 +76,7 @@ take-one-more n answer answers = let one_more : n + 1 ≡ suc n = omega (arith) 
 
 -- the connection took exactly these bytes in the used answers
 abbrev Takes : List DataAnswer → Outcome → Type 0
-Takes answers outcome = taken (take outcome.used answers) ≡ outcome.bytes
+Takes answers outcome = sent_in (take outcome.used answers) ≡ outcome.bytes
 
 closing-takes : (answers : List DataAnswer) → Takes answers (closing answers)
 closing-takes (Closed ∷ answers) = refl
@@ -87,7 +87,7 @@ takes-if : (offered bytes : Bytes) (n : ℕ) (answers : List DataAnswer) (later 
     → Takes (Took offered n ∷ answers)
     (if same then preceded_by 1 (take n bytes) later else ends_after 0 Aborted)
 takes-if offered bytes n answers later takes true is =
-    ap taken (take-one-more later.used (Took offered n) answers)
+    ap sent_in (take-one-more later.used (Took offered n) answers)
     ∙ ap (λ more. take n offered ++ more) takes
     ∙ ap (λ bytes. take n bytes ++ later.bytes) ((bytes_eq-Decides offered bytes).0 is)
 takes-if offered bytes n answers later takes false is = refl
@@ -109,15 +109,15 @@ takes (b ∷ bytes) _ = refl
 pub retrieve-takes : (bytes : Bytes) (answers : List DataAnswer)
     → Takes answers (with_opening (sending bytes) answers)
 retrieve-takes bytes (Opened ∷ answers) =
-    ap taken (take-one-more (sending bytes answers).used Opened answers) ∙ takes bytes answers
+    ap sent_in (take-one-more (sending bytes answers).used Opened answers) ∙ takes bytes answers
 retrieve-takes bytes _ = refl
 
 -- ---- receiving
 
 -- it gave exactly these bytes in the used answers, and took none
 pub record Receives (answers : List DataAnswer) (outcome : Outcome) : Type 0 where
-  pub gave : given (take outcome.used answers) ≡ outcome.bytes
-  pub took : taken (take outcome.used answers) ≡ []
+  pub gave : received_in (take outcome.used answers) ≡ outcome.bytes
+  pub took : sent_in (take outcome.used answers) ≡ []
 
 receives-closing : (answers : List DataAnswer) → Receives answers (closing answers)
 receives-closing (Closed ∷ answers) = record { gave = refl; took = refl }
@@ -127,8 +127,8 @@ receives-more : (piece : Bytes) (answers : List DataAnswer) (later : Outcome)
     → Receives answers later → Receives (Gave piece ∷ answers) (preceded_by 1 piece later)
 receives-more piece answers later receives = let more = take-one-more later.used (Gave piece) answers
     in record {
-      gave = ap given more ∙ ap (λ more. piece ++ more) receives.gave;
-      took = ap taken more ∙ receives.took;
+      gave = ap received_in more ∙ ap (λ more. piece ++ more) receives.gave;
+      took = ap sent_in more ∙ receives.took;
     }
 
 receives : (answers : List DataAnswer) → Receives answers (receiving answers)
@@ -141,5 +141,5 @@ receives _ = record { gave = refl; took = refl }
 pub store-receives : (answers : List DataAnswer) → Receives answers (with_opening receiving answers)
 store-receives (Opened ∷ answers) = let later = receives answers in
     let more = take-one-more (receiving answers).used Opened answers in
-    record { gave = ap given more ∙ later.gave; took = ap taken more ∙ later.took }
+    record { gave = ap received_in more ∙ later.gave; took = ap sent_in more ∙ later.took }
 store-receives _ = record { gave = refl; took = refl }

@@ -4,13 +4,13 @@ use Rattle.std.proofs.lemmas.List.{append-nil}
 use Rattle.std.proofs.lemmas.Slice.Eq.{bytes_eq-Decides}
 use Rattle.unftp_control_defs.specs.Bytes.{Bytes}
 use Rattle.transferring.specs.Answers.{DataAnswer, Opened, Took, Gave, ReceiveFailed}
-use Rattle.transferring.specs.CameTo.{CameTo, GoesOn, IsCutOff}
+use Rattle.transferring.specs.CameTo.{CameTo, UnderWay, IsCutOff}
 use Rattle.transferring.specs.Transfers.{Outcome, closing, ends_after, with_opening, preceded_by, receiving, sending}
 use Rattle.transferring.specs.declared.transfer.Ending.{Ending}
 use Rattle.transferring.specs.declared.transfer.Ending.TheVariants.{Aborted}
 
 pub opened : (transfer : List DataAnswer → Outcome) (before now : List DataAnswer)
-    → now ≡ before ++ Opened ∷ [] → GoesOn (with_opening transfer) before now [] transfer
+    → now ≡ before ++ Opened ∷ [] → UnderWay (with_opening transfer) before now [] transfer
 opened transfer before now is =
     record { answers = Opened ∷ []; answered = is; goes_on = λ later. refl }
 
@@ -22,12 +22,12 @@ pub ended : {outcome : List DataAnswer → Outcome} {before : List DataAnswer} {
 ended after answer is ends = record { answers = answer ∷ []; answered = is; came_to = ends }
 
 module _ {start : List DataAnswer → Outcome} {before now : List DataAnswer} {bytes : Bytes}
-    {rest : List DataAnswer → Outcome} (s : GoesOn start before now bytes rest) where
+    {rest : List DataAnswer → Outcome} (s : UnderWay start before now bytes rest) where
   -- with one answer more
   pub one_more : {rest' : List DataAnswer → Outcome} (now' : List DataAnswer) (answer : DataAnswer)
       (piece : Bytes) → now' ≡ now ++ answer ∷ []
       → ((later : List DataAnswer) → rest (answer ∷ later) ≡ preceded_by 1 piece (rest' later))
-      → GoesOn start before now' (bytes ++ piece) rest'
+      → UnderWay start before now' (bytes ++ piece) rest'
   one_more {rest'} now' answer piece is goes = record {
     answers = s.answers ++ answer ∷ [];
     answered = is ∙ ap (λ answers. answers ++ answer ∷ []) s.answered
@@ -95,7 +95,7 @@ took_none (b ∷ rest) some later = rw (offered (b ∷ rest)) refl
 -- some of the bytes were sent, and the rest is to be sent
 pub record Retrieving (bytes rest : Bytes) (before now : List DataAnswer) : Type 0 where
   pub so_far : Bytes
-  pub goes_on : GoesOn (with_opening (sending bytes)) before now so_far (sending rest)
+  pub goes_on : UnderWay (with_opening (sending bytes)) before now so_far (sending rest)
 
 pub sent_more : {bytes rest : Bytes} {before now : List DataAnswer} (n : ℕ)
     → Retrieving bytes rest before now → 0 < length rest → 0 < n
@@ -129,7 +129,7 @@ module _ {bytes : Bytes} {before now : List DataAnswer} where
 pub record Storing (before now : List DataAnswer) (stored stored' : Bytes) : Type 0 where
   pub so_far : Bytes
   pub were_stored : stored' ≡ stored ++ so_far
-  pub goes_on : GoesOn (with_opening receiving) before now so_far receiving
+  pub goes_on : UnderWay (with_opening receiving) before now so_far receiving
 
 -- what was stored is what a transfer came to that ends so
 abbrev Stored : List DataAnswer → List DataAnswer → Bytes → Bytes → Ending → Type 0
@@ -155,7 +155,7 @@ module _ {before now : List DataAnswer} {stored stored' : Bytes}
   )
 
   received_more : (piece : Bytes) → 0 < length piece → now' ≡ now ++ Gave piece ∷ []
-      → GoesOn (with_opening receiving) before now' (so.so_far ++ piece) receiving
+      → UnderWay (with_opening receiving) before now' (so.so_far ++ piece) receiving
   received_more [] some is = absurd (omega (arith, some))
   received_more (b ∷ piece) some is =
       one_more so.goes_on now' (Gave (b ∷ piece)) (b ∷ piece) is (λ later. refl)

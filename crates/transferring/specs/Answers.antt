@@ -39,13 +39,13 @@ numbered_answer number n bytes = if number == 0 then Opened else if number == 1 
     else if number == 4 then OpenFailed else if number == 5 then SendFailed
     else if number == 6 then ReceiveFailed else CloseFailed
 
--- all bytes that it took, and all that it gave
-abbrev pub taken : List DataAnswer → Bytes
-taken [] = []
-taken (Took bytes n ∷ answers) = take n bytes ++ taken answers
-taken (_ ∷ answers) = taken answers
+-- the bytes that were sent by these calls, and those that were received
+abbrev pub sent_in : List DataAnswer → Bytes
+sent_in [] = []
+sent_in (Took bytes n ∷ answers) = take n bytes ++ sent_in answers
+sent_in (_ ∷ answers) = sent_in answers
 
-abbrev pub given : List DataAnswer → Bytes
-given [] = []
-given (Gave bytes ∷ answers) = bytes ++ given answers
-given (_ ∷ answers) = given answers
+abbrev pub received_in : List DataAnswer → Bytes
+received_in [] = []
+received_in (Gave bytes ∷ answers) = bytes ++ received_in answers
+received_in (_ ∷ answers) = received_in answers

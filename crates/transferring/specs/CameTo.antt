@@ -17,7 +17,7 @@ pub record CameTo (outcome : List DataAnswer → Outcome) (before after : List D
       ≡ record { ending = ending; used = length answers; bytes = bytes }
 
 -- It answered so, these bytes were transferred, and the rest is still to come.
-pub record GoesOn (outcome : List DataAnswer → Outcome) (before after : List DataAnswer)
+pub record UnderWay (outcome : List DataAnswer → Outcome) (before after : List DataAnswer)
     (bytes : Bytes) (rest : List DataAnswer → Outcome) : Type 0 where
   pub answers : List DataAnswer
   pub answered : after ≡ before ++ answers
@@ -33,7 +33,7 @@ module _ (before after : List DataAnswer) where
   -- STOR received some bytes, and was not at its end.
   abbrev pub IsCutOff : Type 0
   IsCutOff = (received : Bytes) × ¬ (received ≡ [])
-      × GoesOn (with_opening receiving) before after received receiving
+      × UnderWay (with_opening receiving) before after received receiving
 
   -- For what memory ran out: for the reply after a transfer that was made; or at STOR for the bytes
   -- before the offset, where there are some, before any call, or for some that were received.

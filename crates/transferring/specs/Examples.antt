@@ -35,13 +35,13 @@ all_sent = Opened ∷ Took abc 1 ∷ Took (codes "bc") 2 ∷ Closed ∷ []
 abbrev pub all_received : List DataAnswer
 all_received = Opened ∷ Gave (codes "x") ∷ Gave (codes "yz") ∷ Gave [] ∷ Closed ∷ []
 
-abbrev pub code_of : FtpReply → ℕ
-code_of (CodeAndMsg code text) = code
-code_of _ = 0
+abbrev pub code_in : FtpReply → ℕ
+code_in (CodeAndMsg code text) = code
+code_in _ = 0
 
 -- the codes of the replies to an event, and the file after it
 abbrev pub codes_to : List DataAnswer → FtpEvent → List ℕ
-codes_to answers event = map code_of (replies_to (later answers) (holding 0 abc) event)
+codes_to answers event = map code_in (replies_to (later answers) (holding 0 abc) event)
 
 abbrev pub file_after : List DataAnswer → ℕ → FtpEvent → Bytes
 file_after answers offset event =

@@ -6,7 +6,7 @@ use Rattle.unftp_control_defs.specs.FtpCommand.{Retr, Stor}
 use Rattle.unftp_control_defs.specs.FtpReply.{FtpReply}
 use Rattle.unftp_control_defs.specs.Run.{after, said, turn}
 use Rattle.unftp_control_serve.specs.Writing.{Begins}
-use Rattle.transferring.specs.Answers.{DataAnswer, given, taken}
+use Rattle.transferring.specs.Answers.{DataAnswer, received_in, sent_in}
 use Rattle.transferring.specs.Transfers.{TransferState, final_reply, opening_reply, transfers_law}
 use Rattle.transferring.specs.declared.transfer.Ending.{Ending}
 use Rattle.transferring.specs.declared.transfer.Ending.TheVariants.{Complete}
@@ -38,8 +38,8 @@ module _ (s s' : TransferState) (replies : List FtpReply) (answers : List DataAn
   pub record Retrieves : Type 0 where
     pub ending : Ending
     pub replied : replies ≡ opening_reply ∷ final_reply ending ∷ []
-    pub beginning : Begins (drop s.offset s.file) (taken answers)
-    pub all : Completes replies → taken answers ≡ drop s.offset s.file
+    pub beginning : Begins (drop s.offset s.file) (sent_in answers)
+    pub all : Completes replies → sent_in answers ≡ drop s.offset s.file
     pub kept : s'.file ≡ s.file
 
   -- STOR: 150, and one final reply. Where that is 226, what was received comes after the bytes
@@ -47,9 +47,9 @@ module _ (s s' : TransferState) (replies : List FtpReply) (answers : List DataAn
   pub record Stores : Type 0 where
     pub ending : Ending
     pub replied : replies ≡ opening_reply ∷ final_reply ending ∷ []
-    pub all : Completes replies → s'.file ≡ take s.offset s.file ++ given answers
+    pub all : Completes replies → s'.file ≡ take s.offset s.file ++ received_in answers
     pub kept : ¬ Completes replies → s'.file ≡ s.file
-    pub none_sent : taken answers ≡ []
+    pub none_sent : sent_in answers ≡ []
 
   -- Any other event: nothing is transferred, and no call is made.
   pub record TransfersNothing : Type 0 where
@@ -64,5 +64,5 @@ ComesBack answers s to from =
     let stored = state_after_event answers s (Command (Stor to)) in
     s.offset ≡ 0 → Completes (replies_to answers s (Command (Stor to)))
     → Completes (replies_to answers stored (Command (Retr from)))
-    → taken (answers_for answers stored (Command (Retr from)))
-    ≡ given (answers_for answers s (Command (Stor to)))
+    → sent_in (answers_for answers stored (Command (Retr from)))
+    ≡ received_in (answers_for answers s (Command (Stor to)))

@@ -79,7 +79,7 @@ pub record TransferState : Type 0 where
   pub used : ℕ
   pub quit : Bool
 
--- of a session over a connection that has given these answers
+-- of a session over a connection that gave these answers
 abbrev pub state_of : {D : Type 0} → (D → List DataAnswer) → Transfers D → TransferState
 state_of answers transfers = record {
   pending = transfers.pending;

@@ -2,7 +2,7 @@
 ghost use Rattle.std.specs.Prelude.{◌≡◌, ℕ, true, false, [], ◌∷◌, Ok, Err, codes};
 ghost use Rattle.unftp_control_defs.specs.Events.{Command, Refused, line_too_long, out_of_memory};
 ghost use Rattle.unftp_control_defs.specs.FtpCommand.{Abor, Noop, Quit, Rest, TypeCode};
-ghost use Rattle.transferring.specs.Answers.{Opened, Took, Gave, Closed, OpenFailed, SendFailed, ReceiveFailed, CloseFailed, answer_to_close, answer_to_open, answer_to_receive, answer_to_send, given, taken};
+ghost use Rattle.transferring.specs.Answers.{Opened, Took, Gave, Closed, OpenFailed, SendFailed, ReceiveFailed, CloseFailed, answer_to_close, answer_to_open, answer_to_receive, answer_to_send, received_in, sent_in};
 ghost use Rattle.transferring.specs.CameTo.{CameTo, RanOut};
 ghost use Rattle.transferring.specs.Laws.{AtEvent, Retrieves, Stores, TransfersNothing, answers_for, state_after_event};
 ghost use Rattle.transferring.specs.Transfers.{at_start, closing, left_in, outcome_of, receiving, sending, stored, transfers_law, with_opening};
@@ -20,8 +20,8 @@ pub fn answers_say_so()
         × (answer_to_receive {E = ℕ} abc (Err 0) ≡ ReceiveFailed) }
     ensures closed { (answer_to_close {T = ℕ} {E = ℕ} (Ok 0) ≡ Closed)
         × (answer_to_close {T = ℕ} {E = ℕ} (Err 0) ≡ CloseFailed) }
-    ensures all_taken { (taken all_sent ≡ abc) × (taken all_received ≡ []) }
-    ensures all_given { (given all_received ≡ codes "xyz") × (given all_sent ≡ []) }
+    ensures all_sent { (sent_in all_sent ≡ abc) × (sent_in all_received ≡ []) }
+    ensures all_received { (received_in all_received ≡ codes "xyz") × (received_in all_sent ≡ []) }
 {}
 
 /// A transfer uses the answers to its own calls: to open, to send what is left or to receive, and
@@ -83,7 +83,8 @@ pub fn states_follow()
     ensures first { at_start (Opened ∷ Closed ∷ []) abc ≡ holding 0 abc }
     ensures left { (left_in (holding 0 abc) ≡ 0)
         × (left_in ((transfers_law []).next (holding 0 abc) retr) ≡ 1) }
-    ensures faults { ((transfers_law []).may_break (holding 0 abc) out_of_memory → ⊥)
+    ensures faults { ((transfers_law []).may_fail (holding 0 abc) retr line_too_long → ⊥)
+        × ((transfers_law []).may_break (holding 0 abc) out_of_memory → ⊥)
         × ((transfers_law []).may_break ((transfers_law []).next (holding 0 abc) retr)
         line_too_long → ⊥) }
 {}

@@ -2,7 +2,7 @@ use Rattle.std.proofs.Common.{◌≡◌, ◌≢◌, ℕ, List, [], ◌∷◌, �
 use Rattle.std.proofs.lemmas.List.{append-nil}
 use Rattle.unftp_control_defs.specs.Bytes.{Bytes}
 use Rattle.transferring.specs.Answers.{DataAnswer, Opened, Gave, ReceiveFailed}
-use Rattle.transferring.specs.CameTo.{CameTo, GoesOn, RanOut}
+use Rattle.transferring.specs.CameTo.{CameTo, UnderWay, RanOut}
 use Rattle.transferring.specs.Examples.{abc, all_received}
 use Rattle.transferring.specs.Transfers.{Outcome, receiving, with_opening}
 use Rattle.transferring.specs.declared.transfer.Ending.{Ending}
@@ -19,7 +19,7 @@ used_all outcome after later ending bytes came =
     (ap (λ outcome. outcome.used) (came.came_to later))
 
 received_all : (after : List DataAnswer) (bytes : Bytes)
-    → GoesOn (with_opening receiving) [] after bytes receiving
+    → UnderWay (with_opening receiving) [] after bytes receiving
     → (with_opening receiving (after ++ [])).bytes ≡ bytes
 received_all after bytes goes =
     subst (λ answers. (with_opening receiving (answers ++ [])).bytes ≡ bytes) (sym goes.answered)
