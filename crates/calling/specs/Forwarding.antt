@@ -16,7 +16,7 @@ pub data IsReplyInPlace (line reply : Bytes) : Type 0 where
   out_of_memory : IsOk (outcome line)
       → reply ≡ codes "421 Out of memory\r\n" → IsReplyInPlace line reply
 
--- the verbs that get a file, or ask about one
+-- the verbs that get a file, or ask about one; not MDTM, by which some servers set a file's time
 abbrev pub reads : Verb → Bool
 reads verb.Retr = true
 reads verb.List = true
@@ -24,7 +24,6 @@ reads verb.Nlst = true
 reads verb.Mlst = true
 reads verb.Mlsd = true
 reads verb.Size = true
-reads verb.Mdtm = true
 reads _ = false
 
 -- the line is a command of such a verb

@@ -61,6 +61,7 @@ pub fn clients_are_replied()
 pub fn lines_only_read()
     ensures lower_case { only_reads (outcome (codes "retr a\n")) ≡ true }
     ensures delete { only_reads (outcome (codes "DELE a\r\n")) ≡ false }
+    ensures time { only_reads (outcome (codes "MDTM 20010203040506 a\r\n")) ≡ false }
     ensures refused { only_reads (outcome (codes "RETR\r\n")) ≡ false }
 {}
 

@@ -32,12 +32,13 @@ pub fn only_reads(line: &[u8]) -> bool
     }
 }
 
-/// Whether the verb gets a file, or asks about one.
+/// Whether the verb gets a file, or asks about one. MDTM is not among these, since some servers take
+/// a time before its path, and give it to the file.
 fn reads(verb: Verb) -> bool
     ensures { result ≡ reads verb }
 {
     matches!(
         verb,
-        Verb::Retr | Verb::List | Verb::Nlst | Verb::Mlst | Verb::Mlsd | Verb::Size | Verb::Mdtm
+        Verb::Retr | Verb::List | Verb::Nlst | Verb::Mlst | Verb::Mlsd | Verb::Size
     )
 }
