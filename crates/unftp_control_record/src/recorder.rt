@@ -21,8 +21,8 @@ pub struct Limits {
 /// A line of the client, or the greeting, with its replies (RFC 959, section 5.4).
 #[derive(Debug, Drop)]
 pub struct Exchange {
-    /// The line as a log shows it: printable ASCII without a line end, and no password. `None` is
-    /// the connection, which the server greets.
+    /// The line as a log shows it: printable ASCII without a line end, and nothing of what PASS and
+    /// ACCT have. `None` is the connection, which the server greets.
     pub line: Option<Vec<u8>>,
     /// The preliminary replies to it, and then the final one.
     pub replies: Vec<ReceivedReply>,
