@@ -1,5 +1,5 @@
 -- What the calls of a proxy ensure says what passes in them.
-use Rattle.std.proofs.Common.{◌≡◌, ◌≢◌, ◌≤◌, ℕ, Bool, true, false, List, [], ◌∷◌, ◌++◌, length, take, Some, Ok, refl, sym, ap, subst, ◌∙◌, append_assoc, append-nil, inl, arith}
+use Rattle.std.proofs.Common.{◌≡◌, ◌≢◌, ◌≤◌, ◌==◌, eqb-true, ℕ, Bool, true, false, List, [], ◌∷◌, ◌++◌, length, take, Some, Ok, refl, sym, ap, subst, ◌∙◌, append_assoc, append-nil, inl, arith}
 use Rattle.std.specs.Prelude.{if◌then◌else◌}
 use Rattle.std.specs.List.{concat}
 use Rattle.std.proofs.lemmas.List.{length-append, take-append-drop, take_at}
@@ -9,6 +9,7 @@ use Rattle.unftp_control_defs.specs.Forwarded.{forwarded_line}
 use Rattle.unftp_control_defs.specs.FtpCommand.{FtpCommand}
 use Rattle.unftp_control_defs.specs.Lines.{IsLine, incomplete_line, lines_of}
 use Rattle.unftp_control_defs.specs.Outcome.{outcome}
+use Rattle.unftp_control_defs.specs.ReplyReader.{FrontReply}
 use Rattle.unftp_control_defs.specs.Turns.{is_preliminary}
 use Rattle.unftp_control_defs.proofs.LineLemmas.{Lines-lines_of}
 use Rattle.unftp_control_read.specs.ReplyDecoding.{PendingReplies}
@@ -202,6 +203,17 @@ takes_whole before reply later takes =
         reply = front.reply;
         length_is = ap length same;
       },
+    )
+
+-- what is found, where it is of this code and all of the bytes
+pub found_whole : (bytes : Bytes) (found used code : ℕ)
+    → (lines : List Bytes) × FrontReply bytes found lines used → found ≡ code
+    → (used == length bytes) ≡ true → IsWholeReply (record { code = code; bytes = bytes })
+found_whole bytes found used code read is all =
+    let all_used = eqb-true used (length bytes) all in (
+      read.0,
+      subst (λ (q : ℕ × ℕ). FrontReply bytes q.0 read.0 q.1)
+          (λ i. (is i, all_used i)) read.1,
     )
 
 -- what is owed next, where it is a reply

@@ -4,3 +4,4 @@ pub mod OrderLemmas
 pub mod SendLemmas
 pub mod TrafficLemmas
 pub mod CallLemmas
+pub mod ReplaceLemmas

@@ -67,3 +67,7 @@ empty_is_no_line line empty is =
 pub on_ok : {T E : Type 0} (result : Result T E) {P : Type 0} → P → OnOk result P
 on_ok (Ok done) holds = holds
 on_ok (Err error) holds = tt
+
+pub on_err : {T E : Type 0} (result : Result T E) {P : Type 0} → P → OnErr result P
+on_err (Ok done) holds = tt
+on_err (Err error) holds = holds

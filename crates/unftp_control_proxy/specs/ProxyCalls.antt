@@ -1,5 +1,6 @@
 -- What the calls of a proxy do to it, and what they append.
-use Rattle.std.specs.Prelude.{⊤, ◌≡◌, ◌⊎◌, ℕ, ◌<◌, ◌≤◌, ◌==◌, ◌&&◌, Bool, true, false, nat_le, nat_lt, not, List, [], ◌∷◌, ◌++◌, Option, Some, None, Result, Ok, IsTrue, drop, length, take}
+use Rattle.std.specs.Prelude.{⊤, ◌≡◌, ◌⊎◌, ℕ, ◌<◌, ◌≤◌, ◌==◌, ◌&&◌, Bool, true, false, nat_le, nat_lt, not, List, [], ◌∷◌, ◌++◌, Option, Some, None, Result, Ok, Err, IsTrue, drop, length, take}
+use Rattle.std.specs.Global.{Vec}
 use Rattle.std.specs.List.{list_all}
 use Rattle.unftp_control_defs.specs.Bytes.{Bytes, LF}
 use Rattle.unftp_control_defs.specs.Forwarded.{forwarded_line}
@@ -11,10 +12,12 @@ use Rattle.unftp_control_defs.specs.Turns.{is_preliminary_reply}
 use Rattle.unftp_control_read.specs.ReplyDecoding.{BeginsWith, FindsFirst, PendingReplies, no_bytes}
 use Rattle.unftp_control_read.specs.declared.decoder.FirstReply.{FirstReply}
 use Rattle.unftp_control_read.specs.declared.errors.NextReplyError.{NextReplyError}
+use Rattle.unftp_control_read.specs.declared.errors.NextReplyError.TheVariants as next
 use Rattle.unftp_control_write.specs.Forwarding.{IsForwardError}
 use Rattle.unftp_control_write.specs.declared.forwarding.ForwardError.{ForwardError}
 use Rattle.unftp_control_write.specs.declared.forwarding.ForwardError.TheVariants as forward
 use Rattle.unftp_control_write.specs.ClearLines.{is_clear}
+use Rattle.unftp_control_write.specs.Room.{LacksRoom}
 use Rattle.unftp_control_proxy.specs.ClientLines.{front_line, no_client_bytes, without_line}
 use Rattle.unftp_control_proxy.specs.Given.{IsWholeReply, ReplyBytes}
 use Rattle.unftp_control_proxy.specs.Owed.{Owed, IsReplyNext, Reply, after_due, after_reply, due}
@@ -34,6 +37,7 @@ new_proxy limits = record {
   server = no_bytes (Some limits.reply);
   order = Reply ∷ [];
   alone = false;
+  next_alone = false;
   limits = limits;
 }
 
@@ -55,7 +59,8 @@ abbrev pub decided : Proxy → Owed → Proxy
 decided proxy owed = record proxy {
   client = without_line proxy.client;
   order = proxy.order ++ owed ∷ [];
-  alone = false;
+  alone = proxy.next_alone;
+  next_alone = false;
 }
 
 -- the line may be sent
@@ -200,6 +205,24 @@ GivesNext before (Some (server.Unasked code)) out out' later = (¬ IsReplyNext b
     × ((used : ℕ) × BeginsWith before.server.limit before.server.bytes code used)
     × (out' ≡ out) × (later ≡ before)
 
+-- the server's first reply is owed: its code, and how many bytes it has
+abbrev pub IsOwedFirst : Proxy → ℕ → ℕ → Type 0
+IsOwedFirst proxy code used = IsReplyNext proxy.order
+    × BeginsWith proxy.server.limit proxy.server.bytes code used
+
+-- Why it is not given, where no answer is due: there is no room for it after these bytes; or what
+-- the server sent is no reply, or too long.
+abbrev pub IsPassError : Proxy → Vec ℕ → Bytes → NextReplyError → Type 0
+IsPassError proxy out given next.OutOfMemory = (code : ℕ) × (used : ℕ)
+    × IsOwedFirst proxy code used × LacksRoom out (given ++ take used proxy.server.bytes)
+IsPassError proxy out given error = FindsFirst proxy.server.limit proxy.server.bytes (Err error)
+
+-- and in any state: there is no room for the answers that are due, or for it after them
+abbrev pub IsNextError : Proxy → Vec ℕ → NextReplyError → Type 0
+IsNextError proxy out next.OutOfMemory = LacksRoom out (due proxy.order)
+    ⊎ IsPassError (flushed proxy) out (due proxy.order) next.OutOfMemory
+IsNextError proxy out error = IsPassError (flushed proxy) out [] error
+
 -- Another one is given in place of it.
 abbrev pub GivesOther : Proxy → Bytes → Bytes → Bytes → Proxy → Type 0
 GivesOther before other out out' later = (out' ≡ out ++ other)
@@ -215,11 +238,19 @@ abbrev pub HasNoFirstReply : Proxy → Type 0
 HasNoFirstReply proxy = (found : Result (Option FirstReply) NextReplyError)
     × FindsFirst proxy.server.limit proxy.server.bytes found × IsNoReply found
 
--- why no other one is given: where no answer is due, and in any state
-abbrev pub IsOtherError : Proxy → ReplaceError → Type 0
-IsOtherError proxy replace.NoReply = HasNoFirstReply proxy
-IsOtherError proxy replace.NotOwed = ¬ IsReplyNext proxy.order
-IsOtherError proxy _ = ⊤
+-- Why this other one is not given, where no answer is due, and after these bytes.
+abbrev pub IsOtherError : Proxy → Bytes → Vec ℕ → Bytes → ReplaceError → Type 0
+IsOtherError proxy other out given replace.NoReply = HasNoFirstReply proxy
+IsOtherError proxy other out given replace.NotOwed = (¬ IsReplyNext proxy.order)
+    × ((code : ℕ) × (used : ℕ) × BeginsWith proxy.server.limit proxy.server.bytes code used)
+IsOtherError proxy other out given replace.AnotherReply = (code : ℕ) × (used : ℕ)
+    × IsOwedFirst proxy code used × ¬ IsWholeReply (record { code = code; bytes = other })
+IsOtherError proxy other out given replace.OutOfMemory = (code : ℕ) × (used : ℕ)
+    × IsOwedFirst proxy code used × IsWholeReply (record { code = code; bytes = other })
+    × LacksRoom out (given ++ other)
 
-abbrev pub IsReplaceError : Proxy → ReplaceError → Type 0
-IsReplaceError proxy error = IsOtherError (flushed proxy) error
+-- and in any state
+abbrev pub IsReplaceError : Proxy → Bytes → Vec ℕ → ReplaceError → Type 0
+IsReplaceError proxy other out replace.OutOfMemory = LacksRoom out (due proxy.order)
+    ⊎ IsOtherError (flushed proxy) other out (due proxy.order) replace.OutOfMemory
+IsReplaceError proxy other out error = IsOtherError (flushed proxy) other out [] error

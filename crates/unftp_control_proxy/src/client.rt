@@ -1,5 +1,5 @@
 //! What a client sent, and the first line of it.
-ghost use Rattle.std.specs.Prelude.{◌≡◌, ◌≤◌, ◌<◌, ◌+◌, ◌++◌, None, Some, OnErr, OnOk, IsTrue, if◌then◌else◌, drop, is_some, length, take, true, false};
+ghost use Rattle.std.specs.Prelude.{◌≡◌, ◌≤◌, ◌<◌, ◌+◌, ◌++◌, [], None, Some, OnErr, OnOk, IsTrue, if◌then◌else◌, drop, is_some, length, take, true, false};
 ghost use Rattle.unftp_control_defs.specs.Buffer.{IsTakenWithin, pending_in};
 ghost use Rattle.unftp_control_defs.specs.Bytes.{Bytes};
 ghost use Rattle.unftp_control_defs.specs.Lines.{IsLine, lines_of};
@@ -87,6 +87,7 @@ impl ClientLines {
         ensures ok { OnOk result (self.new ≡ with_piece self.old piece.now self.new.held) }
         ensures held { self.new.held ≤ self.old.held + length piece.now }
         ensures err { OnErr result (self.new ≡ self.old) }
+        ensures some { OnErr result (¬ (piece.now ≡ [])) }
     {
         self.buffer.push(piece)
     }

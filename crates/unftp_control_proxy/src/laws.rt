@@ -58,6 +58,8 @@ pub fn forwarding_all_changes_nothing()
     ensures same_events { (before later : RustProxy) (traffic : Traffic)
         → IsTraffic before traffic later → ChangesNothing traffic
         → events None traffic.to_server ≡ events None (concat (client_lines traffic.lines)) }
+    ensures in_turn { (first second : Traffic) → ChangesNothing first → ChangesNothing second
+        → ChangesNothing (joined first second) }
 {}
 
 /// Before a server that answers each line by a handler, after a greeting: through such a proxy the

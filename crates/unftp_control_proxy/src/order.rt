@@ -1,6 +1,7 @@
 //! What a client is owed, in order.
-ghost use Rattle.std.specs.Prelude.{◌≡◌, ◌≤◌, ◌↔◌, ◌-◌, ◌∷◌, ◌++◌, [], IsTrue, IfOk, OnOk, OnErr, drop, length, take, vec_len};
+ghost use Rattle.std.specs.Prelude.{◌≡◌, ◌≤◌, ◌↔◌, ◌-◌, ◌∷◌, ◌++◌, [], IsTrue, IfOk, OnOk, OnErr, drop, length, take, vec_capacity, vec_len};
 ghost use Rattle.unftp_control_defs.specs.Turns.{is_preliminary};
+ghost use Rattle.unftp_control_write.specs.Room.{LacksRoom};
 ghost use Rattle.unftp_control_proxy.specs.Owed.{Answer, IsReplyNext, Reply, after_due, after_reply, due};
 
 use std::alloc::{AllocError, Global};
@@ -95,7 +96,7 @@ impl Order {
     }
 
     /// Appends the answers that are due. When out of memory, it has appended some of them, each
-    /// whole, and the next call goes on.
+    /// whole, and the next call goes on; it never is where `out` has room for all of them.
     pub(crate) fn release(&mut self, out: &mut Vec<u8>) -> Result<(), AllocError>
         ensures bytes { out.new.items ++ due self.new ≡ out.old.items ++ due self.old }
         ensures kept { take (vec_len out.old) out.new.items ≡ out.old.items }
@@ -103,6 +104,8 @@ impl Order {
         ensures fewer { length self.new ≤ length self.old }
         ensures rest { self.new ≡ drop (length self.old - length self.new) self.old }
         ensures ok { OnOk result (after_due self.new ≡ self.new) }
+        ensures memory { OnErr result (LacksRoom out.old (due self.old)) }
+        ensures capacity { vec_capacity out.old ≤ vec_capacity out.new }
     {
         for _ in 0..self.slots.len() {
             let Some(Slot::Answer(answer)) = self.slots.front() else {

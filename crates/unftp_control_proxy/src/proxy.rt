@@ -1,15 +1,16 @@
 //! A client's lines and a server's replies, and what each is sent.
-ghost use Rattle.std.specs.Prelude.{◌≡◌, ◌≢◌, ◌↔◌, ◌⊎◌, ◌≤◌, ◌<◌, ◌+◌, ◌++◌, [], true, None, Some, Ok, Err, IfErr, IfOk, IsTrue, OnErr, OnOk, drop, is_some, length, take, vec_len};
+ghost use Rattle.std.specs.Prelude.{◌≡◌, ◌≢◌, ◌↔◌, ◌⊎◌, ◌≤◌, ◌<◌, ◌+◌, ◌++◌, ◌||◌, [], false, not, true, None, Some, Ok, Err, IfErr, IfOk, IsTrue, OnErr, OnOk, drop, is_some, length, take, vec_capacity, vec_len};
 ghost use Rattle.unftp_control_defs.specs.Bytes.{Bytes};
 ghost use Rattle.unftp_control_defs.specs.FtpReply.{encoded};
 ghost use Rattle.unftp_control_defs.specs.Lines.{IsLine, lines_of};
 ghost use Rattle.unftp_control_message.specs.ReplyMeaning.{reply_of};
 ghost use Rattle.unftp_control_read.specs.ReplyDecoding.{FindsFirst, pushed};
 ghost use Rattle.unftp_control_write.specs.Forwarding.{IsForwarded};
-ghost use Rattle.unftp_control_proxy.specs.ProxyCalls.{GivesDue, GivesNext, GivesOther, IsAnswerError, IsCheckError, IsDecidable, IsForwardingError, IsOtherError, IsReplaceError, IsSendError, IsUnclearError, MayBeSent, WaitsForServer, decided, flushed, is_answer, new_proxy, send_error};
-ghost use Rattle.unftp_control_proxy.specs.ClientLines.{first_client_line, line_in, with_piece};
+ghost use Rattle.unftp_control_write.specs.Room.{LacksRoom};
+ghost use Rattle.unftp_control_proxy.specs.ProxyCalls.{GivesDue, GivesNext, GivesOther, IsAnswerError, IsCheckError, IsDecidable, IsForwardingError, IsNextError, IsOtherError, IsPassError, IsReplaceError, IsSendError, IsUnclearError, MayBeSent, WaitsForServer, decided, flushed, is_answer, new_proxy, send_error};
+ghost use Rattle.unftp_control_proxy.specs.ClientLines.{first_client_line, line_in, with_piece, without_line};
 ghost use Rattle.unftp_control_proxy.specs.Given.{IsFinalReply, IsWholeReply};
-ghost use Rattle.unftp_control_proxy.specs.Owed.{Answer, IsReplyNext, Reply as ReplyOwed, after_reply};
+ghost use Rattle.unftp_control_proxy.specs.Owed.{Answer, IsReplyNext, Reply as ReplyOwed, after_reply, due};
 
 use crate::client::{ClientLine, ClientLines};
 use crate::errors::{ReplaceError, SendError};
@@ -32,7 +33,7 @@ pub struct Limits {
     /// The most bytes of a server's reply, its line ends counted.
     pub reply: usize,
     /// How many lines may be owed their final reply, the greeting counted. While so many are, no
-    /// further line is taken.
+    /// further line is taken. At least 1, since else none would ever be.
     pub waiting: usize,
 }
 
@@ -61,13 +62,14 @@ pub struct Proxy {
     server: ReplyDecoder,
     order: Order,
     alone: bool,
+    next_alone: bool,
     limits: Limits,
 }
 
 impl Proxy {
     /// A proxy that was given nothing. The client is owed the server's greeting first.
     pub fn new(alloc: Global, limits: Limits) -> Result<Proxy, AllocError>
-        requires { (1 ≤ limits.line) × (1 ≤ limits.reply) }
+        requires { (1 ≤ limits.line) × (1 ≤ limits.reply) × (1 ≤ limits.waiting) }
         ensures { IfOk result (λ proxy. proxy ≡ new_proxy limits) }
     {
         Ok(Proxy {
@@ -75,26 +77,31 @@ impl Proxy {
             server: ReplyDecoder::with_limit(alloc, limits.reply),
             order: Order::new(alloc)?,
             alone: false,
+            next_alone: false,
             limits,
         })
     }
 
-    /// A piece of what the client sent. When out of memory, nothing changes.
+    /// A piece of what the client sent. When out of memory, nothing changes; it never is for an
+    /// empty piece.
     pub fn from_client(&mut self, piece: &[u8]) -> Result<(), AllocError>
         ensures ok { OnOk result (self.new ≡ record self.old {
           client = with_piece self.old.client piece.now self.new.client.held;
         }) }
         ensures held { self.new.client.held ≤ self.old.client.held + length piece.now }
         ensures err { OnErr result (self.new ≡ self.old) }
+        ensures some { OnErr result (¬ (piece.now ≡ [])) }
     {
         self.client.push(piece)
     }
 
-    /// A piece of what the server sent. When out of memory, nothing changes.
+    /// A piece of what the server sent. When out of memory, nothing changes; it never is for an
+    /// empty piece.
     pub fn from_server(&mut self, piece: &[u8]) -> Result<(), AllocError>
         ensures ok { OnOk result
             (self.new ≡ record self.old { server = pushed self.old.server piece.now }) }
         ensures err { OnErr result (self.new ≡ self.old) }
+        ensures some { OnErr result (¬ (piece.now ≡ [])) }
     {
         self.server.push(piece)
     }
@@ -108,12 +115,21 @@ impl Proxy {
         owed >= self.limits.waiting || (self.alone && owed > 0)
     }
 
-    /// Takes no further line until all that is owed was given: for a line such as AUTH, since what
-    /// follows a 234 is no line (RFC 4217, section 4).
+    /// Takes no further line after this one until all that is owed was given: for a line such as
+    /// AUTH, since what follows a 234 is no line (RFC 4217, section 4). It is the line that
+    /// `next_line` found, once that is decided; or the last one that was decided, where none was
+    /// found since. So it is called right before the line is decided, or right after.
     pub fn stand_alone(&mut self)
-        ensures { self.new ≡ record self.old { alone = true } }
+        ensures { self.new ≡ record self.old {
+          alone = not self.old.client.found || self.old.alone;
+          next_alone = self.old.client.found || self.old.next_alone;
+        } }
     {
-        self.alone = true;
+        if self.client.is_found() {
+            self.next_alone = true;
+        } else {
+            self.alone = true;
+        }
     }
 
     /// What the client's next line is; or `None` where none is complete. `line` then returns its
@@ -312,9 +328,22 @@ impl Proxy {
         if self.order.owe_reply().is_err() {
             return Err(SendError::OutOfMemory);
         }
-        self.client.take();
-        self.alone = false;
+        self.take_line();
         Ok(())
+    }
+
+    /// The line that was found is decided: it stands alone where that was said of it.
+    fn take_line(&mut self)
+        requires { IsTrue self.old.client.found }
+        ensures { self.new ≡ record self.old {
+          client = without_line self.old.client;
+          alone = self.old.next_alone;
+          next_alone = false;
+        } }
+    {
+        self.client.take();
+        self.alone = self.next_alone;
+        self.next_alone = false;
     }
 
     /// Decides the line: the client is owed this reply in its place, and nothing is sent for it.
@@ -338,16 +367,16 @@ impl Proxy {
         if encode_reply(reply, &mut answer).is_err() || self.order.owe_answer(answer).is_err() {
             return Err(SendError::OutOfMemory);
         }
-        self.client.take();
-        self.alone = false;
+        self.take_line();
         Ok(())
     }
 
     /// Appends what the client is given next: the answers before which no reply is owed, and then
     /// the server's next reply, as it came (RFC 959, section 4.2). `None` where none is complete.
     ///
-    /// `Malformed` and `TooLong` are returned from then on, and after `OutOfMemory` the next call
-    /// goes on: each answer and reply is given once, and whole.
+    /// `Malformed` and `TooLong` are returned from then on. `OutOfMemory` comes only where
+    /// `to_client` has no room for the answers, or for them and a reply that is owed: the next call
+    /// goes on. Each answer and reply is given once, and whole.
     pub fn next_reply(
         &mut self,
         to_client: &mut Vec<u8>,
@@ -359,8 +388,7 @@ impl Proxy {
             → FindsFirst self.old.server.limit self.old.server.bytes (Ok None) }
         ensures err { OnErr result
             (GivesDue self.old to_client.old.items to_client.new.items self.new) }
-        ensures why { IfErr result (λ error. (error ≡ NextReplyError.OutOfMemory)
-            ⊎ FindsFirst self.old.server.limit self.old.server.bytes (Err error)) }
+        ensures why { IfErr result (IsNextError self.old to_client.old) }
     {
         self.flush(to_client)?;
         self.pass_reply(to_client)
@@ -370,7 +398,9 @@ impl Proxy {
     fn flush(&mut self, to_client: &mut Vec<u8>) -> Result<(), NextReplyError>
         ensures gives { GivesDue self.old to_client.old.items to_client.new.items self.new }
         ensures ok { OnOk result (self.new ≡ flushed self.old) }
-        ensures err { IfErr result (λ error. error ≡ NextReplyError.OutOfMemory) }
+        ensures err { IfErr result (λ error. (error ≡ NextReplyError.OutOfMemory)
+            × LacksRoom to_client.old (due self.old.order)) }
+        ensures capacity { vec_capacity to_client.old ≤ vec_capacity to_client.new }
     {
         match self.order.release(to_client) {
             Ok(()) => Ok(()),
@@ -386,8 +416,7 @@ impl Proxy {
             → FindsFirst self.old.server.limit self.old.server.bytes (Ok None) }
         ensures err { OnErr result (self.new ≡ self.old) }
         ensures out_err { OnErr result (to_client.new.items ≡ to_client.old.items) }
-        ensures why { IfErr result (λ error. (error ≡ NextReplyError.OutOfMemory)
-            ⊎ FindsFirst self.old.server.limit self.old.server.bytes (Err error)) }
+        ensures why { IfErr result (IsPassError self.old to_client.old []) }
     {
         let Some(first) = self.server.find_first()? else {
             return Ok(None);
@@ -430,7 +459,8 @@ impl Proxy {
     /// whole reply of the same code, as a 227 with another address. It is for a reply that
     /// `first_reply` found.
     ///
-    /// At an error the server's reply stays.
+    /// At an error the server's reply stays. `OutOfMemory` comes as with `next_reply`, of these
+    /// bytes.
     pub fn replace_reply(
         &mut self,
         other: &[u8],
@@ -441,12 +471,12 @@ impl Proxy {
             × GivesOther (flushed self.old) other.now middle to_client.new.items self.new) }
         ensures err { OnErr result
             (GivesDue self.old to_client.old.items to_client.new.items self.new) }
-        ensures why { IfErr result (IsReplaceError self.old) }
+        ensures why { IfErr result (IsReplaceError self.old other.now to_client.old) }
     {
-        if self.flush(to_client).is_err() {
-            return Err(ReplaceError::OutOfMemory);
+        match self.flush(to_client) {
+            Ok(()) => self.pass_other(other, to_client),
+            Err(_) => Err(ReplaceError::OutOfMemory),
         }
-        self.pass_other(other, to_client)
     }
 
     /// Appends the other reply in place of the server's next one.
@@ -455,7 +485,7 @@ impl Proxy {
             to_client.new.items self.new) }
         ensures err { OnErr result (self.new ≡ self.old) }
         ensures out_err { OnErr result (to_client.new.items ≡ to_client.old.items) }
-        ensures why { IfErr result (IsOtherError self.old) }
+        ensures why { IfErr result (IsOtherError self.old other.now to_client.old []) }
     {
         let first = match self.server.find_first() {
             Ok(Some(first)) => first,
@@ -512,7 +542,7 @@ fn send_error(error: ForwardError) -> SendError
 
 /// Whether the bytes are one whole reply of this code.
 fn is_reply_of(code: u16, bytes: &[u8]) -> bool
-    ensures { IsTrue result → IsWholeReply (record { code = code; bytes = bytes.now }) }
+    ensures { IsTrue result ↔ IsWholeReply (record { code = code; bytes = bytes.now }) }
 {
     match find_reply(bytes) {
         FoundReply::Whole { code: found, used } => found == code && used == bytes.len(),

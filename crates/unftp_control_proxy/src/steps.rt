@@ -26,7 +26,8 @@ pub fn calls_are_traffic()
     ensures next_line { (before later : RustProxy) (found : Bool) (held : ℕ)
         → later ≡ record before { client = record before.client { found = found; held = held } }
         → IsTraffic before nothing_passed later }
-    ensures stand_alone { (before later : RustProxy) → later ≡ record before { alone = true }
+    ensures stand_alone { (before later : RustProxy) (alone next_alone : Bool)
+        → later ≡ record before { alone = alone; next_alone = next_alone }
         → IsTraffic before nothing_passed later }
     // What is forwarded means what the client's line means.
     ensures forward { (before later : RustProxy) (sent sent_later : Bytes)

@@ -9,6 +9,8 @@ ghost use Rattle.unftp_control_message.specs.ReplyMeaning.{reply_of};
 ghost use Rattle.unftp_control_proxy.specs.ProxyCalls.{IsDecidable, WaitsForServer, is_out_of_memory};
 ghost use Rattle.unftp_control_proxy.specs.ClientLines.{first_client_line, front_line, line_in};
 ghost use Rattle.unftp_control_proxy.specs.Traffic.{AnsweredBy, Fate, IsTraffic, one_line, sent_for};
+ghost use Rattle.unftp_control_write.specs.Forwarding.{LacksRoomFor};
+ghost use Rattle.unftp_control_write.specs.Room.{LacksRoom};
 ghost use Rattle.unftp_control_relay.specs.Filtering.{AreFiltered, Becomes, IsStep, Reply as ReplyStep, Send, Step as StepFor, decision_of, fate_by, forwarding_step, step_for, told_of};
 
 use crate::filter::{Filter, Verdict};
@@ -73,6 +75,7 @@ fn append_forwarded(
     ensures ok { IfOk result (λ step. IsStep (forwarding_step line.now (outcome line.now)) step
         to_server.old.items to_server.new.items) }
     ensures err { OnErr result (to_server.new.items ≡ to_server.old.items) }
+    ensures memory { OnErr result (LacksRoomFor line.now to_server.old) }
 {
     match parts {
         Ok(parts) => match forward_parts(line, *parts, to_server) {
@@ -88,6 +91,7 @@ fn append(bytes: &[u8], to_server: &mut Vec<u8>) -> Result<Step, AllocError>
     ensures ok { IfOk result (λ step. IsStep (Send bytes.now) step
         to_server.old.items to_server.new.items) }
     ensures err { OnErr result (to_server.new.items ≡ to_server.old.items) }
+    ensures memory { OnErr result (LacksRoom to_server.old bytes.now) }
 {
     to_server.extend_from_slice(bytes)?;
     Ok(Step::Appended)

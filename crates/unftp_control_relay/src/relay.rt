@@ -47,7 +47,7 @@ const PIECE: usize = 4096;
 impl<F: Filter + Drop> Relay<F> {
     /// A relay that was given nothing. The client is owed the server's greeting first.
     pub fn new(alloc: Global, limits: Limits, filter: F) -> Result<Relay<F>, AllocError>
-        requires { (1 ≤ limits.line) × (1 ≤ limits.reply) }
+        requires { (1 ≤ limits.line) × (1 ≤ limits.reply) × (1 ≤ limits.waiting) }
         ensures { IfOk result (λ relay.
             relay_state_of F.state relay ≡ new_relay limits (F.state filter)) }
     {

@@ -17,7 +17,7 @@ returns c = record {
       (append-nil before.client.bytes ∙ sym (ap (λ (p : Proxy). p.client.bytes) is))
       (sym (ap (λ (p : Proxy). p.server.bytes) is));
   next_line = λ before later found held is. found_only before later found held is;
-  stand_alone = λ before later is. pieces before later
+  stand_alone = λ before later alone next_alone is. pieces before later
       (ap (λ (p : Proxy). p.order) is) (ap (λ (p : Proxy). p.limits) is)
       (ap (λ (p : Proxy). p.client.limit) is) [] []
       (append-nil before.client.bytes ∙ sym (ap (λ (p : Proxy). p.client.bytes) is))

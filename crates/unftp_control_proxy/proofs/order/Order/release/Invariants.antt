@@ -1,4 +1,4 @@
-use Rattle.std.proofs.Common.{◌≡◌, ◌≤◌, ◌+◌, ◌++◌, length, drop, map, take}
+use Rattle.std.proofs.Common.{◌≡◌, ◌≤◌, ◌+◌, ◌++◌, length, drop, map, take, vec_capacity}
 use Rattle.unftp_control_proxy.specs.Owed.{after_due, due, owed_in}
 use Rattle.unftp_control_proxy.proofs.order.Order.release.Given as goal
 
@@ -13,3 +13,4 @@ invariant-loop l =
     × (length l.initial.out.items ≤ length l.out.items)
     × (l.self-inside.slots.items ≡ drop l.counter l.initial.self-inside.slots.items)
     × (length l.initial.self-inside.slots.items ≡ l.end)
+    × (vec_capacity l.initial.out ≤ vec_capacity l.out)
