@@ -12,6 +12,8 @@ returns c = record {
   twice = λ reads. let more = reads.once in absurd (cc);
   too_long = λ before after piece long reads. omega (arith, long, reads.short);
   waiting = λ proxy before after piece waits reads. (reads.waits waits).1;
+  relayed = λ before after input input' waits relays. (relays.1.waits waits).0;
+  failed = λ before after input input' fails. fails.same;
   not_waiting = λ proxy input goes_on reads. omega (
     arith,
     ap length (reads.reads goes_on).once,
