@@ -18,8 +18,9 @@ pub enum SendError {
     /// The line is no command, for this reason.
     #[error("{0}")]
     Refused(ParseError),
-    /// Servers don't read what would be sent alike, or some send no reply to it.
-    #[error("line that servers don't read alike")]
+    /// What would be sent is not clear: servers read such lines in different ways, or send no reply
+    /// to them.
+    #[error("line that servers read in different ways")]
     Unclear,
     /// What would be sent is longer than a line that is sent may be.
     #[error("line too long to be sent")]

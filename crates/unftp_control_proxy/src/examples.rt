@@ -19,7 +19,7 @@ ghost use Rattle.unftp_control_proxy.specs.declared.proxy.Limits.{Limits as Rust
 ghost use Rattle.unftp_control_proxy.specs.declared.proxy.Proxy.{Proxy as RustProxy};
 ghost use Rattle.unftp_control_proxy.specs.declared.proxy.ServerReply.TheVariants.{Passed, Unasked};
 
-/// Lines that all servers read alike.
+/// Lines that are clear, and others.
 pub fn lines_are_clear()
     ensures clear { is_clear (codes "SITE CHMOD 777 a\r\n") ≡ true }
     ensures tab_in_a_path { is_clear (codes "RETR a\tb\r\n") ≡ true }

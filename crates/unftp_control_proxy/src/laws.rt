@@ -49,8 +49,8 @@ pub fn nothing_else_is_sent()
 {}
 
 /// A proxy that sends for each line one that means the same, and gives each reply as it came,
-/// changes nothing: the client is given the server's bytes, but for a part of a reply, and the
-/// server has the events of the client's lines.
+/// changes nothing: the client is given the server's bytes, but for the last ones, which the proxy
+/// still has, and the server has the events of the client's lines.
 pub fn forwarding_all_changes_nothing()
     ensures given { (limits : RustLimits) (traffic : Traffic) (later : RustProxy)
         → IsTraffic (new_proxy limits) traffic later → ChangesNothing traffic
@@ -63,8 +63,8 @@ pub fn forwarding_all_changes_nothing()
 {}
 
 /// Before a server that answers each line by a handler, after a greeting: through such a proxy the
-/// client is given what that server would write for its lines with no proxy between, but for a part
-/// of a reply.
+/// client is given what that server would write for its lines with no proxy between, but for what
+/// the proxy still has.
 pub fn served_as_without_a_proxy<H: Handler>()
     ensures { (limits : RustLimits) (traffic : Traffic) (later : RustProxy) (s : H.State)
         (greeting : Bytes)

@@ -168,9 +168,9 @@ impl Proxy {
     /// Decides the line: appends the line that `forward` of `unftp_control_write` writes for it,
     /// and the client is owed the server's reply.
     ///
-    /// `Refused` where the line is no command; `Unclear` where servers don't read alike what would
-    /// be sent: its verb is empty or has bytes that are no letters and digits of ASCII, or there is
-    /// a CR, a NUL or a 255 (Telnet's, RFC 854) before its end; `TooLong` where it is longer than
+    /// `Refused` where the line is no command; `Unclear` where what would be sent is not clear: its
+    /// verb is empty or has bytes that are no letters and digits of ASCII, or there is a CR, a NUL
+    /// or a 255 (Telnet's, RFC 854) before its end; `TooLong` where it is longer than
     /// `Limits::sent`. At an error nothing changes.
     pub fn forward(&mut self, to_server: &mut Vec<u8>) -> Result<(), SendError>
         ensures ok { OnOk result (self.new ≡ decided self.old ReplyOwed) }
@@ -237,9 +237,9 @@ impl Proxy {
         self.owe_appended(length, to_server)
     }
 
-    /// Decides the line: the line itself is sent, as it came, also where servers don't read it
-    /// alike. It is for a caller that knows its server, and that it replies once to such a line: if
-    /// it doesn't, each later reply is given to another line.
+    /// Decides the line: the line itself is sent, as it came, also where it is not clear. It is for
+    /// a caller that knows its server, and that it replies once to such a line: if it doesn't, each
+    /// later reply is given to another line.
     ///
     /// Never `Unclear`. Else as `send_as_it_is`.
     pub fn send_unclear(&mut self, to_server: &mut Vec<u8>) -> Result<(), SendError>

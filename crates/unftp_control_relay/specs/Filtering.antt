@@ -76,8 +76,8 @@ abbrev pub told_of : SendError → Fate
 told_of send.TooLong = long_line
 told_of _ = refused_line
 
--- What becomes of a line then: no more bytes are sent than the limit, and only a line that all
--- servers read alike; an answer is a final reply that a client reads as one.
+-- What becomes of a line then: no more bytes are sent than the limit, and only a clear line; an
+-- answer is a final reply that a client reads as one.
 abbrev pub fate_by : ℕ → Step → Fate
 fate_by limit (Send line) =
     if is_clear line then (if nat_le (length line) limit then SentAs line else long_line)

@@ -23,7 +23,7 @@ pub fn lines_have_a_step()
         ≡ Send (codes "PWD\r\n") }
 {}
 
-/// What becomes of it: a line is sent up to the limit, and only where servers read it alike.
+/// What becomes of it: a line is sent up to the limit, and only where it is clear.
 pub fn steps_have_a_fate()
     ensures sent { fate_by 6 (Send (codes "NOOP\r\n")) ≡ SentAs (codes "NOOP\r\n") }
     ensures too_long { fate_by 5 (Send (codes "NOOP\r\n")) ≡ long_line }
