@@ -447,6 +447,8 @@ enum unftp_result unftp_client_line(struct unftp_client *client, const char *lin
  * place of the line, and 0 where it is to none. Call it once for each reply that unftp_front_reply
  * finds. A server replies in order (RFC 959, sections 4.2 and 5.4): the greeting comes first, then
  * the replies to each line. After one whose code is from 100 to 199 another follows to the same.
+ * A proxy ends the session at a reply to nothing, as a 421: its own client would take it for the
+ * reply to the next line.
  *
  * Nothing in a reply says what it is to, so a server that doesn't keep the order is not noticed:
  * pyftpdlib answers NOOP within a transfer before the 226, and both replies are then given to the

@@ -11,9 +11,9 @@ ghost use Rattle.unftp_control_defs.specs.Lines.{IsLine};
 ghost use Rattle.unftp_control_codecs.specs.LineFeed.{is_line_feed, line_feed_from};
 ghost use Rattle.unftp_control_defs.specs.Turns.{is_preliminary};
 ghost use Rattle.unftp_control_client.specs.Dialogue.{after_line, after_reply, commands_owed, next_to};
-ghost use Rattle.unftp_control_client.specs.ForwardingSteps.{Answered, AreForwardingSteps, ForwardingStep, IsForwardingStep, lines_replies};
+ghost use Rattle.unftp_control_client.specs.ForwardingSteps.{Answered, AreForwardingSteps, ForwardingStep, IsForwardingStep, Passed, replies_given};
 ghost use Rattle.unftp_control_client.specs.Steps.{AreDialogueSteps, AreExchanges, ClientStep, EndsInAgreement, ReplyTo, Sent, Took, replies_owed};
-ghost use Rattle.unftp_control_client.specs.declared.dialogue.To.TheVariants.{Greeting};
+ghost use Rattle.unftp_control_client.specs.declared.dialogue.To.TheVariants.{Greeting, Nothing};
 ghost use Rattle.unftp_control_log.specs.Known.{known};
 ghost use Rattle.unftp_control_log.specs.LogLine.{IsPrintable, logged};
 ghost use Rattle.unftp_control_login.specs.Gate.{decided, stage_after};
@@ -174,17 +174,22 @@ pub fn client_calls_are_a_dialogue()
         → EndsInAgreement steps × (pending ≡ 0) }
 {}
 
-/// A proxy that notes each line that it forwards and each reply that it passes on, and answers a
-/// line itself only where `greeted` is not 0 and `unftp_client_owed` is 0: its client gets the
-/// greeting and one exchange for each line, in order, whoever answers it.
+/// A proxy that notes each line that it forwards and each reply that it passes on, ends the session
+/// at a reply to nothing, and answers a line itself only where `greeted` is not 0 and
+/// `unftp_client_owed` is 0: all that its client gets is the greeting and one exchange for each
+/// line, in order, whoever answers it.
 pub fn answers_are_exchanges()
     ensures answer { (client : RustClient) (reply : ℕ × List Bytes)
         → client.greeted ≢ 0 → commands_owed (dialogue_of client) ≡ 0
         → is_preliminary reply.0 ≡ false
         → IsForwardingStep (dialogue_of client) (Answered reply) (dialogue_of client) }
+    ensures pass { (before after : RustClient) (taken : ReplyTo)
+        → taken.to ≡ next_to (dialogue_of before) → to_number taken.to ≢ to_number Nothing
+        → dialogue_of after ≡ after_reply (dialogue_of before) taken.reply.0
+        → IsForwardingStep (dialogue_of before) (Passed taken) (dialogue_of after) }
     ensures exchanges { (steps : List ForwardingStep) (after : RustClient)
         → AreForwardingSteps (dialogue_of new_client) steps (dialogue_of after)
-        → AreExchanges Greeting (lines_replies steps) }
+        → AreExchanges Greeting (replies_given 0 0 steps) }
 {}
 
 /// A server that does at each event what `unftp_login_event` says, keeps the name of each USER, and

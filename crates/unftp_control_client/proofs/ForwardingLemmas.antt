@@ -1,12 +1,12 @@
 -- The runs of a proxy that answers lines between the exchanges of its server.
 use Rattle.std.proofs.Common.{◌≡◌, ◌≤◌, ◌+◌, ◌-◌, ℕ, suc, Bool, true, false, List, [], ◌∷◌, length, Option, Some, None, refl, sym, ap, subst, ◌∙◌, arith, unwrap_or}
-use Rattle.std.proofs.lemmas.Bool.{ltb-true}
+use Rattle.std.proofs.lemmas.Bool.{false≢true, ltb-true}
 use Rattle.std.specs.List.{filter}
 use Rattle.unftp_control_defs.specs.Bytes.{Bytes}
 use Rattle.unftp_control_defs.specs.Turns.{is_preliminary}
 use Rattle.unftp_control_client.specs.Dialogue.{commands_owed}
 use Rattle.unftp_control_client.specs.ForwardingSteps.{Answered, AreForwardingSteps, Forwarded, ForwardingStep, IsGreeted, Passed, among_all, is_line, replies_given}
-use Rattle.unftp_control_client.specs.Steps.{AreExchanges, IsDialogueStep, ReplyTo, Took, is_final, was_owed}
+use Rattle.unftp_control_client.specs.Steps.{AreExchanges, IsDialogueStep, ReplyTo, Took, is_final, is_something, was_owed}
 use Rattle.unftp_control_client.specs.declared.dialogue.Dialogue.{Dialogue}
 use Rattle.unftp_control_client.specs.declared.dialogue.To.{To}
 use Rattle.unftp_control_client.specs.declared.dialogue.To.TheVariants.{Command}
@@ -23,7 +23,7 @@ abbrev pub client_exchange : ℕ → Option ℕ → To
 client_exchange own answered = among_all own (open_exchange answered)
 
 abbrev finals : List ReplyTo → ℕ
-finals replies = length (filter is_final (filter was_owed replies))
+finals replies = length (filter is_final replies)
 
 between_line : (own : ℕ) (answered : Option ℕ) (sent : ℕ) → IsBetween own answered sent
     → IsBetween own answered (suc sent)
@@ -54,32 +54,30 @@ module _ (own : ℕ) (replies : List ReplyTo) (reply : ℕ × List Bytes) where
       record { to = among_all own (owed_where answered owed); reply = reply } ∷ replies
 
   exchanges-passed : (answered : Option ℕ) (sent : ℕ) (owed preliminary : Bool)
-      → is_preliminary reply.0 ≡ preliminary → IsBetween own answered sent
-      → AreExchanges
+      → is_preliminary reply.0 ≡ preliminary → is_something (owed_where answered owed) ≡ true
+      → IsBetween own answered sent → AreExchanges
       (client_exchange own (answered_after preliminary (owed_where answered owed) answered))
-      (filter was_owed replies)
-      → AreExchanges (client_exchange own answered) (filter was_owed (with_passed answered owed))
-  exchanges-passed None sent owed true e is h = (refl, rw e h)
-  exchanges-passed None sent owed false e is h =
+      replies
+      → AreExchanges (client_exchange own answered) (with_passed answered owed)
+  exchanges-passed None sent owed true e some is h = (refl, rw e h)
+  exchanges-passed None sent owed false e some is h =
       let none : own + 0 ≡ 0 = omega (arith, is) in
-      (refl, rw e (subst (λ place. AreExchanges (Command place) (filter was_owed replies)) none h))
-  exchanges-passed (Some answered) sent true true e is h = (refl, rw e h)
-  exchanges-passed (Some answered) sent true false e is h =
+      (refl, rw e (subst (λ place. AreExchanges (Command place) replies) none h))
+  exchanges-passed (Some answered) sent true true e some is h = (refl, rw e h)
+  exchanges-passed (Some answered) sent true false e some is h =
       let next : own + suc answered ≡ suc (own + answered) = omega arith in
-      (refl, rw e (subst (λ place. AreExchanges (Command place) (filter was_owed replies)) next h))
-  exchanges-passed (Some answered) sent false true e is h = h
-  exchanges-passed (Some answered) sent false false e is h = h
+      (refl, rw e (subst (λ place. AreExchanges (Command place) replies) next h))
+  exchanges-passed (Some answered) sent false preliminary e some is h = absurd (false≢true some)
 
   complete-passed : (answered : Option ℕ) (owed preliminary : Bool)
-      → is_preliminary reply.0 ≡ preliminary
+      → is_preliminary reply.0 ≡ preliminary → is_something (owed_where answered owed) ≡ true
       → complete (answered_after preliminary (owed_where answered owed) answered) + finals replies
       ≡ complete answered + finals (with_passed answered owed)
-  complete-passed None owed true e = rw e (omega arith)
-  complete-passed None owed false e = rw e (omega arith)
-  complete-passed (Some answered) true true e = rw e (omega arith)
-  complete-passed (Some answered) true false e = rw e (omega arith)
-  complete-passed (Some answered) false true e = refl
-  complete-passed (Some answered) false false e = refl
+  complete-passed None owed true e some = rw e (omega arith)
+  complete-passed None owed false e some = rw e (omega arith)
+  complete-passed (Some answered) true true e some = rw e (omega arith)
+  complete-passed (Some answered) true false e some = rw e (omega arith)
+  complete-passed (Some answered) false preliminary e some = absurd (false≢true some)
 
 -- ---- an answer of the proxy
 
@@ -90,14 +88,14 @@ module _ (own : ℕ) (replies : List ReplyTo) (reply : ℕ × List Bytes)
 
   exchanges-answered : (answered : Option ℕ) (sent : ℕ) → IsGreeted answered
       → sent - unwrap_or answered 0 ≡ 0 → IsBetween own answered sent
-      → AreExchanges (client_exchange (suc own) answered) (filter was_owed replies)
-      → AreExchanges (client_exchange own answered) (filter was_owed (with_answer sent))
+      → AreExchanges (client_exchange (suc own) answered) replies
+      → AreExchanges (client_exchange own answered) (with_answer sent)
   exchanges-answered None sent greeted none is h = absurd greeted
   exchanges-answered (Some answered) sent greeted none is h =
       let same : own + sent ≡ own + answered = omega (arith, none, is) in
       let next : suc own + answered ≡ suc (own + answered) = omega arith in (
         ap Command same,
-        rw final (subst (λ place. AreExchanges (Command place) (filter was_owed replies)) next h),
+        rw final (subst (λ place. AreExchanges (Command place) replies) next h),
       )
 
   complete-answered : (sent : ℕ) → finals (with_answer sent) ≡ suc (finals replies)
@@ -107,7 +105,7 @@ module _ (own : ℕ) (replies : List ReplyTo) (reply : ℕ × List Bytes)
 
 -- one reply more of the server
 module _ (own : ℕ) (before next : Dialogue) (taken : ReplyTo)
-    (step : IsDialogueStep before (Took taken) next) where
+    (step : IsDialogueStep before (Took taken) next) (some : was_owed taken ≡ true) where
   abbrev was : Bool
   was = owed before next taken step
 
@@ -122,16 +120,19 @@ module _ (own : ℕ) (before next : Dialogue) (taken : ReplyTo)
       (sym (now_answered before next taken step))
       (between_passed own before.answered before.sent was begins refl is))
 
+  is_some : is_something (owed_where before.answered was) ≡ true
+  is_some = ap is_something (sym (is_to before next taken step)) ∙ some
+
   passed-exchanges : (replies : List ReplyTo) → IsBetween own before.answered before.sent
-      → AreExchanges (client_exchange own next.answered) (filter was_owed replies)
+      → AreExchanges (client_exchange own next.answered) replies
       → AreExchanges (client_exchange own before.answered)
-      (filter was_owed (record { to = among_all own taken.to; reply = taken.reply } ∷ replies))
+      (record { to = among_all own taken.to; reply = taken.reply } ∷ replies)
   passed-exchanges replies is h =
       subst (λ to. AreExchanges (client_exchange own before.answered)
-      (filter was_owed (record { to = among_all own to; reply = taken.reply } ∷ replies)))
+      (record { to = among_all own to; reply = taken.reply } ∷ replies))
       (sym (is_to before next taken step))
-      (exchanges-passed own replies taken.reply before.answered before.sent was begins refl is
-      (subst (λ answered. AreExchanges (client_exchange own answered) (filter was_owed replies))
+      (exchanges-passed own replies taken.reply before.answered before.sent was begins refl is_some
+      is (subst (λ answered. AreExchanges (client_exchange own answered) replies)
       (now_answered before next taken step) h))
 
   passed-complete : (replies : List ReplyTo)
@@ -139,7 +140,7 @@ module _ (own : ℕ) (before next : Dialogue) (taken : ReplyTo)
       + finals (record { to = among_all own taken.to; reply = taken.reply } ∷ replies)
   passed-complete replies =
       ap (λ answered. complete answered + finals replies) (now_answered before next taken step)
-      ∙ complete-passed own replies taken.reply before.answered was begins refl
+      ∙ complete-passed own replies taken.reply before.answered was begins refl is_some
       ∙ ap (λ to. complete before.answered
       + finals (record { to = among_all own to; reply = taken.reply } ∷ replies))
       (sym (is_to before next taken step))
@@ -147,25 +148,25 @@ module _ (own : ℕ) (before next : Dialogue) (taken : ReplyTo)
 pub given-exchanges : (own : ℕ) (steps : List ForwardingStep) (before after : Dialogue)
     → IsBetween own before.answered before.sent → AreForwardingSteps before steps after
     → AreExchanges (client_exchange own before.answered)
-    (filter was_owed (replies_given own before.sent steps))
+    (replies_given own before.sent steps)
 given-exchanges own [] before after is are = tt
 given-exchanges own (Forwarded line ∷ steps) before after is (next, step, are) =
     subst (λ (d : Dialogue). AreExchanges (client_exchange own d.answered)
-    (filter was_owed (replies_given own d.sent steps))) step
+    (replies_given own d.sent steps)) step
     (given-exchanges own steps next after
     (subst (λ (d : Dialogue). IsBetween own d.answered d.sent) (sym step)
     (between_line own before.answered before.sent is)) are)
-given-exchanges own (Passed taken ∷ steps) before after is (next, step, are) =
-    passed-exchanges own before next taken step (replies_given own before.sent steps) is
+given-exchanges own (Passed taken ∷ steps) before after is (next, (step, some), are) =
+    passed-exchanges own before next taken step some (replies_given own before.sent steps) is
     (subst (λ sent. AreExchanges (client_exchange own next.answered)
-    (filter was_owed (replies_given own sent steps))) (now_sent before next taken step)
-    (given-exchanges own steps next after (now_between own before next taken step is) are))
+    (replies_given own sent steps)) (now_sent before next taken step)
+    (given-exchanges own steps next after (now_between own before next taken step some is) are))
 given-exchanges own (Answered reply ∷ steps) before after is
     (next, (greeted, none, final, same), are) =
     exchanges-answered own (replies_given (suc own) before.sent steps) reply final
     before.answered before.sent greeted none is
     (subst (λ (d : Dialogue). AreExchanges (client_exchange (suc own) d.answered)
-    (filter was_owed (replies_given (suc own) d.sent steps))) same
+    (replies_given (suc own) d.sent steps)) same
     (given-exchanges (suc own) steps next after
     (subst (λ (d : Dialogue). IsBetween (suc own) d.answered d.sent) (sym same)
     (between_more own before.answered before.sent greeted is)) are))
@@ -187,14 +188,14 @@ given-complete own (Forwarded line ∷ steps) before after (next, step, are) =
     ≡ complete d.answered + finals (replies_given own d.sent steps) + after.sent) step
     (given-complete own steps next after are) in
     omega (arith, more)
-given-complete own (Passed taken ∷ steps) before after (next, step, are) =
+given-complete own (Passed taken ∷ steps) before after (next, (step, some), are) =
     let more = subst (λ sent. complete after.answered + length (filter is_line steps) + sent
     ≡ complete next.answered + finals (replies_given own sent steps) + after.sent)
     (now_sent before next taken step) (given-complete own steps next after are) in
     omega (
       arith,
       more,
-      passed-complete own before next taken step (replies_given own before.sent steps),
+      passed-complete own before next taken step some (replies_given own before.sent steps),
     )
 given-complete own (Answered reply ∷ steps) before after
     (next, (greeted, none, final, same), are) =
@@ -218,8 +219,8 @@ within own (Forwarded line ∷ steps) before after is (next, step, are) =
     within own steps next after
     (subst (λ (d : Dialogue). IsBetween own d.answered d.sent) (sym step)
     (between_line own before.answered before.sent is)) are
-within own (Passed taken ∷ steps) before after is (next, step, are) =
-    within own steps next after (now_between own before next taken step is) are
+within own (Passed taken ∷ steps) before after is (next, (step, some), are) =
+    within own steps next after (now_between own before next taken step some is) are
 within own (Answered reply ∷ steps) before after is
     (next, (greeted, none, final, same), are) =
     within (suc own) steps next after

@@ -1,7 +1,6 @@
 -- A proxy that forwards lines of its client to a server, passes the server's replies on, and
 -- answers the other lines itself, over its dialogue with the server (RFC 959, section 5.4).
-use Rattle.std.specs.Prelude.{◌≡◌, ℕ, suc, ◌+◌, List, [], ◌∷◌, Bool, true, false, Option, None, Some, ⊤}
-use Rattle.std.specs.List.{filter}
+use Rattle.std.specs.Prelude.{◌≡◌, ℕ, suc, ◌+◌, List, [], ◌∷◌, Bool, true, false, IsTrue, Option, None, Some, ⊤}
 use Rattle.unftp_control_defs.specs.Bytes.{Bytes}
 use Rattle.unftp_control_defs.specs.Turns.{is_preliminary}
 use Rattle.unftp_control_client.specs.Dialogue.{commands_owed}
@@ -20,11 +19,12 @@ abbrev pub IsGreeted : Option ℕ → Type 0
 IsGreeted None = ⊥
 IsGreeted (Some answered) = ⊤
 
--- It answers a line only where the server has greeted, no command is owed its final reply, and by a
--- final reply.
+-- It passes on only a reply that is owed: one to nothing ends the session. It answers a line only
+-- where the server has greeted, no command is owed its final reply, and by a final reply.
 abbrev pub IsForwardingStep : Dialogue → ForwardingStep → Dialogue → Type 0
 IsForwardingStep before (Forwarded line) after = IsDialogueStep before (Sent line) after
-IsForwardingStep before (Passed taken) after = IsDialogueStep before (Took taken) after
+IsForwardingStep before (Passed taken) after =
+    IsDialogueStep before (Took taken) after × IsTrue (was_owed taken)
 IsForwardingStep before (Answered reply) after =
     IsGreeted before.answered × (commands_owed before ≡ 0)
     × (is_preliminary reply.0 ≡ false) × (after ≡ before)
@@ -52,10 +52,6 @@ replies_given answered forwarded (Passed taken ∷ steps) =
 replies_given answered forwarded (Answered reply ∷ steps) =
     record { to = Command (answered + forwarded); reply = reply }
     ∷ replies_given (suc answered) forwarded steps
-
--- those of the greeting and of the lines
-abbrev pub lines_replies : List ForwardingStep → List ReplyTo
-lines_replies steps = filter was_owed (replies_given 0 0 steps)
 
 -- The step takes a line of the client.
 abbrev pub is_line : ForwardingStep → Bool

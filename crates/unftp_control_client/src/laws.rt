@@ -10,7 +10,7 @@ ghost use Rattle.unftp_control_read.specs.declared.errors.NextReplyError.{NextRe
 ghost use Rattle.unftp_control_read.specs.declared.errors.ReceiveError.{ReceiveError};
 ghost use Rattle.unftp_control_client.specs.Dialogue.{after_line, at_start, commands_owed};
 ghost use Rattle.unftp_control_client.specs.Exchange.{IsNext, new_client};
-ghost use Rattle.unftp_control_client.specs.ForwardingSteps.{AreForwardingSteps, ForwardingStep, IsGreeted, is_line, lines_replies};
+ghost use Rattle.unftp_control_client.specs.ForwardingSteps.{AreForwardingSteps, ForwardingStep, IsGreeted, is_line, replies_given};
 ghost use Rattle.unftp_control_client.specs.Steps.{AreDialogueSteps, AreExchanges, AreSteps, ClientStep, EndsInAgreement, Received, Sent, Took, lines_sent, decoder_steps, is_final, replies_owed, reply_to};
 ghost use Rattle.unftp_control_client.specs.declared.Client.{Client as RustClient};
 ghost use Rattle.unftp_control_client.specs.declared.dialogue.ClientReply.{ClientReply as RustReply};
@@ -110,16 +110,18 @@ pub fn dialogues_are_exchanges()
         → commands_owed dialogue ≡ 0 → EndsInAgreement steps }
 {}
 
-/// A proxy that forwards lines to a server, passes its replies on, and answers a line itself only
-/// where the server has greeted and is owed no reply: the client gets the greeting and one exchange
-/// for each line, in order, whoever answers it.
+/// A proxy that forwards lines to a server, passes on the replies that are owed, ends the session
+/// at any other, and answers a line itself only where the server has greeted and owes no reply: all
+/// that the client gets is the greeting and one exchange for each line, in order, whoever answers
+/// it.
 pub fn answers_are_exchanges()
     ensures exchanges { (steps : List ForwardingStep) (dialogue : RustDialogue)
         → AreForwardingSteps at_start steps dialogue
-        → AreExchanges Greeting (lines_replies steps) }
+        → AreExchanges Greeting (replies_given 0 0 steps) }
     // Where the server owes none, each line has its final reply, and the greeting is complete.
     ensures complete { (steps : List ForwardingStep) (dialogue : RustDialogue)
         → AreForwardingSteps at_start steps dialogue
         → IsGreeted dialogue.answered → commands_owed dialogue ≡ 0
-        → length (filter is_final (lines_replies steps)) ≡ suc (length (filter is_line steps)) }
+        → length (filter is_final (replies_given 0 0 steps))
+        ≡ suc (length (filter is_line steps)) }
 {}

@@ -19,6 +19,7 @@ ghost use Rattle.unftp_control_write.specs.Room.{LacksRoom};
 
 mod dialogue;
 mod errors;
+pub mod examples;
 pub mod laws;
 
 pub use crate::dialogue::{ClientReply, Dialogue, To, same_client_replies};

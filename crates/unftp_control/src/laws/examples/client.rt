@@ -18,6 +18,8 @@ ghost use Rattle.unftp_control.specs.ClientRuns.{asking, auth_tls, client_with, 
 pub fn these_lines_ask_for_tls()
     ensures lower_case { asks_for_tls (codes "auth tls\r\n") ≡ true }
     ensures longer_mechanism { asks_for_tls (codes "AUTH TLS-C\r\n") ≡ false }
+    ensures older_name { asks_for_tls (codes "AUTH SSL\n") ≡ true }
+    ensures other_mechanism { asks_for_tls (codes "AUTH GSSAPI\r\n") ≡ false }
     ensures two_lines { asks_for_tls (codes "AUTH TLS\r\nNOOP\r\n") ≡ false }
 {}
 
