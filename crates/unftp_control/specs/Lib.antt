@@ -60,7 +60,7 @@ pub use Rattle.unftp_control_login.specs.Promises
 pub use Rattle.unftp_control_read.specs.Reading
 pub use Rattle.unftp_control_read.specs.ReplyDecoding
 pub use Rattle.unftp_control_read.specs.Receiving
-pub use Rattle.unftp_control_write.specs.Room
+pub use Rattle.unftp_control_defs.specs.Room
 pub use Rattle.unftp_control_write.specs.Forwarding
 pub use Rattle.unftp_control_write.specs.ClearLines
 pub use Rattle.unftp_control_write.specs.declared.WriteCommandError

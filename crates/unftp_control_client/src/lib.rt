@@ -15,7 +15,7 @@ ghost use Rattle.unftp_control_read.specs.ReplyDecoding.{IsReturned, TakesNextRe
 ghost use Rattle.unftp_control_read.specs.Receiving.{Receives};
 ghost use Rattle.unftp_control_client.specs.Dialogue.{after_line, commands_owed};
 ghost use Rattle.unftp_control_client.specs.Exchange.{IsNext, IsOtherError, MayBeginTls, new_client, only_reply};
-ghost use Rattle.unftp_control_write.specs.Room.{LacksRoom};
+ghost use Rattle.unftp_control_defs.specs.Room.{LacksRoom};
 
 mod dialogue;
 mod errors;

@@ -1,5 +1,6 @@
 -- To be read in this order.
 pub mod Bytes
+pub mod Room
 pub mod Buffer
 pub mod Input
 pub mod Lines

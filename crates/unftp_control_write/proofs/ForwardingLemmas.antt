@@ -20,7 +20,7 @@ use Rattle.unftp_control_defs.proofs.KeptKindLemmas.{keeps_parameter-command}
 use Rattle.unftp_control_message.specs.PartsMeaning.{given, said_of}
 use Rattle.unftp_control_message.specs.declared.parts.Parts.{Parts}
 use Rattle.unftp_control_write.specs.Forwarding.{IsForwarded, LacksRoomFor, sent_line}
-use Rattle.unftp_control_write.specs.Room.{LacksRoom}
+use Rattle.unftp_control_defs.specs.Room.{LacksRoom}
 use Rattle.unftp_control_write.specs.declared.forwarding.ForwardError.{ForwardError}
 use Rattle.unftp_control_write.specs.declared.forwarding.ForwardError.TheVariants.{OutOfMemory}
 

@@ -1,5 +1,5 @@
 -- How many bytes an escaped text has.
-use Rattle.std.proofs.Common.{◌≡◌, ◌<◌, ◌≤◌, ◌+◌, ◌==◌, ℕ, suc, zero, cond, Bool, true, false, if◌then◌else◌, [], ◌∷◌, count_by, get_or, length, refl, take, arith, OnErr, Result, Ok, Err}
+use Rattle.std.proofs.Common.{◌≡◌, ◌<◌, ◌≤◌, ◌+◌, ◌==◌, ℕ, suc, zero, cond, Bool, true, false, if◌then◌else◌, [], ◌∷◌, count_by, get_or, length, refl, take, arith}
 use Rattle.std.proofs.lemmas.List.Sums.{sum_by-cons}
 use Rattle.unftp_control_defs.specs.Bytes.{Bytes, CR}
 use Rattle.unftp_control_defs.specs.Values.{escaped}
@@ -40,7 +40,3 @@ escaped_so_far (b ∷ text) (suc i) d small = omega (
   byte_escaped b (b == CR) refl (take i text),
   escaped_so_far text i d (omega (arith, small)),
 )
-
-pub on_err : {T E : Type 0} (result : Result T E) {P : Type 0} → P → OnErr result P
-on_err (Ok value) holds = tt
-on_err (Err error) holds = holds

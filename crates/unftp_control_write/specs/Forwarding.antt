@@ -15,7 +15,7 @@ use Rattle.unftp_control_message.specs.PartsMeaning.{given}
 use Rattle.unftp_control_message.specs.declared.parts.Value.{Value}
 use Rattle.unftp_control_write.specs.declared.forwarding.ForwardError.{ForwardError}
 use Rattle.unftp_control_write.specs.declared.forwarding.ForwardError.TheVariants.{NotALine, Refused, OutOfMemory}
-use Rattle.unftp_control_write.specs.Room.{LacksRoom}
+use Rattle.unftp_control_defs.specs.Room.{LacksRoom}
 
 -- The line that is forwarded for the command of this line comes after the bytes from before. It has
 -- one LF, its last byte, and means the same.

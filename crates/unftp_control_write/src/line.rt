@@ -3,7 +3,7 @@ ghost use Rattle.std.specs.Prelude.{◌≡◌, ◌≤◌, [], ◌∷◌, ◌++�
 ghost use Rattle.unftp_control_defs.specs.Bytes.{CR, crlf};
 ghost use Rattle.unftp_control_defs.specs.Values.{escaped};
 ghost use Rattle.unftp_control_write.specs.Lines.{body_of, spaced_part};
-ghost use Rattle.unftp_control_write.specs.Room.{LacksRoom};
+ghost use Rattle.unftp_control_defs.specs.Room.{LacksRoom};
 
 use std::alloc::AllocError;
 

@@ -11,7 +11,7 @@ ghost use Rattle.unftp_control_client.specs.declared.Client.{Client as RustClien
 ghost use Rattle.unftp_control_client.specs.declared.dialogue.ClientReply.{ClientReply as RustReply};
 ghost use Rattle.unftp_control_client.specs.declared.dialogue.To.TheVariants.{Greeting, Command, Nothing};
 ghost use Rattle.unftp_control_client.specs.declared.errors.SendError.TheVariants.{OutOfMemory, TooManyCommands};
-ghost use Rattle.unftp_control_write.specs.Room.{LacksRoom};
+ghost use Rattle.unftp_control_defs.specs.Room.{LacksRoom};
 ghost use Rattle.unftp_control.specs.ClientRuns.{asking, auth_tls, client_with, dialogue, noop, reply_with, retr};
 
 /// The lines that ask for TLS: AUTH with TLS or SSL, in letters of any case, and its line end.

@@ -1,7 +1,7 @@
 use Rattle.std.proofs.Common.{take, length, length-append, ap, arith, ◌∙◌}
 use Rattle.unftp_control_defs.specs.Values.{escaped}
-use Rattle.unftp_control_defs.proofs.AppendLemmas.{kept_start}
-use Rattle.unftp_control_write.proofs.RoomLemmas.{escaped_so_far, on_err}
+use Rattle.unftp_control_defs.proofs.AppendLemmas.{kept_start, on_err}
+use Rattle.unftp_control_write.proofs.RoomLemmas.{escaped_so_far}
 use Rattle.unftp_control_write.proofs.line.append_escaped.Goals as goal
 
 pub returns-in_err-append_escaped_byte-clause-kept : goal.returns-in_err-append_escaped_byte-clause-kept
