@@ -1,5 +1,5 @@
 -- The bytes of a reply of several lines, from its parts, and as a client reads them.
-use Rattle.std.proofs.Common.{◌≡◌, ℕ, List, [], ◌∷◌, ◌++◌, length, drop, map, flat_map, decimal, refl, sym, ap, subst, ◌∙◌, append_assoc, append-nil, arith}
+use Rattle.std.proofs.Common.{◌≡◌, ◌<◌, ◌≤◌, ◌+◌, ℕ, suc, zero, List, [], ◌∷◌, ◌++◌, get_or, length, length-append, drop, take, map, flat_map, decimal, refl, sym, ap, subst, ◌∙◌, append_assoc, append-nil, arith}
 use Rattle.std.specs.List.{AllByRecursion}
 use Rattle.std.proofs.lemmas.List.{drop_at, map-append}
 use Rattle.unftp_control_defs.specs.Bytes.{Bytes, LF, DASH, Lacks}
@@ -41,21 +41,40 @@ encoded-lines_before_last code (line ∷ next ∷ lines) last =
     ap (λ t. decimal code ++ DASH ∷ t) (lines_after_code-front code line (next ∷ lines) last)
     ∙ lines_before_last-back code line (next ∷ lines) last
 
--- so a reply of these lines is appended part by part
-pub appended-lines : {S : Type 0} (text : S → Bytes) (code : ℕ) {lines : List S} (front : List S)
-    (last : S)
-    (start : Bytes) {opened coded : Bytes} → lines ≡ front ++ last ∷ []
-    → opened ≡ start ++ lines_before_last code (map text front) → coded ≡ opened ++ decimal code
-    → coded ++ spaced_line (text last) ≡ start ++ encoded (MultiLine code (map text lines))
-appended-lines text code front last start parts a b =
-    let texts = map text front in
-    let end = spaced_line (text last) in
-    ap (λ t. t ++ end) (b ∙ ap (λ t. t ++ decimal code) a)
-    ∙ append_assoc (start ++ lines_before_last code texts) (decimal code) end
-    ∙ append_assoc start (lines_before_last code texts) (decimal code ++ end)
-    ∙ ap (λ t. start ++ t) (sym (encoded-lines_before_last code texts (text last)))
-    ∙ ap (λ t. start ++ encoded (MultiLine code t)) (sym (map-append text front (last ∷ []))
-    ∙ ap (map text) (sym parts))
+-- so a reply is, of lines that have a last one
+pub encoded-front : {S : Type 0} (text : S → Bytes) (code : ℕ) {lines : List S} (front : List S)
+    (last : S) → lines ≡ front ++ last ∷ []
+    → encoded (MultiLine code (map text lines))
+    ≡ lines_before_last code (map text front) ++ ending code (text last)
+encoded-front text code front last parts =
+    ap (λ lines. encoded (MultiLine code lines))
+    (ap (map text) parts ∙ map-append text front (last ∷ []))
+    ∙ encoded-lines_before_last code (map text front) (text last)
+
+-- what is appended part by part
+pub appended-parts : (start front code last : Bytes) {whole opened coded : Bytes}
+    → whole ≡ front ++ (code ++ last) → opened ≡ start ++ front → coded ≡ opened ++ code
+    → coded ++ last ≡ start ++ whole
+appended-parts start front code last whole_is opened_is coded_is =
+    ap (λ text. text ++ last) (coded_is ∙ ap (λ text. text ++ code) opened_is)
+    ∙ append_assoc (start ++ front) code last ∙ append_assoc start front (code ++ last)
+    ∙ ap (λ text. start ++ text) (sym whole_is)
+
+-- the lines up to one, and that one, are at most all
+pub lines_so_far : {S : Type 0} (text : S → Bytes) (lines : List S) (i : ℕ) (d : S)
+    → i < length lines
+    → length (flat_map padded_line (map text (take i lines)))
+    + length (padded_line (text (get_or lines i d)))
+    ≤ length (flat_map padded_line (map text lines))
+lines_so_far text [] i d small = absurd (omega (arith, small))
+lines_so_far text (line ∷ lines) zero d small =
+    omega (arith, length-append (padded_line (text line)) (flat_map padded_line (map text lines)))
+lines_so_far text (line ∷ lines) (suc i) d small = omega (
+  arith,
+  length-append (padded_line (text line)) (flat_map padded_line (map text lines)),
+  length-append (padded_line (text line)) (flat_map padded_line (map text (take i lines))),
+  lines_so_far text lines i d (omega (arith, small)),
+)
 
 -- ---- as a client reads them
 

@@ -1,7 +1,8 @@
 //! The bytes of replies.
-ghost use Rattle.std.specs.Prelude.{◌≡◌, ◌==◌, ◌∷◌, ◌++◌, ◌+◌, ◌%◌, take, length, map, flat_map, vec_len, decimal, IsOk, MatchOption, OnErr, OnOk, if◌then◌else◌};
+ghost use Rattle.std.specs.Prelude.{◌≡◌, ◌==◌, ◌≤◌, ℕ, ◌∷◌, ◌++◌, ◌+◌, ◌%◌, take, length, map, flat_map, vec_capacity, vec_len, decimal, IsOk, MatchOption, OnErr, OnOk, if◌then◌else◌};
 ghost use Rattle.unftp_control_defs.specs.Bytes.{SP, crlf};
-ghost use Rattle.unftp_control_defs.specs.FtpReply.{Nothing, MultiLine, HasThreeDigits, encoded, padded, spaced_line};
+ghost use Rattle.unftp_control_defs.specs.FtpReply.{Nothing, CodeAndMsg, MultiLine, HasThreeDigits, encoded, padded, spaced_line};
+ghost use Rattle.unftp_control_defs.specs.Room.{LacksRoom};
 ghost use Rattle.unftp_control_message.specs.ReplyMeaning.{reply_of};
 ghost use Rattle.unftp_control_codecs.specs.Encoding.{padded_line, lines_before_last};
 
@@ -9,19 +10,16 @@ use std::alloc::AllocError;
 use std::convert::AsStr;
 use unftp_control_message::reply::Reply;
 
-/// More bytes than a line of a reply has beside its text: the code and a sign, and CR LF.
-const ROOM_BESIDE_TEXT: usize = 16;
+/// How many bytes end a line: CR LF.
+const LINE_END: usize = 2;
 
-/// As many bytes as a line between the first and the last may have beside its text: a space put
-/// before it, and CR LF.
-const ROOM_BESIDE_LINE: usize = 3;
-
-/// Appends the bytes of the reply. The buffer grows once at most; when out of memory, it is as it
-/// was.
+/// Appends the bytes of the reply. The buffer grows once at most, and only where it lacks room for
+/// them; when out of memory, it is as it was.
 pub fn append_reply(reply: &Reply, buf: &mut Vec<u8>) -> Result<(), AllocError>
     ensures ok { OnOk result (buf.new.items ≡ buf.old.items ++ encoded (reply_of reply.now)) }
     ensures err { OnErr result (buf.new.items ≡ buf.old.items) }
     ensures no_memory { reply_of reply.now ≡ Nothing → IsOk result }
+    ensures memory { OnErr result (LacksRoom buf.old (encoded (reply_of reply.now))) }
 {
     let length = buf.len();
     let appended = append_parts(reply, buf);
@@ -37,31 +35,86 @@ fn append_parts(reply: &Reply, buf: &mut Vec<u8>) -> Result<(), AllocError>
     ensures ok { OnOk result (buf.new.items ≡ buf.old.items ++ encoded (reply_of reply.now)) }
     ensures kept { take (vec_len buf.old) buf.new.items ≡ buf.old.items }
     ensures no_memory { reply_of reply.now ≡ Nothing → IsOk result }
+    ensures memory { OnErr result (LacksRoom buf.old (encoded (reply_of reply.now))) }
 {
     match reply {
         Reply::None => Ok(()),
-        Reply::CodeAndMsg { code, msg } => {
-            buf.reserve(room_for(msg.as_str()))?;
-            append_code(code.number(), buf)?;
-            append_text(msg.as_str(), buf)
-        }
+        Reply::CodeAndMsg { code, msg } => append_line(code.number(), msg.as_str(), buf),
         Reply::MultiLine { code, lines } => append_lines(code.number(), lines.as_slice(), buf),
     }
 }
 
-/// At least as many bytes as a line of a reply with this text has, where so many can be counted.
-fn room_for(text: &str) -> usize {
-    text.len().saturating_add(ROOM_BESIDE_TEXT)
+/// Appends a reply of one line, or perhaps a part of it when out of memory.
+fn append_line(code: u32, text: &str, buf: &mut Vec<u8>) -> Result<(), AllocError>
+    ensures ok { OnOk result (buf.new.items
+        ≡ buf.old.items ++ encoded (CodeAndMsg code text.now)) }
+    ensures kept { take (vec_len buf.old) buf.new.items ≡ buf.old.items }
+    ensures memory { OnErr result (LacksRoom buf.old (encoded (CodeAndMsg code text.now))) }
+{
+    buf.reserve(code_len(code).saturating_add(text_len(text)))?;
+    append_code(code, buf)?;
+    append_text(text, buf)
 }
 
-/// At least as many bytes as all lines of a reply have, the first and the last with the code.
-fn room_for_all<S: AsStr>(lines: &[S]) -> usize {
-    let mut room = 2 * ROOM_BESIDE_TEXT;
-    for line in lines {
-        let length = line.as_str().len().saturating_add(ROOM_BESIDE_LINE);
-        room = room.saturating_add(length);
+/// How many bytes follow the code of a reply of one line, where so many can be counted.
+fn text_len(text: &str) -> usize
+    ensures { result ≤ length (if length text.now == 0 then crlf else spaced_line text.now) }
+{
+    if text.is_empty() {
+        return LINE_END;
     }
-    room
+    spaced_line_len(text)
+}
+
+/// How many bytes a space, the text and CR LF are, where so many can be counted.
+fn spaced_line_len(text: &str) -> usize
+    ensures { result ≤ length (spaced_line text.now) }
+{
+    text.len().saturating_add(1 + LINE_END)
+}
+
+/// How many bytes a line before the last has, where so many can be counted.
+fn padded_line_len(line: &str) -> usize
+    ensures { result ≤ length (padded_line line.now) }
+{
+    if begins_with_digit(line) {
+        return spaced_line_len(line);
+    }
+    line.len().saturating_add(LINE_END)
+}
+
+/// How many digits the code has. One that has not three, as `ReplyCode` has some, has one.
+fn code_len(code: u32) -> usize
+    ensures { result ≤ length (decimal code) }
+{
+    match code {
+        100..=999 => 3,
+        _ => 1,
+    }
+}
+
+/// How many bytes lines before the last have, where so many can be counted.
+fn padded_lines_len<S: AsStr>(lines: &[S]) -> usize
+    ensures { result ≤ length (flat_map padded_line (map S.text lines.now)) }
+{
+    let mut len: usize = 0;
+    for line in lines {
+        len = len.saturating_add(padded_line_len(line.as_str()));
+    }
+    len
+}
+
+/// How many bytes the code, a dash and all lines before the last have, if there are any, where so
+/// many can be counted.
+fn lines_before_last_len<S: AsStr>(code: u32, lines: &[S]) -> usize
+    ensures { result ≤ length (lines_before_last code (map S.text lines.now)) }
+{
+    if lines.is_empty() {
+        return 0;
+    }
+    code_len(code)
+        .saturating_add(1)
+        .saturating_add(padded_lines_len(lines))
 }
 
 /// Appends the code in decimal.
@@ -69,6 +122,8 @@ fn room_for_all<S: AsStr>(lines: &[S]) -> usize {
 fn append_code(code: u32, buf: &mut Vec<u8>) -> Result<(), AllocError>
     ensures ok { OnOk result (buf.new.items ≡ buf.old.items ++ decimal code) }
     ensures kept { take (vec_len buf.old) buf.new.items ≡ buf.old.items }
+    ensures memory { OnErr result (LacksRoom buf.old (decimal code)) }
+    ensures capacity { vec_capacity buf.old ≤ vec_capacity buf.new }
 {
     // nearly every code, and faster than by `itoa`, whose digits are copied once more
     if let Some(digits) = three_digits(code) {
@@ -101,6 +156,8 @@ fn append_text(text: &str, buf: &mut Vec<u8>) -> Result<(), AllocError>
     ensures ok { OnOk result (buf.new.items
         ≡ buf.old.items ++ (if length text.now == 0 then crlf else spaced_line text.now)) }
     ensures kept { take (vec_len buf.old) buf.new.items ≡ buf.old.items }
+    ensures memory { OnErr result (LacksRoom buf.old
+        (if length text.now == 0 then crlf else spaced_line text.now)) }
 {
     if text.is_empty() {
         return buf.extend_from_slice(b"\r\n");
@@ -113,6 +170,8 @@ fn append_text(text: &str, buf: &mut Vec<u8>) -> Result<(), AllocError>
 fn append_ended(text: &str, buf: &mut Vec<u8>) -> Result<(), AllocError>
     ensures ok { OnOk result (buf.new.items ≡ buf.old.items ++ (text.now ++ crlf)) }
     ensures kept { take (vec_len buf.old) buf.new.items ≡ buf.old.items }
+    ensures memory { OnErr result (LacksRoom buf.old (text.now ++ crlf)) }
+    ensures capacity { vec_capacity buf.old ≤ vec_capacity buf.new }
 {
     buf.extend_from_slice(text.as_bytes())?;
     buf.extend_from_slice(b"\r\n")
@@ -123,6 +182,8 @@ fn append_ended(text: &str, buf: &mut Vec<u8>) -> Result<(), AllocError>
 fn append_spaced_line(text: &str, buf: &mut Vec<u8>) -> Result<(), AllocError>
     ensures ok { OnOk result (buf.new.items ≡ buf.old.items ++ spaced_line text.now) }
     ensures kept { take (vec_len buf.old) buf.new.items ≡ buf.old.items }
+    ensures memory { OnErr result (LacksRoom buf.old (spaced_line text.now)) }
+    ensures capacity { vec_capacity buf.old ≤ vec_capacity buf.new }
 {
     buf.push(b' ')?;
     append_ended(text, buf)
@@ -142,6 +203,8 @@ fn begins_with_digit(text: &str) -> bool
 fn append_padded_line(line: &str, buf: &mut Vec<u8>) -> Result<(), AllocError>
     ensures ok { OnOk result (buf.new.items ≡ buf.old.items ++ padded_line line.now) }
     ensures kept { take (vec_len buf.old) buf.new.items ≡ buf.old.items }
+    ensures memory { OnErr result (LacksRoom buf.old (padded_line line.now)) }
+    ensures capacity { vec_capacity buf.old ≤ vec_capacity buf.new }
 {
     if begins_with_digit(line) {
         return append_spaced_line(line, buf);
@@ -154,6 +217,9 @@ fn append_padded_lines<S: AsStr>(lines: &[S], buf: &mut Vec<u8>) -> Result<(), A
     ensures ok { OnOk result
         (buf.new.items ≡ buf.old.items ++ flat_map padded_line (map S.text lines.now)) }
     ensures kept { take (vec_len buf.old) buf.new.items ≡ buf.old.items }
+    ensures memory { OnErr result
+        (LacksRoom buf.old (flat_map padded_line (map S.text lines.now))) }
+    ensures capacity { vec_capacity buf.old ≤ vec_capacity buf.new }
 {
     for line in lines {
         append_padded_line(line.as_str(), buf)?;
@@ -170,6 +236,9 @@ fn append_lines_before_last<S: AsStr>(
     ensures ok { OnOk result (buf.new.items
         ≡ buf.old.items ++ lines_before_last code (map S.text lines.now)) }
     ensures kept { take (vec_len buf.old) buf.new.items ≡ buf.old.items }
+    ensures memory { OnErr result
+        (LacksRoom buf.old (lines_before_last code (map S.text lines.now))) }
+    ensures capacity { vec_capacity buf.old ≤ vec_capacity buf.new }
 {
     if lines.is_empty() {
         return Ok(());
@@ -179,19 +248,31 @@ fn append_lines_before_last<S: AsStr>(
     append_padded_lines(lines, buf)
 }
 
+/// The last line, which is empty where there is none, and the lines before it.
+fn last_and_front<S: AsStr>(lines: &[S]) -> (&str, &[S])
+    ensures { (code : ℕ) → encoded (MultiLine code (map S.text lines.now))
+        ≡ lines_before_last code (map S.text result.1.now)
+        ++ (decimal code ++ spaced_line result.0.now) }
+{
+    match lines.split_last() {
+        Some((last, front)) => (last.as_str(), front),
+        None => ("", lines),
+    }
+}
+
 /// Appends a reply with this code and these lines, or perhaps a part of it when out of memory. The
-/// buffer grows once at most.
+/// buffer grows once at most, and only where it lacks room for the reply.
 pub fn append_lines<S: AsStr>(code: u32, lines: &[S], buf: &mut Vec<u8>) -> Result<(), AllocError>
     ensures ok { OnOk result (buf.new.items
         ≡ buf.old.items ++ encoded (MultiLine code (map S.text lines.now))) }
     ensures kept { take (vec_len buf.old) buf.new.items ≡ buf.old.items }
+    ensures memory { OnErr result
+        (LacksRoom buf.old (encoded (MultiLine code (map S.text lines.now)))) }
 {
-    buf.reserve(room_for_all(lines))?;
-    let Some((last, front)) = lines.split_last() else {
-        append_code(code, buf)?;
-        return append_spaced_line("", buf);
-    };
+    let (last, front) = last_and_front(lines);
+    let last_len = code_len(code).saturating_add(spaced_line_len(last));
+    buf.reserve(lines_before_last_len(code, front).saturating_add(last_len))?;
     append_lines_before_last(code, front, buf)?;
     append_code(code, buf)?;
-    append_spaced_line(last.as_str(), buf)
+    append_spaced_line(last, buf)
 }

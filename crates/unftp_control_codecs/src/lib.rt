@@ -5,6 +5,7 @@
 ghost use Rattle.std.specs.Prelude.{◌≡◌, ◌+◌, ◌-◌, ◌≤◌, if◌then◌else◌, false, None, IsTrue, ⊤, ◌++◌, length, drop, vec_len, Some, Ok, Err, MatchOption, IsOk, OnOk, OnErr, IfErr};
 ghost use Rattle.unftp_control_defs.specs.Events.{out_of_memory};
 ghost use Rattle.unftp_control_defs.specs.FtpReply.{Nothing, encoded};
+ghost use Rattle.unftp_control_defs.specs.Room.{LacksRoom};
 ghost use Rattle.unftp_control_message.specs.ErrorMeaning.{fault_of};
 ghost use Rattle.unftp_control_message.specs.ReplyMeaning.{reply_of};
 ghost use Rattle.unftp_control_codecs.specs.Codec.{is_too_long, new_codec};
@@ -287,11 +288,13 @@ impl FtpCodec {
     /// Appends the bytes of the reply to `buf` and changes no earlier byte (RFC 959, section 4.2);
     /// `Reply::None` has none. It is `encode_reply`, and the reply is dropped.
     ///
-    /// It fails only when out of memory, with the kind `OutOfMemory`: `buf` is then as it was.
+    /// It fails only when out of memory, with the kind `OutOfMemory`: where `buf` lacks room for the
+    /// reply and can't grow. `buf` is then as it was.
     pub fn encode(&mut self, reply: Reply, buf: &mut Vec<u8>) -> Result<(), ControlChanError>
         ensures ok { OnOk result (buf.new.items ≡ buf.old.items ++ encoded (reply_of reply)) }
         ensures err { OnErr result (buf.new.items ≡ buf.old.items) }
-        ensures memory { IfErr result (λ error. fault_of error ≡ out_of_memory) }
+        ensures memory { IfErr result (λ error. (fault_of error ≡ out_of_memory)
+            × LacksRoom buf.old (encoded (reply_of reply))) }
         ensures no_memory { reply_of reply ≡ Nothing → IsOk result }
         ensures codec { self.new ≡ self.old }
     {
@@ -305,11 +308,13 @@ impl FtpCodec {
 /// Appends the bytes of the reply to `buf` and changes no earlier byte (RFC 959, section 4.2);
 /// `Reply::None` has none. `buf` grows once at most.
 ///
-/// It fails only when out of memory, with the kind `OutOfMemory`: `buf` is then as it was.
+/// It fails only when out of memory, with the kind `OutOfMemory`: where `buf` lacks room for the
+/// reply and can't grow. `buf` is then as it was.
 pub fn encode_reply(reply: &Reply, buf: &mut Vec<u8>) -> Result<(), ControlChanError>
     ensures ok { OnOk result (buf.new.items ≡ buf.old.items ++ encoded (reply_of reply.now)) }
     ensures err { OnErr result (buf.new.items ≡ buf.old.items) }
-    ensures memory { IfErr result (λ error. fault_of error ≡ out_of_memory) }
+    ensures memory { IfErr result (λ error. (fault_of error ≡ out_of_memory)
+        × LacksRoom buf.old (encoded (reply_of reply.now))) }
     ensures no_memory { reply_of reply.now ≡ Nothing → IsOk result }
 {
     Ok(append_reply(reply, buf)?)

@@ -4,6 +4,7 @@ ghost use Rattle.std.specs.List.{AllByRecursion};
 ghost use Rattle.unftp_control_defs.specs.Bytes.{LF, Lacks};
 ghost use Rattle.unftp_control_defs.specs.FtpReply.{MultiLine, encoded};
 ghost use Rattle.unftp_control_defs.specs.ReplyReader.{ReadsBack};
+ghost use Rattle.unftp_control_defs.specs.Room.{LacksRoom};
 ghost use Rattle.unftp_control_codecs.specs.ReplyCodes.{IsReplyCode};
 
 use crate::encoding::append_lines;
@@ -34,8 +35,8 @@ pub fn is_reply_code(code: u32) -> bool
 /// RFC 2228.
 ///
 /// It is refused with `CodeOutOfRange` where the code is not from 100 to 599, and for that no
-/// memory is asked for; and with `OutOfMemory` where `buf` has to grow and can't. `buf` is then as
-/// it was.
+/// memory is asked for; and with `OutOfMemory` where `buf` lacks room for the reply and can't grow.
+/// `buf` is then as it was.
 pub fn encode_lines<S: AsStr>(
     code: u32,
     lines: &[S],
@@ -49,6 +50,8 @@ pub fn encode_lines<S: AsStr>(
         (MultiLine code (map S.text lines.now) ∷ [])) }
     ensures err { OnErr result (buf.new.items ≡ buf.old.items) }
     ensures out_of_range { IsErrOf result EncodeLinesError.CodeOutOfRange ↔ ¬ IsReplyCode code }
+    ensures memory { IsErrOf result EncodeLinesError.OutOfMemory
+        → LacksRoom buf.old (encoded (MultiLine code (map S.text lines.now))) }
 {
     if !is_reply_code(code) {
         return Err(EncodeLinesError::CodeOutOfRange);

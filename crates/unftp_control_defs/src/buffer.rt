@@ -1,6 +1,7 @@
 //! Buffers whose bytes are taken from the start.
-ghost use Rattle.std.specs.Prelude.{◌≡◌, ◌≤◌, ◌+◌, [], ◌++◌, OnErr, OnOk, drop, length, vec_len};
+ghost use Rattle.std.specs.Prelude.{◌≡◌, ◌≤◌, ◌+◌, [], ◌++◌, OnErr, OnOk, drop, length, vec_capacity, vec_len};
 ghost use Rattle.unftp_control_defs.specs.Buffer.{IsTakenWithin, held_after_piece, pending_in};
+ghost use Rattle.unftp_control_defs.specs.Room.{LacksRoom};
 
 use std::alloc::{AllocError, Global};
 
@@ -34,7 +35,8 @@ impl PendingBytes {
         self.bytes.as_slice().split_at(self.start).1
     }
 
-    /// Appends a piece. When out of memory, nothing changes; it never is for an empty piece.
+    /// Appends a piece. When out of memory, nothing changes; it is only where the buffer lacks room
+    /// for the piece, so never for an empty one.
     pub fn push(&mut self, piece: &[u8]) -> Result<(), AllocError>
         requires { IsTakenWithin self.old }
         ensures ok { OnOk result (pending_in self.new ≡ pending_in self.old ++ piece.now) }
@@ -44,6 +46,10 @@ impl PendingBytes {
         ensures err { OnErr result ((self.new.bytes.items ≡ self.old.bytes.items)
             × (self.new.start ≡ self.old.start)) }
         ensures some { OnErr result (¬ (piece.now ≡ [])) }
+        ensures memory { OnErr result (LacksRoom self.old.bytes piece.now) }
+        ensures room { OnOk result
+            (vec_len self.old.bytes + length piece.now ≤ vec_capacity self.new.bytes) }
+        ensures capacity { vec_capacity self.old.bytes ≤ vec_capacity self.new.bytes }
     {
         append(&mut self.bytes, piece)?;
         // each move is paid for by as many bytes that were taken
@@ -58,6 +64,7 @@ impl PendingBytes {
         requires { IsTakenWithin self.old }
         ensures bytes { self.new.bytes.items ≡ pending_in self.old }
         ensures start { self.new.start ≡ 0 }
+        ensures capacity { vec_capacity self.new.bytes ≡ vec_capacity self.old.bytes }
     {
         remove_front(&mut self.bytes, self.start);
         self.start = 0;
@@ -67,17 +74,21 @@ impl PendingBytes {
     pub fn clear(&mut self)
         ensures bytes { self.new.bytes.items ≡ [] }
         ensures start { self.new.start ≡ 0 }
+        ensures capacity { vec_capacity self.new.bytes ≡ vec_capacity self.old.bytes }
     {
         self.bytes.clear();
         self.start = 0;
     }
 }
 
-/// Appends the bytes, or none of them when out of memory: never so where there are none.
+/// Appends the bytes, or none of them when out of memory: only where the buffer lacks room for
+/// them, so never where there are none.
 pub fn append(buf: &mut Vec<u8>, bytes: &[u8]) -> Result<(), AllocError>
     ensures ok { OnOk result (buf.new.items ≡ buf.old.items ++ bytes.now) }
     ensures err { OnErr result (buf.new.items ≡ buf.old.items) }
     ensures some { OnErr result (¬ (bytes.now ≡ [])) }
+    ensures memory { OnErr result (LacksRoom buf.old bytes.now) }
+    ensures capacity { vec_capacity buf.old ≤ vec_capacity buf.new }
 {
     match bytes {
         [] => Ok(()),
@@ -89,7 +100,8 @@ pub fn append(buf: &mut Vec<u8>, bytes: &[u8]) -> Result<(), AllocError>
 /// would turn the whole buffer.
 pub fn remove_front(buf: &mut Vec<u8>, count: usize)
     requires { count ≤ vec_len buf.old }
-    ensures { buf.new.items ≡ drop count buf.old.items }
+    ensures items { buf.new.items ≡ drop count buf.old.items }
+    ensures capacity { vec_capacity buf.new ≡ vec_capacity buf.old }
 {
     if count == 0 {
         return;
