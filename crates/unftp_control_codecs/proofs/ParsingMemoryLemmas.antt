@@ -1,26 +1,12 @@
 -- A command that is made of a line's parts holds what they do.
-use Rattle.std.proofs.Common.{◌<◌, ◌≤◌, [], ◌∷◌, Some, None, Ok, Err, ap, ◌∙◌, arith}
-use Rattle.unftp_control_defs.specs.FtpCommand.{Answer, FtpCommand, User, Pass, Acct, List, Site, Other, Said, said}
+use Rattle.std.proofs.Common.{◌<◌, Ok, Err, ap, ◌∙◌, arith}
+use Rattle.unftp_control_defs.specs.FtpCommand.{Answer, Said}
 use Rattle.unftp_control_defs.specs.Said.{IsSaid, Tells, answer_of}
 use Rattle.unftp_control_message.specs.PartsMeaning.{Fails, said_len}
+use Rattle.unftp_control_message.proofs.HeldLemmas.{held_said}
 use Rattle.unftp_control_message.specs.declared.reply.error.parse_error.ParseErrorKind.{ParseErrorKind}
 use Rattle.unftp_control_message.specs.declared.reply.error.parse_error.ParseErrorKind.TheVariants as kind
-use Rattle.unftp_control_codecs.specs.Memory.{AnswerMayTakeMemory, FailsWith, IsRefusal, held_len}
-
-held_said : (command : FtpCommand) → said_len (said command) ≤ held_len command
-held_said (User []) = omega arith
-held_said (User (b ∷ name)) = omega arith
-held_said (Pass []) = omega arith
-held_said (Pass (b ∷ password)) = omega arith
-held_said (Acct []) = omega arith
-held_said (Acct (b ∷ account)) = omega arith
-held_said (List options None) = omega arith
-held_said (List options (Some path)) = omega arith
-held_said (Site name []) = omega arith
-held_said (Site name (b ∷ arguments)) = omega arith
-held_said (Other name []) = omega arith
-held_said (Other name (b ∷ arguments)) = omega arith
-held_said command = omega arith
+use Rattle.unftp_control_codecs.specs.Memory.{AnswerMayTakeMemory, FailsWith, IsRefusal}
 
 may_take : (answer : Answer) (parts : Said) → Tells answer parts → 0 < said_len parts
     → AnswerMayTakeMemory answer

@@ -1,33 +1,18 @@
 -- Which lines memory may be taken for.
-use Rattle.std.specs.Prelude.{◌≡◌, ⊤, ℕ, ◌+◌, ◌<◌, length, Option, Some, None, Result, Ok, Err}
+use Rattle.std.specs.Prelude.{◌≡◌, ⊤, ◌<◌, Result, Ok, Err}
 use Rattle.unftp_control_defs.specs.Bytes.{Bytes}
-use Rattle.unftp_control_defs.specs.FtpCommand.{FtpCommand, User, Pass, Acct, List, Site, Other, Answer, said}
+use Rattle.unftp_control_defs.specs.FtpCommand.{Answer}
 use Rattle.unftp_control_defs.specs.Said.{IsSaid}
 use Rattle.unftp_control_defs.specs.declared.verb.Verb.{Verb}
 use Rattle.unftp_control_defs.specs.Outcome.{outcome}
 use Rattle.unftp_control_codecs.specs.ParseAnswer.{Refuses}
 use Rattle.unftp_control_message.specs.CommandMeaning.{command_of}
-use Rattle.unftp_control_message.specs.PartsMeaning.{IsBorrowed, given, said_len, said_of}
+use Rattle.unftp_control_message.specs.PartsMeaning.{IsBorrowed, given, held_len, said_of}
 use Rattle.unftp_control_message.specs.declared.Command.{Command}
 use Rattle.unftp_control_message.specs.declared.parts.Parts.{Parts}
 use Rattle.unftp_control_message.specs.declared.parts.Value.{Value}
 use Rattle.unftp_control_message.specs.declared.reply.error.parse_error.ParseErrorKind.{ParseErrorKind}
 use Rattle.unftp_control_message.specs.declared.reply.error.parse_error.ParseErrorKind.TheVariants as kind
-
-abbrev pub maybe_len : Option Bytes → ℕ
-maybe_len None = 0
-maybe_len (Some text) = length text
-
--- How many bytes a command holds in its texts and byte strings. A password counts for one more: a
--- failure does not show whether it is empty.
-abbrev pub held_len : FtpCommand → ℕ
-held_len (User name) = length name
-held_len (Pass password) = 1 + length password
-held_len (Acct account) = length account
-held_len (List options path) = maybe_len options + maybe_len path
-held_len (Site name arguments) = length name + length arguments
-held_len (Other name arguments) = length name + length arguments
-held_len command = said_len (said command)
 
 -- The answer is a command that holds bytes. No refusal takes memory.
 abbrev pub AnswerMayTakeMemory : Answer → Type 0

@@ -1,5 +1,6 @@
 pub mod TextLemmas
 mod ReplyLemmas
 pub mod PartsLemmas
+pub mod HeldLemmas
 pub mod SentLemmas
 pub mod SaidLemmas

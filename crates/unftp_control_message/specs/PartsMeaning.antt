@@ -1,8 +1,9 @@
 -- What contracts see of parts: what they say, and the command that they give.
-use Rattle.std.specs.Prelude.{◌≡◌, ◌+◌, ◌<◌, ℕ, ⊤, length, Result, Ok, Err}
+use Rattle.std.specs.Prelude.{◌≡◌, ◌+◌, ◌<◌, ℕ, ⊤, length, Option, Some, None, Result, Ok, Err}
 use Rattle.std.specs.Str.{IsUtf8}
 use Rattle.std.specs.Str.Lossy.{utf8_lossy}
-use Rattle.unftp_control_defs.specs.FtpCommand.{Answer, FtpCommand, InvalidCommand, List, Nothing, Other, Site, Number, Raw, Text, Chosen, Value as SaidValue, Said}
+use Rattle.unftp_control_defs.specs.Bytes.{Bytes}
+use Rattle.unftp_control_defs.specs.FtpCommand.{Answer, FtpCommand, InvalidCommand, User, Pass, Acct, List, Nothing, Other, Site, Number, Raw, Text, Chosen, Value as SaidValue, Said, said}
 use Rattle.unftp_control_defs.specs.Said.{answer_of}
 use Rattle.unftp_control_defs.specs.declared.verb.Kind.{Kind}
 use Rattle.unftp_control_defs.specs.declared.verb.Kind.TheVariants as kinds
@@ -64,6 +65,21 @@ value_len _ = 0
 
 abbrev pub said_len : Said → ℕ
 said_len parts = length parts.name + value_len parts.value
+
+abbrev pub maybe_len : Option Bytes → ℕ
+maybe_len None = 0
+maybe_len (Some text) = length text
+
+-- How many bytes a command holds in its texts and byte strings. A password counts for one more: a
+-- failure does not show whether it is empty.
+abbrev pub held_len : FtpCommand → ℕ
+held_len (User name) = length name
+held_len (Pass password) = 1 + length password
+held_len (Acct account) = length account
+held_len (List options path) = maybe_len options + maybe_len path
+held_len (Site name arguments) = length name + length arguments
+held_len (Other name arguments) = length name + length arguments
+held_len command = said_len (said command)
 
 -- The answer is a refusal; or memory ran out for so many bytes.
 abbrev pub Fails : Answer → ℕ → ParseErrorKind → Type 0

@@ -16,7 +16,7 @@ use std::alloc::{AllocError, Global};
 
 /// A text in memory of its own; an empty one takes none.
 #[inline]
-fn owned(alloc: Global, text: &str) -> Result<String, AllocError>
+pub fn owned(alloc: Global, text: &str) -> Result<String, AllocError>
     ensures ok { IfOk result (λ owned. string_bytes owned ≡ text.now) }
     ensures memory { OnErr result (0 < length text.now) }
 {

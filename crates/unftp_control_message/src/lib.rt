@@ -2,10 +2,10 @@
 //! and the errors that a caller gets.
 #![tactic(auto)]
 
-ghost use Rattle.std.specs.Prelude.{◌≡◌, IfOk, option_map, string_bytes};
+ghost use Rattle.std.specs.Prelude.{◌≡◌, ◌+◌, ◌<◌, IfOk, OnErr, length, option_map, string_bytes};
 ghost use Rattle.unftp_control_defs.specs.FtpCommand.{List, Other, Site};
 ghost use Rattle.unftp_control_message.specs.CommandMeaning.{command_of};
-ghost use Rattle.unftp_control_message.specs.PartsMeaning.{IsItsParts};
+ghost use Rattle.unftp_control_message.specs.PartsMeaning.{IsItsParts, held_len, maybe_len};
 
 /// Gives a macro each command, after its other arguments: its variant, what its verb takes, and its
 /// fields. `chosen` names the variant of `Choice`.
@@ -67,6 +67,7 @@ pub mod password;
 pub mod reply;
 pub mod sent;
 
+use crate::fields::owned;
 use bytes::Bytes;
 use password::Password;
 use std::alloc::{AllocError, Global};
@@ -266,8 +267,8 @@ pub enum Command {
 
 /// A command with a clone of the field.
 macro_rules! with_clone {
-    ($field:ident, $command:expr) => {
-        match $field.clone() {
+    ($clone:expr, $field:ident, $command:expr) => {
+        match $clone {
             Ok($field) => Ok($command),
             Err(error) => Err(error),
         }
@@ -276,22 +277,31 @@ macro_rules! with_clone {
 
 impl Command {
     /// A command that means the same, or `AllocError` when out of memory, which leaves this one as
-    /// it is.
+    /// it is. No memory is taken for one without texts or with empty ones, but for a password.
     pub fn clone(&self, alloc: Global) -> Result<Command, AllocError>
-        ensures { IfOk result (λ command. command_of command ≡ command_of self.now) }
+        ensures ok { IfOk result (λ command. command_of command ≡ command_of self.now) }
+        ensures memory { OnErr result (0 < held_len (command_of self.now)) }
     {
         // what holds `Bytes` shares them, and parts lack options and the case of a name
         match self {
-            Command::User { username } => with_clone!(username, Command::User { username }),
-            Command::Pass { password } => with_clone!(password, Command::Pass { password }),
-            Command::Acct { account } => with_clone!(account, Command::Acct { account }),
-            Command::Stat { path } => with_clone!(path, Command::Stat { path }),
-            Command::List { options, path } => list(options, path),
-            Command::Site { command, arguments } => site(command, arguments),
+            Command::User { username } => {
+                with_clone!(shared(username), username, Command::User { username })
+            }
+            Command::Pass { password } => {
+                with_clone!(password.clone(), password, Command::Pass { password })
+            }
+            Command::Acct { account } => {
+                with_clone!(shared(account), account, Command::Acct { account })
+            }
+            Command::Stat { path: Some(path) } => {
+                with_clone!(shared(path), path, Command::Stat { path: Some(path) })
+            }
+            Command::List { options, path } => list(alloc, options, path),
+            Command::Site { command, arguments } => site(alloc, command, arguments),
             Command::Other {
                 command_name,
                 arguments,
-            } => other(command_name, arguments),
+            } => other(alloc, command_name, arguments),
             command => command.from_its_parts(alloc),
         }
     }
@@ -299,7 +309,8 @@ impl Command {
     /// The command that its parts are.
     fn from_its_parts(&self, alloc: Global) -> Result<Command, AllocError>
         requires { IsItsParts (command_of self.now) }
-        ensures { IfOk result (λ command. command_of command ≡ command_of self.now) }
+        ensures ok { IfOk result (λ command. command_of command ≡ command_of self.now) }
+        ensures memory { OnErr result (0 < held_len (command_of self.now)) }
     {
         match Command::from_parts(alloc, &self.parts()) {
             Ok(command) => Ok(command),
@@ -308,36 +319,69 @@ impl Command {
     }
 }
 
+/// A clone of the bytes, which shares them; of none it takes no memory.
+fn shared(bytes: &Bytes) -> Result<Bytes, AllocError>
+    ensures ok { IfOk result (λ shared. shared ≡ bytes.now) }
+    ensures memory { OnErr result (0 < length bytes.now) }
+{
+    if bytes.is_empty() {
+        return Ok(Bytes::new());
+    }
+    bytes.clone()
+}
+
+/// A clone of the text, if there is one; of an empty one it takes no memory.
+fn owned_option(alloc: Global, text: &Option<String>) -> Result<Option<String>, AllocError>
+    ensures ok { IfOk result
+        (λ owned. option_map string_bytes owned ≡ option_map string_bytes text.now) }
+    ensures memory { OnErr result (0 < maybe_len (option_map string_bytes text.now)) }
+{
+    match text {
+        Some(text) => Ok(Some(owned(alloc, text.as_str())?)),
+        None => Ok(None),
+    }
+}
+
 /// LIST with clones of these.
-fn list(options: &Option<String>, path: &Option<String>) -> Result<Command, AllocError>
-    ensures { IfOk result (λ command. command_of command
+fn list(
+    alloc: Global,
+    options: &Option<String>,
+    path: &Option<String>,
+) -> Result<Command, AllocError>
+    ensures ok { IfOk result (λ command. command_of command
         ≡ List (option_map string_bytes options.now) (option_map string_bytes path.now)) }
+    ensures memory { OnErr result (0 < maybe_len (option_map string_bytes options.now)
+        + maybe_len (option_map string_bytes path.now)) }
 {
     Ok(Command::List {
-        options: options.clone()?,
-        path: path.clone()?,
+        options: owned_option(alloc, options)?,
+        path: owned_option(alloc, path)?,
     })
 }
 
 /// SITE with clones of these.
-fn site(command: &String, arguments: &String) -> Result<Command, AllocError>
-    ensures { IfOk result (λ site. command_of site
+fn site(alloc: Global, command: &String, arguments: &String) -> Result<Command, AllocError>
+    ensures ok { IfOk result (λ site. command_of site
         ≡ Site (string_bytes command.now) (string_bytes arguments.now)) }
+    ensures memory { OnErr result
+        (0 < length (string_bytes command.now) + length (string_bytes arguments.now)) }
 {
     Ok(Command::Site {
-        command: command.clone()?,
-        arguments: arguments.clone()?,
+        command: owned(alloc, command.as_str())?,
+        arguments: owned(alloc, arguments.as_str())?,
     })
 }
 
 /// Another verb with clones of these.
-fn other(command_name: &String, arguments: &String) -> Result<Command, AllocError>
-    ensures { IfOk result (λ other. command_of other
+fn other(alloc: Global, command_name: &String, arguments: &String) -> Result<Command, AllocError>
+    ensures ok { IfOk result (λ other. command_of other
         ≡ Other (string_bytes command_name.now) (string_bytes arguments.now)) }
+    ensures memory { OnErr result
+        (0 < length (string_bytes command_name.now) + length (string_bytes arguments.now)) }
 {
     Ok(Command::Other {
-        command_name: command_name.clone()?,
-        arguments: arguments.clone()?,
+        command_name: owned(alloc, command_name.as_str())?,
+        arguments: owned(alloc, arguments.as_str())?,
     })
 }
 

@@ -1,5 +1,5 @@
 //! Replies.
-ghost use Rattle.std.specs.Prelude.{◌≡◌, ◌↔◌, map, IsTrue, IfOk, IfErr, string_bytes};
+ghost use Rattle.std.specs.Prelude.{◌≡◌, ◌↔◌, map, IsTrue, IfOk, IfErr, OnErr, string_bytes};
 ghost use Rattle.std.specs.Iterator.{Drains, IsFiniteIterable};
 ghost use Rattle.std.specs.List.{AllByRecursion};
 ghost use Rattle.unftp_control_defs.specs.Bytes.{LF, Lacks};
@@ -106,9 +106,10 @@ impl Reply {
     }
 
     /// A reply that says the same, or `AllocError` when out of memory, which leaves this one as it
-    /// is.
+    /// is. `Reply::None` takes no memory.
     pub fn clone(&self, alloc: Global) -> Result<Reply, AllocError>
-        ensures { IfOk result (λ reply. reply_of reply ≡ reply_of self.now) }
+        ensures ok { IfOk result (λ reply. reply_of reply ≡ reply_of self.now) }
+        ensures memory { OnErr result (¬ (reply_of self.now ≡ Nothing)) }
     {
         Ok(match self {
             Reply::None => Reply::None,
