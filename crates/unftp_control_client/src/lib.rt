@@ -2,7 +2,7 @@
 //! commands, and says to which of them each reply is.
 #![tactic(auto)]
 
-ghost use Rattle.std.specs.Prelude.{◌≡◌, ◌↔◌, ◌+◌, ◌-◌, ◌^◌, ◌≤◌, ◌++◌, ℕ, List, [], Some, None, Ok, Err, IsTrue, IfErr, IfOk, IfSome, OnErr, OnOk, drop, length, max, take, vec_len};
+ghost use Rattle.std.specs.Prelude.{◌≡◌, ◌↔◌, ◌+◌, ◌-◌, ◌^◌, ◌<◌, ◌≤◌, ◌++◌, ℕ, List, [], Some, None, Ok, Err, IsTrue, IfErr, IfOk, IfSome, OnErr, OnOk, drop, length, max, take, vec_len};
 ghost use Rattle.unftp_control_message.specs.CommandMeaning.{command_of};
 ghost use Rattle.unftp_control_defs.specs.Bytes.{Bytes};
 ghost use Rattle.unftp_control_defs.specs.Canonical.{HasLine, canonical_line};
@@ -142,12 +142,15 @@ impl Client {
     }
 
     /// Appends a piece of what the server sent to the pending bytes. When out of memory, nothing
-    /// changes; it never is for an empty piece.
+    /// changes; it only is where the buffer would hold more bytes than it ever did, and never for
+    /// an empty piece.
     pub fn receive(&mut self, piece: &[u8]) -> Result<(), AllocError>
         ensures ok { OnOk result (self.new
             ≡ record self.old { replies = pushed self.old.replies piece.now }) }
         ensures err { OnErr result (self.new ≡ self.old) }
         ensures some { OnErr result (¬ (piece.now ≡ [])) }
+        ensures memory { OnErr result
+            (self.old.replies.held < self.old.replies.buffered + length piece.now) }
     {
         self.replies.push(piece)
     }
@@ -177,6 +180,7 @@ impl Client {
         ensures buffered { self.new.replies.buffered
             ≡ held_after self.old.replies (only_reply result) self.new.replies }
         ensures limit { self.new.replies.limit ≡ self.old.replies.limit }
+        ensures held { self.new.replies.held ≡ self.old.replies.held }
     {
         match self.replies.next_reply()? {
             Some(reply) => Ok(Some(self.dialogue.add_reply(reply))),

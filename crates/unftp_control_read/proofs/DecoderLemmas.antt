@@ -43,15 +43,17 @@ searched_more limit bytes piece s h =
 -- ---- a piece after them
 
 -- The buffer holds these bytes then, of which so many are taken.
-module _ {limit : Option ℕ} {s : Search} {buf : Bytes} {start : ℕ}
-    (well : IsReplyDecoder limit s buf start) (after piece : Bytes) (start' : ℕ)
+module _ {limit : Option ℕ} {s : Search} {buf : Bytes} {start held capacity : ℕ}
+    (well : IsReplyDecoder limit s buf start held capacity) (after piece : Bytes) (start' : ℕ)
     (start_within : start' ≤ length after)
     (e : drop start' after ≡ drop start buf ++ piece) where
-  pub decoder_more : IsReplyDecoder limit s after start'
-  decoder_more = record {
+  pub decoder_more : {held' capacity' : ℕ} → held' ≤ capacity'
+      → IsReplyDecoder limit s after start' held' capacity'
+  decoder_more room = record {
     start_within = start_within;
     searched = subst (λ b. IsSearched (within_limit limit b) s) (sym e)
         (searched_more limit (drop start buf) piece s well.searched);
+    room = room;
   }
 
 -- ---- what a search of them means for all
@@ -127,8 +129,8 @@ module _ (before : PendingReplies) where
 
 -- ---- one read, seen from where the pending bytes begin
 
-module _ {limit : Option ℕ} {s : Search} {buf : Bytes} {start : ℕ}
-    (well : IsReplyDecoder limit s buf start) (after : Bytes) where
+module _ {limit : Option ℕ} {s : Search} {buf : Bytes} {start held capacity : ℕ}
+    (well : IsReplyDecoder limit s buf start held capacity) (after : Bytes) where
   after_piece : (piece : Bytes) → after ≡ buf ++ piece
       → (start ≤ length after) × (drop start after ≡ drop start buf ++ piece)
   after_piece piece e = (
@@ -137,9 +139,8 @@ module _ {limit : Option ℕ} {s : Search} {buf : Bytes} {start : ℕ}
   )
 
   module _ (most : ℕ) (input input' : InputState) where
-    pub decoder_read : (result : Result ℕ ReceiveError)
-        → AppendsPiece most buf after input input' result
-        → IsReplyDecoder limit s after start
-    decoder_read (Ok n) h =
-        let more = after_piece h.0 h.1 in decoder_more well after h.0 start more.0 more.1
-    decoder_read (Err error) h = subst (λ b. IsReplyDecoder limit s b start) (sym h.0) well
+    pub decoder_read : (n : ℕ) {held' capacity' : ℕ} → held' ≤ capacity'
+        → AppendsPiece most buf after input input' (Ok n)
+        → IsReplyDecoder limit s after start held' capacity'
+    decoder_read n room h =
+        let more = after_piece h.0 h.1 in decoder_more well after h.0 start more.0 more.1 room

@@ -1,5 +1,5 @@
 -- The pending bytes of a reply decoder.
-use Rattle.std.specs.Prelude.{◌≡◌, ℕ, ◌+◌, ◌<◌, ◌≤◌, List, [], ◌++◌, length, drop, Option, Some, None, Result, Ok, Err, MatchResult, MatchOption, IfSome}
+use Rattle.std.specs.Prelude.{◌≡◌, ℕ, ◌+◌, ◌<◌, ◌≤◌, List, [], ◌++◌, length, max, drop, Option, Some, None, Result, Ok, Err, MatchResult, MatchOption, IfSome}
 use Rattle.unftp_control_defs.specs.Bytes.{Bytes}
 use Rattle.unftp_control_defs.specs.Buffer.{held_after_piece}
 use Rattle.unftp_control_defs.specs.ReplyReader.{FrontReply, HasFront, IsMalformed, IsPartial}
@@ -20,28 +20,31 @@ abbrev pub content : ReceivedReply → ℕ × List Bytes
 content reply = (reply.code, contents reply.lines)
 
 -- What holds of a decoder: the pending bytes begin at `start`, and the search has come so far in
--- them.
+-- them. There is room for as many bytes as the buffer has held.
 pub record IsReplyDecoder (limit : Option ℕ) (search : Search) (buf : Bytes)
-    (start : ℕ) : Type 0 where
+    (start held capacity : ℕ) : Type 0 where
   pub start_within : start ≤ length buf
   pub searched : IsSearched (within_limit limit (drop start buf)) search
+  pub room : held ≤ capacity
 
 pub record PendingReplies : Type 0 where
   -- the bytes after the last reply that was taken
   pub bytes : Bytes
   -- the most bytes that a reply may have
   pub limit : Option ℕ
-  -- how many bytes the buffer holds, with those of the replies that are taken
+  -- how many bytes the buffer holds, with those of the replies that are taken, and the most that it
+  -- has held
   pub buffered : ℕ
+  pub held : ℕ
 
 -- no bytes so far
 abbrev pub no_bytes : Option ℕ → PendingReplies
-no_bytes limit = record { bytes = []; limit = limit; buffered = 0 }
+no_bytes limit = record { bytes = []; limit = limit; buffered = 0; held = 0 }
 
--- these bytes, in a buffer that holds so many
-abbrev pub pending_replies : Option ℕ → Bytes → ℕ → PendingReplies
-pending_replies limit bytes buffered =
-    record { bytes = bytes; limit = limit; buffered = buffered }
+-- these bytes, in a buffer that holds so many, and has held so many
+abbrev pub pending_replies : Option ℕ → Bytes → ℕ → ℕ → PendingReplies
+pending_replies limit bytes buffered held =
+    record { bytes = bytes; limit = limit; buffered = buffered; held = held }
 
 -- The replies that were taken have left the buffer.
 abbrev pub settled : PendingReplies → PendingReplies
@@ -52,6 +55,7 @@ abbrev pub appended : PendingReplies → Bytes → PendingReplies
 appended pending piece = record pending {
   bytes = pending.bytes ++ piece;
   buffered = pending.buffered + length piece;
+  held = max pending.held (pending.buffered + length piece);
 }
 
 -- A piece comes after them, and the replies that were taken may leave the buffer.
@@ -59,6 +63,7 @@ abbrev pub pushed : PendingReplies → Bytes → PendingReplies
 pushed pending piece = record pending {
   bytes = pending.bytes ++ piece;
   buffered = held_after_piece pending.buffered (length pending.bytes) (length piece);
+  held = max pending.held (pending.buffered + length piece);
 }
 
 -- The pending bytes have left the buffer too.

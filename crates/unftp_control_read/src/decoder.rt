@@ -1,5 +1,5 @@
 //! The pending bytes, and the replies that they begin with.
-ghost use Rattle.std.specs.Prelude.{◌≡◌, ◌<◌, ◌≤◌, ℕ, List, None, Some, OnOk, OnErr, IfSome, IsTrue, false, drop, length, []};
+ghost use Rattle.std.specs.Prelude.{◌≡◌, ◌+◌, ◌<◌, ◌≤◌, ℕ, List, None, Some, OnOk, OnErr, IfSome, IsTrue, false, drop, length, []};
 ghost use Rattle.unftp_control_defs.specs.Bytes.{Bytes};
 ghost use Rattle.unftp_control_defs.specs.Input.{input_state_of};
 ghost use Rattle.unftp_control_defs.specs.ReplyReader.{FrontReply, IsPartial, IsMalformed};
@@ -16,6 +16,7 @@ use std::alloc::{AllocError, Global};
 use std::io::Read;
 use std::marker::Model;
 use unftp_control_defs::buffer::PendingBytes;
+use unftp_control_defs::count::Count;
 use unftp_control_defs::input::Input;
 
 /// The reply that the pending bytes begin with.
@@ -37,20 +38,22 @@ pub struct ReplyDecoder {
     buffer: PendingBytes,
     limit: Option<usize>,
     search: Search,
+    held: Count,
 }
 
 impl Model for ReplyDecoder {
-    ghost use Rattle.std.specs.Prelude.{length};
+    ghost use Rattle.std.specs.Prelude.{length, vec_capacity};
     ghost use Rattle.unftp_control_defs.specs.Buffer.{pending_in};
     ghost use Rattle.unftp_control_read.specs.ReplyDecoding.{IsReplyDecoder, PendingReplies, pending_replies};
 
     ghost Value = { PendingReplies };
 
     ghost view = { λ decoder. pending_replies decoder.limit
-        (pending_in decoder.buffer) (length decoder.buffer.bytes.items) };
+        (pending_in decoder.buffer) (length decoder.buffer.bytes.items) decoder.held };
 
     ghost invariant = { λ decoder. IsReplyDecoder decoder.limit decoder.search
-        decoder.buffer.bytes.items decoder.buffer.start };
+        decoder.buffer.bytes.items decoder.buffer.start decoder.held
+        (vec_capacity decoder.buffer.bytes) };
 }
 
 impl ReplyDecoder {
@@ -63,6 +66,7 @@ impl ReplyDecoder {
             buffer: PendingBytes::new(alloc),
             limit: None,
             search: Search::new(),
+            held: Count::new(),
         }
     }
 
@@ -76,6 +80,7 @@ impl ReplyDecoder {
             buffer: PendingBytes::new(alloc),
             limit: Some(limit),
             search: Search::new(),
+            held: Count::new(),
         }
     }
 
@@ -87,14 +92,17 @@ impl ReplyDecoder {
         self.buffer.pending()
     }
 
-    /// Appends a piece to the pending bytes. When out of memory, nothing changes; it never is for
-    /// an empty piece.
+    /// Appends a piece to the pending bytes. When out of memory, nothing changes; it only is where
+    /// the buffer would hold more bytes than it ever did, and never for an empty piece.
     pub fn push(&mut self, piece: &[u8]) -> Result<(), AllocError>
         ensures ok { OnOk result (self.new ≡ pushed self.old piece.now) }
         ensures err { OnErr result (self.new ≡ self.old) }
         ensures some { OnErr result (¬ (piece.now ≡ [])) }
+        ensures memory { OnErr result (self.old.held < self.old.buffered + length piece.now) }
     {
+        let most = self.buffer.bytes.len() + piece.len();
         self.buffer.push(piece)?;
+        self.held.raise_to(most);
         Ok(())
     }
 
@@ -121,6 +129,7 @@ impl ReplyDecoder {
             → result ≡ Err NextReplyError.TooLong }
         ensures buffered { self.new.buffered ≡ held_after self.old result self.new }
         ensures limit { self.new.limit ≡ self.old.limit }
+        ensures held { self.new.held ≡ self.old.held }
     {
         let reply = self.take_next()?;
         if reply.is_none() {
@@ -134,6 +143,7 @@ impl ReplyDecoder {
         ensures takes_next { TakesNextReply self.old result self.new }
         ensures buffered { self.new.buffered ≡ self.old.buffered }
         ensures limit { self.new.limit ≡ self.old.limit }
+        ensures held { self.new.held ≡ self.old.held }
     {
         let alloc = *self.buffer.bytes.allocator();
         let searched = first_bytes(self.buffer.pending(), self.limit);
@@ -209,7 +219,9 @@ impl ReplyDecoder {
         ensures { AppendsPending PIECE self.old self.new
             (input_state_of R.remaining reader.old) (input_state_of R.remaining reader.new) result }
     {
-        read_after(&mut self.buffer.bytes, reader)
+        let count = read_after(&mut self.buffer.bytes, reader)?;
+        self.held.raise_to(self.buffer.bytes.len());
+        Ok(count)
     }
 }
 

@@ -1,5 +1,5 @@
 //! Replies from a reader.
-ghost use Rattle.std.specs.Prelude.{◌≡◌, ◌+◌, ◌≤◌, None, Ok, Some, length, max, ◌++◌, replicate, IfSome, OnOk, OnErr};
+ghost use Rattle.std.specs.Prelude.{◌≡◌, ◌+◌, ◌≤◌, None, Ok, Some, length, max, ◌++◌, replicate, vec_capacity, IfSome, OnOk, OnErr};
 ghost use Rattle.unftp_control_defs.specs.Bytes.{Bytes};
 ghost use Rattle.unftp_control_defs.specs.Input.{InputState, input_state_of};
 ghost use Rattle.unftp_control_defs.specs.ReplyReader.{IsPartial};
@@ -22,6 +22,7 @@ pub(crate) const PIECE: usize = 4096;
 fn add_room(buf: &mut Vec<u8>) -> Result<(), AllocError>
     ensures ok { OnOk result (buf.new.items ≡ buf.old.items ++ replicate PIECE 0) }
     ensures err { OnErr result (buf.new.items ≡ buf.old.items) }
+    ensures capacity { vec_capacity buf.old ≤ vec_capacity buf.new }
 {
     match buf.len().checked_add(PIECE) {
         Some(end) => buf.resize(end, 0),
@@ -34,8 +35,9 @@ pub(crate) fn read_after<R: Read>(
     buf: &mut Vec<u8>,
     reader: &mut Input<R>,
 ) -> Result<usize, ReceiveError>
-    ensures { AppendsPiece PIECE buf.old.items buf.new.items
+    ensures appends { AppendsPiece PIECE buf.old.items buf.new.items
         (input_state_of R.remaining reader.old) (input_state_of R.remaining reader.new) result }
+    ensures capacity { vec_capacity buf.old ≤ vec_capacity buf.new }
 {
     let len = buf.len();
     add_room(buf)?;

@@ -161,8 +161,8 @@ pub record TakesFrom (old new : Codec) (dropped dropped' buf : Bytes)
   pub dropped_is : dropped' ≡ dropped_after new.skipping dropped (take taken (drop start buf))
 
 -- what the codec finds in the pending bytes decides what is taken
-module _ {old : Codec} {dropped buf pending : Bytes} {start line held : ℕ}
-    (well : IsDecoder old dropped buf start line held) (from_start : pending ≡ drop start buf) where
+module _ {old : Codec} {dropped buf pending : Bytes} {start line held capacity : ℕ}
+    (well : IsDecoder old dropped buf start line held capacity) (from_start : pending ≡ drop start buf) where
   found_in : (found : FirstLine) → found ≡ first_line old pending
       → Finds old dropped (drop start buf) (goes_on old pending) found
       × Counts old (drop start buf) (goes_on old pending) found
@@ -254,13 +254,14 @@ module _ {old : Codec} {dropped buf pending : Bytes} {start line held : ℕ}
       }
 
 module _ (old new : Codec) (dropped dropped' buf : Bytes) (start line taken held : ℕ)
-    (result : Result (Option Event) AllocError) (well : IsDecoder old dropped buf start line held)
+    (result : Result (Option Event) AllocError) {capacity : ℕ}
+    (well : IsDecoder old dropped buf start line held capacity)
     (step : TakesFrom old new dropped dropped' buf start taken result) where
   abbrev rest : Bytes
   rest = drop start buf
 
   pub decoder-after : (line' : ℕ) → line' ≤ start + taken
-      → IsDecoder new dropped' buf (start + taken) line' held
+      → IsDecoder new dropped' buf (start + taken) line' held capacity
   decoder-after line' short = record {
     start_within = omega (arith, well.start_within, step.within, length-drop start buf);
     line_within = short;
@@ -269,6 +270,7 @@ module _ (old new : Codec) (dropped dropped' buf : Bytes) (start line taken held
     dropped_well = rw step.dropped_is (dropped_then old new dropped rest taken result step.comes);
     limited = rw step.limit well.limited;
     no_more = well.no_more;
+    room = well.room;
   }
 
   pub takes_next-after : (line' : Bytes)

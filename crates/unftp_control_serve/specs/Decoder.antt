@@ -21,14 +21,16 @@ abbrev pub dropped_after : Bool → Bytes → Bytes → Bytes
 dropped_after skipping dropped bytes = if skipping then dropped ++ bytes else []
 
 -- What is so of a decoder: the lines before `start` are taken, and the last of them has so many
--- bytes.
-pub record IsDecoder (codec : Codec) (dropped buf : Bytes) (start line held : ℕ) : Type 0 where
+-- bytes. There is room for as many bytes as the buffer has held.
+pub record IsDecoder (codec : Codec) (dropped buf : Bytes) (start line held capacity : ℕ)
+    : Type 0 where
   pub start_within : start ≤ length buf
   pub line_within : line ≤ start
   pub place_within : IsScannedWithin codec (drop start buf)
   pub dropped_well : IsDropped codec dropped
   pub limited : IfSome codec.limit (λ limit. 1 ≤ limit)
   pub no_more : length buf ≤ held
+  pub room : held ≤ capacity
 
 pub record Pending : Type 0 where
   -- the bytes after the last line that was taken, and how many of them are kept: those before them

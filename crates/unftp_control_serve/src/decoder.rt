@@ -1,5 +1,5 @@
 //! The pending bytes, and the events of their lines.
-ghost use Rattle.std.specs.Prelude.{◌≡◌, ◌≤◌, ◌+◌, [], None, Some, IfOk, IfSome, OnOk, OnErr, length};
+ghost use Rattle.std.specs.Prelude.{◌≡◌, ◌<◌, ◌≤◌, ◌+◌, [], None, Some, IfOk, IfSome, OnOk, OnErr, length};
 ghost use Rattle.unftp_control_defs.specs.Events.{event_of};
 ghost use Rattle.unftp_control_defs.specs.Outcome.{outcome};
 ghost use Rattle.unftp_control_codecs.specs.Memory.{MayTakeMemory};
@@ -32,7 +32,7 @@ pub struct EventDecoder {
 }
 
 impl Model for EventDecoder {
-    ghost use Rattle.std.specs.Prelude.{◌-◌, length, drop, take};
+    ghost use Rattle.std.specs.Prelude.{◌-◌, length, drop, take, vec_capacity};
     ghost use Rattle.unftp_control_defs.specs.Buffer.{pending_in};
     ghost use Rattle.unftp_control_serve.specs.Decoder.{IsDecoder, Pending, pending_of};
 
@@ -43,7 +43,8 @@ impl Model for EventDecoder {
         (pending_in decoder.buffer) (length decoder.buffer.bytes.items) decoder.held };
 
     ghost invariant = { λ decoder. IsDecoder decoder.codec decoder.skipped
-        decoder.buffer.bytes.items decoder.buffer.start decoder.line decoder.held };
+        decoder.buffer.bytes.items decoder.buffer.start decoder.line decoder.held
+        (vec_capacity decoder.buffer.bytes) };
 }
 
 impl EventDecoder {
@@ -122,12 +123,13 @@ impl EventDecoder {
         self.held.same()
     }
 
-    /// Appends a piece to the pending bytes. When out of memory, nothing changes; it never is for
-    /// an empty piece.
+    /// Appends a piece to the pending bytes. When out of memory, nothing changes; it only is where
+    /// the buffer would hold more bytes than it ever did, and never for an empty piece.
     pub fn push(&mut self, piece: &[u8]) -> Result<(), AllocError>
         ensures ok { OnOk result (self.new ≡ pushed self.old piece.now) }
         ensures err { OnErr result (self.new ≡ self.old) }
         ensures some { OnErr result (¬ (piece.now ≡ [])) }
+        ensures memory { OnErr result (self.old.held < self.old.buffered + length piece.now) }
     {
         let most = self.buffer.bytes.len() + piece.len();
         self.buffer.push(piece)?;

@@ -1,8 +1,8 @@
 //! The engine: lines in, replies out.
-ghost use Rattle.std.specs.Prelude.{◌≡◌, ◌≤◌, ◌+◌, List, max, None, Some, IfSome, IfOk, OnOk, OnErr, IsErrOf, IsTrue, MatchResult, is_ok, if◌then◌else◌, true, false, length};
+ghost use Rattle.std.specs.Prelude.{◌≡◌, ◌<◌, ◌≤◌, ◌+◌, ◌⊎◌, List, max, None, Some, IfSome, IfOk, OnOk, OnErr, IsErrOf, IsTrue, MatchResult, is_ok, if◌then◌else◌, true, false, length, vec_capacity};
 ghost use Rattle.unftp_control_defs.specs.FtpReply.{Nothing, encoded};
 ghost use Rattle.unftp_control_message.specs.ReplyMeaning.{reply_of};
-ghost use Rattle.unftp_control_serve.specs.Endings.{EventOutcome, OnWrite, PieceOutcome, RunOutcome, snapshot_with};
+ghost use Rattle.unftp_control_serve.specs.Endings.{EventOutcome, OnMemory, OnWrite, PieceOutcome, RunOutcome, snapshot_with};
 ghost use Rattle.unftp_control_serve.specs.Decoder.{kept_length};
 ghost use Rattle.unftp_control_serve.specs.EventMeaning.{event_meant};
 ghost use Rattle.unftp_control_serve.specs.Writing.{Begins, SendsReply};
@@ -24,12 +24,15 @@ use unftp_control_message::reply::error::ControlChanError;
 fn encode_into(reply: &Reply, reply_bytes: &mut Vec<u8>) -> Result<(), ControlChanError>
     ensures bytes { OnOk result (reply_bytes.new.items ≡ encoded (reply_of reply.now)) }
     ensures no_memory { OnErr result (¬ (reply_of reply.now ≡ Nothing)) }
+    ensures memory { OnErr result
+        (vec_capacity reply_bytes.old < length (encoded (reply_of reply.now))) }
 {
     reply_bytes.clear();
     encode_reply(reply, reply_bytes)
 }
 
-/// Sends a reply, whose bytes are held in `reply_bytes`.
+/// Sends a reply, whose bytes are held in `reply_bytes`. It is out of memory only where this buffer
+/// lacks room for them, or the output does.
 fn send_reply<K: Sink>(
     reply_bytes: &mut Vec<u8>,
     reply: Reply,
@@ -37,6 +40,8 @@ fn send_reply<K: Sink>(
 ) -> Result<(), ServeError>
     ensures sends { SendsReply result (reply_of reply) (K.state output.old) (K.state output.new) }
     ensures cuts { OnWrite result K.cuts }
+    ensures memory { OnMemory result ((vec_capacity reply_bytes.old
+        < length (encoded (reply_of reply))) ⊎ K.lacks output.old (encoded (reply_of reply))) }
 {
     match encode_into(&reply, reply_bytes) {
         Ok(()) => output.send(reply_bytes.as_slice()),

@@ -1,5 +1,7 @@
 //! Where the replies go.
 ghost use Rattle.std.specs.Prelude.{◌≡◌, [], IsTrue, is_ok};
+ghost use Rattle.unftp_control_defs.specs.Bytes.{Bytes};
+ghost use Rattle.unftp_control_defs.specs.Room.{LacksRoom};
 ghost use Rattle.unftp_control_serve.specs.Endings.{OnMemory, OnWrite};
 ghost use Rattle.unftp_control_serve.specs.Writing.{OutputState, Sends, Writes, appended_state_of, output_state_of};
 
@@ -12,30 +14,30 @@ use unftp_control_defs::buffer::append;
 /// `Vec` holds them for a server that sends them itself.
 pub trait Sink {
     // What contracts see of it: for a `Vec`, its bytes are written, and no write has failed. And
-    // whether it may write a beginning of a reply, and then fail; and whether it takes memory.
+    // whether it may write a beginning of a reply, and then fail; and when it lacks room for bytes.
     ghost state: { Self → OutputState };
 
     ghost cuts: { Type 0 };
 
-    ghost allocates: { Type 0 };
+    ghost lacks: { Self → Bytes → Type 0 };
 
     /// Sends the bytes of a reply; where there are none, it does nothing, at `Ok`. At `Write` and
-    /// `WriteZero` a beginning of them may be written; at `OutOfMemory` none is. It returns no
-    /// other error.
+    /// `WriteZero` a beginning of them may be written; at `OutOfMemory`, which comes only where it
+    /// lacks room for them, none is. It returns no other error.
     fn send(&mut self, bytes: &[u8]) -> Result<(), ServeError>
         ensures sends { Sends result bytes.now (state self.old) (state self.new) }
         ensures cuts { OnWrite result cuts }
-        ensures memory { OnMemory result allocates }
+        ensures memory { OnMemory result (lacks self.old bytes.now) }
         ensures nothing { bytes.now ≡ [] → IsTrue (is_ok result) };
 }
 
-/// Each reply is written and flushed.
+/// Each reply is written and flushed. It takes no memory.
 impl<W: Write> Sink for Output<W> {
     ghost state = { output_state_of W.contents };
 
     ghost cuts = { Unit {0} };
 
-    ghost allocates = { ⊥ };
+    ghost lacks = { λ output bytes. ⊥ };
 
     fn send(&mut self, bytes: &[u8]) -> Result<(), ServeError> {
         if bytes.is_empty() {
@@ -52,7 +54,7 @@ impl Sink for Vec<u8> {
 
     ghost cuts = { ⊥ };
 
-    ghost allocates = { Unit {0} };
+    ghost lacks = { LacksRoom };
 
     fn send(&mut self, bytes: &[u8]) -> Result<(), ServeError> {
         Ok(append(self, bytes)?)

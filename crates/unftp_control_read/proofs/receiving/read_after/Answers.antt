@@ -4,8 +4,8 @@ use Rattle.unftp_control_read.specs.declared.receiving.TheConstants.{PIECE}
 use Rattle.unftp_control_read.proofs.BufferLemmas.{read_part}
 use Rattle.unftp_control_read.proofs.receiving.read_after.Goals as goal
 
-pub returns-in-Ok : goal.returns-in-Ok
-returns-in-Ok g c =
+pub returns-in-Ok-clause-appends : goal.returns-in-Ok-clause-appends
+returns-in-Ok-clause-appends g c =
     let old = c.args.buf.now in
     let grown = c.add_room.new.buf in
     let items = c.in_ok-add_room.ensures.ok in

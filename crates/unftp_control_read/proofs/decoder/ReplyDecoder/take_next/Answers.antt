@@ -29,6 +29,7 @@ invariant_of-self-in-Whole c =
         c.self.invariant.start_within,
       );
       searched = c.new-self-inside.ensures _;
+      room = c.self.invariant.room;
     }
 
 pub returns-in-Whole-clause-takes_next : goal.returns-in-Whole-clause-takes_next
