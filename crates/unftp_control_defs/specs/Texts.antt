@@ -26,6 +26,11 @@ kind_text IllegalState = codes "Control channel in illegal state"
 kind_text OutOfMemory = codes "Out of memory"
 kind_text LineTooLong = codes "Line too long"
 
+-- without the command that it may hold
+abbrev pub kind_reason : FaultKind → Bytes
+kind_reason (UnknownCommand command) = codes "Unknown command"
+kind_reason kind = kind_text kind
+
 -- the whole texts of the two errors
 abbrev pub parse_error_text : Option Refusal → Bytes
 parse_error_text why = codes "parse error: " ++ reading_text why

@@ -12,10 +12,10 @@ use Rattle.unftp_control_defs.specs.Events as fault
 use Rattle.unftp_control_defs.specs.Events.{FaultKind, FaultSource, FtpEvent, Command, Refused, Parse, NoSource, Utf8, Io}
 use Rattle.unftp_control_defs.specs.FtpCommand.{FtpCommand, Site, Other, InvalidCommand, InvalidUtf8, InvalidEol, verbs}
 use Rattle.unftp_control_defs.specs.Rules.{row_of}
-use Rattle.unftp_control_defs.specs.Texts.{reading_text}
+use Rattle.unftp_control_defs.specs.Texts.{kind_reason, reading_text}
 use Rattle.unftp_control_defs.specs.Verbs.{upper, verb_of}
 use lib.Pointwise.{bytes_decides}
-use Rattle.unftp_control_log.specs.LogLine.{IsPrintable, RefusedLine, Subcommand, Verb, Visible, further_verbs, is_listed, kind_reason, listed_verb, log_line, reason, shown, site_words, visible_command, visible_other, visible_site, visible_text}
+use Rattle.unftp_control_log.specs.LogLine.{IsPrintable, RefusedLine, Subcommand, Verb, Visible, further_verbs, is_listed, listed_verb, log_line, reason, shown, site_words, visible_command, visible_other, visible_site, visible_text}
 use Rattle.unftp_control_write.specs.Lines.{spaced_part}
 
 abbrev pub ArePrintable : Bytes → Type 0

@@ -1,7 +1,6 @@
 -- What std's iterator over escapes yields.
-use Rattle.std.proofs.Common.{◌≡◌, ℕ, List, [], ◌∷◌, ◌++◌, ◌+◌, ◌≤◌, length, take, None, Some, Result, Ok, Err, OnOk, Vec, Global, vec_len, vec_capacity, sym, refl, ap, subst, ◌∙◌, append-nil, inl, inr}
+use Rattle.std.proofs.Common.{◌≡◌, ℕ, [], ◌∷◌, ◌++◌, length, take, None, Some, sym, refl, ap, append_assoc, append-nil, ◌∙◌, inl, inr}
 use Rattle.std.specs.Char.Iter.{escape_byte_left, escape_byte_rest}
-use Rattle.std.specs.Iterator.{Drains, ExtendsWithItems, Yields}
 use Rattle.std.specs.declared.slice.EscapeAscii.{EscapeAscii}
 use Rattle.std.specs.Slice.Iter.{escape_ascii_current, escape_ascii_rest, escape_ascii_steps}
 use Rattle.unftp_control_defs.specs.Bytes.{Bytes}
@@ -32,31 +31,21 @@ left-step s t x (inr step) =
 left-end : (s t : EscapeAscii) → escape_ascii_steps s None t → left s ≡ []
 left-end s t step = nothing_left s step.0 ∙ ap shown (none _ step.1)
 
-left-yields : (xs : List ℕ) (s t : EscapeAscii) → Yields escape_ascii_steps s xs t
-    → left s ≡ xs ++ left t
-left-yields [] s t is = ap left is
-left-yields (x ∷ xs) s t step = left-step s step.0 x step.1
-    ∙ ap (λ bytes. x ∷ bytes) (left-yields xs step.0 t step.2)
+-- at first all of it is
+pub left-start : (s : EscapeAscii) (text : Bytes) → escape_ascii_rest s ≡ text
+    → escape_byte_rest (escape_ascii_current s) ≡ [] → left s ≡ shown text
+left-start s text rest current =
+    ap (λ bytes. bytes ++ shown (escape_ascii_rest s)) current ∙ ap shown rest
 
--- all of it
-drained : (s : EscapeAscii) (text xs : Bytes) → escape_ascii_rest s ≡ text
-    → escape_byte_rest (escape_ascii_current s) ≡ [] →
-    Drains escape_ascii_steps s xs → xs ≡ shown text
-drained s text xs rest current drains =
-    sym (append-nil xs) ∙ ap (λ bytes. xs ++ bytes) (sym (left-end drains.1.0 drains.0 drains.1.2))
-    ∙ sym (left-yields xs s drains.1.0 drains.1.1)
-    ∙ ap (λ bytes. bytes ++ shown (escape_ascii_rest s)) current ∙ ap shown rest
+-- after some of it one byte more comes, or it is all
+pub one_more : {text : Bytes} (yielded : Bytes) (s t : EscapeAscii) (x : ℕ)
+    → text ≡ yielded ++ left s → escape_ascii_steps s (Some x) t
+    → text ≡ (yielded ++ x ∷ []) ++ left t
+one_more yielded s t x so_far step =
+    so_far ∙ ap (λ bytes. yielded ++ bytes) (left-step s t x step)
+    ∙ sym (append_assoc yielded (x ∷ []) (left t))
 
--- what a vector is extended with
-pub extended : {E : Type 0} (s : EscapeAscii) (text : Bytes) (old new : Vec ℕ Global)
-    (result : Result (Unit {0}) E) →
-    escape_ascii_rest s ≡ text → escape_byte_rest (escape_ascii_current s) ≡ [] →
-    ExtendsWithItems (λ iter it. it ≡ iter) escape_ascii_steps
-    (λ v xs w. (w.items ≡ v.items ++ xs) × (vec_len w ≡ vec_len v + length xs)
-    × (vec_capacity v ≤ vec_capacity w)) s old new result →
-    OnOk result (new.items ≡ old.items ++ shown text)
-extended s text old new (Ok done) rest current ran =
-    ran.3.0 ∙ ap (λ xs. old.items ++ xs)
-    (drained s text ran.1 rest current
-    (subst (λ it. Drains escape_ascii_steps it ran.1) ran.2 ran.4))
-extended s text old new (Err error) rest current ran = tt
+pub all : {text : Bytes} (yielded : Bytes) (s t : EscapeAscii) → text ≡ yielded ++ left s
+    → escape_ascii_steps s None t → text ≡ yielded
+all yielded s t so_far step =
+    so_far ∙ ap (λ bytes. yielded ++ bytes) (left-end s t step) ∙ append-nil yielded

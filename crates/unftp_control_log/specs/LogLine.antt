@@ -4,11 +4,11 @@ use Rattle.std.specs.Prelude.{ℕ, ◌≤◌, Bool, true, false, ◌||◌, is_so
 use Rattle.std.specs.Char.Escape.{escape_ascii}
 use Rattle.std.specs.List.{flat_map, list_any}
 use Rattle.unftp_control_defs.specs.Bytes.{Bytes}
-use Rattle.unftp_control_defs.specs.Events.{FaultKind, FaultSource, FtpEvent, Command, Refused, Parse, UnknownCommand, event_for, exceeds}
+use Rattle.unftp_control_defs.specs.Events.{FaultKind, FaultSource, FtpEvent, Command, Refused, Parse, event_for, exceeds}
 use Rattle.unftp_control_defs.specs.FtpCommand.{FtpCommand, Pass, Acct, Md5, Site, Other, unless_empty, verbs}
 use Rattle.unftp_control_defs.specs.Said.{name_and_value}
 use Rattle.unftp_control_defs.specs.Rules.{row_of}
-use Rattle.unftp_control_defs.specs.Texts.{kind_text, reading_text}
+use Rattle.unftp_control_defs.specs.Texts.{kind_reason, reading_text}
 use Rattle.unftp_control_defs.specs.Verbs.{upper, verb_of}
 use Rattle.unftp_control_write.specs.Lines.{spaced_part}
 
@@ -82,12 +82,8 @@ visible_command command = Verb (name_and_value command).0 (name_and_value comman
 abbrev pub listed_verb : Bytes → Option Bytes
 listed_verb line = if is_listed (upper (verb_of line)) then Some (upper (verb_of line)) else None
 
--- a command that was not known, whatever it was
-abbrev pub kind_reason : FaultKind → Bytes
-kind_reason (UnknownCommand _) = codes "Unknown command"
-kind_reason kind = kind_text kind
-
--- why a line was refused: the parser's words, or else those for the kind
+-- Why a line was refused: the parser's words, or else those for the kind. A command that was not
+-- known is not shown.
 abbrev pub reason : FaultSource → FaultKind → Bytes
 reason (Parse why) kind = reading_text why
 reason _ kind = kind_reason kind

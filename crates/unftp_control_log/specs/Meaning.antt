@@ -1,5 +1,6 @@
 -- What the code holds of an event before it writes it.
-use Rattle.std.specs.Prelude.{option_map, string_bytes}
+use Rattle.std.specs.Prelude.{option_map}
+use Rattle.unftp_control_defs.specs.Verbs.{upper}
 use Rattle.unftp_control_log.specs.LogLine.{Visible, Verb, Subcommand, RefusedLine}
 use Rattle.unftp_control_log.specs.declared.visible.Visible as code
 use Rattle.unftp_control_log.specs.declared.visible.Visible.TheVariants as variant
@@ -9,4 +10,4 @@ meant (variant.Verb verb value) = Verb verb.now (option_map (λ value. value.now
 meant (variant.Subcommand name arguments) =
     Subcommand name.now (option_map (λ value. value.now) arguments)
 meant (variant.Refused verb reason) =
-    RefusedLine (option_map (λ verb. verb.items) verb) (string_bytes reason)
+    RefusedLine (option_map (λ verb. upper verb.now) verb) reason.now

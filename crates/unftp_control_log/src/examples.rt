@@ -5,8 +5,9 @@ ghost use Rattle.std.specs.Prelude.{◌≡◌, [], ◌∷◌, ◌++◌, true, fa
 ghost use Rattle.unftp_control_defs.specs.Events.{Command, InvalidCommand as InvalidCommandKind, NoSource, Parse, Refused, UnknownCommand, line_too_long, refusal_fault};
 ghost use Rattle.unftp_control_defs.specs.FtpCommand.{Acct, InvalidCommand, InvalidEol, Noop, Other, Pass, Site, User};
 ghost use Rattle.unftp_control_defs.specs.Rules.{row_of};
+ghost use Rattle.unftp_control_defs.specs.Texts.{kind_reason};
 ghost use Rattle.unftp_control_log.specs.Known.{fault_in, is_of_site, known, listed_subcommand, shows_parameter, subcommand_of};
-ghost use Rattle.unftp_control_log.specs.LogLine.{IsPrintable, RefusedLine, Subcommand, Verb, is_listed, kind_reason, listed_verb, logged, reason, shown, site_words, unless_too_long, visible, visible_command, visible_text};
+ghost use Rattle.unftp_control_log.specs.LogLine.{IsPrintable, RefusedLine, Subcommand, Verb, is_listed, listed_verb, logged, reason, shown, site_words, unless_too_long, visible, visible_command, visible_text};
 
 /// Printable are a space, a tilde and what is between them; all else is escaped, and so are quotes
 /// and the backslash.

@@ -1,7 +1,8 @@
 //! A line for a log: what a client sent, in printable text, without passwords and accounts.
 #![tactic(auto)]
 
-ghost use Rattle.std.specs.Prelude.{◌≡◌, ◌++◌, IfOk, OnErr, OnOk};
+ghost use Rattle.std.specs.Prelude.{◌≡◌, ◌++◌, OnErr, OnOk};
+ghost use Rattle.unftp_control_defs.specs.Room.{LacksRoom};
 ghost use Rattle.unftp_control_log.specs.LogLine.{log_line, visible};
 ghost use Rattle.unftp_control_log.specs.Meaning.{meant};
 ghost use Rattle.unftp_control_serve.specs.EventMeaning.{event_meant};
@@ -16,25 +17,20 @@ mod words;
 
 use crate::command::visible_command;
 use crate::refusal::visible_refusal;
+pub use crate::text::append_shown;
 use crate::text::append_visible;
 use crate::visible::Visible;
 use itoa::Buffer;
-use std::alloc::{AllocError, Global};
+use std::alloc::AllocError;
 use unftp_control_serve::Event;
 
-/// What a log shows of the event; `digits` has room for those of a number. Memory is taken for a
-/// refused line only.
-fn visible_event<'a>(
-    alloc: Global,
-    event: &'a Event,
-    line: &[u8],
-    digits: &'a mut Buffer,
-) -> Result<Visible<'a>, AllocError>
-    ensures { IfOk result (λ shown. meant shown ≡ visible (event_meant event.now) line.now) }
+/// What a log shows of the event; `digits` has room for those of a number. No memory is taken.
+fn visible_event<'a>(event: &'a Event, line: &'a [u8], digits: &'a mut Buffer) -> Visible<'a>
+    ensures { meant result ≡ visible (event_meant event.now) line.now }
 {
     match event {
-        Event::Command(command) => Ok(visible_command(command, digits)),
-        Event::Refused(error) => visible_refusal(alloc, error, line),
+        Event::Command(command) => visible_command(command, digits),
+        Event::Refused(error) => visible_refusal(error, line),
     }
 }
 
@@ -50,14 +46,16 @@ fn visible_event<'a>(
 /// UMASK and UTIME. A refused line is `refused`, its verb where it is such a word or has a rule,
 /// and the words of the error; of its parameter nothing is shown.
 ///
-/// It fails only when out of memory, and `buf` is then as it was. Nothing that is hidden is written
-/// to `buf`, not even to be removed again.
+/// It takes no memory but what `buf` needs, and fails only where `buf` lacks room for the line and
+/// can't grow: `buf` is then as it was. Nothing that is hidden is written to `buf`, not even to be
+/// removed again.
 pub fn write_log_line(event: &Event, line: &[u8], buf: &mut Vec<u8>) -> Result<(), AllocError>
     ensures ok { OnOk result
         (buf.new.items ≡ buf.old.items ++ log_line (event_meant event.now) line.now) }
     ensures err { OnErr result (buf.new.items ≡ buf.old.items) }
+    ensures memory { OnErr result
+        (LacksRoom buf.old (log_line (event_meant event.now) line.now)) }
 {
     let mut digits = Buffer::new();
-    let visible = visible_event(*buf.allocator(), event, line, &mut digits)?;
-    append_visible(&visible, buf)
+    append_visible(&visible_event(event, line, &mut digits), buf)
 }

@@ -1,27 +1,39 @@
 //! The text of a log line.
-ghost use Rattle.std.specs.Prelude.{◌≡◌, ◌++◌, option_map, take, vec_len, OnErr, OnOk};
-ghost use Rattle.unftp_control_log.specs.LogLine.{shown, visible_text};
+ghost use Rattle.std.specs.Prelude.{◌≡◌, ◌≤◌, ◌++◌, length, option_map, take, vec_capacity, vec_len, OnErr, OnOk};
+ghost use Rattle.unftp_control_defs.specs.Room.{LacksRoom};
+ghost use Rattle.unftp_control_defs.specs.Verbs.{upper};
+ghost use Rattle.unftp_control_log.specs.LogLine.{RefusedLine, shown, visible_text};
 ghost use Rattle.unftp_control_log.specs.Meaning.{meant};
 ghost use Rattle.unftp_control_write.specs.Lines.{spaced_part};
 
 use crate::visible::Visible;
 use std::alloc::AllocError;
 
-/// How long the text is in the escapes of `escape_ascii`.
-fn shown_length(text: &[u8]) -> usize {
-    text.escape_ascii()
-        .fold(0, |length: usize, _| length.saturating_add(1))
+/// How long the text is in the escapes of `escape_ascii`, where so much can be counted.
+fn shown_length(text: &[u8]) -> usize
+    ensures { result ≤ length (shown text.now) }
+{
+    let mut length: usize = 0;
+    for _byte in text.escape_ascii() {
+        length = length.saturating_add(1);
+    }
+    length
 }
 
-/// Appends the text in the escapes of `escape_ascii`, or perhaps a part of it when out of memory.
-/// Its memory is asked for at once: `extend` doesn't know its length, and would ask again and
-/// again.
-fn append_shown(text: &[u8], buf: &mut Vec<u8>) -> Result<(), AllocError>
+/// Appends the text in the escapes of Rust's `escape_ascii`, or perhaps a part of it when out of
+/// memory, for a caller that removes it then. The buffer grows once at most, and only where it
+/// lacks room for them.
+pub fn append_shown(text: &[u8], buf: &mut Vec<u8>) -> Result<(), AllocError>
     ensures ok { OnOk result (buf.new.items ≡ buf.old.items ++ shown text.now) }
     ensures kept { take (vec_len buf.old) buf.new.items ≡ buf.old.items }
+    ensures memory { OnErr result (LacksRoom buf.old (shown text.now)) }
+    ensures capacity { vec_capacity buf.old ≤ vec_capacity buf.new }
 {
     buf.reserve(shown_length(text))?;
-    buf.extend(text.escape_ascii())
+    for byte in text.escape_ascii() {
+        buf.push(byte)?;
+    }
+    Ok(())
 }
 
 /// Appends a space and the value in these escapes, if there is one, or perhaps a part of them when
@@ -30,6 +42,8 @@ fn append_value(value: Option<&[u8]>, buf: &mut Vec<u8>) -> Result<(), AllocErro
     ensures ok { OnOk result (buf.new.items ≡ buf.old.items
         ++ spaced_part (option_map shown (option_map (λ value. value.now) value.entry))) }
     ensures kept { take (vec_len buf.old) buf.new.items ≡ buf.old.items }
+    ensures memory { OnErr result (LacksRoom buf.old
+        (spaced_part (option_map shown (option_map (λ value. value.now) value.entry)))) }
 {
     let Some(value) = value else {
         return Ok(());
@@ -38,17 +52,40 @@ fn append_value(value: Option<&[u8]>, buf: &mut Vec<u8>) -> Result<(), AllocErro
     append_shown(value, buf)
 }
 
-/// Appends a space and the verb of a refused line, if there is one.
-fn append_verb(verb: &Option<Vec<u8>>, buf: &mut Vec<u8>) -> Result<(), AllocError>
+/// Appends a space and the verb of a refused line in upper case, if there is one.
+fn append_verb(verb: Option<&[u8]>, buf: &mut Vec<u8>) -> Result<(), AllocError>
     ensures ok { OnOk result (buf.new.items ≡ buf.old.items
-        ++ spaced_part (option_map (λ verb. verb.items) verb.now)) }
+        ++ spaced_part (option_map (λ verb. upper verb.now) verb.entry)) }
     ensures kept { take (vec_len buf.old) buf.new.items ≡ buf.old.items }
+    ensures memory { OnErr result (LacksRoom buf.old
+        (spaced_part (option_map (λ verb. upper verb.now) verb.entry))) }
+    ensures capacity { vec_capacity buf.old ≤ vec_capacity buf.new }
 {
     let Some(verb) = verb else {
         return Ok(());
     };
     buf.push(b' ')?;
-    buf.extend_from_slice(verb.as_slice())
+    let length = buf.len();
+    buf.extend_from_slice(verb)?;
+    buf.as_mut_slice()
+        .split_at_mut(length)
+        .1
+        .make_ascii_uppercase();
+    Ok(())
+}
+
+/// Appends what is shown of a refused line, or perhaps a part of it when out of memory.
+fn append_refusal(verb: Option<&[u8]>, reason: &str, buf: &mut Vec<u8>) -> Result<(), AllocError>
+    ensures ok { OnOk result (buf.new.items ≡ buf.old.items
+        ++ visible_text (RefusedLine (option_map (λ verb. upper verb.now) verb.entry) reason.now)) }
+    ensures kept { take (vec_len buf.old) buf.new.items ≡ buf.old.items }
+    ensures memory { OnErr result (LacksRoom buf.old
+        (visible_text (RefusedLine (option_map (λ verb. upper verb.now) verb.entry) reason.now))) }
+{
+    buf.extend_from_slice(b"refused")?;
+    append_verb(verb, buf)?;
+    buf.extend_from_slice(b": ")?;
+    buf.extend_from_slice(reason.as_bytes())
 }
 
 /// Appends what is shown, or perhaps a part of it when out of memory.
@@ -56,6 +93,7 @@ fn append_parts(visible: &Visible<'_>, buf: &mut Vec<u8>) -> Result<(), AllocErr
     ensures ok { OnOk result
         (buf.new.items ≡ buf.old.items ++ visible_text (meant visible.now)) }
     ensures kept { take (vec_len buf.old) buf.new.items ≡ buf.old.items }
+    ensures memory { OnErr result (LacksRoom buf.old (visible_text (meant visible.now))) }
 {
     match visible {
         Visible::Verb { verb, value } => {
@@ -67,12 +105,7 @@ fn append_parts(visible: &Visible<'_>, buf: &mut Vec<u8>) -> Result<(), AllocErr
             append_shown(name, buf)?;
             append_value(*arguments, buf)
         }
-        Visible::Refused { verb, reason } => {
-            buf.extend_from_slice(b"refused")?;
-            append_verb(verb, buf)?;
-            buf.extend_from_slice(b": ")?;
-            buf.extend_from_slice(reason.as_bytes())
-        }
+        Visible::Refused { verb, reason } => append_refusal(*verb, reason, buf),
     }
 }
 
@@ -81,6 +114,7 @@ pub(crate) fn append_visible(visible: &Visible<'_>, buf: &mut Vec<u8>) -> Result
     ensures ok { OnOk result
         (buf.new.items ≡ buf.old.items ++ visible_text (meant visible.now)) }
     ensures err { OnErr result (buf.new.items ≡ buf.old.items) }
+    ensures memory { OnErr result (LacksRoom buf.old (visible_text (meant visible.now))) }
 {
     let length = buf.len();
     let written = append_parts(visible, buf);

@@ -13,9 +13,9 @@ pub(crate) enum Visible<'a> {
         name: &'a [u8],
         arguments: Option<&'a [u8]>,
     },
-    /// A refused line: its verb, where it is listed, and why.
+    /// A refused line: its verb in its own case, where it is listed, and why.
     Refused {
-        verb: Option<Vec<u8>>,
-        reason: String,
+        verb: Option<&'a [u8]>,
+        reason: &'static str,
     },
 }

@@ -1,9 +1,13 @@
--- Two texts written to a formatter, one after the other, under any flags.
-use Rattle.std.proofs.Common.{ℕ, List, [], ◌∷◌, ◌++◌, sym, ◌∙◌, subst}
+-- Two texts written to a formatter, one after the other, under any flags; and the text of a kind.
+use Rattle.std.proofs.Common.{◌≡◌, ◌≢◌, ℕ, List, [], ◌∷◌, ◌++◌, Global, String, refl, sym, ◌∙◌, subst}
 use Rattle.std.specs.Fmt.{HasWrittenStyled}
 use Rattle.std.specs.List.{FoldsTo}
 use Rattle.std.specs.declared.fmt.Formatter.{Formatter}
 use Rattle.std.proofs.lemmas.List.Folds.{concat-append}
+use Rattle.unftp_control_defs.specs.Texts.{kind_reason, kind_text}
+use Rattle.unftp_control_message.specs.ErrorMeaning.{kind_meant}
+use Rattle.unftp_control_message.specs.declared.reply.error.ControlChanErrorKind.{ControlChanErrorKind}
+use Rattle.unftp_control_message.specs.declared.reply.error.ControlChanErrorKind.TheVariants as rust
 
 module _ {W : Type 0} (took : W → List ℕ → W → Type 0) where
   folds-append : (w : W) (xs : List (List ℕ)) (v : W) (ys : List (List ℕ)) (u : W) →
@@ -24,3 +28,10 @@ module _ {W : Type 0} (took : W → List ℕ → W → Type 0) where
     spec = q.spec ∙ p.spec;
     flush = q.flush;
   }
+
+-- what holds no command is its reason
+pub reason_is : (kind : ControlChanErrorKind)
+    → ((command : String Global) → kind ≢ rust.UnknownCommand command)
+    → kind_reason (kind_meant kind) ≡ kind_text (kind_meant kind)
+reason_is (rust.UnknownCommand command) other = absurd (other command refl)
+reason_is kind other = refl

@@ -1,6 +1,5 @@
 //! An exchange as a line of a log.
 ghost use Rattle.std.specs.Prelude.{◌≡◌, ◌++◌, OnErr, OnOk, decimal, map};
-ghost use Rattle.unftp_control_log.specs.LogLine.{shown};
 ghost use Rattle.unftp_control_read.specs.Reading.{contents};
 ghost use Rattle.unftp_control_read.specs.ReplyDecoding.{content};
 ghost use Rattle.unftp_control_record.specs.ExchangeLine.{exchange_line, further_line, further_reply, line_text, lines_text, replies_text, reply_text};
@@ -10,21 +9,8 @@ ghost use Rattle.unftp_control_record.specs.ToCome.{held_text};
 use crate::recorder::Exchange;
 use itoa::Buffer;
 use std::alloc::AllocError;
+use unftp_control_log::append_shown;
 use unftp_control_read::ReceivedReply;
-
-/// How long the text is in the escapes of `escape_ascii`.
-fn shown_length(text: &[u8]) -> usize {
-    text.escape_ascii()
-        .fold(0, |length: usize, _| length.saturating_add(1))
-}
-
-/// Appends the text in the escapes of `escape_ascii`. Its memory is asked for at once.
-fn append_shown(text: &[u8], buf: &mut Vec<u8>) -> Result<(), AllocError>
-    ensures { OnOk result (buf.new.items ≡ buf.old.items ++ shown text.now) }
-{
-    buf.reserve(shown_length(text))?;
-    buf.extend(text.escape_ascii())
-}
 
 /// Appends a line of a reply after the first one.
 fn append_further_line(line: &[u8], buf: &mut Vec<u8>) -> Result<(), AllocError>

@@ -1,5 +1,6 @@
 //! The errors of the control channel, and those of the parser of its lines.
 ghost use Rattle.std.specs.Prelude.{◌≡◌, ◌↔◌, IsTrue};
+ghost use Rattle.unftp_control_defs.specs.Texts.{kind_reason};
 ghost use Rattle.unftp_control_message.specs.ErrorMeaning.{kind_meant};
 ghost use Rattle.unftp_control_message.specs.declared.reply.error.ControlChanErrorKind.{ControlChanErrorKind as RustKind};
 
@@ -47,6 +48,32 @@ pub enum ControlChanErrorKind {
     LineTooLong,
 }
 
+impl ControlChanErrorKind {
+    /// The text of the kind, without the command that it may hold.
+    pub fn reason(&self) -> &'static str
+        ensures { result.now ≡ kind_reason (kind_meant self.now) }
+    {
+        match self {
+            ControlChanErrorKind::IoError => "Failed to perform IO",
+            ControlChanErrorKind::ParseError => "Failed to parse command",
+            ControlChanErrorKind::InternalServerError => "Internal Server Error",
+            ControlChanErrorKind::AuthenticationError => {
+                "Something went wrong when trying to authenticate"
+            }
+            ControlChanErrorKind::InternalMsgError => "Failed to map event from data channel",
+            ControlChanErrorKind::Utf8Error => "Non-UTF8 character in command",
+            ControlChanErrorKind::UnknownCommand { .. } => "Unknown command",
+            ControlChanErrorKind::InvalidCommand => "Invalid command (invalid parameter)",
+            ControlChanErrorKind::ControlChannelTimeout => {
+                "Encountered read timeout on the control channel"
+            }
+            ControlChanErrorKind::IllegalState => "Control channel in illegal state",
+            ControlChanErrorKind::OutOfMemory => "Out of memory",
+            ControlChanErrorKind::LineTooLong => "Line too long",
+        }
+    }
+}
+
 /// The text of the kind, the same under all flags of the formatter.
 impl fmt::Display for ControlChanErrorKind {
     ghost use Rattle.std.specs.Prelude.{Some};
@@ -63,21 +90,7 @@ impl fmt::Display for ControlChanErrorKind {
                 f.write_str("Unknown command: ")?;
                 return f.write_str(command.as_str());
             }
-            ControlChanErrorKind::IoError => "Failed to perform IO",
-            ControlChanErrorKind::ParseError => "Failed to parse command",
-            ControlChanErrorKind::InternalServerError => "Internal Server Error",
-            ControlChanErrorKind::AuthenticationError => {
-                "Something went wrong when trying to authenticate"
-            }
-            ControlChanErrorKind::InternalMsgError => "Failed to map event from data channel",
-            ControlChanErrorKind::Utf8Error => "Non-UTF8 character in command",
-            ControlChanErrorKind::InvalidCommand => "Invalid command (invalid parameter)",
-            ControlChanErrorKind::ControlChannelTimeout => {
-                "Encountered read timeout on the control channel"
-            }
-            ControlChanErrorKind::IllegalState => "Control channel in illegal state",
-            ControlChanErrorKind::OutOfMemory => "Out of memory",
-            ControlChanErrorKind::LineTooLong => "Line too long",
+            kind => kind.reason(),
         })
     }
 }

@@ -1,5 +1,7 @@
 //! Why a line is no command.
 ghost use Rattle.std.specs.Prelude.{◌≡◌, ◌↔◌, IsTrue};
+ghost use Rattle.unftp_control_defs.specs.Texts.{reading_text};
+ghost use Rattle.unftp_control_message.specs.ParseRefusal.{refusal_of};
 ghost use Rattle.unftp_control_message.specs.declared.reply.error.parse_error.ParseErrorKind.{ParseErrorKind as RustKind};
 
 use std::alloc::AllocError;
@@ -23,6 +25,20 @@ pub enum ParseErrorKind {
     OutOfMemory,
 }
 
+impl ParseErrorKind {
+    /// The text of the kind.
+    pub fn reason(&self) -> &'static str
+        ensures { result.now ≡ reading_text (refusal_of self.now) }
+    {
+        match self {
+            ParseErrorKind::InvalidCommand => "Invalid command",
+            ParseErrorKind::InvalidUtf8 => "Non-UTF8 character while parsing",
+            ParseErrorKind::InvalidEol => "Invalid end-of-line",
+            ParseErrorKind::OutOfMemory => "Out of memory",
+        }
+    }
+}
+
 /// The text of the kind, the same under all flags of the formatter.
 impl fmt::Display for ParseErrorKind {
     ghost use Rattle.std.specs.Prelude.{Some};
@@ -34,12 +50,7 @@ impl fmt::Display for ParseErrorKind {
     ghost styled_output = { λ kind _. Some (reading_text (refusal_of kind)) };
 
     fn fmt<W: fmt::Write>(&self, f: &mut fmt::Formatter<W>) -> fmt::Result {
-        f.write_str(match self {
-            ParseErrorKind::InvalidCommand => "Invalid command",
-            ParseErrorKind::InvalidUtf8 => "Non-UTF8 character while parsing",
-            ParseErrorKind::InvalidEol => "Invalid end-of-line",
-            ParseErrorKind::OutOfMemory => "Out of memory",
-        })
+        f.write_str(self.reason())
     }
 }
 
