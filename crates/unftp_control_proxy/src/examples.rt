@@ -1,7 +1,8 @@
 //! Examples of the definitions.
 #![tactic(auto, unfolding(unftp_control_defs::proofs::Computing::at_bytes))]
 
-ghost use Rattle.std.specs.Prelude.{◌≡◌, ◌∷◌, ◌++◌, [], Some, None, codes, false, true};
+ghost use Rattle.std.specs.Global.{Vec};
+ghost use Rattle.std.specs.Prelude.{◌≡◌, ◌∷◌, ◌++◌, ℕ, [], Some, None, codes, false, true};
 ghost use Rattle.unftp_control_defs.specs.Bytes.{Bytes};
 ghost use Rattle.unftp_control_defs.specs.FtpReply.{CodeAndMsg, MultiLine, Nothing};
 ghost use Rattle.unftp_control_message.specs.declared.reply.error.parse_error.ParseErrorKind.{ParseErrorKind};
@@ -86,6 +87,8 @@ pub fn errors_have_reasons()
         → ¬ IsForwardingError proxy (codes "NOOP\r\n") (SendError.Refused kind) }
     ensures refused_first { (proxy : RustProxy)
         → ¬ IsForwardingError proxy (codes "NOOP x\r\n") SendError.OutOfMemory }
+    ensures owed { (proxy : RustProxy) (out : Vec ℕ) → proxy.order ≡ Reply ∷ []
+        → ¬ IsOtherError proxy [] out [] ReplaceError.NotOwed }
     ensures short { (proxy : RustProxy) → proxy.limits.sent ≡ 6
         → ¬ IsUnclearError proxy (codes "NOOP\r\n") SendError.TooLong }
 {}

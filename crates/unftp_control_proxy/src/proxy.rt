@@ -311,21 +311,8 @@ impl Proxy {
         ensures err { OnErr result (self.new ≡ self.old) }
         ensures removed { OnErr result (to_server.new.items ≡ take length to_server.old.items) }
     {
-        if let Err(error) = self.owe_reply() {
-            to_server.truncate(length);
-            return Err(error);
-        }
-        Ok(())
-    }
-
-    /// Takes the line that was found, and owes the client the server's reply to it.
-    fn owe_reply(&mut self) -> Result<(), SendError>
-        requires { IsTrue self.old.client.found }
-        ensures ok { OnOk result (self.new ≡ decided self.old ReplyOwed) }
-        ensures why { IfErr result (λ error. error ≡ SendError.OutOfMemory) }
-        ensures err { OnErr result (self.new ≡ self.old) }
-    {
         if self.order.owe_reply().is_err() {
+            to_server.truncate(length);
             return Err(SendError::OutOfMemory);
         }
         self.take_line();
