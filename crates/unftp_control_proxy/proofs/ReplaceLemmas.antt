@@ -3,7 +3,7 @@ use Rattle.std.specs.Global.{Vec}
 use Rattle.std.specs.Prelude.{IfErr, vec_capacity}
 use Rattle.std.proofs.Common.{◌≡◌, ◌≤◌, ℕ, [], ◌++◌, length, length-append, Result, Ok, Err, inr, ap, arith, subst}
 use Rattle.unftp_control_defs.specs.Bytes.{Bytes}
-use Rattle.unftp_control_write.specs.Room.{LacksRoom}
+use Rattle.unftp_control_defs.specs.Room.{LacksRoom}
 use Rattle.unftp_control_proxy.specs.Owed.{due}
 use Rattle.unftp_control_proxy.specs.ProxyCalls.{GivesDue, IsOtherError, IsReplaceError, flushed}
 use Rattle.unftp_control_proxy.specs.declared.errors.ReplaceError.{ReplaceError}

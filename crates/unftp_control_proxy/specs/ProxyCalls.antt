@@ -17,7 +17,7 @@ use Rattle.unftp_control_write.specs.Forwarding.{IsForwardError}
 use Rattle.unftp_control_write.specs.declared.forwarding.ForwardError.{ForwardError}
 use Rattle.unftp_control_write.specs.declared.forwarding.ForwardError.TheVariants as forward
 use Rattle.unftp_control_write.specs.ClearLines.{is_clear}
-use Rattle.unftp_control_write.specs.Room.{LacksRoom}
+use Rattle.unftp_control_defs.specs.Room.{LacksRoom}
 use Rattle.unftp_control_proxy.specs.ClientLines.{front_line, no_client_bytes, without_line}
 use Rattle.unftp_control_proxy.specs.Given.{IsWholeReply, ReplyBytes}
 use Rattle.unftp_control_proxy.specs.Owed.{Owed, IsReplyNext, Reply, after_due, after_reply, due}

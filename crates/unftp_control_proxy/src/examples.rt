@@ -96,18 +96,18 @@ pub fn errors_have_reasons()
 /// What `next_reply` and `replace_reply` give: a whole reply, or another of its code.
 pub fn replies_are_given()
     ensures passed { (limits : RustLimits) → let before : RustProxy =
-        record (new_proxy limits) { server = pending_replies None (codes "200 a\r\n2") 8 } in
+        record (new_proxy limits) { server = pending_replies None (codes "200 a\r\n2") 8 8 } in
         GivesNext before (Some (Passed 200)) [] (codes "200 a\r\n")
-        (record before { server = pending_replies None (codes "2") 8; order = [] }) }
+        (record before { server = pending_replies None (codes "2") 8 8; order = [] }) }
     ensures dropped { (before later : RustProxy) → ¬ GivesNext before (Some (Passed 200)) [] [] later }
     ensures owed { (limits : RustLimits) (out : Bytes) (later : RustProxy)
         → ¬ GivesNext (new_proxy limits) (Some (Unasked 421)) [] out later }
     ensures other { (limits : RustLimits) → let before : RustProxy =
-        record (new_proxy limits) { server = pending_replies None (codes "227 a\r\n") 7 } in
+        record (new_proxy limits) { server = pending_replies None (codes "227 a\r\n") 7 7 } in
         GivesOther before (codes "227 b\r\n") [] (codes "227 b\r\n")
-        (record before { server = pending_replies None [] 7; order = [] }) }
+        (record before { server = pending_replies None [] 7 7; order = [] }) }
     ensures other_code { (limits : RustLimits) (later : RustProxy) → let before : RustProxy =
-        record (new_proxy limits) { server = pending_replies None (codes "227 a\r\n") 7 } in
+        record (new_proxy limits) { server = pending_replies None (codes "227 a\r\n") 7 7 } in
         ¬ GivesOther before (codes "226 b\r\n") [] (codes "226 b\r\n") later }
 {}
 

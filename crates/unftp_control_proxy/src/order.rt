@@ -1,7 +1,7 @@
 //! What a client is owed, in order.
 ghost use Rattle.std.specs.Prelude.{◌≡◌, ◌≤◌, ◌↔◌, ◌-◌, ◌∷◌, ◌++◌, [], IsTrue, IfOk, OnOk, OnErr, drop, length, take, vec_capacity, vec_len};
 ghost use Rattle.unftp_control_defs.specs.Turns.{is_preliminary};
-ghost use Rattle.unftp_control_write.specs.Room.{LacksRoom};
+ghost use Rattle.unftp_control_defs.specs.Room.{LacksRoom};
 ghost use Rattle.unftp_control_proxy.specs.Owed.{Answer, IsReplyNext, Reply, after_due, after_reply, due};
 
 use std::alloc::{AllocError, Global};

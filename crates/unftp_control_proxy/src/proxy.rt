@@ -6,7 +6,7 @@ ghost use Rattle.unftp_control_defs.specs.Lines.{IsLine, lines_of};
 ghost use Rattle.unftp_control_message.specs.ReplyMeaning.{reply_of};
 ghost use Rattle.unftp_control_read.specs.ReplyDecoding.{FindsFirst, pushed};
 ghost use Rattle.unftp_control_write.specs.Forwarding.{IsForwarded};
-ghost use Rattle.unftp_control_write.specs.Room.{LacksRoom};
+ghost use Rattle.unftp_control_defs.specs.Room.{LacksRoom};
 ghost use Rattle.unftp_control_proxy.specs.ProxyCalls.{GivesDue, GivesNext, GivesOther, IsAnswerError, IsCheckError, IsDecidable, IsForwardingError, IsNextError, IsOtherError, IsPassError, IsReplaceError, IsSendError, IsUnclearError, MayBeSent, WaitsForServer, decided, flushed, is_answer, new_proxy, send_error};
 ghost use Rattle.unftp_control_proxy.specs.ClientLines.{first_client_line, line_in, with_piece, without_line};
 ghost use Rattle.unftp_control_proxy.specs.Given.{IsFinalReply, IsWholeReply};

@@ -10,7 +10,7 @@ ghost use Rattle.unftp_control_proxy.specs.ProxyCalls.{IsDecidable, WaitsForServ
 ghost use Rattle.unftp_control_proxy.specs.ClientLines.{first_client_line, front_line, line_in};
 ghost use Rattle.unftp_control_proxy.specs.Traffic.{AnsweredBy, Fate, IsTraffic, one_line, sent_for};
 ghost use Rattle.unftp_control_write.specs.Forwarding.{LacksRoomFor};
-ghost use Rattle.unftp_control_write.specs.Room.{LacksRoom};
+ghost use Rattle.unftp_control_defs.specs.Room.{LacksRoom};
 ghost use Rattle.unftp_control_relay.specs.Filtering.{AreFiltered, Becomes, IsStep, Reply as ReplyStep, Send, Step as StepFor, decision_of, fate_by, forwarding_step, step_for, told_of};
 
 use crate::filter::{Filter, Verdict};

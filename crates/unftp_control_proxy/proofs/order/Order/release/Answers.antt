@@ -1,7 +1,7 @@
 use Rattle.std.specs.Global.{Vec}
 use Rattle.std.proofs.Common.{◌≡◌, ◌≤◌, ◌<◌, ◌+◌, ◌-◌, ℕ, List, [], ◌∷◌, drop, get_or, length, length-append, map, subst, sym, ap, ◌∙◌, arith}
 use Rattle.std.proofs.lemmas.List.{drop-map, length-map}
-use Rattle.unftp_control_write.specs.Room.{LacksRoom}
+use Rattle.unftp_control_defs.specs.Room.{LacksRoom}
 use Rattle.unftp_control_proxy.specs.Owed.{due, owed_in}
 use Rattle.unftp_control_proxy.specs.declared.order.Slot.{Slot}
 use Rattle.unftp_control_proxy.specs.declared.order.Slot.TheVariants as slot
