@@ -5,10 +5,15 @@ use crate::words::{CaseError, Word, only_bytes, only_text};
 use bytes::Bytes;
 use std::alloc::Global;
 use std::fmt::{Debug, Display};
+use std::io;
+use unftp_control_client::SendError;
+use unftp_control_codecs::EncodeLinesError;
 use unftp_control_codecs::line_parser::{ParseError, ParseErrorKind, is_verb, parse};
 use unftp_control_message::Command;
 use unftp_control_message::password::Password;
 use unftp_control_message::reply::error::{ControlChanError, ControlChanErrorKind};
+use unftp_control_read::{NextReplyError, ReadReplyError, ReceiveError};
+use unftp_control_write::{ForwardError, WriteCommandError};
 
 /// The command that a line is.
 pub fn read_command(alloc: Global, line: &[u8]) -> Result<Command, CaseError> {
@@ -127,6 +132,57 @@ fn kind(alloc: Global, name: &str) -> Result<ControlChanErrorKind, CaseError> {
     }))
 }
 
+/// Why no line is forwarded; Refused holds the parser's InvalidCommand.
+fn forward_error(name: &str) -> Result<ForwardError, CaseError> {
+    if name == "Refused" {
+        return Ok(ForwardError::Refused(ParseErrorKind::InvalidCommand.into()));
+    }
+    Ok(variant!(name, ForwardError { NotALine OutOfMemory }))
+}
+
+/// Why no reply is received; Read holds the error 4 of the system.
+fn receive_error(name: &str) -> Result<ReceiveError, CaseError> {
+    if name == "Read" {
+        return Ok(ReceiveError::Read(io::Error::from_raw_os_error(4)));
+    }
+    Ok(variant!(name, ReceiveError { Malformed TooLong OutOfMemory TooManyReads }))
+}
+
+/// Writes the texts of an error of a call that writes or reads.
+fn put_other(error: &str, name: &str, answers: &mut Answers) -> Answered {
+    match error {
+        "EncodeLinesError" => {
+            put_both(
+                &variant!(name, EncodeLinesError { CodeOutOfRange OutOfMemory }),
+                answers,
+            )
+        }
+        "WriteCommandError" => {
+            put_both(
+                &variant!(name, WriteCommandError { NoLine OutOfMemory }),
+                answers,
+            )
+        }
+        "ForwardError" => put_both(&forward_error(name)?, answers),
+        "SendError" => put_both(
+            &variant!(name, SendError { NoLine NotALine OutOfMemory TooManyCommands }),
+            answers,
+        ),
+        "ReadReplyError" => {
+            put_both(
+                &variant!(name, ReadReplyError { Malformed OutOfMemory }),
+                answers,
+            )
+        }
+        "NextReplyError" => put_both(
+            &variant!(name, NextReplyError { Malformed TooLong OutOfMemory }),
+            answers,
+        ),
+        "ReceiveError" => put_both(&receive_error(name)?, answers),
+        _ => Err(CaseError::NoCase),
+    }
+}
+
 /// `text TYPE VARIANT`
 pub fn answer_text(words: &[Word<'_>], answers: &mut Answers) -> Answered {
     let [error, name] = words else {
@@ -141,6 +197,6 @@ pub fn answer_text(words: &[Word<'_>], answers: &mut Answers) -> Answered {
             &ControlChanError::from(kind(answers.alloc, name)?),
             answers,
         ),
-        _ => Err(CaseError::NoCase),
+        error => put_other(error, name, answers),
     }
 }
