@@ -61,14 +61,15 @@ def body_of(lines, head, last, indent):
 def owner(lines, head):
     """The impl or trait that a line is in, as a check names it, or None where that isn't plain."""
     name = r"(?:\w+::)*(\w+)"
-    impl = re.compile(rf"impl(<.*?>)? (?:{name}(?:<.*>)? for )?(?:&(?:mut )?)?{name}")
+    impl = re.compile(rf"impl(<.*?>)? (?:{name}(?:<.*>)? for )?(?:&(?:mut )?)?{name}(?:<(\w+)>)?")
     for line in reversed(lines[: head - 1]):
         if found := re.match(r"(?:pub(?:\([^)]*\))? )?trait (\w+)", line):
             return found[1]
         if found := impl.match(line):
             # (an impl for each type that has a trait)
-            is_any = re.search(rf"[<,] *{found[3]} *[:,>]", found[1] or "")
-            return ("Any" if is_any else found[3]) + (found[2] or "")
+            taken = lambda word: re.search(rf"[<,] *{word} *[:,>]", found[1] or "")
+            of = "" if not found[4] or taken(found[4]) else found[4][0].upper() + found[4][1:]
+            return ("Any" if taken(found[3]) else found[3] + of) + (found[2] or "")
         if line == "}":
             return None
     return None
