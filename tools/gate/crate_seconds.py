@@ -8,7 +8,6 @@ from edit_files import TOP
 # a crate's proof, and the try of one of its edits, as `rt ci` prints that they are done
 PROVED = re.compile(r"rt: (\w+) (?:proved$|is kept: )")
 TRIED = re.compile(r"rt: must-fail (\w+)/")
-TRYING = re.compile(r"rt: (\w+): trying its must-fail edits \((\d+)\)")
 
 
 def seconds():
@@ -26,17 +25,16 @@ class Progress:
 
     def __init__(self):
         self.seconds = {name: taken[:2] for name, taken in seconds().items()}
-        self.edits, self.start = {}, time.time()
+        self.edits = {name: len(list((TOP / "crates" / name / "must-fail").glob("*.edit"))) for name in self.seconds}
+        self.start = time.time()
         self.done, self.told = 0.0, 0
 
     def after(self, line):
         """What to say after a line, or None: each tenth of the whole is told once."""
         if found := PROVED.match(line):
             self.done += self.seconds.get(found[1], [0, 0])[0]
-        elif found := TRYING.match(line):
-            self.edits[found[1]] = int(found[2])
         elif found := TRIED.match(line):
-            self.done += self.seconds.get(found[1], [0, 0])[1] / self.edits.get(found[1], 1)
+            self.done += self.seconds[found[1]][1] / self.edits[found[1]]
         tenths = int(10 * self.done / sum(map(sum, self.seconds.values())))
         if tenths <= self.told:
             return None
