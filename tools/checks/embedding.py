@@ -2,7 +2,7 @@
 """Makes the checks of tools/checks/embedding that compare answers with the vector files, and what the header says with the sources.
 
 usage: tools/checks/embedding.py sessions|session SERVER..        the replies of the server: to all lines, or to one line of each kind
-       tools/checks/embedding.py memory PRELOAD SERVER              what it sends at each failed allocation: PRELOAD is tools/checks/fail_allocation.c
+       tools/checks/embedding.py memory PRELOAD SERVER              what it sends at each failed allocation: PRELOAD is tools/checks/c/fail_allocation.c
        tools/checks/embedding.py answers REPLAY.. FILE SKIPPED      the answers to a vector file, of which so many may be skipped
        tools/checks/embedding.py worked REPLAY..                    the answers to the rows by hand whose call REPLAY has
        tools/checks/embedding.py read|canonical|forward REPLAY..    the replies that servers wrote; the lines that are written for clients' lines
@@ -15,11 +15,11 @@ usage: tools/checks/embedding.py sessions|session SERVER..        the replies of
        tools/checks/embedding.py parameters FUNCTION                names, order and types of its parameters in the three, and of its result
        tools/checks/embedding.py symbols FOLDER                     the libraries there have these functions and no other global name
        tools/checks/embedding.py results PROGRAM                    the version of the library, and a text for each result: PROGRAM is
-                                                             tools/checks/results.c
-       tools/checks/embedding.py calls CALLS..                      what the header says of rooms and lengths: CALLS is tools/checks/calls.c
-       tools/checks/embedding.py stack STACK                        what it says of the stack: STACK is tools/checks/stack.c
+                                                             tools/checks/c/results.c
+       tools/checks/embedding.py calls CALLS..                      what the header says of rooms and lengths: CALLS is tools/checks/c/calls.c
+       tools/checks/embedding.py stack STACK                        what it says of the stack: STACK is tools/checks/c/stack.c
        tools/checks/embedding.py allocations ALLOCATIONS            unftp_next asks for memory as often as parse does, or never where the line has the name and the value:
-                                                             ALLOCATIONS is tools/checks/allocations.c
+                                                             ALLOCATIONS is tools/checks/c/allocations.c
 
 SERVER.., REPLAY.. and CALLS.. may be the program and what runs it. The last line says what was compared; the status is 0 where all is right.
 """

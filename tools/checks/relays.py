@@ -7,7 +7,7 @@ usage: tools/checks/relays.py order RELAY..       lines and replies in pieces; l
        tools/checks/relays.py replies RELAY..     replies that end the session
        tools/checks/relays.py log RELAY..         what it writes of them, without a password
        tools/checks/relays.py ends RELAY..        clients and servers that close, or are gone
-       tools/checks/relays.py memory PRELOAD RELAY..  sessions without memory: PRELOAD is tools/checks/fail_allocation.c
+       tools/checks/relays.py memory PRELOAD RELAY..  sessions without memory: PRELOAD is tools/checks/c/fail_allocation.c
        tools/checks/relays.py many RELAY..        more clients than it serves at a time
        tools/checks/relays.py servers RELAY..     no server, and wrong arguments
        tools/checks/relays.py pressure RELAY..    clients and servers that don't read

@@ -3,7 +3,7 @@
 
 usage: tools/checks/rust_package.py codes              the package's codes of replies are the header's
        tools/checks/rust_package.py public [--write]   what is public of the package is what bindings/rust/public.txt lists
-       tools/checks/rust_package.py memory PRELOAD REPLAY     the answer at each failed allocation: PRELOAD is tools/checks/fail_allocation.c
+       tools/checks/rust_package.py memory PRELOAD REPLAY     the answer at each failed allocation: PRELOAD is tools/checks/c/fail_allocation.c
        tools/checks/rust_package.py version REPLAY     each call over a library of another version, 9.9.9
        tools/checks/rust_package.py arguments SERVER..      addresses, and what is no argument, of each of these servers
        tools/checks/rust_package.py descriptors SERVER..    a client for which no descriptor is left, of each

@@ -4,7 +4,7 @@
 usage: tools/checks/server_checks.py addresses SERVER          an IPv4 and an IPv6 address that it listens on, and what is neither
        tools/checks/server_checks.py abort SERVER              urgent data: the ABOR of Python's ftplib
        tools/checks/server_checks.py descriptors SERVER         no descriptor is left for a client (EMFILE)
-       tools/checks/server_checks.py files PRELOAD SERVER       the system has none left (ENFILE): PRELOAD is tools/checks/fail_calls.c
+       tools/checks/server_checks.py files PRELOAD SERVER       the system has none left (ENFILE): PRELOAD is tools/checks/c/fail_calls.c
        tools/checks/server_checks.py fork PRELOAD SERVER        no process can be made
        tools/checks/server_checks.py connections SERVER         more clients than it may have, and those that come after them
        tools/checks/server_checks.py idle SERVER                clients that send nothing, no line feed, or slowly

@@ -1,4 +1,4 @@
-"""The server that the options of tools/checks/transfers name, while it runs."""
+"""The server that the options of tools/clients/transfers name, while it runs."""
 
 import contextlib
 import pathlib

@@ -1,4 +1,4 @@
-"""The load part of tools/checks/transfers: many clients at once, and speed."""
+"""The load part of tools/clients/transfers: many clients at once, and speed."""
 
 import argparse
 import concurrent.futures
@@ -21,10 +21,10 @@ from transfer_servers import add_server, read_server, served
 
 USAGE = """Lets a hundred clients transfer files at once, makes many sessions, and measures speed, for one server or for two in turn.
 
-usage: tools/checks/transfers load [OPTIONS] --peer NAME
-       tools/checks/transfers load [OPTIONS] -- COMMAND..
+usage: tools/clients/transfers load [OPTIONS] --peer NAME
+       tools/clients/transfers load [OPTIONS] -- COMMAND..
 
-The server's options are those of tools/checks/transfers. With --against NAME, that server's speed is measured in the same rounds; each figure
+The server's options are those of tools/clients/transfers. With --against NAME, that server's speed is measured in the same rounds; each figure
 is the median of the rounds, and the last column is the first server's part of the second one's. The folder is on the disk of TMPDIR.
 """
 

@@ -1,4 +1,4 @@
-"""Runs the tests of Twisted's FTP server, or of Python's ftplib, at another server. tools/checks/peer_tests starts it by a Python that has
+"""Runs the tests of Twisted's FTP server, or of Python's ftplib, at another server. tools/clients/peer_tests starts it by a Python that has
 them. It prints a line for each test: its name, `ok`, `failed` or `skipped`, and why, with tabs between.
 
 usage: python3 peer_suites.py twisted|cpython SETTINGS      SETTINGS is JSON: see start
